@@ -13,12 +13,12 @@ use Rattle.scx_sched_world.specs.World.{note_now}
 use Rattle.scx_sched_world.specs.Tasks.{local_len, brought}
 use Rattle.scx_sched_world.specs.Ejecting.{put_builtin, after_catch_up, after_charge}
 use Rattle.scx_sched_machine.specs.Steps.{State, Stepped, with_world, stays, after, one_after_other}
-use Rattle.scx_sched_machine.specs.Callbacks.{call_back, one_task, task_and_number}
+use Rattle.scx_sched_machine.specs.Callbacks.{call_back, one_task}
 use Rattle.scx_sched_machine.specs.Put.{enters, enqueue_choice, enters_builtin, comes_in, put}
 use Rattle.scx_sched_machine.specs.Filling.{move_note, fill}
 use Rattle.scx_sched_machine.specs.Parking.{park, park_front, if_throttled, throttled_front, park_fronts, clear, in_reach, supply, FrontMayRun}
 use Rattle.scx_sched.proofs.Supplying.{park_fronts_from, clear_from, empty_no_front, throttled_is, front_is_free, len_park_front, reach_fill, reach_park_front}
-use Rattle.scx_sched_machine.specs.Cycle.{after_dispatch, tries, after_stopping, after_running, leave, started_if, start, rest, swap, swap_or_rest, builtin_dispatch, builtin_fill, builtin_ask, builtin_cycle, start_or_cycle, pick, pick_or_rest, conclude, ask, seek, look, cycling, cycle}
+use Rattle.scx_sched_machine.specs.Cycle.{after_dispatch, tries, stopping_called, after_stopping, after_running, leave, started_if, start, rest, swap, swap_or_rest, builtin_dispatch, builtin_fill, builtin_ask, builtin_cycle, start_or_cycle, pick, pick_or_rest, conclude, ask, seek, look, cycling, cycle}
 use Rattle.scx_sched_rules.specs.Cycles.{noting, silent, entering, enqueue_called, dispatch_called, gone_off, gone_on, HasStopped, Policy_hears, Is_charged, HasStarted, Policy_learns, Catches_up, Enters, For_builtin, Default, Held, Inserted, Puts, Fills, HasLocal, NoOther, Moves, Parks, ParksFronts, NoneLeft, OneMore, Supplies, Supplied, ParkedOne, FillsBuiltin, HasOne, Looked, Dispatches, Asks, Enough, Came, NothingMoved, Again, Leaves, Nobody, Stops, Starts, Empty, Front, Rests, Keeps, Idles, WasIdle, Swaps, SwapsOrRests, Swapped, Kept, CyclesBuiltin, Picks, Runs_front, Emptied, Ends, Anew, Picked, Rested, Seeks, Filled, Asked, Looks, Of_policy, Of_builtin, Cycles}
 
 -- ---- put
@@ -61,7 +61,7 @@ only_puts s t c flags r h = h.all ∙ ap (λ x. one_after_other (enqueue_called 
 -- ---- on and off a processor
 
 abbrev stopped_as : State → ℕ → ℕ → ℕ → Option Eject → Stepped
-stopped_as s c t n x = if is_some x then silent s (after_charge s.world t) else call_back s callback.Stopping (task_and_number t n) t c
+stopped_as s c t n x = if is_some x then silent s (after_charge s.world t) else stopping_called s c t n
 
 -- a task leaves its processor as it is computed
 pub stops : (s : State) (c t n : ℕ) → HasStopped s c t n (after_stopping s c t n)

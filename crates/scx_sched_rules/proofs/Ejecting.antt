@@ -37,13 +37,7 @@ of_answer callback.SelectCpu e n x y = go (cases_lt n (length e.outside.cpus))
     go : (n < length e.outside.cpus) ⊎ (length e.outside.cpus ≤ n) → FaultOf callback.SelectCpu e (if nat_lt n (length e.outside.cpus) then None else Some fault.NoSuchCpu)
     go (inl l) = rw (below n (length e.outside.cpus) l) (Of_nothing n x y refl l)
     go (inr l) = rw (past n (length e.outside.cpus) l) (Of_answer n x y refl l)
-of_answer callback.Init e n x y = Of_no_answer n x y (λ z. absurd (cc))
-of_answer callback.Enable e n x y = Of_no_answer n x y (λ z. absurd (cc))
-of_answer callback.Enqueue e n x y = Of_no_answer n x y (λ z. absurd (cc))
-of_answer callback.Dispatch e n x y = Of_no_answer n x y (λ z. absurd (cc))
-of_answer callback.Running e n x y = Of_no_answer n x y (λ z. absurd (cc))
-of_answer callback.Stopping e n x y = Of_no_answer n x y (λ z. absurd (cc))
-of_answer callback.Plain e n x y = Of_no_answer n x y (λ z. absurd (cc))
+of_answer b e n x y = Of_no_answer n x y (λ z. absurd (cc))
 
 -- what counts as a fault of a callback is one by the rules
 pub is_fault_of : (b : Callback) (e : Ending WorldState) → FaultOf b e (fault_of b e)
@@ -56,13 +50,7 @@ is_fault_of b e = go e.outside.call.fault refl e.answer refl
 
 no_answer_fault : (b : Callback) (w : WorldState) (n : ℕ) → (b ≡ callback.SelectCpu → ⊥) → answer_fault b w n ≡ None
 no_answer_fault callback.SelectCpu w n other = absurd (other refl)
-no_answer_fault callback.Init w n other = refl
-no_answer_fault callback.Enable w n other = refl
-no_answer_fault callback.Enqueue w n other = refl
-no_answer_fault callback.Dispatch w n other = refl
-no_answer_fault callback.Running w n other = refl
-no_answer_fault callback.Stopping w n other = refl
-no_answer_fault callback.Plain w n other = refl
+no_answer_fault b w n other = refl
 
 abbrev fault_as : Callback → WorldState → Option Fault → Option ℕ → Option Fault
 fault_as b w f a = or_fault f (end_fault b w a)

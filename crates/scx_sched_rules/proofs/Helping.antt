@@ -47,13 +47,7 @@ not_both false x y = absurd (cc)
 
 dispatch_is : (b : Callback) → is_dispatch b ≡ true → b ≡ callback.Dispatch
 dispatch_is callback.Dispatch e = refl
-dispatch_is callback.Enqueue e = absurd (cc)
-dispatch_is callback.Init e = absurd (cc)
-dispatch_is callback.Enable e = absurd (cc)
-dispatch_is callback.Running e = absurd (cc)
-dispatch_is callback.Stopping e = absurd (cc)
-dispatch_is callback.Plain e = absurd (cc)
-dispatch_is callback.SelectCpu e = absurd (cc)
+dispatch_is b e = absurd (cc)
 
 -- ---- queues that a call names
 
@@ -229,11 +223,7 @@ insert_is w t e = go w.call.callback refl e
     go callback.SelectCpu x e = let y = both (is_none w.call.insert) (is_at_hand w t) e in InSelectCpu x (empty w.call.insert y.0) (hand t y.1)
     go callback.Enqueue x e = let y = both (is_none w.call.insert) (is_at_hand w t) e in InEnqueue x (empty w.call.insert y.0) (hand t y.1)
     go callback.Dispatch x e = held-here x t refl e
-    go callback.Plain x e = absurd (cc)
-    go callback.Init x e = absurd (cc)
-    go callback.Enable x e = absurd (cc)
-    go callback.Running x e = absurd (cc)
-    go callback.Stopping x e = absurd (cc)
+    go b x e = absurd (cc)
 
 may_insert_of : (w : WorldState) (t : Option ℕ) → MayInsert w t → may_insert w t ≡ true
 may_insert_of w t (InSelectCpu x y z) = rw (x, y, z, eq-eqb w.call.task w.call.task refl) refl

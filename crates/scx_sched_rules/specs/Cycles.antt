@@ -18,7 +18,7 @@ use Rattle.scx_sched_world.specs.Tasks.{local_len, after_enter, for_cpu, to_held
 use Rattle.scx_sched_world.specs.Ejecting.{put_builtin, after_catch_up, after_charge}
 use Rattle.scx_sched_machine.specs.Steps.{State, Stepped, with_world, stays, after, one_after_other}
 use Rattle.scx_sched_machine.specs.Callbacks.{call_back, one_task, task_and_number, cpu_and_task}
-use Rattle.scx_sched_machine.specs.Cycle.{cycling}
+use Rattle.scx_sched_machine.specs.Cycle.{stopping_called, cycling}
 use Rattle.scx_sched_machine.specs.Parking.{FrontMayRun}
 
 -- to that world, with one note of it
@@ -42,7 +42,7 @@ dispatch_called s c p = call_back s callback.Dispatch (cpu_and_task c p) 0 c
 -- the task has left its processor; the number says whether it stays runnable
 pub data HasStopped (s : State) (c t runnable : ℕ) (r : Stepped) : Type 0 where
   Policy_hears : s.world.ejected ≡ None
-      → r ≡ call_back s callback.Stopping (task_and_number t runnable) t c
+      → r ≡ stopping_called s c t runnable
       → HasStopped s c t runnable r
   Is_charged : (x : Eject)
       → s.world.ejected ≡ Some x → r ≡ silent s (after_charge s.world t)
