@@ -37,7 +37,7 @@ use Rattle.scx_sched_machine.specs.Put.{enters, enqueue_choice, enters_builtin, 
 use Rattle.scx_sched_machine.specs.Events.{insert_or_put}
 use Rattle.scx_sched_machine.specs.Filling.{fill}
 use Rattle.scx_sched_machine.specs.Parking.{park, park_front, throttled_front, park_then, park_fronts, clear, in_reach, supply, let_go_one, let_go_from, let_all_go}
-use Rattle.scx_sched_machine.specs.Cycle.{has_local, after_dispatch, asks_again, tries, after_stopping, after_running, leave, started_if, start as run_front, rest, swap, swap_or_rest, builtin_dispatch, builtin_fill, builtin_ask, builtin_cycle, start_or_cycle, pick, pick_or_rest, conclude, ask, seek, look, cycling, cycle}
+use Rattle.scx_sched_machine.specs.Cycle.{has_local, after_dispatch, asks_again, tries, stopping_called, after_stopping, after_running, leave, started_if, start as run_front, rest, swap, swap_or_rest, builtin_dispatch, builtin_fill, builtin_ask, builtin_cycle, start_or_cycle, pick, pick_or_rest, conclude, ask, seek, look, cycling, cycle}
 use Rattle.scx_sched_machine.specs.Start.{blank, init_ending, bad_answer, ok_unless, after_init, enable_ending, has_failed, enable, then_enable, after_enables, ok_if, all_enabled, first_state}
 use Rattle.scx_sched_machine.proofs.Unchanged.{keeps_if}
 
@@ -156,7 +156,7 @@ module _ (h : Hierarchy) (n c : ℕ) where
   pub like_stopping : (s : State) (d t x : ℕ) → IsLike h n c s.world → IsLike h n c (after_stopping s d t x).state.world
   unfolding after_stopping
   like_stopping s d t x i =
-      keeps_if (λ (r : Stepped). IsLike h n c r.state.world) (is_ejected s) (stays (with_world s (after_charge s.world t))) (call_back s callback.Stopping (task_and_number t x) t d) (like_task s.world t _ i) (like_call_back s callback.Stopping (task_and_number t x) t d i)
+      keeps_if (λ (r : Stepped). IsLike h n c r.state.world) (is_ejected s) (stays (with_world s (after_charge s.world t))) (stopping_called s d t x) (like_task s.world t _ i) (like_call_back s _ (task_and_number t x) t d i)
 
   like_running_on : (s : State) (d t : ℕ) → IsLike h n c s.world → IsLike h n c (after_running s d t).state.world
   unfolding after_running
