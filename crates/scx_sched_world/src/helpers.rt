@@ -77,11 +77,7 @@ impl World {
                 self.call.insert.is_none() && task == Some(self.call.task)
             }
             Callback::Dispatch => self.is_held(task),
-            Callback::Plain
-            | Callback::Init
-            | Callback::Enable
-            | Callback::Running
-            | Callback::Stopping => false,
+            _ => false,
         }
     }
 
