@@ -15,13 +15,7 @@ use Rattle.scx_load_policies.specs.Programs.{with_each}
 -- what is taken out and put back in has been put in
 put_back : (p : Programs) (b : Callback) (x y : Option Code) → with_at (with_at p b x) b y ≡ with_at p b y
 put_back p callback.Plain x y = refl
-put_back p callback.Init x y = refl
-put_back p callback.Enable x y = refl
-put_back p callback.SelectCpu x y = refl
-put_back p callback.Enqueue x y = refl
-put_back p callback.Dispatch x y = refl
-put_back p callback.Running x y = refl
-put_back p callback.Stopping x y = refl
+put_back p b x y = refl
 
 -- what is put where the one before was taken out
 pub is_put : (p taken after : Programs) (b : Callback) (x y : Option Code) → taken ≡ with_at p b x → after ≡ with_at taken b y → after ≡ with_at p b y
