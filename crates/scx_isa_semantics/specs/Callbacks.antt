@@ -1,5 +1,5 @@
 -- The callbacks of a policy, and one value for each.
-use Rattle.std.specs.Prelude.{◌≡◌, Bool, true, false, ⊤, List, [], ◌∷◌, Option, Some, None, Result, Ok, Err, MatchBool}
+use Rattle.std.specs.Prelude.{◌≡◌, ℕ, Bool, true, false, ⊤, List, [], ◌∷◌, Option, Some, None, Result, Ok, Err, MatchBool, codes}
 use denote.Ref.{Bor}
 use denote.Param.Members.{Shared}
 use Rattle.std.specs.Fn.{FnReturns}
@@ -12,6 +12,17 @@ abbrev pub callbacks : List Callback
 callbacks =
     callback.Init ∷ callback.Enable ∷ callback.SelectCpu ∷ callback.Enqueue ∷ callback.Dispatch
     ∷ callback.Running ∷ callback.Stopping ∷ []
+
+-- the names of callbacks, as a policy file and a refusal spell them
+abbrev pub callback_name : Callback → List ℕ
+callback_name callback.Plain = codes "plain"
+callback_name callback.Init = codes "init"
+callback_name callback.Enable = codes "enable"
+callback_name callback.SelectCpu = codes "select_cpu"
+callback_name callback.Enqueue = codes "enqueue"
+callback_name callback.Dispatch = codes "dispatch"
+callback_name callback.Running = codes "running"
+callback_name callback.Stopping = codes "stopping"
 
 -- those before this one
 abbrev pub earlier : Callback → List Callback

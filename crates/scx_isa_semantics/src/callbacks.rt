@@ -1,4 +1,5 @@
 ghost use Rattle.std.specs.Prelude.{◌≡◌};
+ghost use Rattle.scx_isa_semantics.specs.Callbacks.{callback_name};
 ghost use Rattle.scx_isa_semantics.specs.HostTables.{answers};
 
 /// What a program is run as: a callback of a scheduling policy (sched-ext.rst), or a plain program
@@ -46,5 +47,21 @@ impl Callback {
         ensures { result ≡ answers self }
     {
         matches!(self, Callback::Plain | Callback::Init | Callback::SelectCpu)
+    }
+
+    /// Its name, as a policy file and a refusal spell it.
+    pub fn name(self) -> &'static str
+        ensures { result.now ≡ callback_name self }
+    {
+        match self {
+            Callback::Plain => "plain",
+            Callback::Init => "init",
+            Callback::Enable => "enable",
+            Callback::SelectCpu => "select_cpu",
+            Callback::Enqueue => "enqueue",
+            Callback::Dispatch => "dispatch",
+            Callback::Running => "running",
+            Callback::Stopping => "stopping",
+        }
     }
 }
