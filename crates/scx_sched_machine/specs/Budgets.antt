@@ -115,7 +115,7 @@ wake_pushes = callback_pushes + settle_pushes
 abbrev pub sleep_pushes : ℕ
 sleep_pushes = callback_pushes + cycle_pushes
 
--- the policy hears it, the task is parked, and the processor begins a cycle
+-- the policy hears that the task left, it is parked, and the processor begins a cycle
 abbrev pub throttle_pushes : ℕ
 throttle_pushes = callback_pushes + enter_pushes + cycle_pushes
 
