@@ -6,7 +6,7 @@ use Rattle.hex.specs.declared.error.FromHexError.{FromHexError}
 use Rattle.hex.specs.Hex.{decode_of}
 use Rattle.scx_isa_encoding.specs.declared.faults.DecodeFault.{DecodeFault}
 use Rattle.scx_isa_semantics.specs.declared.callbacks.Callback.{Callback}
-use Rattle.scx_isa_semantics.specs.Callbacks.{callbacks, at, with_at}
+use Rattle.scx_isa_semantics.specs.Callbacks.{callback_name, callbacks, at, with_at}
 use Rattle.scx_isa_semantics.specs.Code.{Code}
 use Rattle.scx_isa.specs.Reading.{read_program}
 use Rattle.scx_asm.specs.declared.faults.AsmFault.{AsmFault}
@@ -15,7 +15,7 @@ use Rattle.scx_load_files.specs.declared.fault.Cause.TheVariants as cause
 use Rattle.scx_isa_semantics.specs.Results.{◌>>=◌}
 use Rattle.scx_load_files.specs.Faults.{Reading, refusal}
 use Rattle.scx_load_files.specs.Values.{optional, text_of}
-use Rattle.scx_load_policies.specs.Policies.{Programs, callback_name}
+use Rattle.scx_load_policies.specs.Policies.{Programs}
 
 -- the programs, of each of these callbacks in turn the one that is read there
 abbrev pub with_each :

@@ -1,7 +1,7 @@
 ghost use Rattle.std.specs.Prelude.{Some, IfOk, IfErr};
 ghost use Rattle.scx_load_policies.specs.Building.{IsBuilt, IsFirstRefused, AreVerified, IsVerified, IsRefusedAs};
 
-use crate::policy_text::{PolicyText, callback_name};
+use crate::policy_text::PolicyText;
 use scx_isa::{Callback, Program};
 use scx_maps::MapDefs;
 use scx_sched_machine::{Callbacks, Policy};
@@ -15,7 +15,7 @@ use thiserror::Error;
 #[derive(Clone, Copy, PartialEq, Eq, Error)]
 pub enum BuildError {
     /// The first callback whose program is refused, for this fault at this slot.
-    #[error("verify {} {} {} at {slot}", callback_name(*callback), fault.number(), fault.name())]
+    #[error("verify {} {} {} at {slot}", callback.name(), fault.number(), fault.name())]
     Refused {
         callback: Callback,
         fault: Fault,

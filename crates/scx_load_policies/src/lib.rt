@@ -11,5 +11,5 @@ mod programs;
 mod reading;
 
 pub use building::{BuildError, build};
-pub use policy_text::{PolicyText, Programs, callback_name};
+pub use policy_text::{PolicyText, Programs};
 pub use reading::read_policy;

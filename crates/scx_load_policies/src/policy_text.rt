@@ -1,6 +1,6 @@
 ghost use Rattle.std.specs.Prelude.{◌≡◌, map};
 ghost use Rattle.scx_sched_machine.specs.Policy.{IsTimeout};
-ghost use Rattle.scx_load_policies.specs.Policies.{callback_name, callback_keys, program_of, without};
+ghost use Rattle.scx_load_policies.specs.Policies.{callback_keys, program_of, without};
 
 use scx_isa::{CALLBACKS, Callback, PerCallback, Program};
 use scx_maps::MapDefs;
@@ -60,25 +60,9 @@ impl PolicyText {
     }
 }
 
-/// The key of a callback in a policy file, which also names it in a refusal.
-pub fn callback_name(callback: Callback) -> &'static str
-    ensures { result.now ≡ callback_name callback }
-{
-    match callback {
-        Callback::Plain => "plain",
-        Callback::Init => "init",
-        Callback::Enable => "enable",
-        Callback::SelectCpu => "select_cpu",
-        Callback::Enqueue => "enqueue",
-        Callback::Dispatch => "dispatch",
-        Callback::Running => "running",
-        Callback::Stopping => "stopping",
-    }
-}
-
-/// The keys of all callbacks.
+/// The keys of all callbacks, which are their names.
 pub(crate) fn callback_keys() -> [&'static str; 7]
     ensures { map (λ key. key.now) result ≡ callback_keys }
 {
-    CALLBACKS.map(callback_name)
+    CALLBACKS.map(Callback::name)
 }

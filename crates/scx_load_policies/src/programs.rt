@@ -5,7 +5,7 @@ ghost use Rattle.scx_load_files.specs.Paths.{below};
 ghost use Rattle.hex.specs.Hex.{decode_of};
 ghost use Rattle.scx_load_policies.specs.Programs.{code_at, with_code, is_blank, without_blanks, program_of_hex, slots_at, with_slots, from_hex};
 
-use crate::policy_text::{Programs, callback_name};
+use crate::policy_text::Programs;
 use hex::FromHexError;
 use scx_asm::{AsmError, assemble};
 use scx_isa::{CALLBACKS, Callback, DecodeError, Program, decode};
@@ -56,7 +56,7 @@ fn code_at(
     requires { code.path.now ≡ codes "code" }
     ensures { Gives (λ p. p) result (code_at (table_view code.entry.table.now) callback) }
 {
-    let key = callback_name(callback);
+    let key = callback.name();
     let Some(value) = code.value(key) else {
         return Ok(None);
     };
@@ -82,7 +82,7 @@ fn slots_at(
     ensures { Gives (λ p. p) result
         (slots_at (table_view slots.entry.table.now) callback before) }
 {
-    let key = callback_name(callback);
+    let key = callback.name();
     let Some(value) = slots.value(key) else {
         return Ok(before);
     };

@@ -6,7 +6,7 @@ use Rattle.scx_verify.specs.Faults.{fault_number, fault_name}
 use Rattle.scx_asm.specs.Faults.{asm_number, asm_name}
 use Rattle.scx_load_files.specs.declared.fault.Cause.{Cause}
 use Rattle.scx_load_files.specs.declared.fault.Cause.TheVariants as causes
-use Rattle.scx_load_policies.specs.Policies.{callback_name}
+use Rattle.scx_isa_semantics.specs.Callbacks.{callback_name}
 use Rattle.scxsim_commands.specs.declared.refusal.Refusal.{Refusal}
 use Rattle.scxsim_commands.specs.declared.refusal.Refusal.TheVariants.{TooLarge, NotUtf8, NoMemory, Decode, Verify, Assemble, Callback, Policy, Workload, Init}
 use Rattle.scxsim_commands.specs.Lines.{fault_text}

@@ -1,9 +1,8 @@
 -- The lines of verdicts, one for each callback that is there.
 use Rattle.std.specs.Prelude.{ℕ, List, [], ◌∷◌, ◌++◌, codes, decimal, Option, Some, None}
 use Rattle.scx_isa_semantics.specs.declared.callbacks.Callback.{Callback}
-use Rattle.scx_isa_semantics.specs.Callbacks.{callbacks, at}
+use Rattle.scx_isa_semantics.specs.Callbacks.{callback_name, callbacks, at}
 use Rattle.scx_verify.specs.Faults.{fault_number, fault_name}
-use Rattle.scx_load_policies.specs.Policies.{callback_name}
 use Rattle.scxsim_commands.specs.Lines.{fault_text}
 use Rattle.scxsim_commands.specs.declared.verdict.Verdict.{Verdict}
 use Rattle.scxsim_commands.specs.declared.verdict.Verdict.TheVariants.{Accepted, Refused}

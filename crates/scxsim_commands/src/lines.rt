@@ -2,14 +2,13 @@ ghost use Rattle.std.specs.Prelude.{◌≡◌, ◌+◌, ◌≤◌, ◌++◌, len
 ghost use Rattle.std.specs.Io.KnownBytes.{Appends};
 ghost use Rattle.arrayvec.specs.ArrayString.{array_string_len};
 ghost use Rattle.scx_verify.specs.Faults.{fault_number, fault_name};
-ghost use Rattle.scx_load_policies.specs.Policies.{callback_name as name_of};
+ghost use Rattle.scx_isa_semantics.specs.Callbacks.{callback_name as name_of};
 ghost use Rattle.scxsim_output.specs.Output.{HasFailed};
 ghost use Rattle.scxsim_commands.specs.Lines as lines;
 
 use arrayvec::ArrayString;
 use itoa::Buffer;
 use scx_isa::Callback;
-use scx_load_policies::callback_name;
 use scx_verify::Fault;
 use scxsim_output::{Failed, Out, write_named};
 
@@ -69,7 +68,7 @@ pub(crate) fn short_name(callback: Callback) -> &'static str
     ensures name { result.now ≡ name_of callback }
     ensures short { length result.now ≤ 10 }
 {
-    callback_name(callback)
+    callback.name()
 }
 
 /// The name of a fault, which leaves room in a line.

@@ -6,7 +6,7 @@ ghost use Rattle.scxsim_commands.specs.declared.refusal.Fault.TheVariants.{Refus
 use scx_asm::{AsmError, AsmFault};
 use scx_isa::{Callback, DecodeError, DecodeFault};
 use scx_load_files::{Cause, LoadError};
-use scx_load_policies::{BuildError, callback_name};
+use scx_load_policies::BuildError;
 use scx_verify::{self as verifier, VerifyError};
 use scxsim_output::Failed;
 use std::alloc::AllocError;
@@ -45,7 +45,7 @@ pub enum Refusal {
         line: usize,
     },
     /// A callback of a policy that is to be run.
-    #[error("{} is unsafe at slot {slot}", callback_name(*callback))]
+    #[error("{} is unsafe at slot {slot}", callback.name())]
     Callback {
         callback: Callback,
         fault: verifier::Fault,

@@ -1,6 +1,6 @@
 ghost use Rattle.std.specs.Prelude.{◌≡◌, ◌+◌, ◌≤◌, ◌++◌, length, codes, decimal, option_map};
 ghost use Rattle.arrayvec.specs.ArrayString.{array_string_len};
-ghost use Rattle.scx_load_policies.specs.Policies.{callback_name as name_of};
+ghost use Rattle.scx_isa_semantics.specs.Callbacks.{callback_name as name_of};
 ghost use Rattle.scxsim_commands.specs.VerdictLines.{verdict_line, line_of, verdict_lines};
 
 use crate::lines::{Line, callback_line, short_name};

@@ -1,7 +1,6 @@
 use crate::words::FieldName;
 use scx_abs::Kind;
 use scx_isa::{CALLBACKS, Field, Helper, Size};
-use scx_load_policies::callback_name;
 use scx_verify_explain::{BadAccess, BadCall, BadField, BadFlow, BadValue, Origin, Reason};
 use std::fmt;
 
@@ -126,7 +125,7 @@ fn write_callbacks<W: fmt::Write>(f: &mut fmt::Formatter<W>, number: i32) -> fmt
     let mut before = "";
     for callback in CALLBACKS {
         if helper.is_allowed(callback) {
-            let name = callback_name(callback);
+            let name = callback.name();
             write!(f, "{before}{name}")?;
             before = ", ";
         }

@@ -2,7 +2,6 @@ use crate::advice::Advice;
 use crate::words::{FieldName, Members, Name, Spoken, Wanted, from_top, step_of};
 use scx_abs::Kind;
 use scx_isa::{Register, STACK_SIZE};
-use scx_load_policies::callback_name;
 use scx_verify_explain::{
     BadAccess, BadCall, BadField, BadFlow, BadValue, Brought, Explanation, Leg, Memory, Origin,
     Place, Reach, Reason,
@@ -128,7 +127,7 @@ fn write_value<W: fmt::Write>(f: &mut fmt::Formatter<W>, value: BadValue) -> fmt
         BadValue::Comparison(register, kind) => write_held(f, register, kind),
         BadValue::Stored(register, kind) => write_held(f, register, kind),
         BadValue::Answer { kind, callback } => {
-            let name = callback_name(callback);
+            let name = callback.name();
             let kind = Spoken(kind);
             write!(f, "{name} answers a number in r0, which holds {kind} here")
         }
@@ -211,7 +210,7 @@ fn write_call<W: fmt::Write>(f: &mut fmt::Formatter<W>, call: BadCall) -> fmt::R
     match call {
         BadCall::Unknown(number) => write!(f, "no helper has the number {number}"),
         BadCall::NotHere { number, callback } => {
-            let name = callback_name(callback);
+            let name = callback.name();
             write!(f, "{name} may not call {number}")
         }
         BadCall::Argument {
