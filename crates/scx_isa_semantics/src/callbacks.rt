@@ -1,6 +1,7 @@
-ghost use Rattle.std.specs.Prelude.{◌≡◌};
+ghost use Rattle.std.specs.Prelude.{◌≡◌, slice_get};
 ghost use Rattle.scx_isa_semantics.specs.Callbacks.{callback_name};
 ghost use Rattle.scx_isa_semantics.specs.HostTables.{answers};
+ghost use Rattle.scx_isa_semantics.specs.Arguments.{callback_arguments};
 
 /// What a program is run as: a callback of a scheduling policy (sched-ext.rst), or a plain program
 /// with no policy around it. Each line says when a callback is called, what it is given in r1 to r3 (of
@@ -41,7 +42,31 @@ pub const CALLBACKS: [Callback; 7] = [
     Callback::Stopping,
 ];
 
+/// What a callback is given in a register.
+#[derive(Clone, Copy)]
+pub enum ArgumentKind {
+    /// A pointer to a task.
+    Task,
+    /// A pointer to a task, or 0.
+    TaskOrNull,
+    Number,
+}
+
 impl Callback {
+    /// What it is given as its argument of that number, 0 for r1; none past its last one.
+    pub fn argument(self, number: usize) -> Option<ArgumentKind>
+        ensures { result ≡ slice_get (callback_arguments self) number }
+    {
+        let kinds: &[ArgumentKind] = match self {
+            Callback::Plain | Callback::Init => &[],
+            Callback::Enable | Callback::Running => &[ArgumentKind::Task],
+            Callback::SelectCpu => &[ArgumentKind::Task, ArgumentKind::Number, ArgumentKind::Number],
+            Callback::Enqueue | Callback::Stopping => &[ArgumentKind::Task, ArgumentKind::Number],
+            Callback::Dispatch => &[ArgumentKind::Number, ArgumentKind::TaskOrNull],
+        };
+        kinds.get(number).copied()
+    }
+
     /// Whether its run answers a number, in r0.
     pub fn answers(self) -> bool
         ensures { result ≡ answers self }

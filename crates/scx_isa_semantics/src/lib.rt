@@ -15,7 +15,7 @@ mod per_callback;
 mod registers;
 mod values;
 
-pub use callbacks::{CALLBACKS, Callback};
+pub use callbacks::{ArgumentKind, CALLBACKS, Callback};
 pub use host_tables::{Field, Helper, MAX_ARGUMENTS, Parameter, TaskId};
 pub use instructions::{Insn, Operand};
 pub use laws::{Responder, run_carries_over, run_has_one_outcome};
