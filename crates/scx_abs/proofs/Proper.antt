@@ -1,6 +1,6 @@
 -- Proper states: a callback begins in one, rules and joins keep them proper, and two that cover each
 -- other are one.
-use Rattle.std.proofs.Common.{◌≡◌, ℕ, ◌/◌, ◌%◌, ◌<◌, ◌≤◌, ◌⊎◌, inl, inr, ℤ, pos, nat_lt, set, replicate, Bool, true, false, ◌&&◌, nat_eq, List, [], length, All, Option, Some, None, option_map, Result, Ok, Err, IfSome, IfOk, if◌then◌else◌, refl, sym, ap, ◌∙◌, subst, arith}
+use Rattle.std.proofs.Common.{◌≡◌, ℕ, ◌/◌, ◌%◌, ◌<◌, ◌≤◌, ◌⊎◌, inl, inr, ℤ, pos, nat_lt, set, replicate, Bool, true, false, ◌&&◌, nat_eq, List, [], length, All, Option, Some, None, option_map, Result, Ok, Err, IfSome, IfOk, if◌then◌else◌, refl, sym, ap, ◌∙◌, subst, arith, slice_get}
 use Rattle.std.proofs.lemmas.Bool.{cases_lt}
 use Rattle.std.proofs.lemmas.List.{ext_get_or, length-set, get_or_past}
 use Rattle.std.proofs.lemmas.List.Elements.{All-get_or, All-from_get_or, All-replicate, All-set}
@@ -18,7 +18,9 @@ use Rattle.scx_isa_semantics.specs.declared.registers.Register.{Register}
 use Rattle.scx_isa_semantics.specs.declared.operations.Size.{Size}
 use Rattle.scx_isa_semantics.specs.declared.operations.Size.TheVariants as size
 use Rattle.scx_isa_semantics.specs.declared.callbacks.Callback.{Callback}
-use Rattle.scx_isa_semantics.specs.declared.callbacks.Callback.TheVariants as callback
+use Rattle.scx_isa_semantics.specs.declared.callbacks.ArgumentKind.{ArgumentKind}
+use Rattle.scx_isa_semantics.specs.declared.callbacks.ArgumentKind.TheVariants as argument
+use Rattle.scx_isa_semantics.specs.Arguments.{callback_arguments}
 use Rattle.scx_isa_semantics.specs.declared.host_tables.Helper.{Helper}
 use Rattle.scx_isa_semantics.specs.declared.host_tables.Helper.TheVariants as helper
 use Rattle.scx_isa_semantics.specs.Registers.{number}
@@ -55,7 +57,7 @@ use Rattle.scx_abs.specs.declared.memory.Area.{Area}
 use Rattle.scx_abs.specs.declared.memory.Area.TheVariants.{OnStack, InElement, InTask}
 use Rattle.scx_abs.specs.Kinds.{CoversKind, IsProperKind, kind_if, join_kind}
 use Rattle.scx_abs.specs.Cells.{kind_of, held_of, is_written, no_bytes, with_bytes, all_written, written_in, IsPartOf, CoversCell, IsProperCell, cell_of, join_cell}
-use Rattle.scx_abs.specs.States.{kind_at, cell_at, with_kind, with_cell, IsWhole, IsProper, ArgumentKinds, argument_kinds, start_kinds}
+use Rattle.scx_abs.specs.States.{kind_at, cell_at, with_kind, with_cell, IsWhole, IsProper, ArgumentKinds, argument_kind, argument_kinds, start_kinds}
 use Rattle.scx_isa_semantics.specs.Results.{◌>>=◌}
 use Rattle.scx_abs.specs.Checks.{flows, goes_on, usable, operand_kind, sets, element_size, offset_within}
 use Rattle.scx_abs.specs.Calls.{arguments_check, after_call, element_of, answer_kind, call_allowed, call_rule}
@@ -70,15 +72,18 @@ record AreProper (k : ArgumentKinds) : Type 0 where
   second : IsProperKind k.second
   third : IsProperKind k.third
 
+argument_proper : (k : Option ArgumentKind) → IsProperKind (argument_kind k)
+argument_proper None = tt
+argument_proper (Some argument.Task) = tt
+argument_proper (Some argument.TaskOrNull) = tt
+argument_proper (Some argument.Number) = all_range
+
 arguments_proper : (c : Callback) → AreProper (argument_kinds c)
-arguments_proper callback.Plain = record { first = tt; second = tt; third = tt }
-arguments_proper callback.Init = record { first = tt; second = tt; third = tt }
-arguments_proper callback.Enable = record { first = tt; second = tt; third = tt }
-arguments_proper callback.SelectCpu = record { first = tt; second = all_range; third = all_range }
-arguments_proper callback.Enqueue = record { first = tt; second = all_range; third = tt }
-arguments_proper callback.Dispatch = record { first = all_range; second = tt; third = tt }
-arguments_proper callback.Running = record { first = tt; second = tt; third = tt }
-arguments_proper callback.Stopping = record { first = tt; second = all_range; third = tt }
+arguments_proper c = record {
+  first = argument_proper (slice_get (callback_arguments c) 0);
+  second = argument_proper (slice_get (callback_arguments c) 1);
+  third = argument_proper (slice_get (callback_arguments c) 2);
+}
 
 start_kinds_proper : (k : ArgumentKinds) → AreProper k → All IsProperKind (start_kinds k).registers
 start_kinds_proper k p =

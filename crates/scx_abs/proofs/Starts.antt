@@ -1,7 +1,8 @@
 -- The state in which a callback begins stands for all in which it may begin.
-use Rattle.std.proofs.Common.{ℕ, zero, suc, ◌*◌, [], replicate, slice_index_or, refl}
+use Rattle.std.proofs.Common.{ℕ, zero, suc, ◌*◌, ◌<◌, List, [], ◌∷◌, length, replicate, Option, Some, None, slice_get, slice_index_or, refl, arith}
 use Rattle.scx_isa_semantics.specs.declared.callbacks.Callback.{Callback}
-use Rattle.scx_isa_semantics.specs.declared.callbacks.Callback.TheVariants as callback
+use Rattle.scx_isa_semantics.specs.declared.callbacks.ArgumentKind.{ArgumentKind}
+use Rattle.scx_isa_semantics.specs.declared.callbacks.ArgumentKind.TheVariants as argument
 use Rattle.scx_isa_semantics.specs.declared.values.Value.{Value}
 use Rattle.scx_isa_semantics.specs.declared.values.Value.TheVariants as value
 use Rattle.scx_isa_semantics.specs.declared.values.Pointer.TheVariants as pointer
@@ -11,8 +12,8 @@ use Rattle.scx_isa_semantics.specs.Machine.{Arguments, start, start_registers}
 use Rattle.scx_abs.specs.declared.kinds.Kind.TheVariants.{Task}
 use Rattle.scx_abs.specs.declared.kinds.Cell.TheVariants.{Bytes}
 use Rattle.scx_abs.specs.Cells.{no_bytes}
-use Rattle.scx_abs.specs.States.{kind_at, ArgumentKinds, argument_kinds, start_kinds}
-use Rattle.scx_isa_semantics.specs.Arguments.{FitsCallback, IsTask}
+use Rattle.scx_abs.specs.States.{kind_at, ArgumentKinds, argument_kind, argument_kinds, start_kinds}
+use Rattle.scx_isa_semantics.specs.Arguments.{IsTask, callback_arguments, FitsKind, FitsKinds, FitsCallback}
 use Rattle.scx_abs.specs.Stands.{Stands, CellStands}
 use Rattle.scx_abs.specs.Laws.{StartIsSound}
 use Rattle.scx_abs.proofs.Orders.{none_written}
@@ -48,15 +49,34 @@ record Fit (maps : Maps) (k : ArgumentKinds) (a : Arguments) : Type 0 where
   second : Stands maps k.second a.second
   third : Stands maps k.third a.third
 
+-- a value is of that kind, if there is one
+abbrev FitsSome : Option ArgumentKind → Value → Type 0
+FitsSome None v = Unit {0}
+FitsSome (Some k) v = FitsKind k v
+
+argument_fits : (maps : Maps) (k : Option ArgumentKind) (v : Value) → FitsSome k v → Stands maps (argument_kind k) v
+argument_fits maps None v h = tt
+argument_fits maps (Some argument.Task) v h = task_fits maps v h
+argument_fits maps (Some argument.TaskOrNull) v h = task_or_null_fits maps v h
+argument_fits maps (Some argument.Number) v h = number_stands maps v h
+
+each_fits : (ks : List ArgumentKind) (vs : List Value) (k : ℕ) (d : Value) → k < length vs → FitsKinds ks vs → FitsSome (slice_get ks k) (slice_index_or vs k d)
+each_fits [] vs k d lt h = tt
+each_fits (q ∷ ks) [] k d lt h = absurd (omega (arith, lt))
+each_fits (q ∷ []) (v ∷ vs) zero d lt h = h
+each_fits (q ∷ []) (v ∷ vs) (suc k) d lt h = tt
+each_fits (q ∷ l ∷ ks) (v ∷ vs) zero d lt h = h.0
+each_fits (q ∷ l ∷ ks) (v ∷ vs) (suc k) d lt h = each_fits (l ∷ ks) vs k d (omega (arith, lt)) h.1
+
 arguments_fit : (c : Callback) (maps : Maps) (a : Arguments) → FitsCallback c a → Fit maps (argument_kinds c) a
-arguments_fit callback.Plain maps a h = record { first = tt; second = tt; third = tt }
-arguments_fit callback.Init maps a h = record { first = tt; second = tt; third = tt }
-arguments_fit callback.Enable maps a h = record { first = task_fits maps a.first h; second = tt; third = tt }
-arguments_fit callback.SelectCpu maps a h = record { first = task_fits maps a.first h.0; second = number_stands maps a.second h.1; third = number_stands maps a.third h.2 }
-arguments_fit callback.Enqueue maps a h = record { first = task_fits maps a.first h.0; second = number_stands maps a.second h.1; third = tt }
-arguments_fit callback.Dispatch maps a h = record { first = number_stands maps a.first h.0; second = task_or_null_fits maps a.second h.1; third = tt }
-arguments_fit callback.Running maps a h = record { first = task_fits maps a.first h; second = tt; third = tt }
-arguments_fit callback.Stopping maps a h = record { first = task_fits maps a.first h.0; second = number_stands maps a.second h.1; third = tt }
+arguments_fit c maps a h =
+    let values = a.first ∷ a.second ∷ a.third ∷ [] in
+    let kinds = callback_arguments c in
+    record {
+      first = argument_fits maps (slice_get kinds 0) a.first (each_fits kinds values 0 value.Unset (omega arith) h);
+      second = argument_fits maps (slice_get kinds 1) a.second (each_fits kinds values 1 value.Unset (omega arith) h);
+      third = argument_fits maps (slice_get kinds 2) a.third (each_fits kinds values 2 value.Unset (omega arith) h);
+    }
 
 -- the law
 pub begins_sound : StartIsSound

@@ -1,8 +1,10 @@
 -- Abstract states: a kind for each register and a cell for each eight bytes of the stack. They are
 -- ordered register by register and cell by cell.
-use Rattle.std.specs.Prelude.{◌≡◌, ℕ, [], length, set, replicate, slice_index_or, Option, Some, None, All}
+use Rattle.std.specs.Prelude.{◌≡◌, ℕ, [], length, set, replicate, slice_get, slice_index_or, Option, Some, None, All}
 use Rattle.scx_isa_semantics.specs.declared.callbacks.Callback.{Callback}
-use Rattle.scx_isa_semantics.specs.declared.callbacks.Callback.TheVariants as callback
+use Rattle.scx_isa_semantics.specs.declared.callbacks.ArgumentKind.{ArgumentKind}
+use Rattle.scx_isa_semantics.specs.declared.callbacks.ArgumentKind.TheVariants as argument
+use Rattle.scx_isa_semantics.specs.Arguments.{callback_arguments}
 use Rattle.scx_isa_semantics.specs.Memory.{stack_size}
 use Rattle.scx_abs_ranges.specs.Ranges.{all}
 use Rattle.scx_abs.specs.declared.kinds.Kind.{Kind}
@@ -63,16 +65,20 @@ pub record ArgumentKinds : Type 0 where
   pub second : Kind
   pub third : Kind
 
--- what is known of a callback's arguments; unusable where it has none
+-- what is known of an argument; unusable where a callback has none
+abbrev pub argument_kind : Option ArgumentKind → Kind
+argument_kind None = Unusable
+argument_kind (Some argument.Task) = Task
+argument_kind (Some argument.TaskOrNull) = TaskOrNull
+argument_kind (Some argument.Number) = Num all
+
+-- what is known of a callback's arguments
 abbrev pub argument_kinds : Callback → ArgumentKinds
-argument_kinds callback.Plain = record { first = Unusable; second = Unusable; third = Unusable }
-argument_kinds callback.Init = record { first = Unusable; second = Unusable; third = Unusable }
-argument_kinds callback.Enable = record { first = Task; second = Unusable; third = Unusable }
-argument_kinds callback.SelectCpu = record { first = Task; second = Num all; third = Num all }
-argument_kinds callback.Enqueue = record { first = Task; second = Num all; third = Unusable }
-argument_kinds callback.Dispatch = record { first = Num all; second = TaskOrNull; third = Unusable }
-argument_kinds callback.Running = record { first = Task; second = Unusable; third = Unusable }
-argument_kinds callback.Stopping = record { first = Task; second = Num all; third = Unusable }
+argument_kinds c = record {
+  first = argument_kind (slice_get (callback_arguments c) 0);
+  second = argument_kind (slice_get (callback_arguments c) 1);
+  third = argument_kind (slice_get (callback_arguments c) 2);
+}
 
 -- The state in which a callback begins: its arguments in r1 to r3, the top of the stack in r10, and
 -- nothing else.

@@ -5,11 +5,12 @@ ghost use Rattle.scx_abs.specs.declared.kinds.Cell.TheVariants.{Bytes};
 ghost use Rattle.scx_abs.specs.Kinds.{IsLeastCover, join_kind};
 ghost use Rattle.scx_abs.specs.Cells.{join_cell};
 ghost use Rattle.scx_abs.specs.Changes.{AreBlank};
-ghost use Rattle.scx_abs.specs.States.{CoversState, IsProper, argument_kinds, start_of};
+ghost use Rattle.scx_abs.specs.States.{CoversState, IsProper, argument_kind, start_of};
 
 use crate::kinds::{CELL_BYTES, Cell, Kind};
 use scx_abs_ranges::Numbers;
 use scx_isa::{Callback, REGISTERS, Register, STACK_SIZE};
+use scx_isa_semantics::ArgumentKind;
 
 /// How many cells of eight bytes the stack has.
 pub const CELLS: usize = 64;
@@ -92,20 +93,15 @@ impl AbsState {
     }
 }
 
-/// The kinds of a callback's arguments, in r1 to r3 (sched-ext.rst, in this project's order).
-fn argument_kinds(callback: Callback) -> (Kind, Kind, Kind)
-    ensures first { result.0 ≡ (argument_kinds callback).first }
-    ensures second { result.1 ≡ (argument_kinds callback).second }
-    ensures third { result.2 ≡ (argument_kinds callback).third }
+/// What is known of an argument of a callback; it is unusable where there is none.
+fn argument_kind(argument: Option<ArgumentKind>) -> Kind
+    ensures { result ≡ argument_kind argument }
 {
-    let number = Kind::Num(Numbers::all());
-    let other = number;
-    match callback {
-        Callback::Plain | Callback::Init => (Kind::Unusable, Kind::Unusable, Kind::Unusable),
-        Callback::Enable | Callback::Running => (Kind::Task, Kind::Unusable, Kind::Unusable),
-        Callback::SelectCpu => (Kind::Task, number, other),
-        Callback::Enqueue | Callback::Stopping => (Kind::Task, number, Kind::Unusable),
-        Callback::Dispatch => (number, Kind::TaskOrNull, Kind::Unusable),
+    match argument {
+        None => Kind::Unusable,
+        Some(ArgumentKind::Task) => Kind::Task,
+        Some(ArgumentKind::TaskOrNull) => Kind::TaskOrNull,
+        Some(ArgumentKind::Number) => Kind::Num(Numbers::all()),
     }
 }
 
@@ -114,11 +110,10 @@ fn argument_kinds(callback: Callback) -> (Kind, Kind, Kind)
 pub fn start(callback: Callback) -> AbsState
     ensures { result ≡ start_of callback }
 {
-    let (first, second, third) = argument_kinds(callback);
     let mut registers = [Kind::Unusable; REGISTERS];
-    registers[1] = first;
-    registers[2] = second;
-    registers[3] = third;
+    registers[1] = argument_kind(callback.argument(0));
+    registers[2] = argument_kind(callback.argument(1));
+    registers[3] = argument_kind(callback.argument(2));
     registers[10] = Kind::Stack(STACK_SIZE);
     AbsState {
         registers,
