@@ -60,7 +60,11 @@ impl Callback {
         let kinds: &[ArgumentKind] = match self {
             Callback::Plain | Callback::Init => &[],
             Callback::Enable | Callback::Running => &[ArgumentKind::Task],
-            Callback::SelectCpu => &[ArgumentKind::Task, ArgumentKind::Number, ArgumentKind::Number],
+            Callback::SelectCpu => &[
+                ArgumentKind::Task,
+                ArgumentKind::Number,
+                ArgumentKind::Number,
+            ],
             Callback::Enqueue | Callback::Stopping => &[ArgumentKind::Task, ArgumentKind::Number],
             Callback::Dispatch => &[ArgumentKind::Number, ArgumentKind::TaskOrNull],
         };
