@@ -42,11 +42,8 @@ floor n shift = n - n % 2 ^ shift
 
 -- the range between two multiples
 abbrev pub between : ℕ → ℕ → ℕ → Range
-between low high shift = record {
-  low = low;
-  high = high;
-  shift = if nat_eq low high then trailing low else shift;
-}
+between low high shift =
+    record { low = low; high = high; shift = if nat_eq low high then trailing low else shift }
 
 -- one number
 abbrev pub single : ℕ → Range
@@ -66,8 +63,5 @@ contains n r = nat_le r.low n && nat_le n r.high && nat_eq (n % 2 ^ r.shift) 0
 
 -- the least range that covers both
 abbrev pub join_ranges : Range → Range → Range
-join_ranges a b = record {
-  low = min a.low b.low;
-  high = max a.high b.high;
-  shift = min a.shift b.shift;
-}
+join_ranges a b =
+    record { low = min a.low b.low; high = max a.high b.high; shift = min a.shift b.shift }

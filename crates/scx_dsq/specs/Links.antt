@@ -54,11 +54,8 @@ links_appended links ends t =
 
 -- the ends of a queue with that task put at its end
 abbrev pub ends_appended : Ends → ℕ → Ends
-ends_appended ends t = record {
-  first = instead ends.last (Some t) ends.first;
-  last = Some t;
-  count = ends.count + 1;
-}
+ends_appended ends t =
+    record { first = instead ends.last (Some t) ends.first; last = Some t; count = ends.count + 1 }
 
 -- a task taken out: those beside it are linked to each other
 abbrev pub links_unlinked : List Link → ℕ → List Link

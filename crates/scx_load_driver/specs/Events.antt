@@ -27,10 +27,8 @@ plan_of w = record { cpus = w.cpus; timings = w.timings; changes = w.changes }
 
 -- no task has run, and each wakes at its start
 abbrev pub first_memory : List Timing → Memory
-first_memory timings = record {
-  due = map (λ (t : Timing). t.start) timings;
-  ran = replicate (length timings) 0;
-}
+first_memory timings =
+    record { due = map (λ (t : Timing). t.start) timings; ran = replicate (length timings) 0 }
 
 -- the events of a workload, from a first state on
 abbrev pub workload_events : WorkloadState → SimState → List Event

@@ -37,11 +37,8 @@ pub record AreGroups (g : InsideGroups) : Type 0 where
 
 -- the tasks, with their names, that the fields of a `Tasks` stand for
 abbrev pub tasks_of : InsideTasks → TaskList
-tasks_of t = record {
-  names = texts t.names.items;
-  homes = t.homes.items;
-  timings = t.timings.items;
-}
+tasks_of t =
+    record { names = texts t.names.items; homes = t.homes.items; timings = t.timings.items }
 
 -- what holds of tasks as they are read: each has a name, and times that are in their limits
 pub record AreTasks (t : InsideTasks) : Type 0 where

@@ -18,9 +18,8 @@ moves_over s = record {
 
 -- the tasks that run stay, with slices that are cut
 abbrev pub cuts : Stepped → Stepped
-cuts r = record r {
-  state = with_world r.state (after_cut (length r.state.world.cpus) r.state.world);
-}
+cuts r =
+    record r { state = with_world r.state (after_cut (length r.state.world.cpus) r.state.world) }
 
 -- the cause is noted and the policy put out of force; who waits goes over, and slices are cut
 unfoldable pub eject : State → Eject → Stepped

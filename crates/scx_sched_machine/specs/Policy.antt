@@ -20,11 +20,8 @@ pub record PolicyState : Type 0 where
 
 -- the policy with these shapes of maps, that timeout in milliseconds, and these programs
 abbrev pub policy_of : List Shape → ℕ → Programs → PolicyState
-policy_of shapes timeout callbacks = record {
-  shapes = shapes;
-  timeout_ms = timeout;
-  callbacks = callbacks;
-}
+policy_of shapes timeout callbacks =
+    record { shapes = shapes; timeout_ms = timeout; callbacks = callbacks }
 
 -- the program of a callback
 abbrev pub program_of : PolicyState → Callback → Option VerifiedProgram

@@ -23,11 +23,8 @@ is_bad_shape tree cpus =
 
 -- before any callback; periods of all groups begin
 abbrev pub blank : PolicyState → Hierarchy → ℕ → State
-blank p tree cpus = record {
-  policy = p;
-  maps = zeros p.shapes;
-  world = begun_periods (first_world tree cpus);
-}
+blank p tree cpus =
+    record { policy = p; maps = zeros p.shapes; world = begun_periods (first_world tree cpus) }
 
 -- ---- init
 

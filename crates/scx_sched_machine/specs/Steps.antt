@@ -47,8 +47,5 @@ after ns r = record r { notes = ns ++ r.notes }
 
 -- one step after another, the second one from where the first one leads
 abbrev pub one_after_other : Stepped → Stepped → Stepped
-one_after_other a r = record {
-  state = r.state;
-  notes = a.notes ++ r.notes;
-  calls = a.calls ++ r.calls;
-}
+one_after_other a r =
+    record { state = r.state; notes = a.notes ++ r.notes; calls = a.calls ++ r.calls }

@@ -12,11 +12,5 @@ default_slice = 20000000
 
 -- at the start nobody waits
 abbrev pub new_task : Task
-new_task = record {
-  since = None;
-  slice = default_slice;
-  vtime = 0;
-  prev_cpu = 0;
-  run_ns = 0;
-  builtin = 0;
-}
+new_task =
+    record { since = None; slice = default_slice; vtime = 0; prev_cpu = 0; run_ns = 0; builtin = 0 }

@@ -202,11 +202,8 @@ insert_of a = record { queue = given_number a 1; slice = given_number a 2; rank 
 
 -- what a call asks for that inserts by virtual time: a queue, a slice, and the key
 abbrev pub insert_of_vtime : List Arg → Insert
-insert_of_vtime a = record {
-  queue = given_number a 1;
-  slice = given_number a 2;
-  rank = Vtime (given_number a 3);
-}
+insert_of_vtime a =
+    record { queue = given_number a 1; slice = given_number a 2; rank = Vtime (given_number a 3) }
 
 -- ---- moves
 

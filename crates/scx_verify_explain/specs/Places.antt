@@ -21,12 +21,8 @@ use Rattle.scx_verify_explain.specs.declared.places.Distances.{Distances}
 
 -- a byte of the stack, counted from the top
 abbrev pub stack_place : ℕ → Place
-stack_place o = record {
-  memory = memory.Stack;
-  from = pos o -ℤ pos 512;
-  to = pos o -ℤ pos 512;
-  shift = 0;
-}
+stack_place o =
+    record { memory = memory.Stack; from = pos o -ℤ pos 512; to = pos o -ℤ pos 512; shift = 0 }
 
 -- the bytes to one of which a pointer of that kind points, if it is one to the stack
 -- or to an element
@@ -59,20 +55,15 @@ distances_of a w o (operand.Register r) = distances_in (kind_at a (number r))
 
 -- a place that far on
 abbrev pub place_at_distances : Place → Distances → Place
-place_at_distances p s = record p {
-  from = p.from +ℤ s.least;
-  to = p.to +ℤ s.most;
-  shift = min p.shift s.shift;
-}
+place_at_distances p s =
+    record p { from = p.from +ℤ s.least; to = p.to +ℤ s.most; shift = min p.shift s.shift }
 
 -- ---- accesses
 
 -- the bytes that an address means whose register points to that place
 abbrev pub reach_from : Address → Place → Reach
-reach_from x p = record {
-  place = place_at_distances p (one_distance x.offset);
-  count = size_bytes x.size;
-}
+reach_from x p =
+    record { place = place_at_distances p (one_distance x.offset); count = size_bytes x.size }
 
 -- the bytes that an address means
 abbrev pub reach_of : List Shape → AbsState → Address → Option Reach

@@ -31,10 +31,8 @@ without_throttled t k cpus c = if is_throttled t k then slice_set cpus c None el
 -- that task, where there is one, has run for a ms there
 abbrev pub after_ms : Option ℕ → QuotaMachine → ℕ → QuotaMachine
 after_ms None m c = m
-after_ms (Some k) m c = record {
-  tree = with_use m.tree k;
-  cpus = without_throttled (with_use m.tree k) k m.cpus c;
-}
+after_ms (Some k) m c =
+    record { tree = with_use m.tree k; cpus = without_throttled (with_use m.tree k) k m.cpus c }
 
 -- the machine after a step
 abbrev pub after_step : QuotaMachine → Step → QuotaMachine

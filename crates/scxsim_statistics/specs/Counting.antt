@@ -189,9 +189,8 @@ counts_after_note clock what k = counts_after_step what (pause_counted clock wha
 
 -- a tick is of a processor that runs a task, or none, before it
 abbrev pub counts_after_event : SimState → Event → Counts → Counts
-counts_after_event s (event.Tick c) k = record k {
-  cpus = with_tick_at k.cpus c (is_some (running s.state.world c));
-}
+counts_after_event s (event.Tick c) k =
+    record k { cpus = with_tick_at k.cpus c (is_some (running s.state.world c)) }
 counts_after_event s (event.Wake t) k = k
 counts_after_event s (event.Sleep t) k = k
 counts_after_event s event.Clock k = k
