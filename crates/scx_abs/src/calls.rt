@@ -12,7 +12,7 @@ use crate::states::AbsState;
 use scx_abs_ranges::Numbers;
 use scx_isa::{Helper, Parameter, Register, STACK_SIZE, Size};
 use scx_maps::MapDefs;
-use scx_vm_safety::Context;
+use scx_vm::Context;
 
 /// What a call changes: the helper is there, then it may be called here, then each argument is
 /// what it takes.

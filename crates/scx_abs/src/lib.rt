@@ -35,5 +35,5 @@ pub use laws::{
 pub use memory::{Area, area_of};
 pub use rules::{Next, assigned, ended, transfer};
 pub use scx_isa::REGISTERS;
-pub use scx_vm_safety::Context;
+pub use scx_vm::Context;
 pub use states::{AbsState, CELLS, join, start};

@@ -15,7 +15,7 @@ use scx_abs_ranges::Numbers;
 use scx_isa::{Access, Insn, Operand, Operation, Register, Size, Width};
 use scx_isa_arithmetic::wide_immediate;
 use scx_maps::MapDefs;
-use scx_vm_safety::Context;
+use scx_vm::Context;
 
 /// What flows on from an instruction.
 #[derive(Clone, Copy)]

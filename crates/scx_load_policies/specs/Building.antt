@@ -8,7 +8,7 @@ use Rattle.scx_isa_semantics.specs.declared.callbacks.Callback.{Callback}
 use Rattle.scx_isa_semantics.specs.Callbacks.{at, earlier}
 use Rattle.scx_verify.specs.declared.faults.Fault.{Fault}
 use Rattle.scx_verify.specs.declared.faults.Fault.TheVariants.{NoMemory}
-use Rattle.scx_vm_safety.specs.Programs.{VerifiedProgram, context}
+use Rattle.scx_vm.specs.Programs.{VerifiedProgram, context}
 use Rattle.scx_verify.specs.Typing.{IsTyped}
 use Rattle.scx_verify.specs.Faults.{IsRefusal}
 use Rattle.scx_sched_machine.specs.Policy as machine

@@ -11,7 +11,7 @@ use Rattle.scx_weights.specs.Hierarchy.{with_weight}
 use Rattle.scx_weights.specs.Limits.{with_use}
 use Rattle.scx_weights.specs.Limits as limits
 use Rattle.scx_weights.specs.Refusals.{weight_fault}
-use Rattle.scx_vm_safety.specs.Programs.{VerifiedProgram}
+use Rattle.scx_vm.specs.Programs.{VerifiedProgram}
 use Rattle.scx_sched_world.specs.World.{WorldState, with_tree, task_at, is_this, is_runnable, is_throttled, running, cpu_of, is_idle, this_if, or_this, idle_below, first_idle, or_else, default_choice}
 use Rattle.scx_sched_world.specs.Tasks.{after_wake, after_sleep, after_leave, after_stop, let_go, ran_a_tick, after_tick, used_ms, later, begun_periods, after_reweigh}
 use Rattle.scx_sched_machine.specs.declared.events.Event.{Event}

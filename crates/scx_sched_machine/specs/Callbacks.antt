@@ -6,7 +6,7 @@ use Rattle.scx_isa_semantics.specs.Elements.{Maps}
 use Rattle.scx_isa_semantics.specs.Code.{instruction_count}
 use Rattle.scx_isa_semantics.specs.Endings.{Ending, run_of}
 use Rattle.scx_isa_semantics.specs.Runs.{Runs}
-use Rattle.scx_vm_safety.specs.Programs.{VerifiedProgram}
+use Rattle.scx_vm.specs.Programs.{VerifiedProgram}
 use Rattle.scx_vm.specs.declared.arguments.Arg.{Arg}
 use Rattle.scx_vm.specs.declared.arguments.Arg.TheVariants.{Unset, Num}
 use Rattle.scx_vm.specs.declared.arguments.Args.{Args}

@@ -3,7 +3,7 @@ use Rattle.std.specs.Prelude.{ℕ, true, false, ◌==◌, nat_lt, [], ◌∷◌,
 use Rattle.scx_weights.specs.Refusals.{max_weight, is_outside}
 use Rattle.scx_isa_semantics.specs.declared.callbacks.Callback.TheVariants as callback
 use Rattle.scx_sched_world.specs.declared.notes.What.TheVariants as note
-use Rattle.scx_vm_safety.specs.Programs.{VerifiedProgram}
+use Rattle.scx_vm.specs.Programs.{VerifiedProgram}
 use Rattle.scx_sched_world.specs.declared.call.Insert.{Insert}
 use Rattle.scx_sched_world.specs.World.{WorldState, task_at, is_runnable, is_throttled, running, cpu_of, is_idle, default_choice, note_now}
 use Rattle.scx_sched_world.specs.declared.eject.Eject.TheVariants as cause

@@ -4,7 +4,7 @@ use Rattle.scx_maps.specs.declared.shape.Shape.{Shape}
 use Rattle.scx_isa_semantics.specs.declared.callbacks.Callback.{Callback}
 use Rattle.scx_isa_semantics.specs.declared.per_callback.PerCallback.{PerCallback}
 use Rattle.scx_isa_semantics.specs.Callbacks.{at}
-use Rattle.scx_vm_safety.specs.Programs.{VerifiedProgram}
+use Rattle.scx_vm.specs.Programs.{VerifiedProgram}
 use Rattle.scx_sched_machine.specs.declared.policy.BadPolicy.{BadPolicy}
 use Rattle.scx_sched_machine.specs.declared.policy.BadPolicy.TheVariants.{BadTimeout, OtherCallback, OtherMaps}
 

@@ -1,7 +1,7 @@
 -- The task at hand comes to wait, by the policy or by the built-in scheduler.
 use Rattle.std.specs.Prelude.{ℕ, [], ◌∷◌, if◌then◌else◌, Option, Some, None}
 use Rattle.scx_isa_semantics.specs.declared.callbacks.Callback.TheVariants as callback
-use Rattle.scx_vm_safety.specs.Programs.{VerifiedProgram}
+use Rattle.scx_vm.specs.Programs.{VerifiedProgram}
 use Rattle.scx_sched_world.specs.declared.call.Insert.{Insert}
 use Rattle.scx_sched_world.specs.declared.notes.What.TheVariants as note
 use Rattle.scx_sched_world.specs.Ids.{builtin_queue}

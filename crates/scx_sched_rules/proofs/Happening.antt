@@ -24,7 +24,7 @@ use Rattle.scx_sched_machine.specs.Cycle.{after_stopping, cycle}
 use Rattle.scx_sched_machine.specs.declared.events.Refused.TheVariants.{UnknownGroup, BadWeight}
 use Rattle.scx_sched_machine.specs.Events.{refusal, answered_cpu, target, insert_or_put, settle, select, wake, sleep_from_cpu, sleep_from, sleep, throttle, expire, count_down, tick_of, tick, overdue, eject_if_stalled, clock}
 use Rattle.scx_sched_rules.specs.Cycles.{noting, silent, gone_off, parking}
-use Rattle.scx_vm_safety.specs.Programs.{VerifiedProgram}
+use Rattle.scx_vm.specs.Programs.{VerifiedProgram}
 use Rattle.scx_sched_world.specs.declared.call.Insert.{Insert}
 use Rattle.scx_sched_rules.specs.Events.{after_waking, select_called, select_answered, IsTarget, Is_ejected, NoCallback, Named, Settles, WasInserted, WasPut, Wakes, IdleTarget, BusyTarget, Sleeps, FromQueue, FromCpu, ran_on, Ticks, NobodyRuns, IsThrottled, RunsOn, RunsOut, after_clock, LetsGo, Enough, NoMore, StaysParked, IsLetGo, LetsAllGo, Watches, Is_out, In_time, Too_late, Ages}
 use Rattle.scx_sched_rules.specs.Laws.{RulesAllowEvents, RulesAllowEventsOnly}

@@ -6,7 +6,7 @@ use Rattle.scx_isa_semantics.specs.Code.{instruction_count}
 use Rattle.scx_isa_semantics.specs.Elements.{Maps}
 use Rattle.scx_isa_semantics.specs.Endings.{Ending}
 use Rattle.scx_isa_semantics.specs.Runs.{Outside, Runs, GetsStuck}
-use Rattle.scx_vm_safety.specs.Programs.{VerifiedProgram}
+use Rattle.scx_vm.specs.Programs.{VerifiedProgram}
 use Rattle.scx_vm.specs.declared.arguments.Args.{Args}
 use Rattle.scx_vm.specs.Arguments.{program_arguments}
 use Rattle.scx_vm.specs.Host.{host}

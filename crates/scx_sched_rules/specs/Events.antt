@@ -3,7 +3,7 @@ use Rattle.std.specs.Prelude.{◌≡◌, ℕ, suc, ◌<◌, ◌≤◌, true, fal
 use Rattle.scx_dsq.specs.Queues.{len_of, front_of, behind_of}
 use Rattle.scx_weights.specs.Hierarchy.{with_weight}
 use Rattle.scx_isa_semantics.specs.declared.callbacks.Callback.TheVariants as callback
-use Rattle.scx_vm_safety.specs.Programs.{VerifiedProgram}
+use Rattle.scx_vm.specs.Programs.{VerifiedProgram}
 use Rattle.scx_sched_world.specs.declared.call.Insert.{Insert}
 use Rattle.scx_sched_world.specs.declared.notes.What.TheVariants as note
 use Rattle.scx_sched_world.specs.Ids.{parked_queue}

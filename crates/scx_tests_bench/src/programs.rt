@@ -3,7 +3,7 @@
 
 ghost use Rattle.std.specs.Prelude.{◌≡◌, [], IfSome};
 ghost use Rattle.scx_isa_semantics.specs.declared.callbacks.Callback.TheVariants.{Plain};
-ghost use Rattle.scx_vm_safety.specs.Programs.{context};
+ghost use Rattle.scx_vm.specs.Programs.{context};
 
 use crate::Sum;
 use scx_asm::{assemble, disassemble};

@@ -2,7 +2,7 @@
 
 ghost use Rattle.std.specs.Prelude.{◌≡◌, IfSome};
 ghost use Rattle.scx_isa_semantics.specs.declared.callbacks.Callback.TheVariants.{SelectCpu};
-ghost use Rattle.scx_vm_safety.specs.Programs.{context};
+ghost use Rattle.scx_vm.specs.Programs.{context};
 
 use crate::same::expect_same;
 use scx_asm::assemble;

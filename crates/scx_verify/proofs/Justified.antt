@@ -7,7 +7,7 @@ use Rattle.scx_isa_semantics.specs.Steps.{target}
 use Rattle.scx_isa_encoding.specs.Spelling.{IsInsn}
 use Rattle.scx_isa.specs.Spelling.{IsProgram}
 use Rattle.scx_isa.proofs.Codes.{occupant_fits}
-use Rattle.scx_vm_safety.specs.declared.context.Context.{Context}
+use Rattle.scx_vm.specs.declared.context.Context.{Context}
 use Rattle.scx_abs.specs.declared.rules.Next.{Next}
 use Rattle.scx_abs.specs.declared.faults.Why.{Why}
 use Rattle.scx_abs.specs.declared.states.AbsState.{AbsState}

@@ -2,7 +2,7 @@
 -- state that the run has come to, and so an instruction there is never stuck.
 use Rattle.std.proofs.Common.{◌≡◌, ℕ, zero, suc, ◌+◌, List, Option, Some, None, IsSome, Ok, refl, true, false}
 use Rattle.scx_isa_semantics.specs.declared.instructions.Insn.{Insn}
-use Rattle.scx_vm_safety.specs.declared.context.Context.{Context}
+use Rattle.scx_vm.specs.declared.context.Context.{Context}
 use Rattle.scx_isa_semantics.specs.Code.{Code, at, size}
 use Rattle.scx_isa_semantics.specs.Elements.{Maps}
 use Rattle.scx_isa_semantics.specs.Machine.{Machine, Arguments, start}

@@ -3,7 +3,7 @@ use Rattle.std.proofs.Common.{◌≡◌, false, ℕ, zero, suc, ◌+◌, ◌<◌
 use Rattle.std.proofs.lemmas.Bool.{cases_eq}
 use Rattle.std.proofs.lemmas.List.{length-set, length-replicate, get_or-set_same, get_or-set_other}
 use Rattle.scx_isa_semantics.specs.declared.instructions.Insn.{Insn}
-use Rattle.scx_vm_safety.specs.declared.context.Context.{Context}
+use Rattle.scx_vm.specs.declared.context.Context.{Context}
 use Rattle.scx_isa_semantics.specs.Code.{Code, at, size}
 use Rattle.scx_isa_semantics.specs.Steps.{target}
 use Rattle.scx_isa_encoding.specs.Spelling.{IsInsn}

@@ -2,7 +2,7 @@
 -- 4, then those of the checks, 5 to 19, then want of memory, which says nothing of it but that its
 -- flow has no fault, since memory is only asked for then.
 use Rattle.std.specs.Prelude.{◌≡◌, ◌≢◌, ℕ, List, codes}
-use Rattle.scx_vm_safety.specs.declared.context.Context.{Context}
+use Rattle.scx_vm.specs.declared.context.Context.{Context}
 use Rattle.scx_isa_semantics.specs.Code.{Code}
 use Rattle.scx_isa.specs.Faults.{flow_number, flow_name}
 use Rattle.scx_isa.specs.Flow.{Flows, IsFirstFlowFault}

@@ -10,7 +10,7 @@ use Rattle.scx_abs.specs.Stands.{IsMember}
 use Rattle.scx_abs.specs.Rules.{rule}
 use Rattle.scx_vm_ops.specs.Chosen.{chosen}
 use Rattle.scx_verify.specs.Translation.{op_of}
-use Rattle.scx_vm_safety.specs.declared.context.Context.{Context}
+use Rattle.scx_vm.specs.declared.context.Context.{Context}
 use Rattle.scx_isa_semantics.specs.Code.{Code}
 use Rattle.scx_isa.specs.Spelling.{IsProgram}
 use Rattle.scx_abs.specs.declared.faults.Why.{Why}
@@ -20,7 +20,7 @@ use Rattle.scx_abs.specs.declared.states.AbsState.{AbsState}
 use Rattle.scx_abs.specs.States.{CoversSome, IsProper}
 use Rattle.scx_verify.specs.Typing.{States, IsTyping, IsTyped}
 use Rattle.scx_verify.specs.Forward.{AreForward, IsFirstRefusal}
-use Rattle.scx_vm_safety.specs.Safe.{IsSafe}
+use Rattle.scx_vm.specs.Safe.{IsSafe}
 use Rattle.scx_verify.specs.Faults.{IsReason}
 
 -- Every program with a typing is safe.

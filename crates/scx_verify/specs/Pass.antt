@@ -16,7 +16,7 @@ use Rattle.scx_verify.specs.declared.position_table.Positions.TheVariants.{Slots
 use Rattle.scx_isa.specs.Flow.{Flows}
 use Rattle.scx_isa.specs.Spelling.{IsProgram}
 use Rattle.scx_verify.specs.Operations.{position, IsBuilt}
-use Rattle.scx_vm_safety.specs.declared.context.Context.{Context}
+use Rattle.scx_vm.specs.declared.context.Context.{Context}
 use Rattle.scx_isa_semantics.specs.Code.{Code}
 use Rattle.scx_abs.specs.declared.states.AbsState.{AbsState}
 use Rattle.scx_abs.specs.Kinds.{IsLeastCover}

@@ -3,7 +3,7 @@
 -- checks, and what flows on from it is covered where it goes.
 use Rattle.std.specs.Prelude.{ℕ, ◌+◌, ◌≡◌, Option, Some, None, Ok}
 use Rattle.scx_isa_semantics.specs.declared.instructions.Insn.{Insn}
-use Rattle.scx_vm_safety.specs.declared.context.Context.{Context}
+use Rattle.scx_vm.specs.declared.context.Context.{Context}
 use Rattle.scx_isa_semantics.specs.Code.{Code, at, size}
 use Rattle.scx_isa_semantics.specs.Steps.{target}
 use Rattle.scx_isa.specs.Flow.{Flows}

@@ -1,8 +1,8 @@
 ghost use Rattle.std.specs.Prelude.{◌≡◌, ◌≤◌, IfOk, OnOk, IfErr};
 ghost use Rattle.scx_isa_semantics.specs.Code.{instruction_count};
-ghost use Rattle.scx_vm_safety.specs.Programs.{context};
+ghost use Rattle.scx_vm.specs.Programs.{context};
 ghost use Rattle.scx_verify.specs.Typing.{IsTyped};
-ghost use Rattle.scx_vm_safety.specs.Safe.{IsSafe};
+ghost use Rattle.scx_vm.specs.Safe.{IsSafe};
 ghost use Rattle.scx_maps.specs.Limits.{AreWithinLimits};
 ghost use Rattle.scx_verify.specs.Operations.{IsReady};
 ghost use Rattle.scx_verify.specs.Faults.{IsRefusal, IsJustified};
@@ -28,9 +28,9 @@ pub struct Verified {
 }
 
 impl Model for Verified {
-    ghost use Rattle.scx_vm_safety.specs.Programs.{VerifiedProgram};
+    ghost use Rattle.scx_vm.specs.Programs.{VerifiedProgram};
     ghost use Rattle.scx_verify.specs.Operations.{IsReady};
-    ghost use Rattle.scx_vm_safety.specs.Safe.{IsSafe};
+    ghost use Rattle.scx_vm.specs.Safe.{IsSafe};
 
     ghost Value = { VerifiedProgram };
 

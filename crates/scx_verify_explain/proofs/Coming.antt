@@ -1,7 +1,7 @@
 -- Where a listing ends, and `verify` too.
 use Rattle.std.proofs.Common.{◌≡◌, ℕ, ◌+◌, inl, inr, length, ap, ◌∙◌}
 use Rattle.scx_isa_semantics.specs.Code.{Code}
-use Rattle.scx_vm_safety.specs.declared.context.Context.{Context}
+use Rattle.scx_vm.specs.declared.context.Context.{Context}
 use Rattle.scx_abs.specs.declared.faults.Why.{Why}
 use Rattle.scx_isa.specs.Flow.{Flows}
 use Rattle.scx_isa.specs.Spelling.{IsProgram}

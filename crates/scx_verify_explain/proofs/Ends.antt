@@ -1,7 +1,7 @@
 -- What is known where a pass ends: at the last slot, or at the first that is refused.
 use Rattle.std.proofs.Common.{◌≡◌, ℕ, ◌+◌, ◌≤◌, inl, inr, true, false, List, length, Option, Result, Ok, Err, IfErr, is_err, refl, arith, subst, sym}
 use Rattle.scx_isa_semantics.specs.Code.{Code}
-use Rattle.scx_vm_safety.specs.declared.context.Context.{Context}
+use Rattle.scx_vm.specs.declared.context.Context.{Context}
 use Rattle.scx_isa.specs.Flow.{Flows}
 use Rattle.scx_abs.specs.declared.faults.Why.{Why}
 use Rattle.scx_abs.specs.declared.states.AbsState.{AbsState}

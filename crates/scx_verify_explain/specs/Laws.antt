@@ -1,7 +1,7 @@
 -- A listing comes as far as `verify`.
 use Rattle.std.specs.Prelude.{◌≡◌, ℕ, ◌+◌, length}
 use Rattle.scx_isa_semantics.specs.Code.{Code}
-use Rattle.scx_vm_safety.specs.declared.context.Context.{Context}
+use Rattle.scx_vm.specs.declared.context.Context.{Context}
 use Rattle.scx_abs.specs.declared.faults.Why.{Why}
 use Rattle.scx_isa.specs.Spelling.{IsProgram}
 use Rattle.scx_verify.specs.declared.faults.Fault.TheVariants.{Flow, Rule}

@@ -2,7 +2,7 @@
 -- makes too.
 use Rattle.std.specs.Prelude.{◌≡◌, ℕ, ◌+◌, ◌<◌, ◌⊎◌, nat_lt, length, Option, None, if◌then◌else◌}
 use Rattle.scx_isa_semantics.specs.Code.{Code}
-use Rattle.scx_vm_safety.specs.declared.context.Context.{Context}
+use Rattle.scx_vm.specs.declared.context.Context.{Context}
 use Rattle.scx_isa.specs.declared.faults.FlowFault.{FlowFault}
 use Rattle.scx_isa.specs.Flow.{Flows, IsFirstFlowFault}
 use Rattle.scx_abs.specs.declared.faults.Why.{Why}

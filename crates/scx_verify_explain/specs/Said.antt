@@ -22,7 +22,7 @@ use Rattle.scx_isa_semantics.specs.Meaning.{is_plain}
 use Rattle.scx_isa_semantics.specs.Memory.{size_bytes}
 use Rattle.scx_isa_semantics.specs.Steps.{distance}
 use Rattle.scx_maps.specs.declared.shape.Shape.{Shape}
-use Rattle.scx_vm_safety.specs.declared.context.Context.{Context}
+use Rattle.scx_vm.specs.declared.context.Context.{Context}
 use Rattle.scx_abs_ranges.specs.Ranges.{all}
 use Rattle.scx_abs.specs.declared.faults.Why.TheVariants.{UnknownMap}
 use Rattle.scx_abs.specs.declared.kinds.Cell.{Cell}

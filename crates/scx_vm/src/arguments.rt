@@ -1,4 +1,4 @@
-use scx_isa::TaskId;
+use scx_isa_semantics::TaskId;
 
 /// A value that a host gives a program, or is given by it.
 #[derive(Clone, Copy, Debug, PartialEq, Eq)]

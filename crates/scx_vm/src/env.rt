@@ -4,7 +4,7 @@ ghost use Rattle.scx_isa_semantics.specs.HostTables.{field_width, is_writable};
 ghost use Rattle.scx_vm.specs.Host.{Functions, AreTaken, AnswerFits};
 
 use crate::arguments::{Answer, Arg};
-use scx_isa::{Field, Helper, TaskId};
+use scx_isa_semantics::{Field, Helper, TaskId};
 
 /// The host of the programs that it runs: their helpers, and the records of tasks.
 ///

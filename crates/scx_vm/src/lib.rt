@@ -14,9 +14,11 @@
 #![tactic(auto)]
 
 mod arguments;
+mod context;
 mod ending;
 mod env;
 
 pub use arguments::{Answer, Arg, Args};
+pub use context::Context;
 pub use ending::Done;
 pub use env::Env;

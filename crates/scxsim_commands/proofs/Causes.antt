@@ -8,7 +8,7 @@ use Rattle.scx_maps.specs.declared.shape.Shape.{Shape}
 use Rattle.scx_verify.specs.declared.faults.Fault.{Fault}
 use Rattle.scx_verify.specs.declared.faults.Fault.TheVariants.{Flow, Rule, NoMemory}
 use Rattle.scx_verify.specs.declared.faults.VerifyError.{VerifyError}
-use Rattle.scx_vm_safety.specs.Programs.{context}
+use Rattle.scx_vm.specs.Programs.{context}
 use Rattle.scx_verify.specs.Faults.{IsReason, IsRefusal}
 use Rattle.scxsim_commands.specs.declared.refusal.Refusal.{Refusal}
 use Rattle.scxsim_commands.specs.declared.file.TheConstants.{FILE_LIMIT}

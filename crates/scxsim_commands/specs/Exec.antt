@@ -5,10 +5,10 @@ use Rattle.scx_isa_semantics.specs.declared.callbacks.Callback.TheVariants as ca
 use Rattle.scx_isa_semantics.specs.Code.{Code}
 use Rattle.scx_isa.specs.Spelling.{HasProgramLength, Spells}
 use Rattle.scx_isa.specs.FirstFault.{IsFirstFault}
-use Rattle.scx_vm_safety.specs.declared.context.Context.{Context}
+use Rattle.scx_vm.specs.declared.context.Context.{Context}
 use Rattle.scx_verify.specs.declared.faults.Fault as verifier
 use Rattle.scx_verify.specs.declared.faults.Fault.TheVariants as faults
-use Rattle.scx_vm_safety.specs.Programs.{context}
+use Rattle.scx_vm.specs.Programs.{context}
 use Rattle.scx_verify.specs.Typing.{IsTyped}
 use Rattle.scx_verify.specs.Faults.{IsReason}
 use Rattle.scx_vm.specs.Alone.{RunsAlone}

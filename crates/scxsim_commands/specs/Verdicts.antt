@@ -7,7 +7,7 @@ use Rattle.scx_isa_semantics.specs.Callbacks.{callbacks, at}
 use Rattle.scx_isa_semantics.specs.Code.{Code, instruction_count}
 use Rattle.scx_maps.specs.declared.shape.Shape.{Shape}
 use Rattle.scx_verify.specs.declared.faults.Fault.TheVariants.{NoMemory}
-use Rattle.scx_vm_safety.specs.Programs.{context}
+use Rattle.scx_vm.specs.Programs.{context}
 use Rattle.scx_verify.specs.Typing.{IsTyped}
 use Rattle.scx_verify.specs.Faults.{IsRefusal}
 use Rattle.scx_load_policies.specs.Policies.{PolicyFile, program_of}

@@ -1,7 +1,7 @@
 ghost use Rattle.std.specs.Prelude.{◌≡◌, [], ◌∷◌, ◌++◌, map, IfOk, IfErr, OnOk};
 ghost use Rattle.scxsim_commands.specs.declared.refusal.Refusal.TheVariants.{NoMemory};
 ghost use Rattle.scx_load_policies.specs.Policies.{program_of, without};
-ghost use Rattle.scx_vm_safety.specs.Programs.{context};
+ghost use Rattle.scx_vm.specs.Programs.{context};
 ghost use Rattle.scx_verify_explain.specs.Listings.{IsListing};
 ghost use Rattle.scxsim_commands.specs.Verdicts.{IsVerdict, IsVerdictOf, HasVerdicts};
 ghost use Rattle.scxsim_explain.specs.Explained.{IsExplained, IsSo, HasJumps, ArePrograms};
@@ -13,7 +13,7 @@ use scx_isa::{Callback, PerCallback, Program};
 use scx_load_policies::PolicyText;
 use scx_maps::MapDefs;
 use scx_verify_explain::{Explanation, Jumps, Listing, explanation_of};
-use scx_vm_safety::Context;
+use scx_vm::Context;
 use scxsim_commands::{Refusal, Verdict, Verdicts, judge};
 use std::alloc::{AllocError, Global};
 
