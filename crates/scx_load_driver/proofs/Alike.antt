@@ -6,7 +6,6 @@ use Rattle.scx_dsq.specs.Calls.{after_create}
 use Rattle.scx_isa_semantics.specs.declared.callbacks.Callback.{Callback}
 use Rattle.scx_isa_semantics.specs.declared.callbacks.Callback.TheVariants as callback
 use Rattle.scx_isa_semantics.specs.declared.host_tables.Helper.{Helper}
-use Rattle.scx_isa_semantics.specs.declared.host_tables.Helper.TheVariants.{MapLookupElem, KtimeGetNs, CreateDsq, DsqInsert, DsqInsertVtime, DsqMoveToLocal, SelectCpuDfl, CpuIdle, TaskByPid, DsqNrQueued}
 use Rattle.scx_isa_semantics.specs.Code.{instruction_count}
 use Rattle.scx_isa_semantics.specs.Effects.{Query, Call, Load, Store}
 use Rattle.scx_isa_semantics.specs.Elements.{Maps}
@@ -39,7 +38,8 @@ use Rattle.scx_sched_machine.specs.Filling.{fill}
 use Rattle.scx_sched_machine.specs.Parking.{park, park_front, throttled_front, park_then, park_fronts, clear, in_reach, supply, let_go_one, let_go_from, let_all_go}
 use Rattle.scx_sched_machine.specs.Cycle.{has_local, after_dispatch, asks_again, tries, stopping_called, after_stopping, after_running, leave, started_if, start as run_front, rest, swap, swap_or_rest, builtin_dispatch, builtin_fill, builtin_ask, builtin_cycle, start_or_cycle, pick, pick_or_rest, conclude, ask, seek, look, cycling, cycle}
 use Rattle.scx_sched_machine.specs.Start.{blank, init_ending, bad_answer, ok_unless, after_init, enable_ending, has_failed, enable, then_enable, after_enables, ok_if, all_enabled, first_state}
-use Rattle.scx_sched_machine.proofs.Unchanged.{keeps_if}
+use Rattle.scx_sched_machine.proofs.Choices.{keeps_if}
+use Rattle.scx_sched_machine.proofs.HelperCalls.{by_helper}
 
 -- the same groups and tasks, of which the same are active
 abbrev pub IsTreeLike : Hierarchy → Hierarchy → Type 0
@@ -83,16 +83,13 @@ module _ (h : Hierarchy) (n c : ℕ) where
   like_brought (Some t) w q d i = i
 
   like_helper : (w : WorldState) (f : Helper) (a : List Arg) → IsLike h n c w → IsLike h n c (helper_after w f a)
-  like_helper w CreateDsq a i = keeps_if (IsLike h n c) (can_create w (given_number a 0)) (with_queues w (after_create w.queues (given_number a 0))) (with_fault w CannotCreate) i i
-  like_helper w DsqInsert a i = like_inserted w (insert_fault w (given_task a 0) (insert_of a) (given_number a 3)) (given_task a 0) (insert_of a) i
-  like_helper w DsqInsertVtime a i = like_inserted w (insert_fault w (given_task a 0) (insert_of_vtime a) (given_number a 4)) (given_task a 0) (insert_of_vtime a) i
-  like_helper w DsqMoveToLocal a i = keeps_if (IsLike h n c) (can_move w (given_number a 0)) (front_moved_to_local w (front_of w.queues (given_number a 0)) (given_number a 0)) (with_fault w NoSuchQueue) (like_moved w (front_of w.queues (given_number a 0)) (given_number a 0) i) i
-  like_helper w CpuIdle a i = keeps_if (IsLike h n c) (nat_lt (given_number a 0) (length w.cpus)) w (with_fault w NoSuchCpu) i i
-  like_helper w DsqNrQueued a i = keeps_if (IsLike h n c) (is_there w (given_number a 0)) w (with_fault w NoSuchQueue) i i
-  like_helper w KtimeGetNs a i = i
-  like_helper w MapLookupElem a i = i
-  like_helper w SelectCpuDfl a i = i
-  like_helper w TaskByPid a i = i
+  like_helper w f a i = by_helper (IsLike h n c) w (record {
+    same = i;
+    faulty = λ f other. i;
+    created = λ q. i;
+    inserted = λ t i flags none. like_inserted w None t i i;
+    moved = λ q here low. like_moved w (front_of w.queues q) q i;
+  }) f a
 
   like_query : (w : WorldState) (q : Query) → IsLike h n c w → IsLike h n c (after_query world_functions w q)
   like_query w (Call f a) i = like_helper w f (map argument_of a) i

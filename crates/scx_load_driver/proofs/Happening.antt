@@ -13,7 +13,7 @@ use Rattle.scx_sched_machine.specs.Callbacks.{acting, call_back, answered_by, ta
 use Rattle.scx_sched_machine.specs.Parking.{park, let_all_go}
 use Rattle.scx_sched_machine.specs.Cycle.{after_stopping, cycle}
 use Rattle.scx_sched_machine.specs.Events.{target, insert_or_put, settle, select, wake, sleep_from_cpu, sleep_from, sleep, throttle, expire, count_down, tick_of, tick, overdue, eject_if_stalled, clock}
-use Rattle.scx_sched_machine.proofs.Unchanged.{keeps_if}
+use Rattle.scx_sched_machine.proofs.Choices.{keeps_if}
 use Rattle.scx_load_driver.proofs.Alike.{IsTreeLike, IsLike, like_eject, like_call_back, like_stopping, like_settled, like_park, like_let_all_go, like_cycle}
 
 -- a task is active, or not, in both

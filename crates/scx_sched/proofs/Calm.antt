@@ -3,7 +3,6 @@ use Rattle.std.proofs.Common.{◌≡◌, ℕ, Bool, true, false, ◌&&◌, nat_l
 use Rattle.scx_dsq.specs.Queues.{QueueState, exists, front_of}
 use Rattle.scx_dsq.specs.Calls.{create_refusal, with_queue, after_create}
 use Rattle.scx_isa_semantics.specs.declared.host_tables.Helper.{Helper}
-use Rattle.scx_isa_semantics.specs.declared.host_tables.Helper.TheVariants.{MapLookupElem, KtimeGetNs, CreateDsq, DsqInsert, DsqInsertVtime, DsqMoveToLocal, SelectCpuDfl, CpuIdle, TaskByPid, DsqNrQueued}
 use Rattle.scx_isa_semantics.specs.Effects.{Query, Call, Load, Store}
 use Rattle.scx_vm.specs.Arguments.{argument_of}
 use Rattle.scx_vm.specs.Host.{after_query}
@@ -15,7 +14,8 @@ use Rattle.scx_sched_world.specs.Ids.{policy_end}
 use Rattle.scx_sched_world.specs.World.{WorldState, with_queues}
 use Rattle.scx_sched_world.specs.Tasks.{for_cpu}
 use Rattle.scx_sched_world.specs.Helpers.{is_there, can_create, with_fault, is_dispatch, insert_fault, with_insert, after_release, insert_or_fault, insert_of, insert_of_vtime, front_moved_to_local, given_number, given_task, helper_after, world_functions}
-use Rattle.scx_sched_machine.proofs.Unchanged.{keeps_if}
+use Rattle.scx_sched_machine.proofs.Choices.{keeps_if}
+use Rattle.scx_sched_machine.proofs.HelperCalls.{by_helper}
 
 -- from the first world to the second, with a callback at hand that isn't dispatch
 pub record IsCalm (v w : WorldState) : Type 0 where
@@ -41,23 +41,16 @@ module _ (v : WorldState) where
   calm_inserted w (Some f) t i h = calm_faulted w f h
 
   calm_helper : (w : WorldState) (f : Helper) (a : List Arg) → IsCalm v w → IsCalm v (helper_after w f a)
-  calm_helper w CreateDsq a h = keeps_if (IsCalm v) (can_create w (given_number a 0)) (with_queues w (after_create w.queues (given_number a 0))) (with_fault w CannotCreate) (calm_created w (given_number a 0) h) (calm_faulted w CannotCreate h)
-  calm_helper w DsqInsert a h = calm_inserted w (insert_fault w (given_task a 0) (insert_of a) (given_number a 3)) (given_task a 0) (insert_of a) h
-  calm_helper w DsqInsertVtime a h = calm_inserted w (insert_fault w (given_task a 0) (insert_of_vtime a) (given_number a 4)) (given_task a 0) (insert_of_vtime a) h
-  calm_helper w DsqMoveToLocal a h = go (is_dispatch w.call.callback) (nat_lt q policy_end && exists w.queues q) h.callback
+  calm_helper w f a h = by_helper (IsCalm v) w (record {
+    same = h;
+    faulty = λ f other. calm_faulted w f h;
+    created = λ q. calm_created w q h;
+    inserted = λ t i flags none. calm_inserted w None t i h;
+    moved = λ q here low. absurd (is_not here);
+  }) f a
     where
-      q : ℕ
-      q = given_number a 0
-
-      go : (b c : Bool) → b ≡ false → IsCalm v (cond (b && c) (front_moved_to_local w (front_of w.queues q) q) (with_fault w NoSuchQueue))
-      go true c e = absurd (cc)
-      go false c e = calm_faulted w NoSuchQueue h
-  calm_helper w CpuIdle a h = keeps_if (IsCalm v) (nat_lt (given_number a 0) (length w.cpus)) w (with_fault w NoSuchCpu) h (calm_faulted w NoSuchCpu h)
-  calm_helper w DsqNrQueued a h = keeps_if (IsCalm v) (is_there w (given_number a 0)) w (with_fault w NoSuchQueue) h (calm_faulted w NoSuchQueue h)
-  calm_helper w KtimeGetNs a h = h
-  calm_helper w SelectCpuDfl a h = h
-  calm_helper w TaskByPid a h = h
-  calm_helper w MapLookupElem a h = h
+      is_not : is_dispatch w.call.callback ≡ true → ⊥
+      is_not here = let x : true ≡ false = sym here ∙ h.callback in cc
 
   pub calm_query : (w : WorldState) (q : Query) → IsCalm v w → IsCalm v (after_query world_functions w q)
   calm_query w (Call f a) h = calm_helper w f (map argument_of a) h

@@ -19,7 +19,7 @@ use Rattle.scx_sched_world.specs.World as world
 use Rattle.scx_dsq.proofs.Facts.{front_is_known}
 use Rattle.scx_sched_world.specs.Tasks.{local_len, with_builtin, with_slice, task_after_insert, after_enter}
 use Rattle.scx_sched_world.specs.Ejecting.{builtin_vtime, put_builtin}
-use Rattle.scx_sched_machine.proofs.Unchanged.{keeps_if}
+use Rattle.scx_sched_machine.proofs.Choices.{keeps_if}
 use Rattle.scx_sched.specs.Once.{IsSound, sort_of, fits_queue, fits_sort}
 use Rattle.scx_sched.specs.Kept.{IsWanted}
 use Rattle.scx_sched.specs.Over.{GoesOver}

@@ -18,7 +18,7 @@ use Rattle.scx_sched_world.specs.declared.call.Insert.{Insert}
 use Rattle.scx_sched_world.specs.Ids.{global, held_queue, builtin_queue, local_on, policy_end, parked_queue}
 use Rattle.scx_sched_world.specs.World.{WorldState, is_runnable}
 use Rattle.scx_sched_world.specs.Tasks.{queue_for}
-use Rattle.scx_sched_machine.proofs.Unchanged.{keeps_if}
+use Rattle.scx_sched_machine.proofs.Choices.{keeps_if}
 use Rattle.scx_sched.specs.Once.{IsOnce, HasQueues, sort_of, fits_queue, fits_sort, IsSorted, IsAlike, IsOpen, GoesSomewhere}
 
 -- ---- where a task may enter

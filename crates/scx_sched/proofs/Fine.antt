@@ -9,7 +9,6 @@ use Rattle.scx_dsq.specs.declared.entries.Rank.TheVariants.{Fifo, Vtime}
 use Rattle.scx_isa_semantics.specs.declared.host_tables.Field.{Field}
 use Rattle.scx_isa_semantics.specs.declared.host_tables.Field.TheVariants.{Pid, Weight, Slice, DsqVtime, PrevCpu, Group, RunNs}
 use Rattle.scx_isa_semantics.specs.declared.host_tables.Helper.{Helper}
-use Rattle.scx_isa_semantics.specs.declared.host_tables.Helper.TheVariants.{MapLookupElem, KtimeGetNs, CreateDsq, DsqInsert, DsqInsertVtime, DsqMoveToLocal, SelectCpuDfl, CpuIdle, TaskByPid, DsqNrQueued}
 use Rattle.scx_isa_semantics.specs.Effects.{Query, Call, Load, Store}
 use Rattle.scx_vm.specs.Arguments.{argument_of}
 use Rattle.scx_vm.specs.Host.{after_query}
@@ -23,7 +22,8 @@ use Rattle.scx_sched_world.specs.declared.faults.Fault.TheVariants.{NoSuchQueue,
 use Rattle.scx_sched_world.specs.World.{WorldState, with_queues, with_task, task_at, waits}
 use Rattle.scx_sched_world.specs.Tasks.{given_slice, given_vtime, task_after_insert, after_leave, after_enter, for_cpu, brought, fill_front, with_new_slice}
 use Rattle.scx_sched_world.specs.Helpers.{is_there, can_create, with_fault, is_dispatch, insert_fault, with_insert, after_release, insert_or_fault, insert_of, insert_of_vtime, can_move, front_moved_to_local, given_number, given_task, helper_after, stored_in, world_functions}
-use Rattle.scx_sched_machine.proofs.Unchanged.{keeps_if}
+use Rattle.scx_sched_machine.proofs.Choices.{keeps_if}
+use Rattle.scx_sched_machine.proofs.HelperCalls.{by_helper}
 use Rattle.scx_sched.specs.Once.{IsSound}
 use Rattle.scx_sched_world.specs.Ejecting.{put_builtin, used_vtime, after_charge}
 use Rattle.scx_sched.specs.Ranges.{IsFresh, IsFine}
@@ -144,16 +144,13 @@ module _ (e m : ℕ) (on : List (Option ℕ)) where
   range_brought (Some t) w q c r = r
 
   range_helper : (w : WorldState) (f : Helper) (a : List Arg) → IsRange e m on w → IsRange e m on (helper_after w f a)
-  range_helper w CreateDsq a r = keeps_if (IsRange e m on) (can_create w (given_number a 0)) (with_queues w (after_create w.queues (given_number a 0))) (with_fault w CannotCreate) r r
-  range_helper w DsqInsert a r = range_inserted w (insert_fault w (given_task a 0) (insert_of a) (given_number a 3)) (given_task a 0) (insert_of a) r
-  range_helper w DsqInsertVtime a r = range_inserted w (insert_fault w (given_task a 0) (insert_of_vtime a) (given_number a 4)) (given_task a 0) (insert_of_vtime a) r
-  range_helper w DsqMoveToLocal a r = keeps_if (IsRange e m on) (can_move w (given_number a 0)) (front_moved_to_local w (front_of w.queues (given_number a 0)) (given_number a 0)) (with_fault w NoSuchQueue) (range_moved w (front_of w.queues (given_number a 0)) (given_number a 0) r) r
-  range_helper w CpuIdle a r = keeps_if (IsRange e m on) (nat_lt (given_number a 0) (length w.cpus)) w (with_fault w NoSuchCpu) r r
-  range_helper w DsqNrQueued a r = keeps_if (IsRange e m on) (is_there w (given_number a 0)) w (with_fault w NoSuchQueue) r r
-  range_helper w KtimeGetNs a r = r
-  range_helper w MapLookupElem a r = r
-  range_helper w SelectCpuDfl a r = r
-  range_helper w TaskByPid a r = r
+  range_helper w f a r = by_helper (IsRange e m on) w (record {
+    same = r;
+    faulty = λ f other. r;
+    created = λ q. r;
+    inserted = λ t i flags none. range_inserted w None t i r;
+    moved = λ q here low. range_moved w (front_of w.queues q) q r;
+  }) f a
 
   range_query : (w : WorldState) (q : Query) → IsRange e m on w → IsRange e m on (after_query world_functions w q)
   range_query w (Call f a) r = range_helper w f (map argument_of a) r

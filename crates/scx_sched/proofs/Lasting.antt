@@ -7,7 +7,6 @@ use Rattle.scx_dsq.specs.Calls.{after_create}
 use Rattle.scx_isa_semantics.specs.declared.callbacks.Callback.{Callback}
 use Rattle.scx_isa_semantics.specs.declared.callbacks.Callback.TheVariants as callback
 use Rattle.scx_isa_semantics.specs.declared.host_tables.Helper.{Helper}
-use Rattle.scx_isa_semantics.specs.declared.host_tables.Helper.TheVariants.{MapLookupElem, KtimeGetNs, CreateDsq, DsqInsert, DsqInsertVtime, DsqMoveToLocal, SelectCpuDfl, CpuIdle, TaskByPid, DsqNrQueued}
 use Rattle.scx_isa_semantics.specs.Code.{instruction_count}
 use Rattle.scx_isa_semantics.specs.Effects.{Query, Call, Load, Store}
 use Rattle.scx_isa_semantics.specs.Elements.{Maps}
@@ -34,7 +33,8 @@ use Rattle.scx_sched_machine.specs.Steps.{State, is_ejected}
 use Rattle.scx_sched_machine.specs.Ejecting.{moves_over, eject, ejected_for}
 use Rattle.scx_sched_machine.specs.Callbacks.{call_ending, acting, after_callback, fault_of, call_back, task_and_number}
 use Rattle.scx_sched_machine.specs.Put.{enters, enqueue_choice, enters_builtin, comes_in, put}
-use Rattle.scx_sched_machine.proofs.Unchanged.{keeps_if}
+use Rattle.scx_sched_machine.proofs.Choices.{keeps_if}
+use Rattle.scx_sched_machine.proofs.HelperCalls.{by_helper}
 use Rattle.scx_sched.proofs.Waiting.{since_set, stored_since, given_since}
 
 -- from the first world to the second: the clock, how many tasks there are, and how long each has waited
@@ -88,16 +88,13 @@ module _ (w : WorldState) where
   long_moved v (Some t) q h = h
 
   long_helper : (v : WorldState) (f : Helper) (a : List Arg) → AreAsLong w v → AreAsLong w (helper_after v f a)
-  long_helper v CreateDsq a h = keeps_if (AreAsLong w) (can_create v (given_number a 0)) (with_queues v (after_create v.queues (given_number a 0))) (with_fault v CannotCreate) h h
-  long_helper v DsqInsert a h = long_inserted v (insert_fault v (given_task a 0) (insert_of a) (given_number a 3)) (given_task a 0) (insert_of a) h
-  long_helper v DsqInsertVtime a h = long_inserted v (insert_fault v (given_task a 0) (insert_of_vtime a) (given_number a 4)) (given_task a 0) (insert_of_vtime a) h
-  long_helper v DsqMoveToLocal a h = keeps_if (AreAsLong w) (can_move v (given_number a 0)) (front_moved_to_local v (front_of v.queues (given_number a 0)) (given_number a 0)) (with_fault v NoSuchQueue) (long_moved v (front_of v.queues (given_number a 0)) (given_number a 0) h) h
-  long_helper v CpuIdle a h = keeps_if (AreAsLong w) (nat_lt (given_number a 0) (length v.cpus)) v (with_fault v NoSuchCpu) h h
-  long_helper v DsqNrQueued a h = keeps_if (AreAsLong w) (is_there v (given_number a 0)) v (with_fault v NoSuchQueue) h h
-  long_helper v KtimeGetNs a h = h
-  long_helper v MapLookupElem a h = h
-  long_helper v SelectCpuDfl a h = h
-  long_helper v TaskByPid a h = h
+  long_helper v f a h = by_helper (AreAsLong w) v (record {
+    same = h;
+    faulty = λ f other. h;
+    created = λ q. h;
+    inserted = λ t i flags none. long_inserted v None t i h;
+    moved = λ q here low. long_moved v (front_of v.queues q) q h;
+  }) f a
 
   long_query : (v : WorldState) (q : Query) → AreAsLong w v → AreAsLong w (after_query world_functions v q)
   long_query v (Call f a) h = long_helper v f (map argument_of a) h

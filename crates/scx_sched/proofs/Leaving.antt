@@ -17,7 +17,7 @@ use Rattle.scx_sched_machine.specs.Ejecting.{ejected_for}
 use Rattle.scx_sched_machine.specs.Callbacks.{call_ending, calls_of, after_callback, fault_of, unless_ejected, acting, call_back, task_and_number}
 use Rattle.scx_sched_machine.specs.Put.{enters, enqueue_choice, enters_builtin, comes_in, put}
 use Rattle.scx_sched_machine.specs.Cycle.{stopping_called, after_stopping, leave}
-use Rattle.scx_sched_machine.proofs.Unchanged.{keeps_if}
+use Rattle.scx_sched_machine.proofs.Choices.{keeps_if}
 use Rattle.scx_sched.proofs.Lengths.{len_pushed}
 
 -- ---- no callback runs

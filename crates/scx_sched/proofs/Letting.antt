@@ -9,7 +9,7 @@ use Rattle.scx_sched_world.specs.World.{WorldState, task_at, waits_in, wait, is_
 use Rattle.scx_sched_world.specs.Tasks.{let_go}
 use Rattle.scx_sched_machine.specs.Steps.{State, Stepped, with_world, one_after_other}
 use Rattle.scx_sched_machine.specs.Parking.{let_go_one, let_go_from, let_all_go}
-use Rattle.scx_sched_machine.proofs.Unchanged.{keeps_if}
+use Rattle.scx_sched_machine.proofs.Choices.{keeps_if}
 use Rattle.scx_sched.proofs.Waiting.{removed_other}
 use Rattle.scx_sched.proofs.Sound.{waits_known}
 use Rattle.scx_sched.proofs.Staying.{stay_put}

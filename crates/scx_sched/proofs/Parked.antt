@@ -11,7 +11,6 @@ use Rattle.scx_dsq.specs.Queues.{QueueState, exists, entry_of, queue_of, front_o
 use Rattle.scx_dsq.specs.Calls.{create_refusal, with_queue, after_create, push_refusal, next_entry, with_task as with_place, after_push, without_task, after_remove, without, after_pop}
 use Rattle.scx_dsq.proofs.Facts.{free_from}
 use Rattle.scx_isa_semantics.specs.declared.host_tables.Helper.{Helper}
-use Rattle.scx_isa_semantics.specs.declared.host_tables.Helper.TheVariants.{MapLookupElem, KtimeGetNs, CreateDsq, DsqInsert, DsqInsertVtime, DsqMoveToLocal, SelectCpuDfl, CpuIdle, TaskByPid, DsqNrQueued}
 use Rattle.scx_isa_semantics.specs.Effects.{Query, Call, Load, Store}
 use Rattle.scx_vm.specs.Arguments.{argument_of}
 use Rattle.scx_vm.specs.Host.{after_query}
@@ -26,7 +25,8 @@ use Rattle.scx_sched_world.specs.World.{WorldState, with_queues, with_tree, wait
 use Rattle.scx_sched_world.specs.Tasks.{after_leave, after_enter, for_cpu, brought, put_parked}
 use Rattle.scx_sched_world.specs.Helpers.{is_there, can_create, with_fault, is_dispatch, is_held, insert_fault, with_insert, after_release, insert_or_fault, insert_of, insert_of_vtime, front_moved_to_local, given_number, given_task, helper_after, world_functions}
 use Rattle.scx_sched_world.specs.Ejecting.{builtin_vtime, put_builtin, evict}
-use Rattle.scx_sched_machine.proofs.Unchanged.{keeps_if}
+use Rattle.scx_sched_machine.proofs.Choices.{keeps_if}
+use Rattle.scx_sched_machine.proofs.HelperCalls.{by_helper}
 use Rattle.scx_sched.specs.Once.{IsSound, GoesSomewhere}
 use Rattle.scx_sched.specs.Kept.{IsWanted, ForAny, Nowhere, Inserted}
 use Rattle.scx_sched.specs.Parked.{AreThrottled}
@@ -188,25 +188,13 @@ as_moved w None q apart = stay_here w
 as_moved w (Some t) q apart = as_brought (Some t) w q w.call.cpu apart
 
 as_helper : (w : WorldState) (f : Helper) (a : List Arg) → StayParked w (helper_after w f a)
-as_helper w CreateDsq a = keeps_if (StayParked w) (can_create w (given_number a 0)) (with_queues w (after_create w.queues (given_number a 0))) (with_fault w CannotCreate) (as_created w.queues (given_number a 0)) (stay_here w)
-as_helper w DsqInsert a = as_inserted w (insert_fault w (given_task a 0) (insert_of a) (given_number a 3)) (given_task a 0) (insert_of a) (λ e. is_fit w (given_task a 0) (insert_of a) (given_number a 3) e)
-as_helper w DsqInsertVtime a = as_inserted w (insert_fault w (given_task a 0) (insert_of_vtime a) (given_number a 4)) (given_task a 0) (insert_of_vtime a) (λ e. is_fit w (given_task a 0) (insert_of_vtime a) (given_number a 4) e)
-as_helper w DsqMoveToLocal a = go (is_dispatch w.call.callback) (nat_lt q policy_end) (exists w.queues q) refl
-  where
-    q : ℕ
-    q = given_number a 0
-
-    go : (b c d : Bool) → nat_lt q policy_end ≡ c → StayParked w (cond (b && (c && d)) (front_moved_to_local w (front_of w.queues q) q) (with_fault w NoSuchQueue))
-    go true true true low = let l : q < policy_end = grind (arith, nat_tests, low) in as_moved w (front_of w.queues q) q (ne_eqb q parked_queue (λ x. omega (arith, x, l)))
-    go true true false low = stay_here w
-    go true false d low = stay_here w
-    go false c d low = stay_here w
-as_helper w CpuIdle a = keeps_if (StayParked w) (nat_lt (given_number a 0) (length w.cpus)) w (with_fault w NoSuchCpu) (stay_here w) (stay_here w)
-as_helper w DsqNrQueued a = keeps_if (StayParked w) (is_there w (given_number a 0)) w (with_fault w NoSuchQueue) (stay_here w) (stay_here w)
-as_helper w KtimeGetNs a = stay_here w
-as_helper w SelectCpuDfl a = stay_here w
-as_helper w TaskByPid a = stay_here w
-as_helper w MapLookupElem a = stay_here w
+as_helper w f a = by_helper (StayParked w) w (record {
+  same = stay_here w;
+  faulty = λ f other. stay_here w;
+  created = as_created w.queues;
+  inserted = λ t i flags none. as_inserted w None t i (λ e. is_fit w t i flags none);
+  moved = λ q here low. as_moved w (front_of w.queues q) q (ne_eqb q parked_queue (λ x. omega (arith, x, low)));
+}) f a
 
 -- as a program asks something of the world, the same tasks stay parked
 pub as_query : (w : WorldState) (q : Query) → StayParked w (after_query world_functions w q)

@@ -11,7 +11,7 @@ use Rattle.scx_weights.specs.Limits.{with_use}
 use Rattle.scx_sched_world.specs.Ids.{parked_queue}
 use Rattle.scx_sched_world.specs.World.{WorldState, with_tree, waits_in}
 use Rattle.scx_sched_world.specs.Tasks.{put_parked, after_take, let_go, used_ms, begun_periods}
-use Rattle.scx_sched_machine.proofs.Unchanged.{keeps_if}
+use Rattle.scx_sched_machine.proofs.Choices.{keeps_if}
 use Rattle.scx_sched.specs.Once.{IsSound}
 use Rattle.scx_sched.proofs.Entering.{nowhere, own_open, is_accepted, sorted_pushed, sorted_popped, sorted_removed, stamped_pushed, stamped_popped, stamped_removed, stay_pushed, stay_without, stay_removed, queues_stay, goes_on, open_own, open_without, open_removed}
 use Rattle.scx_sched.proofs.Waiting.{pushed_here, pushed_other, removed_other, waiting_left, front_waits_here, set_since, waits_sum, waits_by_sum}

@@ -24,7 +24,7 @@ use Rattle.scx_sched_world.specs.declared.call.Insert.{Insert}
 use Rattle.scx_sched_machine.specs.Put.{enters, enqueue_choice, enters_builtin, comes_in, put}
 use Rattle.scx_sched_machine.specs.Cycle.{stopping_called, after_stopping, after_running}
 use Rattle.scx_sched_machine.specs.Events.{insert_or_put}
-use Rattle.scx_sched_machine.proofs.Unchanged.{keeps_if}
+use Rattle.scx_sched_machine.proofs.Choices.{keeps_if}
 use Rattle.scx_sched.specs.Kept.{IsKeptBySteps, IsWanted, ForAny, Nowhere, Inserted}
 
 -- the task before, if there is one, is a task that there is

@@ -20,7 +20,6 @@ use Rattle.scx_isa_semantics.specs.declared.callbacks.Callback.TheVariants as ca
 use Rattle.scx_isa_semantics.specs.declared.host_tables.Field.{Field}
 use Rattle.scx_isa_semantics.specs.declared.host_tables.Field.TheVariants.{Pid, Weight, Slice, DsqVtime, PrevCpu, Group, RunNs}
 use Rattle.scx_isa_semantics.specs.declared.host_tables.Helper.{Helper}
-use Rattle.scx_isa_semantics.specs.declared.host_tables.Helper.TheVariants.{MapLookupElem, KtimeGetNs, CreateDsq, DsqInsert, DsqInsertVtime, DsqMoveToLocal, SelectCpuDfl, CpuIdle, TaskByPid, DsqNrQueued}
 use Rattle.scx_isa_semantics.specs.Effects.{Query, Call, Load, Store}
 use Rattle.scx_vm.specs.Arguments.{argument_of}
 use Rattle.scx_vm.specs.Host.{after_query}
@@ -37,7 +36,8 @@ use Rattle.scx_sched_world.specs.Ejecting.{put_out, builtin_vtime, put_builtin, 
 use Rattle.scx_sched_world.specs.World.{WorldState, with_queues, with_tree, with_cycling, with_task, task_at, waits_in, waits, is_this, is_runnable, cpu_of, quiet, at_callback, with_note}
 use Rattle.scx_sched_world.specs.Tasks.{after_wake, after_sleep, after_leave, given_slice, given_vtime, task_after_insert, after_enter, queue_for, for_cpu, to_held, to_global, brought, fill_front, after_fill, local_len, after_stop, started_at, with_new_slice, after_keep, ran_a_tick, after_tick, later}
 use Rattle.scx_sched_world.specs.Helpers.{is_there, can_create, with_fault, is_dispatch, is_held, may_insert_in, may_insert, queue_fault, is_vtime, rank_fault, or_fault, insert_fault, with_insert, with_move, after_release, insert_or_fault, insert_of, insert_of_vtime, front_moved_to_local, given_number, given_task, helper_after, stored_in, world_functions}
-use Rattle.scx_sched_machine.proofs.Unchanged.{keeps_if}
+use Rattle.scx_sched_machine.proofs.Choices.{keeps_if}
+use Rattle.scx_sched_machine.proofs.HelperCalls.{by_helper}
 use Rattle.scx_sched.specs.Once.{runs, appearances, IsOnce, HasQueues, sort_of, IsSorted, IsAlike, IsOpen, IsSound, GoesSomewhere}
 use Rattle.scx_sched.specs.Kept.{IsWanted, ForAny, Nowhere, Inserted}
 use Rattle.scx_sched.proofs.Waiting.{waiting, waits_there, without_other, removed_other, same_waiting, waiting_pushed, waiting_left, front_waits_here, set_since, one_same, waits_sum, waits_by_sum, since_set, stored_since, given_since, renewed_since, waits_at_hand, waits_asleep, waits_on_cpu}
@@ -305,25 +305,13 @@ module _ (hand : Option ℕ) (on : List (Option ℕ)) (n : ℕ) where
       sound_moving (with_queues w (after_push (after_pop w.queues q) (local_on w.call.cpu) t Fifo)) _ (sound_brought hand on n w (Some t) q (local_on w.call.cpu) e (h.queues.locals w.call.cpu h.here) (omega arith) (local_sort w.call.cpu) apart (ne_eqb (local_on w.call.cpu) parked_queue (λ x. omega (arith, x))) h t refl)
 
   sound_helper : (w : WorldState) (f : Helper) (a : List Arg) → IsSound hand on n w → IsSound hand on n (helper_after w f a)
-  sound_helper w CreateDsq a h = keeps_if (IsSound hand on n) (can_create w (given_number a 0)) (with_queues w (after_create w.queues (given_number a 0))) (with_fault w CannotCreate) (sound_created hand on n w (given_number a 0) h) (sound_faulted w CannotCreate h)
-  sound_helper w DsqInsert a h = sound_inserted w (insert_fault w (given_task a 0) (insert_of a) (given_number a 3)) (given_task a 0) (insert_of a) (λ e. is_fit w (given_task a 0) (insert_of a) (given_number a 3) e) h
-  sound_helper w DsqInsertVtime a h = sound_inserted w (insert_fault w (given_task a 0) (insert_of_vtime a) (given_number a 4)) (given_task a 0) (insert_of_vtime a) (λ e. is_fit w (given_task a 0) (insert_of_vtime a) (given_number a 4) e) h
-  sound_helper w DsqMoveToLocal a h = go (is_dispatch w.call.callback) (nat_lt q policy_end) (exists w.queues q) refl
-    where
-      q : ℕ
-      q = given_number a 0
-
-      go : (b c d : Bool) → nat_lt q policy_end ≡ c → IsSound hand on n (if b && (c && d) then front_moved_to_local w (front_of w.queues q) q else with_fault w NoSuchQueue)
-      go true true true low = let l : q < policy_end = grind (arith, nat_tests, low) in sound_moved w (front_of w.queues q) q refl (ne_eqb q parked_queue (λ x. omega (arith, x, l))) h
-      go true true false low = sound_faulted w NoSuchQueue h
-      go true false d low = sound_faulted w NoSuchQueue h
-      go false c d low = sound_faulted w NoSuchQueue h
-  sound_helper w CpuIdle a h = keeps_if (IsSound hand on n) (nat_lt (given_number a 0) (length w.cpus)) w (with_fault w NoSuchCpu) h (sound_faulted w NoSuchCpu h)
-  sound_helper w DsqNrQueued a h = keeps_if (IsSound hand on n) (is_there w (given_number a 0)) w (with_fault w NoSuchQueue) h (sound_faulted w NoSuchQueue h)
-  sound_helper w KtimeGetNs a h = h
-  sound_helper w SelectCpuDfl a h = h
-  sound_helper w TaskByPid a h = h
-  sound_helper w MapLookupElem a h = h
+  sound_helper w f a h = by_helper (IsSound hand on n) w (record {
+    same = h;
+    faulty = λ f other. sound_faulted w f h;
+    created = λ q. sound_created hand on n w q h;
+    inserted = λ t i flags none. sound_inserted w None t i (λ e. is_fit w t i flags none) h;
+    moved = λ q here low. sound_moved w (front_of w.queues q) q refl (ne_eqb q parked_queue (λ x. omega (arith, x, low))) h;
+  }) f a
 
   -- whatever a program asks
   pub sound_query : (w : WorldState) (q : Query) → IsSound hand on n w → IsSound hand on n (after_query world_functions w q)

@@ -27,7 +27,7 @@ use Rattle.scx_sched_machine.specs.Parking.{let_go_one, let_go_from, let_all_go}
 use Rattle.scx_sched_machine.specs.Cycle.{cycle}
 use Rattle.scx_sched_machine.specs.Events.{target, insert_or_put, settle, select, wake, sleep_from_cpu, sleep_from, sleep, throttle, expire, count_down, tick_of, tick, overdue, eject_if_stalled, clock, event_step}
 use Rattle.scx_sched_machine.specs.Start.{first_state}
-use Rattle.scx_sched_machine.proofs.Unchanged.{keeps_if}
+use Rattle.scx_sched_machine.proofs.Choices.{keeps_if}
 use Rattle.scx_sched.proofs.Unchanged.{same_called, eject_sets}
 use Rattle.scx_sched.proofs.Begins.{keeps_started}
 

@@ -17,7 +17,7 @@ use Rattle.scx_sched_machine.specs.Steps.{State, Stepped, stays, one_after_other
 use Rattle.scx_sched_machine.specs.Filling.{fill}
 use Rattle.scx_sched_machine.specs.Parking.{park, park_front, if_throttled, throttled_front, park_then, park_fronts, clear, in_reach, supply, FrontMayRun}
 use Rattle.scx_sched_machine.specs.Cycle.{has_local, builtin_dispatch, builtin_fill}
-use Rattle.scx_sched_machine.proofs.Unchanged.{keeps_if}
+use Rattle.scx_sched_machine.proofs.Choices.{keeps_if}
 use Rattle.scx_sched_world.proofs.Fronts.{front_in}
 use Rattle.scx_sched.proofs.Waiting.{pushed_other}
 use Rattle.scx_sched.proofs.Lengths.{len_set}

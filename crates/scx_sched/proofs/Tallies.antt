@@ -13,7 +13,6 @@ use Rattle.scx_dsq.specs.declared.errors.QueueError.TheVariants.{NoSuchQueue, Al
 use Rattle.scx_dsq.specs.Queues.{QueueState, exists, entry_of, front_of}
 use Rattle.scx_dsq.specs.Calls.{clashes, create_refusal, with_queue, after_create, push_refusal, after_push, after_pop, after_remove, without, without_task, next_entry, with_task as with_place}
 use Rattle.scx_isa_semantics.specs.declared.host_tables.Helper.{Helper}
-use Rattle.scx_isa_semantics.specs.declared.host_tables.Helper.TheVariants.{MapLookupElem, KtimeGetNs, CreateDsq, DsqInsert, DsqInsertVtime, DsqMoveToLocal, SelectCpuDfl, CpuIdle, TaskByPid, DsqNrQueued}
 use Rattle.scx_isa_semantics.specs.Effects.{Query, Call, Load, Store}
 use Rattle.scx_vm.specs.Arguments.{argument_of}
 use Rattle.scx_vm.specs.Host.{after_query}
@@ -39,7 +38,8 @@ use Rattle.scx_sched_machine.specs.Start.{is_bad_shape, first_state}
 use Rattle.scx_sched_machine.specs.Steps.{State}
 use Rattle.scx_sched_machine.specs.Cycle.{cycle}
 use Rattle.scx_sched_machine.specs.Events.{refusal, tick_of, tick, event_step}
-use Rattle.scx_sched_machine.proofs.Unchanged.{keeps_if}
+use Rattle.scx_sched_machine.proofs.Choices.{keeps_if}
+use Rattle.scx_sched_machine.proofs.HelperCalls.{by_helper}
 use Rattle.scx_sched.specs.Once.{AreInQueues}
 use Rattle.scx_sched.specs.Kept.{IsKeptBySteps}
 use Rattle.scx_sched.specs.Ranges.{IsFine}
@@ -155,20 +155,13 @@ module _ (n : ℕ) (ran : ℕ → ℕ) where
   tally_brought (Some t) w q c h = tally_between w q (local_on c) t h
 
   tally_helper : (w : WorldState) (f : Helper) (a : List Arg) → IsTallied n ran w → IsTallied n ran (helper_after w f a)
-  tally_helper w CreateDsq a h =
-      let q = given_number a 0 in
-      keeps_if (IsTallied n ran) (can_create w q) (with_queues w (after_create w.queues q)) (with_fault w CannotCreate) (tally_queues w (after_create w.queues q) (home_created w.queues q h.2) h) h
-  tally_helper w DsqInsert a h = tally_inserted w (insert_fault w (given_task a 0) (insert_of a) (given_number a 3)) (given_task a 0) (insert_of a) h
-  tally_helper w DsqInsertVtime a h = tally_inserted w (insert_fault w (given_task a 0) (insert_of_vtime a) (given_number a 4)) (given_task a 0) (insert_of_vtime a) h
-  tally_helper w DsqMoveToLocal a h =
-      let q = given_number a 0 in
-      keeps_if (IsTallied n ran) (can_move w q) (front_moved_to_local w (front_of w.queues q) q) (with_fault w NoQueue) (tally_moved w (front_of w.queues q) q h) h
-  tally_helper w CpuIdle a h = keeps_if (IsTallied n ran) (nat_lt (given_number a 0) (length w.cpus)) w (with_fault w NoSuchCpu) h h
-  tally_helper w DsqNrQueued a h = keeps_if (IsTallied n ran) (is_there w (given_number a 0)) w (with_fault w NoQueue) h h
-  tally_helper w KtimeGetNs a h = h
-  tally_helper w MapLookupElem a h = h
-  tally_helper w SelectCpuDfl a h = h
-  tally_helper w TaskByPid a h = h
+  tally_helper w f a h = by_helper (IsTallied n ran) w (record {
+    same = h;
+    faulty = λ f other. h;
+    created = λ q. tally_queues w (after_create w.queues q) (home_created w.queues q h.2) h;
+    inserted = λ t i flags none. tally_inserted w None t i h;
+    moved = λ q here low. tally_moved w (front_of w.queues q) q h;
+  }) f a
 
   tally_query : (w : WorldState) (q : Query) → IsTallied n ran w → IsTallied n ran (after_query world_functions w q)
   tally_query w (Call f a) h = tally_helper w f (map argument_of a) h

@@ -8,7 +8,6 @@ use Rattle.std.proofs.lemmas.List.{length-set, get_or-set_same, get_or-set_other
 use Rattle.scx_dsq.specs.Queues.{front_of}
 use Rattle.scx_dsq.specs.Calls.{after_create}
 use Rattle.scx_isa_semantics.specs.declared.host_tables.Helper.{Helper}
-use Rattle.scx_isa_semantics.specs.declared.host_tables.Helper.TheVariants.{MapLookupElem, KtimeGetNs, CreateDsq, DsqInsert, DsqInsertVtime, DsqMoveToLocal, SelectCpuDfl, CpuIdle, TaskByPid, DsqNrQueued}
 use Rattle.scx_isa_semantics.specs.Effects.{Query, Call, Load, Store}
 use Rattle.scx_vm.specs.Arguments.{argument_of}
 use Rattle.scx_vm.specs.Host.{after_query}
@@ -24,7 +23,8 @@ use Rattle.scx_sched_world.specs.Tasks.{after_wake, after_stop, let_go, ran_a_ti
 use Rattle.scx_sched_world.specs.Helpers.{is_there, can_create, with_fault, is_dispatch, insert_fault, with_insert, after_release, insert_or_fault, insert_of, insert_of_vtime, can_move, front_moved_to_local, given_number, given_task, helper_after, stored_in, world_functions}
 use Rattle.scx_sched_world.specs.Waits.{first_overdue}
 use Rattle.scx_sched_world.specs.Ejecting.{put_builtin}
-use Rattle.scx_sched_machine.proofs.Unchanged.{keeps_if}
+use Rattle.scx_sched_machine.proofs.Choices.{keeps_if}
+use Rattle.scx_sched_machine.proofs.HelperCalls.{by_helper}
 use Rattle.scx_sched.specs.Kept.{IsKeptBySteps}
 use Rattle.scx_sched.proofs.Waiting.{stored_since, given_since, renewed_since}
 
@@ -78,16 +78,13 @@ module _ (limit n : ℕ) where
   time_brought (Some t) w q c h = h
 
   time_helper : (w : WorldState) (f : Helper) (a : List Arg) → AreInTime limit n w → AreInTime limit n (helper_after w f a)
-  time_helper w CreateDsq a h = keeps_if (AreInTime limit n) (can_create w (given_number a 0)) (with_queues w (after_create w.queues (given_number a 0))) (with_fault w CannotCreate) h h
-  time_helper w DsqInsert a h = time_inserted w (insert_fault w (given_task a 0) (insert_of a) (given_number a 3)) (given_task a 0) (insert_of a) h
-  time_helper w DsqInsertVtime a h = time_inserted w (insert_fault w (given_task a 0) (insert_of_vtime a) (given_number a 4)) (given_task a 0) (insert_of_vtime a) h
-  time_helper w DsqMoveToLocal a h = keeps_if (AreInTime limit n) (can_move w (given_number a 0)) (front_moved_to_local w (front_of w.queues (given_number a 0)) (given_number a 0)) (with_fault w NoSuchQueue) (time_moved w (front_of w.queues (given_number a 0)) (given_number a 0) h) h
-  time_helper w CpuIdle a h = keeps_if (AreInTime limit n) (nat_lt (given_number a 0) (length w.cpus)) w (with_fault w NoSuchCpu) h h
-  time_helper w DsqNrQueued a h = keeps_if (AreInTime limit n) (is_there w (given_number a 0)) w (with_fault w NoSuchQueue) h h
-  time_helper w KtimeGetNs a h = h
-  time_helper w MapLookupElem a h = h
-  time_helper w SelectCpuDfl a h = h
-  time_helper w TaskByPid a h = h
+  time_helper w f a h = by_helper (AreInTime limit n) w (record {
+    same = h;
+    faulty = λ f other. h;
+    created = λ q. h;
+    inserted = λ t i flags none. time_inserted w None t i h;
+    moved = λ q here low. time_moved w (front_of w.queues q) q h;
+  }) f a
 
   time_query : (w : WorldState) (q : Query) → AreInTime limit n w → AreInTime limit n (after_query world_functions w q)
   time_query w (Call f a) h = time_helper w f (map argument_of a) h

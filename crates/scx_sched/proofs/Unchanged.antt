@@ -5,7 +5,6 @@ use Rattle.scx_dsq.specs.Queues.{front_of}
 use Rattle.scx_dsq.specs.Calls.{after_create}
 use Rattle.scx_isa_semantics.specs.declared.callbacks.Callback.{Callback}
 use Rattle.scx_isa_semantics.specs.declared.host_tables.Helper.{Helper}
-use Rattle.scx_isa_semantics.specs.declared.host_tables.Helper.TheVariants.{MapLookupElem, KtimeGetNs, CreateDsq, DsqInsert, DsqInsertVtime, DsqMoveToLocal, SelectCpuDfl, CpuIdle, TaskByPid, DsqNrQueued}
 use Rattle.scx_isa_semantics.specs.Code.{instruction_count}
 use Rattle.scx_isa_semantics.specs.Effects.{Query, Call, Load, Store}
 use Rattle.scx_isa_semantics.specs.Elements.{Maps}
@@ -28,7 +27,8 @@ use Rattle.scx_sched_world.specs.Helpers.{is_there, can_create, with_fault, is_d
 use Rattle.scx_sched_machine.specs.Steps.{State}
 use Rattle.scx_sched_machine.specs.Callbacks.{call_ending}
 use Rattle.scx_sched_machine.specs.Ejecting.{moves_over, eject}
-use Rattle.scx_sched_machine.proofs.Unchanged.{keeps_if}
+use Rattle.scx_sched_machine.proofs.Choices.{keeps_if}
+use Rattle.scx_sched_machine.proofs.HelperCalls.{by_helper}
 
 -- from the first world to the second
 abbrev pub IsAsBefore : WorldState → WorldState → Type 0
@@ -51,16 +51,13 @@ module _ (v : WorldState) where
   same_moved w (Some t) q h = h
 
   same_helper : (w : WorldState) (f : Helper) (a : List Arg) → IsAsBefore v w → IsAsBefore v (helper_after w f a)
-  same_helper w CreateDsq a h = keeps_if (IsAsBefore v) (can_create w (given_number a 0)) (with_queues w (after_create w.queues (given_number a 0))) (with_fault w CannotCreate) h h
-  same_helper w DsqInsert a h = same_inserted w (insert_fault w (given_task a 0) (insert_of a) (given_number a 3)) (given_task a 0) (insert_of a) h
-  same_helper w DsqInsertVtime a h = same_inserted w (insert_fault w (given_task a 0) (insert_of_vtime a) (given_number a 4)) (given_task a 0) (insert_of_vtime a) h
-  same_helper w DsqMoveToLocal a h = keeps_if (IsAsBefore v) (can_move w (given_number a 0)) (front_moved_to_local w (front_of w.queues (given_number a 0)) (given_number a 0)) (with_fault w NoSuchQueue) (same_moved w (front_of w.queues (given_number a 0)) (given_number a 0) h) h
-  same_helper w CpuIdle a h = keeps_if (IsAsBefore v) (nat_lt (given_number a 0) (length w.cpus)) w (with_fault w NoSuchCpu) h h
-  same_helper w DsqNrQueued a h = keeps_if (IsAsBefore v) (is_there w (given_number a 0)) w (with_fault w NoSuchQueue) h h
-  same_helper w KtimeGetNs a h = h
-  same_helper w SelectCpuDfl a h = h
-  same_helper w TaskByPid a h = h
-  same_helper w MapLookupElem a h = h
+  same_helper w f a h = by_helper (IsAsBefore v) w (record {
+    same = h;
+    faulty = λ f other. h;
+    created = λ q. h;
+    inserted = λ t i flags none. same_inserted w None t i h;
+    moved = λ q here low. same_moved w (front_of w.queues q) q h;
+  }) f a
 
   same_query : (w : WorldState) (q : Query) → IsAsBefore v w → IsAsBefore v (after_query world_functions w q)
   same_query w (Call f a) h = same_helper w f (map argument_of a) h

@@ -7,7 +7,6 @@ use Rattle.scx_dsq.specs.Calls.{after_create, clashes}
 use Rattle.scx_dsq.specs.declared.entries.Rank.{Rank}
 use Rattle.scx_isa_semantics.specs.declared.callbacks.Callback.{Callback}
 use Rattle.scx_isa_semantics.specs.declared.host_tables.Helper.{Helper}
-use Rattle.scx_isa_semantics.specs.declared.host_tables.Helper.TheVariants.{MapLookupElem, KtimeGetNs, CreateDsq, DsqInsert, DsqInsertVtime, DsqMoveToLocal, SelectCpuDfl, CpuIdle, TaskByPid, DsqNrQueued}
 use Rattle.scx_isa_semantics.specs.Code.{instruction_count}
 use Rattle.scx_isa_semantics.specs.Effects.{Query, Call, Load, Store}
 use Rattle.scx_isa_semantics.specs.Elements.{Maps}
@@ -35,7 +34,8 @@ use Rattle.scx_sched_machine.specs.Ejecting.{eject}
 use Rattle.scx_sched_machine.specs.Parking.{let_all_go}
 use Rattle.scx_sched_machine.specs.Events.{refusal, overdue, eject_if_stalled, clock, event_step}
 use Rattle.scx_sched_machine.specs.Callbacks.{call_ending, IsAnswered, AreAnswered}
-use Rattle.scx_sched_machine.proofs.Unchanged.{keeps_if}
+use Rattle.scx_sched_machine.proofs.Choices.{keeps_if}
+use Rattle.scx_sched_machine.proofs.HelperCalls.{by_helper, IsOther, no_fault}
 use Rattle.scx_sched.specs.Causes.{EndsIn, HasFault, Of_helper, Of_answer, IsNeverStuck}
 use Rattle.scx_sched.specs.Decided.{tree_after}
 use Rattle.scx_sched.proofs.Unchanged.{eject_sets}
@@ -43,35 +43,6 @@ use Rattle.scx_sched.proofs.Events.{IsFineNow, IsTaken, Wakes, Sleeps, Ticks, Cl
 use Rattle.scx_sched.proofs.Blaming.{IsHonest, state_with_tree, same_eject, honest_let_all_go}
 use Rattle.scx_sched.proofs.Deciding.{IsHonestEvent, wake_is_honest, sleep_is_honest, tick_is_honest, weight_is_honest}
 use Rattle.scx_sched.proofs.Causing.{last_answered, computes, has_fault}
-
--- some fault, or none, but not that one
-abbrev IsOther : Option Fault → Type 0
-IsOther o = o ≡ Some Stuck → ⊥
-
--- of a helper call
-other_or : (o r : Option Fault) → IsOther o → IsOther r → IsOther (or_fault o r)
-other_or None r h k = k
-other_or (Some f) r h k = h
-
-no_fault : IsOther None
-no_fault e = absurd (cc)
-
-other_if : (b : Bool) (o r : Option Fault) → IsOther o → IsOther r → IsOther (if b then o else r)
-other_if b o r h k = keeps_if IsOther b o r h k
-
-other_queue : (w : WorldState) (q : ℕ) → IsOther (queue_fault w q)
-other_queue w q =
-    other_if (nat_lt q policy_end) _ _ (other_if (exists w.queues q) _ _ no_fault (λ e. absurd (cc)))
-    (other_if (q == global) _ _ no_fault
-    (other_if (q == local) _ _ no_fault
-    (other_if (nat_lt q (local_on 0)) _ _ (λ e. absurd (cc)) (other_if (nat_lt q (local_on (length w.cpus))) _ _ no_fault (other_if (nat_lt q (local_on 0x1_0000_0000)) _ _ (λ e. absurd (cc)) (λ e. absurd (cc)))))))
-
-other_rank : (w : WorldState) (q : ℕ) (r : Rank) → IsOther (rank_fault w q r)
-other_rank w q r = other_if (is_vtime r && nat_le policy_end q) _ _ (λ e. absurd (cc)) (other_if (list_any (clashes q r) w.queues.entries) _ _ (λ e. absurd (cc)) no_fault)
-
-other_insert : (w : WorldState) (t : Option ℕ) (i : Insert) (flags : ℕ) → IsOther (insert_fault w t i flags)
-other_insert w t i flags =
-    other_if (may_insert w t) _ _ (other_if (nat_lt 1 flags) _ _ (λ e. absurd (cc)) (other_or (queue_fault w i.queue) (rank_fault w i.queue i.rank) (other_queue w i.queue) (other_rank w i.queue i.rank))) (λ e. absurd (cc))
 
 -- ---- the run of a program
 
@@ -101,19 +72,13 @@ unstuck_moved w None q h = h
 unstuck_moved w (Some t) q h = h
 
 unstuck_helper : (w : WorldState) (f : Helper) (a : List Arg) → IsUnstuck w → IsUnstuck (helper_after w f a)
-unstuck_helper w CreateDsq a h =
-    keeps_if IsUnstuck (can_create w (given_number a 0)) (with_queues w (after_create w.queues (given_number a 0))) (with_fault w CannotCreate) h (unstuck_faulted w CannotCreate (λ e. absurd (cc)) h)
-unstuck_helper w DsqInsert a h = unstuck_inserted w (insert_fault w (given_task a 0) (insert_of a) (given_number a 3)) (given_task a 0) (insert_of a) (other_insert w (given_task a 0) (insert_of a) (given_number a 3)) h
-unstuck_helper w DsqInsertVtime a h =
-    unstuck_inserted w (insert_fault w (given_task a 0) (insert_of_vtime a) (given_number a 4)) (given_task a 0) (insert_of_vtime a) (other_insert w (given_task a 0) (insert_of_vtime a) (given_number a 4)) h
-unstuck_helper w DsqMoveToLocal a h =
-    keeps_if IsUnstuck (can_move w (given_number a 0)) (front_moved_to_local w (front_of w.queues (given_number a 0)) (given_number a 0)) (with_fault w NoSuchQueue) (unstuck_moved w (front_of w.queues (given_number a 0)) (given_number a 0) h) (unstuck_faulted w NoSuchQueue (λ e. absurd (cc)) h)
-unstuck_helper w CpuIdle a h = keeps_if IsUnstuck (nat_lt (given_number a 0) (length w.cpus)) w (with_fault w NoSuchCpu) h (unstuck_faulted w NoSuchCpu (λ e. absurd (cc)) h)
-unstuck_helper w DsqNrQueued a h = keeps_if IsUnstuck (is_there w (given_number a 0)) w (with_fault w NoSuchQueue) h (unstuck_faulted w NoSuchQueue (λ e. absurd (cc)) h)
-unstuck_helper w KtimeGetNs a h = h
-unstuck_helper w SelectCpuDfl a h = h
-unstuck_helper w TaskByPid a h = h
-unstuck_helper w MapLookupElem a h = h
+unstuck_helper w f a h = by_helper IsUnstuck w (record {
+  same = h;
+  faulty = λ f other. unstuck_faulted w f other h;
+  created = λ q. h;
+  inserted = λ t i flags none. unstuck_inserted w None t i no_fault h;
+  moved = λ q here low. unstuck_moved w (front_of w.queues q) q h;
+}) f a
 
 unstuck_query : (w : WorldState) (q : Query) → IsUnstuck w → IsUnstuck (after_query world_functions w q)
 unstuck_query w (Call f a) h = unstuck_helper w f (map argument_of a) h

@@ -18,7 +18,7 @@ use Rattle.scx_sched_world.specs.Ids.{parked_queue}
 use Rattle.scx_sched_world.specs.World.{WorldState, waits_in, with_queues, with_task, task_at, waits, is_this, is_runnable}
 use Rattle.scx_sched_world.specs.Tasks.{given_slice, given_vtime, task_after_insert, with_new_slice}
 use Rattle.scx_sched_world.specs.Helpers.{stored_in}
-use Rattle.scx_sched_machine.proofs.Unchanged.{keeps_if}
+use Rattle.scx_sched_machine.proofs.Choices.{keeps_if}
 use Rattle.scx_sched.specs.Waits.{HasWaits}
 use Rattle.scx_sched.specs.Once.{IsOnce}
 use Rattle.scx_sched.proofs.Entering.{one_le, nowhere}

@@ -6,3 +6,5 @@ pub mod Evicting
 pub mod Unchanged
 pub mod Parked
 pub mod Free
+pub mod Choices
+pub mod HelperCalls

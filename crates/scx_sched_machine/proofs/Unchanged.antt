@@ -6,7 +6,6 @@ use Rattle.scx_dsq.specs.Calls.{create_refusal, with_queue, after_create}
 use Rattle.scx_isa_semantics.specs.declared.callbacks.Callback.{Callback}
 use Rattle.scx_isa_semantics.specs.declared.callbacks.Callback.TheVariants as callback
 use Rattle.scx_isa_semantics.specs.declared.host_tables.Helper.{Helper}
-use Rattle.scx_isa_semantics.specs.declared.host_tables.Helper.TheVariants.{MapLookupElem, KtimeGetNs, CreateDsq, DsqInsert, DsqInsertVtime, DsqMoveToLocal, SelectCpuDfl, CpuIdle, TaskByPid, DsqNrQueued}
 use Rattle.scx_isa_semantics.specs.Code.{instruction_count}
 use Rattle.scx_isa_semantics.specs.Effects.{Query, Call, Load, Store}
 use Rattle.scx_isa_semantics.specs.Elements.{Maps}
@@ -32,11 +31,7 @@ use Rattle.scx_sched_machine.specs.Ejecting.{moves_over, eject, ejected_for}
 use Rattle.scx_sched_machine.specs.Budgets.{eject_pushes, enter_pushes, eject_left, pushes_due}
 use Rattle.scx_sched_machine.specs.Callbacks.{call_ending, call_back, acting, unless_ejected, fault_of, after_callback, is_calm}
 use Rattle.scx_sched_machine.specs.Put.{enters, enters_builtin, comes_in, enqueue_choice}
-
--- what both keep, a choice of them keeps
-pub keeps_if : {A : Type 0} (P : A → Type 0) (b : Bool) (x y : A) → P x → P y → P (cond b x y)
-keeps_if P true x y p q = p
-keeps_if P false x y p q = q
+use Rattle.scx_sched_machine.proofs.HelperCalls.{by_helper}
 
 -- ---- why the policy was put out of force, if it was
 
@@ -111,16 +106,16 @@ module _ (v : WorldState) where
   cannot_move false c e = refl
 
   calm_helper : (w : WorldState) (f : Helper) (a : List Arg) → IsCalm v w → IsCalm v (helper_after w f a)
-  calm_helper w CreateDsq a h = keeps_if (IsCalm v) (can_create w (given_number a 0)) (with_queues w (after_create w.queues (given_number a 0))) (with_fault w CannotCreate) (calm_created w (given_number a 0) h) (calm_faulted w CannotCreate h)
-  calm_helper w DsqInsert a h = calm_inserted w (insert_fault w (given_task a 0) (insert_of a) (given_number a 3)) (given_task a 0) (insert_of a) h
-  calm_helper w DsqInsertVtime a h = calm_inserted w (insert_fault w (given_task a 0) (insert_of_vtime a) (given_number a 4)) (given_task a 0) (insert_of_vtime a) h
-  calm_helper w DsqMoveToLocal a h = rw (cannot_move (is_dispatch w.call.callback) (is_there w (given_number a 0)) h.callback) (calm_faulted w NoSuchQueue h)
-  calm_helper w CpuIdle a h = keeps_if (IsCalm v) (nat_lt (given_number a 0) (length w.cpus)) w (with_fault w NoSuchCpu) h (calm_faulted w NoSuchCpu h)
-  calm_helper w DsqNrQueued a h = keeps_if (IsCalm v) (is_there w (given_number a 0)) w (with_fault w NoSuchQueue) h (calm_faulted w NoSuchQueue h)
-  calm_helper w KtimeGetNs a h = h
-  calm_helper w SelectCpuDfl a h = h
-  calm_helper w TaskByPid a h = h
-  calm_helper w MapLookupElem a h = h
+  calm_helper w f a h = by_helper (IsCalm v) w (record {
+    same = h;
+    faulty = λ f other. calm_faulted w f h;
+    created = λ q. calm_created w q h;
+    inserted = λ t i flags none. calm_inserted w None t i h;
+    moved = λ q here low. absurd (is_not here);
+  }) f a
+    where
+      is_not : is_dispatch w.call.callback ≡ true → ⊥
+      is_not here = let x : true ≡ false = sym here ∙ h.callback in cc
 
   calm_query : (w : WorldState) (q : Query) → IsCalm v w → IsCalm v (after_query world_functions w q)
   calm_query w (Call f a) h = calm_helper w f (map argument_of a) h

@@ -1,0 +1,87 @@
+-- One walk over the helpers of the host: what has to be shown of a property of worlds at a world, so that it
+-- holds of the world that a helper call leaves, whichever helper is called and whatever it is given.
+use Rattle.std.proofs.Common.{◌≡◌, ℕ, ◌<◌, Bool, true, false, ◌&&◌, ◌==◌, nat_lt, nat_le, if◌then◌else◌, List, length, Option, Some, None, refl, arith}
+use Rattle.std.proofs.lemmas.Bool.Decides.{nat_tests}
+use Rattle.std.specs.List.{list_any}
+use Rattle.scx_dsq.specs.Queues.{exists, front_of}
+use Rattle.scx_dsq.specs.Calls.{after_create, clashes}
+use Rattle.scx_dsq.specs.declared.entries.Rank.{Rank}
+use Rattle.scx_isa_semantics.specs.declared.host_tables.Helper.{Helper}
+use Rattle.scx_isa_semantics.specs.declared.host_tables.Helper.TheVariants.{CreateDsq, DsqInsert, DsqInsertVtime, DsqMoveToLocal, CpuIdle, DsqNrQueued}
+use Rattle.scx_vm.specs.declared.arguments.Arg.{Arg}
+use Rattle.scx_sched_world.specs.declared.call.Insert.{Insert}
+use Rattle.scx_sched_world.specs.declared.faults.Fault.{Fault}
+use Rattle.scx_sched_world.specs.declared.faults.Fault.TheVariants.{Stuck, NoSuchQueue, NoSuchCpu, CannotCreate}
+use Rattle.scx_sched_world.specs.Ids.{policy_end, global, local, local_on}
+use Rattle.scx_sched_world.specs.World.{WorldState, with_queues}
+use Rattle.scx_sched_world.specs.Helpers.{is_there, can_create, with_fault, is_dispatch, may_insert, is_vtime, queue_fault, rank_fault, or_fault, insert_fault, insert_or_fault, after_insert, after_move, insert_of, insert_of_vtime, front_moved_to_local, given_number, given_task, helper_after}
+use Rattle.scx_sched_machine.proofs.Choices.{keeps_if}
+
+-- ---- the fault of a helper call
+
+-- some fault, or none, but not that one
+abbrev pub IsOther : Option Fault → Type 0
+IsOther o = o ≡ Some Stuck → ⊥
+
+other_or : (o r : Option Fault) → IsOther o → IsOther r → IsOther (or_fault o r)
+other_or None r h k = k
+other_or (Some f) r h k = h
+
+-- no fault is another one
+pub no_fault : IsOther None
+no_fault e = absurd (cc)
+
+other_if : (b : Bool) (o r : Option Fault) → IsOther o → IsOther r → IsOther (if b then o else r)
+other_if b o r h k = keeps_if IsOther b o r h k
+
+other_queue : (w : WorldState) (q : ℕ) → IsOther (queue_fault w q)
+other_queue w q =
+    other_if (nat_lt q policy_end) _ _ (other_if (exists w.queues q) _ _ no_fault (λ e. absurd (cc)))
+    (other_if (q == global) _ _ no_fault
+    (other_if (q == local) _ _ no_fault
+    (other_if (nat_lt q (local_on 0)) _ _ (λ e. absurd (cc)) (other_if (nat_lt q (local_on (length w.cpus))) _ _ no_fault (other_if (nat_lt q (local_on 0x1_0000_0000)) _ _ (λ e. absurd (cc)) (λ e. absurd (cc)))))))
+
+other_rank : (w : WorldState) (q : ℕ) (r : Rank) → IsOther (rank_fault w q r)
+other_rank w q r = other_if (is_vtime r && nat_le policy_end q) _ _ (λ e. absurd (cc)) (other_if (list_any (clashes q r) w.queues.entries) _ _ (λ e. absurd (cc)) no_fault)
+
+other_insert : (w : WorldState) (t : Option ℕ) (i : Insert) (flags : ℕ) → IsOther (insert_fault w t i flags)
+other_insert w t i flags =
+    other_if (may_insert w t) _ _ (other_if (nat_lt 1 flags) _ _ (λ e. absurd (cc)) (other_or (queue_fault w i.queue) (rank_fault w i.queue i.rank) (other_queue w i.queue) (other_rank w i.queue i.rank))) (λ e. absurd (cc))
+
+-- ---- the walk
+
+-- of what a helper call may leave, the property holds: the world as it is, one with a fault that helpers
+-- have, with a queue created, with an insert kept or done at once, with a task moved in dispatch
+pub record HoldsAfterCalls (P : WorldState → Type 0) (w : WorldState) : Type 0 where
+  pub same : P w
+  pub faulty : (f : Fault) → IsOther (Some f) → P (with_fault w f)
+  pub created : (q : ℕ) → P (with_queues w (after_create w.queues q))
+  pub inserted : (t : Option ℕ) (i : Insert) (flags : ℕ) → insert_fault w t i flags ≡ None → P (insert_or_fault w None t i)
+  pub moved : (q : ℕ) → is_dispatch w.call.callback ≡ true → q < policy_end → P (front_moved_to_local w (front_of w.queues q) q)
+
+module _ (P : WorldState → Type 0) (w : WorldState) (h : HoldsAfterCalls P w) where
+  inserts : (t : Option ℕ) (i : Insert) (flags : ℕ) → P (after_insert w t i flags)
+  inserts t i flags = go (insert_fault w t i flags) refl (other_insert w t i flags)
+    where
+      go : (o : Option Fault) → insert_fault w t i flags ≡ o → IsOther o → P (insert_or_fault w o t i)
+      go None none other = h.inserted t i flags none
+      go (Some f) is other = h.faulty f other
+
+  moves : (q : ℕ) → P (after_move w q)
+  moves q = go (is_dispatch w.call.callback) (nat_lt q policy_end) (exists w.queues q) refl refl
+    where
+      go : (b c d : Bool) → is_dispatch w.call.callback ≡ b → nat_lt q policy_end ≡ c → P (if b && (c && d) then front_moved_to_local w (front_of w.queues q) q else with_fault w NoSuchQueue)
+      go true true true here low = h.moved q here (grind (arith, nat_tests, low))
+      go true true false here low = h.faulty NoSuchQueue (λ e. absurd (cc))
+      go true false d here low = h.faulty NoSuchQueue (λ e. absurd (cc))
+      go false c d here low = h.faulty NoSuchQueue (λ e. absurd (cc))
+
+  -- whichever helper is called, and whatever it is given
+  pub by_helper : (f : Helper) (a : List Arg) → P (helper_after w f a)
+  by_helper CreateDsq a = keeps_if P (can_create w (given_number a 0)) (with_queues w (after_create w.queues (given_number a 0))) (with_fault w CannotCreate) (h.created (given_number a 0)) (h.faulty CannotCreate (λ e. absurd (cc)))
+  by_helper DsqInsert a = inserts (given_task a 0) (insert_of a) (given_number a 3)
+  by_helper DsqInsertVtime a = inserts (given_task a 0) (insert_of_vtime a) (given_number a 4)
+  by_helper DsqMoveToLocal a = moves (given_number a 0)
+  by_helper CpuIdle a = keeps_if P (nat_lt (given_number a 0) (length w.cpus)) w (with_fault w NoSuchCpu) h.same (h.faulty NoSuchCpu (λ e. absurd (cc)))
+  by_helper DsqNrQueued a = keeps_if P (is_there w (given_number a 0)) w (with_fault w NoSuchQueue) h.same (h.faulty NoSuchQueue (λ e. absurd (cc)))
+  by_helper f a = h.same
