@@ -1,5 +1,5 @@
 -- A callback that isn't dispatch moves nobody: it changes no entry and pushes nothing, and leaves the tree as it is.
-use Rattle.std.proofs.Common.{◌≡◌, ℕ, Bool, true, false, ◌&&◌, nat_lt, cond, List, length, map, Option, Some, None, is_none}
+use Rattle.std.proofs.Common.{◌∙◌, sym, ◌≡◌, ℕ, Bool, true, false, ◌&&◌, nat_lt, cond, List, length, map, Option, Some, None, is_none}
 use Rattle.scx_dsq.specs.Queues.{QueueState, exists, front_of}
 use Rattle.scx_dsq.specs.Calls.{create_refusal, with_queue, after_create}
 use Rattle.scx_isa_semantics.specs.declared.host_tables.Helper.{Helper}
