@@ -24,7 +24,7 @@ use Rattle.scx_sched_world.specs.Ids.{global, builtin_queue, parked_queue, local
 use Rattle.scx_sched_world.specs.World.{WorldState, with_tree, with_task as set_task, task_at, is_throttled, running, cpu_of, is_idle, at_callback, quiet, note_now}
 use Rattle.scx_sched_world.specs.Tasks.{with_since, after_wake, after_sleep, after_leave, after_enter, for_cpu, fill_front, after_fill, after_stop, started_at, after_keep, put_parked, after_take, let_go, ran_a_tick, after_tick, used_ms, after_reweigh}
 use Rattle.scx_sched_world.specs.Ejecting.{put_builtin, after_charge, after_catch_up}
-use Rattle.scx_sched_machine.specs.Policy.{PolicyState, program_of}
+use Rattle.scx_sched_machine.specs.Policy.{program_of}
 use Rattle.scx_sched_machine.specs.Steps.{State, CallMade, Stepped, with_world, stays, after, one_after_other, is_ejected}
 use Rattle.scx_sched_machine.specs.Ejecting.{moves_over, eject, ejected_for}
 use Rattle.scx_sched_machine.specs.Callbacks.{call_ending, after_callback, answer_fault, fault_of, unless_ejected, acting, call_back, answered_by, one_task, task_cpu_and_0, task_and_number, cpu_and_task}

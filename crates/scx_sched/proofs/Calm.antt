@@ -1,6 +1,6 @@
 -- A callback that isn't dispatch moves nobody: it changes no entry and pushes nothing, and leaves the tree as it is.
-use Rattle.std.proofs.Common.{◌∙◌, sym, ◌≡◌, ℕ, Bool, true, false, ◌&&◌, nat_lt, cond, List, length, map, Option, Some, None, is_none}
-use Rattle.scx_dsq.specs.Queues.{QueueState, exists, front_of}
+use Rattle.std.proofs.Common.{◌∙◌, sym, ◌≡◌, ℕ, Bool, true, false, cond, List, map, Option, Some, None, is_none}
+use Rattle.scx_dsq.specs.Queues.{QueueState}
 use Rattle.scx_dsq.specs.Calls.{create_refusal, with_queue, after_create}
 use Rattle.scx_isa_semantics.specs.declared.host_tables.Helper.{Helper}
 use Rattle.scx_isa_semantics.specs.Effects.{Query, Call, Load, Store}
@@ -9,11 +9,9 @@ use Rattle.scx_vm.specs.Host.{after_query}
 use Rattle.scx_vm.specs.declared.arguments.Arg.{Arg}
 use Rattle.scx_sched_world.specs.declared.call.Insert.{Insert}
 use Rattle.scx_sched_world.specs.declared.faults.Fault.{Fault}
-use Rattle.scx_sched_world.specs.declared.faults.Fault.TheVariants.{NoSuchQueue, NoSuchCpu, CannotCreate}
-use Rattle.scx_sched_world.specs.Ids.{policy_end}
 use Rattle.scx_sched_world.specs.World.{WorldState, with_queues}
 use Rattle.scx_sched_world.specs.Tasks.{for_cpu}
-use Rattle.scx_sched_world.specs.Helpers.{is_there, can_create, with_fault, is_dispatch, insert_fault, with_insert, after_release, insert_or_fault, insert_of, insert_of_vtime, front_moved_to_local, given_number, given_task, helper_after, world_functions}
+use Rattle.scx_sched_world.specs.Helpers.{with_fault, is_dispatch, with_insert, after_release, insert_or_fault, helper_after, world_functions}
 use Rattle.scx_sched_machine.proofs.Choices.{keeps_if}
 use Rattle.scx_sched_machine.proofs.HelperCalls.{by_helper}
 

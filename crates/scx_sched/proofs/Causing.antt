@@ -5,9 +5,8 @@ use Rattle.std.proofs.lemmas.List.{append-nil}
 use Rattle.std.proofs.lemmas.List.Quantifiers.{position-Some}
 use Rattle.scx_isa_semantics.specs.declared.callbacks.Callback.{Callback}
 use Rattle.scx_isa_semantics.specs.declared.callbacks.Callback.TheVariants as callback
-use Rattle.scx_isa_semantics.specs.Endings.{Ending, run_of}
+use Rattle.scx_isa_semantics.specs.Endings.{Ending}
 use Rattle.scx_isa_semantics.proofs.EndedRuns.{run_is}
-use Rattle.scx_vm.specs.Programs.{VerifiedProgram}
 use Rattle.scx_vm.specs.Arguments.{program_arguments}
 use Rattle.scx_vm.specs.Host.{answer_to, after_query}
 use Rattle.scx_sched_tasks.specs.Tasks.{no_task}

@@ -1,5 +1,5 @@
 -- Where a task may enter a queue: each push that the machine makes is accepted.
-use Rattle.std.proofs.Common.{◌≡◌, ℕ, ◌<◌, ◌≤◌, Bool, true, false, ◌==◌, ◌||◌, nat_lt, ◌⊎◌, inl, inr, cond, if◌then◌else◌, [], ◌∷◌, length, set, Option, Some, None, is_some, is_none, refl, sym, ◌∙◌, ◌+◌, ap, subst, arith}
+use Rattle.std.proofs.Common.{◌≡◌, ℕ, ◌<◌, ◌≤◌, Bool, true, false, ◌==◌, ◌||◌, nat_lt, ◌⊎◌, inl, inr, if◌then◌else◌, [], ◌∷◌, length, set, Option, Some, None, is_some, is_none, refl, sym, ◌∙◌, ◌+◌, ap, subst, arith}
 use Rattle.std.specs.List.{list_any}
 use Rattle.std.proofs.lemmas.Bool.{cases_eq, cases_lt, eq-eqb, ne_eqb}
 use Rattle.std.proofs.lemmas.Bool.Decides.{nat_tests}

@@ -1,13 +1,12 @@
 -- Who is parked stays parked in the same order, and nobody comes to be parked, in each small step but those of
 -- parking.
-use Rattle.std.proofs.Common.{◌≡◌, ℕ, ◌<◌, ◌≤◌, ◌⊎◌, inl, inr, Bool, true, false, ◌==◌, ◌&&◌, nat_lt, cond, List, length, get_or, map, Option, Some, None, is_some, is_none, option_map, refl, sym, ◌∙◌, ap, subst, arith}
+use Rattle.std.proofs.Common.{◌≡◌, ℕ, ◌<◌, ◌≤◌, ◌⊎◌, inl, inr, Bool, true, false, ◌==◌, nat_lt, cond, List, length, get_or, map, Option, Some, None, is_some, is_none, option_map, refl, sym, ◌∙◌, ap, subst, arith}
 use Rattle.std.proofs.lemmas.Bool.{cases_eq, cases_lt, ne_eqb, eq-eqb, eqb-true}
-use Rattle.std.proofs.lemmas.Bool.Decides.{nat_tests}
 use Rattle.std.proofs.lemmas.List.{get_or-set_same, get_or-set_other, set_past}
 use Rattle.scx_dsq.specs.declared.entries.Entry.{Entry}
 use Rattle.scx_dsq.specs.declared.entries.Rank.{Rank}
 use Rattle.scx_dsq.specs.declared.entries.Rank.TheVariants.{Fifo, Vtime}
-use Rattle.scx_dsq.specs.Queues.{QueueState, exists, entry_of, queue_of, front_of, is_in}
+use Rattle.scx_dsq.specs.Queues.{QueueState, entry_of, queue_of, front_of, is_in}
 use Rattle.scx_dsq.specs.Calls.{create_refusal, with_queue, after_create, push_refusal, next_entry, with_task as with_place, after_push, without_task, after_remove, without, after_pop}
 use Rattle.scx_dsq.proofs.Facts.{free_from}
 use Rattle.scx_isa_semantics.specs.declared.host_tables.Helper.{Helper}
@@ -19,11 +18,10 @@ use Rattle.scx_weights.specs.Limits.{is_throttled, with_use}
 use Rattle.scx_weights_limits.proofs.Throttled.{uses_keep_throttled}
 use Rattle.scx_sched_world.specs.declared.call.Insert.{Insert}
 use Rattle.scx_sched_world.specs.declared.faults.Fault.{Fault}
-use Rattle.scx_sched_world.specs.declared.faults.Fault.TheVariants.{NoSuchQueue, NoSuchCpu, CannotCreate}
-use Rattle.scx_sched_world.specs.Ids.{held_queue, builtin_queue, parked_queue, local_on, policy_end}
-use Rattle.scx_sched_world.specs.World.{WorldState, with_queues, with_tree, waits_in, waits}
+use Rattle.scx_sched_world.specs.Ids.{held_queue, builtin_queue, parked_queue, local_on}
+use Rattle.scx_sched_world.specs.World.{WorldState, with_tree, waits_in, waits}
 use Rattle.scx_sched_world.specs.Tasks.{after_leave, after_enter, for_cpu, brought, put_parked}
-use Rattle.scx_sched_world.specs.Helpers.{is_there, can_create, with_fault, is_dispatch, is_held, insert_fault, with_insert, after_release, insert_or_fault, insert_of, insert_of_vtime, front_moved_to_local, given_number, given_task, helper_after, world_functions}
+use Rattle.scx_sched_world.specs.Helpers.{is_dispatch, is_held, with_insert, after_release, insert_or_fault, front_moved_to_local, helper_after, world_functions}
 use Rattle.scx_sched_world.specs.Ejecting.{builtin_vtime, put_builtin, evict}
 use Rattle.scx_sched_machine.proofs.Choices.{keeps_if}
 use Rattle.scx_sched_machine.proofs.HelperCalls.{by_helper}

@@ -29,13 +29,13 @@ use Rattle.scx_sched_tasks.specs.Tasks.{no_task}
 use Rattle.scx_sched_world.specs.declared.call.Insert.{Insert}
 use Rattle.scx_sched_world.specs.declared.notes.What.{What}
 use Rattle.scx_sched_world.specs.declared.faults.Fault.{Fault}
-use Rattle.scx_sched_world.specs.declared.faults.Fault.TheVariants.{NoSuchQueue, CannotInsert, NoSuchCpu, UnknownFlag, CannotCreate, BuiltinVtime, Mixed}
+use Rattle.scx_sched_world.specs.declared.faults.Fault.TheVariants.{NoSuchQueue, CannotInsert, NoSuchCpu, UnknownFlag, BuiltinVtime, Mixed}
 use Rattle.scx_sched_world.specs.declared.eject.Eject.{Eject}
 use Rattle.scx_sched_world.specs.Ids.{global, local, held_queue, builtin_queue, parked_queue, local_on, policy_end}
 use Rattle.scx_sched_world.specs.Ejecting.{put_out, builtin_vtime, put_builtin, evict, cut_task, after_catch_up, after_charge}
 use Rattle.scx_sched_world.specs.World.{WorldState, with_queues, with_tree, with_cycling, with_task, task_at, waits_in, waits, is_this, is_runnable, cpu_of, quiet, at_callback, with_note}
 use Rattle.scx_sched_world.specs.Tasks.{after_wake, after_sleep, after_leave, given_slice, given_vtime, task_after_insert, after_enter, queue_for, for_cpu, to_held, to_global, brought, fill_front, after_fill, local_len, after_stop, started_at, with_new_slice, after_keep, ran_a_tick, after_tick, later}
-use Rattle.scx_sched_world.specs.Helpers.{is_there, can_create, with_fault, is_dispatch, is_held, may_insert_in, may_insert, queue_fault, is_vtime, rank_fault, or_fault, insert_fault, with_insert, with_move, after_release, insert_or_fault, insert_of, insert_of_vtime, front_moved_to_local, given_number, given_task, helper_after, stored_in, world_functions}
+use Rattle.scx_sched_world.specs.Helpers.{with_fault, is_dispatch, is_held, may_insert_in, may_insert, queue_fault, is_vtime, rank_fault, or_fault, insert_fault, with_insert, with_move, after_release, insert_or_fault, front_moved_to_local, helper_after, stored_in, world_functions}
 use Rattle.scx_sched_machine.proofs.Choices.{keeps_if}
 use Rattle.scx_sched_machine.proofs.HelperCalls.{by_helper}
 use Rattle.scx_sched.specs.Once.{runs, appearances, IsOnce, HasQueues, sort_of, IsSorted, IsAlike, IsOpen, IsSound, GoesSomewhere}

@@ -1,6 +1,6 @@
 -- A task has run for a millisecond more after a tick of its processor, and whoever is in a queue is in one that there is:
 -- no small step changes how long a task has run, and none puts a task into a queue that isn't there.
-use Rattle.std.proofs.Common.{◌≡◌, ℕ, ◌+◌, ◌<◌, ◌≤◌, Bool, true, false, ◌==◌, not, nat_lt, ◌⊎◌, inl, inr, if◌then◌else◌, cond, List, [], ◌∷◌, ◌++◌, length, set, get_or, map, Option, Some, None, is_some, is_none, option_map, Ok, refl, sym, ap, ◌∙◌, subst, arith}
+use Rattle.std.proofs.Common.{◌≡◌, ℕ, ◌+◌, ◌<◌, ◌≤◌, Bool, true, false, ◌==◌, not, nat_lt, ◌⊎◌, inl, inr, if◌then◌else◌, List, [], ◌∷◌, ◌++◌, length, set, get_or, map, Option, Some, None, is_some, is_none, option_map, Ok, refl, ap, ◌∙◌, subst, arith}
 use Rattle.std.specs.List.{list_any}
 use Rattle.std.proofs.lemmas.Bool.{cases_eq, cases_lt, eq-eqb, ne_eqb}
 use Rattle.std.proofs.lemmas.List.{length-set, length-replicate, get_or-set_same, get_or-set_other, set_past}
@@ -11,7 +11,7 @@ use Rattle.scx_dsq.specs.declared.entries.Rank.TheVariants.{Fifo, Vtime}
 use Rattle.scx_dsq.specs.declared.errors.QueueError.{QueueError}
 use Rattle.scx_dsq.specs.declared.errors.QueueError.TheVariants.{NoSuchQueue, AlreadyThere, Mixed}
 use Rattle.scx_dsq.specs.Queues.{QueueState, exists, entry_of, front_of}
-use Rattle.scx_dsq.specs.Calls.{clashes, create_refusal, with_queue, after_create, push_refusal, after_push, after_pop, after_remove, without, without_task, next_entry, with_task as with_place}
+use Rattle.scx_dsq.specs.Calls.{clashes, create_refusal, with_queue, after_create, after_push, after_pop, after_remove, without, without_task, next_entry, with_task as with_place}
 use Rattle.scx_isa_semantics.specs.declared.host_tables.Helper.{Helper}
 use Rattle.scx_isa_semantics.specs.Effects.{Query, Call, Load, Store}
 use Rattle.scx_vm.specs.Arguments.{argument_of}
@@ -24,15 +24,14 @@ use Rattle.scx_sched_tasks.specs.declared.task.Task.{Task}
 use Rattle.scx_sched_tasks.specs.Tasks.{no_task, new_task, default_slice}
 use Rattle.scx_sched_world.specs.declared.call.Insert.{Insert}
 use Rattle.scx_sched_world.specs.declared.faults.Fault.{Fault}
-use Rattle.scx_sched_world.specs.declared.faults.Fault.TheVariants.{NoSuchQueue as NoQueue, NoSuchCpu, CannotCreate}
 use Rattle.scx_sched_world.specs.First.{first_queues, first_world}
 use Rattle.scx_sched_world.specs.Ids.{builtin_queue, parked_queue, local_on}
 use Rattle.scx_sched_world.specs.World.{WorldState, with_queues, with_tree, with_task, task_at, waits, is_this, running}
 use Rattle.scx_sched_world.specs.Tasks.{with_since, with_slice, with_builtin, task_after_insert, after_leave, after_enter, for_cpu, brought, fill_front, on_cpu, started_at, with_new_slice, put_parked, let_go, tick_ns, ran_a_tick, after_tick, used_ms, begun_periods}
-use Rattle.scx_sched_world.specs.Helpers.{is_there, can_create, with_fault, is_dispatch, insert_fault, with_insert, after_release, insert_or_fault, insert_of, insert_of_vtime, can_move, front_moved_to_local, given_number, given_task, helper_after, stored_in, world_functions}
+use Rattle.scx_sched_world.specs.Helpers.{is_dispatch, with_insert, after_release, insert_or_fault, front_moved_to_local, helper_after, stored_in, world_functions}
 use Rattle.scx_sched_world.specs.Ejecting.{builtin_vtime, put_builtin}
 use Rattle.scx_sched_machine.specs.declared.events.Event.{Event}
-use Rattle.scx_sched_machine.specs.declared.events.Event.TheVariants.{Wake, Sleep, Tick, Clock, SetWeight}
+use Rattle.scx_sched_machine.specs.declared.events.Event.TheVariants.{Wake, Sleep, Clock, SetWeight}
 use Rattle.scx_sched_machine.specs.Policy.{PolicyState}
 use Rattle.scx_sched_machine.specs.Start.{is_bad_shape, first_state}
 use Rattle.scx_sched_machine.specs.Steps.{State}
@@ -48,7 +47,7 @@ use Rattle.scx_sched.proofs.Entering.{each_set}
 use Rattle.scx_sched.proofs.Fine.{stored_run, given_run, renewed_run, fine_steps}
 use Rattle.scx_sched.proofs.First.{nowhere, steps_started}
 use Rattle.scx_sched.proofs.Watching.{Both, both_steps}
-use Rattle.scx_sched.proofs.Events.{IsKeptByEvents, IsKeptByTick, IsTaken, Wakes, Sleeps, Ticks, Clocks, Weighs, is_taken, IsFineNow, fine_events, one_more, fine_later, fine_ticked, known_running, keeps_wake, keeps_sleep, keeps_cycle_now, keeps_count_down, keeps_clock}
+use Rattle.scx_sched.proofs.Events.{IsKeptByEvents, IsTaken, Wakes, Sleeps, Ticks, Clocks, Weighs, is_taken, IsFineNow, fine_events, one_more, fine_later, fine_ticked, known_running, keeps_wake, keeps_sleep, keeps_cycle_now, keeps_count_down, keeps_clock}
 
 -- ---- queues that there are
 

@@ -6,7 +6,6 @@ use Rattle.std.specs.List.{position, position_or_len}
 use Rattle.std.proofs.lemmas.List.Sums.{fails_before_first}
 use Rattle.std.proofs.lemmas.List.{length-set, get_or-set_same, get_or-set_other, get_or_past, set_past}
 use Rattle.scx_dsq.specs.Queues.{front_of}
-use Rattle.scx_dsq.specs.Calls.{after_create}
 use Rattle.scx_isa_semantics.specs.declared.host_tables.Helper.{Helper}
 use Rattle.scx_isa_semantics.specs.Effects.{Query, Call, Load, Store}
 use Rattle.scx_vm.specs.Arguments.{argument_of}
@@ -14,13 +13,12 @@ use Rattle.scx_vm.specs.Host.{after_query}
 use Rattle.scx_vm.specs.declared.arguments.Arg.{Arg}
 use Rattle.scx_sched_world.specs.declared.call.Insert.{Insert}
 use Rattle.scx_sched_world.specs.declared.faults.Fault.{Fault}
-use Rattle.scx_sched_world.specs.declared.faults.Fault.TheVariants.{NoSuchQueue, NoSuchCpu, CannotCreate}
 use Rattle.scx_sched_tasks.specs.declared.task.Task.{Task}
 use Rattle.scx_sched_tasks.specs.Tasks.{no_task}
 use Rattle.scx_sched_tasks.specs.Waits.{time_since, is_late, is_overdue}
-use Rattle.scx_sched_world.specs.World.{WorldState, with_queues, with_task, task_at, waits, wait}
+use Rattle.scx_sched_world.specs.World.{WorldState, with_task, task_at, waits, wait}
 use Rattle.scx_sched_world.specs.Tasks.{after_wake, after_stop, let_go, ran_a_tick, after_tick, task_after_insert, after_leave, after_enter, for_cpu, brought, fill_front, with_new_slice}
-use Rattle.scx_sched_world.specs.Helpers.{is_there, can_create, with_fault, is_dispatch, insert_fault, with_insert, after_release, insert_or_fault, insert_of, insert_of_vtime, can_move, front_moved_to_local, given_number, given_task, helper_after, stored_in, world_functions}
+use Rattle.scx_sched_world.specs.Helpers.{is_dispatch, with_insert, after_release, insert_or_fault, front_moved_to_local, helper_after, stored_in, world_functions}
 use Rattle.scx_sched_world.specs.Waits.{first_overdue}
 use Rattle.scx_sched_world.specs.Ejecting.{put_builtin}
 use Rattle.scx_sched_machine.proofs.Choices.{keeps_if}

@@ -1,10 +1,7 @@
 -- No policy is put out of force for being stuck: each callback comes to an answer, and no helper call has that fault.
-use Rattle.std.proofs.Common.{◌≡◌, ℕ, suc, Bool, true, false, ◌&&◌, ◌==◌, nat_lt, nat_le, if◌then◌else◌, List, [], ◌++◌, length, map, Option, Some, None, refl, sym, ap, ◌∙◌, subst}
+use Rattle.std.proofs.Common.{◌≡◌, ℕ, suc, nat_lt, List, length, map, Option, Some, None, refl, sym, ap, ◌∙◌, subst}
 use Rattle.std.proofs.lemmas.List.{append-nil}
-use Rattle.std.specs.List.{list_any}
-use Rattle.scx_dsq.specs.Queues.{exists, front_of}
-use Rattle.scx_dsq.specs.Calls.{after_create, clashes}
-use Rattle.scx_dsq.specs.declared.entries.Rank.{Rank}
+use Rattle.scx_dsq.specs.Queues.{front_of}
 use Rattle.scx_isa_semantics.specs.declared.callbacks.Callback.{Callback}
 use Rattle.scx_isa_semantics.specs.declared.host_tables.Helper.{Helper}
 use Rattle.scx_isa_semantics.specs.Code.{instruction_count}
@@ -22,21 +19,20 @@ use Rattle.scx_sched_world.specs.declared.call.Insert.{Insert}
 use Rattle.scx_sched_world.specs.declared.eject.Eject.{Eject}
 use Rattle.scx_sched_world.specs.declared.eject.Eject.TheVariants as cause
 use Rattle.scx_sched_world.specs.declared.faults.Fault.{Fault}
-use Rattle.scx_sched_world.specs.declared.faults.Fault.TheVariants.{Stuck, NoSuchQueue, CannotInsert, NoSuchCpu, UnknownFlag, CannotCreate, BuiltinVtime, Mixed}
-use Rattle.scx_sched_world.specs.Ids.{policy_end, global, local, local_on}
-use Rattle.scx_sched_world.specs.World.{WorldState, with_queues}
+use Rattle.scx_sched_world.specs.declared.faults.Fault.TheVariants.{Stuck}
+use Rattle.scx_sched_world.specs.World.{WorldState}
 use Rattle.scx_sched_world.specs.Tasks.{after_leave, after_enter, for_cpu, later, begun_periods}
-use Rattle.scx_sched_world.specs.Helpers.{is_there, can_create, first_fault, with_fault, is_dispatch, may_insert, is_vtime, queue_fault, rank_fault, or_fault, insert_fault, with_insert, after_release, insert_or_fault, insert_of, insert_of_vtime, can_move, front_moved_to_local, given_number, given_task, helper_after, world_functions}
+use Rattle.scx_sched_world.specs.Helpers.{first_fault, with_fault, is_dispatch, with_insert, after_release, insert_or_fault, front_moved_to_local, helper_after, world_functions}
 use Rattle.scx_sched_machine.specs.declared.events.Event.{Event}
-use Rattle.scx_sched_machine.specs.declared.events.Event.TheVariants.{Wake, Sleep, Tick, Clock, SetWeight}
+use Rattle.scx_sched_machine.specs.declared.events.Event.TheVariants.{Wake, Sleep, Tick, SetWeight}
 use Rattle.scx_sched_machine.specs.Steps.{State, Stepped, CallMade, with_world, one_after_other}
 use Rattle.scx_sched_machine.specs.Ejecting.{eject}
 use Rattle.scx_sched_machine.specs.Parking.{let_all_go}
 use Rattle.scx_sched_machine.specs.Events.{refusal, overdue, eject_if_stalled, clock, event_step}
-use Rattle.scx_sched_machine.specs.Callbacks.{call_ending, IsAnswered, AreAnswered}
+use Rattle.scx_sched_machine.specs.Callbacks.{call_ending, AreAnswered}
 use Rattle.scx_sched_machine.proofs.Choices.{keeps_if}
 use Rattle.scx_sched_machine.proofs.HelperCalls.{by_helper, IsOther, no_fault}
-use Rattle.scx_sched.specs.Causes.{EndsIn, HasFault, Of_helper, Of_answer, IsNeverStuck}
+use Rattle.scx_sched.specs.Causes.{HasFault, Of_helper, Of_answer, IsNeverStuck}
 use Rattle.scx_sched.specs.Decided.{tree_after}
 use Rattle.scx_sched.proofs.Unchanged.{eject_sets}
 use Rattle.scx_sched.proofs.Events.{IsFineNow, IsTaken, Wakes, Sleeps, Ticks, Clocks, Weighs, is_taken}
