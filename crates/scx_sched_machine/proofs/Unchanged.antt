@@ -1,6 +1,6 @@
 -- What a callback that isn't dispatch leaves as it was: it moves nobody, and so no more is pushed than an
 -- ejection pushes.
-use Rattle.std.proofs.Common.{◌≡◌, ℕ, zero, suc, ◌+◌, ◌≤◌, ◌&&◌, Bool, true, false, cond, nat_lt, List, length, map, Option, Some, None, is_some, is_none, refl, sym, ap, ◌∙◌, subst, arith}
+use Rattle.std.proofs.Common.{◌≡◌, ℕ, zero, suc, ◌+◌, ◌≤◌, Bool, true, false, cond, nat_lt, List, length, map, Option, Some, None, is_some, is_none, refl, sym, ap, ◌∙◌, subst, arith}
 use Rattle.scx_dsq.specs.Queues.{QueueState}
 use Rattle.scx_dsq.specs.Calls.{create_refusal, with_queue, after_create}
 use Rattle.scx_isa_semantics.specs.declared.callbacks.Callback.{Callback}
@@ -21,11 +21,10 @@ use Rattle.scx_sched_world.specs.declared.call.Insert.{Insert}
 use Rattle.scx_sched_world.specs.declared.eject.Eject.{Eject}
 use Rattle.scx_sched_world.specs.declared.eject.Eject.TheVariants as cause
 use Rattle.scx_sched_world.specs.declared.faults.Fault.{Fault}
-use Rattle.scx_sched_world.specs.declared.faults.Fault.TheVariants.{NoSuchQueue, NoSuchCpu, CannotCreate}
 use Rattle.scx_sched_world.specs.World.{WorldState, with_queues, with_task, task_at, waits, running, at_callback}
 use Rattle.scx_sched_world.specs.Tasks.{after_leave, after_enter}
 use Rattle.scx_sched_world.specs.Ejecting.{put_out, put_builtin, after_evictions, after_cut, cut_task}
-use Rattle.scx_sched_world.specs.Helpers.{is_there, can_create, with_fault, is_dispatch, insert_fault, with_insert, insert_or_fault, insert_of, insert_of_vtime, given_number, given_task, helper_after, stored_in, world_functions}
+use Rattle.scx_sched_world.specs.Helpers.{with_fault, is_dispatch, with_insert, insert_or_fault, helper_after, stored_in, world_functions}
 use Rattle.scx_sched_machine.specs.Steps.{State, Stepped, is_ejected}
 use Rattle.scx_sched_machine.specs.Ejecting.{moves_over, eject, ejected_for}
 use Rattle.scx_sched_machine.specs.Budgets.{eject_pushes, enter_pushes, eject_left, pushes_due}
