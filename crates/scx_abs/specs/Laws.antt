@@ -56,19 +56,20 @@ is_call_or_null_test (insn.Call k) = true
 is_call_or_null_test (insn.JumpIf w k r x offset) = is_some (null_test w k x)
 is_call_or_null_test i = false
 
+-- The rule is sound for the instructions of some kind.
+abbrev pub RulesAreSoundFor : (Insn → Type 0) → Type 0
+RulesAreSoundFor IsOfKind =
+    (shapes : List Shape) (c : Callback) (i : Insn) (a : AbsState) (m : Machine)
+    → IsOfKind i → IsInsn i → IsProper a → IsMember shapes a m
+    → IsSoundFor shapes (rule shapes c i a) (act c i m)
+
 -- The rule is sound for each instruction but calls of helpers and tests for 0.
 abbrev pub PlainRulesAreSound : Type 0
-PlainRulesAreSound =
-    (shapes : List Shape) (c : Callback) (i : Insn) (a : AbsState) (m : Machine)
-    → IsFalse (is_call_or_null_test i) → IsInsn i → IsProper a → IsMember shapes a m
-    → IsSoundFor shapes (rule shapes c i a) (act c i m)
+PlainRulesAreSound = RulesAreSoundFor (λ i. IsFalse (is_call_or_null_test i))
 
 -- The rule is sound for calls of helpers and for jumps that test a register for 0.
 abbrev pub CallsAndNullTestsAreSound : Type 0
-CallsAndNullTestsAreSound =
-    (shapes : List Shape) (c : Callback) (i : Insn) (a : AbsState) (m : Machine)
-    → IsTrue (is_call_or_null_test i) → IsInsn i → IsProper a → IsMember shapes a m
-    → IsSoundFor shapes (rule shapes c i a) (act c i m)
+CallsAndNullTestsAreSound = RulesAreSoundFor (λ i. IsTrue (is_call_or_null_test i))
 
 -- A callback's start state stands for all states in which it may begin.
 abbrev pub StartIsSound : Type 0
@@ -82,15 +83,15 @@ CoversMore =
     (shapes : List Shape) (b a : AbsState) (m : Machine)
     → CoversState b a → IsMember shapes a m → IsMember shapes b m
 
--- The order is one: each state covers itself, and what covers a cover covers.
+-- Each abstract state covers itself.
 abbrev pub CoversItself : Type 0
 CoversItself = (a : AbsState) → CoversState a a
 
--- a state that covers a cover of another covers the other too
+-- A state that covers a cover of another covers the other too.
 abbrev pub CoversThrough : Type 0
 CoversThrough = (c b a : AbsState) → CoversState c b → CoversState b a → CoversState c a
 
--- Proper states that cover each other are one.
+-- Proper states that cover each other are the same.
 abbrev pub CoversBothWays : Type 0
 CoversBothWays =
     (a b : AbsState) → IsProper a → IsProper b → CoversState a b → CoversState b a → a ≡ b

@@ -21,8 +21,8 @@ pub fn plain_rules_are_sound()
     ensures { PlainRulesAreSound }
 {}
 
-/// The same for calls of helpers and jumps that test a register for 0. The function does nothing: its
-/// contract is the law.
+/// What `rules_are_sound` says of the rules, for calls of helpers and jumps that test a register for 0.
+/// The function does nothing: its contract is the law.
 pub fn calls_and_null_tests_are_sound()
     ensures { CallsAndNullTestsAreSound }
 {}

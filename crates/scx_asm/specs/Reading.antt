@@ -16,9 +16,9 @@ use Rattle.scx_asm.specs.FirstPass.{UnresolvedLine, FirstPassState, nothing_read
 unfoldable pub second_pass : Labels → List UnresolvedLine → Result (List Insn) (AsmFault × ℕ)
 second_pass labels [] = Ok []
 second_pass labels (d ∷ ds) = do
-  i ← at_line d.line (insn_for labels d.slot d.says)
-  is ← second_pass labels ds
-  Ok (i ∷ is)
+  insn ← at_line d.line (insn_for labels d.slot d.says)
+  insns ← second_pass labels ds
+  Ok (insn ∷ insns)
 
 -- the instructions of all lines, at least one, or the first fault of the second pass
 abbrev pub insns_of : FirstPassState → Result (List Insn) (AsmFault × ℕ)
@@ -34,8 +34,8 @@ insn_occupants i = if is_wide i then (Some i ∷ None ∷ []) else (Some i ∷ [
 
 -- the slots of a program with these instructions, in order
 abbrev pub code_of : List Insn → Code
-code_of is = flat_map insn_occupants is
+code_of insns = flat_map insn_occupants insns
 
 -- the program that a text stands for, or its first fault and the line of that
 abbrev pub read_text : List ℕ → Result Code (AsmFault × ℕ)
-read_text text = read_insns text >>= λ is. Ok (code_of is)
+read_text text = read_insns text >>= λ insns. Ok (code_of insns)

@@ -44,11 +44,12 @@ IsSaid labels s l i = ⊥
 -- the lines from a slot on say the instructions in order, and nothing else
 abbrev pub AreSaid : Labels → ℕ → List ItemValue → List Insn → Type 0
 AreSaid labels s [] [] = Unit {0}
-AreSaid labels s [] (i ∷ is) = ⊥
-AreSaid labels s (Blank ∷ ls) is = AreSaid labels s ls is
-AreSaid labels s (DefinesLabel l ∷ ls) is = AreSaid labels s ls is
+AreSaid labels s [] (i ∷ insns) = ⊥
+AreSaid labels s (Blank ∷ ls) insns = AreSaid labels s ls insns
+AreSaid labels s (DefinesLabel l ∷ ls) insns = AreSaid labels s ls insns
 AreSaid labels s (l ∷ ls) [] = ⊥
-AreSaid labels s (l ∷ ls) (i ∷ is) = IsSaid labels s l i × AreSaid labels (s + slots l) ls is
+AreSaid labels s (l ∷ ls) (i ∷ insns) =
+    IsSaid labels s l i × AreSaid labels (s + slots l) ls insns
 
 -- the text stands for the program
 pub record StandsFor (text : List ℕ) (code : Code) : Type 0 where

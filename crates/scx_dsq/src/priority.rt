@@ -13,6 +13,7 @@ pub struct Priority {
 }
 
 impl Priority {
+    /// Of a task that goes in with that key, when `stamp` pushes were accepted before.
     pub fn new(key: u64, stamp: u64) -> Priority
         ensures key { result.key ≡ key }
         ensures stamp { result.stamp ≡ stamp }
@@ -26,6 +27,6 @@ impl Priority {
         ensures counted { steps.new ≡ steps.old + 1 }
     {
         steps.count();
-        self.key < other.key || self.key == other.key && self.stamp < other.stamp
+        (self.key, self.stamp) < (other.key, other.stamp)
     }
 }

@@ -13,14 +13,14 @@ ghost use Rattle.scx_load_workloads.specs.Kept.{texts};
 use crate::elements::{index_of, integer_or, some_elements};
 use crate::limit::read_limit;
 use scx_load_files::{Cause, Limits, LoadError, Section, element_path, refused};
-use scx_weights::{Group, MAX_GROUPS, MAX_WEIGHT};
+use scx_weights::{Group, MAX_GROUPS, MAX_WEIGHT, MIN_WEIGHT};
 use std::alloc::Global;
 use std::marker::Model;
 use toml::Value;
 
 /// Weights of groups (Linux Documentation/admin-guide/cgroup-v2.rst, `cpu.weight`).
 pub(crate) const WEIGHT: Limits = Limits {
-    least: 1,
+    least: MIN_WEIGHT,
     most: MAX_WEIGHT,
 };
 

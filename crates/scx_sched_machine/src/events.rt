@@ -1,6 +1,5 @@
 ghost use Rattle.std.specs.Prelude.{◌≡◌, ℕ, ◌+◌, ◌<◌, ◌≤◌, ◌^◌, length, Some, None};
 ghost use Rattle.scx_weights.specs.Limits.{usage_of};
-ghost use Rattle.scx_weights.specs.Refusals.{max_weight, is_outside};
 ghost use Rattle.scx_sched_world.specs.World.{task_at};
 ghost use Rattle.scx_sched_machine.specs.Budgets.{HasRoom, clock_pushes, cycle_pushes, eject_pushes, event_pushes, put_pushes, settle_pushes, sleep_pushes, throttle_pushes, wake_pushes};
 ghost use Rattle.scx_sched_machine.specs.Does.{Does};
@@ -15,7 +14,7 @@ use crate::machine::Machine;
 use crate::sink::Sink;
 use scx_isa::Callback;
 use scx_sched_world::{Eject, What};
-use scx_weights::MAX_WEIGHT;
+use scx_weights::is_weight;
 use thiserror::Error;
 
 /// What happens to the machine. Tasks, processors and groups go by their numbers.
@@ -57,12 +56,6 @@ pub enum Refused {
     /// A machine has accepted 2^32 events: this goes before any other cause.
     #[error("as many events were accepted as may be")]
     RunOver,
-}
-
-fn is_bad_weight(weight: u32) -> bool
-    ensures { result ≡ is_outside max_weight weight }
-{
-    weight < 1 || weight > MAX_WEIGHT
 }
 
 impl Machine {
@@ -114,10 +107,10 @@ impl Machine {
     {
         if group >= self.world.groups() {
             Some(Refused::UnknownGroup)
-        } else if is_bad_weight(weight) {
-            Some(Refused::BadWeight)
-        } else {
+        } else if is_weight(weight) {
             None
+        } else {
+            Some(Refused::BadWeight)
         }
     }
 

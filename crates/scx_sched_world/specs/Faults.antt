@@ -4,12 +4,12 @@ use Rattle.scx_sched_world.specs.declared.faults.Fault.{Fault}
 use Rattle.scx_sched_world.specs.declared.faults.Fault.TheVariants.{Stuck, NoSuchQueue, CannotInsert, Mixed, BuiltinVtime, NoSuchCpu, UnknownFlag, CannotCreate}
 
 -- the number of a fault, by which traces and reports name it
-abbrev pub code_of : Fault → ℕ
-code_of Stuck = 0
-code_of NoSuchQueue = 1
-code_of CannotInsert = 2
-code_of Mixed = 3
-code_of BuiltinVtime = 4
-code_of NoSuchCpu = 5
-code_of UnknownFlag = 6
-code_of CannotCreate = 7
+abbrev pub fault_number : Fault → ℕ
+fault_number Stuck = 0
+fault_number NoSuchQueue = 1
+fault_number CannotInsert = 2
+fault_number Mixed = 3
+fault_number BuiltinVtime = 4
+fault_number NoSuchCpu = 5
+fault_number UnknownFlag = 6
+fault_number CannotCreate = 7

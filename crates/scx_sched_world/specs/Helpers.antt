@@ -134,11 +134,12 @@ may_insert w t = may_insert_in w.call.callback w t
 abbrev pub queue_fault : WorldState → ℕ → Option Fault
 queue_fault w q =
     if nat_lt q policy_end then (if exists w.queues q then None else Some NoSuchQueue)
-    else (if (q == global) then None
-    else (if (q == local) then None
-    else (if nat_lt q (local_on 0) then Some NoSuchQueue
-    else (if nat_lt q (local_on (length w.cpus)) then None
-    else (if nat_lt q (local_on 0x1_0000_0000) then Some NoSuchCpu else Some NoSuchQueue)))))
+    else if q == global then None
+    else if q == local then None
+    else if nat_lt q (local_on 0) then Some NoSuchQueue
+    else if nat_lt q (local_on (length w.cpus)) then None
+    else if nat_lt q (local_on 0x1_0000_0000) then Some NoSuchCpu
+    else Some NoSuchQueue
 
 -- whether a task goes in by virtual time, and not in order of arrival
 abbrev pub is_vtime : Rank → Bool

@@ -1,5 +1,5 @@
 ghost use Rattle.std.specs.Prelude.{◌≡◌};
-ghost use Rattle.scx_sched_world.specs.Faults.{code_of};
+ghost use Rattle.scx_sched_world.specs.Faults.{fault_number};
 
 /// What is wrong with a callback. A helper call with a fault changes nothing else.
 #[derive(Clone, Copy, Debug, PartialEq, Eq)]
@@ -24,8 +24,8 @@ pub enum Fault {
 
 impl Fault {
     /// Its number, 0 to 7 in the order above.
-    pub fn code(self) -> u8
-        ensures { result ≡ code_of self }
+    pub fn number(self) -> u8
+        ensures { result ≡ fault_number self }
     {
         match self {
             Fault::Stuck => 0,

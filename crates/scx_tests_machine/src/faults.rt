@@ -41,7 +41,7 @@ r0 = 0
 exit";
 
 /// Calls of which the last has a fault, and what becomes of them as each callback, in their order: 16 where the verifier refuses
-/// a helper there, `FAILS`, or the code for which the policy is ejected. One processor is there, and queue 0,
+/// a helper there, `FAILS`, or the number of the fault for which the policy is ejected. One processor is there, and queue 0,
 /// which is empty.
 const CALLS: [(&str, [u8; 7]); 32] = [
     // No such queue: 9, GLOBAL and a processor's own.
@@ -185,9 +185,9 @@ fn refusal_of<R: AllocGlobal + Abort>(rt: &R, callback: Callback, text: &str) ->
     }
 }
 
-/// The code of the fault for which a policy with that callback is ejected. In the course of that the first task
+/// The number of the fault for which a policy with that callback is ejected. In the course of that the first task
 /// wakes, and goes to sleep; where dispatch is meant it is held in between, and else it runs.
-fn code_of<R: AllocGlobal + Abort>(rt: &R, callback: Callback, text: &str) -> u8 {
+fn number_of<R: AllocGlobal + Abort>(rt: &R, callback: Callback, text: &str) -> u8 {
     let enqueue = if callback == Callback::Dispatch {
         "exit"
     } else {
@@ -213,7 +213,7 @@ fn ejection_of<R: AllocGlobal + Abort>(rt: &R, sim: Sim) -> u8 {
     session.has_vtime(rt, 0, INVALID);
     drop(session);
     match ejected {
-        Some(Eject::Fault(fault, 0)) => fault.code(),
+        Some(Eject::Fault(fault, 0)) => fault.number(),
         _ => OTHER,
     }
 }
@@ -221,28 +221,28 @@ fn ejection_of<R: AllocGlobal + Abort>(rt: &R, sim: Sim) -> u8 {
 fn expect<R: AllocGlobal + Abort>(rt: &R, callback: Callback, text: &str, wanted: u8) {
     let found = match refusal_of(rt, callback, text) {
         Some(number) => number,
-        None => code_of(rt, callback, text),
+        None => number_of(rt, callback, text),
     };
     expect_same(rt, found, wanted, text);
 }
 
 /// What becomes of the calls as each callback.
-fn expect_codes<R: AllocGlobal + Abort>(
+fn expect_numbers<R: AllocGlobal + Abort>(
     rt: &R,
     calls: &str,
-    codes: &[u8; 7],
+    numbers: &[u8; 7],
 ) -> Result<(), AllocError> {
     let text = text_of(rt.alloc(), calls)?;
-    for (&callback, &code) in CALLBACKS.iter().zip(codes) {
-        expect(rt, callback, text.as_str(), code);
+    for (&callback, &number) in CALLBACKS.iter().zip(numbers) {
+        expect(rt, callback, text.as_str(), number);
     }
     Ok(())
 }
 
 #[test]
 fn each_fault_in_each_callback(rt: HostRuntime) -> Result<(), AllocError> {
-    for (calls, codes) in &CALLS {
-        expect_codes(&rt, calls, codes)?;
+    for (calls, numbers) in &CALLS {
+        expect_numbers(&rt, calls, numbers)?;
     }
     Ok(())
 }

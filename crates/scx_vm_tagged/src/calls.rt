@@ -30,7 +30,7 @@ pub fn call<E: Env>(
     maps: &Maps,
     env: &mut E,
 ) -> Effect
-    requires { 0 < E.room env.old }
+    requires budget { 0 < E.room env.old }
     ensures effect { ComesTo (host E.functions) (call callback (seen core.old maps.now) number)
         maps.now env.old result (seen core.new maps.now) env.new }
     ensures room { E.room env.old ≤ E.room env.new + 1 }
@@ -90,7 +90,7 @@ fn key(core: &Core, maps: &Maps, value: Value) -> Option<u32>
 
 /// Asks the host, if the helper finds what it takes.
 fn ask<E: Env>(core: &mut Core, helper: Helper, env: &mut E) -> Effect
-    requires room { 0 < E.room env.old }
+    requires budget { 0 < E.room env.old }
     requires is_asked { ¬ (helper ≡ MapLookupElem) }
     ensures effect { (maps : Maps)
         → ComesTo (host E.functions)

@@ -1,5 +1,6 @@
-ghost use Rattle.std.specs.Prelude.{◌≡◌, ◌<◌, None, length};
+ghost use Rattle.std.specs.Prelude.{◌≡◌, ◌<◌, None, length, not};
 ghost use Rattle.scx_weights.specs.Hierarchy.{parent_of};
+ghost use Rattle.scx_weights.specs.Refusals.{max_weight, is_outside};
 
 /// The most groups of a tree.
 pub const MAX_GROUPS: usize = 256;
@@ -10,7 +11,10 @@ pub const MAX_TASKS: usize = 1024;
 /// How deep a group may stand; those at the top stand at depth 1.
 pub const MAX_DEPTH: usize = 3;
 
-/// The greatest weight of a group; the least is 1.
+/// The least weight of a group. Weights have no unit: they are compared with those of the groups beside it.
+pub const MIN_WEIGHT: u32 = 1;
+
+/// The greatest weight of a group.
 pub const MAX_WEIGHT: u32 = 10_000;
 
 /// The greatest quota of a group, in ms; the least is 1.
@@ -49,6 +53,13 @@ impl Group {
             period_ms: DEFAULT_PERIOD_MS,
         }
     }
+}
+
+/// Whether a group may have that weight.
+pub fn is_weight(weight: u32) -> bool
+    ensures { result ≡ not (is_outside max_weight weight) }
+{
+    MIN_WEIGHT <= weight && weight <= MAX_WEIGHT
 }
 
 /// The parent of the group, if the group is in the list and has one.

@@ -38,7 +38,7 @@ mod usage;
 pub use error::TreeError;
 pub use group::{
     DEFAULT_PERIOD_MS, Group, MAX_DEPTH, MAX_GROUPS, MAX_PERIOD_MS, MAX_QUOTA_MS, MAX_TASKS,
-    MAX_WEIGHT,
+    MAX_WEIGHT, MIN_WEIGHT, is_weight,
 };
 pub use laws::ways_reach_top;
 pub use tree::Tree;

@@ -1,8 +1,8 @@
 ghost use Rattle.std.specs.Prelude.{◌≡◌, ℕ, ◌^◌, ◌<◌, ◌≤◌, true, false, length, IfOk, IfErr, OnOk, OnErr};
 
-use crate::admission::{first_fault, is_bad_weight};
+use crate::admission::first_fault;
 use crate::error::TreeError;
-use crate::group::{Group, MAX_GROUPS, MAX_TASKS};
+use crate::group::{Group, MAX_GROUPS, MAX_TASKS, is_weight};
 use crate::share::weight_in;
 use crate::sums::Sums;
 use crate::usage::Usages;
@@ -109,7 +109,7 @@ impl Tree {
         if self.groups.len() <= group as usize {
             return Err(TreeError::UnknownGroup);
         }
-        if is_bad_weight(weight) {
+        if !is_weight(weight) {
             return Err(TreeError::OutOfRange);
         }
         self.sums.reweigh(&self.groups, group, weight);

@@ -88,7 +88,7 @@ impl Chart {
             What::Stop(_, cpu) => self.stop(moment, cpu),
             What::Idle(_) | What::Weight(_, _) => {}
             What::Stall(task) => self.page.second = Some(stall(moment, task)),
-            What::Fault(reason) => self.page.second = Some(fault(moment, reason.code())),
+            What::Fault(reason) => self.page.second = Some(fault(moment, reason.number())),
         }
     }
 

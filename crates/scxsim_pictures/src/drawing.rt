@@ -48,7 +48,7 @@ pub fn picture<L: Listener, W: Out>(
 #[derive(Clone, Copy)]
 enum Ejection {
     Stall { moment: u64, task: u16 },
-    Fault { moment: u64, code: u8 },
+    Fault { moment: u64, number: u8 },
 }
 
 /// A picture on its way.
@@ -87,8 +87,8 @@ impl Drawing {
             What::Stop(_, cpu) => self.stop(moment, cpu),
             What::Stall(task) => self.ejection = Some(Ejection::Stall { moment, task }),
             What::Fault(fault) => {
-                let code = fault.code();
-                self.ejection = Some(Ejection::Fault { moment, code });
+                let number = fault.number();
+                self.ejection = Some(Ejection::Fault { moment, number });
             }
             What::Wake(_)
             | What::Sleep(_)
@@ -124,7 +124,7 @@ impl Drawing {
     fn ejection(&self) -> Option<Line> {
         match self.ejection? {
             Ejection::Stall { moment, task } => Some(self.frame.stall(moment, task)),
-            Ejection::Fault { moment, code } => Some(self.frame.fault(moment, code)),
+            Ejection::Fault { moment, number } => Some(self.frame.fault(moment, number)),
         }
     }
 

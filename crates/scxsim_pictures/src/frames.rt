@@ -266,9 +266,9 @@ impl Frame {
     }
 
     /// The same for the fault of that number.
-    pub(crate) fn fault(self, moment: u64, code: u8) -> Line {
+    pub(crate) fn fault(self, moment: u64, number: u8) -> Line {
         let mut text = self.ejection(moment);
-        push_number(&mut text, "fault ", u64::from(code));
+        push_number(&mut text, "fault ", u64::from(number));
         push_moment(&mut text, moment);
         Line::nameless(text)
     }

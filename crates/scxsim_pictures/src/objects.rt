@@ -47,9 +47,9 @@ pub(crate) fn stall(moment: u64, task: u16) -> Line {
 }
 
 /// The policy is ejected because of the fault of that number.
-pub(crate) fn fault(moment: u64, code: u8) -> Line {
+pub(crate) fn fault(moment: u64, number: u8) -> Line {
     let mut text = instant(moment, EJECTIONS, "g");
-    push_number(&mut text, "eject fault ", u64::from(code));
+    push_number(&mut text, "eject fault ", u64::from(number));
     text.push_str("\"}");
     Line::nameless(text)
 }

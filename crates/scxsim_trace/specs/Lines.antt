@@ -1,7 +1,7 @@
 -- The text of notes: a line each, with the names of tasks and groups. Names stand in lists, by the
 -- numbers of what they name.
 use Rattle.std.specs.Prelude.{ℕ, ◌==◌, ◌%◌, ◌^◌, nat_lt, if◌then◌else◌, List, [], ◌∷◌, ◌++◌, codes, decimal, slice_index_or}
-use Rattle.scx_sched_world.specs.Faults.{code_of}
+use Rattle.scx_sched_world.specs.Faults.{fault_number}
 use Rattle.scx_sched_world.specs.Ids.{policy_end, global, held_queue, builtin_queue, parked_queue}
 use Rattle.scx_sched_world.specs.declared.notes.Note.{Note}
 use Rattle.scx_sched_world.specs.declared.notes.What.{What}
@@ -75,7 +75,7 @@ object (Stop t c) = codes " cpu " ++ decimal c
 object (Idle c) = decimal c
 object (Weight g w) = codes " " ++ decimal w
 object (Stall t) = []
-object (Fault f) = decimal (code_of f)
+object (Fault f) = decimal (fault_number f)
 
 -- the clock, one space, and the verb
 abbrev pub start : Note → List ℕ

@@ -4,7 +4,7 @@ use Rattle.std.specs.Prelude.{ℕ, ◌==◌, ◌+◌, ◌*◌, ◌/◌, if◌the
 use Rattle.scx_sched_tasks.specs.declared.task.Task.{Task}
 use Rattle.scx_sched_world.specs.declared.eject.Eject.{Eject}
 use Rattle.scx_sched_world.specs.declared.eject.Eject.TheVariants.{Stall, Fault}
-use Rattle.scx_sched_world.specs.Faults.{code_of}
+use Rattle.scx_sched_world.specs.Faults.{fault_number}
 use Rattle.scx_sched_world.specs.World.{WorldState}
 use Rattle.scxsim_trace.specs.Lines.{NameLists, task_name}
 
@@ -42,7 +42,7 @@ total_line total = codes "total " ++ decimal total ++ codes "\n"
 abbrev pub policy_start : Option Eject → List ℕ
 policy_start None = codes "policy in force"
 policy_start (Some (Stall t clock)) = codes "policy ejected stall "
-policy_start (Some (Fault f clock)) = codes "policy ejected fault " ++ decimal (code_of f)
+policy_start (Some (Fault f clock)) = codes "policy ejected fault " ++ decimal (fault_number f)
 
 -- the name of the task that waited too long; empty where there was no stall
 abbrev pub policy_name : NameLists → Option Eject → List ℕ

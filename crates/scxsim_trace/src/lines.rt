@@ -96,7 +96,7 @@ fn end(what: What) -> Part
         What::Idle(cpu) => numbered("", u64::from(cpu)),
         What::Weight(_, weight) => numbered(" ", u64::from(weight)),
         What::Stall(_) => whole_part("\n"),
-        What::Fault(fault) => numbered("", u64::from(fault.code())),
+        What::Fault(fault) => numbered("", u64::from(fault.number())),
     }
 }
 

@@ -129,7 +129,7 @@ fn policy_start(ejected: Option<Eject>) -> Part
         Some(Eject::Fault(fault, _)) => {
             let mut digits = Buffer::new();
             start.push_str("policy ejected fault ");
-            start.push_str(digits.format(fault.code()));
+            start.push_str(digits.format(fault.number()));
         }
     }
     start
