@@ -32,29 +32,33 @@ pub some_left : (q : Phase) (n m : ℕ) → not (is_empty (blocks_left q m n)) �
 some_left q zero m some = let e = sym (some_blocks q zero m) ∙ some in absurd (cc)
 some_left q (suc n) m some = omega arith
 
--- what becomes of a driver as each block begins
+-- as the changes begin
 pub begun_changes : (d : DriverState) (m n : ℕ) (s : SimState) → 0 < n
     → at_first_block (blocks_left phase.Changes m n) d s ≡ record d { pending = changes_at d.plan.changes m; blocks = blocks_left phase.Wakes m n }
 begun_changes d m zero s some = absurd (omega (arith, some))
 begun_changes d m (suc n) s some = refl
 
+-- as tasks wake: these events, and how long each had run then
 pub begun_wakes : (d : DriverState) (m n : ℕ) (s : SimState) (es : List Event) (ran : List ℕ) → 0 < n → d.blocks ≡ blocks_left phase.Wakes m n
     → es ≡ wakes_at d.memory.due m s.state.world → ran ≡ ran_after d.memory.due d.memory.ran m s.state.world
     → record { plan = d.plan; pending = es; blocks = blocks_left phase.Ticks m n; memory = record { due = d.memory.due; ran = ran } } ≡ at_next_block d s
 begun_wakes d m zero s es ran some blocks events kept = absurd (omega (arith, some))
 begun_wakes d m (suc n) s es ran some blocks events kept = rw (events, kept, blocks) refl
 
+-- as the ticks begin
 pub begun_ticks : (d : DriverState) (m n : ℕ) (s : SimState) → 0 < n
     → at_first_block (blocks_left phase.Ticks m n) d s ≡ record d { pending = ticks_of d.plan.cpus; blocks = blocks_left phase.Sleeps m n }
 begun_ticks d m zero s some = absurd (omega (arith, some))
 begun_ticks d m (suc n) s some = refl
 
+-- as tasks go to sleep: these events, and when each wakes
 pub begun_sleeps : (d : DriverState) (m n : ℕ) (s : SimState) (es : List Event) (due : List ℕ) → 0 < n → d.blocks ≡ blocks_left phase.Sleeps m n
     → es ≡ sleeps_at d.plan.timings d.memory.ran s.state.world → due ≡ due_after d.plan.timings d.memory.due d.memory.ran m s.state.world
     → record { plan = d.plan; pending = es; blocks = blocks_left phase.Clock m n; memory = record { due = due; ran = d.memory.ran } } ≡ at_next_block d s
 begun_sleeps d m zero s es due some blocks events kept = absurd (omega (arith, some))
 begun_sleeps d m (suc n) s es due some blocks events kept = rw (events, kept, blocks) refl
 
+-- as the clock's block begins, the millisecond behind it comes next
 pub begun_clock : (d : DriverState) (m n : ℕ) (s : SimState) → 0 < n
     → at_first_block (blocks_left phase.Clock m n) d s ≡ record d { pending = event.Clock ∷ []; blocks = blocks_left phase.Changes (m + 1) (n - 1) }
 begun_clock d m zero s some = absurd (omega (arith, some))
