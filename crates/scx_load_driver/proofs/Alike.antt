@@ -87,7 +87,7 @@ module _ (h : Hierarchy) (n c : ℕ) where
     same = i;
     faulty = λ f other. i;
     created = λ q. i;
-    inserted = λ t i flags none. like_inserted w None t i i;
+    inserted = λ t k flags none. like_inserted w None t k i;
     moved = λ q here low. like_moved w (front_of w.queues q) q i;
   }) f a
 

@@ -30,19 +30,19 @@ is_empty (x ∷ xs) = false
 abbrev pub with_pending : DriverState → List Event → DriverState
 with_pending d es = record d { pending = es }
 
--- the next block begins
-abbrev pub at_next_block_with : Plan → List Event → List Block → Memory → SimState → DriverState
-at_next_block_with p es [] k s = record { plan = p; pending = es; blocks = []; memory = k }
-at_next_block_with p es (b ∷ bs) k s = record {
-  plan = p;
-  pending = block_events p b k s.state.world;
+-- the driver as the first of these blocks begins, with the others behind it; as it is where
+-- there is none
+abbrev pub at_first_block : List Block → DriverState → SimState → DriverState
+at_first_block [] d s = d
+at_first_block (b ∷ bs) d s = record d {
+  pending = block_events d.plan b d.memory s.state.world;
   blocks = bs;
-  memory = memory_after p b k s.state.world;
+  memory = memory_after d.plan b d.memory s.state.world;
 }
 
 -- the driver as its next block begins; it stays as it is where no block is left
 abbrev pub at_next_block : DriverState → SimState → DriverState
-at_next_block d s = at_next_block_with d.plan d.pending d.blocks d.memory s
+at_next_block d s = at_first_block d.blocks d s
 
 -- ---- the blocks of a millisecond, in their order
 
@@ -65,13 +65,9 @@ next_number (Clock ∷ bs) = 4
 
 -- ---- fields
 
--- the blocks from that one of millisecond m on, with so many milliseconds behind it
+-- the blocks from that one of millisecond m on, where so many milliseconds aren't over
 abbrev pub blocks_left : Phase → ℕ → ℕ → List Block
-blocks_left phase.Changes m left = blocks_from left m
-blocks_left phase.Wakes m left = Wakes m ∷ Ticks ∷ Sleeps m ∷ Clock ∷ blocks_from left (m + 1)
-blocks_left phase.Ticks m left = Ticks ∷ Sleeps m ∷ Clock ∷ blocks_from left (m + 1)
-blocks_left phase.Sleeps m left = Sleeps m ∷ Clock ∷ blocks_from left (m + 1)
-blocks_left phase.Clock m left = Clock ∷ blocks_from left (m + 1)
+blocks_left p m left = drop (phase_number p) (blocks_from left m)
 
 -- the state for which a driver's fields stand: events that are pending, blocks behind them, memory
 abbrev pub state_of : Inside → DriverState
@@ -82,14 +78,6 @@ state_of d = record {
   memory = record { due = d.due.items; ran = d.ran.items };
 }
 
--- whether the millisecond has begun
-abbrev pub begun_ms : Phase → ℕ
-begun_ms phase.Changes = 0
-begun_ms phase.Wakes = 1
-begun_ms phase.Ticks = 1
-begun_ms phase.Sleeps = 1
-begun_ms phase.Clock = 1
-
 -- there is room for the events of a block, and no time grows out of its range
 pub record IsKept (d : Inside) : Type 0 where
   pub room : 1024 ≤ vec_capacity d.events
@@ -99,5 +87,5 @@ pub record IsKept (d : Inside) : Type 0 where
   pub few_changes : length d.changes.items ≤ 1024
   pub due : length d.due.items ≡ length d.timings.items
   pub ran : length d.ran.items ≡ length d.timings.items
-  pub times : d.clock + d.left + begun_ms d.phase ≤ max_ms
+  pub times : d.clock + d.left ≤ max_ms
   pub sleeps : (t : ℕ) → t < length d.timings.items → (timing_at d.timings.items t).sleep ≤ max_ms

@@ -34,7 +34,7 @@ pub struct Driver {
     /// The block that comes next, in the millisecond `clock`.
     phase: Phase,
     clock: u32,
-    /// How many milliseconds haven't begun.
+    /// How many milliseconds aren't over.
     left: u32,
     /// When each task wakes.
     due: Vec<u32>,
@@ -122,10 +122,7 @@ impl Driver {
     fn has_block(&self) -> bool
         ensures { result ≡ not (is_empty self.now.blocks) }
     {
-        match self.phase {
-            Phase::Changes => 0 < self.left,
-            Phase::Wakes | Phase::Ticks | Phase::Sleeps | Phase::Clock => true,
-        }
+        0 < self.left
     }
 
     /// Blocks begin, one after another, until there is an event to answer.
@@ -168,7 +165,7 @@ impl Driver {
 
     /// The next block begins.
     #[inline(always)]
-    #[tactic(auto, using(crate::proofs::Remaining::begun_changes))]
+    #[tactic(auto, using(crate::proofs::Remaining::some_left, crate::proofs::Remaining::begun_changes, crate::proofs::Remaining::begun_ticks, crate::proofs::Remaining::begun_clock))]
     fn begin_block(&mut self, sim: &Sim)
         requires { not (is_empty self.old.blocks) ≡ true }
         ensures { self.new ≡ at_next_block self.old sim.now }
@@ -180,7 +177,6 @@ impl Driver {
         match self.phase {
             Phase::Changes => {
                 add_changes(&self.changes, now, events);
-                self.left -= 1;
                 self.phase = Phase::Wakes;
             }
             Phase::Wakes => {
@@ -198,6 +194,7 @@ impl Driver {
             Phase::Clock => {
                 events.push_reserved(Event::Clock);
                 self.clock += 1;
+                self.left -= 1;
                 self.phase = Phase::Changes;
             }
         }

@@ -1,21 +1,16 @@
-use arrayvec::ArrayVec;
 use std::alloc::{AllocError, Global};
 
-/// The most queues that a run has: 16 of the policy, 4 for all processors, and 64 of single ones.
-const MAX_QUEUES: usize = 84;
-
 /// How many tasks wait in the queue of that id.
-#[derive(Clone, Copy, Default)]
+#[derive(Clone, Copy)]
 pub(crate) struct Length {
     pub(crate) queue: u64,
     pub(crate) tasks: u64,
 }
 
-/// Which queue each task waits in, and how many wait in each queue.
+/// Which queue each task waits in, and so how many wait in each queue.
 #[derive(Drop)]
 pub(crate) struct Lengths {
     places: Vec<Option<u64>>,
-    queues: ArrayVec<Length, MAX_QUEUES>,
 }
 
 impl Lengths {
@@ -23,7 +18,6 @@ impl Lengths {
     pub(crate) fn new(alloc: Global, tasks: usize) -> Result<Lengths, AllocError> {
         Ok(Lengths {
             places: vec![in alloc; None; tasks]?,
-            queues: ArrayVec::new(),
         })
     }
 
@@ -35,27 +29,12 @@ impl Lengths {
         before
     }
 
-    /// One task more waits in that queue.
-    pub(crate) fn add(&mut self, queue: u64) -> Length {
-        for length in self.queues.as_mut_slice() {
-            if length.queue == queue {
-                length.tasks = length.tasks.saturating_add(1);
-                return *length;
-            }
+    /// How many tasks wait in that queue now.
+    pub(crate) fn length_of(&self, queue: u64) -> Length {
+        let waiting = self.places.iter().filter(|place| **place == Some(queue));
+        Length {
+            queue,
+            tasks: waiting.count() as u64,
         }
-        let length = Length { queue, tasks: 1 };
-        let _ = self.queues.try_push(length);
-        length
-    }
-
-    /// One task less waits in that queue.
-    pub(crate) fn take(&mut self, queue: u64) -> Length {
-        for length in self.queues.as_mut_slice() {
-            if length.queue == queue {
-                length.tasks = length.tasks.saturating_sub(1);
-                return *length;
-            }
-        }
-        Length { queue, tasks: 0 }
     }
 }

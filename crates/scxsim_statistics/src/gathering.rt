@@ -303,13 +303,11 @@ fn group_figures(
     let runs = group_runs(alloc, workload, tasks)?;
     let total = total_run(tasks);
     let mut groups = Vec::with_capacity(alloc, runs.len())?;
-    let mut group = 0u32;
-    for run in runs.as_slice() {
+    for (group, &run) in runs.iter().enumerate() {
         groups.push(GroupFigures {
-            reached: percent(*run, total),
+            reached: percent(run, total),
             due: due_percent(shares.due(group), total),
         })?;
-        group = group.saturating_add(1);
     }
     Ok(groups)
 }

@@ -21,56 +21,41 @@ pub(crate) fn write_list(figures: &Figures, page: &mut String) -> Result<(), All
 }
 
 fn list_tasks(figures: &Figures, page: &mut String) -> Result<(), AllocError> {
-    let mut number = 0u16;
-    for task in figures.tasks.as_slice() {
+    for (number, task) in figures.tasks.iter().enumerate() {
         list_task(figures.task_name(number), task, page)?;
-        number = number.saturating_add(1);
     }
     Ok(())
 }
 
 fn list_cpus(cpus: &[CpuFigures], page: &mut String) -> Result<(), AllocError> {
-    let mut number = 0u32;
-    for cpu in cpus {
+    for (number, cpu) in cpus.iter().enumerate() {
         list_cpu(decimal(number).as_str(), cpu, page)?;
-        number = number.saturating_add(1);
     }
     Ok(())
 }
 
 fn list_groups(figures: &Figures, page: &mut String) -> Result<(), AllocError> {
-    let mut number = 0u32;
-    for group in figures.groups.as_slice() {
+    for (number, group) in figures.groups.iter().enumerate() {
         list_group(figures.group_name(number), group, page)?;
-        number = number.saturating_add(1);
     }
     Ok(())
 }
 
 /// Writes for how long each task was parked.
 fn list_parked(figures: &Figures, page: &mut String) -> Result<(), AllocError> {
-    let mut number = 0u16;
-    for task in figures.tasks.as_slice() {
-        list(
-            page,
-            "task",
-            figures.task_name(number),
-            "parked_ms",
-            task.parked,
-        )?;
-        number = number.saturating_add(1);
+    for (number, task) in figures.tasks.iter().enumerate() {
+        let name = figures.task_name(number);
+        list(page, "task", name, "parked_ms", task.parked)?;
     }
     Ok(())
 }
 
 /// Writes the figures of each group that has a quota.
 fn list_quotas(figures: &Figures, page: &mut String) -> Result<(), AllocError> {
-    let mut number = 0u32;
-    for group in figures.quotas.groups.as_slice() {
+    for (number, group) in figures.quotas.groups.iter().enumerate() {
         if let Some(quota_ms) = group.quota_ms {
             list_quota(figures.group_name(number), quota_ms, group, page)?;
         }
-        number = number.saturating_add(1);
     }
     Ok(())
 }

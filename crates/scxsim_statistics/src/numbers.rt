@@ -9,7 +9,7 @@ pub(crate) fn hundredths(number: u64) -> ArrayString<32> {
 }
 
 /// A number in decimal digits.
-pub(crate) fn decimal(number: u32) -> ArrayString<16> {
+pub(crate) fn decimal(number: usize) -> ArrayString<32> {
     let mut text = ArrayString::new();
     let _ = write!(text, "{number}");
     text

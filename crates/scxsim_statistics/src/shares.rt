@@ -97,8 +97,8 @@ impl Shares {
     }
 
     /// What was due to the group.
-    pub(crate) fn due(&self, group: u32) -> u64 {
-        match self.groups.get(group as usize) {
+    pub(crate) fn due(&self, group: usize) -> u64 {
+        match self.groups.get(group) {
             Some(group) => group.due,
             None => 0,
         }

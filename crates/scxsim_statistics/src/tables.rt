@@ -37,14 +37,12 @@ fn write_tasks(figures: &Figures, page: &mut String) -> Result<(), AllocError> {
         page.push_str(PARKED)?;
     }
     page.push_str("\n")?;
-    let mut number = 0u16;
-    for task in figures.tasks.as_slice() {
+    for (number, task) in figures.tasks.iter().enumerate() {
         write_task(figures.task_name(number), task, page)?;
         if are_parked {
             write_numbers(&[task.parked], page)?;
         }
         page.push_str("\n")?;
-        number = number.saturating_add(1);
     }
     Ok(())
 }
@@ -73,24 +71,20 @@ fn write_numbers(numbers: &[u64], page: &mut String) -> Result<(), AllocError> {
 
 fn write_cpus(cpus: &[CpuFigures], page: &mut String) -> Result<(), AllocError> {
     page.push_str(CPUS)?;
-    let mut number = 0u32;
-    for cpu in cpus {
+    for (number, cpu) in cpus.iter().enumerate() {
         writeln!(
             page,
             "{:<16}{:>9}{:>9}{:>12}",
             number, cpu.busy, cpu.idle, cpu.changes
         )?;
-        number = number.saturating_add(1);
     }
     Ok(())
 }
 
 fn write_groups(figures: &Figures, page: &mut String) -> Result<(), AllocError> {
     page.push_str(GROUPS)?;
-    let mut number = 0u32;
-    for group in figures.groups.as_slice() {
+    for (number, group) in figures.groups.iter().enumerate() {
         write_group(figures.group_name(number), group, page)?;
-        number = number.saturating_add(1);
     }
     Ok(())
 }
@@ -108,12 +102,10 @@ fn write_group(name: &str, group: &GroupFigures, page: &mut String) -> Result<()
 /// Writes a line for each group that has a quota.
 fn write_quotas(figures: &Figures, page: &mut String) -> Result<(), AllocError> {
     page.push_str(QUOTAS)?;
-    let mut number = 0u32;
-    for group in figures.quotas.groups.as_slice() {
+    for (number, group) in figures.quotas.groups.iter().enumerate() {
         if let Some(quota_ms) = group.quota_ms {
             write_quota(figures.group_name(number), quota_ms, group, page)?;
         }
-        number = number.saturating_add(1);
     }
     Ok(())
 }

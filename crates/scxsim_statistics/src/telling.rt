@@ -15,12 +15,20 @@ use scxsim_trace::Names;
 use std::alloc::{AllocError, Global};
 
 impl Figures {
-    pub(crate) fn task_name(&self, task: u16) -> &str {
-        self.workload.task(task)
+    /// The name of the task of that number; an empty one where there is none.
+    pub(crate) fn task_name(&self, number: usize) -> &str {
+        match u16::try_from(number) {
+            Ok(task) => self.workload.task(task),
+            Err(_) => "",
+        }
     }
 
-    pub(crate) fn group_name(&self, group: u32) -> &str {
-        self.workload.group(group)
+    /// The name of the group of that number; an empty one where there is none.
+    pub(crate) fn group_name(&self, number: usize) -> &str {
+        match u32::try_from(number) {
+            Ok(group) => self.workload.group(group),
+            Err(_) => "",
+        }
     }
 }
 
