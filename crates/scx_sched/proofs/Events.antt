@@ -1,5 +1,5 @@
 -- Each event keeps what holds between two events.
-use Rattle.std.proofs.Common.{◌≡◌, ℕ, zero, suc, not, ◌+◌, ◌<◌, ◌≤◌, Bool, true, false, ◌&&◌, ◌==◌, nat_lt, ◌⊎◌, inl, inr, if◌then◌else◌, cond, List, length, set, get_or, Option, Some, None, is_none, refl, sym, ap, ◌∙◌, subst, arith}
+use Rattle.std.proofs.Common.{unwrap_or, ◌≡◌, ℕ, zero, suc, not, ◌+◌, ◌<◌, ◌≤◌, Bool, true, false, ◌&&◌, ◌==◌, nat_lt, ◌⊎◌, inl, inr, if◌then◌else◌, cond, List, length, set, get_or, Option, Some, None, is_none, refl, sym, ap, ◌∙◌, subst, arith}
 use Rattle.std.proofs.lemmas.Bool.{cases_lt, eq-eqb, lt-ltb}
 use Rattle.std.proofs.lemmas.Bool.Decides.{nat_tests}
 use Rattle.std.proofs.lemmas.List.{length-set, get_or-set_same, get_or_past}
@@ -12,7 +12,7 @@ use Rattle.scx_weights.specs.Limits.{with_use}
 use Rattle.scx_weights.specs.Limits as limits
 use Rattle.scx_weights.specs.Refusals.{weight_fault}
 use Rattle.scx_vm.specs.Programs.{VerifiedProgram}
-use Rattle.scx_sched_world.specs.World.{WorldState, with_tree, task_at, is_this, is_runnable, is_throttled, running, cpu_of, is_idle, this_if, or_this, idle_below, first_idle, or_else, default_choice}
+use Rattle.scx_sched_world.specs.World.{WorldState, with_tree, task_at, is_this, is_runnable, is_throttled, running, cpu_of, is_idle, this_if, or_this, idle_below, first_idle, default_choice}
 use Rattle.scx_sched_world.specs.Tasks.{after_wake, after_sleep, after_leave, after_stop, let_go, ran_a_tick, after_tick, used_ms, later, begun_periods, after_reweigh}
 use Rattle.scx_sched_machine.specs.declared.events.Event.{Event}
 use Rattle.scx_sched_machine.specs.declared.events.Event.TheVariants.{Wake, Sleep, Tick, Clock, SetWeight}
@@ -62,13 +62,13 @@ idle_is_there (suc m) w c e = go (idle_below m w) (λ x. idle_is_there m w c x) 
   where
     go : (o : Option ℕ) → (o ≡ Some c → c < m) → (b : Bool) → or_this o (this_if b m) ≡ Some c → c < suc m
     go (Some d) f b x = omega (arith, f x)
-    go None f true x = let is : m ≡ c = ap (λ o. or_else o m) x in omega (arith, is)
+    go None f true x = let is : m ≡ c = ap (λ o. unwrap_or o m) x in omega (arith, is)
     go None f false x = absurd (cc)
 
 choice_is_there : (w : WorldState) (t : ℕ) → (task_at w t).prev_cpu < length w.cpus → default_choice w t < length w.cpus
 choice_is_there w t home = go (is_idle w (task_at w t).prev_cpu) (first_idle w) refl
   where
-    go : (b : Bool) (o : Option ℕ) → first_idle w ≡ o → (if b then (task_at w t).prev_cpu else or_else o (task_at w t).prev_cpu) < length w.cpus
+    go : (b : Bool) (o : Option ℕ) → first_idle w ≡ o → (if b then (task_at w t).prev_cpu else unwrap_or o (task_at w t).prev_cpu) < length w.cpus
     go true o e = home
     go false None e = home
     go false (Some c) e = idle_is_there (length w.cpus) w c e

@@ -1,8 +1,8 @@
 -- The default choice of a processor is the one that the rules allow.
-use Rattle.std.proofs.Common.{◌≡◌, ℕ, zero, suc, ◌<◌, ◌≤◌, Bool, true, false, nat_lt, ◌⊎◌, inl, inr, if◌then◌else◌, length, Option, Some, None, refl, ap, ◌∙◌, arith}
+use Rattle.std.proofs.Common.{unwrap_or, ◌≡◌, ℕ, zero, suc, ◌<◌, ◌≤◌, Bool, true, false, nat_lt, ◌⊎◌, inl, inr, if◌then◌else◌, length, Option, Some, None, refl, ap, ◌∙◌, arith}
 use Rattle.std.proofs.lemmas.Bool.{cases_eq, cases_lt}
 use Rattle.std.proofs.lemmas.Bool.Decides.{nat_tests}
-use Rattle.scx_sched_world.specs.World.{WorldState, task_at, is_idle, this_if, or_this, idle_below, first_idle, or_else, default_choice}
+use Rattle.scx_sched_world.specs.World.{WorldState, task_at, is_idle, this_if, or_this, idle_below, first_idle, default_choice}
 use Rattle.scx_sched_rules.specs.Helpers.{IsChoice, LastRan, Lowest, NoneIdle}
 
 not_both : (b : Bool) → b ≡ true → b ≡ false → ⊥
@@ -31,7 +31,7 @@ is_lowest (suc n) w c e = go (idle_below n w) (is_idle w n) refl refl e (λ x. i
     go : (o : Option ℕ) (b : Bool) → idle_below n w ≡ o → is_idle w n ≡ b → or_this o (this_if b n) ≡ Some c → (idle_below n w ≡ Some c → IsLowest n w c) → IsLowest (suc n) w c
     go (Some d) b x y z f = let h = f (x ∙ z) in record { within = omega (arith, h.within); idle = h.idle; below = h.below }
     go None true x y z f =
-        let is : n ≡ c = ap (λ o. or_else o n) z in
+        let is : n ≡ c = ap (λ o. unwrap_or o n) z in
         record { within = omega (arith, is); idle = rw (← is) y; below = λ d l. no_idle n w x d (omega (arith, l, is)) }
     go None false x y z f = absurd (cc)
 
@@ -46,7 +46,7 @@ all_busy w e c = go (cases_lt c (length w.cpus))
 pub is_choice : (w : WorldState) (t : ℕ) → IsChoice w t (default_choice w t)
 is_choice w t = go (is_idle w (task_at w t).prev_cpu) refl (first_idle w) refl
   where
-    go : (b : Bool) → is_idle w (task_at w t).prev_cpu ≡ b → (o : Option ℕ) → first_idle w ≡ o → IsChoice w t (if b then (task_at w t).prev_cpu else or_else o (task_at w t).prev_cpu)
+    go : (b : Bool) → is_idle w (task_at w t).prev_cpu ≡ b → (o : Option ℕ) → first_idle w ≡ o → IsChoice w t (if b then (task_at w t).prev_cpu else unwrap_or o (task_at w t).prev_cpu)
     go true e o x = LastRan e refl
     go false e (Some c) x = let h = is_lowest (length w.cpus) w c x in Lowest e h.idle h.below
     go false e None x = NoneIdle (all_busy w x) refl
@@ -61,11 +61,11 @@ only_choice w t c (Lowest e i below) = rw e (go (first_idle w) refl)
     one d j above (inr l) (inl m) = absurd (not_both (is_idle w d) j (below d m))
     one d j above (inr l) (inr m) = omega (arith, l, m)
 
-    go : (o : Option ℕ) → first_idle w ≡ o → c ≡ or_else o (task_at w t).prev_cpu
+    go : (o : Option ℕ) → first_idle w ≡ o → c ≡ unwrap_or o (task_at w t).prev_cpu
     go (Some d) x = let h = is_lowest (length w.cpus) w d x in one d h.idle h.below (cases_lt c d) (cases_lt d c)
     go None x = absurd (not_both (is_idle w c) i (all_busy w x c))
 only_choice w t c (NoneIdle all k) = rw (all (task_at w t).prev_cpu) (go (first_idle w) refl)
   where
-    go : (o : Option ℕ) → first_idle w ≡ o → c ≡ or_else o (task_at w t).prev_cpu
+    go : (o : Option ℕ) → first_idle w ≡ o → c ≡ unwrap_or o (task_at w t).prev_cpu
     go (Some d) x = let h = is_lowest (length w.cpus) w d x in absurd (not_both (is_idle w d) h.idle (all d))
     go None x = k

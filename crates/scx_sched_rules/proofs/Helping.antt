@@ -1,5 +1,5 @@
 -- What a helper answers and leaves is allowed, and nothing else is.
-use Rattle.std.proofs.Common.{◌≡◌, ℕ, suc, ◌-◌, ◌*◌, ◌<◌, ◌≤◌, Bool, true, false, ◌==◌, ◌&&◌, ◌||◌, not, nat_lt, nat_le, ◌⊎◌, inl, inr, if◌then◌else◌, List, [], ◌∷◌, length, get_or, Option, Some, None, is_none, option_map, refl, sym, ◌∙◌, ap, arith}
+use Rattle.std.proofs.Common.{unwrap_or, ◌≡◌, ℕ, suc, ◌-◌, ◌*◌, ◌<◌, ◌≤◌, Bool, true, false, ◌==◌, ◌&&◌, ◌||◌, not, nat_lt, nat_le, ◌⊎◌, inl, inr, if◌then◌else◌, List, [], ◌∷◌, length, get_or, Option, Some, None, is_none, option_map, refl, sym, ◌∙◌, ap, arith}
 use Rattle.std.specs.List.{list_any}
 use Rattle.std.proofs.lemmas.List.{get_or_past}
 use Rattle.std.proofs.lemmas.List.Folds.{list_any_at}
@@ -24,7 +24,7 @@ use Rattle.scx_sched_world.specs.declared.call.Insert.{Insert}
 use Rattle.scx_sched_world.specs.declared.faults.Fault.{Fault}
 use Rattle.scx_sched_world.specs.declared.faults.Fault.TheVariants.{Stuck, NoSuchQueue, CannotInsert, NoSuchCpu, UnknownFlag, CannotCreate, BuiltinVtime, Mixed}
 use Rattle.scx_sched_world.specs.Ids.{policy_end, global, local, held_queue, local_on}
-use Rattle.scx_sched_world.specs.World.{WorldState, with_queues, is_idle, or_else}
+use Rattle.scx_sched_world.specs.World.{WorldState, with_queues, is_idle}
 use Rattle.scx_sched_world.specs.Helpers.{invalid, with_fault, given_number, given_task, is_there, can_create, is_at_hand, is_held, is_dispatch, may_insert_in, may_insert, queue_fault, is_vtime, rank_fault, or_fault, insert_fault, insert_or_fault, invalid_if, insert_of, insert_of_vtime, choice_answer, pid_answer, can_move, front_moved_to_local, one_if_some, helper_answer, helper_after}
 use Rattle.scx_sched_rules.specs.Helpers.{IsPolicyQueue, IsDestination, Own, Global, Local, LocalOn, NamesNoCpu, CanCreate, MayInsert, InSelectCpu, InEnqueue, InDispatch, IsBuiltinVtime, IsMixed, MayMove, JudgesInsert, Judges, Inserts, Keeps, Releases, Moves, Front, Empty, Chooses, OfTask, OfNobody, Tells, TellsIdle, TellsBusy, Finds, Found, Nobody, IsEffect, Done, FindsTask, Wrong}
 use Rattle.scx_sched_rules.specs.Laws.{RulesAllowHelpers, RulesAllowHelpersOnly}
@@ -202,7 +202,7 @@ held_is (Some p) e = ap Some (grind (arith, nat_tests, e))
 
 held_of : (o : Option Entry) → option_map (λ p. p.queue) o ≡ Some held_queue → is_in held_queue o ≡ true
 held_of None e = absurd (cc)
-held_of (Some p) e = let is : p.queue ≡ held_queue = ap (λ x. or_else x 0) e in eq-eqb p.queue held_queue is
+held_of (Some p) e = let is : p.queue ≡ held_queue = ap (λ x. unwrap_or x 0) e in eq-eqb p.queue held_queue is
 
 insert_is : (w : WorldState) (t : Option ℕ) → may_insert w t ≡ true → MayInsert w t
 insert_is w t e = go w.call.callback refl e

@@ -10,7 +10,7 @@ use Rattle.scx_sched_world.specs.declared.notes.Note.{Note}
 use Rattle.scx_sched_world.specs.declared.notes.What.{What}
 use Rattle.scx_sched_world.specs.declared.notes.What.TheVariants as note
 use Rattle.scx_sched_world.specs.Ids.{builtin_queue}
-use Rattle.scx_sched_world.specs.World.{WorldState, with_queues, with_call, with_builtin_clock, with_ejected, task_at, with_task, waits, running, note_now}
+use Rattle.scx_sched_world.specs.World.{WorldState, with_queues, task_at, with_task, waits, running, note_now}
 use Rattle.scx_sched_tasks.specs.Tasks.{default_slice}
 use Rattle.scx_sched_world.specs.Tasks.{with_slice, with_builtin, after_leave}
 use Rattle.scx_sched_world.specs.Helpers.{weight_at}
@@ -32,7 +32,7 @@ put_builtin w t =
 
 -- the clock is at least as late as the task that runs
 abbrev pub after_catch_up : WorldState → ℕ → WorldState
-after_catch_up w t = with_builtin_clock w (max w.builtin_clock (task_at w t).builtin)
+after_catch_up w t = record w { builtin_clock = max w.builtin_clock (task_at w t).builtin }
 
 -- what a task used of its slice, the more the less it weighs
 abbrev pub used_vtime : WorldState → ℕ → ℕ
@@ -56,7 +56,7 @@ without_insert c = record c { insert = None; has_moved = false }
 
 -- the policy is out of force, for that cause
 abbrev pub put_out : WorldState → Eject → WorldState
-put_out w x = with_call (with_ejected w (Some x)) (without_insert w.call)
+put_out w x = record w { ejected = Some x; call = without_insert w.call }
 
 -- a task that waits in any queue waits for the built-in scheduler
 abbrev pub evict : WorldState → ℕ → WorldState

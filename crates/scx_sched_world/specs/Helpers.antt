@@ -27,7 +27,7 @@ use Rattle.scx_sched_world.specs.declared.faults.Fault.TheVariants.{NoSuchQueue,
 use Rattle.scx_sched_world.specs.declared.call.Insert.{Insert}
 use Rattle.scx_sched_world.specs.declared.notes.What.TheVariants as notes
 use Rattle.scx_sched_world.specs.Ids.{policy_end, global, local, held_queue, local_on}
-use Rattle.scx_sched_world.specs.World.{WorldState, with_queues, with_call, task_at, with_task, is_idle, default_choice, with_note}
+use Rattle.scx_sched_world.specs.World.{WorldState, with_queues, task_at, with_task, is_idle, default_choice, with_note}
 use Rattle.scx_sched_world.specs.Tasks.{with_slice, with_vtime, after_leave, after_enter, for_cpu}
 
 -- -22 as a number of 64 bits
@@ -38,15 +38,13 @@ invalid = 0xffff_ffff_ffff_ffea
 
 -- the number that an argument is; 0 where it is a task or not set
 abbrev pub number_of : Arg → ℕ
-number_of argument.Unset = 0
 number_of (argument.Num n) = n
-number_of (argument.Task t) = 0
+number_of a = 0
 
 -- the task that an argument points to; none where it is a number or not set
 abbrev pub task_of : Arg → Option ℕ
-task_of argument.Unset = None
-task_of (argument.Num n) = None
 task_of (argument.Task t) = Some t.0
+task_of a = None
 
 -- the number in the argument at that index, from 0; 0 where no number is given there
 abbrev pub given_number : List Arg → ℕ → ℕ
@@ -69,7 +67,7 @@ first_fault (Some first) f = Some first
 
 -- the callback at hand has that fault, unless it had one before; nothing else is changed
 abbrev pub with_fault : WorldState → Fault → WorldState
-with_fault w f = with_call w (record w.call { fault = first_fault w.call.fault f })
+with_fault w f = record w { call = record w.call { fault = first_fault w.call.fault f } }
 
 -- what a call answers that only does something: -22 where it has a fault, else 0
 abbrev pub invalid_if : Option Fault → ℕ
@@ -169,11 +167,11 @@ insert_fault w t i flags =
 
 -- the insert is kept until the callback ends
 abbrev pub with_insert : WorldState → Insert → WorldState
-with_insert w i = with_call w (record w.call { insert = Some i })
+with_insert w i = record w { call = record w.call { insert = Some i } }
 
 -- the callback brought a task to a queue
 abbrev pub with_move : WorldState → WorldState
-with_move w = with_call w (record w.call { has_moved = true })
+with_move w = record w { call = record w.call { has_moved = true } }
 
 -- a held task goes at once to where the insert wants it
 abbrev pub after_release : WorldState → Option ℕ → Insert → WorldState
@@ -283,10 +281,7 @@ helper_after w DsqInsertVtime a =
 helper_after w DsqMoveToLocal a = after_move w (given_number a 0)
 helper_after w CpuIdle a = after_idle w (given_number a 0)
 helper_after w DsqNrQueued a = after_queued w (given_number a 0)
-helper_after w KtimeGetNs a = w
-helper_after w SelectCpuDfl a = w
-helper_after w TaskByPid a = w
-helper_after w MapLookupElem a = w
+helper_after w h a = w
 
 -- ---- the record of a task
 
@@ -312,11 +307,7 @@ field_of w t RunNs = (task_at w t).run_ns
 abbrev pub stored_in : Task → Field → ℕ → Task
 stored_in x Slice n = with_slice x n
 stored_in x DsqVtime n = with_vtime x n
-stored_in x Pid n = x
-stored_in x Weight n = x
-stored_in x PrevCpu n = x
-stored_in x Group n = x
-stored_in x RunNs n = x
+stored_in x f n = x
 
 -- what a load of a field of a task reads
 abbrev pub world_number : WorldState → TaskId → Field → ℕ

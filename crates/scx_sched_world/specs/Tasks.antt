@@ -11,7 +11,7 @@ use Rattle.scx_sched_world.specs.declared.call.Insert.{Insert}
 use Rattle.scx_sched_tasks.specs.declared.task.Task.{Task}
 use Rattle.scx_sched_tasks.specs.Tasks.{default_slice}
 use Rattle.scx_sched_world.specs.Ids.{global, local, held_queue, parked_queue, local_on}
-use Rattle.scx_sched_world.specs.World.{WorldState, with_clock, with_queues, with_tree, task_at, with_task, with_cpu}
+use Rattle.scx_sched_world.specs.World.{WorldState, with_queues, with_tree, task_at, with_task, with_cpu}
 
 -- ---- one field of a task changed
 
@@ -26,10 +26,6 @@ with_slice x n = record x { slice = n }
 -- the record of a task with that virtual time, as programs see it
 abbrev pub with_vtime : Task → ℕ → Task
 with_vtime x n = record x { vtime = n }
-
--- the record of a task that ran last on that processor
-abbrev pub with_prev_cpu : Task → ℕ → Task
-with_prev_cpu x n = record x { prev_cpu = n }
 
 -- the record of a task with that virtual time under the built-in scheduler
 abbrev pub with_builtin : Task → ℕ → Task
@@ -120,7 +116,7 @@ after_stop w c t = with_cpu (with_task w t (with_since (task_at w t) (Some w.clo
 
 -- a task that runs waits no more
 abbrev pub on_cpu : Task → ℕ → Task
-on_cpu x c = with_since (with_prev_cpu x c) None
+on_cpu x c = record x { since = None; prev_cpu = c }
 
 -- that task, the front of the local queue, leaves it and runs on the processor; or none does
 abbrev pub started_at : Option ℕ → WorldState → ℕ → WorldState
@@ -181,7 +177,7 @@ after_tick w t = with_task w t (ran_a_tick (task_at w t))
 
 -- the clock is a millisecond later
 abbrev pub later : WorldState → WorldState
-later w = with_clock w (w.clock + 1)
+later w = record w { clock = w.clock + 1 }
 
 -- the task's groups have used a millisecond more
 abbrev pub used_ms : WorldState → ℕ → WorldState

@@ -1,5 +1,5 @@
 -- The world that a policy's programs see and change, and its parts.
-use Rattle.std.specs.Prelude.{ℕ, zero, suc, Bool, false, ◌==◌, ◌&&◌, not, nat_lt, List, [], ◌∷◌, ◌++◌, length, if◌then◌else◌, Option, Some, None, is_none, slice_index_or, slice_set, position}
+use Rattle.std.specs.Prelude.{ℕ, zero, suc, Bool, false, ◌==◌, ◌&&◌, not, nat_lt, List, [], ◌∷◌, ◌++◌, length, if◌then◌else◌, Option, Some, None, is_none, unwrap_or, slice_index_or, slice_set, position}
 use Rattle.scx_dsq.specs.Queues.{QueueState, queue_of}
 use Rattle.scx_weights.specs.Hierarchy.{Hierarchy, is_active_task}
 use Rattle.scx_weights.specs.Limits as limits
@@ -29,18 +29,6 @@ pub record WorldState : Type 0 where
 
 -- ---- one part changed
 
--- the world at that clock, in milliseconds
-abbrev pub with_clock : WorldState → ℕ → WorldState
-with_clock w x = record w { clock = x }
-
--- the world with these records of tasks
-abbrev pub with_tasks : WorldState → List Task → WorldState
-with_tasks w x = record w { tasks = x }
-
--- the world with these tasks, or none, on its processors
-abbrev pub with_cpus : WorldState → List (Option ℕ) → WorldState
-with_cpus w x = record w { cpus = x }
-
 -- the world with a scheduling cycle under way on that processor, or with none
 abbrev pub with_cycling : WorldState → Option ℕ → WorldState
 with_cycling w x = record w { cycling = x }
@@ -53,22 +41,6 @@ with_queues w x = record w { queues = x }
 abbrev pub with_tree : WorldState → Hierarchy → WorldState
 with_tree w x = record w { tree = x }
 
--- the world with that callback at hand, and what it did so far
-abbrev pub with_call : WorldState → Call → WorldState
-with_call w x = record w { call = x }
-
--- the world with these notes of the callback at hand
-abbrev pub with_notes : WorldState → List Note → WorldState
-with_notes w x = record w { notes = x }
-
--- the world with that virtual time of the built-in scheduler
-abbrev pub with_builtin_clock : WorldState → ℕ → WorldState
-with_builtin_clock w x = record w { builtin_clock = x }
-
--- the world with that ejection of its policy, or with the policy in force
-abbrev pub with_ejected : WorldState → Option Eject → WorldState
-with_ejected w x = record w { ejected = x }
-
 -- ---- tasks and processors
 
 -- the record of a task; where there is no such task all is 0, and it doesn't wait
@@ -77,7 +49,7 @@ task_at w t = slice_index_or w.tasks t no_task
 
 -- past the end nothing is changed
 abbrev pub with_task : WorldState → ℕ → Task → WorldState
-with_task w t x = with_tasks w (slice_set w.tasks t x)
+with_task w t x = record w { tasks = slice_set w.tasks t x }
 
 -- whether a task is runnable, as from a wake until it sleeps; false where there is no such task
 abbrev pub is_runnable : WorldState → ℕ → Bool
@@ -107,7 +79,7 @@ running w c = slice_index_or w.cpus c None
 
 -- a processor runs that task, or none; where there is no such processor nothing is changed
 abbrev pub with_cpu : WorldState → ℕ → Option ℕ → WorldState
-with_cpu w c o = with_cpus w (slice_set w.cpus c o)
+with_cpu w c o = record w { cpus = slice_set w.cpus c o }
 
 -- whether a task or a processor is the given one; false where none is given
 abbrev pub is_this : ℕ → Option ℕ → Bool
@@ -140,16 +112,11 @@ idle_below (suc n) w = or_this (idle_below n w) (this_if (is_idle w n) n)
 abbrev pub first_idle : WorldState → Option ℕ
 first_idle w = idle_below (length w.cpus) w
 
--- a processor, and where it is missing that other one
-abbrev pub or_else : Option ℕ → ℕ → ℕ
-or_else None d = d
-or_else (Some c) d = c
-
 -- the processor on which the task ran last if it is idle, else the lowest idle one, else that one
 abbrev pub default_choice : WorldState → ℕ → ℕ
 default_choice w t =
     let prev = (task_at w t).prev_cpu in
-    if is_idle w prev then prev else or_else (first_idle w) prev
+    if is_idle w prev then prev else unwrap_or (first_idle w) prev
 
 -- ---- the callback at hand
 
@@ -166,18 +133,12 @@ no_call = record {
 
 -- no notes of a callback are left
 abbrev pub quiet : WorldState → WorldState
-quiet w = with_notes w []
+quiet w = record w { notes = [] }
 
 -- a callback begins, with that task and processor at hand
 abbrev pub at_callback : WorldState → Callback → ℕ → ℕ → WorldState
-at_callback w b t c = with_call (quiet w) (record {
-  callback = b;
-  task = t;
-  cpu = c;
-  insert = None;
-  has_moved = false;
-  fault = None;
-})
+at_callback w b t c =
+    record (quiet w) { call = record no_call { callback = b; task = t; cpu = c } }
 
 -- what is noted now
 abbrev pub note_now : WorldState → What → Note
@@ -185,4 +146,4 @@ note_now w x = record { clock = w.clock; what = x }
 
 -- the callback at hand has noted one thing more, at this clock
 abbrev pub with_note : WorldState → What → WorldState
-with_note w x = with_notes w (w.notes ++ note_now w x ∷ [])
+with_note w x = record w { notes = w.notes ++ note_now w x ∷ [] }
