@@ -1,6 +1,6 @@
 -- What a callback that isn't dispatch leaves as it was: it moves nobody, and so no more is pushed than an
 -- ejection pushes.
-use Rattle.std.proofs.Common.{◌≡◌, ℕ, zero, suc, ◌+◌, ◌≤◌, ◌&&◌, Bool, true, false, cond, nat_lt, List, length, map, Option, Some, None, is_some, is_none, refl, ap, ◌∙◌, subst, arith}
+use Rattle.std.proofs.Common.{◌≡◌, ℕ, zero, suc, ◌+◌, ◌≤◌, ◌&&◌, Bool, true, false, cond, nat_lt, List, length, map, Option, Some, None, is_some, is_none, refl, sym, ap, ◌∙◌, subst, arith}
 use Rattle.scx_dsq.specs.Queues.{QueueState}
 use Rattle.scx_dsq.specs.Calls.{create_refusal, with_queue, after_create}
 use Rattle.scx_isa_semantics.specs.declared.callbacks.Callback.{Callback}
@@ -31,6 +31,7 @@ use Rattle.scx_sched_machine.specs.Ejecting.{moves_over, eject, ejected_for}
 use Rattle.scx_sched_machine.specs.Budgets.{eject_pushes, enter_pushes, eject_left, pushes_due}
 use Rattle.scx_sched_machine.specs.Callbacks.{call_ending, call_back, acting, unless_ejected, fault_of, after_callback, is_calm}
 use Rattle.scx_sched_machine.specs.Put.{enters, enters_builtin, comes_in, enqueue_choice}
+use Rattle.scx_sched_machine.proofs.Choices.{keeps_if}
 use Rattle.scx_sched_machine.proofs.HelperCalls.{by_helper}
 
 -- ---- why the policy was put out of force, if it was
@@ -100,10 +101,6 @@ module _ (v : WorldState) where
 
   calm_faulted : (w : WorldState) (f : Fault) → IsCalm v w → IsCalm v (with_fault w f)
   calm_faulted w f h = calm_as w (with_fault w f) refl refl refl refl h
-
-  cannot_move : (b c : Bool) → b ≡ false → (b && c) ≡ false
-  cannot_move true c e = absurd (cc)
-  cannot_move false c e = refl
 
   calm_helper : (w : WorldState) (f : Helper) (a : List Arg) → IsCalm v w → IsCalm v (helper_after w f a)
   calm_helper w f a h = by_helper (IsCalm v) w (record {
