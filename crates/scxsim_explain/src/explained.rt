@@ -9,7 +9,7 @@ ghost use Rattle.scxsim_explain.specs.Explained.{first_line};
 ghost use Rattle.scxsim_explain.specs.Listed.{line_on, first_lines};
 
 use crate::writing::room_for_line;
-use scx_isa::{Callback, PerCallback, Program};
+use scx_isa::{CALLBACKS, Callback, PerCallback, Program};
 use scx_load_policies::PolicyText;
 use scx_maps::MapDefs;
 use scx_verify_explain::{Explanation, Jumps, Listing, explanation_of};
@@ -79,15 +79,12 @@ fn explain_programs(
         ≡ map first_line programs.old.items ++ first_lines verdicts) }
     ensures memory { IfErr result (λ refusal. refusal ≡ NoMemory) }
 {
-    Ok(PerCallback {
-        init: explain_callback(alloc, policy, Callback::Init, programs)?,
-        enable: explain_callback(alloc, policy, Callback::Enable, programs)?,
-        select_cpu: explain_callback(alloc, policy, Callback::SelectCpu, programs)?,
-        enqueue: explain_callback(alloc, policy, Callback::Enqueue, programs)?,
-        dispatch: explain_callback(alloc, policy, Callback::Dispatch, programs)?,
-        running: explain_callback(alloc, policy, Callback::Running, programs)?,
-        stopping: explain_callback(alloc, policy, Callback::Stopping, programs)?,
-    })
+    let mut verdicts = PerCallback::none();
+    for callback in CALLBACKS {
+        let verdict = explain_callback(alloc, policy, callback, programs)?;
+        verdicts.set(callback, verdict);
+    }
+    Ok(verdicts)
 }
 
 /// Takes the program of a callback out, if there is one, and explains it. The answer is the verdict on it.
