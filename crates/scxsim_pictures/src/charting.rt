@@ -104,13 +104,13 @@ impl Chart {
     fn enter(&mut self, moment: u64, track: u32, task: u16, queue: u64) {
         self.page.second = Some(entry(moment, track, task, queue));
         self.place(moment, task, Some(queue));
-        self.page.fourth = Some(count(moment, self.lengths.length_of(queue)));
+        self.page.fourth = Some(count(moment, self.lengths.add(queue)));
     }
 
     /// The task waits in that queue from now on, or nowhere.
     fn place(&mut self, moment: u64, task: u16, queue: Option<u64>) {
         if let Some(before) = self.lengths.replace(task, queue) {
-            self.page.third = Some(count(moment, self.lengths.length_of(before)));
+            self.page.third = Some(count(moment, self.lengths.take(before)));
         }
     }
 }

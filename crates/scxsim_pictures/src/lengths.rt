@@ -1,16 +1,30 @@
+use arrayvec::ArrayVec;
 use std::alloc::{AllocError, Global};
 
+/// How many queues a policy may create.
+const POLICY_QUEUES: usize = 16;
+
+/// GLOBAL, that of the built-in scheduler, and those of held and of parked tasks.
+const SHARED_QUEUES: usize = 4;
+
+/// A local queue for each processor.
+const LOCAL_QUEUES: usize = 64;
+
+/// The most queues that a run has.
+const MAX_QUEUES: usize = POLICY_QUEUES + SHARED_QUEUES + LOCAL_QUEUES;
+
 /// How many tasks wait in the queue of that id.
-#[derive(Clone, Copy)]
+#[derive(Clone, Copy, Default)]
 pub(crate) struct Length {
     pub(crate) queue: u64,
     pub(crate) tasks: u64,
 }
 
-/// Which queue each task waits in, and so how many wait in each queue.
+/// Which queue each task waits in, and how many wait in each queue.
 #[derive(Drop)]
 pub(crate) struct Lengths {
     places: Vec<Option<u64>>,
+    queues: ArrayVec<Length, MAX_QUEUES>,
 }
 
 impl Lengths {
@@ -18,6 +32,7 @@ impl Lengths {
     pub(crate) fn new(alloc: Global, tasks: usize) -> Result<Lengths, AllocError> {
         Ok(Lengths {
             places: vec![in alloc; None; tasks]?,
+            queues: ArrayVec::new(),
         })
     }
 
@@ -29,12 +44,28 @@ impl Lengths {
         before
     }
 
-    /// How many tasks wait in that queue now.
-    pub(crate) fn length_of(&self, queue: u64) -> Length {
-        let waiting = self.places.iter().filter(|place| **place == Some(queue));
-        Length {
-            queue,
-            tasks: waiting.count() as u64,
+    /// One task more waits in that queue.
+    pub(crate) fn add(&mut self, queue: u64) -> Length {
+        for length in self.queues.as_mut_slice() {
+            if length.queue == queue {
+                length.tasks = length.tasks.saturating_add(1);
+                return *length;
+            }
         }
+        let length = Length { queue, tasks: 1 };
+        // A run has no more queues than there is room for.
+        let _ = self.queues.try_push(length);
+        length
+    }
+
+    /// One task less waits in that queue.
+    pub(crate) fn take(&mut self, queue: u64) -> Length {
+        for length in self.queues.as_mut_slice() {
+            if length.queue == queue {
+                length.tasks = length.tasks.saturating_sub(1);
+                return *length;
+            }
+        }
+        Length { queue, tasks: 0 }
     }
 }
