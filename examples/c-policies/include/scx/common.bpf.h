@@ -1,0 +1,585 @@
+/*
+ * What a sched_ext policy in C uses of the kernel, under the kernel's names, for the host. build puts this folder
+ * before all others, so a policy says #include <scx/common.bpf.h> here as there. docs/KERNEL.md says what stands
+ * in for what, and what isn't here.
+ *
+ * What build has to know of the code is left to it in three ways: a kernel function that isn't declared here as an
+ * INSTEAD is an unresolved symbol with its name; a field of a task stands where no map's value has a byte; and a
+ * NOTE is an instruction that no compiler writes.
+ */
+#ifndef SCX_COMMON_BPF_H
+#define SCX_COMMON_BPF_H
+
+typedef unsigned char u8;
+typedef unsigned short u16;
+typedef unsigned int u32;
+typedef unsigned long long u64;
+typedef signed char s8;
+typedef short s16;
+typedef int s32;
+typedef long long s64;
+typedef u8 __u8;
+typedef u16 __u16;
+typedef u32 __u32;
+typedef u64 __u64;
+typedef s32 __s32;
+typedef s64 __s64;
+typedef s32 pid_t;
+typedef unsigned long size_t;
+typedef _Bool bool;
+
+#define true 1
+#define false 0
+#define NULL ((void *)0)
+
+#define SEC(name) __attribute__((section(name), used))
+#define __always_inline inline __attribute__((always_inline))
+#define __noinline
+#define __weak
+#define __hidden
+#define __ksym
+#define __kptr
+#define __arena
+#define __maybe_unused __attribute__((unused))
+#define likely(condition) __builtin_expect(!!(condition), 1)
+#define unlikely(condition) __builtin_expect(!!(condition), 0)
+#define offsetof(type, member) __builtin_offsetof(type, member)
+#define container_of(pointer, type, member) ((type *)((char *)(pointer) - offsetof(type, member)))
+#define private(name) static __attribute__((section(".data." #name), aligned(8)))
+#define __contains(name, node)
+#define ARRAY_SIZE(array) (sizeof(array) / sizeof((array)[0]))
+#define barrier() asm volatile("" ::: "memory")
+#define READ_ONCE(variable) (*(const volatile __typeof__(variable) *)&(variable))
+#define WRITE_ONCE(variable, value) (*(volatile __typeof__(variable) *)&(variable) = (value))
+#define memset(to, byte, size) __builtin_memset(to, byte, size)
+#define memcpy(to, from, size) __builtin_memcpy(to, from, size)
+
+/* Stands in for a function of the kernel. It has no lines of its own: its code has those of the caller. */
+#define INSTEAD static inline __attribute__((always_inline, nodebug, unused))
+
+/* A jump to the next instruction, with a number in a field that jumps don't use. build takes it out and says what the number means. */
+#define NOTE(number) asm volatile(".byte 5, 0, 0, 0; .long %0" : : "i"(number))
+#define NOTE_PLAIN_ADD 1
+#define NOTE_NO_LOCK 2
+#define NOTE_NO_KICK 3
+#define NOTE_NOT_CLAIMED 4
+#define NOTE_TASK_STORAGE 5
+#define NOTE_ERROR 6
+
+/* A number or pointer of which clang knows nothing. So it tests this one and no copy of it. */
+#define FORGOTTEN(value) \
+	({ \
+		__typeof__(value) value_ = (value); \
+		asm volatile("" : "+r"(value_)); \
+		value_; \
+	})
+
+/* Maps, in the section .maps. */
+enum bpf_map_type {
+	BPF_MAP_TYPE_HASH = 1,
+	BPF_MAP_TYPE_ARRAY = 2,
+	BPF_MAP_TYPE_PERCPU_HASH = 5,
+	BPF_MAP_TYPE_PERCPU_ARRAY = 6,
+	BPF_MAP_TYPE_LRU_HASH = 9,
+	BPF_MAP_TYPE_ARRAY_OF_MAPS = 12,
+	BPF_MAP_TYPE_HASH_OF_MAPS = 13,
+	BPF_MAP_TYPE_QUEUE = 22,
+	BPF_MAP_TYPE_STACK = 23,
+	BPF_MAP_TYPE_RINGBUF = 27,
+	BPF_MAP_TYPE_TASK_STORAGE = 29,
+	BPF_MAP_TYPE_USER_RINGBUF = 31,
+	BPF_MAP_TYPE_CGRP_STORAGE = 32,
+	BPF_MAP_TYPE_ARENA = 33,
+};
+#define BPF_F_NO_PREALLOC 1
+#define BPF_F_MMAPABLE 1024
+#define BPF_ANY 0
+#define BPF_NOEXIST 1
+#define BPF_EXIST 2
+#define BPF_LOCAL_STORAGE_GET_F_CREATE 1
+
+#define __uint(name, number) int (*name)[number]
+#define __ulong(name, number) enum { name##_of_map = number } name
+#define __type(name, of) __typeof__(of) *name
+#define __array(name, of) __typeof__(of) *name[]
+
+/* Numbers of errors. */
+#define EPERM 1
+#define ENOENT 2
+#define ESRCH 3
+#define EAGAIN 11
+#define ENOMEM 12
+#define EBUSY 16
+#define EEXIST 17
+#define EINVAL 22
+#define ENOSPC 28
+
+struct kernfs_node {
+	u64 id;
+};
+struct cgroup {
+	struct kernfs_node *kn;
+	s32 level;
+};
+struct bpf_rb_node {
+	u64 numbers[4];
+};
+struct bpf_rb_root {
+	u64 numbers[2];
+};
+struct bpf_list_node {
+	u64 numbers[3];
+};
+struct bpf_list_head {
+	u64 numbers[2];
+};
+struct cpumask;
+struct bpf_cpumask;
+struct rq;
+struct bpf_iter_scx_dsq;
+struct scx_dump_ctx;
+struct scx_cgroup_init_args;
+struct scx_cpu_acquire_args;
+struct scx_cpu_release_args;
+struct scx_exit_task_args;
+struct scx_exit_info;
+struct user_exit_info;
+struct bpf_spin_lock {
+	u32 number;
+};
+struct bpf_timer {
+	u64 numbers[2];
+};
+struct scx_init_task_args {
+	bool fork;
+	struct cgroup *cgroup;
+};
+
+/*
+ * A task. The numbers at which its fields stand are build's affair: it knows them by their names, refuses those
+ * that aren't here with the line, and writes the host's number for the others. All are volatile, since a load or
+ * store takes a whole one.
+ */
+struct sched_ext_entity {
+	volatile u64 slice;
+	volatile u64 dsq_vtime;
+	const volatile u32 weight;
+	volatile u32 flags;
+	volatile s32 sticky_cpu;
+	volatile s32 holding_cpu;
+	volatile bool disallow;
+};
+struct sched_entity {
+	const volatile u64 sum_exec_runtime;
+};
+struct thread_info {
+	const volatile u32 cpu;
+};
+struct task_struct {
+	u8 below_fields[16384];
+	const volatile pid_t pid;
+	const volatile pid_t tgid;
+	struct sched_ext_entity scx;
+	struct sched_entity se;
+	struct thread_info thread_info;
+	const volatile u32 group;	/* of the host alone: the number of the task's group in the workload */
+	const volatile u32 flags;
+	const volatile s32 nr_cpus_allowed;
+	const volatile s32 static_prio;
+	const volatile s32 prio;
+	const volatile u32 policy;
+	const volatile u32 migration_disabled;
+	const struct cpumask *volatile cpus_ptr;
+	struct task_struct *volatile real_parent;
+	struct task_struct *volatile parent;
+	void *volatile mm;
+	char comm[16];
+};
+#define PF_IDLE 0x2
+#define PF_EXITING 0x4
+#define PF_KTHREAD 0x200000
+#define CLOCK_MONOTONIC 1
+#define BPF_F_TIMER_CPU_PIN 2
+#define BPF_MAX_LOOPS (8 * 1024 * 1024)
+#define NR_CPUS 1024
+
+/* Queues, slices and flags, with the kernel's numbers. */
+#define SCX_DSQ_FLAG_BUILTIN (1ull << 63)
+#define SCX_DSQ_FLAG_LOCAL_ON (1ull << 62)
+#define SCX_DSQ_INVALID SCX_DSQ_FLAG_BUILTIN
+#define SCX_DSQ_GLOBAL (SCX_DSQ_FLAG_BUILTIN | 1)
+#define SCX_DSQ_LOCAL (SCX_DSQ_FLAG_BUILTIN | 2)
+#define SCX_DSQ_LOCAL_ON (SCX_DSQ_FLAG_BUILTIN | SCX_DSQ_FLAG_LOCAL_ON)
+#define SCX_DSQ_LOCAL_CPU_MASK 0xffffffffull
+#define SCX_SLICE_DFL 20000000ull
+#define SCX_SLICE_INF (~0ull)
+#define SCX_ENQ_WAKEUP 1ull
+#define SCX_ENQ_CPU_SELECTED (1ull << 10)
+#define SCX_ENQ_REENQ (1ull << 40)
+#define SCX_ENQ_LAST (1ull << 41)
+#define SCX_WAKE_FORK 4
+#define SCX_WAKE_TTWU 8
+#define SCX_WAKE_SYNC 16
+#define SCX_DEQ_SLEEP 1ull
+#define SCX_KICK_IDLE 1ull
+#define SCX_KICK_PREEMPT 2ull
+#define SCX_KICK_WAIT 4ull
+#define SCX_PICK_IDLE_CORE 1ull
+#define SCX_OPS_KEEP_BUILTIN_IDLE 1ull
+#define SCX_OPS_ENQ_LAST 2ull
+#define SCX_OPS_ENQ_EXITING 4ull
+#define SCX_OPS_SWITCH_PARTIAL 8ull
+#define SCX_OPS_ENQ_MIGRATION_DISABLED 16ull
+#define SCX_OPS_ALLOW_QUEUED_WAKEUP 32ull
+#define SCX_OPS_BUILTIN_IDLE_PER_NODE 64ull
+#define SCX_OPS_HAS_CGROUP_WEIGHT 65536ull
+
+/* Flags that an insert can't have here. */
+extern u64 SCX_ENQ_HEAD(void);
+extern u64 SCX_ENQ_PREEMPT(void);
+#define SCX_ENQ_HEAD SCX_ENQ_HEAD()
+#define SCX_ENQ_PREEMPT SCX_ENQ_PREEMPT()
+
+/* What a policy is: build reads it from the section .struct_ops.link. */
+struct sched_ext_ops {
+	void *select_cpu;
+	void *enqueue;
+	void *dequeue;
+	void *dispatch;
+	void *tick;
+	void *runnable;
+	void *running;
+	void *stopping;
+	void *quiescent;
+	void *yield;
+	void *core_sched_before;
+	void *set_weight;
+	void *set_cpumask;
+	void *update_idle;
+	void *cpu_acquire;
+	void *cpu_release;
+	void *init_task;
+	void *exit_task;
+	void *enable;
+	void *disable;
+	void *dump;
+	void *dump_cpu;
+	void *dump_task;
+	void *cgroup_init;
+	void *cgroup_exit;
+	void *cgroup_prep_move;
+	void *cgroup_move;
+	void *cgroup_cancel_move;
+	void *cgroup_set_weight;
+	void *cgroup_set_bandwidth;
+	void *cgroup_set_idle;
+	void *cpu_online;
+	void *cpu_offline;
+	void *init;
+	void *exit;
+	u32 dispatch_max_batch;
+	u64 flags;
+	u32 timeout_ms;
+	u32 exit_dump_len;
+	u64 hotplug_seq;
+	char name[128];
+};
+#define BPF_PROG(name, args...) name(args)
+#define BPF_STRUCT_OPS(name, args...) SEC("struct_ops/" #name) name(args)
+#define BPF_STRUCT_OPS_SLEEPABLE(name, args...) SEC("struct_ops.s/" #name) name(args)
+#define SCX_OPS_DEFINE(name, members...) \
+	SEC(".struct_ops.link") struct sched_ext_ops name = { members }
+
+/* What tells user space why a policy ended is nothing here: the trace says it. */
+#define UEI_DEFINE(name) struct user_exit_info
+#define UEI_RECORD(name, exit_info) ((void)(exit_info))
+#define UEI_GROUP_DEFINE(name) struct user_exit_info
+
+/* The host's helpers, at their numbers. */
+static void *(*const host_map_lookup_elem)(void *map, const void *key) = (void *)1;
+static u64 (*const bpf_ktime_get_ns)(void) = (void *)5;
+static u64 (*const scx_bpf_now)(void) = (void *)5;
+static s64 (*const host_create_dsq)(u64 queue) = (void *)1001;
+static s64 (*const host_dsq_insert)(struct task_struct *p, u64 queue, u64 slice, u64 flags) = (void *)1002;
+static s64 (*const host_dsq_insert_vtime)(struct task_struct *p, u64 queue, u64 slice, u64 vtime, u64 flags) = (void *)1003;
+static s64 (*const host_dsq_move_to_local)(u64 queue) = (void *)1004;
+static u64 (*const host_select_cpu_dfl)(struct task_struct *p) = (void *)1005;
+static s64 (*const host_cpu_idle)(u64 cpu) = (void *)1006;
+static struct task_struct *(*const host_task_by_pid)(u64 pid) = (void *)1007;
+static s64 (*const host_dsq_nr_queued)(u64 queue) = (void *)1008;
+
+INSTEAD void *bpf_map_lookup_elem(void *map, const void *key)
+{
+	return FORGOTTEN(host_map_lookup_elem(map, key));
+}
+
+#define bpf_map_update_elem(map, key, value, flags) \
+	({ \
+		__typeof__(*(value)) *element_ = bpf_map_lookup_elem(map, key); \
+		if (element_) \
+			*element_ = *(value); \
+		element_ ? 0l : -7l; \
+	})
+
+#define bpf_task_storage_get(map, p, value, flags) \
+	({ \
+		u32 key_ = (p)->pid; \
+		NOTE(NOTE_TASK_STORAGE); \
+		(void)(flags); \
+		bpf_map_lookup_elem(map, &key_); \
+	})
+
+INSTEAD s32 scx_bpf_create_dsq(u64 dsq_id, s32 node)
+{
+	return host_create_dsq(dsq_id);
+}
+
+INSTEAD bool scx_bpf_dsq_insert(struct task_struct *p, u64 dsq_id, u64 slice, u64 enq_flags)
+{
+	return host_dsq_insert(p, dsq_id, slice, enq_flags) == 0;
+}
+
+INSTEAD bool scx_bpf_dsq_insert_vtime(struct task_struct *p, u64 dsq_id, u64 slice, u64 vtime, u64 enq_flags)
+{
+	return host_dsq_insert_vtime(p, dsq_id, slice, vtime, enq_flags) == 0;
+}
+
+INSTEAD bool host_moved_to_local(u64 dsq_id)
+{
+	return host_dsq_move_to_local(dsq_id) == 1;
+}
+
+/* With or without flags, which mean nothing here. */
+#define scx_bpf_dsq_move_to_local(dsq_id, flags...) host_moved_to_local(dsq_id)
+
+/* The names of 6.12. */
+#define scx_bpf_dispatch scx_bpf_dsq_insert
+#define scx_bpf_dispatch_vtime scx_bpf_dsq_insert_vtime
+#define scx_bpf_consume(dsq_id) host_moved_to_local(dsq_id)
+
+INSTEAD s32 scx_bpf_select_cpu_dfl(struct task_struct *p, s32 prev_cpu, u64 wake_flags, bool *is_idle)
+{
+	u64 cpu = host_select_cpu_dfl(p);
+
+	*is_idle = host_cpu_idle(cpu) != 0;
+	return cpu;
+}
+
+INSTEAD bool scx_bpf_test_and_clear_cpu_idle(s32 cpu)
+{
+	NOTE(NOTE_NOT_CLAIMED);
+	return host_cpu_idle((u32)cpu) != 0;
+}
+
+INSTEAD s32 scx_bpf_dsq_nr_queued(u64 dsq_id)
+{
+	return host_dsq_nr_queued(dsq_id);
+}
+
+INSTEAD struct task_struct *bpf_task_from_pid(s32 pid)
+{
+	return FORGOTTEN(host_task_by_pid((u32)pid));
+}
+
+INSTEAD void bpf_task_release(struct task_struct *p)
+{
+}
+
+INSTEAD s32 scx_bpf_task_cpu(const struct task_struct *p)
+{
+	return p->thread_info.cpu;
+}
+
+INSTEAD bool scx_bpf_task_set_slice(struct task_struct *p, u64 slice)
+{
+	p->scx.slice = slice;
+	return true;
+}
+
+INSTEAD bool scx_bpf_task_set_dsq_vtime(struct task_struct *p, u64 vtime)
+{
+	p->scx.dsq_vtime = vtime;
+	return true;
+}
+
+/* A processor that has nothing to do looks for a task each millisecond, so nobody has to wake it. */
+extern void host_kick_cpu(s32 cpu, u64 flags) asm("scx_bpf_kick_cpu");
+INSTEAD void scx_bpf_kick_cpu(s32 cpu, u64 flags)
+{
+	if (flags & ~SCX_KICK_IDLE)
+		host_kick_cpu(cpu, flags);
+	else
+		NOTE(NOTE_NO_KICK);
+}
+
+/* A callback is one step here, and no other runs beside it. */
+INSTEAD void bpf_spin_lock(struct bpf_spin_lock *lock)
+{
+	NOTE(NOTE_NO_LOCK);
+}
+
+INSTEAD void bpf_spin_unlock(struct bpf_spin_lock *lock)
+{
+}
+
+INSTEAD void bpf_rcu_read_lock(void)
+{
+}
+
+INSTEAD void bpf_rcu_read_unlock(void)
+{
+}
+
+#define __sync_fetch_and_add(pointer, number) \
+	({ \
+		__typeof__(*(pointer)) before_ = *(pointer); \
+		NOTE(NOTE_PLAIN_ADD); \
+		*(pointer) = before_ + (number); \
+		before_; \
+	})
+
+#define __sync_fetch_and_sub(pointer, number) __sync_fetch_and_add(pointer, -(number))
+
+/* An array that user space makes as long as there are processors: here as long as there are at most. */
+#define RESIZABLE_ARRAY(section, array) array[64]
+
+/* Nothing keeps a task on a processor here. */
+INSTEAD bool is_migration_disabled(const struct task_struct *p)
+{
+	return false;
+}
+
+INSTEAD u64 scale_by_task_weight(const struct task_struct *p, u64 value)
+{
+	return value * p->scx.weight / 100;
+}
+
+INSTEAD u64 scale_by_task_weight_inverse(const struct task_struct *p, u64 value)
+{
+	return value * 100 / p->scx.weight;
+}
+
+/* How many processors there are: build --set cpus=N says it. */
+#ifdef HOST_CPUS
+INSTEAD u32 scx_bpf_nr_cpu_ids(void)
+{
+	return HOST_CPUS;
+}
+#else
+extern u32 scx_bpf_nr_cpu_ids(void);
+#endif
+
+/* The values are looked at by the compiler alone, so that their variables are used. */
+#define LOOKED_AT(values...) \
+	_Pragma("clang diagnostic push") _Pragma("clang diagnostic ignored \"-Wunused-value\"") \
+	_Pragma("clang diagnostic ignored \"-Wsizeof-array-decay\"") \
+	(void)sizeof((0, ##values)); \
+	_Pragma("clang diagnostic pop")
+
+/* The address of the message becomes the number of a queue that is never there. */
+extern void host_error(const char *message) asm("scx_bpf_error");
+#define scx_bpf_error(message, values...) \
+	({ \
+		LOOKED_AT(values) \
+		NOTE(NOTE_ERROR); \
+		host_error(message); \
+	})
+
+/* Loops with constant bounds, which clang writes out. */
+#define bpf_for(number, from, end) \
+	_Pragma("clang loop unroll(full)") for ((number) = (from); (number) < (end); (number)++)
+#define bpf_repeat(rounds) \
+	_Pragma("clang loop unroll(full)") for (int round_ = 0; round_ < (rounds); round_++)
+
+/* Virtual time, and the clock, as they go round. */
+#define time_after(a, b) ((s64)((b) - (a)) < 0)
+#define time_before(a, b) time_after(b, a)
+#define time_after_eq(a, b) ((s64)((a) - (b)) >= 0)
+#define time_before_eq(a, b) time_after_eq(b, a)
+#define time_delta(after, before) (time_after(after, before) ? (after) - (before) : 0)
+
+/* A pointer to an element of an array of a known length, or NULL. */
+#define ARRAY_ELEM_PTR(array, index, length) \
+	({ \
+		u64 index_ = FORGOTTEN((u64)(index)); \
+		index_ < (length) ? &(array)[index_] : NULL; \
+	})
+
+/* A pointer to a member of what base is, or NULL where it isn't inside: MEMBER_VPTR(rings, [at].pids[next]). */
+#define MEMBER_VPTR(base, member) \
+	({ \
+		u64 offset_ = FORGOTTEN((u64)&((base)member) - (u64)&(base)) & -(u64)_Alignof(__typeof__((base)member)); \
+		offset_ <= sizeof(base) - sizeof((base)member) ? (__typeof__((base)member) *)((char *)&(base) + offset_) : NULL; \
+	})
+
+/* Functions of the kernel that aren't here. build refuses a call with its line, and says what to write. */
+extern long bpf_map_delete_elem(void *map, const void *key);
+extern long bpf_map_push_elem(void *map, const void *value, u64 flags);
+extern long bpf_map_pop_elem(void *map, void *value);
+extern long bpf_map_peek_elem(void *map, void *value);
+extern void *bpf_map_lookup_percpu_elem(void *map, const void *key, u32 cpu);
+extern long bpf_task_storage_delete(void *map, struct task_struct *p);
+extern void *bpf_cgrp_storage_get(void *map, struct cgroup *cgrp, void *value, u64 flags);
+extern long bpf_timer_init(struct bpf_timer *timer, void *map, u64 flags);
+extern long bpf_timer_set_callback(struct bpf_timer *timer, void *callback);
+extern long bpf_timer_start(struct bpf_timer *timer, u64 nsecs, u64 flags);
+extern long bpf_timer_cancel(struct bpf_timer *timer);
+extern long bpf_loop(u32 rounds, void *callback, void *context, u64 flags);
+extern u32 bpf_get_smp_processor_id(void);
+extern u32 bpf_get_prandom_u32(void);
+extern struct task_struct *bpf_get_current_task_btf(void);
+extern void *bpf_kptr_xchg(void *to, void *pointer);
+extern struct task_struct *bpf_task_acquire(struct task_struct *p);
+extern void *bpf_obj_new_impl(void);
+extern void bpf_obj_drop_impl(void *object);
+#define bpf_obj_new(type) ((type *)bpf_obj_new_impl())
+#define bpf_obj_drop(object) bpf_obj_drop_impl(object)
+extern int bpf_rbtree_add(struct bpf_rb_root *root, struct bpf_rb_node *node, void *less);
+extern struct bpf_rb_node *bpf_rbtree_first(struct bpf_rb_root *root);
+extern struct bpf_rb_node *bpf_rbtree_remove(struct bpf_rb_root *root, struct bpf_rb_node *node);
+extern int bpf_list_push_front(struct bpf_list_head *head, struct bpf_list_node *node);
+extern int bpf_list_push_back(struct bpf_list_head *head, struct bpf_list_node *node);
+extern struct bpf_list_node *bpf_list_pop_front(struct bpf_list_head *head);
+extern struct bpf_list_node *bpf_list_pop_back(struct bpf_list_head *head);
+extern struct cgroup *bpf_cgroup_from_id(u64 id);
+extern struct cgroup *bpf_cgroup_ancestor(struct cgroup *cgrp, int level);
+extern void bpf_cgroup_release(struct cgroup *cgrp);
+extern struct cgroup *scx_bpf_task_cgroup(struct task_struct *p);
+extern void scx_bpf_destroy_dsq(u64 dsq_id);
+extern u32 scx_bpf_dispatch_nr_slots(void);
+extern void scx_bpf_dispatch_cancel(void);
+extern bool scx_bpf_dsq_move(struct bpf_iter_scx_dsq *iterator, struct task_struct *p, u64 dsq_id, u64 enq_flags);
+extern bool scx_bpf_dsq_move_vtime(struct bpf_iter_scx_dsq *iterator, struct task_struct *p, u64 dsq_id, u64 enq_flags);
+extern void scx_bpf_dsq_move_set_slice(struct bpf_iter_scx_dsq *iterator, u64 slice);
+extern void scx_bpf_dsq_move_set_vtime(struct bpf_iter_scx_dsq *iterator, u64 vtime);
+extern s32 scx_bpf_select_cpu_and(struct task_struct *p, s32 prev_cpu, u64 wake_flags, const struct cpumask *allowed, u64 flags);
+extern s32 scx_bpf_pick_idle_cpu(const struct cpumask *allowed, u64 flags);
+extern s32 scx_bpf_pick_any_cpu(const struct cpumask *allowed, u64 flags);
+extern const struct cpumask *scx_bpf_get_idle_cpumask(void);
+extern const struct cpumask *scx_bpf_get_idle_smtmask(void);
+extern const struct cpumask *scx_bpf_get_online_cpumask(void);
+extern const struct cpumask *scx_bpf_get_possible_cpumask(void);
+extern void scx_bpf_put_cpumask(const struct cpumask *mask);
+extern void scx_bpf_put_idle_cpumask(const struct cpumask *mask);
+extern bool bpf_cpumask_test_cpu(u32 cpu, const struct cpumask *mask);
+extern u32 bpf_cpumask_first(const struct cpumask *mask);
+extern u32 bpf_cpumask_weight(const struct cpumask *mask);
+extern struct bpf_cpumask *bpf_cpumask_create(void);
+extern void bpf_cpumask_release(struct bpf_cpumask *mask);
+extern bool scx_bpf_task_running(const struct task_struct *p);
+extern struct rq *scx_bpf_cpu_rq(s32 cpu);
+extern struct task_struct *scx_bpf_cpu_curr(s32 cpu);
+extern u32 scx_bpf_cpuperf_cap(s32 cpu);
+extern u32 scx_bpf_cpuperf_cur(s32 cpu);
+extern void scx_bpf_cpuperf_set(s32 cpu, u32 perf);
+extern u32 scx_bpf_reenqueue_local(void);
+extern void host_exit(s64 code, const char *message) asm("scx_bpf_exit");
+extern void host_dump(const char *message) asm("scx_bpf_dump");
+extern void host_printk(const char *message) asm("bpf_printk");
+extern void *host_for_each(void) asm("bpf_for_each");
+#define scx_bpf_exit(code, message, values...) ({ LOOKED_AT(values) host_exit(code, message); })
+#define scx_bpf_dump(message, values...) ({ LOOKED_AT(values) host_dump(message); })
+#define bpf_printk(message, values...) ({ LOOKED_AT(values) host_printk(message); })
+#define bpf_for_each(kind, element, values...) for ((element) = host_for_each(); (element); (element) = NULL)
+
+#endif

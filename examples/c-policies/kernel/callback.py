@@ -1,0 +1,174 @@
+"""Turns a callback of the kernel's form into one of the host's, instruction by instruction."""
+import re
+
+from . import names, slots
+from .globals import holds_variables
+
+VARIABLES = 0	# the map that has them, if any does
+NEVER_THERE = (1 << 63) + 16	# the number of a queue that no policy can have; that of message 0
+
+
+def advice_for(name):
+    return next((advice for form, advice in names.NOT_HERE if re.fullmatch(form, name)), "the host has nothing like it")
+
+
+def stack_depth(instructions):
+    """How many bytes below r10 the function uses, as clang writes it: r10, or a copy that is moved next."""
+    lowest, copies = 0, set()
+    for one in instructions:
+        kind = one.code & 7
+        if kind in (1, 2, 3) and (one.src if kind == 1 else one.dst) == 10:
+            lowest = min(lowest, one.offset)
+        if one.code == 0xbf and one.src == 10:
+            copies.add(one.dst)
+        elif one.code == 0x07 and one.dst in copies:
+            lowest = min(lowest, one.number)
+            copies.discard(one.dst)
+    return -(lowest // 8) * 8
+
+
+def reads_second_argument(instructions):
+    """Whether r2 is read before anything writes it, as the lines stand."""
+    for one in instructions:
+        kind = one.code & 7
+        reads_source = kind in (1, 3) or kind in (4, 5, 6, 7) and one.code & 8
+        if reads_source and one.src == 2 or kind in (2, 3) and one.dst == 2:
+            return True
+        if one.code == slots.CALL or kind in (1, 4, 7, 0) and one.dst == 2:
+            return False
+    return False
+
+
+def go_on_if_zero(target, place):
+    """Behind init_task: enable comes next if it answered 0. Else the policy is refused, as in a kernel, by a call with a fault."""
+    jump = slots.Instruction(0x16, 0, 0, 0, 0, place, target)
+    failed = [slots.wide_number(1, 1 << 63), slots.call(1008), slots.Instruction(slots.EXIT)]
+    return [jump, *failed]
+
+
+class Callback:
+    """One callback under way. What it refuses and warns of goes to the policy."""
+
+    def __init__(self, policy, name, functions, has_init_task):
+        self.policy, self.name = policy, name
+        self.read = [policy.read_function(function) for function in functions]
+        instructions = [one for read in self.read for one, _ in read]
+        self.used = max([0, *(stack_depth([one for one, _ in read]) for read in self.read)])
+        self.uses_globals = any(symbol and symbol.section and holds_variables(symbol.section) for read in self.read for _, symbol in read)
+        self.uses_globals = self.uses_globals or name == "init" and policy.has_values()
+        self.globals_cell = self.cell() if self.uses_globals else None
+        self.task_cell = self.cell() if has_init_task else None
+        if self.used > 512:
+            self.refuse(instructions[0], f"{self.used} bytes of stack are wanted, with those for the address of the variables; there are 512")
+
+    def refuse(self, one, text):
+        self.policy.refuse(f"{one.place}: {self.name}: {text}")
+
+    def cell(self):
+        """Eight bytes below all that is used, as their distance below r10."""
+        self.used += 8
+        return self.used
+
+    def lists(self, read):
+        """For each instruction of a function those that take its place."""
+        changed = []
+        for at, (one, symbol) in enumerate(read):
+            if one.target is not None and one.target <= at:
+                self.refuse(read[one.target][0], "a loop that clang didn't write out: a constant number of rounds is wanted, and not too many")
+            changed.append(self.instead(one, symbol))
+            for new in changed[-1]:
+                new.place = one.place
+        return changed
+
+    def all_lists(self):
+        """Those of the function; of init_task and enable, those of both, one after the other."""
+        lists = self.lists(self.read[0]) if self.read else [[slots.move_number(0, 0)], [slots.Instruction(slots.EXIT)]]
+        if self.task_cell is None:
+            return lists
+        count = len(lists)
+        for instructions in lists:
+            if instructions and instructions[-1].code == slots.EXIT:
+                instructions[-1:] = go_on_if_zero(count, instructions[-1].place)
+        second = self.lists(self.read[1]) if len(self.read) > 1 else [[slots.Instruction(slots.EXIT)]]
+        second = slots.moved(second, count)
+        second[0] = [slots.load(1, 10, -self.task_cell), *second[0]]
+        return lists + second
+
+    def instead(self, one, symbol):
+        if one.code == slots.WIDE and symbol:
+            return self.address(one, symbol)
+        if one.code == slots.CALL and (symbol or one.src == 1):
+            return self.kernel_call(one, symbol)
+        if one.code == slots.GOTO and one.target is None:
+            return self.note(one)
+        if one.code in slots.ATOMIC:
+            self.refuse(one, "an atomic operation: of these __sync_fetch_and_add is here; write a load, arithmetic and a store")
+        if one.code in (0x07, 0x61, 0x62, 0x63, 0x69, 0x6a, 0x6b, 0x71, 0x72, 0x73, 0x79, 0x7a, 0x7b):
+            return self.field(one)
+        if one.code == slots.EXIT and self.name in names.ANSWERED:
+            return [slots.Instruction(0xbc, 0, 0), one]	# w0 = w0, as a kernel takes 32 bits
+        return [one]
+
+    def address(self, one, symbol):
+        section = symbol.section
+        if section is None:
+            self.refuse(one, f"the address of '{symbol.name}', which a loader would have to know")
+        elif section.name == ".maps":
+            return [slots.wide_number(one.dst, self.policy.map_number(symbol, one), 5)]
+        elif section.name.startswith(".rodata.str"):
+            return [slots.wide_number(one.dst, self.policy.message_number(symbol, one))]
+        elif holds_variables(section):
+            start = self.policy.globals.starts[section.name] + symbol.value + one.number
+            return [slots.load(one.dst, 10, -self.globals_cell), slots.add_number(one.dst, start)]
+        else:
+            function = self.policy.function_at(symbol, one.number)
+            self.refuse(one, f"the address of '{function.name}': nothing here calls a function that it is given")
+        return [one]
+
+    def kernel_call(self, one, symbol):
+        name = symbol.name if symbol else "a function"
+        if symbol and symbol.section is None and name in names.HELPERS:
+            return [slots.call(names.HELPERS[name])]
+        if symbol and symbol.section is None:
+            self.refuse(one, f"{name} isn't here: {advice_for(name)}")
+        else:
+            self.refuse(one, "a call of a function that clang didn't put in its place; declare it 'static __always_inline'")
+        return [one]
+
+    def note(self, one):
+        if one.number in names.NOTES:
+            self.policy.warn(f"{one.place}: warning: {names.NOTES[one.number]}", one.number)
+        return []
+
+    def field(self, one):
+        """A load, a store, or a sum that may make the address of a field."""
+        number = one.number if one.code == 0x07 else one.offset
+        found = self.policy.field_at(number)
+        if found is None:
+            return [one]
+        name, start = found
+        if name == "nr_cpus_allowed" and self.policy.cpus and one.code & 7 == 1:
+            return [slots.move_number(one.dst, self.policy.cpus)]
+        if name not in names.FIELDS or one.code == 0x07:
+            what = names.NO_FIELD.get(name, "the host has nothing like it" if name not in names.FIELDS else "read the field where it is used, not by its address")
+            self.refuse(one, f"p->{name} isn't here: {what}" if name not in names.FIELDS else f"the address of p->{name}: {what}")
+            return [one]
+        if name == "scx.weight":
+            self.policy.warn(f"{one.place}: warning: p->scx.weight is the task's part of the processor time, 10000 for all of it; in a kernel 100 is that of any task", name)
+        one.offset = names.FIELDS[name] + number - start
+        return [one]
+
+    def prologue(self):
+        """What comes before the callback: the address of the variables is looked up, and kept on the stack."""
+        count = names.CALLBACKS[self.name]
+        before = [slots.move(6 + at, 1 + at) for at in range(count)] if self.uses_globals else []
+        if self.uses_globals:
+            cell = -self.globals_cell
+            before += [slots.Instruction(0x62, 10, 0, cell, 0), slots.move(2, 10), slots.add_number(2, cell)]
+            before += [slots.wide_number(1, VARIABLES, 5), slots.call(1), slots.skip_if_not_zero(0, 1)]
+            before += [slots.Instruction(slots.EXIT), slots.store(10, cell, 0)]
+            before += list(self.policy.globals.stores()) if self.name == "init" else []
+            before += [slots.move(1 + at, 6 + at) for at in range(count)]
+        if self.task_cell:
+            before.append(slots.store(10, -self.task_cell, 1))
+        return before

@@ -1,0 +1,131 @@
+"""What of the kernel's names is here, what is left out, and what to write for what isn't here."""
+
+CALLBACKS = {"init": 0, "enable": 1, "select_cpu": 3, "enqueue": 2, "dispatch": 2, "running": 1, "stopping": 2}
+ANSWERED = ("init", "select_cpu")
+
+# Callbacks that no run here would call, and why.
+LEFT_OUT = {
+    "exit": "the trace says why a policy ended",
+    "dump": "the trace says what the policy did",
+    "dump_cpu": "the trace says what the policy did",
+    "dump_task": "the trace says what the policy did",
+    "exit_task": "tasks stay to the end of the workload",
+    "disable": "tasks stay to the end of the workload",
+    "set_cpumask": "each task may run on all processors",
+    "cgroup_exit": "groups stay to the end of the workload",
+    "cgroup_prep_move": "a task stays in its group",
+    "cgroup_move": "a task stays in its group",
+    "cgroup_cancel_move": "a task stays in its group",
+    "cpu_acquire": "no other scheduler takes a processor",
+    "cpu_release": "no other scheduler takes a processor",
+    "cpu_online": "processors stay",
+    "cpu_offline": "processors stay",
+}
+
+# What to write instead of a callback that isn't here.
+NO_CALLBACK = {
+    "dequeue": "a task that sleeps is taken from its queue by the host; keep no list of tasks of your own",
+    "tick": "give shorter slices",
+    "runnable": "do it in enqueue, whose flags are 1 after a wake",
+    "quiescent": "do it in stopping, where runnable is 0",
+    "yield": "tasks here don't yield",
+    "core_sched_before": "processors here have no siblings",
+    "set_weight": "read p->scx.weight where it is used",
+    "update_idle": "ask in select_cpu or enqueue, by scx_bpf_select_cpu_dfl",
+    "cgroup_init": "an array map by p->group, the number of the task's group in the workload",
+    "cgroup_set_weight": "read p->scx.weight where it is used: it follows the weights of the groups",
+    "cgroup_set_bandwidth": "the host keeps to cpu_max by itself",
+    "cgroup_set_idle": "groups here are never idle ones",
+}
+
+# Flags of a policy, by their bits.
+FLAGS = ["SCX_OPS_KEEP_BUILTIN_IDLE", "SCX_OPS_ENQ_LAST", "SCX_OPS_ENQ_EXITING", "SCX_OPS_SWITCH_PARTIAL",
+         "SCX_OPS_ENQ_MIGRATION_DISABLED", "SCX_OPS_ALLOW_QUEUED_WAKEUP", "SCX_OPS_BUILTIN_IDLE_PER_NODE"]
+FLAGS += [f"flag {bit}" for bit in range(7, 16)] + ["SCX_OPS_HAS_CGROUP_WEIGHT"]
+FLAGS_OF_NO_MEANING = {
+    "SCX_OPS_KEEP_BUILTIN_IDLE": "the host always knows which processors are idle",
+    "SCX_OPS_ENQ_EXITING": "tasks stay to the end of the workload",
+    "SCX_OPS_SWITCH_PARTIAL": "all tasks of a workload are under the policy",
+    "SCX_OPS_ENQ_MIGRATION_DISABLED": "each task may run on all processors",
+    "SCX_OPS_ALLOW_QUEUED_WAKEUP": "a wake is one step",
+    "SCX_OPS_BUILTIN_IDLE_PER_NODE": "all processors are alike",
+    "SCX_OPS_HAS_CGROUP_WEIGHT": "p->scx.weight follows the weights of the groups",
+}
+
+# The kernel's functions that stay calls, with the host's number.
+HELPERS = {"scx_bpf_error": 1008}
+
+NOTES = {
+    1: "__sync_fetch_and_add is a plain addition, since no other callback runs beside this one",
+    2: "bpf_spin_lock is nothing, since no other callback runs beside this one",
+    3: "scx_bpf_kick_cpu is nothing, since an idle processor looks for a task each millisecond",
+    4: "scx_bpf_test_and_clear_cpu_idle asks and claims nothing: the processor is idle for the next who asks, too",
+    5: "task storage is an array by pid: it is there for each task from the start, as zeros",
+}
+NOTE_ERROR = 6
+
+NOT_HERE = [
+    ("bpf_map_delete_elem", "write zeros into the element"),
+    ("bpf_map_lookup_percpu_elem", "use a map of type ARRAY, with an index for each processor"),
+    ("bpf_map_(push|pop|peek)_elem", "keep a ring in an array map, with two counts"),
+    ("bpf_task_storage_delete", "write zeros into the element"),
+    ("bpf_cgrp_storage_get", "an array map by p->group, the number of the task's group in the workload"),
+    ("bpf_timer_.*", "there are no timers; do it in a callback, by scx_bpf_now()"),
+    ("bpf_loop", "bpf_for with constant bounds"),
+    ("bpf_for_each", "queues can't be looked through; use queues of their own, or one by virtual time"),
+    ("bpf_get_smp_processor_id", "the argument cpu of dispatch, or scx_bpf_task_cpu(p)"),
+    ("bpf_get_prandom_u32", "count in a variable, and multiply"),
+    ("bpf_get_current_task.*", "the task that the callback is given"),
+    ("bpf_kptr_xchg", "keep pids, and ask bpf_task_from_pid"),
+    ("bpf_task_acquire", "keep pids, and ask bpf_task_from_pid"),
+    ("bpf_obj_(new|drop).*|bpf_(rbtree|list|refcount)_.*", "a queue by virtual time keeps the order"),
+    ("scx_bpf_task_cgroup|bpf_cgroup_.*", "p->group, the number of the task's group in the workload"),
+    ("scx_bpf_destroy_dsq", "queues stay"),
+    ("scx_bpf_dispatch_nr_slots|scx_bpf_dispatch_cancel", "dispatch inserts at once, as many tasks as it likes"),
+    ("scx_bpf_dsq_move.*|scx_bpf_dsq_peek", "scx_bpf_dsq_move_to_local, or hold tasks in enqueue and insert them in dispatch"),
+    ("scx_bpf_(select_cpu_and|pick_.*)", "scx_bpf_select_cpu_dfl"),
+    ("(bpf_cpumask|scx_bpf_get_.*mask|scx_bpf_put_.*mask).*", "each task may run on all processors; scx_bpf_select_cpu_dfl finds an idle one"),
+    ("scx_bpf_task_running", "keep it in a variable, which running and stopping write"),
+    ("scx_bpf_cpu_(rq|curr)", "keep the pid in an array, which running and stopping write"),
+    ("scx_bpf_cpuperf_.*", "processors are all as fast"),
+    ("scx_bpf_kick_cpu", "without flags or with SCX_KICK_IDLE it is nothing; nothing here stops a task before its slice ends: give shorter slices"),
+    ("scx_bpf_nr_cpu_ids", "say how many there are, as build --set cpus=4"),
+    ("scx_bpf_reenqueue_local", "tasks stay in the queue of a processor"),
+    ("scx_bpf_exit", "scx_bpf_error"),
+    ("scx_bpf_dump|bpf_printk", "leave it out; scxsim run writes what the policy does"),
+    ("SCX_ENQ_(HEAD|PREEMPT)", "inserts go to the end of a queue, and nothing stops a task before its slice ends; a queue by virtual time may put one first"),
+]
+
+# Fields of a task, at the host's offsets.
+FIELDS = {"pid": 0, "scx.weight": 4, "scx.slice": 8, "scx.dsq_vtime": 16, "thread_info.cpu": 24, "group": 28, "se.sum_exec_runtime": 32}
+FIRST_FIELD = 16384
+NO_FIELD = {
+    "nr_cpus_allowed": "say how many there are, as build --set cpus=4",
+    "flags": "a workload has no kernel threads, and its tasks stay to the end",
+    "cpus_ptr": "each task may run on all processors",
+    "migration_disabled": "each task may run on all processors",
+    "comm": "tasks have no names here; p->pid is the number in the workload",
+    "tgid": "each task stands for itself; p->pid is its number in the workload",
+    "real_parent": "tasks have no parents",
+    "parent": "tasks have no parents",
+    "mm": "tasks have no memory",
+    "policy": "all tasks are under the policy",
+    "prio": "weights are those of groups: p->scx.weight",
+    "static_prio": "weights are those of groups: p->scx.weight",
+    "scx.disallow": "all tasks are under the policy",
+}
+
+MAP_KINDS = {1: "HASH", 2: "ARRAY", 5: "PERCPU_HASH", 6: "PERCPU_ARRAY", 9: "LRU_HASH", 12: "ARRAY_OF_MAPS", 13: "HASH_OF_MAPS",
+             22: "QUEUE", 23: "STACK", 27: "RINGBUF", 29: "TASK_STORAGE", 31: "USER_RINGBUF", 32: "CGRP_STORAGE", 33: "ARENA"}
+NO_MAP = {
+    "HASH": "an array map by pid, or by another number that is small",
+    "PERCPU_HASH": "an array map by pid, or by another number that is small",
+    "LRU_HASH": "an array map by pid, or by another number that is small",
+    "QUEUE": "a ring in an array map, with two counts",
+    "STACK": "an array map, with a count",
+    "RINGBUF": "leave it out; nothing in user space reads it",
+    "USER_RINGBUF": "leave it out; nothing in user space writes it",
+    "CGRP_STORAGE": "an array map by p->group",
+    "ARENA": "an array map",
+}
+TASKS = 1025	# pids are 1 to 1024

@@ -1,0 +1,264 @@
+"""Makes a policy of an object whose C is in the kernel's form, with all that it refuses and warns of."""
+import bisect
+import os
+import re
+
+from . import names, slots
+from .btf import Types, read_lines
+from .callback import Callback, NEVER_THERE, reads_second_argument
+from .elf import FUNCTION, Elf, text_at
+from .globals import GREATEST, Globals, holds_variables
+
+PARTS = {"enable": ["init_task", "enable"]}
+
+class Policy:
+    def __init__(self, source, data, settings):
+        self.source, self.settings = source, dict(settings)
+        self.refusals, self.warnings, self.warned = [], [], set()
+        self.elf = Elf(data)
+        self.messages, self.maps, self.callbacks, self.places = [], [], {}, {}
+        self.name, self.timeout = "", 0
+        self.cpus = self.settings.pop("cpus", None)
+        with open(source, errors="replace") as file:
+            self.lines_of_source = file.read().splitlines()
+        btf, lines = self.elf.named(".BTF"), self.elf.named(".BTF.ext")
+        if btf is None or lines is None:
+            self.refuse(f"{source}: no types and lines are in the object; compile it with -g")
+            return
+        self.types = Types(btf.content)
+        self.lines = read_lines(lines.content, self.types)
+        task = self.types.struct("task_struct")
+        self.fields = sorted(self.types.fields(task)) if task else []
+        self.read()
+
+    def refuse(self, text):
+        if text not in self.refusals:
+            self.refusals.append(text)
+
+    def warn(self, text, kind=None):
+        """Says it once, or once for each kind."""
+        if (kind or text) not in self.warned:
+            self.warned.add(kind or text)
+            self.warnings.append(text)
+
+    def read(self):
+        self.globals = Globals(self.elf)
+        for name, number in self.settings.items():
+            if refusal := self.globals.set(name, number):
+                self.refuse(refusal)
+        ops = self.find_ops()
+        if ops is None:
+            return
+        functions = self.read_ops(ops)
+        self.look_at_sections(functions)
+        for function in functions.values():
+            for _, symbol in self.read_function(function):
+                if symbol and symbol.section and holds_variables(symbol.section):
+                    self.globals.add(symbol.section)
+        if self.globals.size > GREATEST:
+            self.refuse(f"{self.source}: variables of {self.globals.size} bytes; an element of a map holds {GREATEST}: put arrays into a map")
+        else:
+            self.translate(functions)
+
+    # What the policy is.
+
+    def find_ops(self):
+        found = [one for section in self.elf.sections if section.name in (".struct_ops", ".struct_ops.link") for one in self.elf.objects_in(section)]
+        if len(found) == 1:
+            return found[0]
+        if found:
+            self.refuse(f"{self.place_of_text(found[1].name)}: {' and '.join(one.name for one in found)} are both struct_ops; build makes one policy of a file")
+        else:
+            self.refuse(f"{self.source}: no struct_ops: SCX_OPS_DEFINE says which function is which callback")
+        return None
+
+    def read_ops(self, ops):
+        """The functions that are callbacks here, by their names."""
+        functions = {}
+        members = self.types.members(self.types.of_variable(ops.name))
+        content = ops.section.content[ops.value:ops.value + ops.size]
+        for member, of, offset in members:
+            symbol = self.elf.relocations.get((ops.section.name, ops.value + offset))
+            if symbol:
+                self.take_function(ops, functions, member, self.function_at(symbol, int.from_bytes(content[offset:offset + 8], "little")))
+            elif member == "name":
+                self.name = text_at(content + b"\0", offset)
+            else:
+                number = int.from_bytes(content[offset:offset + self.types.size(of)], "little")
+                self.take_number(ops, member, number)
+        return functions
+
+    def function_at(self, symbol, number):
+        """The function itself, where its section and a place in it may be given."""
+        if symbol.kind == FUNCTION:
+            return symbol
+        inside = (one for one in self.elf.symbols if one.kind == FUNCTION and one.section is symbol.section and one.value == symbol.value + number)
+        return next(inside, symbol)
+
+    def take_function(self, ops, functions, member, symbol):
+        place = f"{self.place_of_text(symbol.name)}: {member}"
+        if member in names.CALLBACKS or member == "init_task":
+            functions[member] = symbol
+        elif member in names.LEFT_OUT:
+            self.warn(f"{self.place_of_text(symbol.name)}: warning: {member} is left out: {names.LEFT_OUT[member]}")
+        else:
+            self.refuse(f"{place} isn't here: {names.NO_CALLBACK.get(member, 'the host has nothing like it')}")
+
+    def take_number(self, ops, member, number):
+        place = self.place_of_text(ops.name)
+        if member == "timeout_ms":
+            self.timeout = number
+            if number > 30000:
+                self.refuse(f"{place}: timeout_ms is {number}; it is 30000 at most")
+        for bit in range(64):
+            if member == "flags" and number >> bit & 1:
+                name = names.FLAGS[bit] if bit < len(names.FLAGS) else f"flag {bit}"
+                if name in names.FLAGS_OF_NO_MEANING:
+                    self.warn(f"{place}: warning: {name} means nothing here: {names.FLAGS_OF_NO_MEANING[name]}")
+                else:
+                    self.refuse(f"{place}: flags: {name} isn't here")
+
+    def look_at_sections(self, functions):
+        """Functions of the object that nothing calls."""
+        taken = {(one.section.name, one.value) for one in functions.values() if one.section}
+        for one in self.elf.symbols:
+            if one.kind != FUNCTION or one.section is None or one.section.name == ".text":
+                continue
+            is_callback = one.section.name.startswith("struct_ops")
+            if not is_callback:
+                self.refuse(f"{self.place_of_text(one.name)}: '{one.name}' is in the section {one.section.name}, which nothing here would run")
+            elif (one.section.name, one.value) not in taken and not self.is_named_in_ops(one):
+                self.warn(f"{self.place_of_text(one.name)}: warning: '{one.name}' is no callback of the policy, and left out")
+
+    def is_named_in_ops(self, function):
+        named = (one for (section, _), one in self.elf.relocations.items() if section.startswith(".struct_ops"))
+        return any(one.section is function.section for one in named)
+
+    # Places in C.
+
+    def place_of_text(self, name):
+        """Where the source has a name as a word of its own, at a definition rather than a use."""
+        forms = [rf"\bBPF_STRUCT_OPS\w*\(\s*{re.escape(name)}\b", rf"\b{re.escape(name)}\s+SEC\b", rf"\bSCX_OPS_DEFINE\(\s*{re.escape(name)}\b", rf"\b{re.escape(name)}\b"]
+        for form in forms:
+            for number, line in enumerate(self.lines_of_source, 1):
+                if re.search(form, line):
+                    return f"{self.source}:{number}"
+        return self.source
+
+    def line_of(self, section, slot):
+        lines = self.lines.get(section, [])
+        at = bisect.bisect_right(lines, slot, key=lambda line: line[0])
+        if at == 0:
+            return self.source
+        file = lines[at - 1][1]
+        is_source = os.path.realpath(file) == os.path.realpath(self.source)
+        shown = self.source if is_source else min(file, os.path.relpath(file), key=len)
+        return f"{shown}:{lines[at - 1][2]}"
+
+    def place(self, callback, slot):
+        places = self.places.get(callback, [])
+        return f"{places[slot] if slot < len(places) and places[slot] else self.source}: {callback}"
+
+    # What callbacks ask for.
+
+    def read_function(self, function):
+        """Instructions of a function, each with the symbol of which it wants the address, or None."""
+        start, end = function.value, function.value + function.size
+        section = function.section
+        found, numbers = slots.read(section.content[start:end])
+        read = []
+        for one, slot in zip(found, numbers):
+            one.place = self.line_of(section.name, start // 8 + slot)
+            read.append((one, self.elf.relocations.get((section.name, start + 8 * slot))))
+        return read
+
+    def field_at(self, offset):
+        """The name and the beginning of the field of a task at an offset, or None where a task has none there."""
+        if not names.FIRST_FIELD <= offset < names.FIRST_FIELD + 4096:
+            return None
+        for start, size, name in self.fields:
+            if start <= offset < start + size and start >= names.FIRST_FIELD:
+                return name, start
+        return "..", offset
+
+    def message_number(self, symbol, one):
+        at = symbol.value + one.number
+        message = text_at(symbol.section.content, at)
+        if (message, one.place) not in self.messages:
+            self.messages.append((message, one.place))
+        return NEVER_THERE + self.messages.index((message, one.place))
+
+    def map_number(self, symbol, one):
+        start = symbol.value + (one.number if symbol.kind != 1 else 0)
+        found = next((each for each in self.elf.objects_in(symbol.section) if each.value == start), symbol)
+        if found.name not in [name for name, _, _ in self.maps]:
+            self.maps.append((found.name, *self.read_map(found)))
+        return [name for name, _, _ in self.maps].index(found.name) + (self.globals.size > 0)
+
+    def read_map(self, symbol):
+        """How many elements a map has, and of how many bytes."""
+        types, place = self.types, self.place_of_text(symbol.name)
+        members = {name: of for name, of, _ in types.members(types.of_variable(symbol.name))}
+        pointed = {name: types.plain(of)[2] for name, of in members.items()}
+        numbers = {name: types.plain(of)[3][0][2] for name, of in pointed.items() if types.plain(of)[0] == 3}
+        kind = names.MAP_KINDS.get(numbers.get("type"), f"of the number {numbers.get('type')}")
+        entries, size = numbers.get("max_entries", 0), numbers.get("value_size") or types.size(pointed.get("value", 0))
+        key = numbers.get("key_size") or types.size(pointed.get("key", 0))
+        if kind == "TASK_STORAGE":
+            entries = names.TASKS
+        elif kind == "PERCPU_ARRAY":
+            self.warn(f"{place}: warning: {symbol.name} is an array of one copy, which all processors share")
+        elif kind != "ARRAY":
+            self.refuse(f"{place}: {symbol.name}: a map of type {kind} isn't here: {names.NO_MAP.get(kind, 'use an array map')}")
+            return 1, 8
+        if key != 4:
+            self.refuse(f"{place}: {symbol.name}: the key of an array has 4 bytes, not {key}")
+        if not 1 <= entries <= 65536 or not 1 <= size <= 4096:
+            self.refuse(f"{place}: {symbol.name}: {entries} elements of {size} bytes; a map has 1 to 65536, of 1 to 4096 bytes")
+        return entries, size
+
+    # The policy file.
+
+    def has_values(self):
+        return any(True for _ in self.globals.stores())
+
+    def translate(self, functions):
+        if "init_task" in functions:
+            self.look_at_init_task(functions["init_task"])
+        for name in names.CALLBACKS:
+            parts = [part for part in PARTS.get(name, [name]) if part in functions]
+            if not parts and not (name == "init" and self.has_values()):
+                continue
+            callback = Callback(self, name, [functions[part] for part in parts], "init_task" in parts)
+            code, places = slots.written(callback.prologue(), callback.all_lists())
+            self.callbacks[name], self.places[name] = code, places
+            if len(code) > 8 * 4096:
+                self.refuse(f"{self.source}: {name}: {len(code) // 8} slots; a callback has 4096 at most: write fewer rounds out")
+
+    def look_at_init_task(self, function):
+        read = [one for one, _ in self.read_function(function)]
+        if reads_second_argument(read):
+            self.refuse(f"{read[0].place}: init_task reads its second argument, which isn't here: all tasks are there at the start, and p->group is the group of one")
+
+    def text(self):
+        lines = ["# Made of C in the kernel's form by examples/c-policies/build."]
+        for number, (message, place) in enumerate(self.messages):
+            lines.append(f"# The queue {NEVER_THERE + number} is never there: {place} says {quoted(message)}")
+        if self.globals.size:
+            lines.append(f"# Map 0 has the variables: {self.globals.names()}")
+        if re.fullmatch(r"[a-z][a-z0-9_]{0,15}", self.name):
+            lines.append(f'name = "{self.name}"')
+        if self.timeout:
+            lines.append(f"timeout_ms = {self.timeout}")
+        maps = [("", 1, self.globals.size)] * (self.globals.size > 0) + self.maps
+        lines += [f"\n[[map]]\nentries = {entries}\nvalue_size = {size}" for _, entries, size in maps] + ["\n[slots]"]
+        for callback in names.CALLBACKS:
+            if callback in self.callbacks:
+                code = self.callbacks[callback].hex()
+                rows = "\n".join(code[at:at + 16] for at in range(0, len(code), 16))
+                lines.append(f'{callback} = """\n{rows}\n"""')
+        return "\n".join(lines) + "\n"
+
+
+def quoted(message):
+    return '"' + "".join(one if one.isprintable() else f"\\x{ord(one):02x}" for one in message) + '"'
