@@ -72,9 +72,10 @@ class Callback:
     def lists(self, read):
         """For each instruction of a function those that take its place."""
         changed = []
-        for at, (one, symbol) in enumerate(read):
-            if one.target is not None and one.target <= at:
-                self.refuse(read[one.target][0], "a loop that clang didn't write out: a constant number of rounds is wanted, and not too many")
+        read, loop = slots.forward(read)
+        if loop:
+            self.refuse(loop, "a loop that clang didn't write out: a constant number of rounds is wanted, and not too many")
+        for one, symbol in read:
             changed.append(self.instead(one, symbol))
             for new in changed[-1]:
                 new.place = one.place
@@ -147,6 +148,10 @@ class Callback:
         if found is None:
             return [one]
         name, start = found
+        if name in names.CONSTANTS and one.code & 7 == 1:
+            number, why = names.CONSTANTS[name]
+            self.policy.warn(f"{one.place}: warning: p->{name} is {number}: {why}", name)
+            return [slots.move_number(one.dst, number)]
         if name == "nr_cpus_allowed" and self.policy.cpus and one.code & 7 == 1:
             return [slots.move_number(one.dst, self.policy.cpus)]
         if name not in names.FIELDS or one.code == 0x07:

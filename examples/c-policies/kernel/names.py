@@ -88,7 +88,7 @@ NOT_HERE = [
     ("scx_bpf_task_running", "keep it in a variable, which running and stopping write"),
     ("scx_bpf_cpu_(rq|curr)", "keep the pid in an array, which running and stopping write"),
     ("scx_bpf_cpuperf_.*", "processors are all as fast"),
-    ("scx_bpf_kick_cpu", "without flags or with SCX_KICK_IDLE it is nothing; nothing here stops a task before its slice ends: give shorter slices"),
+    ("scx_bpf_kick_cpu_with_flags", "without flags or with SCX_KICK_IDLE it is nothing; nothing here stops a task before its slice ends: give shorter slices"),
     ("scx_bpf_nr_cpu_ids", "say how many there are, as build --set cpus=4"),
     ("scx_bpf_reenqueue_local", "tasks stay in the queue of a processor"),
     ("scx_bpf_exit", "scx_bpf_error"),
@@ -99,11 +99,13 @@ NOT_HERE = [
 # Fields of a task, at the host's offsets.
 FIELDS = {"pid": 0, "scx.weight": 4, "scx.slice": 8, "scx.dsq_vtime": 16, "thread_info.cpu": 24, "group": 28, "se.sum_exec_runtime": 32}
 FIRST_FIELD = 16384
+CONSTANTS = {
+    "flags": (0, "a workload has no kernel threads, and its tasks stay to the end"),
+    "migration_disabled": (0, "each task may run on all processors"),
+}
 NO_FIELD = {
     "nr_cpus_allowed": "say how many there are, as build --set cpus=4",
-    "flags": "a workload has no kernel threads, and its tasks stay to the end",
     "cpus_ptr": "each task may run on all processors",
-    "migration_disabled": "each task may run on all processors",
     "comm": "tasks have no names here; p->pid is the number in the workload",
     "tgid": "each task stands for itself; p->pid is its number in the workload",
     "real_parent": "tasks have no parents",

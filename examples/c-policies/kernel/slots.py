@@ -53,6 +53,57 @@ def read(code):
     return found, slots
 
 
+def successors(instructions, at):
+    """Where control goes behind an instruction: what it jumps to first, what comes next last."""
+    one = instructions[at]
+    to = [] if one.target is None else [one.target]
+    ends = one.code == EXIT or one.target is not None and one.code in (GOTO, LONG_GOTO)
+    return to if ends or at + 1 == len(instructions) else to + [at + 1]
+
+
+def forward_order(instructions):
+    """The instructions that control reaches, by their numbers, so that each comes before those that follow it; and the
+    number of one to which a loop leads back, or None. What comes next is kept next where that can be."""
+    finished, under_way = [], set()
+    state, todo = {0: "open"}, [(0, successors(instructions, 0))]
+    while todo:
+        at, left = todo[-1]
+        under_way.add(at)
+        if not left:
+            todo.pop()
+            under_way.discard(at)
+            finished.append(at)
+            continue
+        next_one = left.pop(0)
+        if next_one in under_way:
+            return [], next_one
+        if next_one not in state:
+            state[next_one] = "open"
+            todo.append((next_one, successors(instructions, next_one)))
+    return finished[::-1], None
+
+
+def forward(pairs):
+    """The same instructions, each with its symbol, without jumps back; and the one to which a loop leads back, or None."""
+    instructions = [one for one, _ in pairs]
+    if all(one.target is None or one.target > at for at, one in enumerate(instructions)):
+        return pairs, None
+    order, loop = forward_order(instructions)
+    if loop is not None:
+        return pairs, instructions[loop]
+    starts, turned = {}, []
+    for number, at in enumerate(order):
+        starts[at] = len(turned)
+        turned.append((replace(instructions[at]), pairs[at][1]))
+        follows = successors(instructions, at)
+        goes_on = follows and follows[-1] == at + 1
+        if goes_on and order[number + 1:number + 2] != [at + 1]:
+            turned.append((Instruction(GOTO, place=instructions[at].place, target=at + 1), None))
+    for one, _ in turned:
+        one.target = None if one.target is None else starts[one.target]
+    return turned, None
+
+
 def moved(lists, distance):
     """The same lists for a place so many lists further on."""
     turned = []

@@ -138,7 +138,6 @@ struct bpf_cpumask;
 struct rq;
 struct bpf_iter_scx_dsq;
 struct scx_dump_ctx;
-struct scx_cgroup_init_args;
 struct scx_cpu_acquire_args;
 struct scx_cpu_release_args;
 struct scx_exit_task_args;
@@ -149,6 +148,12 @@ struct bpf_spin_lock {
 };
 struct bpf_timer {
 	u64 numbers[2];
+};
+struct scx_cgroup_init_args {
+	u32 weight;
+	u64 bw_period_us;
+	u64 bw_quota_us;
+	u64 bw_burst_us;
 };
 struct scx_init_task_args {
 	bool fork;
@@ -403,11 +408,11 @@ INSTEAD bool scx_bpf_task_set_dsq_vtime(struct task_struct *p, u64 vtime)
 }
 
 /* A processor that has nothing to do looks for a task each millisecond, so nobody has to wake it. */
-extern void host_kick_cpu(s32 cpu, u64 flags) asm("scx_bpf_kick_cpu");
+extern void scx_bpf_kick_cpu_with_flags(s32 cpu, u64 flags);
 INSTEAD void scx_bpf_kick_cpu(s32 cpu, u64 flags)
 {
 	if (flags & ~SCX_KICK_IDLE)
-		host_kick_cpu(cpu, flags);
+		scx_bpf_kick_cpu_with_flags(cpu, flags);
 	else
 		NOTE(NOTE_NO_KICK);
 }
