@@ -131,7 +131,7 @@ class Callback:
         if symbol and symbol.section is None and name in names.HELPERS:
             return [slots.call(names.HELPERS[name])]
         if symbol and symbol.section is None:
-            self.refuse(one, f"{name} isn't here: {advice_for(name)}")
+            self.refuse(one, f"{names.SHOWN.get(name, name)} isn't here: {advice_for(name)}")
         else:
             self.refuse(one, "a call of a function that clang didn't put in its place; declare it 'static __always_inline'")
         return [one]

@@ -96,6 +96,8 @@ NOT_HERE = [
     ("SCX_ENQ_(HEAD|PREEMPT)", "inserts go to the end of a queue, and nothing stops a task before its slice ends; a queue by virtual time may put one first"),
 ]
 
+SHOWN = {"scx_bpf_kick_cpu_with_flags": "scx_bpf_kick_cpu with these flags"}
+
 # Fields of a task, at the host's offsets.
 FIELDS = {"pid": 0, "scx.weight": 4, "scx.slice": 8, "scx.dsq_vtime": 16, "thread_info.cpu": 24, "group": 28, "se.sum_exec_runtime": 32}
 FIRST_FIELD = 16384

@@ -63,7 +63,7 @@ def successors(instructions, at):
 
 def forward_order(instructions):
     """The instructions that control reaches, by their numbers, so that each comes before those that follow it; and the
-    number of one to which a loop leads back, or None. What comes next is kept next where that can be."""
+    number of one that leads back in a loop, or None. What comes next is kept next where that can be."""
     finished, under_way = [], set()
     state, todo = {0: "open"}, [(0, successors(instructions, 0))]
     while todo:
@@ -76,7 +76,7 @@ def forward_order(instructions):
             continue
         next_one = left.pop(0)
         if next_one in under_way:
-            return [], next_one
+            return [], at
         if next_one not in state:
             state[next_one] = "open"
             todo.append((next_one, successors(instructions, next_one)))
@@ -84,7 +84,7 @@ def forward_order(instructions):
 
 
 def forward(pairs):
-    """The same instructions, each with its symbol, without jumps back; and the one to which a loop leads back, or None."""
+    """The same instructions, each with its symbol, without jumps back; and the one that leads back in a loop, or None."""
     instructions = [one for one, _ in pairs]
     if all(one.target is None or one.target > at for at, one in enumerate(instructions)):
         return pairs, None

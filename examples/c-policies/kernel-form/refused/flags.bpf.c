@@ -1,0 +1,14 @@
+/* Flags of an insert, of a kick and of the policy. */
+#include <scx/common.bpf.h>
+
+void BPF_STRUCT_OPS(flags_enqueue, struct task_struct *p, u64 enq_flags)
+{
+	scx_bpf_dsq_insert(p, SCX_DSQ_LOCAL, SCX_SLICE_DFL, enq_flags | SCX_ENQ_HEAD);	/* refused: enqueue: SCX_ENQ_HEAD isn't here */
+	scx_bpf_kick_cpu(0, SCX_KICK_IDLE);	/* warned: scx_bpf_kick_cpu is nothing */
+	scx_bpf_kick_cpu(0, SCX_KICK_PREEMPT);	/* refused: enqueue: scx_bpf_kick_cpu with these flags isn't here */
+}
+
+SCX_OPS_DEFINE(flags_ops,	/* refused: flags: SCX_OPS_ENQ_LAST isn't here */ /* warned: SCX_OPS_SWITCH_PARTIAL means nothing here */
+	       .enqueue = (void *)flags_enqueue,
+	       .flags = SCX_OPS_ENQ_LAST | SCX_OPS_SWITCH_PARTIAL,
+	       .name = "flags");
