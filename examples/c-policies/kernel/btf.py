@@ -30,10 +30,12 @@ class Types:
             parts = [self.take("III")]
         elif kind in (STRUCT, UNION):
             parts = [self.member(info >> 31) for _ in range(count)]
-        elif kind in (ENUM, 13):
-            self.take("II" * count)
-        elif kind in (15, LARGE_ENUM):
-            self.take("III" * count)
+        elif kind == ENUM:
+            parts = [(self.text(part), number) for part, number in (self.take("II") for _ in range(count))]
+        elif kind == LARGE_ENUM:
+            parts = [(self.text(part), low | high << 32) for part, low, high in (self.take("III") for _ in range(count))]
+        elif kind in (13, 15):
+            self.take("II" * count if kind == 13 else "III" * count)
         return kind, self.text(name), size, parts
 
     def member(self, has_bits):

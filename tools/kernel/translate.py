@@ -1,0 +1,223 @@
+"""Turns a policy and a workload of scxsim into the lines that guest.c reads.
+
+A callback is taken instruction by instruction. Arguments are loaded from the context, a field of a task is the
+kernel's own at its offset there, and helpers are functions of the kernel. Which registers point to tasks is what
+scxsim explain says.
+"""
+import re
+import subprocess
+import tempfile
+import tomllib
+from pathlib import Path
+
+from kernel_types import KernelTypes, NoCounterpart
+from kernel import slots
+
+ARGUMENTS = {"init": 0, "enable": 1, "select_cpu": 3, "enqueue": 2, "dispatch": 2, "running": 1, "stopping": 2}
+ANSWERED = ("init", "select_cpu")
+WIDTHS = {0x61: 4, 0x69: 2, 0x71: 1, 0x79: 8}
+FIELDS = {0: "pid", 4: "scx.weight", 8: "scx.slice", 16: "scx.dsq_vtime", 24: "thread_info.cpu", 32: "se.sum_exec_runtime"}
+GROUP = 28
+# The kernel's weights of the nice values -20 to 19, where 1024 is that of 0.
+NICE = [88761, 71755, 56483, 46273, 36291, 29154, 23254, 18705, 14949, 11916, 9548, 7620, 6100, 4904, 3906, 3121, 2501, 1991,
+        1586, 1277, 1024, 820, 655, 526, 423, 335, 272, 215, 172, 137, 110, 87, 70, 56, 45, 36, 29, 23, 18, 15]
+EXIT_VALUE = 24		# bytes that the exit callback keeps: kind, code and time
+
+
+def output_of(*words):
+    return subprocess.run(words, stdout=subprocess.PIPE, text=True).stdout
+
+
+def known(scxsim, policy):
+    """Of each callback: of each slot the registers that point to tasks, and how deep the stack is used."""
+    found, callback = {}, None
+    for line in output_of(scxsim, "explain", policy).splitlines():
+        if verdict := re.match(r"(\w+) (ok|refused) \d+", line):
+            if verdict[2] == "refused":
+                raise NoCounterpart(f"scxsim verify refuses it: {line}")
+            callback = verdict[1]
+            found[callback] = ({}, 0)
+        elif instruction := re.match(r" *(\d+)  (\S.*?)(?:  +(.*))?$", line):
+            tasks, depth = found[callback]
+            facts = instruction[3] or ""
+            tasks[int(instruction[1])] = task_registers(facts)
+            deepest = max([0, *(int(number) for number in re.findall(r"stack -(\d+)", facts))])
+            found[callback] = (tasks, max(depth, -(-deepest // 8) * 8))
+    return found
+
+
+def task_registers(facts):
+    registers = set()
+    for first, last in re.findall(r"\br(\d+)(?:\.\.r(\d+))? task(?! or)", facts):
+        registers.update(range(int(first), int(last or first) + 1))
+    return registers
+
+
+class Callback:
+    def __init__(self, types, name, code, facts):
+        self.types, self.name = types, name
+        self.tasks, self.used = facts
+        self.read, self.slots = slots.read(code)
+        calls = [one.number for one in self.read if one.code == slots.CALL]
+        self.chooses, self.asks = 1005 in calls, 1006 in calls
+        self.claimed, self.chosen = (self.cell(), self.cell()) if self.chooses else (None, None)
+        self.previous, self.flags = (self.cell(), self.cell()) if self.chooses and name == "select_cpu" else (None, None)
+        self.asked, self.mask, self.bit = (self.cell(), self.cell(), self.cell()) if self.asks else (None, None, None)
+        self.held = [self.cell() for number in calls if number == 1007]
+        self.answer = self.cell() if self.held and name in ANSWERED else None
+        if self.used > 512:
+            raise NoCounterpart(f"{name}: 512 bytes of stack don't hold what the kernel's form keeps there")
+
+    def cell(self):
+        """The offset of eight bytes below all that is used."""
+        self.used += 8
+        return -self.used
+
+    def kernel_call(self, name):
+        return slots.Instruction(slots.CALL, 0, 2, 0, self.types.function(name))
+
+    def field(self, offset):
+        return self.types.offset("task_struct", FIELDS[offset])
+
+    def prologue(self):
+        """Arguments come in the context; a truth value in one byte of eight."""
+        before = [slots.load(number, 1, 8 * number - 8) for number in range(ARGUMENTS[self.name], 0, -1)]
+        if self.name == "stopping":
+            before.append(slots.Instruction(0x54, 2, 0, 0, 1))
+        if self.previous:
+            before += [slots.store(10, self.previous, 2), slots.store(10, self.flags, 3)]
+        for cell in [self.claimed] * self.chooses + self.held:
+            before.append(slots.Instruction(0x7a, 10, 0, cell, 0))
+        return before
+
+    def code(self):
+        held = iter(self.held)
+        lists = [self.instead(one, slot, held) for one, slot in zip(self.read, self.slots)]
+        return slots.written(self.prologue(), lists)[0]
+
+    def instead(self, one, slot, held):
+        tasks, kind = self.tasks.get(slot, set()), one.code & 7
+        if one.code == slots.CALL:
+            return self.helper(one.number, held)
+        if one.code == slots.EXIT:
+            return self.release() + [one]
+        if kind == 1 and one.src in tasks and one.code in WIDTHS:
+            return self.load_field(one)
+        if kind in (2, 3) and one.dst in tasks:
+            one.offset = self.field(one.offset)
+        return [one]
+
+    def load_field(self, one):
+        if one.offset == GROUP:
+            group = self.types.offset("task_struct", "sched_task_group")
+            number = self.types.offset("task_group", "css.id")
+            # 1 is the number of the root, and 2 of the first group.
+            return [slots.load(one.dst, one.src, group), slots.Instruction(0x61, one.dst, one.dst, number), slots.Instruction(0x04, one.dst, 0, 0, -2)]
+        one.offset = self.field(one.offset)
+        return [one]
+
+    def release(self):
+        """Gives tasks that were asked for by their pids back."""
+        lines = [slots.store(10, self.answer, 0)] if self.answer else []
+        for cell in self.held:
+            lines += [slots.load(1, 10, cell), slots.Instruction(0x15, 1, 0, 1, 0), self.kernel_call("bpf_task_release")]
+        return lines + ([slots.load(0, 10, self.answer)] if self.answer else [])
+
+    def helper(self, number, held):
+        if number in (1, 5):
+            return [slots.call(number)]
+        if number == 1001:
+            return [slots.Instruction(0xb4, 2, 0, 0, -1), self.kernel_call("scx_bpf_create_dsq"), slots.Instruction(0xbf, 0, 0, 32)]
+        if number in (1002, 1003):
+            name = "scx_bpf_dsq_insert" + ("_vtime" if number == 1003 else "")
+            return [self.kernel_call(name), slots.move_number(0, 0)]
+        if number == 1004:
+            return [self.kernel_call("scx_bpf_dsq_move_to_local"), slots.Instruction(0x54, 0, 0, 0, 1)]
+        if number == 1005:
+            return self.choose()
+        if number == 1006:
+            return self.ask_idle()
+        if number == 1007:
+            return [self.kernel_call("bpf_task_from_pid"), slots.store(10, next(held), 0)]
+        return [self.kernel_call("scx_bpf_dsq_nr_queued"), slots.Instruction(0xbf, 0, 0, 32)]
+
+    def choose(self):
+        """The kernel's choice claims a processor that is idle, and says so in a byte."""
+        if self.previous:
+            lines = [slots.load(2, 10, self.previous), slots.load(3, 10, self.flags)]
+        else:
+            lines = [slots.Instruction(0x61, 2, 1, self.field(24)), slots.move_number(3, 0)]
+        lines += [slots.move(4, 10), slots.add_number(4, self.claimed), self.kernel_call("scx_bpf_select_cpu_dfl")]
+        return lines + [slots.Instruction(0xbf, 0, 0, 32), slots.store(10, self.chosen, 0)]
+
+    def ask_idle(self):
+        """1 for the processor that was claimed; else what the mask of idle ones says."""
+        ask = [self.kernel_call("scx_bpf_get_idle_cpumask"), slots.store(10, self.mask, 0), slots.load(1, 10, self.asked), slots.move(2, 0)]
+        ask += [self.kernel_call("bpf_cpumask_test_cpu"), slots.Instruction(0x54, 0, 0, 0, 1), slots.store(10, self.bit, 0)]
+        ask += [slots.load(1, 10, self.mask), self.kernel_call("scx_bpf_put_idle_cpumask"), slots.load(0, 10, self.bit)]
+        lines = [slots.store(10, self.asked, 1)]
+        if self.chooses:
+            lines += [slots.Instruction(0x71, 0, 10, self.claimed), slots.Instruction(0x15, 0, 0, 4, 0), slots.load(0, 10, self.chosen)]
+            lines += [slots.Instruction(0x5d, 0, 1, 2), slots.move_number(0, 1), slots.Instruction(slots.GOTO, 0, 0, len(ask))]
+        return lines + ask
+
+
+def exit_code(types, number):
+    """Keeps kind, code and time of the exit in the last map."""
+    lines = [slots.load(1, 1, 0), slots.Instruction(0x61, 6, 1, types.offset("scx_exit_info", "kind"))]
+    lines += [slots.load(7, 1, types.offset("scx_exit_info", "exit_code")), slots.Instruction(0x62, 10, 0, -4, 0)]
+    lines += [slots.move(2, 10), slots.add_number(2, -4), slots.wide_number(1, number, 5), slots.call(1)]
+    lines += [slots.Instruction(0x15, 0, 0, 5, 0), slots.move(8, 0), slots.store(8, 0, 6), slots.store(8, 8, 7), slots.call(5), slots.store(8, 16, 0)]
+    return slots.written(lines + [slots.Instruction(slots.EXIT)], [])[0]
+
+
+def code_of(scxsim, policy, callback):
+    """The slots of a callback, whichever way they are written, or None."""
+    if callback in policy.get("slots", {}):
+        return bytes.fromhex("".join(policy["slots"][callback].split()))
+    if callback not in policy.get("code", {}):
+        return None
+    with tempfile.NamedTemporaryFile("w", suffix=".asm") as file:
+        file.write(policy["code"][callback])
+        file.flush()
+        return subprocess.run([scxsim, "asm", file.name], stdout=subprocess.PIPE).stdout
+
+
+def policy_lines(types, scxsim, path):
+    policy, facts = tomllib.loads(Path(path).read_text()), known(scxsim, path)
+    maps = [(one["entries"], one["value_size"]) for one in policy.get("map", [])]
+    start = types.offset("bpf_struct_ops_sched_ext_ops", "data")
+    members = {name: (number, start + offset) for number, (name, offset) in enumerate(types.members("sched_ext_ops"))}
+    yield f"ops {types.struct('bpf_struct_ops_sched_ext_ops')} {types.size('bpf_struct_ops_sched_ext_ops')} {types.struct('sched_ext_ops')}"
+    for entries, size in [*maps, (1, EXIT_VALUE)]:
+        yield f"map {entries} {size}"
+    yield f"set {members['flags'][1]} 8 {types.flag('SCX_OPS_SWITCH_PARTIAL')}"
+    yield f"set {members['timeout_ms'][1]} 4 {policy.get('timeout_ms', 0)}"
+    yield f"name {members['name'][1]} {policy.get('name', 'policy')}"
+    for callback in ARGUMENTS:
+        code = code_of(scxsim, policy, callback)
+        if code is not None:
+            code = Callback(types, callback, code, facts[callback]).code()
+            yield f"program {callback} {members[callback][0]} {members[callback][1]} {int(callback == 'init')} {code.hex()}"
+    yield f"program exit {members['exit'][0]} {members['exit'][1]} 0 {exit_code(types, len(maps)).hex()}"
+
+
+def nice_of(weight):
+    """The nice value whose weight is nearest."""
+    return min(range(40), key=lambda at: abs(NICE[at] * 100 / 1024 - weight)) - 20
+
+
+def workload_lines(path, by_groups):
+    """Weights of groups are nice values of their tasks, or weights of cgroups."""
+    workload = tomllib.loads(Path(path).read_text())
+    if "change" in workload or any("cpu_max" in group for group in workload["group"]):
+        raise NoCounterpart("changes of weights and cpu_max are not passed on to a kernel")
+    names = [group["name"] for group in workload["group"]]
+    weights = [group.get("weight", 100) for group in workload["group"]]
+    for group, weight in zip(workload["group"], weights):
+        yield f"group {names.index(group['parent']) if 'parent' in group else -1} {weight if by_groups else 100}"
+    for task in workload["task"]:
+        group = names.index(task["group"])
+        nice = 0 if by_groups else nice_of(weights[group])
+        yield f"task {task['name']} {group} {nice} {task.get('start', 0)} {task.get('run', 0)} {task.get('sleep', 0)}"
+    yield f"go {workload['cpus']} {workload['ms']}"
