@@ -82,7 +82,7 @@ class Policy:
             if symbol:
                 self.take_function(ops, functions, member, self.function_at(symbol, int.from_bytes(content[offset:offset + 8], "little")))
             elif member == "name":
-                self.name = text_at(content + b"\0", offset)
+                self.take_name(ops, text_at(content + b"\0", offset))
             else:
                 number = int.from_bytes(content[offset:offset + self.types.size(of)], "little")
                 self.take_number(ops, member, number)
@@ -103,6 +103,12 @@ class Policy:
             self.warn(f"{self.place_of_text(symbol.name)}: warning: {member} is left out: {names.LEFT_OUT[member]}")
         else:
             self.refuse(f"{place} isn't here: {names.NO_CALLBACK.get(member, 'the host has nothing like it')}")
+
+    def take_name(self, ops, name):
+        if re.fullmatch(r"[a-z][a-z0-9_]{0,15}", name):
+            self.name = name
+        elif name:
+            self.warn(f"{self.place_of_text(ops.name)}: warning: the name {quoted(name)} is left out: here it has 1 to 16 characters, a to z, 0 to 9 and _, a letter first")
 
     def take_number(self, ops, member, number):
         place = self.place_of_text(ops.name)
@@ -246,7 +252,7 @@ class Policy:
             lines.append(f"# The queue {NEVER_THERE + number} is never there: {place} says {quoted(message)}")
         if self.globals.size:
             lines.append(f"# Map 0 has the variables: {self.globals.names()}")
-        if re.fullmatch(r"[a-z][a-z0-9_]{0,15}", self.name):
+        if self.name:
             lines.append(f'name = "{self.name}"')
         if self.timeout:
             lines.append(f"timeout_ms = {self.timeout}")
