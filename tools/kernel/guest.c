@@ -12,6 +12,7 @@
  *   group PARENT WEIGHT                 a cgroup; PARENT is the place of another, or -1
  *   task NAME GROUP NICE START RUN SLEEP       a process; times in milliseconds
  *   go CPUS MS                          loads, attaches, runs and writes
+ *   load                                loads alone, and writes the verdict on each program
  */
 #define _GNU_SOURCE
 #include <errno.h>
@@ -249,6 +250,21 @@ static void make_map(int entries, int size)
 	maps[map_count++] = bpf(MAP_CREATE, &request);
 }
 
+/* Loads the programs and puts their files into the value; whether all were accepted. */
+static int load_into_value(void)
+{
+	for (int at = 0; at < program_count; at++) {
+		uint64_t file;
+
+		name_maps(&programs[at]);
+		if (!load_program(&programs[at]))
+			return 0;
+		file = programs[at].file;
+		memcpy(value + programs[at].offset, &file, 8);
+	}
+	return 1;
+}
+
 /* Puts the policy in force; the link that holds it there, or -1. */
 static int attach(int *ops)
 {
@@ -256,15 +272,8 @@ static int attach(int *ops)
 	uint32_t zero = 0;
 	int link;
 
-	for (int at = 0; at < program_count; at++) {
-		uint64_t file;
-
-		name_maps(&programs[at]);
-		if (!load_program(&programs[at]))
-			return -1;
-		file = programs[at].file;
-		memcpy(value + programs[at].offset, &file, 8);
-	}
+	if (!load_into_value())
+		return -1;
 	memset(&request, 0, sizeof(request));
 	request.map.type = TYPE_STRUCT_OPS;
 	request.map.key_size = 4;
@@ -497,6 +506,16 @@ static void forget(void)
 	memset(value, 0, sizeof(value));
 }
 
+/* What the kernel's verifier says of each program. */
+static void load_all(void)
+{
+	for (int at = 0; at < program_count; at++) {
+		name_maps(&programs[at]);
+		if (load_program(&programs[at]))
+			fprintf(out, "accepted %s\n", programs[at].callback);
+	}
+}
+
 static void take_program(const char *rest)
 {
 	struct program *program = &programs[program_count++];
@@ -533,6 +552,8 @@ static void take_line(const char *word, const char *rest)
 		sscanf(rest, "%20s %d %d %d %d %d", task->name, &task->group, &task->nice, &task->start, &task->run, &task->sleep);
 	} else if (!strcmp(word, "go") && sscanf(rest, "%d %d", &offset, &size) == 2) {
 		go(offset, size);
+	} else if (!strcmp(word, "load")) {
+		load_all();
 	}
 }
 

@@ -79,7 +79,7 @@ def results_of(lines):
         if word == "kernel":
             kernel = rest.strip()
         elif word == "case":
-            result = {"tasks": {}, "log": [], "wrong": [], "state": "", "kind": 0, "at": 0, "kernel": kernel}
+            result = {"tasks": {}, "verdicts": [], "log": [], "wrong": [], "state": "", "kind": 0, "at": 0, "kernel": kernel}
             results.append(result)
         elif word == "task":
             name, run, turns = rest.split()
@@ -90,6 +90,8 @@ def results_of(lines):
             result["log"].append(rest)
         elif word in ("error", "refused"):
             result["wrong"].append(line)
+        elif word == "accepted":
+            result["verdicts"].append(rest)
         elif word == "state":
             result["state"] = rest.strip()
     return results
