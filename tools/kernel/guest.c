@@ -186,11 +186,14 @@ static void name_maps(struct program *program)
 	}
 }
 
-/* The last line of the kernel's log of a refused program, without its counts. */
+/* The last line of the kernel's log of a refused program, without its counts and what 7.x explains behind them. */
 static const char *reason_of(char *log)
 {
 	const char *reason = "";
+	char *explained = strstr(log, "\nVerification failed:");
 
+	if (explained)
+		*explained = 0;
 	for (char *text = strtok(log, "\n"); text; text = strtok(0, "\n"))
 		if (strncmp(text, "processed ", 10) && strncmp(text, "verification time", 17) && strncmp(text, "stack depth", 11) && text[0] != '|')
 			reason = text;

@@ -127,7 +127,7 @@ class Callback:
         return [one]
 
     def kernel_call(self, one, symbol):
-        name = symbol.name if symbol else "a function"
+        name = symbol.name.removeprefix("__COMPAT_") if symbol else "a function"
         if symbol and symbol.section is None and name in names.HELPERS:
             return [slots.call(names.HELPERS[name])]
         if symbol and symbol.section is None:

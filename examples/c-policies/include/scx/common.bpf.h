@@ -207,6 +207,7 @@ struct task_struct {
 #define BPF_F_TIMER_CPU_PIN 2
 #define BPF_MAX_LOOPS (8 * 1024 * 1024)
 #define NR_CPUS 1024
+#define SCX_CPUPERF_ONE 1024
 
 /* Queues, slices and flags, with the kernel's numbers. */
 #define SCX_DSQ_FLAG_BUILTIN (1ull << 63)
