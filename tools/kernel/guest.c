@@ -250,7 +250,9 @@ static void make_map(int entries, int size)
 	request.map.key_size = 4;
 	request.map.value_size = size;
 	request.map.entries = entries;
-	maps[map_count++] = bpf(MAP_CREATE, &request);
+	maps[map_count] = bpf(MAP_CREATE, &request);
+	if (maps[map_count++] < 0)
+		fprintf(out, "error no map of %d elements of %d bytes: %s\n", entries, size, strerror(errno));
 }
 
 /* Loads the programs and puts their files into the value; whether all were accepted. */

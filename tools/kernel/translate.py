@@ -2,7 +2,7 @@
 
 A callback is taken instruction by instruction. Arguments are loaded from the context, a field of a task is the
 kernel's own at its offset there, and helpers are functions of the kernel. Which registers point to tasks is what
-scxsim explain says.
+scxsim explain says; of a callback that is refused here, registers.py has it.
 """
 import re
 import subprocess
@@ -15,7 +15,7 @@ from kernel import slots
 
 ARGUMENTS = {"init": 0, "enable": 1, "select_cpu": 3, "enqueue": 2, "dispatch": 2, "running": 1, "stopping": 2}
 ANSWERED = ("init", "select_cpu")
-WIDTHS = {0x61: 4, 0x69: 2, 0x71: 1, 0x79: 8}
+LOADS = (0x61, 0x69, 0x71, 0x79, 0x81, 0x89, 0x91)
 FIELDS = {0: "pid", 4: "scx.weight", 8: "scx.slice", 16: "scx.dsq_vtime", 24: "thread_info.cpu", 32: "se.sum_exec_runtime"}
 GROUP = 28
 # The kernel's weights of the nice values -20 to 19, where 1024 is that of 0.
@@ -29,12 +29,11 @@ def output_of(*words):
 
 
 def known(scxsim, policy):
-    """Of each callback: of each slot the registers that point to tasks, and how deep the stack is used."""
+    """Of each callback: of each slot the registers that point to tasks, and how deep the stack is used. Of one that is
+    refused only as far as it was looked at."""
     found, callback = {}, None
     for line in output_of(scxsim, "explain", policy).splitlines():
         if verdict := re.match(r"(\w+) (ok|refused) \d+", line):
-            if verdict[2] == "refused":
-                raise NoCounterpart(f"scxsim verify refuses it: {line}")
             callback = verdict[1]
             found[callback] = ({}, 0)
         elif instruction := re.match(r" *(\d+)  (\S.*?)(?:  +(.*))?$", line):
@@ -77,6 +76,8 @@ class Callback:
         return slots.Instruction(slots.CALL, 0, 2, 0, self.types.function(name))
 
     def field(self, offset):
+        if offset not in FIELDS:
+            raise NoCounterpart(f"{self.name}: a kernel's task has nothing that stands for byte {offset}")
         return self.types.offset("task_struct", FIELDS[offset])
 
     def prologue(self):
@@ -101,7 +102,7 @@ class Callback:
             return self.helper(one.number, held)
         if one.code == slots.EXIT:
             return self.release() + [one]
-        if kind == 1 and one.src in tasks and one.code in WIDTHS:
+        if one.code in LOADS and one.src in tasks:
             return self.load_field(one)
         if kind in (2, 3) and one.dst in tasks:
             one.offset = self.field(one.offset)
@@ -139,7 +140,9 @@ class Callback:
             return self.ask_idle()
         if number == 1007:
             return [self.kernel_call("bpf_task_from_pid"), slots.store(10, next(held), 0)]
-        return [self.kernel_call("scx_bpf_dsq_nr_queued"), slots.Instruction(0xbf, 0, 0, 32)]
+        if number == 1008:
+            return [self.kernel_call("scx_bpf_dsq_nr_queued"), slots.Instruction(0xbf, 0, 0, 32)]
+        return [slots.call(number)]
 
     def choose(self):
         """The kernel's choice claims a processor that is idle, and says so in a byte."""
@@ -183,23 +186,37 @@ def code_of(scxsim, policy, callback):
         return subprocess.run([scxsim, "asm", file.name], stdout=subprocess.PIPE).stdout
 
 
+def ops_lines(types, policy):
+    """The lines for a policy before its programs."""
+    start = types.offset("bpf_struct_ops_sched_ext_ops", "data")
+    members = dict(types.members("sched_ext_ops"))
+    yield f"ops {types.struct('bpf_struct_ops_sched_ext_ops')} {types.size('bpf_struct_ops_sched_ext_ops')} {types.struct('sched_ext_ops')}"
+    for entries, size in [*shapes_of_maps(policy), (1, EXIT_VALUE)]:
+        yield f"map {entries} {size}"
+    yield f"set {start + members['flags']} 8 {types.flag('SCX_OPS_SWITCH_PARTIAL')}"
+    yield f"set {start + members['timeout_ms']} 4 {policy.get('timeout_ms', 0)}"
+    yield f"name {start + members['name']} {policy.get('name', 'policy')}"
+
+
+def shapes_of_maps(policy):
+    return [(one["entries"], one["value_size"]) for one in policy.get("map", [])]
+
+
+def program_line(types, callback, code):
+    """The line for a program that is in the kernel's form."""
+    start = types.offset("bpf_struct_ops_sched_ext_ops", "data")
+    number, offset = next((number, offset) for number, (name, offset) in enumerate(types.members("sched_ext_ops")) if name == callback)
+    return f"program {callback} {number} {start + offset} {int(callback == 'init')} {code.hex()}"
+
+
 def policy_lines(types, scxsim, path):
     policy, facts = tomllib.loads(Path(path).read_text()), known(scxsim, path)
-    maps = [(one["entries"], one["value_size"]) for one in policy.get("map", [])]
-    start = types.offset("bpf_struct_ops_sched_ext_ops", "data")
-    members = {name: (number, start + offset) for number, (name, offset) in enumerate(types.members("sched_ext_ops"))}
-    yield f"ops {types.struct('bpf_struct_ops_sched_ext_ops')} {types.size('bpf_struct_ops_sched_ext_ops')} {types.struct('sched_ext_ops')}"
-    for entries, size in [*maps, (1, EXIT_VALUE)]:
-        yield f"map {entries} {size}"
-    yield f"set {members['flags'][1]} 8 {types.flag('SCX_OPS_SWITCH_PARTIAL')}"
-    yield f"set {members['timeout_ms'][1]} 4 {policy.get('timeout_ms', 0)}"
-    yield f"name {members['name'][1]} {policy.get('name', 'policy')}"
+    yield from ops_lines(types, policy)
     for callback in ARGUMENTS:
         code = code_of(scxsim, policy, callback)
         if code is not None:
-            code = Callback(types, callback, code, facts[callback]).code()
-            yield f"program {callback} {members[callback][0]} {members[callback][1]} {int(callback == 'init')} {code.hex()}"
-    yield f"program exit {members['exit'][0]} {members['exit'][1]} 0 {exit_code(types, len(maps)).hex()}"
+            yield program_line(types, callback, Callback(types, callback, code, facts[callback]).code())
+    yield program_line(types, "exit", exit_code(types, len(shapes_of_maps(policy))))
 
 
 def nice_of(weight):

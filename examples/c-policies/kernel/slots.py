@@ -6,6 +6,10 @@ WIDE, GOTO, LONG_GOTO, CALL, EXIT = 0x18, 0x05, 0x06, 0x85, 0x95
 ATOMIC = (0xc3, 0xdb)
 
 
+class JumpToNothing(Exception):
+    """A jump leads to where no instruction begins."""
+
+
 @dataclass
 class Instruction:
     code: int
@@ -49,6 +53,8 @@ def read(code):
     for slot, instruction in zip(slots, found):
         if instruction.is_jump() and not (instruction.code == GOTO and instruction.offset == 0):
             distance = instruction.number if instruction.code == LONG_GOTO else instruction.offset
+            if slot + 1 + distance not in numbers:
+                raise JumpToNothing(slot)
             instruction.target = numbers[slot + 1 + distance]
     return found, slots
 

@@ -1,0 +1,127 @@
+"""Callbacks that are put before both verifiers: those of policy files, and generated ones."""
+import re
+import subprocess
+import tomllib
+from importlib.machinery import SourceFileLoader
+from importlib.util import module_from_spec, spec_from_loader
+from pathlib import Path
+from random import Random
+
+from kernel_types import NoCounterpart
+from kernel import slots
+from mending import callbacks_of, explained, findings, mended
+from registers import guessed
+from translate import Callback, code_of, known, ops_lines, program_line
+
+PAIRS = Path(__file__).resolve().parents[2] / "tests" / "pairs"
+RUN = ("fifo", "fair", "ordered", "assorted", "built-in queues", "ring of held tasks", "marked held tasks", "selecting", "partial", "busy code")
+CLASSES = {		# of generated callbacks: the sorts of tests/pairs that each is made of
+    "of policies that run": RUN,
+    "with one mistake": "verify ",
+    "of instructions at random": ("any lines",),
+    "with a changed text": ("changed policy",),
+}
+
+
+class Program:
+    """One callback, with the verdict here and what the kernel says: "" where it is accepted, None where it wasn't asked."""
+
+    def __init__(self, label, name, path, callback, refusal):
+        self.label, self.name, self.path, self.callback, self.refusal = label, name, path, callback, refusal
+        self.there, self.mended_there, self.no_counterpart = None, None, ""
+
+    def is_accepted_here_alone(self):
+        return not self.refusal and bool(self.there)
+
+    def is_accepted_mended(self):
+        return self.mended_there == ""
+
+    def cases(self, types, scxsim):
+        """What the guest is to be asked: what notes the answer, and the lines."""
+        try:
+            yield self.note, case_lines(types, scxsim, self.path, self.callback, self.refusal)
+        except NoCounterpart as error:
+            self.no_counterpart = str(error)
+            return
+        if not self.refusal and self.has_findings(scxsim):
+            path = Path(self.path).with_suffix(".mended")
+            path.write_text(mended(scxsim, self.path))
+            yield self.note_mended, case_lines(types, scxsim, path, self.callback, "")
+
+    def note(self, answer):
+        self.there = answer.removeprefix(f"refused {self.callback} ")
+
+    def note_mended(self, answer):
+        self.mended_there = answer.removeprefix(f"refused {self.callback} ")
+
+    def has_findings(self, scxsim):
+        return any(findings(callbacks_of(explained(scxsim, self.path))))
+
+
+def in_kernel_form(types, scxsim, path, callback, code, refusal):
+    """A callback for the kernel. Where jumps lead to nothing it stays as it is, as a kernel looks at jumps first."""
+    try:
+        facts = guessed(callback, code) if refusal else known(scxsim, path)[callback]
+        return Callback(types, callback, code, facts).code()
+    except slots.JumpToNothing:
+        return code
+
+
+def case_lines(types, scxsim, path, callback, refusal):
+    policy = tomllib.loads(Path(path).read_text())
+    program = in_kernel_form(types, scxsim, path, callback, code_of(scxsim, policy, callback), refusal)
+    return "\n".join(["case -", *ops_lines(types, policy), program_line(types, callback, program), "load"]) + "\n"
+
+
+def verdicts_here(scxsim, path):
+    """Of each callback of a policy file the name of its refusal, or ""; nothing where the file itself is refused."""
+    said = subprocess.run([scxsim, "verify", path], stdout=subprocess.PIPE).stdout.decode(errors="replace")
+    found = re.findall(r"^(\w+) (?:ok \d+|refused \d+ (\S+).*)$", said, re.M)
+    return {} if said.startswith("refused:") else dict(found)
+
+
+def alone(path, callback, folder, number):
+    """The policy file with that one callback."""
+    policy = tomllib.loads(Path(path).read_text())
+    lines = [f"[[map]]\nentries = {one['entries']}\nvalue_size = {one['value_size']}" for one in policy.get("map", [])]
+    table = "code" if callback in policy.get("code", {}) else "slots"
+    lines += [f"[{table}]", f'{callback} = """', policy[table][callback].strip("\n"), '"""']
+    target = folder / f"{number:05}.toml"
+    target.write_text("\n".join(lines) + "\n")
+    return target
+
+
+def of_files(scxsim, paths, folder):
+    number = 0
+    for path in paths:
+        for callback, refusal in verdicts_here(scxsim, path).items():
+            number += 1
+            yield Program("of the files", f"{path} {callback}", alone(path, callback, folder, number), callback, refusal)
+
+
+def pairs_of_tests():
+    """tests/pairs, the project's generator."""
+    loader = SourceFileLoader("pairs", str(PAIRS))
+    module = module_from_spec(spec_from_loader("pairs", loader))
+    loader.exec_module(module)
+    return module
+
+
+def some_callback(random, verdicts):
+    """A callback that is refused, if there is one."""
+    return random.choice([name for name, refusal in verdicts.items() if refusal] or list(verdicts))
+
+
+def generated(scxsim, seed, count, folder):
+    """As many callbacks of each class, each of a policy of its own."""
+    sorts, names = pairs_of_tests().SORTS, list(CLASSES)
+    for number in range(count):
+        label = names[number % len(names)]
+        makers = [make for _, sort, make in sorts if (sort.startswith(CLASSES[label]) if isinstance(CLASSES[label], str) else sort in CLASSES[label])]
+        random, path, verdicts = Random(f"{seed} {number}"), folder / "policy.toml", {}
+        while not verdicts:
+            policy, _ = random.choice(makers)(random)
+            path.write_bytes(policy.encode(errors="surrogatepass"))
+            verdicts = verdicts_here(scxsim, path)
+        callback = some_callback(random, verdicts)
+        yield Program(label, f"callback {number} of seed {seed}", alone(path, callback, folder, number), callback, verdicts[callback])
