@@ -8,10 +8,8 @@ from pathlib import Path
 from random import Random
 
 from kernel_types import NoCounterpart
-from kernel import slots
 from mending import callbacks_of, explained, findings, mended
-from registers import guessed
-from translate import Callback, code_of, known, ops_lines, program_line
+from translate import code_of, known, ops_lines, program_line, translated
 
 PAIRS = Path(__file__).resolve().parents[2] / "tests" / "pairs"
 RUN = ("fifo", "fair", "ordered", "assorted", "built-in queues", "ring of held tasks", "marked held tasks", "selecting", "partial", "busy code")
@@ -39,14 +37,14 @@ class Program:
     def cases(self, types, scxsim):
         """What the guest is to be asked: what notes the answer, and the lines."""
         try:
-            yield self.note, case_lines(types, scxsim, self.path, self.callback, self.refusal)
+            yield self.note, case_lines(types, scxsim, self.path, self.callback)
         except NoCounterpart as error:
             self.no_counterpart = str(error)
             return
         if not self.refusal and self.has_findings(scxsim):
             path = Path(self.path).with_suffix(".mended")
             path.write_text(mended(scxsim, self.path))
-            yield self.note_mended, case_lines(types, scxsim, path, self.callback, "")
+            yield self.note_mended, case_lines(types, scxsim, path, self.callback)
 
     def note(self, answer):
         self.there = answer.removeprefix(f"refused {self.callback} ")
@@ -58,18 +56,10 @@ class Program:
         return any(findings(callbacks_of(explained(scxsim, self.path))))
 
 
-def in_kernel_form(types, scxsim, path, callback, code, refusal):
-    """A callback for the kernel. Where jumps lead to nothing it stays as it is, as a kernel looks at jumps first."""
-    try:
-        facts = guessed(callback, code) if refusal else known(scxsim, path)[callback]
-        return Callback(types, callback, code, facts).code()
-    except slots.JumpToNothing:
-        return code
-
-
-def case_lines(types, scxsim, path, callback, refusal):
+def case_lines(types, scxsim, path, callback):
+    """The lines that ask the guest for its verdict on one callback."""
     policy = tomllib.loads(Path(path).read_text())
-    program = in_kernel_form(types, scxsim, path, callback, code_of(scxsim, policy, callback), refusal)
+    program = translated(types, callback, code_of(scxsim, policy, callback), known(scxsim, path))
     return "\n".join(["case -", *ops_lines(types, policy), program_line(types, callback, program), "load"]) + "\n"
 
 

@@ -2,7 +2,7 @@
 
 A callback is taken instruction by instruction. Arguments are loaded from the context, a field of a task is the
 kernel's own at its offset there, and helpers are functions of the kernel. Which registers point to tasks is what
-scxsim explain says; of a callback that is refused here, registers.py has it.
+scxsim explain says; where it refuses a callback, kernel/registers.py.
 """
 import re
 import subprocess
@@ -12,6 +12,7 @@ from pathlib import Path
 
 from kernel_types import KernelTypes, NoCounterpart
 from kernel import slots
+from kernel.registers import Registers
 
 ARGUMENTS = {"init": 0, "enable": 1, "select_cpu": 3, "enqueue": 2, "dispatch": 2, "running": 1, "stopping": 2}
 ANSWERED = ("init", "select_cpu")
@@ -29,20 +30,27 @@ def output_of(*words):
 
 
 def known(scxsim, policy):
-    """Of each callback: of each slot the registers that point to tasks, and how deep the stack is used. Of one that is
-    refused only as far as it was looked at."""
+    """Of each callback that is accepted here: of each slot the registers that point to tasks, and how deep the stack is used."""
     found, callback = {}, None
     for line in output_of(scxsim, "explain", policy).splitlines():
         if verdict := re.match(r"(\w+) (ok|refused) \d+", line):
-            callback = verdict[1]
-            found[callback] = ({}, 0)
-        elif instruction := re.match(r" *(\d+)  (\S.*?)(?:  +(.*))?$", line):
+            callback = verdict[1] if verdict[2] == "ok" else None
+            if callback:
+                found[callback] = ({}, 0)
+        elif callback and (instruction := re.match(r" *(\d+)  (\S.*?)(?:  +(.*))?$", line)):
             tasks, depth = found[callback]
             facts = instruction[3] or ""
             tasks[int(instruction[1])] = task_registers(facts)
             deepest = max([0, *(int(number) for number in re.findall(r"stack -(\d+)", facts))])
             found[callback] = (tasks, max(depth, -(-deepest // 8) * 8))
     return found
+
+
+def guessed(callback, code):
+    """The same of one callback without explain, as of one that is refused."""
+    instructions, numbers = slots.read(code)
+    found = Registers(callback, instructions)
+    return {slot: found.tasks(at) for at, slot in enumerate(numbers)}, found.depth
 
 
 def task_registers(facts):
@@ -209,13 +217,22 @@ def program_line(types, callback, code):
     return f"program {callback} {number} {start + offset} {int(callback == 'init')} {code.hex()}"
 
 
+def translated(types, callback, code, facts):
+    """A callback for the kernel. Where jumps lead to nothing it stays as it is, as a kernel looks at jumps first."""
+    try:
+        return Callback(types, callback, code, facts.get(callback) or guessed(callback, code)).code()
+    except slots.JumpToNothing:
+        return code
+
+
 def policy_lines(types, scxsim, path):
+    """The lines for a policy with all its callbacks."""
     policy, facts = tomllib.loads(Path(path).read_text()), known(scxsim, path)
     yield from ops_lines(types, policy)
     for callback in ARGUMENTS:
         code = code_of(scxsim, policy, callback)
         if code is not None:
-            yield program_line(types, callback, Callback(types, callback, code, facts[callback]).code())
+            yield program_line(types, callback, translated(types, callback, code, facts))
     yield program_line(types, "exit", exit_code(types, len(shapes_of_maps(policy))))
 
 

@@ -3,6 +3,7 @@ import re
 
 from . import names, slots
 from .globals import holds_variables
+from .registers import Registers
 
 VARIABLES = 0	# the map that has them, if any does
 NEVER_THERE = (1 << 63) + 16	# the number of a queue that no policy can have; that of message 0
@@ -75,8 +76,9 @@ class Callback:
         read, loop = slots.forward(read)
         if loop:
             self.refuse(loop, "a loop that clang didn't write out: a constant number of rounds is wanted, and not too many")
-        for one, symbol in read:
-            changed.append(self.instead(one, symbol))
+        registers = Registers(self.name, [one for one, _ in read])
+        for at, (one, symbol) in enumerate(read):
+            changed.append(self.instead(one, symbol, registers.tasks(at)))
             for new in changed[-1]:
                 new.place = one.place
         return changed
@@ -95,7 +97,7 @@ class Callback:
         second[0] = [slots.load(1, 10, -self.task_cell), *second[0]]
         return lists + second
 
-    def instead(self, one, symbol):
+    def instead(self, one, symbol, tasks):
         if one.code == slots.WIDE and symbol:
             return self.address(one, symbol)
         if one.code == slots.CALL and (symbol or one.src == 1):
@@ -104,7 +106,7 @@ class Callback:
             return self.note(one)
         if one.code in slots.ATOMIC:
             self.refuse(one, "an atomic operation: of these __sync_fetch_and_add is here; write a load, arithmetic and a store")
-        if one.code in (0x07, 0x61, 0x62, 0x63, 0x69, 0x6a, 0x6b, 0x71, 0x72, 0x73, 0x79, 0x7a, 0x7b):
+        if one.code in (0x61, 0x62, 0x63, 0x69, 0x6a, 0x6b, 0x71, 0x72, 0x73, 0x79, 0x7a, 0x7b) or one.code == 0x07 and one.dst in tasks:
             return self.field(one)
         if one.code == slots.EXIT and self.name in names.ANSWERED:
             return [slots.Instruction(0xbc, 0, 0), one]	# w0 = w0, as a kernel takes 32 bits

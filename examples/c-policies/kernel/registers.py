@@ -1,10 +1,8 @@
-"""Which registers of a callback point to a task, and how deep its stack is used, also where the verifier refuses it.
+"""Which registers of a callback point to a task, and how deep its stack is used, whether or not it is safe.
 
-Control is followed forward once, as jumps here go forward. Where two ways meet, what one of them knows is kept: a
-callback in which the other way matters is refused by both verifiers.
+Control is followed forward once, as jumps here go forward. Where two ways meet, what one of them knows is kept.
 """
-import kernel_types  # noqa: F401, which says where kernel is
-from kernel import slots
+from . import slots
 
 TASKS = {"enable": 1, "select_cpu": 1, "enqueue": 1, "running": 1, "stopping": 1, "dispatch": 2}
 TASK = "task"
@@ -28,6 +26,10 @@ class Registers:
             after = self.behind(one, dict(self.before[at]))
             for following in slots.successors(instructions, at):
                 self.before[following] = {**after, **self.before[following]}
+
+    def tasks(self, at):
+        """The registers that point to a task before an instruction."""
+        return {place for place, fact in self.before[at].items() if fact == TASK and isinstance(place, int)}
 
     def behind(self, one, state):
         """What is known behind an instruction."""
@@ -76,13 +78,3 @@ class Registers:
 
 def cell_at(place):
     return "cell", place // 8
-
-
-def guessed(callback, code):
-    """The same as translate.known says of a callback: of each slot the registers that point to tasks, and the depth."""
-    instructions, numbers = slots.read(code)
-    found = Registers(callback, instructions)
-    tasks = {}
-    for slot, state in zip(numbers, found.before):
-        tasks[slot] = {place for place, fact in state.items() if fact == TASK and isinstance(place, int)}
-    return tasks, found.depth
