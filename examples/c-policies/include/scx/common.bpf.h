@@ -319,12 +319,13 @@ INSTEAD void *bpf_map_lookup_elem(void *map, const void *key)
 	return FORGOTTEN(host_map_lookup_elem(map, key));
 }
 
+/* An array's elements are all there from the start, so none is new. */
 #define bpf_map_update_elem(map, key, value, flags) \
 	({ \
 		__typeof__(*(value)) *element_ = bpf_map_lookup_elem(map, key); \
-		if (element_) \
+		if (element_ && !((flags) & BPF_NOEXIST)) \
 			*element_ = *(value); \
-		element_ ? 0l : -7l; \
+		!element_ ? -7l : (flags) & BPF_NOEXIST ? -17l : 0l; \
 	})
 
 #define bpf_task_storage_get(map, p, value, flags) \

@@ -1,7 +1,7 @@
 /* Fields of a task: those that are here, those that are a number, and others. */
 #include <scx/common.bpf.h>
 
-u64 *kept;
+u64 *kept, sum;
 
 void BPF_STRUCT_OPS(fields_enqueue, struct task_struct *p, u64 enq_flags)
 {
@@ -18,6 +18,7 @@ void BPF_STRUCT_OPS(fields_enqueue, struct task_struct *p, u64 enq_flags)
 
 void BPF_STRUCT_OPS(fields_running, struct task_struct *p)
 {
+	sum += 16384;	/* a number like any other, though a field of a task stands as far from its beginning */
 	kept = (u64 *)&p->scx.slice;	/* refused: running: the address of p->scx.slice: read the field where it is used */
 }
 
