@@ -82,8 +82,12 @@ def alone(path, callback, folder, number):
 
 
 def of_files(scxsim, paths, folder):
+    """The callbacks of policy files. A file that is refused as a whole has none, and is named."""
     number = 0
     for path in paths:
+        open(path).close()
+        if not verdicts_here(scxsim, path):
+            print(f"{path}: no callbacks, or no policy file")
         for callback, refusal in verdicts_here(scxsim, path).items():
             number += 1
             yield Program("of the files", f"{path} {callback}", alone(path, callback, folder, number), callback, refusal)

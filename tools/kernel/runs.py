@@ -25,10 +25,10 @@ def here(policy, workload):
 
 
 def reason_of(result):
-    """Why the kernel ejected a policy, in its words."""
-    said = [line.removeprefix("sched_ext: ") for line in result["log"] if "BPF scheduler" not in line and "+0x" not in line]
-    reason = next((re.search(r"disabled \((.*)\)", line)[1] for line in result["log"] if "disabled (" in line), "")
-    return "; ".join([reason, *said])
+    """Why the kernel ejected a policy: the kind, and the last that it said."""
+    kind = next((re.search(r"disabled \((.*)\)", line)[1] for line in result["log"] if "disabled (" in line), "")
+    said = [line for line in result["log"] if "BPF scheduler" not in line and "+0x" not in line]
+    return "; ".join([kind, *(re.sub(r"^sched_ext: \w+: ", "", line) for line in said[-1:])])
 
 
 def ending(result):
