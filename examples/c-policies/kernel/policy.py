@@ -11,7 +11,10 @@ from .globals import GREATEST, Globals, holds_variables
 
 PARTS = {"enable": ["init_task", "enable"]}
 
+
 class Policy:
+    """A policy under way, from the object to the text of a policy file."""
+
     def __init__(self, source, data, settings):
         self.source, self.settings = source, dict(settings)
         self.refusals, self.warnings, self.warned = [], [], set()
