@@ -28,7 +28,7 @@ def look_for_tools():
 
 def kernel_folder(version):
     """The folder with that kernel, fetched where it isn't there yet."""
-    cache = Path(os.environ.get("XDG_CACHE_HOME", Path.home() / ".cache"))
+    cache = Path(os.environ.get("XDG_CACHE_HOME") or Path.home() / ".cache")
     folder = Path(os.environ.get("KERNELS", cache / "scxsim-kernels")) / version
     done = subprocess.run([HERE / "fetch", version, folder], stdout=subprocess.PIPE, stderr=subprocess.PIPE, text=True)
     if done.returncode != 0:
