@@ -6,6 +6,8 @@ from .globals import holds_variables
 from .registers import Registers
 
 VARIABLES = 0	# the map that has them, if any does
+SIGNED_LOAD = 0x81	# of 32 bits, from version 4 on; of a task the host takes unsigned loads alone
+ACCESSES = (0x61, 0x62, 0x63, 0x69, 0x6a, 0x6b, 0x71, 0x72, 0x73, 0x79, 0x7a, 0x7b, SIGNED_LOAD)
 NEVER_THERE = (1 << 63) + 16	# the number of a queue that no policy can have; that of message 0
 
 
@@ -106,7 +108,7 @@ class Callback:
             return self.note(one)
         if one.code in slots.ATOMIC:
             self.refuse(one, "an atomic operation: of these __sync_fetch_and_add is here; write a load, arithmetic and a store")
-        if one.code in (0x61, 0x62, 0x63, 0x69, 0x6a, 0x6b, 0x71, 0x72, 0x73, 0x79, 0x7a, 0x7b) or one.code == 0x07 and one.dst in tasks:
+        if one.code in ACCESSES or one.code == 0x07 and one.dst in tasks:
             return self.field(one)
         if one.code == slots.EXIT and self.name in names.ANSWERED:
             return [slots.Instruction(0xbc, 0, 0), one]	# w0 = w0, as a kernel takes 32 bits
@@ -163,6 +165,9 @@ class Callback:
         if name == "scx.weight":
             self.policy.warn(f"{one.place}: warning: p->scx.weight is the task's part of the processor time, 10000 for all of it; in a kernel 100 is that of any task", name)
         one.offset = names.FIELDS[name] + number - start
+        if one.code == SIGNED_LOAD:
+            one.code = 0x61
+            return [one, slots.Instruction(0xbf, one.dst, one.dst, 32)]
         return [one]
 
     def prologue(self):

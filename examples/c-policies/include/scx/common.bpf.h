@@ -505,18 +505,31 @@ extern void host_error(const char *message) asm("scx_bpf_error");
 #define time_before_eq(a, b) time_after_eq(b, a)
 #define time_delta(after, before) (time_after(after, before) ? (after) - (before) : 0)
 
-/* A pointer to an element of an array of a known length, or NULL. */
+/*
+ * A pointer to an element of an array of a known length, or NULL. Clang knows nothing of the index before the test, nor
+ * that it is the same behind it, so it adds the tested one, and behind the test.
+ */
 #define ARRAY_ELEM_PTR(array, index, length) \
 	({ \
 		u64 index_ = FORGOTTEN((u64)(index)); \
-		index_ < (length) ? &(array)[index_] : NULL; \
+		__typeof__(&(array)[0]) element_ = NULL; \
+		if (index_ < (length)) { \
+			asm volatile("" : "+r"(index_)); \
+			element_ = &(array)[index_]; \
+		} \
+		element_; \
 	})
 
 /* A pointer to a member of what base is, or NULL where it isn't inside: MEMBER_VPTR(rings, [at].pids[next]). */
 #define MEMBER_VPTR(base, member) \
 	({ \
 		u64 offset_ = FORGOTTEN((u64)&((base)member) - (u64)&(base)) & -(u64)_Alignof(__typeof__((base)member)); \
-		offset_ <= sizeof(base) - sizeof((base)member) ? (__typeof__((base)member) *)((char *)&(base) + offset_) : NULL; \
+		__typeof__(&((base)member)) member_ = NULL; \
+		if (offset_ <= sizeof(base) - sizeof((base)member)) { \
+			asm volatile("" : "+r"(offset_)); \
+			member_ = (void *)((char *)&(base) + offset_); \
+		} \
+		member_; \
 	})
 
 /* Functions of the kernel that aren't here. build refuses a call with its line, and says what to write. */
