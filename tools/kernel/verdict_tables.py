@@ -39,15 +39,20 @@ def print_kinds(programs):
         print(f"| {column} | {kind} | {len(those)} | {those[0].name} |")
 
 
-def print_tables(programs):
-    print_counts(programs)
-    print_kinds(programs)
+def print_mended(programs):
+    """What the kernel says of programs that are accepted here alone, without what portable names in them."""
     those = [program for program in programs if program.is_accepted_here_alone()]
     accepted = sum(program.is_accepted_mended() for program in those)
-    print(f"\n{len(those)} are accepted here alone; the kernel accepts {accepted} of them without what portable names")
+    print(f"\n{len(those)} are accepted here alone, and {accepted} of these by the kernel too without what portable names")
     for program in those:
         if not program.is_accepted_mended():
             print(f"{program.name}: {program.there}; without what portable names: {program.mended_there or 'it names nothing'}")
+
+
+def print_tables(programs):
+    print_counts(programs)
+    print_kinds(programs)
+    print_mended(programs)
     for program in programs:
         if column_of(program) in COLUMNS[4:]:
             print(f"{program.name}: {program.no_counterpart or program.there}")
