@@ -12,12 +12,11 @@ from mending import callbacks_of, explained, findings, mended
 from translate import code_of, known, ops_lines, program_line, translated
 
 PAIRS = Path(__file__).resolve().parents[2] / "tests" / "pairs"
-RUN = ("fifo", "fair", "ordered", "assorted", "built-in queues", "ring of held tasks", "marked held tasks", "selecting", "partial", "busy code")
 CLASSES = {		# of generated callbacks: the sorts of tests/pairs that each is made of
-    "of policies that run": RUN,
-    "with one mistake": "verify ",
-    "of instructions at random": ("any lines",),
-    "with a changed text": ("changed policy",),
+    "of policies that run": "fifo|fair|ordered|assorted|built-in queues|ring of held tasks|marked held tasks|selecting|partial|busy code",
+    "with one mistake": "verify .*",
+    "of instructions at random": "any lines",
+    "with a changed text": "changed policy",
 }
 
 
@@ -111,7 +110,7 @@ def generated(scxsim, seed, count, folder):
     sorts, names = pairs_of_tests().SORTS, list(CLASSES)
     for number in range(count):
         label = names[number % len(names)]
-        makers = [make for _, sort, make in sorts if (sort.startswith(CLASSES[label]) if isinstance(CLASSES[label], str) else sort in CLASSES[label])]
+        makers = [make for _, sort, make in sorts if re.fullmatch(CLASSES[label], sort)]
         random, path, verdicts = Random(f"{seed} {number}"), folder / "policy.toml", {}
         while not verdicts:
             policy, _ = random.choice(makers)(random)

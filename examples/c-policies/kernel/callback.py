@@ -57,8 +57,8 @@ class Callback:
         self.read = [policy.read_function(function) for function in functions]
         instructions = [one for read in self.read for one, _ in read]
         self.used = max([0, *(stack_depth([one for one, _ in read]) for read in self.read)])
-        self.uses_globals = any(symbol and symbol.section and holds_variables(symbol.section) for read in self.read for _, symbol in read)
-        self.uses_globals = self.uses_globals or name == "init" and policy.has_values()
+        named = [symbol.section for read in self.read for _, symbol in read if symbol and symbol.section]
+        self.uses_globals = any(holds_variables(section) for section in named) or name == "init" and policy.has_values()
         self.globals_cell = self.cell() if self.uses_globals else None
         self.task_cell = self.cell() if has_init_task else None
         if self.used > 512:
@@ -158,12 +158,14 @@ class Callback:
             return [slots.move_number(one.dst, number)]
         if name == "nr_cpus_allowed" and self.policy.cpus and one.code & 7 == 1:
             return [slots.move_number(one.dst, self.policy.cpus)]
-        if name not in names.FIELDS or one.code == 0x07:
-            what = names.NO_FIELD.get(name, "the host has nothing like it" if name not in names.FIELDS else "read the field where it is used, not by its address")
-            self.refuse(one, f"p->{name} isn't here: {what}" if name not in names.FIELDS else f"the address of p->{name}: {what}")
+        if name not in names.FIELDS:
+            self.refuse(one, f"p->{name} isn't here: {names.NO_FIELD.get(name, 'the host has nothing like it')}")
             return [one]
-        if name == "scx.weight":
-            self.policy.warn(f"{one.place}: warning: p->scx.weight is the task's part of the processor time, 10000 for all of it; in a kernel 100 is that of any task", name)
+        if one.code == 0x07:
+            self.refuse(one, f"the address of p->{name}: read the field where it is used, not by its address")
+            return [one]
+        if name in names.FIELD_NOTES:
+            self.policy.warn(f"{one.place}: warning: p->{name} is {names.FIELD_NOTES[name]}", name)
         one.offset = names.FIELDS[name] + number - start
         if one.code == SIGNED_LOAD:
             one.code = 0x61

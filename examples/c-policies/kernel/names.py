@@ -105,6 +105,9 @@ CONSTANTS = {
     "flags": (0, "a workload has no kernel threads, and its tasks stay to the end"),
     "migration_disabled": (0, "each task may run on all processors"),
 }
+FIELD_NOTES = {
+    "scx.weight": "the task's part of the processor time, 10000 for all of it; in a kernel 100 is that of any task",
+}
 NO_FIELD = {
     "nr_cpus_allowed": "say how many there are, as build --set cpus=4",
     "cpus_ptr": "each task may run on all processors",
