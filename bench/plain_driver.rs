@@ -18,11 +18,27 @@ struct Timing {
     sleep: u64,
 }
 
+/// Who wakes at milliseconds of that remainder, and the soonest of these.
+#[derive(Clone, Copy)]
+struct Day {
+    there: Set,
+    soonest: u64,
+}
+
+impl Day {
+    const EMPTY: Day = Day { there: Set::EMPTY, soonest: NEVER };
+
+    fn insert(&mut self, task: u16, due: u64) {
+        self.there.insert(task);
+        self.soonest = self.soonest.min(due);
+    }
+}
+
 pub struct Driver {
     cpus: u32,
     ms: u64,
     timings: Vec<Timing>,
-    days: Vec<Set>,
+    days: Vec<Day>,
     /// Changes of weights that are to come, the last first.
     changes: Vec<Change>,
 }
@@ -34,9 +50,9 @@ impl Driver {
         changes.reverse();
         let timing = |task: &crate::plain_files::Task| Timing { due: task.start, run: TICK * task.run, sleep: task.sleep };
         let timings: Vec<Timing> = workload.tasks.iter().map(timing).collect();
-        let mut days = vec![Set::EMPTY; DAYS as usize];
+        let mut days = vec![Day::EMPTY; DAYS as usize];
         for (task, timing) in timings.iter().enumerate() {
-            days[(timing.due % DAYS) as usize].insert(task as u16);
+            days[(timing.due % DAYS) as usize].insert(task as u16, timing.due);
         }
         Driver { cpus: workload.cpus, ms: workload.ms, timings, days, changes }
     }
@@ -52,12 +68,12 @@ impl Driver {
     #[inline(never)]
     fn wake<N: Notes>(&mut self, machine: &mut Machine<N>, now: u64) {
         let day = (now % DAYS) as usize;
-        let mut there = std::mem::replace(&mut self.days[day], Set::EMPTY);
+        let Day { mut there, .. } = std::mem::replace(&mut self.days[day], Day::EMPTY);
         while !there.is_empty() {
             let task = there.pop();
             let timing = &self.timings[usize::from(task)];
             if timing.due != now {
-                self.days[day].insert(task);
+                self.days[day].insert(task, timing.due);
                 continue;
             }
             let record = machine.world.tasks.at(task);
@@ -72,7 +88,7 @@ impl Driver {
             let task = tired.pop();
             let timing = &mut self.timings[usize::from(task)];
             timing.due = now + 1 + timing.sleep;
-            self.days[(timing.due % DAYS) as usize].insert(task);
+            self.days[(timing.due % DAYS) as usize].insert(task, timing.due);
             machine.sleep(task);
         }
     }
@@ -81,7 +97,7 @@ impl Driver {
     pub fn go<N: Notes>(&mut self, machine: &mut Machine<N>) {
         for now in 0..self.ms {
             self.change(machine, now);
-            if !self.days[(now % DAYS) as usize].is_empty() {
+            if self.days[(now % DAYS) as usize].soonest == now {
                 self.wake(machine, now);
             }
             let mut tired = Set::EMPTY;

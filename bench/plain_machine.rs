@@ -8,7 +8,7 @@ use crate::plain_files::{Policy, Workload};
 use crate::plain_notes::{BUILTIN, GLOBAL, HELD, LOCAL, Notes, PARKED, Silence, Trace};
 use crate::plain_tasks::{DEFAULT_SLICE, NEVER, NOBODY, NOWHERE};
 use crate::plain_world::{Eject, Insert, NO_CPU, NONE, World};
-use crate::{flow, plain_text};
+use crate::{Insn, flow, plain_text};
 use std::io::{self, Write};
 
 const TICK: u64 = 1_000_000;
@@ -24,13 +24,39 @@ fn pid(task: u16) -> u64 {
     task.wrapping_add(1).into()
 }
 
+/// Such a map is none: it stands for a number of 64 bits, while a text is assembled.
+const NUMBERS: i32 = 1 << 16;
+
+/// The program of a text. The plain assembler, which is measured itself, reads no numbers of 64 bits.
+fn assembled(text: &str) -> Option<Vec<Option<Insn>>> {
+    let mut numbers: Vec<u64> = Vec::new();
+    let mut plain = String::new();
+    for line in text.lines() {
+        let line = line.split('#').next().unwrap_or("").trim_end();
+        match line.strip_suffix(" ll").and_then(|rest| rest.split_once(" = ")) {
+            Some((register, digits)) => {
+                plain += &format!("{register} = map {}\n", NUMBERS as usize + numbers.len());
+                numbers.push(digits.parse().ok()?);
+            }
+            None => plain += &format!("{line}\n"),
+        }
+    }
+    let mut code = plain_text::assemble(&plain).filter(|code| flow(code))?;
+    for insn in code.iter_mut().flatten() {
+        if let Insn::LoadMapReference { destination, map: map @ NUMBERS.. } = *insn {
+            let number = *numbers.get((map - NUMBERS) as usize)?;
+            *insn = Insn::LoadImmediate { destination, low: number as i32, high: (number >> 32) as i32 };
+        }
+    }
+    Some(code)
+}
+
 fn programs(policy: &Policy) -> Result<[Vec<Op>; 7], String> {
     let mut programs = [const { Vec::new() }; 7];
     for (key, text) in &policy.texts {
         let known = CALLBACKS.iter().find(|(_, name)| name == key);
         let (callback, _) = known.ok_or_else(|| format!("policy code.{key}: unknown"))?;
-        let code = plain_text::assemble(text).filter(|code| flow(code));
-        let code = code.ok_or_else(|| format!("policy code.{key}: a program that isn't known here"))?;
+        let code = assembled(text).ok_or_else(|| format!("policy code.{key}: a program that isn't known here"))?;
         let ops = predecode(&code, *callback, &policy.maps);
         programs[*callback as usize] = ops.map_err(|slot| format!("policy code.{key}: slot {slot} isn't known here"))?;
     }

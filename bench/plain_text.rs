@@ -1,7 +1,7 @@
 //! A plain assembler and disassembler, of the forms that the figures use: arithmetic, moves, loads,
 //! stores, jumps to labels or distances, and exit; assembled are also references to maps and calls.
 
-use crate::{Insn, Insn::*, Operand, slots_of};
+use crate::{Insn, Insn::*, Operand};
 use std::collections::HashMap;
 
 const OPERATIONS: [(&str, u8, bool); 13] = [
@@ -150,12 +150,6 @@ fn jump<'a>(left: &str, sign: &str, rest: &[&'a str]) -> Option<(Insn, Target<'a
     Some((Jump { wide, comparison, register, operand, distance: 0 }, target(&rest[goto + 1..])?))
 }
 
-/// A number of 64 bits, in two slots.
-fn wide_number(destination: u8, digits: &str) -> Option<Insn> {
-    let number: u64 = digits.parse().ok()?;
-    Some(LoadImmediate { destination, low: number as i32, high: (number >> 32) as i32 })
-}
-
 fn assigned(name: &str, sign: &str, rest: &[&str]) -> Option<Insn> {
     let (wide, destination) = register(name)?;
     if sign == "=" {
@@ -166,7 +160,6 @@ fn assigned(name: &str, sign: &str, rest: &[&str]) -> Option<Insn> {
                 Some(Load { size, signed, destination, base, offset })
             }
             ["map", digits] if wide => Some(LoadMapReference { destination, map: number(false, digits)?.try_into().ok()? }),
-            [digits, "ll"] if wide => wide_number(destination, digits),
             _ => Some(Binary { wide, operation: 11, signed: false, destination, operand: operand(wide, rest)? }),
         };
     }
@@ -220,7 +213,7 @@ pub fn assemble(text: &str) -> Option<Vec<Option<Insn>>> {
             _ => {
                 let written = instruction(&found)?;
                 unresolved.push(Some(written));
-                if slots_of(written.0) == 2 {
+                if matches!(written.0, LoadMapReference { .. }) {
                     unresolved.push(None);
                 }
             }

@@ -7,10 +7,11 @@ millisecond, as the difference of two lengths; the last column is the ratio of p
 to write the same bytes, of these files and of all pairs of examples/policies and examples/workloads.
 
 `growth`: what one further millisecond of `report` takes as one thing grows, and the exponent: by which power of it
-the instructions grow, of the line through all points where both are logarithms. Of tasks all but one sleep, or all
-but one wait for a processor with slices of 20 ms, or they take turns on eight, a millisecond each, by virtual time.
-Processors have a task each, which keeps its slice for 20 ms. Milliseconds are those before, of w1. Slots are those of
-`stopping`, done once in a millisecond.
+the instructions grow, of the line through all points where both are logarithms, and between the last two. Of tasks
+all but one sleep, or all but one wait for a processor with slices of 20 ms, or they take turns on eight, a
+millisecond each, by virtual time. Busy processors have a task each, which is looked at every 20 ms; idle ones have
+none, under a policy with `dispatch`, which they ask, and under one without. Milliseconds are those of a whole run of
+w1, of which the last two fifths count. Slots are those of `stopping`, done once in a millisecond.
 """
 import math
 import os
@@ -115,6 +116,11 @@ def crowd(cpus, tasks, behind=""):
     return "".join(lines)
 
 
+def nobody(cpus):
+    """A workload in which nobody wakes."""
+    return crowd(cpus, 1) + "start = %d\n" % ASLEEP
+
+
 def turns(slots):
     """Two tasks take turns, a millisecond each, and as one stops a program of so many slots is done."""
     return """[code]
@@ -134,12 +140,14 @@ stopping = '''
 def growths():
     """By what grows, its sizes: for each a policy, a workload, and two lengths."""
     fifo, short = (policies()[name] for name in ("fifo", "short"))
-    tasks = (16, 64, 256, 1024)
+    tasks, cpus = (16, 64, 256, 1024), (1, 4, 16, 64)
     return {
         "tasks asleep": [(n, fifo, crowd(1, n, "start = %d\n" % ASLEEP), (400, 2400)) for n in tasks],
         "tasks waiting": [(n, fifo, crowd(1, n), (400, 2400)) for n in tasks],
         "tasks taking turns": [(n, short, crowd(8, n), (200, 1000)) for n in tasks],
-        "processors": [(n, fifo, crowd(n, n), (400, 1600)) for n in (1, 4, 16, 64)],
+        "processors busy": [(n, fifo, crowd(n, n), (400, 1600)) for n in cpus],
+        "processors that ask": [(n, fifo, nobody(n), (400, 1600)) for n in cpus],
+        "processors idle": [(n, turns(1), nobody(n), (400, 1600)) for n in cpus],
         "milliseconds": [
             (n, fifo, text_of("bench", "workloads", "w1.toml"), (3 * n // 5, n)) for n in (1000, 10_000, 100_000, 1_000_000)
         ],
@@ -165,4 +173,6 @@ def measure_growth(scxsim, plain, folder):
             print("growth   %-20s %8d %12.0f %12.0f" % (name, size, *found[-1]), flush=True)
         sizes = [point[0] for point in points]
         exponents = [exponent(sizes, counts) for counts in zip(*found)]
+        last = [exponent(sizes[-2:], counts[-2:]) for counts in zip(*found)]
         print("growth   %-20s exponent %12.2f %12.2f" % (name, *exponents), flush=True)
+        print("growth   %-20s   at end %12.2f %12.2f" % (name, *last), flush=True)
