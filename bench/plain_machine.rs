@@ -1,6 +1,6 @@
 //! A whole simulator in plain Rust: it reads a policy and a workload file, and writes the trace or the report as
 //! `scxsim run` and `scxsim report` do, byte for byte. It is meant to be as fast as can be, event by event: its
-//! programs are predecoded, and a step takes no memory.
+//! programs are predecoded, and a step takes no memory, but for rare lines of a trace.
 
 use crate::plain_core::{CALLBACKS, Callback, Callback::*, Op, predecode};
 use crate::plain_driver::Driver;
