@@ -1,7 +1,7 @@
 //! Gives a machine the events of a workload. Who sleeps stands in a calendar, at the day of the millisecond at
 //! which it wakes; who has run enough is told by the tick of its processor. So nobody else is asked.
 
-use crate::plain_files::{Change, Workload};
+use crate::plain_files::{Change, Task, Workload};
 use crate::plain_machine::Machine;
 use crate::plain_notes::Notes;
 use crate::plain_tasks::{NEVER, Set};
@@ -48,7 +48,7 @@ impl Driver {
         let mut changes = workload.changes.clone();
         changes.sort_by_key(|change| change.at);
         changes.reverse();
-        let timing = |task: &crate::plain_files::Task| Timing { due: task.start, run: TICK * task.run, sleep: task.sleep };
+        let timing = |task: &Task| Timing { due: task.start, run: TICK * task.run, sleep: task.sleep };
         let timings: Vec<Timing> = workload.tasks.iter().map(timing).collect();
         let mut days = vec![Day::EMPTY; DAYS as usize];
         for (task, timing) in timings.iter().enumerate() {

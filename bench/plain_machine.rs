@@ -368,7 +368,7 @@ impl<N: Notes> Machine<N> {
         self.cycle(cpu, NOBODY, true);
     }
 
-    /// A processor ran for a millisecond. True is answered where its task has run enough and goes to sleep.
+    /// A processor ran for a millisecond. Its task is answered where that has run enough, and goes to sleep.
     #[inline(always)]
     pub fn tick(&mut self, cpu: u32) -> Option<u16> {
         let task = self.world.running[cpu as usize & 63];
