@@ -1,7 +1,7 @@
 """How many slots a second are decoded, encoded, assembled, disassembled and verified, how many numbers of
 an array map are loaded and stored, how many pushes, pops and removals a queue takes, how many callbacks
-are verified, how many lines of a trace are written, and how many instructions an event of a machine and a
-run take, beside plain Rust that does the same work.
+are verified, how many lines of a trace are written, and how many instructions a millisecond of a whole run and a
+run of a program take, beside plain Rust that does the same work.
 
 Straight-line, branching and stack-heavy programs of 40, 400 and 4000 slots are worked on by the program of
 crates/scx_tests_bench and by bench/plain.rs, in turn; for `asm` their text, in which jumps go to labels.
@@ -13,15 +13,12 @@ value of 64 bytes, as far on as a number says that was masked, or tested. The ca
 scx_simple with one map of one element, each in its turn; to verify one counts as decoding it and verifying
 it, and to run one as a run over a host of one task. The ratio is our time to that of plain Rust.
 
-Machines are those of `scxsim run` and `scxsim report`, on policy and workload files that are made here: all
-tasks are runnable, and the processors and the clock tick in turn, under a policy of one queue and slices of
-2 ms, and under the callbacks of scx_simple. Ours and plain Rust write the same for these files, which is
-compared first. `machines` counts instructions for each tick and clock, in the difference of two lengths of
-the workload, and beside their ratio prints that of the processor times. `traces` are the lines of `run`
-that are written to /dev/null in a second. `files` of nearly 1 MB are read by ours alone, since plain Rust
-has no reader of TOML: each belongs to a run that is refused as soon as both files are read.
+`runs` and `growth` are of whole runs by `scxsim run` and `scxsim report` beside a plain simulator that reads the same
+files and writes the same bytes: bench/runs.py says which they are. `traces` are the lines of `run` that are written to
+/dev/null in a second, under a policy of one queue and slices of 2 ms. `files` of nearly 1 MB are read by ours alone:
+each belongs to a run that is refused as soon as both files are read.
 
-Runs are short, so their figures are instructions of the processor, counted by callgrind: for each
+Runs of programs are short, so their figures are instructions of the processor, counted by callgrind: for each
 instruction of the program that is done, or for each callback. Beside ours stand two interpreters in plain
 Rust, one with a tag on each value, which tests all that could go wrong, and one over programs that were
 decoded once and that tests nothing. The work `counts` gives the same for each slot that is decoded,
@@ -37,11 +34,14 @@ import argparse
 import functools
 import os
 import re
-import resource
 import subprocess
+import sys
 import tempfile
 
-TOP = os.path.dirname(os.path.dirname(os.path.abspath(__file__)))
+sys.dont_write_bytecode = True
+from counting import TOP, compiled_plain, counted, seconds, write
+from runs import measure_growth, measure_runs
+
 EXIT = [("9500000000000000", "exit")]
 START = [("b700000007000000", "r0 = 7"), ("b701000003000000", "r1 = 3")]
 # of r0 nothing is known, so that both sides of a comparison are followed
@@ -123,7 +123,6 @@ CALLBACKS = 6
 CALLBACK_TIMES = 100_000
 COUNTING_STEPS = 32  # instructions that the program that counts in a map does
 SHAPES = {"small": (1, 2), "middle": (8, 64), "large": (64, 1024)}  # processors and tasks
-LENGTHS = (400, 800)  # milliseconds of a workload, of which each policy has whole rounds of slices
 LONG = {"small": 1_000_000, "middle": 300_000, "large": 40_000}  # for times by the clock
 LINES = 2  # of a trace under slices of 2 ms, for each processor and millisecond
 UNITS = {"decode": 10_000_000, "encode": 10_000_000, "asm": 1_000_000, "dis": 2_000_000}
@@ -146,28 +145,6 @@ def array_program(body):
     """The look-up, the body for each access, and an exit."""
     parts = [ELEMENT] + ACCESSES * [body] + [START[:1], EXIT]
     return bytes.fromhex("".join(slot for part in parts for slot, _ in part))
-
-
-def spent():
-    """The processor time of all processes that ended so far."""
-    usage = resource.getrusage(resource.RUSAGE_CHILDREN)
-    return usage.ru_utime + usage.ru_stime
-
-
-def seconds(words, out=subprocess.PIPE, status=0):
-    """The processor time of a program that ends with that status, and what it wrote."""
-    start = spent()
-    run = subprocess.run(words, stdout=out, stderr=subprocess.DEVNULL)
-    assert run.returncode == status, (words, run.returncode)
-    return spent() - start, run.stdout
-
-
-def counted(words, status=0):
-    """How many instructions of the processor a program takes that ends with that status."""
-    command = ["valgrind", "--tool=callgrind", "--callgrind-out-file=/dev/null", *words]
-    run = subprocess.run(command, stdout=subprocess.DEVNULL, stderr=subprocess.PIPE, text=True)
-    assert run.returncode == status, (words, run.returncode)
-    return int(re.search(r"Collected : (\d+)", run.stderr)[1])
 
 
 def build():
@@ -310,90 +287,41 @@ def measure_counts(binaries, path):
     show_count("callback", "verify", *(instructions(binary, "verify_callbacks", "-") / CALLBACKS for binary in binaries))
 
 
-def callbacks_of_simple():
-    """The texts of scx_simple's callbacks, without select_cpu, by the keys of a policy file."""
-    with open(os.path.join(TOP, "crates", "scx_tests_examples", "src", "simple.rt")) as file:
-        texts = re.findall(r'pub const (\w+): &str = "([^"]*)"', file.read())
-    return {name.lower(): text for name, text in texts if name not in ("SELECT_CPU", "ENQUEUE_BY_VTIME")}
-
-
-def policies():
-    """The files: one queue and slices of 2 ms, and scx_simple."""
-    simple = callbacks_of_simple()
-    two_ms = {name: simple[name] for name in ("init", "enqueue", "dispatch")}
-    two_ms["enqueue"] = two_ms["enqueue"].replace("r3 = 20000000", "r3 = 2000000")
-    one_map = "[[map]]\nentries = 1\nvalue_size = 8\n"
-    return {"two_ms": policy(two_ms), "simple": one_map + policy(simple)}
-
-
 def policy(texts):
     return "[code]\n" + "".join('%s = """\n%s"""\n' % item for item in texts.items())
 
 
+def two_ms():
+    """The text of a policy of one queue and slices of 2 ms."""
+    with open(os.path.join(TOP, "examples", "policies", "short_slices.toml")) as file:
+        return file.read()
+
+
 def workload(cpus, tasks, ms, padding=""):
     """A file of so many tasks t0, t1 .. in one group, with `padding` behind each."""
-    head = "cpus = %d\nms = %d\ngroup = [{ name = 'g' }]\n" % (cpus, ms)
+    head = "cpus = %d\nms = %d\n[[group]]\nname = 'g'\n" % (cpus, ms)
     return head + "".join("[[task]]\nname = 't%d'\ngroup = 'g'\n%s" % (n, padding) for n in range(tasks))
 
 
-def write(folder, name, text):
-    path = os.path.join(folder, name)
-    with open(path, "w") as file:
-        file.write(text)
-    return path
-
-
-class Machines:
-    """Runs of workloads under policies, by ours and by plain Rust."""
-
-    def __init__(self, scxsim, plain, folder):
-        self.programs = [[scxsim], [plain, "simulate"]]
-        self.folder = folder
-        self.policies = {name: write(folder, name, text) for name, text in policies().items()}
-
-    def commands(self, command, policy, shape, ms):
-        """The words of a run of so many milliseconds: ours, and those of plain Rust."""
-        path = write(self.folder, "%s.%d" % (shape, ms), workload(*SHAPES[shape], ms))
-        return [[*program, command, self.policies[policy], path] for program in self.programs]
-
-    def check(self, command, policy, shape):
-        """Both have to write the same."""
-        texts = [seconds(words)[1] for words in self.commands(command, policy, shape, LENGTHS[0])]
-        assert texts[0] == texts[1], (command, policy, shape)
-
-    def counts(self, command, policy, shape):
-        """Instructions of one more millisecond."""
-        short, long = (self.commands(command, policy, shape, ms) for ms in LENGTHS)
-        return [(counted(long[i]) - counted(short[i])) / (LENGTHS[1] - LENGTHS[0]) for i in (0, 1)]
-
-    def times(self, command, policy, shape, runs=3):
-        """Seconds of so many milliseconds as a workload for times has."""
-        taken = []
-        for ms in (1, LONG[shape]):
-            commands = self.commands(command, policy, shape, ms)
-            found = [[seconds(words, subprocess.DEVNULL)[0] for words in commands] for _ in range(runs)]
-            taken.append([min(times) for times in zip(*found)])
-        return [after - before for before, after in zip(*taken)]
-
-
-def measure_machines(scxsim, plain, folder):
-    """Instructions for each event."""
-    machines = Machines(scxsim, plain, folder)
-    for command in ("report", "run"):
-        for policy in machines.policies:
-            for shape, (cpus, tasks) in SHAPES.items():
-                machines.check(command, policy, shape)
-                counts = [count / (cpus + 1) for count in machines.counts(command, policy, shape)]
-                taken = machines.times(command, policy, shape)
-                show_counts(command, "%s %s" % (policy, shape), tasks, counts, taken)
+def times_of(heads, policy, paths, runs=3):
+    """Seconds of a trace of the longer of two workloads, by both programs, without what the shorter takes."""
+    taken = []
+    for path in paths:
+        commands = [[*head, "run", policy, path] for head in heads]
+        found = [[seconds(words, subprocess.DEVNULL)[0] for words in commands] for _ in range(runs)]
+        taken.append([min(times) for times in zip(*found)])
+    return [after - before for before, after in zip(*taken)]
 
 
 def measure_traces(scxsim, plain, folder):
     """Lines of a trace a second."""
-    machines = Machines(scxsim, plain, folder)
+    heads = [[scxsim], [plain, "simulate"]]
+    policy_path = write(folder, "two_ms", two_ms())
     for shape, (cpus, tasks) in SHAPES.items():
-        machines.check("run", "two_ms", shape)
-        show("trace", shape, tasks, LINES * cpus * LONG[shape], machines.times("run", "two_ms", shape))
+        paths = [write(folder, "workload.%d" % ms, workload(cpus, tasks, ms)) for ms in (1, LONG[shape])]
+        texts = [seconds([*head, "run", policy_path, paths[0]])[1] for head in heads]
+        assert texts[0] == texts[1], shape
+        show("trace", shape, tasks, LINES * cpus * LONG[shape], times_of(heads, policy_path, paths))
 
 
 def measure_files(scxsim, _, folder):
@@ -413,13 +341,6 @@ def measure_files(scxsim, _, folder):
         print("read     %-14s %6s %12.2f ms, %.1f instructions a byte, a file of %d bytes" % figures, flush=True)
 
 
-def compiled_plain(folder):
-    plain = os.path.join(folder, "plain")
-    source = os.path.join(TOP, "bench", "plain.rs")
-    subprocess.run(["rustc", "-O", "--edition", "2021", "-o", plain, source], check=True)
-    return plain
-
-
 # Works of scx_tests_bench, by what does them with it and plain Rust, and a path for a program.
 OF_BENCH = {work: functools.partial(measure, work) for work in UNITS} | {
     "verify": measure_verify,
@@ -430,14 +351,15 @@ OF_BENCH = {work: functools.partial(measure, work) for work in UNITS} | {
     "run": measure_run,
 }
 # Works of scxsim, by what does them with it and plain Rust, and a folder for files.
-OF_SCXSIM = {"machines": measure_machines, "traces": measure_traces, "files": measure_files}
+OF_SCXSIM = {"runs": measure_runs, "growth": measure_growth, "traces": measure_traces, "files": measure_files}
 
 
 RATES = "work     program          size scxsim a second  plain a second   ratio"
 COUNTS = "work     program          size       scxsim        plain   ratio  by time"
 HEADS = {work: RATES for work in (*UNITS, "verify", "maps", "callbacks", "traces")} | {
     "queues": COUNTS,
-    "machines": COUNTS,
+    "runs": "command  policy   workload    scxsim        plain   ratio  by time",
+    "growth": "work     what grows               size       scxsim        plain",
     "counts": "work     program     scxsim     plain   ratio",
     "run": "work     program     slots       scxsim       tagged   predecoded    ratio    ratio",
     "files": "work     file",

@@ -31,11 +31,6 @@ const CALLBACKS: [(Callback, &str); 6] = [
 ];
 
 impl Callback {
-    /// That of a policy file's key.
-    pub fn named(key: &str) -> Option<Callback> {
-        CALLBACKS.iter().find(|(_, name)| name.eq_ignore_ascii_case(key)).map(|(callback, _)| *callback)
-    }
-
     /// Whether its run answers a number, in r0.
     pub fn answers(self) -> bool {
         matches!(self, Plain | Init)

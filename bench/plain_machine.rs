@@ -1,491 +1,458 @@
-//! The machine in plain Rust, as far as the benchmark needs it: tasks that wake and sleep, ticks, the clock,
-//! and the callbacks and notes that they give; one group, no select_cpu. The work is that of `scxsim run` and
-//! `scxsim report`, on policy and workload files as `bench/figures.py` writes them.
+//! A whole simulator in plain Rust: it reads a policy and a workload file, and writes the trace or the report as
+//! `scxsim run` and `scxsim report` do, byte for byte. It is meant to be as fast as can be, event by event: its
+//! programs are predecoded, and a step takes no memory, but for rare lines of a trace.
 
-use crate::plain_callbacks::{Callback, Callback::*, Field, Helper};
-use crate::{ArrayMap, Host, Insn, Value, flow, plain_text, run_callback};
-use std::collections::VecDeque;
-use std::io::{self, BufWriter, Stdout, Write};
+use crate::plain_core::{CALLBACKS, Callback, Callback::*, Op, predecode};
+use crate::plain_driver::Driver;
+use crate::plain_files::{Policy, Workload};
+use crate::plain_notes::{BUILTIN, GLOBAL, HELD, LOCAL, Notes, PARKED, Silence, Trace};
+use crate::plain_tasks::{DEFAULT_SLICE, NEVER, NOBODY, NOWHERE};
+use crate::plain_world::{Eject, Insert, NO_CPU, NONE, World};
+use crate::{Insn, flow, plain_text};
+use std::io::{self, Write};
 
-const POLICY_END: u64 = 1 << 63;
-const GLOBAL: u64 = POLICY_END + 1;
-const LOCAL: u64 = POLICY_END + 2;
-const HELD: u64 = POLICY_END + 3;
-const LOCAL_ON: u64 = 0xc000_0000_0000_0000;
-const INVALID: u64 = -22i64 as u64;
-const DEFAULT_SLICE: u64 = 20_000_000;
 const TICK: u64 = 1_000_000;
 
-enum What {
-    Wake(u16),
-    Insert(u16, u64),
-    Move(u16, u32),
-    Run(u16, u32),
-    Stop(u16, u32),
-    Idle(u32),
-    Sleep(u16),
+/// The programs of a policy, empty where there is none, and the world that they see.
+pub struct Machine<N> {
+    programs: [Vec<Op>; 7],
+    pub world: World<N>,
 }
 
-/// Takes notes, and writes a line for each if that is wanted.
-#[derive(Default)]
-struct Notes {
-    lines: Option<BufWriter<Stdout>>,
+/// The pid of a task, which is its pointer, too; 0 for nobody.
+fn pid(task: u16) -> u64 {
+    task.wrapping_add(1).into()
 }
 
-impl Notes {
-    fn take(&mut self, clock: u64, what: What) {
-        if let Some(lines) = &mut self.lines {
-            write_line(lines, clock, what).expect("an output that takes all");
+/// Such a map is none: it stands for a number of 64 bits, while a text is assembled.
+const NUMBERS: i32 = 1 << 16;
+
+/// The program of a text. The plain assembler, which is measured itself, reads no numbers of 64 bits.
+fn assembled(text: &str) -> Option<Vec<Option<Insn>>> {
+    let mut numbers: Vec<u64> = Vec::new();
+    let mut plain = String::new();
+    for line in text.lines() {
+        let line = line.split('#').next().unwrap_or("").trim_end();
+        match line.strip_suffix(" ll").and_then(|rest| rest.split_once(" = ")) {
+            Some((register, digits)) => {
+                plain += &format!("{register} = map {}\n", NUMBERS as usize + numbers.len());
+                numbers.push(digits.parse().ok()?);
+            }
+            None => plain += &format!("{line}\n"),
         }
     }
-}
-
-/// The line of a note. Task N has the name tN.
-fn write_line(out: &mut BufWriter<Stdout>, clock: u64, what: What) -> io::Result<()> {
-    match what {
-        What::Wake(task) => writeln!(out, "{clock} wake t{task}"),
-        What::Insert(task, queue) => match queue {
-            GLOBAL => writeln!(out, "{clock} insert t{task} global"),
-            HELD => writeln!(out, "{clock} insert t{task} held"),
-            LOCAL_ON.. => writeln!(out, "{clock} insert t{task} local {}", queue - LOCAL_ON),
-            _ => writeln!(out, "{clock} insert t{task} queue {queue}"),
-        },
-        What::Move(task, cpu) => writeln!(out, "{clock} move t{task} local {cpu}"),
-        What::Run(task, cpu) => writeln!(out, "{clock} run t{task} cpu {cpu}"),
-        What::Stop(task, cpu) => writeln!(out, "{clock} stop t{task} cpu {cpu}"),
-        What::Idle(cpu) => writeln!(out, "{clock} idle cpu {cpu}"),
-        What::Sleep(task) => writeln!(out, "{clock} sleep t{task}"),
-    }
-}
-
-#[derive(Clone)]
-struct Task {
-    since: u64,
-    slice: u64,
-    vtime: u64,
-    prev_cpu: u32,
-    run_ns: u64,
-    is_runnable: bool,
-}
-
-/// The callback at hand.
-struct Call {
-    callback: Callback,
-    task: u16,
-    cpu: u32,
-    insert: Option<(u64, u64)>,
-    has_moved: bool,
-    has_fault: bool,
-}
-
-struct World {
-    clock: u64,
-    tasks: Vec<Task>,
-    runnable: u64,
-    cpus: Vec<Option<u16>>,
-    own: Vec<(u64, VecDeque<u16>)>,
-    global: VecDeque<u16>,
-    held: VecDeque<u16>,
-    locals: Vec<VecDeque<u16>>,
-    call: Call,
-    notes: Notes,
-}
-
-impl World {
-    fn new(cpus: usize, tasks: usize) -> World {
-        let task = Task { since: 0, slice: DEFAULT_SLICE, vtime: 0, prev_cpu: 0, run_ns: 0, is_runnable: false };
-        World {
-            clock: 0,
-            tasks: vec![task; tasks],
-            runnable: 0,
-            cpus: vec![None; cpus],
-            own: Vec::with_capacity(16),
-            global: VecDeque::with_capacity(tasks),
-            held: VecDeque::with_capacity(tasks),
-            locals: vec![VecDeque::with_capacity(tasks); cpus],
-            call: Call { callback: Plain, task: 0, cpu: 0, insert: None, has_moved: false, has_fault: false },
-            notes: Notes::default(),
+    let mut code = plain_text::assemble(&plain).filter(|code| flow(code))?;
+    for insn in code.iter_mut().flatten() {
+        if let Insn::LoadMapReference { destination, map: map @ NUMBERS.. } = *insn {
+            let number = *numbers.get((map - NUMBERS) as usize)?;
+            *insn = Insn::LoadImmediate { destination, low: number as i32, high: (number >> 32) as i32 };
         }
     }
+    Some(code)
+}
 
-    fn note(&mut self, what: What) {
-        self.notes.take(self.clock, what);
+fn programs(policy: &Policy) -> Result<[Vec<Op>; 7], String> {
+    let mut programs = [const { Vec::new() }; 7];
+    for (key, text) in &policy.texts {
+        let known = CALLBACKS.iter().find(|(_, name)| name == key);
+        let (callback, _) = known.ok_or_else(|| format!("policy code.{key}: unknown"))?;
+        let code = assembled(text).ok_or_else(|| format!("policy code.{key}: a program that isn't known here"))?;
+        let ops = predecode(&code, *callback, &policy.maps);
+        programs[*callback as usize] = ops.map_err(|slot| format!("policy code.{key}: slot {slot} isn't known here"))?;
     }
+    Ok(programs)
+}
 
-    fn fault(&mut self) -> u64 {
-        self.call.has_fault = true;
-        INVALID
-    }
-
-    fn own(&mut self, id: u64) -> Option<&mut VecDeque<u16>> {
-        self.own.iter_mut().find(|(known, _)| *known == id).map(|(_, queue)| queue)
-    }
-
-    fn create(&mut self, id: u64) -> u64 {
-        if id >= POLICY_END || self.own.len() == 16 || self.own(id).is_some() {
-            return self.fault();
+impl<N: Notes> Machine<N> {
+    /// After init, and after enable of each task.
+    fn new(notes: N, policy: &Policy, workload: &Workload) -> Result<Machine<N>, String> {
+        let world = World::new(notes, policy, workload);
+        let mut machine = Machine { programs: programs(policy)?, world };
+        let answer = machine.begin_with(Init, 0);
+        if answer != 0 {
+            return Err(format!("init {}", answer as i64));
         }
-        self.own.push((id, VecDeque::with_capacity(self.tasks.len())));
-        0
-    }
-
-    fn insert(&mut self, task: Value, queue: u64, slice: u64, flags: u64) -> u64 {
-        let is_at_hand = task == Value::Task(self.call.task);
-        let local = queue.wrapping_sub(LOCAL_ON) < self.cpus.len() as u64;
-        let is_there = queue == GLOBAL || queue == LOCAL || local || self.own(queue).is_some();
-        if !is_at_hand || self.call.callback != Enqueue || self.call.insert.is_some() || flags > 1 || !is_there {
-            return self.fault();
-        }
-        self.call.insert = Some((queue, slice));
-        0
-    }
-
-    fn move_to_local(&mut self, queue: u64) -> u64 {
-        let Some(queue) = self.own(queue) else { return self.fault() };
-        let Some(task) = queue.pop_front() else { return 0 };
-        let cpu = self.call.cpu;
-        self.locals[cpu as usize].push_back(task);
-        self.call.has_moved = true;
-        self.note(What::Move(task, cpu));
-        1
-    }
-
-    fn enter(&mut self, task: u16, queue: u64, slice: u64) {
-        if slice != 0 {
-            self.tasks[usize::from(task)].slice = slice;
-        }
-        match queue {
-            GLOBAL => self.global.push_back(task),
-            HELD => self.held.push_back(task),
-            LOCAL_ON.. => self.locals[(queue - LOCAL_ON) as usize].push_back(task),
-            _ => self.own(queue).expect("a queue that is there").push_back(task),
-        }
-        self.note(What::Insert(task, queue));
-    }
-
-    /// Whether a task waits for that processor alone, once one came from the queue of all.
-    fn fill(&mut self, cpu: u32) -> bool {
-        if self.locals[cpu as usize].is_empty() {
-            if let Some(task) = self.global.pop_front() {
-                self.locals[cpu as usize].push_back(task);
-                self.note(What::Move(task, cpu));
+        for task in 0..machine.world.count {
+            machine.begin_with(Enable, task);
+            if machine.world.call.fault != NONE {
+                return Err("init -22".to_string());
             }
         }
-        !self.locals[cpu as usize].is_empty()
+        Ok(machine)
     }
 
-    /// The task leaves the queue in which it waits.
-    fn leave(&mut self, task: u16) {
-        let own = self.own.iter_mut().map(|(_, queue)| queue);
-        let others = [&mut self.global, &mut self.held];
-        for queue in own.chain(others).chain(&mut self.locals) {
-            queue.retain(|other| *other != task);
+    /// What a callback answers before the policy is in force; -22 where it has a fault.
+    fn begin_with(&mut self, callback: Callback, task: u16) -> u64 {
+        self.world.begin(callback, task, 0);
+        self.world.registers.set(1, pid(task));
+        let program = &self.programs[callback as usize];
+        let answer = if program.is_empty() { 0 } else { self.world.run(program) };
+        if self.world.call.fault == NONE { answer } else { -22i64 as u64 }
+    }
+
+    /// Runs a callback while the policy is in force, and answers what its program does; else 0.
+    #[inline(always)]
+    fn call_back(&mut self, callback: Callback, given: [u64; 3], task: u16, cpu: u32) -> u64 {
+        self.world.begin(callback, task, cpu);
+        let program = &self.programs[callback as usize];
+        if program.is_empty() || self.world.ejected.is_some() {
+            return 0;
+        }
+        for (register, number) in (1..).zip(given) {
+            self.world.registers.set(register, number);
+        }
+        let answer = self.world.run(program);
+        if callback == SelectCpu && self.world.call.fault == NONE && answer >= self.world.cpus.into() {
+            self.world.call.fault = NO_CPU;
+        }
+        if self.world.call.fault != NONE {
+            self.eject(Eject::Fault(self.world.call.fault, self.world.clock));
+        }
+        answer
+    }
+
+    fn has_local(&self, cpu: u32) -> bool {
+        self.world.length(LOCAL + cpu as usize) != 0
+    }
+
+    // ---- ejection
+
+    /// The policy is out of force, and who waits goes to the built-in scheduler.
+    #[cold]
+    #[inline(never)]
+    fn eject(&mut self, why: Eject) {
+        let world = &mut self.world;
+        match why {
+            Eject::Stall(task, _) => world.notes.stall(task),
+            Eject::Fault(fault, _) => world.notes.fault(fault),
+        }
+        world.ejected = Some(why);
+        (world.call.insert, world.call.has_moved) = (None, false);
+        for task in 0..world.count {
+            let queue = world.tasks.of(task).queue;
+            if queue != NOWHERE && usize::from(queue) != PARKED {
+                world.leave_queue(task);
+                world.enter_builtin(task);
+            }
+        }
+        for cpu in 0..world.cpus as usize {
+            let task = world.running[cpu & 63];
+            if task != NOBODY {
+                let record = world.tasks.at(task);
+                record.slice = record.slice.min(DEFAULT_SLICE);
+            }
         }
     }
 
-    fn is_idle(&self, cpu: u32) -> bool {
-        self.cpus[cpu as usize].is_none()
+    fn charge(&mut self, task: u16) {
+        let weight = self.world.weight(task);
+        let record = self.world.tasks.at(task);
+        let gone = DEFAULT_SLICE.saturating_sub(record.slice);
+        record.builtin = record.builtin.saturating_add(gone * 100 / weight);
     }
 
-    fn target(&self, task: u16) -> u32 {
-        let before = self.tasks[usize::from(task)].prev_cpu;
-        if self.is_idle(before) {
-            return before;
-        }
-        self.cpus.iter().position(Option::is_none).map_or(before, |cpu| cpu as u32)
-    }
-}
+    // ---- quotas
 
-impl Host for World {
-    fn call(&mut self, helper: Helper, given: [Value; 5]) -> u64 {
-        let number = |value| if let Value::Number(n) = value { n } else { 0 };
-        match helper {
-            Helper::KtimeGetNs => self.clock * TICK,
-            Helper::CreateDsq => self.create(number(given[0])),
-            Helper::DsqInsert => self.insert(given[0], number(given[1]), number(given[2]), number(given[3])),
-            Helper::DsqMoveToLocal => self.move_to_local(number(given[0])),
-            Helper::DsqNrQueued => match self.own(number(given[0])) {
-                Some(queue) => queue.len() as u64,
-                None => self.fault(),
-            },
-            Helper::MapLookupElem => 0,
-        }
+    fn park(&mut self, task: u16) {
+        self.world.notes.insert(task, PARKED);
+        self.world.tasks.at(task).since = NEVER;
+        self.world.push(PARKED, task);
     }
 
-    fn load(&self, task: u16, field: Field) -> u64 {
-        let facts = &self.tasks[usize::from(task)];
-        match field {
-            Field::Pid => u64::from(task) + 1,
-            Field::Weight => (10_000 / (self.runnable + u64::from(!facts.is_runnable))).max(1),
-            Field::Slice => facts.slice,
-            Field::DsqVtime => facts.vtime,
-            Field::PrevCpu => u64::from(facts.prev_cpu),
-            Field::Group => 0,
-            Field::RunNs => facts.run_ns,
+    /// The front of a queue is parked if it may not run, and else false is answered.
+    fn park_front(&mut self, queue: usize) -> bool {
+        if self.world.length(queue) == 0 || !self.world.is_throttled(self.world.queues[queue].front()) {
+            return false;
         }
+        let task = self.world.pop(queue);
+        self.park(task);
+        true
     }
 
-    fn store(&mut self, task: u16, field: Field, number: u64) {
-        let facts = &mut self.tasks[usize::from(task)];
-        match field {
-            Field::Slice => facts.slice = number,
-            Field::DsqVtime => facts.vtime = number,
-            _ => {}
-        }
-    }
-}
-
-/// Programs by callback, their maps, and the world that they see.
-struct Machine {
-    programs: [Option<Vec<Option<Insn>>>; 7],
-    maps: Vec<ArrayMap>,
-    world: World,
-}
-
-impl Machine {
-    fn new(texts: &[(Callback, &str)], cpus: usize, tasks: usize) -> Machine {
-        let mut programs = [const { None }; 7];
-        for (callback, text) in texts {
-            let code = plain_text::assemble(text).expect("a program");
-            assert!(flow(&code), "control that goes forward");
-            programs[*callback as usize] = Some(code);
-        }
-        let maps = vec![ArrayMap::new(1, 8)];
-        let mut machine = Machine { programs, maps, world: World::new(cpus, tasks) };
-        machine.call_back(Init, [Value::Unset; 2], 0, 0);
-        for task in 0..tasks as u16 {
-            machine.call_back(Enable, [Value::Task(task), Value::Unset], task, 0);
-        }
-        machine
-    }
-
-    fn call_back(&mut self, callback: Callback, given: [Value; 2], task: u16, cpu: u32) {
-        self.world.call = Call { callback, task, cpu, insert: None, has_moved: false, has_fault: false };
-        if let Some(code) = &self.programs[callback as usize] {
-            run_callback(code, callback, given, &mut self.maps, &mut self.world).expect("a run to its end");
+    /// Parked tasks that may run again are put as for where they ran last.
+    #[inline(never)]
+    fn let_go(&mut self) {
+        let mut left = self.world.length(PARKED);
+        let mut task = self.world.queues[PARKED].first;
+        while left > 0 {
+            let next = self.world.queues[PARKED].behind(&self.world.tasks, task);
+            if !self.world.is_throttled(task) {
+                self.world.tasks.at(task).since = self.world.clock;
+                self.world.leave_queue(task);
+                self.put(task, self.world.tasks.of(task).prev_cpu.into(), 0);
+            }
+            (left, task) = (left - 1, next);
         }
     }
 
+    // ---- a cycle
+
+    /// Where the processor's own queue is empty, the front of another comes to it.
+    #[inline(always)]
+    fn fill(&mut self, queue: usize, cpu: u32) {
+        if !self.has_local(cpu) && self.world.length(queue) != 0 {
+            let task = self.world.pop(queue);
+            self.world.push(LOCAL + cpu as usize, task);
+            self.world.notes.moved(task, cpu);
+        }
+    }
+
+    /// The processor's own queue comes to have a front that may run, or stays empty.
+    #[inline(always)]
+    fn supply(&mut self, cpu: u32) {
+        self.fill(GLOBAL, cpu);
+        while self.world.is_limited && self.park_front(LOCAL + cpu as usize) {
+            self.fill(GLOBAL, cpu);
+        }
+    }
+
+    /// Asks enqueue where the task is to wait, and puts it there.
     fn put(&mut self, task: u16, cpu: u32, flags: u64) {
-        self.call_back(Enqueue, [Value::Task(task), Value::Number(flags)], task, cpu);
-        let (queue, slice) = match self.world.call.insert {
-            _ if self.programs[Enqueue as usize].is_none() => (GLOBAL, DEFAULT_SLICE),
-            None => (HELD, 0),
-            Some((LOCAL, slice)) => (LOCAL_ON + u64::from(cpu), slice),
-            Some(insert) => insert,
+        self.call_back(Enqueue, [pid(task), flags, 0], task, cpu);
+        if self.world.ejected.is_some() {
+            return self.world.enter_builtin(task);
+        }
+        let insert = match self.world.call.insert {
+            Some(insert) => insert.for_cpu(cpu),
+            None if self.programs[Enqueue as usize].is_empty() => Insert { queue: GLOBAL, slice: DEFAULT_SLICE, vtime: None },
+            None => Insert { queue: HELD, slice: 0, vtime: None },
         };
-        self.world.enter(task, queue, slice);
+        self.world.enter(task, insert);
     }
 
-    /// Whether dispatch brought a task.
-    fn dispatch(&mut self, cpu: u32, before: Option<u16>) -> bool {
-        for _ in 0..32 {
-            let before = before.map_or(Value::Number(0), Value::Task);
-            self.call_back(Dispatch, [Value::Number(cpu.into()), before], 0, cpu);
-            if self.world.fill(cpu) {
-                return true;
-            }
-            if !self.world.call.has_moved {
-                return false;
-            }
-        }
-        false
-    }
-
+    /// A task stops.
     fn stop(&mut self, task: u16, cpu: u32, is_runnable: bool) {
-        self.world.note(What::Stop(task, cpu));
-        self.world.tasks[usize::from(task)].since = self.world.clock;
-        self.world.cpus[cpu as usize] = None;
-        self.call_back(Stopping, [Value::Task(task), Value::Number(is_runnable.into())], task, cpu);
-    }
-
-    fn pick(&mut self, cpu: u32, before: Option<u16>) {
-        if let Some(task) = before {
-            self.stop(task, cpu, true);
-            self.put(task, cpu, 0);
-        }
-        if let Some(task) = self.world.locals[cpu as usize].pop_front() {
-            self.world.note(What::Run(task, cpu));
-            self.world.tasks[usize::from(task)].prev_cpu = cpu;
-            self.world.cpus[cpu as usize] = Some(task);
-            self.call_back(Running, [Value::Task(task), Value::Unset], task, cpu);
+        self.world.stop(task, cpu);
+        if self.world.ejected.is_some() {
+            self.charge(task);
+        } else {
+            self.call_back(Stopping, [pid(task), is_runnable.into(), 0], task, cpu);
         }
     }
 
-    fn cycle(&mut self, cpu: u32, before: Option<u16>, ran: bool) {
-        if self.world.fill(cpu) || self.dispatch(cpu, before) {
-            return self.pick(cpu, before);
+    fn leave(&mut self, cpu: u32, before: u16) {
+        if before != NOBODY {
+            self.stop(before, cpu, true);
+            self.put(before, cpu, 0);
         }
-        match before {
-            Some(task) => {
-                let facts = &mut self.world.tasks[usize::from(task)];
-                if facts.slice == 0 {
-                    facts.slice = DEFAULT_SLICE;
-                }
+    }
+
+    fn start(&mut self, cpu: u32) {
+        let task = self.world.start(cpu);
+        if self.world.ejected.is_some() {
+            self.world.builtin_clock = self.world.builtin_clock.max(self.world.tasks.of(task).builtin);
+        } else {
+            self.call_back(Running, [pid(task), 0, 0], task, cpu);
+        }
+    }
+
+    /// Nobody comes: the task before stays, or the processor is idle.
+    #[inline(always)]
+    fn rest(&mut self, cpu: u32, before: u16, ran: bool) {
+        if before != NOBODY {
+            let record = self.world.tasks.at(before);
+            if record.slice == 0 {
+                record.slice = DEFAULT_SLICE;
             }
-            None if ran => self.world.note(What::Idle(cpu)),
-            None => {}
+        } else if ran {
+            self.world.notes.idle(cpu);
         }
     }
 
-    fn wake(&mut self, task: u16) {
-        self.world.note(What::Wake(task));
-        let facts = &mut self.world.tasks[usize::from(task)];
-        (facts.since, facts.is_runnable) = (self.world.clock, true);
-        self.world.runnable += 1;
-        let cpu = self.world.target(task);
-        self.put(task, cpu, 1);
+    /// A cycle of the built-in scheduler.
+    #[cold]
+    #[inline(never)]
+    fn builtin_cycle(&mut self, cpu: u32, before: u16, ran: bool) {
+        self.supply(cpu);
+        if !self.has_local(cpu) {
+            while self.world.is_limited && self.park_front(BUILTIN) {}
+            self.fill(BUILTIN, cpu);
+        }
+        if self.has_local(cpu) {
+            self.leave(cpu, before);
+            self.start(cpu);
+        } else {
+            self.rest(cpu, before, ran);
+        }
+    }
+
+    fn pick(&mut self, cpu: u32, before: u16, ran: bool) {
+        self.leave(cpu, before);
+        if self.has_local(cpu) {
+            self.start(cpu);
+        } else {
+            self.builtin_cycle(cpu, NOBODY, ran);
+        }
+    }
+
+    /// Asks dispatch as long as it moves somebody, and nobody comes, at most 32 times.
+    #[inline(always)]
+    fn dispatch(&mut self, cpu: u32, before: u16) {
+        for _ in 0..32 {
+            self.call_back(Dispatch, [cpu.into(), pid(before), 0], 0, cpu);
+            self.supply(cpu);
+            if self.has_local(cpu) || !self.world.call.has_moved {
+                return;
+            }
+        }
+    }
+
+    #[inline(always)]
+    fn seek(&mut self, cpu: u32, before: u16, ran: bool) {
+        self.supply(cpu);
+        if !self.has_local(cpu) && !self.programs[Dispatch as usize].is_empty() {
+            self.dispatch(cpu, before);
+        }
+        if self.world.ejected.is_some() {
+            self.builtin_cycle(cpu, before, ran);
+        } else if self.has_local(cpu) {
+            self.pick(cpu, before, ran);
+        } else {
+            self.rest(cpu, before, ran);
+        }
+    }
+
+    /// A processor seeks the task that it runs next; one ran there as the event began, or none.
+    #[inline(never)]
+    fn cycle(&mut self, cpu: u32, before: u16, ran: bool) {
+        self.world.cycling = 1 << (cpu & 63);
+        if self.world.ejected.is_some() {
+            self.builtin_cycle(cpu, before, ran);
+        } else {
+            self.seek(cpu, before, ran);
+        }
+        self.world.cycling = 0;
+    }
+
+    // ---- events
+
+    /// For which processor a task is put that woke.
+    fn target(&mut self, task: u16) -> u32 {
+        let before = self.world.tasks.of(task).prev_cpu;
+        let answer = self.call_back(SelectCpu, [pid(task), before.into(), 0], task, before.into());
+        if self.world.ejected.is_some() || self.programs[SelectCpu as usize].is_empty() {
+            return self.world.default_choice(task);
+        }
+        answer as u32
+    }
+
+    pub fn wake(&mut self, task: u16) {
+        self.world.wake(task);
+        let cpu = self.target(task);
+        match self.world.call.insert {
+            Some(insert) => self.world.enter(task, insert.for_cpu(cpu)),
+            None => self.put(task, cpu, 1),
+        }
         if self.world.is_idle(cpu) {
-            self.cycle(cpu, None, false);
+            self.cycle(cpu, NOBODY, false);
         }
     }
 
-    fn tick(&mut self, cpu: u32) {
-        let Some(task) = self.world.cpus[cpu as usize] else { return self.cycle(cpu, None, false) };
-        let facts = &mut self.world.tasks[usize::from(task)];
-        if facts.slice != u64::MAX {
-            facts.slice = facts.slice.saturating_sub(TICK);
-        }
-        facts.run_ns += TICK;
-        if facts.slice == 0 {
-            self.cycle(cpu, Some(task), true);
-        }
-    }
-
-    fn sleep(&mut self, task: u16) {
-        self.world.note(What::Sleep(task));
-        let cpu = self.world.cpus.iter().position(|running| *running == Some(task));
-        match cpu {
-            Some(cpu) => self.stop(task, cpu as u32, false),
-            None => self.world.leave(task),
-        }
-        self.world.tasks[usize::from(task)].is_runnable = false;
-        self.world.runnable -= 1;
-        if let Some(cpu) = cpu {
-            self.cycle(cpu as u32, None, true);
+    pub fn sleep(&mut self, task: u16) {
+        self.world.notes.sleep(task);
+        let cpu = self.world.tasks.of(task).prev_cpu.into();
+        if self.world.running[cpu as usize & 63] == task {
+            self.stop(task, cpu, false);
+            self.world.sleep(task);
+            self.cycle(cpu, NOBODY, true);
+        } else {
+            self.world.leave_queue(task);
+            self.world.sleep(task);
         }
     }
-}
 
-/// When a task wakes first, for how long it runs at once, if it ever sleeps, and for how long it sleeps.
-#[derive(Default)]
-struct Timing {
-    start: u64,
-    run: u64,
-    sleep: u64,
-}
+    #[inline(never)]
+    fn throttle(&mut self, task: u16, cpu: u32) {
+        self.stop(task, cpu, true);
+        self.park(task);
+        self.cycle(cpu, NOBODY, true);
+    }
 
-/// What a workload file says.
-#[derive(Default)]
-struct Workload {
-    cpus: usize,
-    ms: u64,
-    timings: Vec<Timing>,
-}
-
-impl Workload {
-    fn new(text: &str) -> Workload {
-        let mut workload = Workload::default();
-        for line in text.lines() {
-            if line == "[[task]]" {
-                workload.timings.push(Timing::default());
-            } else if let Some((key, value)) = line.split_once(" = ") {
-                workload.set(key, value);
+    /// A processor ran for a millisecond. Its task is answered where that has run enough, and goes to sleep.
+    #[inline(always)]
+    pub fn tick(&mut self, cpu: u32) -> Option<u16> {
+        let task = self.world.running[cpu as usize & 63];
+        if task == NOBODY {
+            if !self.is_quiet(cpu) {
+                self.cycle(cpu, NOBODY, false);
             }
+            return None;
         }
-        workload
-    }
-
-    fn set(&mut self, key: &str, value: &str) {
-        let number = || value.parse::<u64>().expect("a number");
-        match (key, self.timings.last_mut()) {
-            ("cpus", _) => self.cpus = number() as usize,
-            ("ms", _) => self.ms = number(),
-            ("start", Some(timing)) => timing.start = number(),
-            ("run", Some(timing)) => timing.run = number(),
-            ("sleep", Some(timing)) => timing.sleep = number(),
-            _ => {}
+        let record = self.world.tasks.at(task);
+        if record.slice != NEVER {
+            record.slice = record.slice.saturating_sub(TICK);
         }
-    }
-}
-
-/// The programs of a policy file, each of which stands between two `"""`, behind its name.
-fn programs(text: &str) -> Vec<(Callback, &str)> {
-    let pieces: Vec<&str> = text.split("\"\"\"").collect();
-    let name = |before: &str| before.lines().last().and_then(|line| line.split(' ').next().map(str::to_string));
-    pieces
-        .chunks_exact(2)
-        .map(|pair| (Callback::named(&name(pair[0]).expect("a name")).expect("a callback"), pair[1]))
-        .collect()
-}
-
-/// Gives a machine the events of a workload.
-struct Driver {
-    timings: Vec<Timing>,
-    /// When each task wakes, in milliseconds, and how long it had run then.
-    due: Vec<u64>,
-    ran: Vec<u64>,
-}
-
-impl Driver {
-    fn new(timings: Vec<Timing>) -> Driver {
-        let due = timings.iter().map(|timing| timing.start).collect();
-        let ran = vec![0; timings.len()];
-        Driver { timings, due, ran }
+        record.run_ns += TICK;
+        let (slice, is_enough) = (record.slice, record.run_ns >= record.ends);
+        if self.world.is_limited {
+            self.world.use_ms(task);
+        }
+        if self.world.is_limited && self.world.is_throttled(task) {
+            self.throttle(task, cpu);
+        } else if slice == 0 {
+            self.cycle(cpu, task, true);
+        }
+        is_enough.then_some(task)
     }
 
-    fn wake(&mut self, machine: &mut Machine) {
-        for task in 0..self.due.len() {
-            let facts = &machine.world.tasks[task];
-            if self.due[task] == machine.world.clock && !facts.is_runnable {
-                self.ran[task] = facts.run_ns;
-                machine.wake(task as u16);
+    /// Whether an idle processor has nobody to ask.
+    #[inline(always)]
+    fn is_quiet(&self, cpu: u32) -> bool {
+        let asks = !self.programs[Dispatch as usize].is_empty() || self.world.ejected.is_some();
+        !asks && !self.has_local(cpu) && self.world.length(GLOBAL) == 0
+    }
+
+    #[inline(always)]
+    pub fn clock(&mut self) {
+        self.world.clock += 1;
+        self.world.notes.clock(self.world.clock);
+        if self.world.is_limited && self.world.begin_periods() {
+            self.let_go();
+        }
+        if self.world.ejected.is_none() {
+            if let Some(task) = self.world.overdue() {
+                self.eject(Eject::Stall(task, self.world.clock));
             }
         }
     }
-
-    fn sleep(&mut self, machine: &mut Machine) {
-        for (task, timing) in self.timings.iter().enumerate() {
-            let facts = &machine.world.tasks[task];
-            if timing.run != 0 && facts.is_runnable && timing.run * TICK <= facts.run_ns - self.ran[task] {
-                self.due[task] = machine.world.clock + 1 + timing.sleep;
-                machine.sleep(task as u16);
-            }
-        }
-    }
-
-    fn millisecond(&mut self, machine: &mut Machine) {
-        self.wake(machine);
-        for cpu in 0..machine.world.cpus.len() as u32 {
-            machine.tick(cpu);
-        }
-        self.sleep(machine);
-        machine.world.clock += 1;
-    }
 }
 
-/// How long each task ran.
-fn write_report(machine: &Machine, out: &mut impl Write) -> io::Result<()> {
-    let runs: Vec<u64> = machine.world.tasks.iter().map(|task| task.run_ns / TICK).collect();
+fn report<N: Notes>(machine: &Machine<N>, workload: &Workload) -> Vec<u8> {
+    let world = &machine.world;
+    let runs: Vec<u64> = (0..world.count).map(|task| world.tasks.of(task).run_ns / TICK).collect();
     let total: u64 = runs.iter().sum();
-    for (task, run) in runs.iter().enumerate() {
-        writeln!(out, "task t{task} run {run} share {}", (10_000 * run).checked_div(total).unwrap_or(0))?;
+    let mut text = String::new();
+    for (task, run) in workload.tasks.iter().zip(runs) {
+        let share = (10_000 * run).checked_div(total).unwrap_or(0);
+        text += &format!("task {} run {run} share {share}\n", task.name);
     }
-    writeln!(out, "total {total}\npolicy in force")
+    text += &format!("total {total}\n");
+    text += &match world.ejected {
+        None => "policy in force\n".to_string(),
+        Some(Eject::Stall(task, clock)) => format!("policy ejected stall {} at {clock}\n", workload.tasks[usize::from(task)].name),
+        Some(Eject::Fault(fault, clock)) => format!("policy ejected fault {fault} at {clock}\n"),
+    };
+    text.into_bytes()
 }
 
-/// Writes the trace, or the report, of a workload under a policy.
-pub fn simulate(command: &str, policy: &str, workload: &str) -> io::Result<()> {
-    let Workload { cpus, ms, timings } = Workload::new(workload);
-    let mut machine = Machine::new(&programs(policy), cpus, timings.len());
-    let mut driver = Driver::new(timings);
-    let out = BufWriter::with_capacity(65_536, io::stdout());
-    let (lines, report) = if command == "run" { (Some(out), None) } else { (None, Some(out)) };
-    machine.world.notes.lines = lines;
-    (0..ms).for_each(|_| driver.millisecond(&mut machine));
-    if let Some(mut out) = report {
-        write_report(&machine, &mut out)?;
-        out.flush()?;
+fn go<N: Notes>(notes: N, policy: &Policy, workload: &Workload) -> Result<Machine<N>, String> {
+    let mut machine = Machine::new(notes, policy, workload)?;
+    Driver::new(workload).go(&mut machine);
+    Ok(machine)
+}
+
+/// Writes the trace, or the report, of a workload under a policy; or answers why not.
+pub fn simulate(command: &str, policy: &str, workload: &str) -> Result<(), String> {
+    let policy = Policy::read(policy).map_err(|fault| format!("policy line {}: {}", fault.line, fault.why))?;
+    let workload = Workload::read(workload).map_err(|fault| format!("workload line {}: {}", fault.line, fault.why))?;
+    let failed = |error: io::Error| error.to_string();
+    if command == "run" {
+        let names: Vec<&str> = workload.tasks.iter().map(|task| task.name.as_str()).collect();
+        let groups: Vec<&str> = workload.groups.iter().map(|group| group.name.as_str()).collect();
+        let trace = Trace::new(&names, &groups).map_err(failed)?;
+        go(trace, &policy, &workload)?.world.notes.flush();
+        return Ok(());
     }
-    machine.world.notes.lines.take().map_or(Ok(()), |mut lines| lines.flush())
+    let machine = go(Silence, &policy, &workload)?;
+    io::stdout().write_all(&report(&machine, &workload)).map_err(failed)
 }

@@ -2,6 +2,7 @@
 //! a run but whether its output has failed.
 #![tactic(auto)]
 
+mod clock_line;
 mod events;
 mod lines;
 mod names;

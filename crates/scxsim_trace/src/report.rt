@@ -3,7 +3,7 @@ ghost use Rattle.std.specs.Io.KnownBytes.{Appends};
 ghost use Rattle.scxsim_output.specs.Output.{HasFailed, AppendsBeginning};
 ghost use Rattle.scxsim_trace.specs.Report.{times, share, total_line as total_text, policy_start as start_of, policy_name as name_of, policy_end as end_of, policy_line, report};
 
-use crate::lines::Part;
+use crate::clock_line::Line;
 use crate::names::Names;
 use itoa::Buffer;
 use scx_sched::{Eject, Sim};
@@ -67,13 +67,13 @@ fn share(ms: u64, total: u64) -> u64
 }
 
 /// What stands behind a task's name.
-fn end_of_task(ms: u64, total: u64) -> Part
+fn end_of_task(ms: u64, total: u64) -> Line
     requires { ms ≤ 2 ^ 45 }
     ensures { result.bytes
         ≡ codes " run " ++ decimal ms ++ codes " share " ++ decimal (share ms total) ++ codes "\n" }
 {
     let mut digits = Buffer::new();
-    let mut end = Part::new();
+    let mut end = Line::new();
     end.push_str(" run ");
     end.push_str(digits.format(ms));
     end.push_str(" share ");
@@ -82,11 +82,11 @@ fn end_of_task(ms: u64, total: u64) -> Part
     end
 }
 
-fn total_line(total: u64) -> Part
+fn total_line(total: u64) -> Line
     ensures { result.bytes ≡ total_text total }
 {
     let mut digits = Buffer::new();
-    let mut line = Part::new();
+    let mut line = Line::new();
     line.push_str("total ");
     line.push_str(digits.format(total));
     line.push_str("\n");
@@ -119,10 +119,10 @@ fn write_policy<N: Names, W: Out>(
     )
 }
 
-fn policy_start(ejected: Option<Eject>) -> Part
+fn policy_start(ejected: Option<Eject>) -> Line
     ensures { result.bytes ≡ start_of ejected }
 {
-    let mut start = Part::new();
+    let mut start = Line::new();
     match ejected {
         None => start.push_str("policy in force"),
         Some(Eject::Stall(_, _)) => start.push_str("policy ejected stall "),
@@ -145,10 +145,10 @@ fn policy_name<N: Names>(names: &N, ejected: Option<Eject>) -> &str
     }
 }
 
-fn policy_end(ejected: Option<Eject>) -> Part
+fn policy_end(ejected: Option<Eject>) -> Line
     ensures { result.bytes ≡ end_of ejected }
 {
-    let mut end = Part::new();
+    let mut end = Line::new();
     if let Some(Eject::Stall(_, clock) | Eject::Fault(_, clock)) = ejected {
         let mut digits = Buffer::new();
         end.push_str(" at ");

@@ -1,6 +1,7 @@
 ghost use Rattle.std.specs.Prelude.{◌≡◌, true, false};
 ghost use Rattle.scxsim_trace.specs.Tracing.{TakesLine};
 
+use crate::clock_line::ClockLine;
 use crate::lines::write_note;
 use crate::names::Names;
 use scx_sched_machine::Sink;
@@ -13,6 +14,7 @@ pub struct Trace<'a, N, W> {
     names: &'a N,
     out: &'a mut W,
     failed: bool,
+    clock: ClockLine,
 }
 
 impl<'a, N: Names, W: Out> Trace<'a, N, W> {
@@ -26,6 +28,7 @@ impl<'a, N: Names, W: Out> Trace<'a, N, W> {
             names,
             out,
             failed: false,
+            clock: ClockLine::new(0),
         }
     }
 }
@@ -47,7 +50,7 @@ impl<N: Names, W: Out> Sink for Trace<'_, N, W> {
         if self.failed {
             return;
         }
-        if write_note(self.names, note, self.out).is_err() {
+        if write_note(self.names, &mut self.clock, note, self.out).is_err() {
             self.failed = true;
         }
     }
