@@ -6,15 +6,15 @@ use Rattle.std.proofs.lemmas.List.{length-set}
 use Rattle.scx_weights.specs.Hierarchy.{Hierarchy, is_active_task, with_weight}
 use Rattle.scx_weights.specs.Hierarchy as tree
 use Rattle.scx_weights.specs.Refusals.{max_weight, is_outside, weight_fault}
-use Rattle.scx_sched_world.specs.World.{is_runnable}
+use Rattle.scx_sched_world.specs.World.{is_runnable, running}
 use Rattle.scx_sched_machine.specs.declared.events.Event.{Event}
 use Rattle.scx_sched_machine.specs.declared.events.Event.TheVariants.{Wake, Sleep, Tick, Clock, SetWeight}
 use Rattle.scx_sched_machine.specs.Events as machine
 use Rattle.scx_sched.specs.Sim.{SimState, max_events, refusal, after_event, stepped_if}
 use Rattle.scx_load_driver.specs.Runs.{stepped_all, AreAccepted}
 use Rattle.scx_load_driver.specs.Blocks.{events_below}
-use Rattle.scx_load_driver.proofs.Alike.{IsLike, like_groups, like_active}
-use Rattle.scx_load_driver.proofs.Happening.{like_clock, like_tick, like_wake, like_sleep, others_stay}
+use Rattle.scx_load_driver.proofs.Alike.{Times, IsLike, times_of, like_groups, like_active}
+use Rattle.scx_load_driver.proofs.Happening.{like_clock, times_after_tick, like_tick, like_wake, like_sleep, others_stay}
 
 -- ---- lists, one behind another
 
@@ -58,11 +58,11 @@ goes v s l e = rec ok
 
 module _ (n c g e : ℕ) where
   -- a tree with as many groups
-  is_of : (h : Hierarchy) (v : Event) (s : SimState) → length h.groups ≡ g → Goes v s → IsLike h n c (machine.event_step s.state v).state.world → s.events ≤ e → IsOf n c g (e + 1) (after_event s v)
-  is_of h v s groups go i l = record {
-    tasks = ap (λ x. length x.world.tasks) go.state ∙ i.1;
+  is_of : (h : Hierarchy) (m : Times) (v : Event) (s : SimState) → m.many ≡ n → length h.groups ≡ g → Goes v s → IsLike h m c (machine.event_step s.state v).state.world → s.events ≤ e → IsOf n c g (e + 1) (after_event s v)
+  is_of h m v s many groups go i l = record {
+    tasks = ap (λ x. length x.world.tasks) go.state ∙ i.1.0 ∙ many;
     cpus = ap (λ x. length x.world.cpus) go.state ∙ i.2;
-    groups = ap (λ x. length x.world.tree.groups) go.state ∙ ap (λ gs. length gs) (like_groups h n c (machine.event_step s.state v).state.world i) ∙ groups;
+    groups = ap (λ x. length x.world.tree.groups) go.state ∙ ap (λ gs. length gs) (like_groups h m c (machine.event_step s.state v).state.world i) ∙ groups;
     events = omega (arith, go.events, l);
   }
 
@@ -71,38 +71,41 @@ module _ (n c g e : ℕ) where
   Leads v s P =
       (refusal s v ≡ None) × IsOf n c g (e + 1) (after_event s v) × ((u : ℕ) → P u → is_runnable (after_event s v).state.world u ≡ is_runnable s.state.world u)
 
-  like_now : (s : SimState) → IsOf n c g e s → IsLike s.state.world.tree n c s.state.world
-  like_now s h = ((refl, refl, refl), h.tasks, h.cpus)
+  abbrev times : SimState → Times
+  times s = times_of n s.state.world
+
+  like_now : (s : SimState) → IsOf n c g e s → IsLike s.state.world.tree (times s) c s.state.world
+  like_now s h = ((refl, refl, refl), (h.tasks, λ u. omega arith), h.cpus)
 
   -- a task that sleeps may wake
   pub wake_leads : (s : SimState) (t : ℕ) → e < max_events → t < n → is_runnable s.state.world t ≡ false → IsOf n c g e s → Leads (Wake t) s (λ u. u ≡ t → ⊥)
-  wake_leads s t few l sleeps h = (x.accepted, is_of (tree.with_task s.state.world.tree t true) (Wake t) s h.groups x i h.events, same)
+  wake_leads s t few l sleeps h = (x.accepted, is_of (tree.with_task s.state.world.tree t true) (times s) (Wake t) s refl h.groups x i h.events, same)
     where
       x : Goes (Wake t) s
       x = goes (Wake t) s (omega (arith, few, h.events)) (rw (lt-ltb t (length s.state.world.tasks) (omega (arith, l, h.tasks)), sleeps) refl)
 
-      i : IsLike (tree.with_task s.state.world.tree t true) n c (machine.event_step s.state (Wake t)).state.world
-      i = like_wake s.state.world.tree n c s.state t (like_now s h)
+      i : IsLike (tree.with_task s.state.world.tree t true) (times s) c (machine.event_step s.state (Wake t)).state.world
+      i = like_wake s.state.world.tree (times s) c s.state t (like_now s h)
 
       same : (u : ℕ) → (u ≡ t → ⊥) → is_runnable (after_event s (Wake t)).state.world u ≡ is_runnable s.state.world u
-      same u d = ap (λ y. is_runnable y.world u) x.state ∙ ap (λ xs. get_or xs u false) (like_active (tree.with_task s.state.world.tree t true) n c (machine.event_step s.state (Wake t)).state.world i) ∙ others_stay s.state.world.tree t u true d
+      same u d = ap (λ y. is_runnable y.world u) x.state ∙ ap (λ xs. get_or xs u false) (like_active (tree.with_task s.state.world.tree t true) (times s) c (machine.event_step s.state (Wake t)).state.world i) ∙ others_stay s.state.world.tree t u true d
 
   -- a task that is runnable may sleep
   pub sleep_leads : (s : SimState) (t : ℕ) → e < max_events → t < n → is_runnable s.state.world t ≡ true → IsOf n c g e s → Leads (Sleep t) s (λ u. u ≡ t → ⊥)
-  sleep_leads s t few l runs h = (x.accepted, is_of (tree.with_task s.state.world.tree t false) (Sleep t) s h.groups x i h.events, same)
+  sleep_leads s t few l runs h = (x.accepted, is_of (tree.with_task s.state.world.tree t false) (times s) (Sleep t) s refl h.groups x i h.events, same)
     where
       x : Goes (Sleep t) s
       x = goes (Sleep t) s (omega (arith, few, h.events)) (rw (lt-ltb t (length s.state.world.tasks) (omega (arith, l, h.tasks)), runs) refl)
 
-      i : IsLike (tree.with_task s.state.world.tree t false) n c (machine.event_step s.state (Sleep t)).state.world
-      i = like_sleep s.state.world.tree n c s.state t l (like_now s h)
+      i : IsLike (tree.with_task s.state.world.tree t false) (times s) c (machine.event_step s.state (Sleep t)).state.world
+      i = like_sleep s.state.world.tree (times s) c s.state t l (like_now s h)
 
       same : (u : ℕ) → (u ≡ t → ⊥) → is_runnable (after_event s (Sleep t)).state.world u ≡ is_runnable s.state.world u
-      same u d = ap (λ y. is_runnable y.world u) x.state ∙ ap (λ xs. get_or xs u false) (like_active (tree.with_task s.state.world.tree t false) n c (machine.event_step s.state (Sleep t)).state.world i) ∙ others_stay s.state.world.tree t u false d
+      same u d = ap (λ y. is_runnable y.world u) x.state ∙ ap (λ xs. get_or xs u false) (like_active (tree.with_task s.state.world.tree t false) (times s) c (machine.event_step s.state (Sleep t)).state.world i) ∙ others_stay s.state.world.tree t u false d
 
   -- a processor may tick
   pub tick_leads : (s : SimState) (d : ℕ) → e < max_events → d < c → IsOf n c g e s → (refusal s (Tick d) ≡ None) × IsOf n c g (e + 1) (after_event s (Tick d))
-  tick_leads s d few l h = (x.accepted, is_of s.state.world.tree (Tick d) s h.groups x (like_tick s.state.world.tree n c s.state d (like_now s h)) h.events)
+  tick_leads s d few l h = (x.accepted, is_of s.state.world.tree (times_after_tick (running s.state.world d) (times s)) (Tick d) s refl h.groups x (like_tick s.state.world.tree (times s) c s.state d (like_now s h)) h.events)
     where
       x : Goes (Tick d) s
       x = goes (Tick d) s (omega (arith, few, h.events)) (rw (lt-ltb d (length s.state.world.cpus) (omega (arith, l, h.cpus))) refl)
@@ -111,7 +114,7 @@ module _ (n c g e : ℕ) where
   pub clock_leads : (s : SimState) → e < max_events → IsOf n c g e s → (refusal s Clock ≡ None) × IsOf n c g (e + 1) (after_event s Clock)
   clock_leads s few h =
       let x : Goes Clock s = goes Clock s (omega (arith, few, h.events)) refl in
-      (x.accepted, is_of s.state.world.tree Clock s h.groups x (like_clock s.state.world.tree n c s.state (like_now s h)) h.events)
+      (x.accepted, is_of s.state.world.tree (times s) Clock s refl h.groups x (like_clock s.state.world.tree (times s) c s.state (like_now s h)) h.events)
 
   -- a group may get a weight
   pub weight_leads : (s : SimState) (k y : ℕ) → e < max_events → k < g → 1 ≤ y → y ≤ 10000 → IsOf n c g e s → (refusal s (SetWeight k y) ≡ None) × IsOf n c g (e + 1) (after_event s (SetWeight k y))
@@ -127,8 +130,8 @@ module _ (n c g e : ℕ) where
       x = goes (SetWeight k y) s (omega (arith, few, h.events)) (rw (lt-ltb k (length s.state.world.tree.groups) (omega (arith, l, h.groups)), right) refl)
 
       go : (b : Bool) → is_none (weight_fault s.state.world.tree k y) ≡ b → IsOf n c g (e + 1) (after_event s (SetWeight k y))
-      go true w = is_of (with_weight s.state.world.tree k y) (SetWeight k y) s (length-set s.state.world.tree.groups k _ ∙ h.groups) x (rw w ((refl, refl, refl), h.tasks, h.cpus)) h.events
-      go false w = is_of s.state.world.tree (SetWeight k y) s h.groups x (rw w ((refl, refl, refl), h.tasks, h.cpus)) h.events
+      go true w = is_of (with_weight s.state.world.tree k y) (times s) (SetWeight k y) s refl (length-set s.state.world.tree.groups k _ ∙ h.groups) x (rw w ((refl, refl, refl), (h.tasks, λ u. omega arith), h.cpus)) h.events
+      go false w = is_of s.state.world.tree (times s) (SetWeight k y) s refl h.groups x (rw w ((refl, refl, refl), (h.tasks, λ u. omega arith), h.cpus)) h.events
 
 -- ---- the events of numbers that pass a test
 

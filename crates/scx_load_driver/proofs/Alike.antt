@@ -1,6 +1,8 @@
--- A scheduling cycle leaves the groups and tasks, who is active, and how many tasks and processors there are.
-use Rattle.std.proofs.Common.{◌≡◌, ℕ, zero, suc, Bool, true, false, nat_lt, cond, List, length, map, Option, Some, None, Result, Ok, Err, ℤ, refl, ◌∙◌, subst}
-use Rattle.std.proofs.lemmas.List.{length-set, length-replicate}
+-- A scheduling cycle leaves the groups and tasks, who is active, how many tasks and processors there are, and how long
+-- each task has run.
+use Rattle.std.proofs.Common.{◌≡◌, ℕ, zero, suc, ◌<◌, ◌≤◌, ◌⊎◌, inl, inr, Bool, true, false, nat_lt, cond, List, length, set, get_or, map, Option, Some, None, Result, Ok, Err, ℤ, refl, ◌∙◌, subst, arith}
+use Rattle.std.proofs.lemmas.Bool.{cases_eq, cases_lt}
+use Rattle.std.proofs.lemmas.List.{length-set, length-replicate, get_or-set_same, get_or-set_other, set_past}
 use Rattle.scx_dsq.specs.Queues.{len_of, front_of, behind_of}
 use Rattle.scx_dsq.specs.Calls.{after_create}
 use Rattle.scx_isa_semantics.specs.declared.callbacks.Callback.{Callback}
@@ -20,6 +22,7 @@ use Rattle.scx_vm.specs.Host.{answer_to, after_query}
 use Rattle.scx_weights.specs.Hierarchy.{Hierarchy}
 use Rattle.scx_sched_world.specs.declared.call.Insert.{Insert}
 use Rattle.scx_sched_tasks.specs.declared.task.Task.{Task}
+use Rattle.scx_sched_tasks.specs.Tasks.{no_task}
 use Rattle.scx_sched_world.specs.declared.faults.Fault.{Fault}
 use Rattle.scx_sched_world.specs.declared.faults.Fault.TheVariants.{NoSuchQueue, NoSuchCpu, CannotCreate}
 use Rattle.scx_sched_world.specs.Ids.{global, builtin_queue, parked_queue, local_on}
@@ -40,31 +43,54 @@ use Rattle.scx_sched_machine.specs.Cycle.{has_local, after_dispatch, asks_again,
 use Rattle.scx_sched_machine.specs.Start.{blank, init_ending, bad_answer, ok_unless, after_init, enable_ending, has_failed, enable, then_enable, after_enables, ok_if, all_enabled, first_state}
 use Rattle.scx_sched_machine.proofs.Choices.{keeps_if}
 use Rattle.scx_sched_machine.proofs.HelperCalls.{by_helper}
+use Rattle.scx_sched.proofs.Fine.{stored_run, given_run, renewed_run}
 
 -- the same groups and tasks, of which the same are active
 abbrev pub IsTreeLike : Hierarchy → Hierarchy → Type 0
 IsTreeLike h t = (t.groups ≡ h.groups) × (t.homes ≡ h.homes) × (t.active ≡ h.active)
 
--- a tree like that one, and so many tasks and processors
-abbrev pub IsLike : Hierarchy → ℕ → ℕ → WorldState → Type 0
-IsLike tree n c w = IsTreeLike tree w.tree × (length w.tasks ≡ n) × (length w.cpus ≡ c)
+-- how many tasks there are, and how long each has run at most
+pub record Times : Type 0 where
+  pub many : ℕ
+  pub most : ℕ → ℕ
+
+-- so many tasks, which have run for so long at most
+abbrev pub AreTimed : Times → List Task → Type 0
+AreTimed n xs = (length xs ≡ n.many) × ((u : ℕ) → (get_or xs u no_task).run_ns ≤ n.most u)
+
+-- a tree like that one, such tasks, and so many processors
+abbrev pub IsLike : Hierarchy → Times → ℕ → WorldState → Type 0
+IsLike tree n c w = IsTreeLike tree w.tree × AreTimed n w.tasks × (length w.cpus ≡ c)
+
+-- as many tasks, none of which runs on
+abbrev pub times_of : ℕ → WorldState → Times
+times_of n w = record { many = n; most = λ u. (task_at w u).run_ns }
+
+-- another record of a task, which has run as long
+pub timed_set : (n : Times) (xs : List Task) (t : ℕ) (x : Task) → x.run_ns ≡ (get_or xs t no_task).run_ns → AreTimed n xs → AreTimed n (set xs t x)
+timed_set n xs t x same h = (length-set xs t x ∙ h.0, λ u. go u (cases_eq u t) (cases_lt t (length xs)))
+  where
+    go : (u : ℕ) → (u ≡ t) ⊎ (u ≡ t → ⊥) → (t < length xs) ⊎ (length xs ≤ t) → (get_or (set xs t x) u no_task).run_ns ≤ n.most u
+    go u (inl e) (inl within) = rw (e, get_or-set_same xs t x no_task within) (omega (arith, same, h.1 t))
+    go u (inl e) (inr past) = rw (set_past xs t x past) (h.1 u)
+    go u (inr d) l = rw (get_or-set_other xs t u x no_task d) (h.1 u)
 
 -- a world like a tree has its groups
-pub like_groups : (h : Hierarchy) (n c : ℕ) (w : WorldState) → IsLike h n c w → w.tree.groups ≡ h.groups
+pub like_groups : (h : Hierarchy) (n : Times) (c : ℕ) (w : WorldState) → IsLike h n c w → w.tree.groups ≡ h.groups
 like_groups h n c w i = let t : IsTreeLike h w.tree = i.0 in t.0
 
 -- in a world like a tree the same tasks are active
-pub like_active : (h : Hierarchy) (n c : ℕ) (w : WorldState) → IsLike h n c w → w.tree.active ≡ h.active
+pub like_active : (h : Hierarchy) (n : Times) (c : ℕ) (w : WorldState) → IsLike h n c w → w.tree.active ≡ h.active
 like_active h n c w i = let t : IsTreeLike h w.tree = i.0 in t.2
 
-module _ (h : Hierarchy) (n c : ℕ) where
+module _ (h : Hierarchy) (n : Times) (c : ℕ) where
   -- ---- small steps
 
-  like_task : (w : WorldState) (t : ℕ) (x : Task) → IsLike h n c w → IsLike h n c (with_task w t x)
-  like_task w t x i = (i.0, length-set w.tasks t x ∙ i.1, i.2)
+  like_task : (w : WorldState) (t : ℕ) (x : Task) → x.run_ns ≡ (task_at w t).run_ns → IsLike h n c w → IsLike h n c (with_task w t x)
+  like_task w t x same i = (i.0, timed_set n w.tasks t x same i.1, i.2)
 
   like_entered : (w : WorldState) (t : ℕ) (k : Insert) → IsLike h n c w → IsLike h n c (after_enter w t k)
-  like_entered w t k i = keeps_if (IsLike h n c) (nat_lt t (length w.tasks)) _ w (like_task w t _ i) i
+  like_entered w t k i = keeps_if (IsLike h n c) (nat_lt t (length w.tasks)) _ w (like_task w t _ (given_run (task_at w t) k) i) i
 
   like_released : (w : WorldState) (t : Option ℕ) (k : Insert) → IsLike h n c w → IsLike h n c (after_release w t k)
   like_released w None k i = i
@@ -94,18 +120,18 @@ module _ (h : Hierarchy) (n c : ℕ) where
   like_query : (w : WorldState) (q : Query) → IsLike h n c w → IsLike h n c (after_query world_functions w q)
   like_query w (Call f a) i = like_helper w f (map argument_of a) i
   like_query w (Load t f) i = i
-  like_query w (Store t f k) i = like_task w t.0 (stored_in (task_at w t.0) f k) i
+  like_query w (Store t f k) i = like_task w t.0 (stored_in (task_at w t.0) f k) (stored_run (task_at w t.0) f k) i
 
-  like_stopped : (w : WorldState) (d t : ℕ) → IsLike h n c w → IsLike h n c (after_stop w d t)
-  like_stopped w d t i = (i.0, length-set w.tasks t _ ∙ i.1, length-set w.cpus d None ∙ i.2)
+  pub like_stopped : (w : WorldState) (d t : ℕ) → IsLike h n c w → IsLike h n c (after_stop w d t)
+  like_stopped w d t i = (i.0, timed_set n w.tasks t _ refl i.1, length-set w.cpus d None ∙ i.2)
 
   like_started : (w : WorldState) (d t : ℕ) → IsLike h n c w → IsLike h n c (started_at (Some t) w d)
-  like_started w d t i = (i.0, length-set w.tasks t _ ∙ i.1, length-set w.cpus d (Some t) ∙ i.2)
+  like_started w d t i = (i.0, timed_set n w.tasks t _ refl i.1, length-set w.cpus d (Some t) ∙ i.2)
 
   -- ---- an ejection
 
   like_put_builtin : (w : WorldState) (t : ℕ) → IsLike h n c w → IsLike h n c (put_builtin w t)
-  like_put_builtin w t i = keeps_if (IsLike h n c) (nat_lt t (length w.tasks)) _ w (like_task w t _ i) i
+  like_put_builtin w t i = keeps_if (IsLike h n c) (nat_lt t (length w.tasks)) _ w (like_task w t _ refl i) i
 
   like_evicted : (j : ℕ) (w : WorldState) → IsLike h n c w → IsLike h n c (after_evictions j w)
   like_evicted zero w i = i
@@ -116,7 +142,7 @@ module _ (h : Hierarchy) (n c : ℕ) where
 
   like_cut_task : (o : Option ℕ) (w : WorldState) → IsLike h n c w → IsLike h n c (cut_task o w)
   like_cut_task None w i = i
-  like_cut_task (Some t) w i = like_task w t _ i
+  like_cut_task (Some t) w i = like_task w t _ refl i
 
   like_cut : (j : ℕ) (w : WorldState) → IsLike h n c w → IsLike h n c (after_cut j w)
   like_cut zero w i = i
@@ -153,7 +179,7 @@ module _ (h : Hierarchy) (n c : ℕ) where
   pub like_stopping : (s : State) (d t x : ℕ) → IsLike h n c s.world → IsLike h n c (after_stopping s d t x).state.world
   unfolding after_stopping
   like_stopping s d t x i =
-      keeps_if (λ (r : Stepped). IsLike h n c r.state.world) (is_ejected s) (stays (with_world s (after_charge s.world t))) (stopping_called s d t x) (like_task s.world t _ i) (like_call_back s _ (task_and_number t x) t d i)
+      keeps_if (λ (r : Stepped). IsLike h n c r.state.world) (is_ejected s) (stays (with_world s (after_charge s.world t))) (stopping_called s d t x) (like_task s.world t _ refl i) (like_call_back s _ (task_and_number t x) t d i)
 
   like_running_on : (s : State) (d t : ℕ) → IsLike h n c s.world → IsLike h n c (after_running s d t).state.world
   unfolding after_running
@@ -185,7 +211,7 @@ module _ (h : Hierarchy) (n c : ℕ) where
   -- ---- parking
 
   like_put_parked : (w : WorldState) (t : ℕ) → IsLike h n c w → IsLike h n c (put_parked w t)
-  like_put_parked w t i = keeps_if (IsLike h n c) (nat_lt t (length w.tasks)) _ w (like_task w t _ i) i
+  like_put_parked w t i = keeps_if (IsLike h n c) (nat_lt t (length w.tasks)) _ w (like_task w t _ refl i) i
 
   pub like_park : (s : State) (t : ℕ) → IsLike h n c s.world → IsLike h n c (park s t).state.world
   unfolding park
@@ -218,7 +244,7 @@ module _ (h : Hierarchy) (n c : ℕ) where
 
   like_let_go_one : (s : State) (t : ℕ) → IsLike h n c s.world → IsLike h n c (let_go_one s t).state.world
   unfolding let_go_one
-  like_let_go_one s t i = like_put (with_world s (let_go s.world t)) t (task_at s.world t).prev_cpu 0 (like_task s.world t _ i)
+  like_let_go_one s t i = like_put (with_world s (let_go s.world t)) t (task_at s.world t).prev_cpu 0 (like_task s.world t _ refl i)
 
   like_let_go_from : (m : ℕ) (s : State) (at : Option ℕ) → IsLike h n c s.world → IsLike h n c (let_go_from m s at).state.world
   unfolding let_go_from
@@ -259,7 +285,7 @@ module _ (h : Hierarchy) (n c : ℕ) where
   like_rest : (s : State) (d : ℕ) (p : Option ℕ) (ran : Bool) → IsLike h n c s.world → IsLike h n c (rest s d p ran).state.world
   unfolding rest
   like_rest s d None ran i = i
-  like_rest s d (Some t) ran i = like_task s.world t _ i
+  like_rest s d (Some t) ran i = like_task s.world t _ (renewed_run (task_at s.world t)) i
 
   like_leave : (s : State) (d : ℕ) (p : Option ℕ) → IsLike h n c s.world → IsLike h n c (leave s d p).state.world
   unfolding leave
@@ -372,7 +398,8 @@ module _ (h : Hierarchy) (n c : ℕ) where
       go (Some u) x e = subst (λ (y : State). IsLike h n c y.world) (same_ok _ _ e) (like_enabled (length s.world.tasks) s u x (f s refl))
 
 -- the first world has such a tree, and a task and a processor for each
-pub like_first : (p : PolicyState) (h : Hierarchy) (cpus : ℕ) (t : State) → first_state p h cpus ≡ Ok t → IsLike h (length h.homes) cpus t.world
+pub like_first : (p : PolicyState) (h : Hierarchy) (cpus : ℕ) (t : State) → first_state p h cpus ≡ Ok t → IsLike h (times_of (length h.homes) (blank p h cpus).world) cpus t.world
 like_first p h cpus t e =
-    like_all h (length h.homes) cpus (after_init (blank p h cpus)) t e
-    (λ s x. like_initialized h (length h.homes) cpus (blank p h cpus) s x ((refl, refl, refl), length-replicate (length h.homes) _, length-replicate {A = Option ℕ} cpus None))
+    let n = times_of (length h.homes) (blank p h cpus).world in
+    like_all h n cpus (after_init (blank p h cpus)) t e
+    (λ s x. like_initialized h n cpus (blank p h cpus) s x ((refl, refl, refl), (length-replicate (length h.homes) _, λ u. omega arith), length-replicate {A = Option ℕ} cpus None))

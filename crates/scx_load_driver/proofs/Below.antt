@@ -1,6 +1,6 @@
--- Lists by a test, one number further.
-use Rattle.std.proofs.Common.{◌≡◌, ℕ, ◌+◌, Bool, true, false, List, [], ◌∷◌, ◌++◌, set, refl, add-one}
-use Rattle.std.proofs.lemmas.List.{append-nil}
+-- Lists by a test, one number further, and lists by tests that answer alike.
+use Rattle.std.proofs.Common.{◌≡◌, ℕ, zero, suc, ◌+◌, ◌<◌, ◌≤◌, Bool, true, false, List, [], ◌∷◌, ◌++◌, length, set, get_or, cond, refl, sym, ap, ◌∙◌, add-one, arith}
+use Rattle.std.proofs.lemmas.List.{append-nil, length-set, get_or-set_other, set-get_or}
 use Rattle.scx_sched_machine.specs.declared.events.Event.{Event}
 use Rattle.scx_load_driver.specs.Blocks.{events_below, set_below}
 
@@ -12,10 +12,66 @@ events_push n test event e = rw (add-one, e) refl
 pub events_skip : (n : ℕ) (test : ℕ → Bool) (event : ℕ → Event) → test n ≡ false → events_below (n + 1) test event ≡ events_below n test event
 events_skip n test event e = rw (add-one, e) (append-nil (events_below n test event))
 
--- a number that passes is set
-pub set_push : (n : ℕ) (test : ℕ → Bool) (value : ℕ → ℕ) (xs : List ℕ) → test n ≡ true → set_below (n + 1) test value xs ≡ set (set_below n test value xs) n (value n)
-set_push n test value xs e = rw (add-one, e) refl
+-- events by tests that answer alike are the same
+pub events_alike : (n : ℕ) (f g : ℕ → Bool) (event : ℕ → Event) → ((t : ℕ) → t < n → f t ≡ g t) → events_below n f event ≡ events_below n g event
+events_alike zero f g event h = refl
+events_alike (suc n) f g event h =
+    ap (λ b. events_below n f event ++ cond b (event n ∷ []) []) (h n (omega arith))
+    ∙ ap (λ es. es ++ cond (g n) (event n ∷ []) []) (events_alike n f g event (λ t l. h t (omega (arith, l))))
 
--- one that doesn't isn't
-pub set_skip : (n : ℕ) (test : ℕ → Bool) (value : ℕ → ℕ) (xs : List ℕ) → test n ≡ false → set_below (n + 1) test value xs ≡ set_below n test value xs
-set_skip n test value xs e = rw (add-one, e) refl
+-- where none passes there is no event
+pub no_events : (n : ℕ) (test : ℕ → Bool) (event : ℕ → Event) → ((t : ℕ) → t < n → test t ≡ false) → events_below n test event ≡ []
+no_events zero test event h = refl
+no_events (suc n) test event h = rw (h n (omega arith), no_events n test event (λ t l. h t (omega (arith, l)))) refl
+
+module _ {A : Type 0} where
+  -- a number that passes is set
+  pub set_push : (n : ℕ) (test : ℕ → Bool) (value : ℕ → A) (xs : List A) → test n ≡ true → set_below (n + 1) test value xs ≡ set (set_below n test value xs) n (value n)
+  set_push n test value xs e = rw (add-one, e) refl
+
+  -- one that doesn't isn't
+  pub set_skip : (n : ℕ) (test : ℕ → Bool) (value : ℕ → A) (xs : List A) → test n ≡ false → set_below (n + 1) test value xs ≡ set_below n test value xs
+  set_skip n test value xs e = rw (add-one, e) refl
+
+  -- the list stays as long
+  pub length_set_below : (n : ℕ) (test : ℕ → Bool) (value : ℕ → A) (xs : List A) → length (set_below n test value xs) ≡ length xs
+  length_set_below zero test value xs = refl
+  length_set_below (suc n) test value xs = go (test n) (length_set_below n test value xs)
+    where
+      go : (b : Bool) → length (set_below n test value xs) ≡ length xs → length (cond b (set (set_below n test value xs) n (value n)) (set_below n test value xs)) ≡ length xs
+      go true e = length-set (set_below n test value xs) n (value n) ∙ e
+      go false e = e
+
+  -- lists by tests that answer alike are the same
+  pub sets_alike : (n : ℕ) (f g : ℕ → Bool) (value : ℕ → A) (xs : List A) → ((t : ℕ) → t < n → f t ≡ g t) → set_below n f value xs ≡ set_below n g value xs
+  sets_alike zero f g value xs h = refl
+  sets_alike (suc n) f g value xs h =
+      ap (λ b. cond b (set (set_below n f value xs) n (value n)) (set_below n f value xs)) (h n (omega arith))
+      ∙ ap (λ ys. cond (g n) (set ys n (value n)) ys) (sets_alike n f g value xs (λ t l. h t (omega (arith, l))))
+
+  -- a value that is there already changes nothing
+  pub sets_nothing : (n : ℕ) (test : ℕ → Bool) (value : ℕ → A) (xs : List A) (d : A) → ((t : ℕ) → t < n → test t ≡ true → get_or xs t d ≡ value t) → set_below n test value xs ≡ xs
+  sets_nothing zero test value xs d h = refl
+  sets_nothing (suc n) test value xs d h = go (sets_nothing n test value xs d (λ t l. h t (omega (arith, l)))) (test n) refl
+    where
+      go : set_below n test value xs ≡ xs → (b : Bool) → test n ≡ b → cond b (set (set_below n test value xs) n (value n)) (set_below n test value xs) ≡ xs
+      go before true e = ap (λ ys. set ys n (value n)) before ∙ ap (λ x. set xs n x) (sym (h n (omega arith) e)) ∙ set-get_or xs n d
+      go before false e = before
+
+  -- a number that wasn't come to yet keeps its value
+  pub kept_above : (n k : ℕ) (test : ℕ → Bool) (value : ℕ → A) (xs : List A) (d : A) → n ≤ k → get_or (set_below n test value xs) k d ≡ get_or xs k d
+  kept_above zero k test value xs d l = refl
+  kept_above (suc n) k test value xs d l = go (kept_above n k test value xs d (omega (arith, l))) (test n)
+    where
+      go : get_or (set_below n test value xs) k d ≡ get_or xs k d → (b : Bool) → get_or (cond b (set (set_below n test value xs) n (value n)) (set_below n test value xs)) k d ≡ get_or xs k d
+      go before true = get_or-set_other (set_below n test value xs) n k (value n) d (λ e. absurd (omega (arith, e, l))) ∙ before
+      go before false = before
+
+  -- and so does one that doesn't pass
+  pub kept_out : (n k : ℕ) (test : ℕ → Bool) (value : ℕ → A) (xs : List A) (d : A) → test k ≡ false → get_or (set_below n test value xs) k d ≡ get_or xs k d
+  kept_out zero k test value xs d e = refl
+  kept_out (suc n) k test value xs d e = go (kept_out n k test value xs d e) (test n) refl
+    where
+      go : get_or (set_below n test value xs) k d ≡ get_or xs k d → (b : Bool) → test n ≡ b → get_or (cond b (set (set_below n test value xs) n (value n)) (set_below n test value xs)) k d ≡ get_or xs k d
+      go before true x = get_or-set_other (set_below n test value xs) n k (value n) d (λ (s : k ≡ n). let y = sym e ∙ ap test s ∙ x in absurd (cc)) ∙ before
+      go before false x = before

@@ -1,46 +1,48 @@
 -- What an event leaves of groups and tasks, and of how many tasks and processors there are.
-use Rattle.std.proofs.Common.{◌≡◌, ℕ, ◌<◌, Bool, true, false, ◌==◌, nat_lt, length, set, Option, Some, None, ◌∙◌, ap, arith}
-use Rattle.std.proofs.lemmas.Bool.{lt-ltb}
-use Rattle.std.proofs.lemmas.List.{length-set, get_or-set_other}
+use Rattle.std.proofs.Common.{◌≡◌, ℕ, ◌+◌, ◌<◌, ◌≤◌, ◌⊎◌, inl, inr, Bool, true, false, ◌==◌, if◌then◌else◌, nat_lt, List, length, set, get_or, Option, Some, None, refl, ◌∙◌, ap, arith}
+use Rattle.std.proofs.lemmas.Bool.{cases_eq, cases_lt, eq-eqb, lt-ltb, ne_eqb}
+use Rattle.std.proofs.lemmas.List.{length-set, get_or-set_same, get_or-set_other, set_past}
 use Rattle.scx_isa_semantics.specs.declared.callbacks.Callback.TheVariants as callback
 use Rattle.scx_weights.specs.Hierarchy.{Hierarchy, is_active_task, with_weight}
 use Rattle.scx_weights.specs.Hierarchy as tree
 use Rattle.scx_weights.specs.Limits.{with_use}
-use Rattle.scx_sched_world.specs.World.{WorldState, with_tree, running, cpu_of, is_idle, is_throttled, task_at}
-use Rattle.scx_sched_world.specs.Tasks.{after_wake, after_sleep, after_leave, after_stop, ran_a_tick, after_tick, used_ms, later, begun_periods}
+use Rattle.scx_sched_tasks.specs.declared.task.Task.{Task}
+use Rattle.scx_sched_tasks.specs.Tasks.{no_task}
+use Rattle.scx_sched_world.specs.World.{WorldState, with_tree, running, cpu_of, is_idle, is_throttled, is_this, task_at}
+use Rattle.scx_sched_world.specs.Tasks.{after_wake, after_sleep, after_leave, after_stop, tick_ns, ran_a_tick, after_tick, used_ms, later, begun_periods}
 use Rattle.scx_sched_machine.specs.Steps.{State, Stepped, with_world, stays, one_after_other}
 use Rattle.scx_sched_machine.specs.Callbacks.{acting, call_back, answered_by, task_cpu_and_0}
 use Rattle.scx_sched_machine.specs.Parking.{park, let_all_go}
 use Rattle.scx_sched_machine.specs.Cycle.{after_stopping, cycle}
 use Rattle.scx_sched_machine.specs.Events.{target, insert_or_put, settle, select, wake, sleep_from_cpu, sleep_from, sleep, throttle, expire, count_down, tick_of, tick, overdue, eject_if_stalled, clock}
 use Rattle.scx_sched_machine.proofs.Choices.{keeps_if}
-use Rattle.scx_load_driver.proofs.Alike.{IsTreeLike, IsLike, like_eject, like_call_back, like_stopping, like_settled, like_park, like_let_all_go, like_cycle}
+use Rattle.scx_load_driver.proofs.Alike.{IsTreeLike, Times, AreTimed, IsLike, timed_set, like_stopped, like_eject, like_call_back, like_stopping, like_settled, like_park, like_let_all_go, like_cycle}
 
 -- a task is active, or not, in both
 tree_set : (h t : Hierarchy) (k : ℕ) (on : Bool) → IsTreeLike h t → IsTreeLike (tree.with_task h k on) (tree.with_task t k on)
 tree_set h t k on i = (i.0, i.1, ap (λ xs. set xs k on) i.2)
 
-like_settle : (h : Hierarchy) (n c : ℕ) (s : State) (t d : ℕ) → IsLike h n c s.world → IsLike h n c (settle s t d).state.world
+like_settle : (h : Hierarchy) (n : Times) (c : ℕ) (s : State) (t d : ℕ) → IsLike h n c s.world → IsLike h n c (settle s t d).state.world
 unfolding settle
 like_settle h n c s t d i =
     let r = insert_or_put s.world.call.insert s t d in
     let x = like_settled h n c s.world.call.insert s t d i in
     keeps_if (λ (r : Stepped). IsLike h n c r.state.world) (is_idle r.state.world d) (one_after_other r (cycle r.state d None false)) r (like_cycle h n c r.state d None false x) x
 
-like_select : (h : Hierarchy) (n c : ℕ) (s : State) (t : ℕ) → IsLike h n c s.world → IsLike h n c (select s t).state.world
+like_select : (h : Hierarchy) (n : Times) (c : ℕ) (s : State) (t : ℕ) → IsLike h n c s.world → IsLike h n c (select s t).state.world
 unfolding select
 like_select h n c s t i =
     let d = (task_at s.world t).prev_cpu in
     let r = call_back s callback.SelectCpu (task_cpu_and_0 t d) t d in
     like_settle h n c r.state t (target (acting r.state callback.SelectCpu) r.state.world t (answered_by s callback.SelectCpu (task_cpu_and_0 t d) t d)) (like_call_back h n c s callback.SelectCpu (task_cpu_and_0 t d) t d i)
 
-module _ (h : Hierarchy) (n c : ℕ) where
+module _ (h : Hierarchy) (n : Times) (c : ℕ) where
   like_throttle : (s : State) (d t : ℕ) → IsLike h n c s.world → IsLike h n c (throttle s d t).state.world
   unfolding throttle
   like_throttle s d t i =
       let off = with_world s (after_stop s.world d t) in
       let r = (after_stopping off d t 1).state in
-      let away : IsLike h n c off.world = (i.0, length-set s.world.tasks t _ ∙ i.1, length-set s.world.cpus d None ∙ i.2) in
+      let away : IsLike h n c off.world = like_stopped h n c s.world d t i in
       like_cycle h n c (park r t).state d None true (like_park h n c r t (like_stopping h n c off d t 1 away))
 
   like_expire : (s : State) (d t : ℕ) → IsLike h n c s.world → IsLike h n c (expire s d t).state.world
@@ -51,43 +53,35 @@ module _ (h : Hierarchy) (n c : ℕ) where
   like_used_ms : (w : WorldState) (t : ℕ) → IsLike h n c w → IsLike h n c (used_ms w t)
   like_used_ms w t i = keeps_if (IsLike h n c) (nat_lt t (length w.tasks)) (with_tree w (with_use w.tree t)) w i i
 
-  like_count_down : (s : State) (d t : ℕ) → IsLike h n c s.world → IsLike h n c (count_down s d t).state.world
+  -- who runs has run for a millisecond more
+  like_count_down : (s : State) (d t : ℕ) → IsLike h n c (after_tick s.world t) → IsLike h n c (count_down s d t).state.world
   unfolding count_down
   like_count_down s d t i =
       let v = with_world s (used_ms (after_tick s.world t) t) in
-      let x : IsLike h n c v.world = like_used_ms (after_tick s.world t) t (i.0, length-set s.world.tasks t (ran_a_tick (task_at s.world t)) ∙ i.1, i.2) in
+      let x : IsLike h n c v.world = like_used_ms (after_tick s.world t) t i in
       keeps_if (λ (r : Stepped). IsLike h n c r.state.world) (is_throttled v.world t) (throttle v d t) (expire v d t) (like_throttle v d t x) (like_expire v d t x)
-
-  -- a tick leaves all of it
-  pub like_tick : (s : State) (d : ℕ) → IsLike h n c s.world → IsLike h n c (tick s d).state.world
-  unfolding tick
-  like_tick s d i = go (running s.world d)
-    where
-      go : (o : Option ℕ) → IsLike h n c (tick_of o s d).state.world
-      go None = like_cycle h n c s d None false i
-      go (Some t) = like_count_down s d t i
 
   -- a task that wakes is active
   pub like_wake : (s : State) (t : ℕ) → IsLike h n c s.world → IsLike (tree.with_task h t true) n c (wake s t).state.world
   unfolding wake
   like_wake s t i =
       let w = with_world s (after_wake s.world t) in
-      like_select (tree.with_task h t true) n c w t (tree_set h s.world.tree t true i.0, length-set s.world.tasks t _ ∙ i.1, i.2)
+      like_select (tree.with_task h t true) n c w t (tree_set h s.world.tree t true i.0, timed_set n s.world.tasks t _ refl i.1, i.2)
 
   -- a task that sleeps isn't
-  like_asleep : (w : WorldState) (t : ℕ) → t < n → IsLike h n c w → IsLike (tree.with_task h t false) n c (after_sleep w t)
-  like_asleep w t l i = rw (lt-ltb t (length w.tasks) (omega (arith, l, i.1))) (tree_set h w.tree t false i.0, length-set w.tasks t _ ∙ i.1, i.2)
+  like_asleep : (w : WorldState) (t : ℕ) → t < n.many → IsLike h n c w → IsLike (tree.with_task h t false) n c (after_sleep w t)
+  like_asleep w t l i = rw (lt-ltb t (length w.tasks) (omega (arith, l, i.1.0))) (tree_set h w.tree t false i.0, timed_set n w.tasks t _ refl i.1, i.2)
 
-  like_sleep_from_cpu : (s : State) (t d : ℕ) → t < n → IsLike h n c s.world → IsLike (tree.with_task h t false) n c (sleep_from_cpu s t d).state.world
+  like_sleep_from_cpu : (s : State) (t d : ℕ) → t < n.many → IsLike h n c s.world → IsLike (tree.with_task h t false) n c (sleep_from_cpu s t d).state.world
   unfolding sleep_from_cpu
   like_sleep_from_cpu s t d l i =
       let off = with_world s (after_stop s.world d t) in
       let r = after_stopping off d t 0 in
-      let x : IsLike h n c r.state.world = like_stopping h n c off d t 0 (i.0, length-set s.world.tasks t _ ∙ i.1, length-set s.world.cpus d None ∙ i.2) in
+      let x : IsLike h n c r.state.world = like_stopping h n c off d t 0 (like_stopped h n c s.world d t i) in
       like_cycle (tree.with_task h t false) n c (with_world r.state (after_sleep r.state.world t)) d None true (like_asleep r.state.world t l x)
 
   -- a task that sleeps is no longer active
-  pub like_sleep : (s : State) (t : ℕ) → t < n → IsLike h n c s.world → IsLike (tree.with_task h t false) n c (sleep s t).state.world
+  pub like_sleep : (s : State) (t : ℕ) → t < n.many → IsLike h n c s.world → IsLike (tree.with_task h t false) n c (sleep s t).state.world
   unfolding sleep
   like_sleep s t l i = go (cpu_of s.world t)
     where
@@ -95,7 +89,7 @@ module _ (h : Hierarchy) (n c : ℕ) where
       go None = like_asleep (after_leave s.world t) t l i
       go (Some d) = like_sleep_from_cpu s t d l i
 
-module _ (h : Hierarchy) (n c : ℕ) where
+module _ (h : Hierarchy) (n : Times) (c : ℕ) where
   like_stalled : (o : Option ℕ) (s : State) → IsLike h n c s.world → IsLike h n c (eject_if_stalled o s).state.world
   like_stalled None s i = i
   like_stalled (Some t) s i = like_eject h n c s _ i
@@ -106,6 +100,32 @@ module _ (h : Hierarchy) (n c : ℕ) where
       let v = with_world s (begun_periods (later s.world)) in
       let r = (let_all_go v).state in
       like_stalled (overdue r) r (like_let_all_go h n c v (i.0, i.1, i.2))
+
+-- who runs may have run for a tick more
+abbrev pub times_after_tick : Option ℕ → Times → Times
+times_after_tick o n = record n { most = λ u. n.most u + (if is_this u o then tick_ns else 0) }
+
+-- a task has run for a tick more
+timed_ticked : (n : Times) (xs : List Task) (t : ℕ) → AreTimed n xs → AreTimed (times_after_tick (Some t) n) (set xs t (ran_a_tick (get_or xs t no_task)))
+timed_ticked n xs t h = (length-set xs t x ∙ h.0, λ u. go u (cases_eq u t) (cases_lt t (length xs)))
+  where
+    x : Task
+    x = ran_a_tick (get_or xs t no_task)
+
+    go : (u : ℕ) → (u ≡ t) ⊎ (u ≡ t → ⊥) → (t < length xs) ⊎ (length xs ≤ t) → (get_or (set xs t x) u no_task).run_ns ≤ n.most u + (if u == t then tick_ns else 0)
+    go u (inl e) (inl within) = rw (e, get_or-set_same xs t x no_task within, eq-eqb t t refl) (omega (arith, h.1 t))
+    go u (inl e) (inr past) = rw (set_past xs t x past) (omega (arith, h.1 u))
+    go u (inr d) l = rw (get_or-set_other xs t u x no_task d) (omega (arith, h.1 u))
+
+module _ (h : Hierarchy) (n : Times) (c : ℕ) where
+  -- a tick leaves all of it, but for who runs there
+  pub like_tick : (s : State) (d : ℕ) → IsLike h n c s.world → IsLike h (times_after_tick (running s.world d) n) c (tick s d).state.world
+  unfolding tick
+  like_tick s d i = go (running s.world d)
+    where
+      go : (o : Option ℕ) → IsLike h (times_after_tick o n) c (tick_of o s d).state.world
+      go None = let x = like_cycle h n c s d None false i in (x.0, (x.1.0, λ u. omega (arith, x.1.1 u)), x.2)
+      go (Some t) = like_count_down h (times_after_tick (Some t) n) c s d t (i.0, timed_ticked n s.world.tasks t i.1, i.2)
 
 -- whether other tasks are active stays
 pub others_stay : (h : Hierarchy) (t u : ℕ) (on : Bool) → (u ≡ t → ⊥) → is_active_task (tree.with_task h t on) u ≡ is_active_task h u

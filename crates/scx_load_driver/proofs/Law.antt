@@ -6,13 +6,15 @@ use Rattle.scx_weights.specs.Hierarchy.{idle}
 use Rattle.scx_sched_world.specs.World.{WorldState, is_runnable}
 use Rattle.scx_sched_machine.specs.declared.events.Event.TheVariants as event
 use Rattle.scx_sched_machine.specs.Policy.{PolicyState}
+use Rattle.scx_sched_machine.specs.Start.{blank}
 use Rattle.scx_sched.specs.Sim.{SimState, max_events, IsFirstState}
 use Rattle.scx_load_workloads.specs.declared.workload.Timing.{Timing}
 use Rattle.scx_load_workloads.specs.Workload.{WorkloadState, IsWorkload, IsChange, change_at}
 use Rattle.scx_load_driver.specs.Runs.{stepped_all, AreAccepted}
 use Rattle.scx_load_driver.specs.Blocks.{Plan, Memory, Block, Changes, Wakes, Ticks, Sleeps, Clock, events_below, set_below, is_at, is_due, has_run_enough, block_events, memory_after}
 use Rattle.scx_load_driver.specs.Events.{blocks_from, events_from, plan_of, first_memory, workload_events}
-use Rattle.scx_load_driver.proofs.Alike.{IsLike, like_groups, like_first}
+use Rattle.scx_load_driver.proofs.Below.{length_set_below}
+use Rattle.scx_load_driver.proofs.Alike.{Times, IsLike, times_of, like_groups, like_first}
 use Rattle.scx_load_driver.proofs.Accepting.{accepted_behind, IsOf, wake_leads, sleep_leads, tick_leads, clock_leads, weight_leads, Led, led}
 
 -- ---- how many events a block has at most
@@ -46,14 +48,6 @@ record IsPlan (n c g : ℕ) (p : Plan) : Type 0 where
   pub few_cpus : c ≤ 64
   pub few_changes : length p.changes ≤ 1024
   pub changes : (i : ℕ) → i < length p.changes → IsChange g (change_at p.changes i)
-
-length_set_below : (k : ℕ) (test : ℕ → Bool) (value : ℕ → ℕ) (xs : List ℕ) → length (set_below k test value xs) ≡ length xs
-length_set_below zero test value xs = refl
-length_set_below (suc k) test value xs = go (test k) (length_set_below k test value xs)
-  where
-    go : (b : Bool) → length (set_below k test value xs) ≡ length xs → length (cond b (set (set_below k test value xs) k (value k)) (set_below k test value xs)) ≡ length xs
-    go true e = length-set (set_below k test value xs) k (value k) ∙ e
-    go false e = e
 
 and_left : (a b : Bool) → (a && b) ≡ true → a ≡ true
 and_left true b e = refl
@@ -158,8 +152,11 @@ none_is_refused w p s whole first =
     plan : IsPlan (length w.homes) w.cpus (length w.groups) (plan_of w)
     plan = record { cpus = refl; timed = whole.timed; few_tasks = whole.few_tasks; few_cpus = whole.few_cpus; few_changes = whole.few_changes; changes = whole.changes }
 
-    like : IsLike (idle w.groups w.homes) (length w.homes) w.cpus s.state.world
+    times : Times
+    times = times_of (length w.homes) (blank p (idle w.groups w.homes) w.cpus).world
+
+    like : IsLike (idle w.groups w.homes) times w.cpus s.state.world
     like = like_first p (idle w.groups w.homes) w.cpus s.state first.0
 
     now : IsOf (length w.homes) w.cpus (length w.groups) s.events s
-    now = record { tasks = like.1; cpus = like.2; groups = ap (λ gs. length gs) (like_groups (idle w.groups w.homes) (length w.homes) w.cpus s.state.world like); events = omega arith }
+    now = record { tasks = like.1.0; cpus = like.2; groups = ap (λ gs. length gs) (like_groups (idle w.groups w.homes) times w.cpus s.state.world like); events = omega arith }

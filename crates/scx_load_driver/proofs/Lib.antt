@@ -3,4 +3,6 @@ pub mod Alike
 pub mod Happening
 pub mod Accepting
 pub mod Law
+pub mod Watching
+pub mod Quiet
 pub mod Remaining

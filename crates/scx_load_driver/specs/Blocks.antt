@@ -36,7 +36,7 @@ events_below zero test event = []
 events_below (suc n) test event = events_below n test event ++ (if test n then event n ∷ [] else [])
 
 -- a list with new values at the numbers below a bound that pass the test
-abbrev pub set_below : ℕ → (ℕ → Bool) → (ℕ → ℕ) → List ℕ → List ℕ
+abbrev pub set_below : {A : Type 0} → ℕ → (ℕ → Bool) → (ℕ → A) → List A → List A
 set_below zero test value xs = xs
 set_below (suc n) test value xs =
     if test n then slice_set (set_below n test value xs) n (value n) else set_below n test value xs

@@ -1,5 +1,5 @@
 -- A driver: what is left of a workload.
-use Rattle.std.specs.Prelude.{ℕ, ◌+◌, ◌≡◌, ◌≤◌, Bool, true, false, List, [], ◌∷◌, ◌++◌, drop, length, vec_capacity, ◌<◌}
+use Rattle.std.specs.Prelude.{ℕ, ◌+◌, ◌≡◌, ◌≤◌, Bool, true, false, List, [], ◌∷◌, ◌++◌, drop, length, slice_index, vec_capacity, ◌<◌}
 use Rattle.scx_sched_machine.specs.declared.events.Event.{Event}
 use Rattle.scx_sched.specs.Sim.{SimState}
 use Rattle.scx_load_workloads.specs.Workload.{max_ms, timing_at}
@@ -7,8 +7,9 @@ use Rattle.scx_load_driver.specs.declared.driver.Phase.{Phase}
 use Rattle.scx_load_driver.specs.declared.driver.Phase.TheVariants as phase
 use Rattle.scx_load_driver.specs.declared.driver.Driver.TheInside.{Inside}
 use Rattle.scx_load_driver.specs.Runs.{stepped_all}
-use Rattle.scx_load_driver.specs.Blocks.{Plan, Memory, Block, Changes, Wakes, Ticks, Sleeps, Clock, block_events, memory_after}
-use Rattle.scx_load_driver.specs.Events.{blocks_from, events_from}
+use Rattle.scx_load_driver.specs.Blocks.{Plan, Memory, Block, Changes, Wakes, Ticks, Sleeps, Clock, ticks_of}
+use Rattle.scx_load_driver.specs.Watch.{is_watched, watched_after, watched_after_all, block_seen, memory_seen, watched_in, events_seen}
+use Rattle.scx_load_driver.specs.Events.{blocks_from}
 
 -- the events of the block at hand that are still to come, and the blocks behind it
 pub record DriverState : Type 0 where
@@ -16,28 +17,36 @@ pub record DriverState : Type 0 where
   pub pending : List Event
   pub blocks : List Block
   pub memory : Memory
+  pub watched : List Bool  -- for each task whether it is watched
 
 -- what is still to come, from that state on
 abbrev pub remaining : DriverState → SimState → List Event
-remaining d s = d.pending ++ events_from d.plan d.blocks d.memory (stepped_all s d.pending)
+remaining d s =
+    let watched = watched_after_all d.plan.timings d.memory.ran s d.pending d.watched in
+    d.pending ++ events_seen d.plan d.blocks d.memory watched (stepped_all s d.pending)
 
 -- whether a list has no items
 abbrev pub is_empty : {A : Type 0} → List A → Bool
 is_empty [] = true
 is_empty (x ∷ xs) = false
 
--- the same driver, with these events of the block at hand still to come
-abbrev pub with_pending : DriverState → List Event → DriverState
-with_pending d es = record d { pending = es }
+-- the driver once it answered that event, with these of the block at hand still to come
+abbrev pub after_answer : DriverState → SimState → Event → List Event → DriverState
+after_answer d s e es =
+    record d {
+      pending = es;
+      watched = watched_after d.plan.timings d.memory.ran s.state.world e d.watched;
+    }
 
 -- the driver as the first of these blocks begins, with the others behind it; as it is where
 -- there is none
 abbrev pub at_first_block : List Block → DriverState → SimState → DriverState
 at_first_block [] d s = d
 at_first_block (b ∷ bs) d s = record d {
-  pending = block_events d.plan b d.memory s.state.world;
+  pending = block_seen d.plan b d.memory d.watched s.state.world;
   blocks = bs;
-  memory = memory_after d.plan b d.memory s.state.world;
+  memory = memory_seen d.plan b d.memory d.watched s.state.world;
+  watched = watched_in d.plan b d.memory d.watched s.state.world;
 }
 
 -- the driver as its next block begins; it stays as it is where no block is left
@@ -69,13 +78,36 @@ next_number (Clock ∷ bs) = 4
 abbrev pub blocks_left : Phase → ℕ → ℕ → List Block
 blocks_left p m left = drop (phase_number p) (blocks_from left m)
 
--- the state for which a driver's fields stand: events that are pending, blocks behind them, memory
+-- before which millisecond nobody wakes any more
+abbrev pub woken_before : Phase → ℕ → ℕ
+woken_before phase.Changes m = m
+woken_before phase.Wakes m = m
+woken_before phase.Ticks m = m + 1
+woken_before phase.Sleeps m = m + 1
+woken_before phase.Clock m = m + 1
+
+-- of the tasks below a number, whoever wakes from that millisecond on wakes at the other or later
+abbrev pub AreQuietBelow : ℕ → List ℕ → ℕ → ℕ → Type 0
+AreQuietBelow n due from quiet =
+    (t : ℕ) → t < n → from ≤ slice_index due t → quiet ≤ slice_index due t
+
+-- the same of all tasks
+abbrev pub AreQuiet : List ℕ → ℕ → ℕ → Type 0
+AreQuiet due from quiet = AreQuietBelow (length due) due from quiet
+
+-- nobody is watched, unless it may be that somebody is
+abbrev pub AreUnwatched : Bool → List Bool → Type 0
+AreUnwatched some watched = some ≡ false → (t : ℕ) → is_watched watched t ≡ false
+
+-- the state for which a driver's fields stand: events that are pending, blocks behind them, memory,
+-- and who is watched
 abbrev pub state_of : Inside → DriverState
 state_of d = record {
   plan = record { cpus = d.cpus; timings = d.timings.items; changes = d.changes.items };
-  pending = drop d.taken d.events.items;
+  pending = drop d.cpu (ticks_of d.cpus) ++ drop d.taken d.events.items;
   blocks = blocks_left d.phase d.clock d.left;
   memory = record { due = d.due.items; ran = d.ran.items };
+  watched = d.watched.items;
 }
 
 -- there is room for the events of a block, and no time grows out of its range
@@ -83,9 +115,13 @@ pub record IsKept (d : Inside) : Type 0 where
   pub room : 1024 ≤ vec_capacity d.events
   pub taken : d.taken ≤ length d.events.items
   pub few_cpus : d.cpus ≤ 64
+  pub cpu : d.cpu ≤ d.cpus
   pub few_tasks : length d.timings.items ≤ 1024
   pub few_changes : length d.changes.items ≤ 1024
   pub due : length d.due.items ≡ length d.timings.items
   pub ran : length d.ran.items ≡ length d.timings.items
+  pub watched : length d.watched.items ≡ length d.timings.items
   pub times : d.clock + d.left ≤ max_ms
   pub sleeps : (t : ℕ) → t < length d.timings.items → (timing_at d.timings.items t).sleep ≤ max_ms
+  pub quiet : AreQuiet d.due.items (woken_before d.phase d.clock) d.quiet
+  pub unwatched : AreUnwatched d.some_watched d.watched.items

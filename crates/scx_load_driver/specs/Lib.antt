@@ -1,5 +1,6 @@
 pub mod Runs
 pub mod Blocks
 pub mod Events
+pub mod Watch
 pub mod Driver
 pub mod Laws

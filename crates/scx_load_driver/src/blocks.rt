@@ -1,8 +1,10 @@
 //! The events of one block.
-ghost use Rattle.std.specs.Prelude.{◌≡◌, ℕ, ◌≤◌, ◌<◌, [], length, vec_capacity};
-ghost use Rattle.scx_sched_world.specs.World.{task_at};
+ghost use Rattle.std.specs.Prelude.{◌≡◌, ℕ, ◌+◌, ◌≤◌, ◌<◌, [], length, slice_set, vec_capacity};
+ghost use Rattle.scx_sched_world.specs.World.{task_at, running};
 ghost use Rattle.scx_load_workloads.specs.Workload.{max_ms, timing_at};
-ghost use Rattle.scx_load_driver.specs.Blocks.{is_due, has_run_enough, changes_at, wakes_at, ticks_of, sleeps_at, ran_after, due_after};
+ghost use Rattle.scx_load_driver.specs.Blocks.{is_due, has_run_enough, changes_at, wakes_at, ran_after};
+ghost use Rattle.scx_load_driver.specs.Watch.{lacks_at_most, watched_if, watched_at_tick, watched_after, is_seen, sleeps_seen, due_seen, watched_still};
+ghost use Rattle.scx_load_driver.specs.Driver.{AreQuiet, AreUnwatched};
 
 use scx_load_workloads::{Change, Timing};
 use scx_sched::{Event, Sim};
@@ -57,9 +59,19 @@ pub(crate) fn add_changes(changes: &[Change], now: u32, events: &mut Vec<Event>)
     }
 }
 
-/// The tasks that wake now; how long each has run is remembered.
+/// The sooner of that millisecond and one that is to come.
+#[inline(always)]
+fn sooner(quiet: u32, due: u32, now: u32) -> u32
+    ensures least { result ≤ quiet }
+    ensures this { now + 1 ≤ due → result ≤ due }
+{
+    if now < due && due < quiet { due } else { quiet }
+}
+
+/// The tasks that wake now; how long each has run is remembered. Answers before which millisecond nobody
+/// wakes behind this one.
 #[tactic(auto, using(crate::proofs::Below::events_push, crate::proofs::Below::events_skip, crate::proofs::Below::set_push, crate::proofs::Below::set_skip))]
-pub(crate) fn add_wakes(due: &[u32], ran: &mut [u64], now: u32, sim: &Sim, events: &mut Vec<Event>)
+fn find_wakes(due: &[u32], ran: &mut [u64], now: u32, sim: &Sim, events: &mut Vec<Event>) -> u32
     requires few { length due.now ≤ 1024 }
     requires even { length ran.old ≡ length due.now }
     requires room { 1024 ≤ vec_capacity events.old }
@@ -68,55 +80,274 @@ pub(crate) fn add_wakes(due: &[u32], ran: &mut [u64], now: u32, sim: &Sim, event
     ensures ran { ran.new ≡ ran_after due.now ran.old now sim.now.state.world }
     ensures even { length ran.new ≡ length due.now }
     ensures room { 1024 ≤ vec_capacity events.new }
+    ensures quiet { AreQuiet due.now (now + 1) result }
 {
+    let mut quiet = u32::MAX;
     for task in 0..due.len() as u16 {
+        quiet = sooner(quiet, due[task as usize], now);
         if is_due(due, now, sim, task) {
             events.push_reserved(Event::Wake(task));
             ran[task as usize] = run_ns(sim, task);
         }
     }
+    quiet
 }
 
-/// A tick of each processor.
-#[tactic(auto, using(crate::proofs::Below::events_push, crate::proofs::Below::events_skip, crate::proofs::Below::set_push, crate::proofs::Below::set_skip))]
-pub(crate) fn add_ticks(cpus: u32, events: &mut Vec<Event>)
-    requires few { cpus ≤ 64 }
+/// The same, for one who knows before which millisecond nobody wakes.
+#[inline(always)]
+pub(crate) fn add_wakes(
+    due: &[u32],
+    ran: &mut [u64],
+    quiet: u32,
+    now: u32,
+    sim: &Sim,
+    events: &mut Vec<Event>,
+) -> u32
+    requires few { length due.now ≤ 1024 }
+    requires even { length ran.old ≡ length due.now }
+    requires quiet { AreQuiet due.now now quiet }
     requires room { 1024 ≤ vec_capacity events.old }
     requires empty { events.old.items ≡ [] }
-    ensures events { events.new.items ≡ ticks_of cpus }
+    ensures events { events.new.items ≡ wakes_at due.now now sim.now.state.world }
+    ensures ran { ran.new ≡ ran_after due.now ran.old now sim.now.state.world }
+    ensures even { length ran.new ≡ length due.now }
     ensures room { 1024 ≤ vec_capacity events.new }
+    ensures quiet { AreQuiet due.now (now + 1) result }
 {
-    for cpu in 0..cpus {
-        events.push_reserved(Event::Tick(cpu));
+    if now < quiet {
+        quiet
+    } else {
+        find_wakes(due, ran, now, sim, events)
     }
 }
 
-/// The tasks that go to sleep now; when each wakes is remembered.
+/// Whether the task has run as long as it runs at once, but for so many ticks at most.
+#[inline(always)]
+fn lacks_at_most(ticks: u32, timings: &[Timing], ran: &[u64], sim: &Sim, task: u16) -> bool
+    requires timed { task < length timings.now }
+    requires remembered { task < length ran.now }
+    ensures { result ≡ lacks_at_most ticks timings.now ran.now sim.now.state.world task }
+{
+    let run = timings[task as usize].run;
+    0 < run
+        && MS_NS * u64::from(run.saturating_sub(ticks))
+            <= run_ns(sim, task).saturating_sub(ran[task as usize])
+}
+
+/// Watches the task where it lacks no more ticks than that. Answers whether somebody may be watched.
+#[inline(always)]
+fn watch_there(
+    ticks: u32,
+    timings: &[Timing],
+    ran: &[u64],
+    watched: &mut [bool],
+    some: bool,
+    sim: &Sim,
+    task: u16,
+) -> bool
+    requires there { task < length timings.now }
+    requires remembered { length ran.now ≡ length timings.now }
+    requires even { length watched.old ≡ length timings.now }
+    requires unwatched { AreUnwatched some watched.old }
+    ensures watched { watched.new
+        ≡ watched_if ticks timings.now ran.now sim.now.state.world task watched.old }
+    ensures even { length watched.new ≡ length timings.now }
+    ensures unwatched { AreUnwatched result watched.new }
+{
+    if lacks_at_most(ticks, timings, ran, sim, task) {
+        watched[task as usize] = true;
+        true
+    } else {
+        some
+    }
+}
+
+/// The same; nobody past the end is watched.
+#[inline(always)]
+fn watch(
+    ticks: u32,
+    timings: &[Timing],
+    ran: &[u64],
+    watched: &mut [bool],
+    some: bool,
+    sim: &Sim,
+    task: u16,
+) -> bool
+    requires remembered { length ran.now ≡ length timings.now }
+    requires even { length watched.old ≡ length timings.now }
+    requires unwatched { AreUnwatched some watched.old }
+    ensures watched { watched.new
+        ≡ watched_if ticks timings.now ran.now sim.now.state.world task watched.old }
+    ensures even { length watched.new ≡ length timings.now }
+    ensures unwatched { AreUnwatched result watched.new }
+{
+    if (task as usize) < timings.len() {
+        watch_there(ticks, timings, ran, watched, some, sim, task)
+    } else {
+        some
+    }
+}
+
+/// The task that runs on the processor; none where it isn't there.
+#[inline(always)]
+fn running(sim: &Sim, cpu: u32) -> Option<u16>
+    ensures { result ≡ running sim.now.state.world cpu }
+{
+    if cpu < sim.cpus() {
+        sim.running(cpu)
+    } else {
+        None
+    }
+}
+
+/// Watches who runs on the processor, which ticks next, where it lacks at most that tick. Answers whether
+/// somebody may be watched.
+#[inline(always)]
+pub(crate) fn watch_runner(
+    timings: &[Timing],
+    ran: &[u64],
+    watched: &mut [bool],
+    some: bool,
+    sim: &Sim,
+    cpu: u32,
+) -> bool
+    requires remembered { length ran.now ≡ length timings.now }
+    requires even { length watched.old ≡ length timings.now }
+    requires unwatched { AreUnwatched some watched.old }
+    ensures watched { watched.new
+        ≡ watched_at_tick timings.now ran.now sim.now.state.world
+        (running sim.now.state.world cpu) watched.old }
+    ensures even { length watched.new ≡ length timings.now }
+    ensures unwatched { AreUnwatched result watched.new }
+{
+    match running(sim, cpu) {
+        Some(task) => watch(1, timings, ran, watched, some, sim, task),
+        None => some,
+    }
+}
+
+/// Watches whoever may have run enough after the event, which comes next. Answers whether somebody may be
+/// watched.
+pub(crate) fn watch_event(
+    timings: &[Timing],
+    ran: &[u64],
+    watched: &mut [bool],
+    some: bool,
+    sim: &Sim,
+    event: Event,
+) -> bool
+    requires remembered { length ran.now ≡ length timings.now }
+    requires even { length watched.old ≡ length timings.now }
+    requires unwatched { AreUnwatched some watched.old }
+    ensures watched { watched.new
+        ≡ watched_after timings.now ran.now sim.now.state.world event watched.old }
+    ensures even { length watched.new ≡ length timings.now }
+    ensures unwatched { AreUnwatched result watched.new }
+{
+    match event {
+        Event::Wake(task) => watch(0, timings, ran, watched, some, sim, task),
+        Event::Tick(cpu) => watch_runner(timings, ran, watched, some, sim, cpu),
+        Event::Sleep(_) | Event::Clock | Event::SetWeight(_, _) => some,
+    }
+}
+
+/// Whether the task is watched, and has run enough.
+fn is_seen(timings: &[Timing], ran: &[u64], watched: &[bool], sim: &Sim, task: u16) -> bool
+    requires timed { task < length timings.now }
+    requires remembered { task < length ran.now }
+    requires there { task < length watched.now }
+    ensures { result ≡ is_seen timings.now ran.now watched.now sim.now.state.world task }
+{
+    watched[task as usize] && has_run_enough(timings, ran, sim, task)
+}
+
+/// The watched tasks that go to sleep now; when each wakes is remembered, and nobody else is watched any
+/// more. Answers whether somebody is.
 #[tactic(auto, using(crate::proofs::Below::events_push, crate::proofs::Below::events_skip, crate::proofs::Below::set_push, crate::proofs::Below::set_skip))]
+fn find_sleeps(
+    timings: &[Timing],
+    due: &mut [u32],
+    ran: &[u64],
+    watched: &mut [bool],
+    quiet: &mut u32,
+    now: u32,
+    sim: &Sim,
+    events: &mut Vec<Event>,
+) -> bool
+    requires few { length timings.now ≤ 1024 }
+    requires even { length due.old ≡ length timings.now }
+    requires remembered { length ran.now ≡ length timings.now }
+    requires even_watched { length watched.old ≡ length timings.now }
+    requires early { now < max_ms }
+    requires sleeps { (t : ℕ) → t < length timings.now → (timing_at timings.now t).sleep ≤ max_ms }
+    requires quiet { AreQuiet due.old (now + 1) quiet.old }
+    requires room { 1024 ≤ vec_capacity events.old }
+    requires empty { events.old.items ≡ [] }
+    ensures events { events.new.items
+        ≡ sleeps_seen timings.now ran.now watched.old sim.now.state.world }
+    ensures due { due.new
+        ≡ due_seen timings.now due.old ran.now watched.old now sim.now.state.world }
+    ensures watched { watched.new
+        ≡ watched_still timings.now ran.now watched.old sim.now.state.world }
+    ensures even { length due.new ≡ length timings.now }
+    ensures even_watched { length watched.new ≡ length timings.now }
+    ensures unwatched { AreUnwatched result watched.new }
+    ensures quiet { AreQuiet due.new (now + 1) quiet.new }
+    ensures room { 1024 ≤ vec_capacity events.new }
+{
+    let mut some = false;
+    for task in 0..timings.len() as u16 {
+        if is_seen(timings, ran, watched, sim, task) {
+            let ms = now + 1 + timings[task as usize].sleep;
+            events.push_reserved(Event::Sleep(task));
+            due[task as usize] = ms;
+            *quiet = sooner(*quiet, ms, now);
+            some = true;
+        } else {
+            watched[task as usize] = false;
+        }
+    }
+    some
+}
+
+/// The same, for one who knows whether somebody may be watched.
+#[inline(always)]
 pub(crate) fn add_sleeps(
     timings: &[Timing],
     due: &mut [u32],
     ran: &[u64],
+    watched: &mut [bool],
+    some: bool,
+    quiet: &mut u32,
     now: u32,
     sim: &Sim,
     events: &mut Vec<Event>,
-)
+) -> bool
     requires few { length timings.now ≤ 1024 }
     requires even { length due.old ≡ length timings.now }
     requires remembered { length ran.now ≡ length timings.now }
+    requires even_watched { length watched.old ≡ length timings.now }
+    requires unwatched { AreUnwatched some watched.old }
     requires early { now < max_ms }
     requires sleeps { (t : ℕ) → t < length timings.now → (timing_at timings.now t).sleep ≤ max_ms }
+    requires quiet { AreQuiet due.old (now + 1) quiet.old }
     requires room { 1024 ≤ vec_capacity events.old }
     requires empty { events.old.items ≡ [] }
-    ensures events { events.new.items ≡ sleeps_at timings.now ran.now sim.now.state.world }
-    ensures due { due.new ≡ due_after timings.now due.old ran.now now sim.now.state.world }
+    ensures events { events.new.items
+        ≡ sleeps_seen timings.now ran.now watched.old sim.now.state.world }
+    ensures due { due.new
+        ≡ due_seen timings.now due.old ran.now watched.old now sim.now.state.world }
+    ensures watched { watched.new
+        ≡ watched_still timings.now ran.now watched.old sim.now.state.world }
     ensures even { length due.new ≡ length timings.now }
+    ensures even_watched { length watched.new ≡ length timings.now }
+    ensures unwatched { AreUnwatched result watched.new }
+    ensures quiet { AreQuiet due.new (now + 1) quiet.new }
     ensures room { 1024 ≤ vec_capacity events.new }
 {
-    for task in 0..timings.len() as u16 {
-        if has_run_enough(timings, ran, sim, task) {
-            events.push_reserved(Event::Sleep(task));
-            due[task as usize] = now + 1 + timings[task as usize].sleep;
-        }
+    if some {
+        find_sleeps(timings, due, ran, watched, quiet, now, sim, events)
+    } else {
+        false
     }
 }

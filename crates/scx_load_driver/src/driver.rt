@@ -3,7 +3,7 @@ ghost use Rattle.scx_sched.specs.Sim.{SimState, after_event};
 ghost use Rattle.scx_load_workloads.specs.declared.workload.Timing.{Timing};
 ghost use Rattle.scx_load_driver.specs.Events.{workload_events};
 
-use crate::blocks::{add_changes, add_sleeps, add_ticks, add_wakes};
+use crate::blocks::{add_changes, add_sleeps, add_wakes, watch_event, watch_runner};
 use scx_load_workloads::{Change, Timing, Workload};
 use scx_sched::{Event, Sim};
 use std::alloc::{AllocError, Global};
@@ -24,11 +24,13 @@ const MAX_BLOCK: usize = 1024;
 
 /// The events of a workload, one after another.
 ///
-/// In a contract it is the events of the block at hand that are still to come, the blocks behind it, and
-/// what is remembered of tasks.
+/// In a contract it is the events of the block at hand that are still to come, the blocks behind it, what is
+/// remembered of tasks, and which are watched.
 #[derive(Drop)]
 pub struct Driver {
     cpus: u32,
+    /// The processor that ticks next; all have ticked, but in the block of ticks.
+    cpu: u32,
     timings: Vec<Timing>,
     changes: Vec<Change>,
     /// The block that comes next, in the millisecond `clock`.
@@ -38,8 +40,14 @@ pub struct Driver {
     left: u32,
     /// When each task wakes.
     due: Vec<u32>,
+    /// Nobody wakes before this millisecond any more.
+    quiet: u32,
     /// How long each task had run when it woke last, in nanoseconds.
     ran: Vec<u64>,
+    /// Which tasks may have run enough.
+    watched: Vec<bool>,
+    /// Whether it may be that somebody is watched.
+    some_watched: bool,
     /// The events of the block at hand.
     events: Vec<Event>,
     /// How many of them were answered.
@@ -57,7 +65,7 @@ impl Model for Driver {
 }
 
 impl Driver {
-    ghost use Rattle.scx_load_driver.specs.Driver.{remaining, is_empty, with_pending, at_next_block, phase_number, next_number};
+    ghost use Rattle.scx_load_driver.specs.Driver.{remaining, is_empty, after_answer, at_next_block, phase_number, next_number};
 
     /// All events of the workload are still to come, for a machine in any state. All memory is taken
     /// here.
@@ -69,21 +77,28 @@ impl Driver {
         let timings = Vec::from_slice(alloc, workload.timings())?;
         let due = starts(alloc, workload.timings())?;
         let ran = vec![in alloc; 0; timings.len()]?;
+        let watched = vec![in alloc; true; timings.len()]?;
+        let cpus = workload.cpus();
         Ok(Driver {
-            cpus: workload.cpus(),
+            cpus,
+            cpu: cpus,
             timings,
             changes: Vec::from_slice(alloc, workload.changes())?,
             phase: Phase::Changes,
             clock: 0,
             left: workload.ms(),
             due,
+            quiet: 0,
             ran,
+            watched,
+            some_watched: true,
             events: Vec::with_capacity(alloc, MAX_BLOCK)?,
             taken: 0,
         })
     }
 
     /// The event that comes next, for a machine that took exactly the events before it; none at the end.
+    #[inline(always)]
     #[tactic(auto, using(crate::proofs::Remaining::remaining_taken, crate::proofs::Remaining::remaining_end))]
     pub fn next(&mut self, sim: &Sim) -> Option<Event>
         ensures next { IfSome result
@@ -96,25 +111,43 @@ impl Driver {
         if self.is_spent() {
             None
         } else {
-            Some(self.take())
+            Some(self.take(sim))
         }
     }
 
     /// Whether all events of the block at hand were answered.
+    #[inline(always)]
     fn is_spent(&self) -> bool
         ensures { result ≡ is_empty self.now.pending }
     {
-        self.taken == self.events.len()
+        if self.cpu < self.cpus {
+            false
+        } else {
+            self.taken == self.events.len()
+        }
     }
 
     /// The next event of the block at hand.
-    fn take(&mut self) -> Event
+    #[inline(always)]
+    fn take(&mut self, sim: &Sim) -> Event
         requires { is_empty self.old.pending ≡ false }
-        ensures { self.old ≡ with_pending self.new (result ∷ self.new.pending) }
+        ensures event { self.old.pending ≡ result ∷ self.new.pending }
+        ensures driver { self.new ≡ after_answer self.old sim.now result self.new.pending }
     {
-        let event = self.events[self.taken];
-        self.taken += 1;
-        event
+        let some = self.some_watched;
+        if self.cpu < self.cpus {
+            let cpu = self.cpu;
+            self.cpu = cpu + 1;
+            let watched = &mut self.watched;
+            self.some_watched = watch_runner(&self.timings, &self.ran, watched, some, sim, cpu);
+            Event::Tick(cpu)
+        } else {
+            let event = self.events[self.taken];
+            self.taken += 1;
+            let watched = &mut self.watched;
+            self.some_watched = watch_event(&self.timings, &self.ran, watched, some, sim, event);
+            event
+        }
     }
 
     /// Whether a block comes next.
@@ -126,6 +159,7 @@ impl Driver {
     }
 
     /// Blocks begin, one after another, until there is an event to answer.
+    #[inline(always)]
     fn begin(&mut self, sim: &Sim)
         ensures same { remaining self.new sim.now ≡ remaining self.old sim.now }
         ensures over { is_empty self.new.pending ≡ true → is_empty self.new.blocks ≡ true }
@@ -136,6 +170,7 @@ impl Driver {
     }
 
     /// Each block has its turn once.
+    #[inline(never)]
     #[tactic(auto, using(crate::proofs::Remaining::past_last))]
     fn begin_blocks(&mut self, sim: &Sim)
         ensures same { remaining self.new sim.now ≡ remaining self.old sim.now }
@@ -165,7 +200,7 @@ impl Driver {
 
     /// The next block begins.
     #[inline(always)]
-    #[tactic(auto, using(crate::proofs::Remaining::some_left, crate::proofs::Remaining::begun_changes, crate::proofs::Remaining::begun_ticks, crate::proofs::Remaining::begun_clock))]
+    #[tactic(auto)]
     fn begin_block(&mut self, sim: &Sim)
         requires { not (is_empty self.old.blocks) ≡ true }
         ensures { self.new ≡ at_next_block self.old sim.now }
@@ -173,6 +208,7 @@ impl Driver {
         let now = self.clock;
         self.events.clear();
         self.taken = 0;
+        self.cpu = self.cpus;
         let events = &mut self.events;
         match self.phase {
             Phase::Changes => {
@@ -180,15 +216,25 @@ impl Driver {
                 self.phase = Phase::Wakes;
             }
             Phase::Wakes => {
-                add_wakes(&self.due, &mut self.ran, now, sim, events);
+                self.quiet = add_wakes(&self.due, &mut self.ran, self.quiet, now, sim, events);
                 self.phase = Phase::Ticks;
             }
             Phase::Ticks => {
-                add_ticks(self.cpus, events);
+                self.cpu = 0;
                 self.phase = Phase::Sleeps;
             }
             Phase::Sleeps => {
-                add_sleeps(&self.timings, &mut self.due, &self.ran, now, sim, events);
+                self.some_watched = add_sleeps(
+                    &self.timings,
+                    &mut self.due,
+                    &self.ran,
+                    &mut self.watched,
+                    self.some_watched,
+                    &mut self.quiet,
+                    now,
+                    sim,
+                    events,
+                );
                 self.phase = Phase::Clock;
             }
             Phase::Clock => {

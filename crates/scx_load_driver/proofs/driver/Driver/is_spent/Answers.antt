@@ -1,10 +1,18 @@
-use Rattle.std.proofs.Common.{◌≡◌, length, ap, ◌∙◌, arith}
+use Rattle.std.proofs.Common.{◌≡◌, length, drop, sym, ap, ◌∙◌, arith}
 use Rattle.scx_load_driver.specs.Driver.{DriverState, is_empty}
-use Rattle.scx_load_driver.proofs.Remaining.{spent}
+use Rattle.scx_load_driver.proofs.Remaining.{spent, not_spent}
 use Rattle.scx_load_driver.proofs.driver.Driver.is_spent.Goals as goal
 
-pub returns : goal.returns
-returns c =
-    let events = c.self.inside.events in
+pub returns-then-self : goal.returns-then-self
+returns-then-self c =
+    let inside = c.self.inside in
+    sym (not_spent inside.cpu inside.cpus (drop inside.taken inside.events.items) (omega (arith, c.if-self.true)))
+    ∙ ap (λ (d : DriverState). is_empty d.pending) c.self.view_is
+
+pub returns-else-self : goal.returns-else-self
+returns-else-self c =
+    let inside = c.self.inside in
+    let events = inside.events in
     let n : c.len.result ≡ length events.items = omega (arith, c.len.ensures, events.ok.0) in
-    rw n (spent c.self.inside.taken events.items c.self.invariant.taken) ∙ ap (λ (d : DriverState). is_empty d.pending) c.self.view_is
+    let last : inside.cpu ≡ inside.cpus = omega (arith, c.if-self.false, c.self.invariant.cpu) in
+    rw n (spent inside.cpu inside.cpus inside.taken events.items last c.self.invariant.taken) ∙ ap (λ (d : DriverState). is_empty d.pending) c.self.view_is

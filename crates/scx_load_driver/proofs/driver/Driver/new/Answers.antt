@@ -1,7 +1,10 @@
-use Rattle.std.proofs.Common.{◌≡◌, ◌≤◌, length, sym, ap, ◌∙◌, subst, arith}
+use Rattle.std.proofs.Common.{rules, ◌≡◌, ◌≤◌, length, map, sym, ap, ◌∙◌, subst, arith}
 use Rattle.std.proofs.lemmas.List.{length-map}
 use Rattle.scx_load_workloads.specs.declared.workload.Timing.{Timing}
 use Rattle.scx_load_workloads.specs.Workload.{max_ms, timing_at}
+use Rattle.scx_load_driver.proofs.Quiet.{unwatched_true}
+use Rattle.scx_load_driver.proofs.Remaining.{none_ticks}
+use Rattle.scx_load_driver.proofs.Watching.{first_remain}
 use Rattle.scx_load_driver.proofs.driver.Driver.new.Goals as goal
 
 pub invariant_of-result : goal.invariant_of-result
@@ -13,11 +16,23 @@ invariant_of-result c =
     record {
       room = omega (arith, c.in_ok-with_capacity.ensures.exact);
       taken = omega arith;
-      few_cpus = omega (arith, c.cpus.ensures, whole.few_cpus);
+      few_cpus = omega (arith, c.cpus-cpus.ensures, whole.few_cpus);
+      cpu = omega arith;
       few_tasks = omega (arith, ap length timings, whole.timed, whole.few_tasks);
       few_changes = omega (arith, ap length changes, whole.few_changes);
       due = ap length c.in_ok-due.ensures ∙ length-map c.timings-2.result.now (λ (t : Timing). t.start) ∙ ap length (c.timings-2.ensures ∙ sym timings);
       ran = omega (arith, c.in_ok-ran.ran.ok.0, c.in_ok-ran.ensures.len, c.len.ensures, c.in_ok-timings.timings.ok.0);
+      watched = omega (arith, c.in_ok-watched.watched.ok.0, c.in_ok-watched.ensures.len, c.len-2.ensures, c.in_ok-timings.timings.ok.0);
+      quiet = λ t l x. omega arith;
+      unwatched = unwatched_true _;
       times = omega (arith, c.ms.ensures, whole.few_ms);
       sleeps = λ t l. subst (λ xs. (timing_at xs t).sleep ≤ max_ms) (sym timings) (whole.timings t (omega (arith, l, ap length timings))).sleep;
     }
+
+pub returns : goal.returns
+returns c s =
+    let w = c.args.workload.now in
+    let timings : c.in_ok-timings.timings.items ≡ w.timings = c.in_ok-timings.ensures.items ∙ c.timings.ensures in
+    let changes : c.in_ok-from_slice.field-0.items ≡ w.changes = c.in_ok-from_slice.ensures.items ∙ c.changes.ensures in
+    let due = c.in_ok-due.ensures ∙ ap (λ xs. map (λ (t : Timing). t.start) xs) c.timings-2.ensures in
+    first_remain w s _ _ _ _ _ _ _ _ c.cpus-cpus.ensures timings changes c.ms.ensures due (search rules) (search rules) (none_ticks c.cpus-cpus.result c.cpus-cpus.result _ _ (omega arith) (search rules))

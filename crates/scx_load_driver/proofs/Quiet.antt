@@ -1,0 +1,111 @@
+-- Blocks in which nothing happens: nobody wakes before the millisecond that is known, and nobody goes to sleep where
+-- nobody is watched.
+use Rattle.std.proofs.Common.{◌≡◌, ℕ, ◌+◌, ◌<◌, ◌≤◌, ◌⊎◌, inl, inr, Bool, true, false, not, ◌&&◌, ◌==◌, if◌then◌else◌, List, [], length, set, get_or, refl, sym, ap, ◌∙◌, subst, arith}
+use Rattle.std.proofs.lemmas.Bool.{cases_eq, cases_lt, ne_eqb}
+use Rattle.std.proofs.lemmas.List.{length-set, get_or-set_same, get_or-set_other, get_or_past, set_past}
+use Rattle.scx_sched_world.specs.World.{WorldState, task_at, is_runnable}
+use Rattle.scx_sched_machine.specs.declared.events.Event.TheVariants as event
+use Rattle.scx_load_workloads.specs.declared.workload.Timing.{Timing}
+use Rattle.scx_load_workloads.specs.Workload.{timing_at}
+use Rattle.scx_load_driver.specs.Blocks.{set_below, is_due, has_run_enough, wakes_at, ran_after}
+use Rattle.scx_load_driver.specs.Watch.{is_watched, lacks_at_most, watched_if, is_seen, sleeps_seen, due_seen, watched_still}
+use Rattle.scx_load_driver.specs.Driver.{AreQuietBelow, AreQuiet, AreUnwatched}
+use Rattle.scx_load_driver.proofs.Below.{no_events, sets_nothing, kept_above}
+
+-- ---- who wakes
+
+and_false : (b : Bool) → (b && false) ≡ false
+and_false true = refl
+and_false false = refl
+
+module _ (due : List ℕ) (now quiet : ℕ) (w : WorldState) (h : AreQuiet due now quiet) (l : now < quiet) where
+  not_due : (t : ℕ) → t < length due → is_due due now w t ≡ false
+  not_due t within =
+      let other : get_or due t 0 ≡ now → ⊥ = λ e. absurd (omega (arith, e, l, h t within (omega (arith, e)))) in
+      ap (λ b. not (is_runnable w t) && b) (ne_eqb (get_or due t 0) now other) ∙ and_false (not (is_runnable w t))
+
+  -- nobody wakes
+  pub no_wakes : wakes_at due now w ≡ []
+  no_wakes = no_events (length due) (is_due due now w) event.Wake not_due
+
+  -- so nothing is remembered anew
+  pub same_ran : (ran : List ℕ) → ran_after due ran now w ≡ ran
+  same_ran ran = sets_nothing (length due) (is_due due now w) (λ t. (task_at w t).run_ns) ran 0 (λ t within e. let x = not_due t within in absurd (cc))
+
+-- a millisecond later
+pub quiet_later : (due : List ℕ) (now quiet : ℕ) → AreQuiet due now quiet → AreQuiet due (now + 1) quiet
+quiet_later due now quiet h = λ t l x. h t l (omega (arith, x))
+
+-- one task more
+pub quiet_more : (k : ℕ) (due : List ℕ) (from old new : ℕ) → AreQuietBelow k due from old → new ≤ old → (from ≤ get_or due k 0 → new ≤ get_or due k 0) → AreQuietBelow (k + 1) due from new
+quiet_more k due from old new h less this = λ t l x. go t l x (cases_eq t k)
+  where
+    go : (t : ℕ) → t < k + 1 → from ≤ get_or due t 0 → (t ≡ k) ⊎ (t ≡ k → ⊥) → new ≤ get_or due t 0
+    go t l x (inl e) = subst (λ u. new ≤ get_or due u 0) (sym e) (this (subst (λ u. from ≤ get_or due u 0) e x))
+    go t l x (inr d) = omega (arith, less, h t (omega (arith, l, d)) x)
+
+-- a task that wakes at another time
+pub quiet_set : (due : List ℕ) (t x from old new : ℕ) → AreQuiet due from old → new ≤ old → (from ≤ x → new ≤ x) → AreQuiet (set due t x) from new
+quiet_set due t x from old new h less this = λ u l y. go u (omega (arith, l, length-set due t x)) y (cases_eq u t)
+  where
+    go : (u : ℕ) → u < length due → from ≤ get_or (set due t x) u 0 → (u ≡ t) ⊎ (u ≡ t → ⊥) → new ≤ get_or (set due t x) u 0
+    go u l y (inl e) =
+        let is : get_or (set due t x) u 0 ≡ x = ap (λ k. get_or (set due t x) k 0) e ∙ get_or-set_same due t x 0 (omega (arith, l, e)) in
+        subst (λ k. new ≤ k) (sym is) (this (subst (λ k. from ≤ k) is y))
+    go u l y (inr d) =
+        let is : get_or (set due t x) u 0 ≡ get_or due u 0 = get_or-set_other due t u x 0 d in
+        subst (λ k. new ≤ k) (sym is) (omega (arith, less, h u l (subst (λ k. from ≤ k) is y)))
+
+-- ---- who is watched
+
+-- of the tasks below a number nobody is watched, unless it may be that somebody is
+abbrev pub AreUnwatchedBelow : ℕ → Bool → List Bool → Type 0
+AreUnwatchedBelow k some xs = some ≡ false → (t : ℕ) → t < k → is_watched xs t ≡ false
+
+-- one that isn't watched any more
+pub unwatched_more : (k : ℕ) (some : Bool) (xs : List Bool) → AreUnwatchedBelow k some xs → AreUnwatchedBelow (k + 1) some (set xs k false)
+unwatched_more k some xs h = λ none t l. go t l (cases_eq t k) (cases_lt k (length xs)) none
+  where
+    go : (t : ℕ) → t < k + 1 → (t ≡ k) ⊎ (t ≡ k → ⊥) → (k < length xs) ⊎ (length xs ≤ k) → some ≡ false → get_or (set xs k false) t false ≡ false
+    go t l (inl e) (inl within) none = rw (e, get_or-set_same xs k false false within) refl
+    go t l (inl e) (inr past) none = rw (set_past xs k false past) (get_or_past xs t false (omega (arith, e, past)))
+    go t l (inr d) y none = get_or-set_other xs k t false false d ∙ h none t (omega (arith, l, d))
+
+-- all of them
+pub unwatched_all : (k : ℕ) (some : Bool) (xs : List Bool) → length xs ≤ k → AreUnwatchedBelow k some xs → AreUnwatched some xs
+unwatched_all k some xs long h = λ none t. go none t (cases_lt t k)
+  where
+    go : some ≡ false → (t : ℕ) → (t < k) ⊎ (k ≤ t) → is_watched xs t ≡ false
+    go none t (inl l) = h none t l
+    go none t (inr past) = get_or_past xs t false (omega (arith, past, long))
+
+-- it may always be that somebody is
+pub unwatched_true : (xs : List Bool) → AreUnwatched true xs
+unwatched_true xs = λ e. absurd (cc)
+
+-- a task past the end is watched no more than before
+pub watched_past : (n : ℕ) (timings : List Timing) (ran : List ℕ) (w : WorldState) (t : ℕ) (xs : List Bool) → length xs ≤ t → watched_if n timings ran w t xs ≡ xs
+watched_past n timings ran w t xs past = go (lacks_at_most n timings ran w t)
+  where
+    go : (b : Bool) → (if b then set xs t true else xs) ≡ xs
+    go true = set_past xs t true past
+    go false = refl
+
+-- a task that wasn't come to yet is seen as before
+pub seen_above : (timings : List Timing) (ran : List ℕ) (k n : ℕ) (test : ℕ → Bool) (xs : List Bool) (w : WorldState) → n ≤ k → is_seen timings ran (set_below n test (λ t. false) xs) w k ≡ is_seen timings ran xs w k
+seen_above timings ran k n test xs w l = ap (λ b. b && has_run_enough timings ran w k) (kept_above n k test (λ t. false) xs false l)
+
+module _ (timings : List Timing) (ran : List ℕ) (xs : List Bool) (w : WorldState) (h : AreUnwatched false xs) where
+  unseen : (t : ℕ) → is_seen timings ran xs w t ≡ false
+  unseen t = ap (λ b. b && has_run_enough timings ran w t) (h refl t)
+
+  -- nobody goes to sleep
+  pub no_sleeps : sleeps_seen timings ran xs w ≡ []
+  no_sleeps = no_events (length timings) (is_seen timings ran xs w) event.Sleep (λ t l. unseen t)
+
+  -- so nothing is remembered anew
+  pub same_due : (due : List ℕ) (m : ℕ) → due_seen timings due ran xs m w ≡ due
+  same_due due m = sets_nothing (length timings) (is_seen timings ran xs w) (λ t. m + 1 + (timing_at timings t).sleep) due 0 (λ t l e. let x = unseen t in absurd (cc))
+
+  pub same_watched : watched_still timings ran xs w ≡ xs
+  same_watched = sets_nothing (length timings) (λ t. not (is_seen timings ran xs w t)) (λ t. false) xs false (λ t l e. h refl t)

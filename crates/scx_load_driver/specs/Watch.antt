@@ -1,0 +1,99 @@
+-- Whom a driver watches: tasks that may have run as long as they run at once. As tasks go to sleep it
+-- looks at no other.
+use Rattle.std.specs.Prelude.{ℕ, ◌+◌, ◌-◌, ◌*◌, Bool, true, false, not, ◌&&◌, nat_lt, nat_le, List, [], ◌∷◌, ◌++◌, length, Option, Some, None, slice_index, slice_index_or, slice_set, if◌then◌else◌}
+use Rattle.scx_sched_world.specs.World.{WorldState, task_at, running}
+use Rattle.scx_sched_world.specs.Tasks.{tick_ns}
+use Rattle.scx_sched_machine.specs.declared.events.Event.{Event}
+use Rattle.scx_sched_machine.specs.declared.events.Event.TheVariants as event
+use Rattle.scx_sched.specs.Sim.{SimState, after_event}
+use Rattle.scx_load_workloads.specs.declared.workload.Timing.{Timing}
+use Rattle.scx_load_workloads.specs.Workload.{timing_at}
+use Rattle.scx_load_driver.specs.Runs.{stepped_all}
+use Rattle.scx_load_driver.specs.Blocks.{Plan, Memory, Block, Changes, Wakes, Ticks, Sleeps, Clock, events_below, set_below, has_run_enough, block_events, memory_after}
+
+-- whether the task is watched; none is past the end
+abbrev pub is_watched : List Bool → ℕ → Bool
+is_watched watched t = slice_index_or watched t false
+
+-- ---- from event to event
+
+-- the task has run as long as it runs at once, but for so many ticks at most; one that runs 0 at once
+-- never has
+abbrev pub lacks_at_most : ℕ → List Timing → List ℕ → WorldState → ℕ → Bool
+lacks_at_most ticks timings ran w t =
+    nat_lt 0 (timing_at timings t).run
+    && nat_le (tick_ns * ((timing_at timings t).run - ticks))
+    ((task_at w t).run_ns - slice_index ran t)
+
+-- the task is watched where it lacks no more
+abbrev pub watched_if : ℕ → List Timing → List ℕ → WorldState → ℕ → List Bool → List Bool
+watched_if ticks timings ran w t watched =
+    if lacks_at_most ticks timings ran w t then slice_set watched t true else watched
+
+-- whoever runs on a processor that ticks is watched, where it lacks at most that tick
+abbrev pub watched_at_tick : List Timing → List ℕ → WorldState → Option ℕ → List Bool → List Bool
+watched_at_tick timings ran w None watched = watched
+watched_at_tick timings ran w (Some t) watched = watched_if 1 timings ran w t watched
+
+-- and a task that wakes, where it lacks none
+abbrev pub watched_after : List Timing → List ℕ → WorldState → Event → List Bool → List Bool
+watched_after timings ran w (event.Wake t) watched = watched_if 0 timings ran w t watched
+watched_after timings ran w (event.Tick c) watched =
+    watched_at_tick timings ran w (running w c) watched
+watched_after timings ran w e watched = watched
+
+-- who is watched after these events
+abbrev pub watched_after_all
+    : List Timing → List ℕ → SimState → List Event → List Bool → List Bool
+watched_after_all timings ran s [] watched = watched
+watched_after_all timings ran s (e ∷ es) watched =
+    watched_after_all timings ran (after_event s e) es
+    (watched_after timings ran s.state.world e watched)
+
+-- ---- from block to block
+
+-- the task is watched, and has run enough
+abbrev pub is_seen : List Timing → List ℕ → List Bool → WorldState → ℕ → Bool
+is_seen timings ran watched w t = is_watched watched t && has_run_enough timings ran w t
+
+-- the tasks that are seen to have run enough go to sleep, by number
+abbrev pub sleeps_seen : List Timing → List ℕ → List Bool → WorldState → List Event
+sleeps_seen timings ran watched w =
+    events_below (length timings) (is_seen timings ran watched w) event.Sleep
+
+-- each of them wakes once its sleep is over
+abbrev pub due_seen : List Timing → List ℕ → List ℕ → List Bool → ℕ → WorldState → List ℕ
+due_seen timings due ran watched m w =
+    set_below (length timings) (is_seen timings ran watched w)
+    (λ t. m + 1 + (timing_at timings t).sleep) due
+
+-- the others are watched no more
+abbrev pub watched_still : List Timing → List ℕ → List Bool → WorldState → List Bool
+watched_still timings ran watched w =
+    set_below (length timings) (λ t. not (is_seen timings ran watched w t)) (λ t. false) watched
+
+-- the events of a block that begins in that world, for a driver that watches these
+abbrev pub block_seen : Plan → Block → Memory → List Bool → WorldState → List Event
+block_seen p (Sleeps m) k watched w = sleeps_seen p.timings k.ran watched w
+block_seen p b k watched w = block_events p b k w
+
+-- what it remembers then
+abbrev pub memory_seen : Plan → Block → Memory → List Bool → WorldState → Memory
+memory_seen p (Sleeps m) k watched w =
+    record { due = due_seen p.timings k.due k.ran watched m w; ran = k.ran }
+memory_seen p b k watched w = memory_after p b k w
+
+-- and whom it watches
+abbrev pub watched_in : Plan → Block → Memory → List Bool → WorldState → List Bool
+watched_in p (Sleeps m) k watched w = watched_still p.timings k.ran watched w
+watched_in p b k watched w = watched
+
+-- the events of these blocks, from a state on, for a driver that watches these
+abbrev pub events_seen : Plan → List Block → Memory → List Bool → SimState → List Event
+events_seen p [] k watched s = []
+events_seen p (b ∷ bs) k watched s =
+    let es = block_seen p b k watched s.state.world in
+    let after = memory_seen p b k watched s.state.world in
+    let still = watched_in p b k watched s.state.world in
+    es
+    ++ events_seen p bs after (watched_after_all p.timings after.ran s es still) (stepped_all s es)
