@@ -1,6 +1,7 @@
 use crate::console::Console;
 use crate::ending::{Ending, end};
 use crate::files::{RunFiles, Unread, files_of, hint_of_files};
+use crate::remarks::{named, remark_of_run};
 use scxsim_commands::{Fault, Out, text};
 use scxsim_pictures::{picture, timeline};
 use scxsim_progress::Progress;
@@ -28,7 +29,13 @@ pub(crate) fn tell<'a, R: AllocGlobal + Console, W: Out>(
     let mut progress = Progress::new(rt, is_progress_seen(rt, account));
     let outcome = write_account(rt.alloc(), account, &files, &mut progress, out);
     progress.end();
-    Ok(end(outcome, hint_of_files(&files), out))
+    let remark = remark_of_run(
+        rt.alloc(),
+        &outcome,
+        named(policy, &files.policy),
+        named(workload, &files.workload),
+    );
+    Ok(end(outcome, hint_of_files(&files), remark, out))
 }
 
 /// Whether a line on standard error is seen, and tears nothing. What is written as the run goes would be torn

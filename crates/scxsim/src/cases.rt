@@ -13,7 +13,7 @@ use crate::cases::parts::{Part, parts_of};
 use crate::cases::stage::{Stage, StagedFile};
 use crate::cases::texts::bytes_of;
 use crate::console::Console;
-use crate::ending::{Ending, end_without_memory, without_hint};
+use crate::ending::{Ending, Said, end_without_memory, in_silence};
 use scxsim_commands::{DONE, FAILED, Out, REFUSED, write_unread};
 use std::io;
 use std::io::ErrorKind;
@@ -49,11 +49,11 @@ pub(crate) fn run_files<R: AllocGlobal + Console + Print, W: Out>(
     for path in paths {
         match run_file(rt, path.as_str(), tally) {
             Ok(done) => tally = done,
-            Err(error) => return without_hint(unread(path.as_str(), &error, out)),
+            Err(error) => return in_silence(unread(path.as_str(), &error, out)),
         }
     }
     let told = println!(rt; "{} commands, {} differ", tally.commands, tally.differing);
-    without_hint(match (told, tally.differing) {
+    in_silence(match (told, tally.differing) {
         (Ok(()), 0) => DONE,
         (Ok(()), _) => REFUSED,
         (Err(_), _) => FAILED,
@@ -186,8 +186,10 @@ impl<'a, R: AllocGlobal + Print> Cases<'a, R> {
     fn tell_found(&mut self, part: Part<'a>, found: &Found) -> io::Result<()> {
         self.tell(part, "differs")?;
         println!(self.rt; "status {}", found.ending.status)?;
-        if let Some(hint) = found.ending.hint {
-            println!(self.rt; "hint: {}", hint.advice())?;
+        match &found.ending.said {
+            Said::Nothing => {}
+            Said::Hint(hint) => println!(self.rt; "hint: {}", hint.advice())?,
+            Said::Remark(remark) => print!(self.rt; "{remark}")?,
         }
         match str::from_utf8(found.written.as_slice()) {
             Ok(text) => print!(self.rt; "{text}"),

@@ -1,24 +1,54 @@
 use scxsim_commands::{Fault, Hint, Out, Refusal, finish};
 
-/// How the program ends: its status, and what a refused file seems to be.
-#[derive(Clone, Copy)]
+/// How the program ends: its status, and what is said of a refused file.
+#[derive(Drop)]
 pub struct Ending {
     pub status: u8,
-    pub hint: Option<Hint>,
+    pub said: Said,
 }
 
-/// Finishes a command. The hint is for a file that was refused.
-pub(crate) fn end<W: Out>(outcome: Result<bool, Fault>, hint: Option<Hint>, out: &mut W) -> Ending {
-    let is_refused = matches!(&outcome, Err(Fault::Refused(_)));
+/// What is said of a refused file on standard error.
+#[derive(Drop)]
+pub enum Said {
+    Nothing,
+    /// What it seems to be.
+    Hint(Hint),
+    /// Where it is wrong, as compilers write it, in whole lines.
+    Remark(String),
+}
+
+/// Finishes a command. The hint is for a file that was refused, and goes before a remark.
+pub(crate) fn end<W: Out>(
+    outcome: Result<bool, Fault>,
+    hint: Option<Hint>,
+    remark: Option<String>,
+    out: &mut W,
+) -> Ending {
+    let hint = if is_refused(&outcome) { hint } else { None };
     let status = finish(outcome, out);
     Ending {
         status,
-        hint: if is_refused { hint } else { None },
+        said: said_of(hint, remark),
     }
 }
 
-pub(crate) fn without_hint(status: u8) -> Ending {
-    Ending { status, hint: None }
+fn is_refused(outcome: &Result<bool, Fault>) -> bool {
+    matches!(outcome, Err(Fault::Refused(_)))
+}
+
+fn said_of(hint: Option<Hint>, remark: Option<String>) -> Said {
+    match (hint, remark) {
+        (Some(hint), _) => Said::Hint(hint),
+        (None, Some(remark)) => Said::Remark(remark),
+        (None, None) => Said::Nothing,
+    }
+}
+
+pub(crate) fn in_silence(status: u8) -> Ending {
+    Ending {
+        status,
+        said: Said::Nothing,
+    }
 }
 
 /// Ends a command for which there is no memory, and answers the status.
@@ -26,9 +56,11 @@ pub fn end_without_memory<W: Out>(out: &mut W) -> u8 {
     finish(Err(Fault::Refused(Refusal::NoMemory)), out)
 }
 
-/// Says on standard error what a refused file seems to be. Whether that can be written doesn't matter.
-pub fn give_hint<R: Eprint>(rt: &R, hint: Option<Hint>) {
-    if let Some(hint) = hint {
-        let _ = eprintln!(rt; "hint: {}", hint.advice());
-    }
+/// Says it on standard error. Whether that can be written doesn't matter.
+pub fn say<R: Eprint>(rt: &R, said: &Said) {
+    let _ = match said {
+        Said::Nothing => Ok(()),
+        Said::Hint(hint) => eprintln!(rt; "hint: {}", hint.advice()),
+        Said::Remark(remark) => eprint!(rt; "{remark}"),
+    };
 }

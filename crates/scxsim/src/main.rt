@@ -21,10 +21,11 @@ mod console;
 mod ending;
 mod files;
 mod process;
+mod remarks;
 mod requests;
 mod usage;
 
-use crate::ending::{end_without_memory, give_hint};
+use crate::ending::{end_without_memory, say};
 use crate::process::run;
 use scxsim_commands::FAILED;
 pub use scxsim_commands::{
@@ -47,7 +48,7 @@ fn main(rt: HostRuntime) -> ExitCode {
             let mut out = Counted::new(writer);
             let ending = run(&rt, &mut out);
             let flushed = out.flush();
-            give_hint(&rt, ending.hint);
+            say(&rt, &ending.said);
             ExitCode::from(if flushed.is_ok() {
                 ending.status
             } else {

@@ -1,6 +1,6 @@
 use crate::cases::run_files;
 use crate::console::Console;
-use crate::ending::{Ending, end_without_memory, without_hint};
+use crate::ending::{Ending, end_without_memory, in_silence};
 use crate::requests::run_request;
 use crate::usage::{explain_usage, write_usage};
 use clap::Error;
@@ -20,9 +20,9 @@ pub(crate) fn run<R: AllocGlobal + Env + Console + Print, W: Out>(rt: &R, out: &
     match words_of(rt) {
         Ok(words) => run_process_words(rt, words.as_slice(), out),
         Err(error) if error.kind() == ErrorKind::OutOfMemory => {
-            without_hint(end_without_memory(out))
+            in_silence(end_without_memory(out))
         }
-        Err(_) => without_hint(write_usage("error: a word is not UTF-8\n", out)),
+        Err(_) => in_silence(write_usage("error: a word is not UTF-8\n", out)),
     }
 }
 
@@ -38,7 +38,7 @@ fn run_process_words<R: AllocGlobal + Console + Print, W: Out>(
     match read_words(rt.alloc(), words) {
         Ok(Some(Request::Cases)) => match words.get(WORDS_BEFORE_FILES..) {
             Some(files) => run_files(rt, files, out),
-            None => without_hint(USAGE),
+            None => in_silence(USAGE),
         },
         read => run_read(rt, read, out),
     }
@@ -61,10 +61,10 @@ fn run_read<R: AllocGlobal + Console, W: Out>(
 ) -> Ending {
     match read {
         Ok(Some(request)) => run_request(rt, request, out),
-        Ok(None) => without_hint(USAGE),
+        Ok(None) => in_silence(USAGE),
         Err(error) if error.kind() == WordsErrorKind::OutOfMemory => {
-            without_hint(end_without_memory(out))
+            in_silence(end_without_memory(out))
         }
-        Err(error) => without_hint(explain_usage(rt.alloc(), &error, out)),
+        Err(error) => in_silence(explain_usage(rt.alloc(), &error, out)),
     }
 }

@@ -1,7 +1,8 @@
 use crate::accounts::tell;
 use crate::console::Console;
-use crate::ending::{Ending, end, end_without_memory, without_hint};
+use crate::ending::{Ending, end, end_without_memory, in_silence};
 use crate::files::{Unread, bytes_of};
+use crate::remarks::{named, remark_of_policy, remark_of_program};
 use crate::usage::write_usage;
 use scxsim_commands::{
     FAILED, Fault, Out, asm, check, dis, exec, hint_of_slots, hint_of_text, write_unread,
@@ -17,10 +18,10 @@ pub(crate) fn run_request<R: AllocGlobal + Console, W: Out>(
 ) -> Ending {
     match do_request(rt, request, out) {
         Ok(ending) => ending,
-        Err(Unread::NoMemory) => without_hint(end_without_memory(out)),
+        Err(Unread::NoMemory) => in_silence(end_without_memory(out)),
         Err(Unread::At(path)) => {
             let _ = write_unread(path, out);
-            without_hint(FAILED)
+            in_silence(FAILED)
         }
     }
 }
@@ -39,7 +40,7 @@ fn do_request<'a, R: AllocGlobal + Console, W: Out>(
             policy,
             workload,
         } => tell(rt, account, policy, workload, out),
-        Request::Cases => Ok(without_hint(write_usage(
+        Request::Cases => Ok(in_silence(write_usage(
             "error: a file of cases can't run files of cases\n",
             out,
         ))),
@@ -58,7 +59,8 @@ fn work_on_program<'a, R: AllocGlobal + Console, W: Out>(
         ProgramCommand::Exec | ProgramCommand::Dis => hint_of_slots(bytes.as_slice()),
         ProgramCommand::Asm => hint_of_text(bytes.as_slice()),
     };
-    Ok(end(outcome, hint, out))
+    let remark = remark_of_program(rt.alloc(), &outcome, named(path, bytes.as_slice()));
+    Ok(end(outcome, hint, remark, out))
 }
 
 fn do_program<W: Out>(
@@ -82,7 +84,8 @@ fn work_on_policy<'a, R: AllocGlobal + Console, W: Out>(
 ) -> Result<Ending, Unread<'a>> {
     let bytes = bytes_of(rt, path)?;
     let outcome = do_policy(rt.alloc(), command, bytes.as_slice(), out);
-    Ok(end(outcome, hint_of_text(bytes.as_slice()), out))
+    let remark = remark_of_policy(rt.alloc(), &outcome, named(path, bytes.as_slice()));
+    Ok(end(outcome, hint_of_text(bytes.as_slice()), remark, out))
 }
 
 fn do_policy<W: Out>(

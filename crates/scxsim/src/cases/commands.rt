@@ -1,7 +1,7 @@
 use crate::cases::marks::Command;
 use crate::cases::stage::Stage;
 use crate::cases::texts::is_as_wanted;
-use crate::ending::Ending;
+use crate::ending::{Ending, Said};
 use crate::process::run_words;
 use scxsim_commands::Counted;
 use std::alloc::{AllocError, Global};
@@ -44,9 +44,10 @@ impl Found {
     }
 
     fn is_said(&self, said: Option<&str>) -> bool {
-        match (self.ending.hint, said) {
-            (Some(hint), Some(said)) => said.strip_prefix("hint: ") == Some(hint.advice()),
-            (None, None) => true,
+        match (&self.ending.said, said) {
+            (Said::Hint(hint), Some(said)) => said.strip_prefix("hint: ") == Some(hint.advice()),
+            (Said::Remark(remark), Some(said)) => remark.strip_suffix('\n') == Some(said),
+            (Said::Remark(_) | Said::Nothing, None) => true,
             _ => false,
         }
     }

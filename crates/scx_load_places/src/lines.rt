@@ -1,0 +1,91 @@
+use crate::place::{Place, place_at};
+use crate::search::find;
+use std::alloc::Global;
+
+/// The place of a line, from 1, of the text that is the value of a key, or that of the text's end where it has less
+/// lines; none where there is no such key with a text.
+pub fn place_of_line(alloc: Global, text: &str, path: &str, line: usize) -> Option<Place> {
+    let value = find(alloc, text, path)?.value_at(path)?;
+    let begin = text.len().saturating_sub(value.len());
+    let within = begin_of_line(value, line);
+    Some(place_at(text, begin.saturating_add(within)))
+}
+
+/// How a string of TOML is written.
+#[derive(Clone, Copy)]
+struct Quotes {
+    /// How many bytes stand in front of its first character.
+    opening: usize,
+    has_escapes: bool,
+}
+
+fn quotes_of(value: &str) -> Quotes {
+    Quotes {
+        opening: opening(value),
+        has_escapes: value.starts_with('"'),
+    }
+}
+
+/// A line feed right behind three quotes isn't of the string.
+fn opening(value: &str) -> usize {
+    if !value.starts_with("\"\"\"") && !value.starts_with("'''") {
+        return 1;
+    }
+    match value.as_bytes() {
+        [_, _, _, b'\n', ..] => 4,
+        [_, _, _, b'\r', b'\n', ..] => 5,
+        _ => 3,
+    }
+}
+
+/// What the byte at hand stands behind.
+#[derive(Clone, Copy, PartialEq, Eq)]
+enum Behind {
+    Character,
+    /// A backslash.
+    Backslash,
+    /// A backslash at the end of a line, and blanks: what is there isn't of the string.
+    Joint,
+}
+
+/// How many bytes of the string as it is written stand in front of that line, from 1, of its text.
+fn begin_of_line(value: &str, line: usize) -> usize {
+    let quotes = quotes_of(value);
+    let mut behind = Behind::Character;
+    let mut number = 1usize;
+    for (at, byte) in value.as_bytes().iter().enumerate() {
+        if at >= quotes.opening {
+            if number >= line && !is_blank(*byte) {
+                return at;
+            }
+            if ends_line(behind, *byte) {
+                number = number.saturating_add(1);
+            }
+            behind = next(behind, *byte, quotes.has_escapes);
+        }
+    }
+    value.len()
+}
+
+/// Whether a line of the string's text ends with that byte.
+fn ends_line(behind: Behind, byte: u8) -> bool {
+    match behind {
+        Behind::Character => byte == b'\n',
+        Behind::Backslash => byte == b'n',
+        Behind::Joint => false,
+    }
+}
+
+fn next(behind: Behind, byte: u8, has_escapes: bool) -> Behind {
+    match behind {
+        Behind::Backslash if byte == b'\n' || is_blank(byte) => Behind::Joint,
+        Behind::Backslash => Behind::Character,
+        Behind::Joint if byte == b'\n' || is_blank(byte) => Behind::Joint,
+        _ if byte == b'\\' && has_escapes => Behind::Backslash,
+        _ => Behind::Character,
+    }
+}
+
+fn is_blank(byte: u8) -> bool {
+    matches!(byte, b' ' | b'\t' | b'\r')
+}

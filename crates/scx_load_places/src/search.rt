@@ -1,0 +1,185 @@
+ghost use Rattle.std.specs.Prelude.{◌<◌, length, IfSome};
+
+use crate::place::{Place, place_of_rest};
+use crate::values::behind_value;
+use scx_load_files::{element_path, key_path};
+use std::alloc::{AllocError, Global};
+use toml_parser::text::{byte_at, first, skip, skip_blank, skip_ws};
+use toml_parser::{Key, dotted_key};
+
+/// The place of the key at that path. Where the key isn't there, that of the table or array nearest above it; none
+/// where nothing above it stands in the text, or memory ran out.
+pub fn place_of_key(alloc: Global, text: &str, path: &str) -> Option<Place> {
+    let found = find(alloc, text, path)?;
+    Some(place_of_rest(text, found.key))
+}
+
+/// A key or a header that is what is looked for, or holds it.
+#[derive(Clone, Copy)]
+pub(crate) struct Found<'a> {
+    /// How much of the wanted path it is, in bytes.
+    reach: usize,
+    /// The text from it on.
+    key: &'a str,
+    /// The text from its value on. A header has none.
+    value: Option<&'a str>,
+}
+
+impl<'a> Found<'a> {
+    /// The text from the value on, if all of the path was found.
+    pub(crate) fn value_at(self, path: &str) -> Option<&'a str> {
+        if self.reach == path.len() {
+            self.value
+        } else {
+            None
+        }
+    }
+}
+
+/// A search through a document for the key at a path.
+#[derive(Drop)]
+struct Search<'a, 'p> {
+    alloc: Global,
+    wanted: &'p str,
+    /// The path of the table at hand.
+    table: String,
+    /// How many elements there were of the array of tables in which the key is.
+    elements: usize,
+    best: Option<Found<'a>>,
+}
+
+/// What comes nearest to the key at that path.
+pub(crate) fn find<'a>(alloc: Global, text: &'a str, path: &str) -> Option<Found<'a>> {
+    let mut search = Search {
+        alloc,
+        wanted: path,
+        table: String::new(alloc),
+        elements: 0,
+        best: None,
+    };
+    search.go_through(text);
+    search.best
+}
+
+impl<'a, 'p> Search<'a, 'p> {
+    /// Looks at each key and header, up to one that can't be read.
+    fn go_through(&mut self, text: &'a str) {
+        let mut rest = text;
+        loop {
+            let line = skip_blank(rest, true);
+            match self.look_at(line) {
+                Some(behind) => rest = behind,
+                None => return,
+            }
+        }
+    }
+
+    /// The text behind what a text begins with.
+    fn look_at(&mut self, line: &'a str) -> Option<&'a str>
+        ensures { IfSome result (λ rest. length rest.now < length line.now) }
+    {
+        if first(line) != b'[' {
+            return self.pair(line);
+        }
+        if byte_at(line, 1) == b'[' {
+            self.array_header(line, skip(line, 2))
+        } else {
+            self.header(line, skip(line, 1))
+        }
+    }
+
+    /// `KEY = VALUE`.
+    fn pair(&mut self, line: &'a str) -> Option<&'a str>
+        ensures { IfSome result (λ rest. length rest.now < length line.now) }
+    {
+        let (key, rest) = dotted_key(self.alloc, line).ok()?;
+        if first(rest) != b'=' {
+            return None;
+        }
+        let value = skip_ws(skip(rest, 1));
+        let path = joined(self.alloc, &self.table, &key).ok()?;
+        self.consider(&path, line, Some(value));
+        behind_value(self.alloc, value)
+    }
+
+    /// `[KEY]`, with the text behind the bracket.
+    fn header(&mut self, line: &'a str, inside: &'a str) -> Option<&'a str>
+        requires { length inside.now < length line.now }
+        ensures { IfSome result (λ rest. length rest.now < length line.now) }
+    {
+        let (key, rest) = dotted_key(self.alloc, skip_ws(inside)).ok()?;
+        if first(rest) != b']' {
+            return None;
+        }
+        self.table = joined(self.alloc, "", &key).ok()?;
+        self.consider_table(line);
+        Some(skip(rest, 1))
+    }
+
+    /// `[[KEY]]`, with the text behind the brackets.
+    fn array_header(&mut self, line: &'a str, inside: &'a str) -> Option<&'a str>
+        requires { length inside.now < length line.now }
+        ensures { IfSome result (λ rest. length rest.now < length line.now) }
+    {
+        let (key, rest) = dotted_key(self.alloc, skip_ws(inside)).ok()?;
+        if first(rest) != b']' || byte_at(rest, 1) != b']' {
+            return None;
+        }
+        let array = joined(self.alloc, "", &key).ok()?;
+        self.consider(&array, line, None);
+        self.table = self.next_element(&array).ok()?;
+        self.consider_table(line);
+        Some(skip(rest, 2))
+    }
+
+    /// The path of the next element of an array. Only those of the array in which the key is are counted.
+    fn next_element(&mut self, array: &str) -> Result<String, AllocError> {
+        let number = self.elements;
+        if reach(self.wanted, array).is_some() {
+            self.elements = number.saturating_add(1);
+        }
+        element_path(self.alloc, array, number)
+    }
+
+    fn consider_table(&mut self, line: &'a str) {
+        if let Some(reach) = reach(self.wanted, &self.table) {
+            self.take(reach, line, None);
+        }
+    }
+
+    fn consider(&mut self, path: &str, key: &'a str, value: Option<&'a str>) {
+        if let Some(reach) = reach(self.wanted, path) {
+            self.take(reach, key, value);
+        }
+    }
+
+    /// Keeps what comes nearest, and of several the first.
+    fn take(&mut self, reach: usize, key: &'a str, value: Option<&'a str>) {
+        let is_nearer = match self.best {
+            Some(best) => best.reach < reach,
+            None => true,
+        };
+        if is_nearer {
+            self.best = Some(Found { reach, key, value });
+        }
+    }
+}
+
+/// How much of the wanted path a path is: all of it, or as far as a table or an array that the key is in.
+fn reach(wanted: &str, path: &str) -> Option<usize> {
+    let rest = wanted.strip_prefix(path)?;
+    if rest.is_empty() || rest.starts_with('.') {
+        Some(path.len())
+    } else {
+        None
+    }
+}
+
+/// The path of a key in the table at `table`.
+fn joined(alloc: Global, table: &str, key: &Key) -> Result<String, AllocError> {
+    let mut path = String::from_str(alloc, table)?;
+    for part in &key.path {
+        path = key_path(alloc, &path, part)?;
+    }
+    key_path(alloc, &path, &key.last)
+}

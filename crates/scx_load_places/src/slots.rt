@@ -1,0 +1,54 @@
+ghost use Rattle.std.specs.Prelude.{◌≡◌, true};
+ghost use Rattle.toml_parser.specs.Strings.{starts_string};
+
+use crate::lines::place_of_line;
+use crate::place::Place;
+use crate::search::find;
+use scx_asm_text::{Item, Statement, item_of, tokens};
+use std::alloc::Global;
+use toml_parser::{quoted, starts_string};
+
+/// The place of the line of assembler text that stands for a slot, where the value of the key at that path is such a
+/// text.
+pub fn place_of_slot(alloc: Global, text: &str, path: &str, slot: usize) -> Option<Place> {
+    let value = find(alloc, text, path)?.value_at(path)?;
+    let code = string_of(alloc, value)?;
+    let line = line_of_slot(alloc, &code, slot)?;
+    place_of_line(alloc, text, path, line)
+}
+
+fn string_of(alloc: Global, value: &str) -> Option<String> {
+    if !starts_string(value) {
+        return None;
+    }
+    let (string, _rest) = quoted(alloc, value).ok()?;
+    Some(string)
+}
+
+/// The line, from 1, whose instruction takes that slot.
+fn line_of_slot(alloc: Global, code: &str, slot: usize) -> Option<usize> {
+    let mut slots = 0usize;
+    for (number, line) in code.lines().enumerate() {
+        slots = slots.saturating_add(slots_of(alloc, line)?);
+        if slot < slots {
+            return Some(number.saturating_add(1));
+        }
+    }
+    None
+}
+
+/// How many slots the line's instruction takes; 0 where it has none.
+fn slots_of(alloc: Global, line: &str) -> Option<usize> {
+    let mut found = Vec::new(alloc);
+    let is_read = tokens(line.as_bytes(), &mut found).ok()?;
+    if !is_read {
+        return None;
+    }
+    match item_of(&found)? {
+        Item::Blank | Item::Label(_) => Some(0),
+        Item::Statement(Statement::LoadImmediate { .. } | Statement::LoadMapReference { .. }) => {
+            Some(2)
+        }
+        Item::Statement(_) | Item::Jump(_, _) => Some(1),
+    }
+}

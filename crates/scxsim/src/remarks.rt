@@ -1,0 +1,47 @@
+use scxsim_commands::Fault;
+use scxsim_remarks::{NamedText, remark_on_file, remark_on_run, remarks_on_callbacks};
+use std::alloc::Global;
+
+/// A file's text, if it is one.
+pub(crate) fn named<'a>(path: &'a str, bytes: &'a [u8]) -> Option<NamedText<'a>> {
+    let text = str::from_utf8(bytes).ok()?;
+    Some(NamedText { path, text })
+}
+
+/// Where the files of a run are wrong, if they were refused.
+pub(crate) fn remark_of_run(
+    alloc: Global,
+    outcome: &Result<bool, Fault>,
+    policy: Option<NamedText<'_>>,
+    workload: Option<NamedText<'_>>,
+) -> Option<String> {
+    match outcome {
+        Err(Fault::Refused(refusal)) => remark_on_run(alloc, refusal, policy?, workload?),
+        _ => None,
+    }
+}
+
+/// Where a policy's file is wrong, if it or one of its callbacks was refused.
+pub(crate) fn remark_of_policy(
+    alloc: Global,
+    outcome: &Result<bool, Fault>,
+    policy: Option<NamedText<'_>>,
+) -> Option<String> {
+    match outcome {
+        Err(Fault::Refused(refusal)) => remark_on_file(alloc, refusal, policy?),
+        Ok(false) => remarks_on_callbacks(alloc, policy?),
+        _ => None,
+    }
+}
+
+/// Where a text for the assembler is wrong, if it was refused.
+pub(crate) fn remark_of_program(
+    alloc: Global,
+    outcome: &Result<bool, Fault>,
+    program: Option<NamedText<'_>>,
+) -> Option<String> {
+    match outcome {
+        Err(Fault::Refused(refusal)) => remark_on_file(alloc, refusal, program?),
+        _ => None,
+    }
+}

@@ -1,0 +1,133 @@
+use crate::meant::nearest_key;
+use crate::named_text::NamedText;
+use scx_asm::AsmFault;
+use scx_isa::Callback;
+use scx_load_files::Cause;
+use scx_load_places::{Place, first_toml_fault, place_of_key, place_of_line, place_of_slot};
+use scx_load_workloads::read_workload;
+use scx_verify::Fault;
+use scxsim_commands::Refusal;
+use std::alloc::Global;
+
+/// Of a refusal of a run's files: where it stands, and what may have been meant. None where it stands nowhere in
+/// a text, or memory ran out.
+pub fn remark_on_run(
+    alloc: Global,
+    refusal: &Refusal,
+    policy: NamedText<'_>,
+    workload: NamedText<'_>,
+) -> Option<String> {
+    match refusal {
+        Refusal::Policy { path, cause } => remark_on_policy(alloc, policy, path, *cause),
+        Refusal::Workload { path, cause } => remark_on_key(alloc, workload, path, *cause),
+        Refusal::Callback {
+            callback,
+            fault,
+            slot,
+        } => remark_on_callback(alloc, policy, *callback, *fault, *slot),
+        _ => None,
+    }
+}
+
+/// Of a refusal of a policy's file alone, or of a text for the assembler; as `remark_on_run`.
+pub fn remark_on_file(alloc: Global, refusal: &Refusal, file: NamedText<'_>) -> Option<String> {
+    match refusal {
+        Refusal::Policy { path, cause } => remark_on_policy(alloc, file, path, *cause),
+        Refusal::Assemble { fault, line } => remark_on_line(alloc, file, *fault, *line),
+        _ => None,
+    }
+}
+
+/// Of a line of assembler text.
+fn remark_on_line(
+    alloc: Global,
+    file: NamedText<'_>,
+    fault: AsmFault,
+    line: usize,
+) -> Option<String> {
+    let what = format!(in alloc; "asm {} {}", fault.number(), fault.name()).ok()?;
+    file.error_at(alloc, Place { line, column: 1 }, &what).ok()
+}
+
+/// Of a key of a policy file. What is no policy may be a workload.
+fn remark_on_policy(
+    alloc: Global,
+    policy: NamedText<'_>,
+    path: &str,
+    cause: Cause,
+) -> Option<String> {
+    match read_workload(alloc, policy.text) {
+        Ok(workload) => {
+            drop(workload);
+            format!(in alloc;
+                "hint: {} is a workload, and a policy is wanted there\n",
+                policy.path
+            )
+            .ok()
+        }
+        Err(_) => remark_on_key(alloc, policy, path, cause),
+    }
+}
+
+/// Of a key of a file.
+fn remark_on_key(alloc: Global, file: NamedText<'_>, path: &str, cause: Cause) -> Option<String> {
+    match cause {
+        Cause::NotToml => remark_on_toml(alloc, file),
+        Cause::Unknown => remark_on_unknown(alloc, file, path),
+        Cause::Asm { line, .. } => {
+            let place = place_of_line(alloc, file.text, path, line);
+            remark_at(alloc, file, place, path, cause)
+        }
+        _ => {
+            let place = place_of_key(alloc, file.text, path);
+            remark_at(alloc, file, place, path, cause)
+        }
+    }
+}
+
+fn remark_at(
+    alloc: Global,
+    file: NamedText<'_>,
+    place: Option<Place>,
+    path: &str,
+    cause: Cause,
+) -> Option<String> {
+    let what = format!(in alloc; "{path}: {cause}").ok()?;
+    file.error_at(alloc, place?, &what).ok()
+}
+
+/// Of a text that is no TOML document.
+fn remark_on_toml(alloc: Global, file: NamedText<'_>) -> Option<String> {
+    let fault = first_toml_fault(alloc, file.text)?;
+    file.error_at(alloc, fault.place, fault.message()).ok()
+}
+
+/// Of a key that the format doesn't have.
+fn remark_on_unknown(alloc: Global, file: NamedText<'_>, path: &str) -> Option<String> {
+    let place = place_of_key(alloc, file.text, path)?;
+    let what = match nearest_key(alloc, path) {
+        Some(known) => format!(in alloc; "{path}: unknown; is {known} meant?").ok()?,
+        None => format!(in alloc; "{path}: unknown").ok()?,
+    };
+    file.error_at(alloc, place, &what).ok()
+}
+
+/// Of a callback that the verifier refuses. One that is given as slots has no line.
+pub(crate) fn remark_on_callback(
+    alloc: Global,
+    policy: NamedText<'_>,
+    callback: Callback,
+    fault: Fault,
+    slot: usize,
+) -> Option<String> {
+    let path = format!(in alloc; "code.{}", callback.name()).ok()?;
+    let place = place_of_slot(alloc, policy.text, &path, slot)?;
+    let what = format!(in alloc;
+        "{}: {} {} at {slot}",
+        callback.name(),
+        fault.number(),
+        fault.name()
+    )
+    .ok()?;
+    policy.error_at(alloc, place, &what).ok()
+}
