@@ -34,7 +34,7 @@ const FORMS: [Form; 12] = [
         name: "explain",
         kind: Kind::Policy(PolicyCommand::Explain),
         about: "Verifies the same, and shows what is known before each instruction, and why one is refused",
-        example: "Example: scxsim explain examples/policies/fifo.toml\nprints:  of each callback the line of verify, and then its instructions, as in\n         init ok 3\n            0  r1 = 0     nothing\n            1  call 1001  r1 number 0\n            2  exit       r0 number\nand below a refused instruction why. docs/FILES.md says how to read them.",
+        example: "Example: scxsim explain examples/policies/fifo.toml\nprints:  of each callback the line of verify, and then its instructions, as in\n         init ok 3\n            0  r1 = 0                 nothing\n            1  call 1001  create_dsq  r1 number 0\n            2  exit                   r0 number\nand below a refused instruction why. docs/FILES.md says how to read them.",
     },
     Form {
         name: "run",
