@@ -23,7 +23,7 @@ pub(crate) fn forms() -> &'static [Form] {
     &FORMS
 }
 
-const FORMS: [Form; 12] = [
+const FORMS: [Form; 13] = [
     Form {
         name: "verify",
         kind: Kind::Policy(PolicyCommand::Verify),
@@ -59,6 +59,12 @@ const FORMS: [Form; 12] = [
         kind: Kind::Run(Account::Summary(Summary::StatsCsv)),
         about: "Reads and runs the same, and prints the figures of stats as comma-separated values",
         example: "Example: scxsim stats-csv examples/policies/short_slices.toml examples/workloads/two_tasks.toml\nprints:  kind,name,figure,value\n         task,a,run_ms,2\nand a line for each other figure.",
+    },
+    Form {
+        name: "why",
+        kind: Kind::Run(Account::Summary(Summary::Why)),
+        about: "Reads and runs the same, and prints how it ended, who waited longest and why",
+        example: "Example: scxsim why examples/gallery/undrained.toml examples/workloads/two_tasks.toml\nprints:  in five lines how the policy ended, the longest wait, processors that were idle\n         while tasks waited, queues that nobody left and tasks that never ran, and then\n         more of each\ndocs/WHY.md says how to read it.",
     },
     Form {
         name: "timeline",
