@@ -5,6 +5,7 @@ use scxsim_output::Out;
 use scxsim_pictures::{picture, timeline};
 use scxsim_simulation::{Listener, report, simulate};
 use scxsim_statistics::{stats, stats_csv};
+use scxsim_why::why;
 use std::alloc::Global;
 
 #[derive(Clone, Copy)]
@@ -27,13 +28,15 @@ pub(crate) enum Summary {
     Report,
     Stats,
     StatsCsv,
+    Why,
 }
 
-pub(crate) const ACCOUNTS: [Account; 6] = [
+pub(crate) const ACCOUNTS: [Account; 7] = [
     Account::Course(Course::Trace),
     Account::Summary(Summary::Report),
     Account::Summary(Summary::Stats),
     Account::Summary(Summary::StatsCsv),
+    Account::Summary(Summary::Why),
     Account::Course(Course::Timeline),
     Account::Course(Course::Picture),
 ];
@@ -79,5 +82,6 @@ fn write_summary<L: Listener, W: Out>(
         Summary::Report => report(alloc, policy, workload, listener, out),
         Summary::Stats => stats(alloc, policy, workload, listener, out),
         Summary::StatsCsv => stats_csv(alloc, policy, workload, listener, out),
+        Summary::Why => why(alloc, policy, workload, listener, out),
     }
 }

@@ -7,6 +7,7 @@ use scxsim_pictures::{picture, timeline};
 use scxsim_progress::Progress;
 use scxsim_simulation::{Listener, report, simulate};
 use scxsim_statistics::{stats, stats_csv};
+use scxsim_why::why;
 use scxsim_words::{Account, Course, Summary};
 use std::alloc::Global;
 
@@ -94,5 +95,6 @@ fn write_summary<L: Listener, W: Out>(
         Summary::Report => report(alloc, policy, workload, listener, out),
         Summary::Stats => stats(alloc, policy, workload, listener, out),
         Summary::StatsCsv => stats_csv(alloc, policy, workload, listener, out),
+        Summary::Why => why(alloc, policy, workload, listener, out),
     }
 }

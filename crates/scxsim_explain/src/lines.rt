@@ -1,9 +1,10 @@
 use crate::explained::Explained;
 use crate::known::push_known;
 use crate::sentences::push_explanation;
+use crate::words::HelperName;
 use arrayvec::ArrayString;
 use scx_asm_text::Canonical;
-use scx_isa::Insn;
+use scx_isa::{Helper, Insn};
 use scx_verify_explain::{Listing, Way, target_of};
 use std::alloc::AllocError;
 use std::fmt::Write;
@@ -32,16 +33,29 @@ pub(crate) fn push_slot(
     }
 }
 
-/// The canonical text of an instruction, and the slot to which it jumps.
+/// The canonical text of an instruction, and the slot to which it jumps or the name of the helper that it
+/// calls.
 fn text_of(slot: usize, insn: Insn) -> Text {
     let mut text = Text::new();
     let canonical = Canonical(insn);
     // There is room for each instruction.
-    let _ = match target_of(slot, insn) {
-        Some(target) => write!(text, "{canonical} (to {target})"),
-        None => write!(text, "{canonical}"),
+    let _ = match (target_of(slot, insn), helper_of(insn)) {
+        (Some(target), _) => write!(text, "{canonical} (to {target})"),
+        (None, Some(helper)) => write!(text, "{canonical}  {helper}"),
+        (None, None) => write!(text, "{canonical}"),
     };
     text
+}
+
+/// The helper that an instruction calls, if there is one of that number.
+fn helper_of(insn: Insn) -> Option<HelperName> {
+    let Insn::Call(number) = insn else {
+        return None;
+    };
+    match Helper::new(number) {
+        Some(helper) => Some(HelperName(helper)),
+        None => None,
+    }
 }
 
 /// How long the longest text of the listing is.

@@ -1,6 +1,6 @@
 use scx_abs::Kind;
 use scx_abs_ranges::{Numbers, Offsets, Range};
-use scx_isa::{Field, Parameter, Register, STACK_SIZE};
+use scx_isa::{Field, Helper, Parameter, Register, STACK_SIZE};
 use scx_verify_explain::Place;
 use std::fmt;
 
@@ -11,6 +11,10 @@ pub(crate) struct Name(pub(crate) Register);
 /// A field of a task, by its name.
 #[derive(Clone, Copy)]
 pub(crate) struct FieldName(pub(crate) Field);
+
+/// A helper, by the name that the table of helpers has.
+#[derive(Clone, Copy)]
+pub(crate) struct HelperName(pub(crate) Helper);
 
 /// A kind in a list, in a word or some.
 #[derive(Clone, Copy)]
@@ -168,6 +172,23 @@ impl fmt::Display for FieldName {
             Field::PrevCpu => "prev_cpu",
             Field::Group => "group",
             Field::RunNs => "run_ns",
+        })
+    }
+}
+
+impl fmt::Display for HelperName {
+    fn fmt<W: fmt::Write>(&self, f: &mut fmt::Formatter<W>) -> fmt::Result {
+        f.write_str(match self.0 {
+            Helper::MapLookupElem => "map_lookup_elem",
+            Helper::KtimeGetNs => "ktime_get_ns",
+            Helper::CreateDsq => "create_dsq",
+            Helper::DsqInsert => "dsq_insert",
+            Helper::DsqInsertVtime => "dsq_insert_vtime",
+            Helper::DsqMoveToLocal => "dsq_move_to_local",
+            Helper::SelectCpuDfl => "select_cpu_dfl",
+            Helper::CpuIdle => "cpu_idle",
+            Helper::TaskByPid => "task_by_pid",
+            Helper::DsqNrQueued => "dsq_nr_queued",
         })
     }
 }

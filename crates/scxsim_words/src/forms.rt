@@ -23,7 +23,7 @@ pub(crate) fn forms() -> &'static [Form] {
     &FORMS
 }
 
-const FORMS: [Form; 12] = [
+const FORMS: [Form; 13] = [
     Form {
         name: "verify",
         kind: Kind::Policy(PolicyCommand::Verify),
@@ -34,7 +34,7 @@ const FORMS: [Form; 12] = [
         name: "explain",
         kind: Kind::Policy(PolicyCommand::Explain),
         about: "Verifies the same, and shows what is known before each instruction, and why one is refused",
-        example: "Example: scxsim explain examples/policies/fifo.toml\nprints:  of each callback the line of verify, and then its instructions, as in\n         init ok 3\n            0  r1 = 0     nothing\n            1  call 1001  r1 number 0\n            2  exit       r0 number\nand below a refused instruction why. docs/FILES.md says how to read them.",
+        example: "Example: scxsim explain examples/policies/fifo.toml\nprints:  of each callback the line of verify, and then its instructions, as in\n         init ok 3\n            0  r1 = 0                 nothing\n            1  call 1001  create_dsq  r1 number 0\n            2  exit                   r0 number\nand below a refused instruction why. docs/FILES.md says how to read them.",
     },
     Form {
         name: "run",
@@ -59,6 +59,12 @@ const FORMS: [Form; 12] = [
         kind: Kind::Run(Account::Summary(Summary::StatsCsv)),
         about: "Reads and runs the same, and prints the figures of stats as comma-separated values",
         example: "Example: scxsim stats-csv examples/policies/short_slices.toml examples/workloads/two_tasks.toml\nprints:  kind,name,figure,value\n         task,a,run_ms,2\nand a line for each other figure.",
+    },
+    Form {
+        name: "why",
+        kind: Kind::Run(Account::Summary(Summary::Why)),
+        about: "Reads and runs the same, and prints how it ended, who waited longest and why",
+        example: "Example: scxsim why examples/gallery/undrained.toml examples/workloads/two_tasks.toml\nprints:  in five lines how the policy ended, the longest wait, processors that were idle\n         while tasks waited, queues that nobody left and tasks that never ran, and then\n         more of each\ndocs/WHY.md says how to read it.",
     },
     Form {
         name: "timeline",

@@ -34,6 +34,7 @@ pub enum Summary {
     Report,
     Stats,
     StatsCsv,
+    Why,
 }
 
 /// A command, with the paths of its files.

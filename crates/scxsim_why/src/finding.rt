@@ -1,0 +1,121 @@
+ghost use Rattle.std.specs.Prelude.{◌≡◌, length, IfOk, IfErr};
+ghost use Rattle.scx_load_driver.specs.Driver.{remaining};
+ghost use Rattle.scxsim_simulation.specs.Runs.{IsCause};
+ghost use Rattle.scxsim_statistics.specs.Figures.{AreOfTexts};
+ghost use Rattle.scxsim_why.specs.Idling.{idle_of, IsIdleOfTexts};
+
+use crate::halves::Half;
+use crate::watching::Account;
+use crate::worst::worst_of;
+use scx_sched::Sim;
+use scxsim_commands::Refusal;
+use scxsim_simulation::{Heard, Listener, Run, give_back, prepare};
+use scxsim_statistics::{Figures, figures};
+use scxsim_trace::Events;
+use scxsim_views::watch;
+use std::alloc::{AllocError, Global};
+
+/// What was found out of a run.
+#[derive(Drop)]
+pub struct Findings {
+    /// The figures of the run, with each task's longest wait.
+    pub figures: Figures,
+    pub idle: IdleFigures,
+    pub(crate) account: Account,
+}
+
+/// How processors were idle while a task waited for one.
+#[derive(Clone, Copy)]
+pub struct IdleFigures {
+    /// How often that began on a processor.
+    pub count: u64,
+    /// For how many milliseconds it was so, of all processors together.
+    pub lost: u64,
+}
+
+/// What is found out of the run that the texts of a policy file and of a workload file stand for.
+///
+/// # Errors
+///
+/// The texts are refused, or memory runs out.
+pub fn examine<L: Listener>(
+    alloc: Global,
+    policy: &str,
+    workload: &str,
+    listener: &mut L,
+) -> Result<Findings, Refusal>
+    ensures waits { IfOk result (λ found. AreOfTexts policy.now workload.now found.figures) }
+    ensures idle { IfOk result (λ found. IsIdleOfTexts policy.now workload.now found.idle) }
+    ensures refused { IfErr result (IsCause policy.now workload.now) }
+{
+    let figures = first_half(alloc, policy, workload, listener)?;
+    let run = prepare(alloc, policy, workload)?;
+    let account = second_half(alloc, &figures, run, listener)?;
+    let idle = account.idling.figures();
+    Ok(Findings {
+        figures,
+        idle,
+        account,
+    })
+}
+
+/// Goes through the run the first time.
+fn first_half<L: Listener>(
+    alloc: Global,
+    policy: &str,
+    workload: &str,
+    listener: &mut L,
+) -> Result<Figures, Refusal>
+    ensures of_texts { IfOk result (AreOfTexts policy.now workload.now) }
+    ensures refused { IfErr result (IsCause policy.now workload.now) }
+{
+    let mut half = Half {
+        listener,
+        is_second: false,
+    };
+    figures(alloc, policy, workload, &mut half)
+}
+
+/// Goes through the run the second time.
+fn second_half<L: Listener>(
+    alloc: Global,
+    figures: &Figures,
+    run: Run,
+    listener: &mut L,
+) -> Result<Account, AllocError>
+    ensures { IfOk result (λ account. account.idling
+        ≡ idle_of run.sim (remaining run.driver run.sim)) }
+{
+    let Run {
+        workload,
+        driver,
+        mut sim,
+    } = run;
+    let mut half = Half {
+        listener,
+        is_second: true,
+    };
+    let mut events = Heard::new(driver, workload.ms(), &mut half);
+    let account = account_from(alloc, figures, &mut events, &mut sim);
+    give_back(events, sim);
+    drop(workload);
+    account
+}
+
+/// The same of a run that is lent.
+fn account_from<E: Events>(
+    alloc: Global,
+    figures: &Figures,
+    events: &mut E,
+    sim: &mut Sim,
+) -> Result<Account, AllocError>
+    ensures { IfOk result (λ account. account.idling
+        ≡ idle_of sim.old (E.remaining events.old sim.old)) }
+{
+    let worst = worst_of(alloc, figures)?;
+    let mut account = Account::new(alloc, sim, worst.as_slice())?;
+    watch(sim, events, &mut account);
+    account.result?;
+    account.end(sim);
+    Ok(account)
+}

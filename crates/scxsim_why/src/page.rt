@@ -1,0 +1,313 @@
+use crate::ending::{Cause, Ejection, words_of};
+use crate::finding::Findings;
+use crate::queues::QueueFigures;
+use crate::recent::Recent;
+use crate::stretches::Seen;
+use crate::waits::Meanwhile;
+use crate::watching::Account;
+use crate::words::{Count, QueueName};
+use scx_load_workloads::Workload;
+use scx_sched::{Event, Sink};
+use scxsim_output::Counted;
+use scxsim_trace::{Names, Trace};
+use std::alloc::{AllocError, Global};
+
+/// Makes the page, behind its first word.
+pub(crate) fn write_page(
+    alloc: Global,
+    found: &Findings,
+    page: &mut String,
+) -> Result<(), AllocError> {
+    let account = &found.account;
+    let workload = &found.figures.workload;
+    write_ending(workload, account.ejection, page)?;
+    write_worst(found, page)?;
+    write_idle(found, page)?;
+    write_undrained(account, page)?;
+    write_never(found, page)?;
+    write_last_lines(alloc, workload, account, page)?;
+    write_waits(found, page)?;
+    write_stretches(found, page)?;
+    write_queues(account, page)
+}
+
+// The lines at the top.
+
+fn write_ending(
+    workload: &Workload,
+    ejection: Option<Ejection>,
+    page: &mut String,
+) -> Result<(), AllocError> {
+    let Some(ejection) = ejection else {
+        let ms = workload.ms();
+        return writeln!(page, "in force to the end, at {ms} ms");
+    };
+    let clock = ejection.clock;
+    write!(page, "ejected at {clock} ms: ")?;
+    match ejection.cause {
+        Cause::Stall(task) => {
+            let name = workload.task(task);
+            writeln!(page, "{name} had waited too long (stall)")
+        }
+        Cause::Fault(fault, event) => {
+            let number = fault.number();
+            let words = words_of(fault);
+            write!(page, "fault {number}, {words}, ")?;
+            write_event(workload, event, page)
+        }
+    }
+}
+
+fn write_event(workload: &Workload, event: Event, page: &mut String) -> Result<(), AllocError> {
+    match event {
+        Event::Wake(task) => {
+            let name = workload.task(task);
+            writeln!(page, "as {name} woke")
+        }
+        Event::Sleep(task) => {
+            let name = workload.task(task);
+            writeln!(page, "as {name} went to sleep")
+        }
+        Event::Tick(cpu) => writeln!(page, "at a tick of processor {cpu}"),
+        Event::Clock => writeln!(page, "as the clock grew"),
+        Event::SetWeight(_, _) => writeln!(page, "as a weight changed"),
+    }
+}
+
+/// Who waited longest, where, and who ran meanwhile.
+fn write_worst(found: &Findings, page: &mut String) -> Result<(), AllocError> {
+    let workload = &found.figures.workload;
+    let Some(wait) = found.account.waits.waits.as_slice().first() else {
+        return page.push_str("no task waited\n");
+    };
+    write_wait(workload, wait, page)?;
+    write_places(wait, page)?;
+    page.push_str("; meanwhile")?;
+    write_runners(workload, wait, page)?;
+    page.push_str("\n")
+}
+
+fn write_wait(workload: &Workload, told: &Meanwhile, page: &mut String) -> Result<(), AllocError> {
+    let name = workload.task(told.wait.task);
+    let length = told.wait.length;
+    let since = told.wait.since;
+    let until = since.saturating_add(length);
+    write!(page, "{name} waited {length} ms, from {since} to {until}")
+}
+
+/// Writes the queues in which a task stood, without one that it left at once.
+fn write_places(wait: &Meanwhile, page: &mut String) -> Result<(), AllocError> {
+    let mut before = ", in";
+    for station in wait.stations.as_slice() {
+        let queue = QueueName(station.queue);
+        write!(page, "{before} {queue}")?;
+        before = ", then";
+    }
+    Ok(())
+}
+
+/// Writes for how long each task ran during a wait.
+fn write_runners(
+    workload: &Workload,
+    wait: &Meanwhile,
+    page: &mut String,
+) -> Result<(), AllocError> {
+    let mut before = " ";
+    for task in 0..tasks_of(workload) {
+        let ms = wait.ran(workload.cpus(), Some(task));
+        if 0 < ms {
+            let name = workload.task(task);
+            write!(page, "{before}{name} ran {ms} ms")?;
+            before = ", ";
+        }
+    }
+    let idle = wait.ran(workload.cpus(), None);
+    if 0 < idle {
+        write!(page, "{before}processors were idle for {idle} ms")?;
+    }
+    Ok(())
+}
+
+fn tasks_of(workload: &Workload) -> u16 {
+    u16::try_from(workload.tasks().len()).unwrap_or(u16::MAX)
+}
+
+fn write_idle(found: &Findings, page: &mut String) -> Result<(), AllocError> {
+    let workload = &found.figures.workload;
+    let Some(longest) = found.account.stretches.longest.as_slice().first() else {
+        return page.push_str("no processor was idle while a task waited\n");
+    };
+    let lost = found.idle.lost;
+    write!(page, "idle while tasks waited: {lost} ms in all; ")?;
+    write_stretch(workload, longest, page)
+}
+
+fn write_stretch(workload: &Workload, seen: &Seen, page: &mut String) -> Result<(), AllocError> {
+    let stretch = seen.stretch;
+    let length = stretch.length();
+    write!(
+        page,
+        "processor {} for {} ms from {} to {}",
+        stretch.cpu, length, stretch.since, stretch.until
+    )?;
+    if let Some(stander) = seen.stander {
+        let name = workload.task(stander.task);
+        write!(page, ", as {name} waited")?;
+        if let Some(queue) = stander.queue {
+            let queue = QueueName(queue);
+            write!(page, " in {queue}")?;
+        }
+    }
+    page.push_str("\n")
+}
+
+/// Writes the queues that tasks came into and nobody left.
+fn write_undrained(account: &Account, page: &mut String) -> Result<(), AllocError> {
+    let mut before = "nobody left ";
+    for figures in account.queues.figures.as_slice() {
+        if figures.left == 0 {
+            let queue = QueueName(figures.queue);
+            let came = Count(figures.came, "task");
+            write!(page, "{before}{queue}, into which came {came}")?;
+            before = "; ";
+        }
+    }
+    if before == "nobody left " {
+        page.push_str("of each queue that tasks came into somebody left")?;
+    }
+    page.push_str("\n")
+}
+
+/// Writes who never ran, and who was held as the policy's time ended.
+fn write_never(found: &Findings, page: &mut String) -> Result<(), AllocError> {
+    let workload = &found.figures.workload;
+    let mut before = "never ran: ";
+    for (number, task) in found.figures.tasks.iter().enumerate() {
+        if task.run == 0 {
+            let name = workload.task(u16::try_from(number).unwrap_or(u16::MAX));
+            write!(page, "{before}{name}")?;
+            before = ", ";
+        }
+    }
+    if before == "never ran: " {
+        page.push_str("each task ran")?;
+    }
+    page.push_str("\n")
+}
+
+// The parts below.
+
+fn write_last_lines(
+    alloc: Global,
+    workload: &Workload,
+    account: &Account,
+    page: &mut String,
+) -> Result<(), AllocError> {
+    let Some(ejection) = account.ejection else {
+        return Ok(());
+    };
+    page.push_str("\nthe last lines of the trace up to there")?;
+    if let Some(task) = ejection.task {
+        let name = workload.task(task);
+        write!(page, ", of {name}")?;
+    }
+    if let Some(cpu) = ejection.cpu {
+        write!(page, ", of processor {cpu}")?;
+    }
+    page.push_str("\n")?;
+    let recent = account.recent.of_ejection(alloc, ejection)?;
+    write_lines(alloc, workload, recent.as_slice(), page)
+}
+
+/// Writes the lines that a trace has for these notes.
+fn write_lines(
+    alloc: Global,
+    workload: &Workload,
+    notes: &[Recent],
+    page: &mut String,
+) -> Result<(), AllocError> {
+    let mut bytes = Vec::new(alloc);
+    let mut out = Counted::new(&mut bytes);
+    let mut trace = Trace::new(workload, &mut out);
+    for recent in notes {
+        trace.take(recent.note);
+    }
+    if trace.failed() {
+        return Err(AllocError);
+    }
+    match std::str::from_utf8(bytes.as_slice()) {
+        Ok(text) => page.push_str(text),
+        Err(_) => Ok(()),
+    }
+}
+
+fn write_waits(found: &Findings, page: &mut String) -> Result<(), AllocError> {
+    let workload = &found.figures.workload;
+    for wait in found.account.waits.waits.as_slice() {
+        page.push_str("\n")?;
+        write_wait(workload, wait, page)?;
+        page.push_str("\n")?;
+        for station in wait.stations.as_slice() {
+            let queue = QueueName(station.queue);
+            let clock = station.clock;
+            writeln!(page, "  at {clock} it came into {queue}")?;
+        }
+        for cpu in 0..workload.cpus() {
+            write_cpu(workload, wait, cpu, page)?;
+        }
+    }
+    Ok(())
+}
+
+/// Writes for how long each task ran on a processor during a wait.
+fn write_cpu(
+    workload: &Workload,
+    wait: &Meanwhile,
+    cpu: u32,
+    page: &mut String,
+) -> Result<(), AllocError> {
+    write!(page, "  processor {cpu}:")?;
+    let mut before = " ";
+    for task in 0..tasks_of(workload) {
+        let ms = wait.ran_on(cpu, Some(task));
+        if 0 < ms {
+            let name = workload.task(task);
+            write!(page, "{before}{name} ran {ms} ms")?;
+            before = ", ";
+        }
+    }
+    let idle = wait.ran_on(cpu, None);
+    if 0 < idle {
+        write!(page, "{before}idle for {idle} ms")?;
+    }
+    page.push_str("\n")
+}
+
+fn write_stretches(found: &Findings, page: &mut String) -> Result<(), AllocError> {
+    let longest = found.account.stretches.longest.as_slice();
+    if longest.is_empty() {
+        return Ok(());
+    }
+    let count = Count(found.idle.count, "time");
+    writeln!(page, "\nidle while tasks waited, {count}; the longest are")?;
+    for seen in longest {
+        page.push_str("  ")?;
+        write_stretch(&found.figures.workload, seen, page)?;
+    }
+    Ok(())
+}
+
+fn write_queues(account: &Account, page: &mut String) -> Result<(), AllocError> {
+    page.push_str("\n     came     left    there  of those who came into\n")?;
+    for figures in account.queues.figures.as_slice() {
+        write_queue(*figures, page)?;
+    }
+    Ok(())
+}
+
+fn write_queue(figures: QueueFigures, page: &mut String) -> Result<(), AllocError> {
+    let QueueFigures { queue, came, left } = figures;
+    let there = figures.there();
+    let queue = QueueName(queue);
+    writeln!(page, "{came:>9}{left:>9}{there:>9}  {queue}")
+}
