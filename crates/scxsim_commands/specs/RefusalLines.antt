@@ -8,7 +8,9 @@ use Rattle.scx_load_files.specs.declared.fault.Cause.{Cause}
 use Rattle.scx_load_files.specs.declared.fault.Cause.TheVariants as causes
 use Rattle.scx_isa_semantics.specs.Callbacks.{callback_name}
 use Rattle.scxsim_commands.specs.declared.refusal.Refusal.{Refusal}
-use Rattle.scxsim_commands.specs.declared.refusal.Refusal.TheVariants.{TooLarge, NotUtf8, NoMemory, Decode, Verify, Assemble, Callback, Policy, Workload, Init}
+use Rattle.scxsim_commands.specs.declared.refusal.Refusal.TheVariants.{TooLarge, NotUtf8, NoMemory, Decode, Verify, Assemble, Callback, Policy, Workload, Init, OutOfRange}
+use Rattle.scxsim_commands.specs.declared.refusal.Word.{Word}
+use Rattle.scxsim_commands.specs.declared.refusal.Word.TheVariants.{From, To}
 use Rattle.scxsim_commands.specs.Lines.{fault_text}
 
 -- what is wrong with a file
@@ -34,6 +36,11 @@ cause_text (causes.Decode fault slot) =
 abbrev pub init_line : ℤ → List ℕ
 init_line answer = codes "refused: init " ++ signed_decimal answer ++ codes "\n"
 
+-- a word that is out of range
+abbrev pub word_line : Word → List ℕ
+word_line From = codes "refused: word FROM: out of range\n"
+word_line To = codes "refused: word TO: out of range\n"
+
 -- the line of a refused input
 abbrev pub refusal_line : Refusal → List ℕ
 refusal_line TooLarge = codes "refused: too large\n"
@@ -55,6 +62,7 @@ refusal_line (Policy path cause) =
 refusal_line (Workload path cause) =
     codes "refused: workload " ++ string_bytes path ++ codes ": " ++ cause_text cause ++ codes "\n"
 refusal_line (Init answer) = init_line answer
+refusal_line (OutOfRange word) = word_line word
 
 -- ---- the same in three parts: what stands before the path of a key, the path, and what
 -- stands behind it

@@ -28,7 +28,7 @@ pub use file::{FILE_LIMIT, read_file};
 pub use finishing::finish;
 pub use hints::{Hint, hint_of_slots, hint_of_text};
 pub use lines::{Line, write_unread};
-pub use refusal::{Fault, Refusal};
+pub use refusal::{Fault, Refusal, Word};
 pub use scxsim_output::{Counted, Failed, Out, write_all};
 pub use status::{DONE, FAILED, REFUSED, USAGE};
 pub use texts::text;

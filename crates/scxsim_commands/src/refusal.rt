@@ -66,6 +66,28 @@ pub enum Refusal {
     /// The policy's `init` failed with this answer.
     #[error("init answered {0}")]
     Init(i64),
+    /// A word that names a part of a run.
+    #[error("{} is out of range", .0.name())]
+    OutOfRange(Word),
+}
+
+/// A word of a command that isn't a path.
+#[derive(Clone, Copy, PartialEq, Eq)]
+pub enum Word {
+    /// The millisecond with which a part of a run begins.
+    From,
+    /// The millisecond with which it ends.
+    To,
+}
+
+impl Word {
+    /// What the word is called in the help.
+    pub fn name(self) -> &'static str {
+        match self {
+            Word::From => "FROM",
+            Word::To => "TO",
+        }
+    }
 }
 
 impl fmt::Debug for Refusal {

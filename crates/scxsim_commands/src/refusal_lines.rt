@@ -5,7 +5,7 @@ ghost use Rattle.scxsim_commands.specs.Lines.{fault_text};
 ghost use Rattle.scxsim_commands.specs.RefusalLines as lines;
 
 use crate::lines::{LINE_CAPACITY, Line, callback_line, push_fault};
-use crate::refusal::Refusal;
+use crate::refusal::{Refusal, Word};
 use itoa::Buffer;
 use scx_load_files::Cause;
 use scxsim_output::{Failed, Out, write_named};
@@ -52,6 +52,7 @@ fn start(refusal: &Refusal) -> Line
         Refusal::Policy { .. } => whole_line("refused: policy "),
         Refusal::Workload { .. } => whole_line("refused: workload "),
         Refusal::Init(answer) => init_line(*answer),
+        Refusal::OutOfRange(word) => word_line(*word),
     }
 }
 
@@ -110,6 +111,15 @@ fn init_line(answer: i64) -> Line
     line.push_str(digits.format(answer));
     line.push_str("\n");
     line
+}
+
+fn word_line(word: Word) -> Line
+    ensures { result.bytes ≡ lines.word_line word }
+{
+    match word {
+        Word::From => whole_line("refused: word FROM: out of range\n"),
+        Word::To => whole_line("refused: word TO: out of range\n"),
+    }
 }
 
 fn fault_line(start: &str, number: u8, name: &str, at: usize) -> Line

@@ -6,6 +6,8 @@ pub(crate) enum Kind {
     Program(ProgramCommand),
     Policy(PolicyCommand),
     Run(Account),
+    /// Of a part of a run.
+    Part(Account),
     Cases,
 }
 
@@ -23,7 +25,7 @@ pub(crate) fn forms() -> &'static [Form] {
     &FORMS
 }
 
-const FORMS: [Form; 13] = [
+const FORMS: [Form; 15] = [
     Form {
         name: "verify",
         kind: Kind::Policy(PolicyCommand::Verify),
@@ -77,6 +79,18 @@ const FORMS: [Form; 13] = [
         kind: Kind::Run(Account::Course(Course::Picture)),
         about: "Reads and runs the same, and prints a picture in SVG",
         example: "Example: scxsim picture examples/policies/short_slices.toml examples/workloads/two_tasks.toml > picture.svg\nwrites:  a file that browsers open.",
+    },
+    Form {
+        name: "gantt",
+        kind: Kind::Run(Account::Summary(Summary::Gantt)),
+        about: "Reads and runs the same, and prints a chart in lines of characters",
+        example: "Example: scxsim gantt examples/policies/short_slices.toml examples/workloads/two_tasks.toml\nprints:  a line of characters for each processor and each task, with what they say below them\ndocs/PICTURES.md says how to read it.",
+    },
+    Form {
+        name: "gantt-part",
+        kind: Kind::Part(Account::Summary(Summary::Gantt)),
+        about: "Does the same of a part of the run",
+        example: "Example: scxsim gantt-part examples/policies/short_slices.toml examples/workloads/two_tasks.toml 1 3\nprints:  the chart of the two milliseconds from 1 to 3.",
     },
     Form {
         name: "exec",

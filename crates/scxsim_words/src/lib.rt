@@ -5,5 +5,5 @@ mod forms;
 mod requests;
 mod words;
 
-pub use requests::{Account, Course, PolicyCommand, ProgramCommand, Request, Summary};
+pub use requests::{Account, Course, Part, PolicyCommand, ProgramCommand, Request, Summary};
 pub use words::read_words;

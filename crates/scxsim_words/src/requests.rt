@@ -35,6 +35,14 @@ pub enum Summary {
     Stats,
     StatsCsv,
     Why,
+    Gantt,
+}
+
+/// The words that name a part of a run.
+#[derive(Clone, Copy)]
+pub struct Part<'a> {
+    pub from: &'a str,
+    pub to: &'a str,
 }
 
 /// A command, with the paths of its files.
@@ -52,6 +60,8 @@ pub enum Request<'a> {
         account: Account,
         policy: &'a str,
         workload: &'a str,
+        /// None where it is of the whole run.
+        part: Option<Part<'a>>,
     },
     /// Of the files that the words behind the command name.
     Cases,

@@ -1,5 +1,5 @@
 use crate::forms::{Form, Kind, forms};
-use crate::requests::{ProgramCommand, Request};
+use crate::requests::{Account, Part, ProgramCommand, Request};
 use clap::{Arg, ArgMatches, Command, Error};
 use std::alloc::{AllocError, Global};
 use std::convert::AsStr;
@@ -13,6 +13,11 @@ const WORKLOAD: &str =
 
 const POLICY: &str =
     "A policy file in TOML: programs by callback, and maps, as docs/FILES.md has it";
+
+const FROM: &str = "The millisecond with which the part begins, from 0 on";
+
+const TO: &str =
+    "The millisecond with which it ends, greater than FROM and at most that of the run's end";
 
 const CASES: &str = "Files of cases, as docs/CASES.md has them";
 
@@ -44,13 +49,30 @@ fn request_of<'a>(name: &str, command: &ArgMatches<'a>) -> Option<Request<'a>> {
             command: of,
             path: command.get_str("POLICY")?,
         }),
-        Kind::Run(account) => Some(Request::Run {
-            account,
-            policy: command.get_str("POLICY")?,
-            workload: command.get_str("WORKLOAD")?,
-        }),
+        Kind::Run(account) => run_of(account, command, None),
+        Kind::Part(account) => run_of(account, command, Some(part_of(command)?)),
         Kind::Cases => Some(Request::Cases),
     }
+}
+
+fn run_of<'a>(
+    account: Account,
+    command: &ArgMatches<'a>,
+    part: Option<Part<'a>>,
+) -> Option<Request<'a>> {
+    Some(Request::Run {
+        account,
+        policy: command.get_str("POLICY")?,
+        workload: command.get_str("WORKLOAD")?,
+        part,
+    })
+}
+
+fn part_of<'a>(command: &ArgMatches<'a>) -> Option<Part<'a>> {
+    Some(Part {
+        from: command.get_str("FROM")?,
+        to: command.get_str("TO")?,
+    })
 }
 
 fn form_named(name: &str) -> Option<&'static Form> {
@@ -94,9 +116,10 @@ fn command_of<'a>(alloc: Global, form: &Form) -> Result<Command<'a>, AllocError>
         .about(form.about)
         .after_help(form.example);
     match form.kind {
-        Kind::Program(of) => with_file(alloc, command, "FILE", contents_of(of)),
-        Kind::Policy(_) => with_file(alloc, command, "POLICY", POLICY),
+        Kind::Program(of) => with_word(alloc, command, "FILE", contents_of(of)),
+        Kind::Policy(_) => with_word(alloc, command, "POLICY", POLICY),
         Kind::Run(_) => with_run(alloc, command),
+        Kind::Part(_) => with_part(alloc, command),
         Kind::Cases => with_cases(alloc, command),
     }
 }
@@ -111,8 +134,15 @@ fn contents_of(command: ProgramCommand) -> &'static str {
 
 /// The command, which reads a policy file and a workload file.
 fn with_run<'a>(alloc: Global, command: Command<'a>) -> Result<Command<'a>, AllocError> {
-    let command = with_file(alloc, command, "POLICY", POLICY)?;
-    with_file(alloc, command, "WORKLOAD", WORKLOAD)
+    let command = with_word(alloc, command, "POLICY", POLICY)?;
+    with_word(alloc, command, "WORKLOAD", WORKLOAD)
+}
+
+/// The command, which reads the same, and the words that name a part of the run.
+fn with_part<'a>(alloc: Global, command: Command<'a>) -> Result<Command<'a>, AllocError> {
+    let command = with_run(alloc, command)?;
+    let command = with_word(alloc, command, "FROM", FROM)?;
+    with_word(alloc, command, "TO", TO)
 }
 
 /// The command, which reads files of cases, one or more.
@@ -125,8 +155,8 @@ fn with_cases<'a>(alloc: Global, command: Command<'a>) -> Result<Command<'a>, Al
     )
 }
 
-/// The command, which reads one file more.
-fn with_file<'a>(
+/// The command, which reads one word more.
+fn with_word<'a>(
     alloc: Global,
     command: Command<'a>,
     name: &'a str,

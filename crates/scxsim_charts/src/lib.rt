@@ -1,0 +1,20 @@
+//! The chart of a run for a terminal: a line of characters for each processor and each task, 100 columns of plain
+//! ASCII. A character stands for some time, of which sums are kept as the run goes; the lines are written once it
+//! is over.
+#![tactic(auto)]
+
+mod ejections;
+mod gathering;
+mod grids;
+mod marks;
+mod places;
+mod rows;
+mod scales;
+mod telling;
+mod titles;
+mod windows;
+mod writing;
+
+pub use telling::gantt;
+pub use titles::title;
+pub use windows::Span;

@@ -1,0 +1,103 @@
+ghost use Rattle.std.specs.Prelude.{◌≡◌, ◌⊎◌, ℕ, List, true, Err, IfOk, IfErr, OnOk, OnErr};
+ghost use Rattle.std.specs.Io.KnownBytes.{Appends};
+ghost use Rattle.scxsim_output.specs.Output.{HasFailed};
+ghost use Rattle.scxsim_commands.specs.Outcome.{IfRefused, IsRefused};
+ghost use Rattle.scxsim_commands.specs.declared.refusal.Refusal.TheVariants.{NoMemory};
+ghost use Rattle.scxsim_charts.specs.Windows.{IsBadSpan};
+ghost use Rattle.scxsim_charts.specs.Charts.{chart, IsChartCause};
+
+use crate::gathering::{Chart, gather};
+use crate::scales::Scale;
+use crate::windows::{Span, Window};
+use crate::writing::write_chart;
+use scxsim_commands::{Fault, Refusal};
+use scxsim_output::{Failed, Out, write_all};
+use scxsim_simulation::{Listener, Run, prepare};
+use std::alloc::{AllocError, Global};
+
+/// Writes the chart of the run that the texts of a policy file and of a workload file stand for, or of a part of
+/// it. The answer is true.
+///
+/// # Errors
+///
+/// The texts or the words of the part are refused, or memory runs out, and then nothing is written, or writing
+/// the chart fails.
+pub fn gantt<L: Listener, W: Out>(
+    alloc: Global,
+    title: &str,
+    policy: &str,
+    workload: &str,
+    span: Option<Span<'_>>,
+    listener: &mut L,
+    out: &mut W,
+) -> Result<bool, Fault>
+    ensures done { IfOk result (λ answer. (answer ≡ true) × (lines : List ℕ)
+        × Appends (W.contents out.old) (W.contents out.new) (chart title.now lines)) }
+    ensures unfailed { OnOk result (W.failure_count out.new ≡ W.failure_count out.old) }
+
+    // A refusal has its cause in the texts or in the words, and comes before any byte is written.
+    ensures refused { IfRefused result (IsChartCause policy.now workload.now span.entry) }
+    ensures quiet { IsRefused result → out.new ≡ out.old }
+    ensures counted { result ≡ Err Fault.WriteFailed
+        → HasFailed (W.failure_count out.old) (W.failure_count out.new) }
+{
+    let lines = lines_of(alloc, policy, workload, span, listener)?;
+    write_lines(title, lines.as_str(), out)?;
+    Ok(true)
+}
+
+/// Writes the title of a chart, and then its lines.
+fn write_lines<W: Out>(title: &str, lines: &str, out: &mut W) -> Result<(), Failed>
+    ensures ok { OnOk result
+        (Appends (W.contents out.old) (W.contents out.new) (chart title.now lines.now)) }
+    ensures ok_failures { OnOk result (W.failure_count out.new ≡ W.failure_count out.old) }
+    ensures err_failures { OnErr result
+        (HasFailed (W.failure_count out.old) (W.failure_count out.new)) }
+{
+    write_all(out, title.as_bytes())?;
+    write_all(out, b": ")?;
+    write_all(out, lines.as_bytes())
+}
+
+/// The lines of the chart of a run. All memory is taken before the first byte is written.
+#[tactic(auto, using(crate::proofs::Refusing::cause_of_run))]
+fn lines_of<L: Listener>(
+    alloc: Global,
+    policy: &str,
+    workload: &str,
+    span: Option<Span<'_>>,
+    listener: &mut L,
+) -> Result<String, Refusal>
+    ensures { IfErr result (IsChartCause policy.now workload.now span.entry) }
+{
+    let run = prepare(alloc, policy, workload)?;
+    lines_of_run(alloc, run, span, listener)
+}
+
+/// The lines of the chart of this run, or of a part of it.
+fn lines_of_run<L: Listener>(
+    alloc: Global,
+    run: Run,
+    span: Option<Span<'_>>,
+    listener: &mut L,
+) -> Result<String, Refusal>
+    ensures { IfErr result
+        (λ refusal. (refusal ≡ NoMemory) ⊎ IsBadSpan run.workload.ms span.entry refusal) }
+{
+    match Window::of(span, run.workload.ms()) {
+        Ok(window) => {
+            let chart = gather(alloc, run, Scale::new(window), listener)?;
+            Ok(lines_of_chart(alloc, &chart)?)
+        }
+        Err(refusal) => {
+            drop(run);
+            Err(refusal)
+        }
+    }
+}
+
+fn lines_of_chart(alloc: Global, chart: &Chart) -> Result<String, AllocError> {
+    let mut lines = String::new(alloc);
+    write_chart(chart, &mut lines)?;
+    Ok(lines)
+}

@@ -1,0 +1,51 @@
+use std::alloc::{AllocError, Global};
+
+/// How many characters of a file's name a title has, at most.
+const MOST: usize = 23;
+
+/// The title of a chart: the names of its two files.
+///
+/// Of each it has the last part of the path without `.toml`, at most 23 characters, and `?` for all that isn't
+/// plain ASCII.
+///
+/// # Errors
+///
+/// Memory ran out.
+pub fn title(alloc: Global, policy: &str, workload: &str) -> Result<String, AllocError> {
+    let mut title = String::new(alloc);
+    push_title(&mut title, policy, workload)?;
+    Ok(title)
+}
+
+fn push_title(title: &mut String, policy: &str, workload: &str) -> Result<(), AllocError> {
+    push_name(title, policy)?;
+    title.push_str(" on ")?;
+    push_name(title, workload)
+}
+
+fn push_name(title: &mut String, path: &str) -> Result<(), AllocError> {
+    for letter in base_of(path).chars().take(MOST) {
+        title.push(plain(letter))?;
+    }
+    Ok(())
+}
+
+/// The last part of a path, without `.toml`.
+fn base_of(path: &str) -> &str {
+    let base = match path.rsplit_once('/') {
+        Some((_, base)) => base,
+        None => path,
+    };
+    match base.strip_suffix(".toml") {
+        Some(name) => name,
+        None => base,
+    }
+}
+
+fn plain(letter: char) -> char {
+    if letter.is_ascii_graphic() || letter == ' ' {
+        letter
+    } else {
+        '?'
+    }
+}
