@@ -1,0 +1,68 @@
+"""Comparisons as one page that a browser opens: tables, charts, and pictures of the runs."""
+
+from base64 import b64encode
+from html import escape
+
+from scxlab.charts import shares_chart, waits_chart
+from scxlab.compare import MEASURES
+
+STYLE = """
+body { font-family: sans-serif; margin: 2em auto; max-width: 90em; color: #111; }
+table { border-collapse: collapse; margin: 0.5em 0 1.5em; }
+th, td { border: 1px solid #bbb; padding: 0.25em 0.7em; text-align: right; }
+th:first-child { text-align: left; }
+td.best { font-weight: bold; background: #eee; }
+figure { margin: 0 0 1em; }
+.beside { display: grid; grid-template-columns: 1fr 1fr; gap: 1em; }
+.beside img { width: 100%; }
+"""
+
+
+def page(comparisons):
+    """The page; everything that it shows stands in it."""
+    parts = [part for comparison in comparisons for part in parts_of(comparison)]
+    return ('<!DOCTYPE html>\n<html lang="en"><head><meta charset="utf-8"><title>Policies compared</title>\n'
+            f"<style>{STYLE}</style></head><body>\n<h1>Policies compared</h1>\n" + "\n".join(parts) + "\n</body></html>\n")
+
+
+def parts_of(comparison):
+    runs = comparison.runs
+    yield f"<h2>{escape(comparison.workload)}</h2>"
+    states = [(name, one.state) for name, one in runs.items()] + list(comparison.refused.items())
+    yield "<ul>" + "".join(f"<li>{escape(name)}: {escape(state)}</li>" for name, state in states) + "</ul>"
+    if not runs:
+        return
+    yield from (table_of(comparison, measure) for measure in MEASURES)
+    yield image(waits_chart(runs), "Waits: which part was no longer than a length")
+    yield image(shares_chart(runs), "Shares of groups, each beside what was due (dotted)")
+    yield "<h3>Runs, on one scale</h3>"
+    pictures = "".join(image(one.picture, name) for name, one in runs.items())
+    yield f'<div class="beside">{pictures}</div>'
+
+
+def table_of(comparison, measure):
+    """A table of one figure; the best is bold and has a star."""
+    mine = comparison.table[comparison.table.figure == measure.figure]
+    if not mine.value.notna().any():
+        return ""
+    head = "".join(f"<th>{escape(name)}</th>" for name in comparison.runs)
+    rows = "".join(f"<tr><th>{escape(name)}</th>{''.join(map(cell, group.itertuples()))}</tr>"
+                   for name, group in mine.groupby("name", sort=False))
+    return (f"<h3>{escape(measure.title)}</h3>\n<table><tr><th>{escape(measure.kind)}</th>{head}</tr>\n{rows}</table>")
+
+
+def cell(row):
+    if row.value != row.value:
+        return "<td>&ndash;</td>"
+    due = f" of {row.due:.2f}" if row.due is not None and row.due == row.due else ""
+    times = f" <small>({row.ratio:.2f}&times;)</small>" if row.ratio == row.ratio else ""
+    star, style = (" *", ' class="best"') if row.best else ("", "")
+    return f"<td{style}>{f'{row.value:.2f}'.removesuffix('.00')}{due}{star}{times}</td>"
+
+
+def image(svg, caption):
+    """A picture of its own, so that names within two of them don't meet."""
+    data = b64encode(svg.encode()).decode()
+    caption = escape(caption)
+    return (f'<figure><img src="data:image/svg+xml;base64,{data}" alt="{caption}">'
+            f"<figcaption>{caption}</figcaption></figure>")
