@@ -1,7 +1,9 @@
 """The command scxlab."""
 
 import argparse
+import os
 import sys
+from functools import partial
 from pathlib import Path
 
 import pandas
@@ -23,6 +25,42 @@ def compare_command(words):
     return 1 if any(one.refused for one in found) else 0
 
 
+def sweep_command(words):
+    from scxlab.clusters import client_of
+    from scxlab.experiment import read_experiment
+    from scxlab.program import find_program
+    from scxlab.store import Store
+    from scxlab.sweep import Progress, plan, sweep, table
+
+    experiment, program = read_experiment(words.experiment), find_program(words.program)
+    path = words.results or Path(words.experiment).with_suffix(".sqlite")
+    store = Store(path)
+    planned = plan(experiment, program, store)
+    try:
+        client = partial(client_of, words.local, words.scheduler)
+        outcome = sweep(planned, program, store, client, Progress())
+    except KeyboardInterrupt:
+        print(f"scxlab: interrupted; what was done is kept in {path}", file=sys.stderr)
+        return 130
+    rows = table(planned, store)
+    if words.csv:
+        rows.to_csv(words.csv, index=False)
+    print(f"{experiment.size} points, {outcome.due} runs were due, {outcome.done} done; results in {path}")
+    print(rows.drop(columns="key").to_string(max_rows=20))
+    return tell_faults(rows, outcome)
+
+
+def tell_faults(rows, outcome):
+    """Names what was refused and what failed, once each, and answers the status."""
+    refused = rows[rows.state.str.startswith("refused")]
+    for told, group in refused.groupby("state"):
+        print(f"scxlab: {told} ({len(group)} points)", file=sys.stderr)
+    for told in dict.fromkeys(outcome.faults):
+        print(f"scxlab: {outcome.faults.count(told)} batches failed: {told}; call the sweep again to do them",
+              file=sys.stderr)
+    return 1 if len(refused) or outcome.faults else 0
+
+
 def parser():
     top = argparse.ArgumentParser(prog="scxlab", description="Experiments with scheduling policies under scxsim.")
     top.add_argument("--program", help="the program scxsim, where it isn't that of this repository")
@@ -33,6 +71,14 @@ def parser():
     one.add_argument("--csv", metavar="F", help="write the table to this file")
     one.add_argument("--html", metavar="F", help="write a page with tables, charts and pictures to this file")
     one.set_defaults(do=compare_command)
+    one = commands.add_parser("sweep", help="runs all points of an experiment that weren't run yet")
+    one.add_argument("experiment", metavar="EXPERIMENT", help="a TOML file, as docs/LAB.md has it")
+    where = one.add_mutually_exclusive_group()
+    where.add_argument("--local", type=int, metavar="N", help="on so many processors of this machine; all, if none is given")
+    where.add_argument("--scheduler", metavar="ADDRESS", help="on the workers of a running dask cluster")
+    one.add_argument("--results", metavar="F", help="the SQLite file of results; the experiment's name if none is given")
+    one.add_argument("--csv", metavar="F", help="write the table to this file")
+    one.set_defaults(do=sweep_command)
     return top
 
 
@@ -40,9 +86,13 @@ def main(arguments=None):
     """Answers the status: 0 done, 1 something was refused, 2 wrong words."""
     words = parser().parse_args(arguments)
     try:
-        return words.do(words)
+        status = words.do(words)
+        sys.stdout.flush()
+        return status
     except LabError as error:
         print(f"scxlab: {error}", file=sys.stderr)
+    except BrokenPipeError:
+        os.dup2(os.open(os.devnull, os.O_WRONLY), sys.stdout.fileno())
     except OSError as error:
         print(f"scxlab: {error.filename}: {error.strerror}", file=sys.stderr)
     return 1

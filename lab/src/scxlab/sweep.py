@@ -1,0 +1,130 @@
+"""Sweeps: all points of an experiment are run by workers of dask, and kept as they come."""
+
+import sys
+import time
+from dataclasses import dataclass, field
+from itertools import islice
+
+import pandas
+
+from scxlab.errors import LabError
+from scxlab.experiment import Experiment
+from scxlab.figures import values_of
+from scxlab.store import key_of
+from scxlab.work import Job, run_batch
+
+BATCH = 25
+IN_FLIGHT = 64
+
+
+@dataclass
+class Outcome:
+    """How many runs there were to do, how many of them were done, and what went wrong with batches."""
+
+    due: int = 0
+    done: int = 0
+    faults: list = field(default_factory=list)
+
+
+@dataclass
+class Plan:
+    """The points of an experiment, each as a policy, its parameters and the key of its run, and the jobs that are due."""
+
+    experiment: Experiment
+    points: list
+    due: list
+
+
+def wants_traces(experiment):
+    return any(figure.is_of_traces for figure in experiment.figures.values())
+
+
+def plan(experiment, program, store):
+    """All points of an experiment; due are the runs whose results aren't in the store yet, each once."""
+    there, traced, points, due = store.keys(), wants_traces(experiment), [], {}
+    for policy, values in experiment.points():
+        texts = experiment.texts(policy, values)
+        key = key_of(program.hash, *texts, traced)
+        points.append((policy, values, key))
+        if key not in there and key not in due:
+            due[key] = Job(key, *texts)
+    return Plan(experiment, points, list(due.values()))
+
+
+def sweep(planned, program, store, client, tell=lambda done, due: None):
+    """Does each run that is due, and keeps it in the store. `client` makes a client of dask, and is called only where
+    there is something to do."""
+    outcome = Outcome(due=len(planned.due))
+    if not planned.due:
+        return outcome
+    with client() as workers:
+        traced = wants_traces(planned.experiment)
+        for results in batches_done(workers, program, planned.due, traced, outcome.faults):
+            store.add(program.hash, results)
+            outcome.done += len(results)
+            tell(outcome.done, outcome.due)
+    return outcome
+
+
+def batches_done(client, program, jobs, traced, faults):
+    """The results of batches as they come. What a batch fails of is added to the faults, and the others go on."""
+    from distributed import as_completed
+
+    waiting = (jobs[at : at + BATCH] for at in range(0, len(jobs), BATCH))
+
+    def submit(batch):
+        return client.submit(run_batch, program.path, program.hash, batch, traced, pure=False)
+
+    coming = as_completed(submit(batch) for batch in islice(waiting, IN_FLIGHT))
+    for future in coming:
+        if future.status == "finished":
+            yield future.result()
+        else:
+            faults.append(fault_of(future.exception()))
+        for batch in islice(waiting, 1):
+            coming.add(submit(batch))
+
+
+def fault_of(error):
+    from distributed.scheduler import KilledWorker
+
+    if isinstance(error, KilledWorker):
+        return "several workers ended while they did the same batch"
+    return str(error) or type(error).__name__
+
+
+def table(planned, store):
+    """A line for each point that was run: its parameters, what became of the policy, the figures, and the key."""
+    figures, rows, lacking = planned.experiment.figures, [], set(planned.experiment.figures)
+    for policy, values, key in planned.points:
+        kept = store.get(key)
+        if kept is None:
+            continue
+        state, text = kept
+        own = values_of(text) if text else {}
+        lacking -= {name for name, figure in figures.items() if not text or figure.matches(own)}
+        of_figures = {name: figure.value(own) for name, figure in figures.items()}
+        rows.append({"policy": policy, **values, "state": state, **of_figures, "key": key})
+    for name in sorted(lacking if rows else []):
+        raise LabError(f"figures.{name}: no run has {figures[name].text}")
+    columns = ["policy", *planned.experiment.parameters, "state", *figures, "key"]
+    return pandas.DataFrame(rows, columns=columns)
+
+
+class Progress:
+    """Says on a terminal how far a sweep is, and how long it still takes."""
+
+    def __init__(self, stream=sys.stderr):
+        self.stream, self.begin = stream, time.monotonic()
+
+    def __call__(self, done, due):
+        if not self.stream.isatty():
+            return
+        left = (time.monotonic() - self.begin) * (due - done) / done
+        bar = "#" * (30 * done // due)
+        self.stream.write(f"\rsweep: [{bar:30}] {100 * done // due} %, {left:.0f} s left   ")
+        if done == due:
+            self.stream.write("\r\x1b[K")
+        self.stream.flush()
+
+
