@@ -38,7 +38,7 @@ def sweep_command(words):
     planned = plan(experiment, program, store)
     try:
         client = partial(client_of, words.local, words.scheduler)
-        outcome = sweep(planned, program, store, client, Progress())
+        outcome = sweep(planned, program, store, client, Progress("sweep"))
     except KeyboardInterrupt:
         print(f"scxlab: interrupted; what was done is kept in {path}", file=sys.stderr)
         return 130
@@ -61,6 +61,24 @@ def tell_faults(rows, outcome):
     return 1 if len(refused) or outcome.faults else 0
 
 
+def search_command(words):
+    from scxlab.program import find_program
+    from scxlab.search import goal_of, report, search
+    from scxlab.sweep import Progress
+
+    goal, program = goal_of(words.goal), find_program(words.program)
+    if words.runs < 1:
+        raise LabError("--runs wants 1 or more")
+    found, space = search(program, words.policy, words.template, goal, words.runs, words.seed, Progress("search"))
+    text = report(found, space)
+    if words.output:
+        Path(words.output).write_text(text)
+        print("".join(line[2:] + "\n" for line in text.splitlines() if line.startswith("#")), end="")
+    else:
+        print(text, end="")
+    return 0
+
+
 def parser():
     top = argparse.ArgumentParser(prog="scxlab", description="Experiments with scheduling policies under scxsim.")
     top.add_argument("--program", help="the program scxsim, where it isn't that of this repository")
@@ -79,6 +97,14 @@ def parser():
     one.add_argument("--results", metavar="F", help="the SQLite file of results; the experiment's name if none is given")
     one.add_argument("--csv", metavar="F", help="write the table to this file")
     one.set_defaults(do=sweep_command)
+    one = commands.add_parser("search", help="looks for the workload of a template under which a policy is worst")
+    one.add_argument("policy", metavar="POLICY", help="a policy file")
+    one.add_argument("template", metavar="TEMPLATE", help="a workload in which numbers may be ranges [least, greatest]")
+    one.add_argument("--goal", required=True, metavar="G", help="max or min, and a figure: 'max longest_wait_ms(a)'")
+    one.add_argument("--runs", type=int, default=1000, metavar="N", help="look at so many workloads, then shrink; 1000")
+    one.add_argument("--seed", type=int, default=0, metavar="N", help="the same seed finds the same; 0")
+    one.add_argument("--output", metavar="F", help="write the workload to this file")
+    one.set_defaults(do=search_command)
     return top
 
 

@@ -112,17 +112,17 @@ def table(planned, store):
 
 
 class Progress:
-    """Says on a terminal how far a sweep is, and how long it still takes."""
+    """Says on a terminal how far something is, and how long it still takes."""
 
-    def __init__(self, stream=sys.stderr):
-        self.stream, self.begin = stream, time.monotonic()
+    def __init__(self, what, stream=None):
+        self.what, self.stream, self.begin = what, stream or sys.stderr, time.monotonic()
 
     def __call__(self, done, due):
         if not self.stream.isatty():
             return
         left = (time.monotonic() - self.begin) * (due - done) / done
         bar = "#" * (30 * done // due)
-        self.stream.write(f"\rsweep: [{bar:30}] {100 * done // due} %, {left:.0f} s left   ")
+        self.stream.write(f"\r{self.what}: [{bar:30}] {100 * done // due} %, {left:.0f} s left   ")
         if done == due:
             self.stream.write("\r\x1b[K")
         self.stream.flush()
