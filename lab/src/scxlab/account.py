@@ -18,17 +18,27 @@ def ran_between(slices, begin, end):
     return ran.assign(within=length)[length > 0].groupby(["cpu", "task"]).within.sum()
 
 
+def shown_between(one, wait):
+    """From which millisecond of the picture on to which the wait is shown: what comes of a tick stands at its end."""
+    mine = one.slices[one.slices.task == wait.task]
+    began = int(wait.since_ms)
+    if ((mine.since_ms <= began) & (began < mine.since_ms + mine.length_ms)).any():
+        began += 1
+    later = mine.since_ms[mine.since_ms >= began]
+    return began, int(later.min()) if len(later) else one.plan["ms"]
+
+
 def account_of(one, pattern):
     """Lines that say of the longest wait when it was, and what each processor did meanwhile."""
     wait = longest_wait(one, pattern)
     if wait is None or not wait.wait_ms:
         return []
-    begin, length = int(wait.since_ms), int(wait.wait_ms)
-    ran = ran_between(one.slices, begin, begin + length)
-    lines = [f"{wait.task} waited from {begin} ms on for {length} ms. Meanwhile:"]
+    begin, end = shown_between(one, wait)
+    ran = ran_between(one.slices, begin, end)
+    lines = [f"{wait.task} waited for {wait.wait_ms} ms by the clock, in the picture from {begin} to {end}. Meanwhile:"]
     for cpu in range(one.plan["cpus"]):
-        of_cpu = ran[cpu] if cpu in ran.index.get_level_values(0) else {}
-        told = [f"{task} ran {ms} ms" for task, ms in of_cpu.items()]
-        idle = length - sum(of_cpu.values if len(of_cpu) else [])
-        lines.append(f"  cpu {cpu}: " + ", ".join(told + ([f"idle {idle} ms"] if idle else [])))
+        of_cpu = dict(ran[cpu]) if cpu in ran.index.get_level_values(0) else {}
+        idle = end - begin - sum(of_cpu.values())
+        told = [f"{task} ran {ms} ms" for task, ms in of_cpu.items()] + ([f"idle {idle} ms"] if idle else [])
+        lines.append(f"  cpu {cpu}: " + ", ".join(told))
     return lines

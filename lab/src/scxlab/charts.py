@@ -52,9 +52,10 @@ def waits_chart(runs):
         axes.set_xlabel("length of a wait, ms")
         axes.set_ylabel("waits no longer, %")
         axes.grid(color="#dddddd")
-        axes.legend(loc="lower right")
+        if any(len(one.waits) for one in runs.values()):
+            axes.legend(loc="upper left", bbox_to_anchor=(1.01, 1))
 
-    return svg_of(draw, 7, 4)
+    return svg_of(draw, 8, 4)
 
 
 def shares_chart(runs):

@@ -79,6 +79,14 @@ def search_command(words):
     return 0
 
 
+def check_command(words):
+    import pytest
+
+    if words.program:
+        os.environ["SCXSIM"] = words.program
+    return int(pytest.main(["-p", "scxlab.plugin", "-W", "ignore::pytest.PytestAssertRewriteWarning", *words.options, *words.files]))
+
+
 def parser():
     top = argparse.ArgumentParser(prog="scxlab", description="Experiments with scheduling policies under scxsim.")
     top.add_argument("--program", help="the program scxsim, where it isn't that of this repository")
@@ -105,6 +113,10 @@ def parser():
     one.add_argument("--seed", type=int, default=0, metavar="N", help="the same seed finds the same; 0")
     one.add_argument("--output", metavar="F", help="write the workload to this file")
     one.set_defaults(do=search_command)
+    one = commands.add_parser("check", help="tests whether policies do what files of checks say, by pytest")
+    one.add_argument("files", nargs="+", metavar="FILE", help="a TOML file of policies, workloads and what must hold")
+    one.add_argument("--options", nargs=argparse.REMAINDER, default=[], metavar="O", help="what follows goes to pytest")
+    one.set_defaults(do=check_command)
     return top
 
 

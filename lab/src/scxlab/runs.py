@@ -28,7 +28,10 @@ class Run:
     def plan(self):
         """The workload as its file has it."""
         self.state  # a file that is no workload is refused by the program, with its place
-        return tomllib.loads(Path(self.workload).read_text())
+        try:
+            return tomllib.loads(Path(self.workload).read_text())
+        except tomllib.TOMLDecodeError as error:
+            raise LabError(f"{self.workload}: Python reads TOML 1.0 alone: {error}") from error
 
     @cached_property
     def state(self):
