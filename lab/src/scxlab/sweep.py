@@ -7,6 +7,7 @@ from itertools import islice
 
 import pandas
 
+from scxlab.compare import names_of
 from scxlab.errors import LabError
 from scxlab.experiment import Experiment
 from scxlab.figures import values_of
@@ -96,6 +97,7 @@ def fault_of(error):
 def table(planned, store):
     """A line for each point that was run: its parameters, what became of the policy, the figures, and the key."""
     figures, rows, lacking = planned.experiment.figures, [], set(planned.experiment.figures)
+    names = dict(zip(planned.experiment.policies, names_of(list(planned.experiment.policies))))
     for policy, values, key in planned.points:
         kept = store.get(key)
         if kept is None:
@@ -104,7 +106,7 @@ def table(planned, store):
         own = values_of(text) if text else {}
         lacking -= {name for name, figure in figures.items() if not text or figure.matches(own)}
         of_figures = {name: figure.value(own) for name, figure in figures.items()}
-        rows.append({"policy": policy, **values, "state": state, **of_figures, "key": key})
+        rows.append({"policy": names[policy], **values, "state": state, **of_figures, "key": key})
     for name in sorted(lacking if rows else []):
         raise LabError(f"figures.{name}: no run has {figures[name].text}")
     columns = ["policy", *planned.experiment.parameters, "state", *figures, "key"]
