@@ -79,6 +79,18 @@ def search_command(words):
     return 0
 
 
+def fit_command(words):
+    from scxlab.fit import fit
+
+    text = fit(words.timeline, words.groups)
+    if words.output:
+        Path(words.output).write_text(text)
+        print("".join(line[2:] + "\n" for line in text.splitlines() if line.startswith("#")), end="")
+    else:
+        print(text, end="")
+    return 0
+
+
 def check_command(words):
     import pytest
 
@@ -113,6 +125,11 @@ def parser():
     one.add_argument("--seed", type=int, default=0, metavar="N", help="the same seed finds the same; 0")
     one.add_argument("--output", metavar="F", help="write the workload to this file")
     one.set_defaults(do=search_command)
+    one = commands.add_parser("fit", help="makes a workload of a timeline, and says what was lost")
+    one.add_argument("timeline", metavar="TIMELINE", help="what `scxsim timeline` wrote")
+    one.add_argument("--groups", metavar="W", help="take groups and changes of weights from this workload file")
+    one.add_argument("--output", metavar="F", help="write the workload to this file")
+    one.set_defaults(do=fit_command)
     one = commands.add_parser("check", help="tests whether policies do what files of checks say, by pytest")
     one.add_argument("files", nargs="+", metavar="FILE", help="a TOML file of policies, workloads and what must hold")
     one.add_argument("--options", nargs=argparse.REMAINDER, default=[], metavar="O", help="what follows goes to pytest")

@@ -97,9 +97,9 @@ def chosen(value, place, path, choose):
 def written(plan):
     """A workload as TOML: the numbers of its top, and then its tables."""
     lines = [f"{key} = {literal(value)}" for key, value in plan.items() if not is_array(value)]
-    for key, tables in plan.items():
-        for table in tables if is_array(value := plan[key]) and value else []:
-            lines += ["", f"[[{key}]]", *(f"{name} = {literal(value)}" for name, value in table.items())]
+    arrays = [(key, table) for key, value in plan.items() if is_array(value) for table in value]
+    for key, table in arrays:
+        lines += ["", f"[[{key}]]", *(f"{name} = {literal(value)}" for name, value in table.items())]
     return "\n".join(lines) + "\n"
 
 
