@@ -4,9 +4,14 @@ import os
 from pathlib import Path
 
 import pytest
+from hypothesis import settings
 
 TOP = Path(__file__).resolve().parent.parent.parent
 os.environ.setdefault("SCXSIM", str(TOP / "bin/scxsim"))
+
+# A machine that has other work may take long for one example.
+settings.register_profile("lab", deadline=None)
+settings.load_profile("lab")
 
 
 @pytest.fixture
