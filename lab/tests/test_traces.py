@@ -76,6 +76,6 @@ def test_slices_are_read_from_a_timeline():
 
 @pytest.mark.parametrize("percent, least", [(50, 3), (90, 8), (99, 9), (100, 9), (1, 1)])
 def test_percentiles_of_lengths_are_the_least_that_so_many_do_not_exceed(percent, least):
-    from scxlab.runs import part_of
+    from scxlab.traces import part_of
 
     assert part_of([1, 1, 2, 2, 3, 4, 5, 7, 8, 9], percent) == least

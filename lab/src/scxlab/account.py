@@ -1,6 +1,16 @@
-"""What happened during a wait: who ran meanwhile, and which processors were idle."""
+"""What happened in a run: what the program says of it, or what each processor did during the longest wait."""
 
 from fnmatch import fnmatchcase
+
+
+def account_of(one, figure=None):
+    """Lines that say why a run is as it is. An older program has no `why`: then, of a figure of waits, the longest
+    one with what each processor did meanwhile."""
+    if "why" in one.program.commands:
+        return one.why.splitlines()
+    if figure and "wait" in figure.figure:
+        return account_of_wait(one, longest_wait(one, figure.name))
+    return []
 
 
 def longest_wait(one, pattern):
@@ -11,11 +21,15 @@ def longest_wait(one, pattern):
     return mine.sort_values("wait_ms", ascending=False, kind="stable").iloc[0]
 
 
-def ran_between(slices, begin, end):
-    """For how many milliseconds each task ran on each processor from one millisecond on to another."""
-    ran = slices[slices.kind == "run"]
-    length = (ran.since_ms + ran.length_ms).clip(upper=end) - ran.since_ms.clip(lower=begin)
-    return ran.assign(within=length)[length > 0].groupby(["cpu", "task"]).within.sum()
+def account_of_wait(one, wait):
+    """Lines that say when a wait was, and what each processor did meanwhile."""
+    if wait is None or not wait.wait_ms:
+        return []
+    begin, end = shown_between(one, wait)
+    ran = ran_between(one.slices, begin, end)
+    when = f"{wait.wait_ms} ms by the clock, in the picture from {begin} to {end}"
+    return [f"{wait.task} waited for {when}. Meanwhile:",
+            *(f"  cpu {cpu}: {told_of(ran[ran.cpu == int(cpu)], end - begin)}" for cpu in one.names("cpu"))]
 
 
 def shown_between(one, wait):
@@ -28,17 +42,15 @@ def shown_between(one, wait):
     return began, int(later.min()) if len(later) else one.plan["ms"]
 
 
-def account_of(one, pattern):
-    """Lines that say of the longest wait when it was, and what each processor did meanwhile."""
-    wait = longest_wait(one, pattern)
-    if wait is None or not wait.wait_ms:
-        return []
-    begin, end = shown_between(one, wait)
-    ran = ran_between(one.slices, begin, end)
-    lines = [f"{wait.task} waited for {wait.wait_ms} ms by the clock, in the picture from {begin} to {end}. Meanwhile:"]
-    for cpu in range(one.plan["cpus"]):
-        of_cpu = dict(ran[cpu]) if cpu in ran.index.get_level_values(0) else {}
-        idle = end - begin - sum(of_cpu.values())
-        told = [f"{task} ran {ms} ms" for task, ms in of_cpu.items()] + ([f"idle {idle} ms"] if idle else [])
-        lines.append(f"  cpu {cpu}: " + ", ".join(told))
-    return lines
+def ran_between(slices, begin, end):
+    """For how many milliseconds each task ran on each processor from one millisecond on to another."""
+    ran = slices[slices.kind == "run"]
+    length = (ran.since_ms + ran.length_ms).clip(upper=end) - ran.since_ms.clip(lower=begin)
+    return ran.assign(ms=length)[length > 0].groupby(["cpu", "task"], as_index=False).ms.sum()
+
+
+def told_of(ran, length):
+    """What one processor did in so many milliseconds."""
+    idle = length - ran.ms.sum()
+    told = [f"{row.task} ran {row.ms} ms" for row in ran.itertuples()] + ([f"idle {idle} ms"] if idle else [])
+    return ", ".join(told)

@@ -27,6 +27,12 @@ def svg_of(draw, width, height):
     return target.getvalue()
 
 
+def line_style(number):
+    """How the line of a number is drawn; after six they begin anew."""
+    at = number % len(DASHES)
+    return {"color": GREYS[at], "linestyle": DASHES[at], "marker": MARKS[at], "markersize": 4, "fillstyle": "none"}
+
+
 def curve_of(waits):
     """How many percent of the waits were no longer than each length."""
     counts = waits.value_counts().sort_index().cumsum()
@@ -43,8 +49,7 @@ def waits_chart(runs):
         for number, (name, one) in enumerate(runs.items()):
             if len(one.waits):
                 lengths, parts = curve_of(one.waits.wait_ms)
-                axes.step([*lengths, greatest], [*parts, 100], where="post", label=name, color=GREYS[number % 6],
-                          linestyle=DASHES[number % 6], marker=MARKS[number % 6], markersize=4, fillstyle="none")
+                axes.step([*lengths, greatest], [*parts, 100], where="post", label=name, **line_style(number))
         axes.set_xscale("symlog", linthresh=1)
         axes.xaxis.set_major_formatter(ScalarFormatter())
         axes.set_xlim(-0.05, greatest * 1.1 + 1)
@@ -69,7 +74,7 @@ def shares_chart(runs):
         for number, name in enumerate(runs):
             at = [place - 0.4 + width * (2 * number + 0.5) for place in range(len(shares))]
             axes.bar(at, shares[name], width, label=name, color="#dddddd", edgecolor="black",
-                     hatch=HATCHES[number % 6])
+                     hatch=HATCHES[number % len(HATCHES)])
             axes.bar([place + width for place in at], dues[name], width, fill=False, edgecolor="black",
                      linestyle=":", label="due" if number == 0 else None)
         axes.set_xticks(range(len(shares)), shares.index)

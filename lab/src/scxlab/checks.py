@@ -89,9 +89,14 @@ def reading_of(line, folder, place):
     raise LabError(f"{place}: {line!r} says nothing that can be checked (docs/LAB.md, Check)")
 
 
+def failed(one, told, figure=None):
+    """What is told of a line that doesn't hold, with what happened in the run."""
+    return Failed("\n".join([told, *account_of(one, figure)]))
+
+
 def in_force(one):
     if one.state != "in force":
-        raise Failed(f"the policy was {one.state} ms")
+        raise failed(one, f"the policy was {one.state} ms")
 
 
 def all_values(one):
@@ -105,8 +110,7 @@ def within_bound(one, figure, order, bound):
         raise Failed(f"the run has no {figure.text}")
     value = figure.value(values)
     if not ORDERS[order](value, float(bound)):
-        told = account_of(one, figure.name) if "wait" in figure.figure else []
-        raise Failed("\n".join([f"{figure.text} is {value:g}, and the bound is {order} {bound}", *told]))
+        raise failed(one, f"{figure.text} is {value:g}, and the bound is {order} {bound}", figure)
 
 
 def share_within(one, group, most):
@@ -114,7 +118,7 @@ def share_within(one, group, most):
         raise Failed(f"the workload has no group {group}")
     share, due = one.groups.share_percent[group], one.groups.due_percent[group]
     if abs(share - due) > most:
-        raise Failed(f"share({group}) is {share:g} %, {due:g} % were due, and the bound is within {most:g}")
+        raise failed(one, f"share({group}) is {share:g} %, {due:g} % were due, and the bound is within {most:g}")
 
 
 def not_slower(one, path, percent):

@@ -1,11 +1,13 @@
 """Policies side by side: a table for each figure, with the best marked and the others as ratios to it."""
 
 from dataclasses import dataclass
+from math import isnan
 from pathlib import Path
 
 import pandas
 
 from scxlab.errors import LabError, Refused
+from scxlab.figures import NOTHING
 from scxlab.runs import run
 
 COLUMNS = ["workload", "figure", "name", "policy", "value", "due", "ratio", "best"]
@@ -55,29 +57,34 @@ def compare(policies, workload, program=None):
         raise LabError("a policy is given twice")
     runs, refused = {}, {}
     for name, policy in zip(names_of(policies), policies):
-        try:
-            one = run(policy, workload, program)
-            one.figures
+        one = run(policy, workload, program)
+        if refusal := refusal_of(one):
+            refused[name] = refusal
+        else:
             runs[name] = one
-        except Refused as refusal:
-            refused[name] = str(refusal)
     rows = [row for measure in MEASURES for row in rows_of(measure, runs)]
     table = pandas.DataFrame(rows, columns=COLUMNS[1:])
     table.insert(0, "workload", str(workload))
     return Comparison(str(workload), runs, refused, table)
 
 
+def refusal_of(one):
+    """What the program says where it refuses the run."""
+    try:
+        return None if one.stats else "no figures"
+    except Refused as refusal:
+        return str(refusal)
+
+
 def rows_of(measure, runs):
-    """The rows of one figure, name by name and policy by policy."""
-    values = {policy: one.figures[one.figures.figure == measure.figure].set_index("name").value
-              for policy, one in runs.items()}
-    dues = {policy: one.figures[one.figures.figure == "due_percent"].set_index("name").value
-            for policy, one in runs.items()} if measure.best == "due" else {}
-    names = list(dict.fromkeys(name for one in runs.values() for name in names_in(one, measure.kind)))
+    """The rows of one measure, name by name and policy by policy."""
+    values = {policy: column_of(one, measure.figure) for policy, one in runs.items()}
+    dues = {policy: column_of(one, "due_percent") for policy, one in runs.items()} if measure.best == "due" else {}
+    names = next(iter(runs.values())).names(measure.kind) if runs else []
     lawful = {policy for policy, one in runs.items() if one.state == "in force"}
     rows = []
     for name in names:
-        of_name = {policy: values[policy].get(name, float("nan")) for policy in runs}
+        of_name = {policy: values[policy].get(name, NOTHING) for policy in runs}
         due = {policy: dues[policy][name] for policy in dues}
         ratios, best = judged(of_name, due, measure.best, lawful)
         rows += [(measure.figure, name, policy, of_name[policy], due.get(policy), ratios[policy], policy in best)
@@ -85,24 +92,30 @@ def rows_of(measure, runs):
     return rows
 
 
-def names_in(one, kind):
-    if kind == "cpu":
-        return [str(cpu) for cpu in range(one.plan["cpus"])]
-    return [each["name"] for each in one.plan[kind]]
+def column_of(one, figure):
+    """The values of one figure by name."""
+    mine = one.figures[one.figures.figure == figure]
+    return dict(zip(mine.name, mine.value))
 
 
 def judged(values, due, best, lawful):
     """For each policy the ratio to the best value, or of a share to its due, and the policies that are best: none where
     all are alike. One that was ejected isn't among them, since the built-in scheduler has a part in its figures."""
-    distance = {policy: abs(value - due[policy]) if due else value * (-1 if best == "more" else 1)
-                for policy, value in values.items()}
-    known = {policy: distance[policy] for policy in lawful if values[policy] == values[policy]}
+    badness = {policy: badness_of(value, due.get(policy), best) for policy, value in values.items()}
+    known = {policy: badness[policy] for policy in lawful if not isnan(values[policy])}
     least = min(known.values(), default=None)
     chosen = {policy for policy, value in known.items() if value == least}
-    alike = len(set(distance.values())) == 1
-    against = due or dict.fromkeys(values, values[min(chosen)] if chosen else float("nan"))
+    against = due or dict.fromkeys(values, values[min(chosen)] if chosen else NOTHING)
     ratios = {policy: ratio(value, against[policy]) for policy, value in values.items()}
+    alike = len(set(badness.values())) == 1
     return ratios, set() if alike else chosen
+
+
+def badness_of(value, due, best):
+    """By what a value is judged: less is better."""
+    if best == "due":
+        return abs(value - due)
+    return -value if best == "more" else value
 
 
 def ratio(value, against):
@@ -134,9 +147,17 @@ def cells_of(mine, policies):
 
 
 def cell(row):
-    if row.value != row.value:
+    if isnan(row.value):
         return "-"
-    value = f"{row.value:.2f}".removesuffix(".00")
-    due = f" of {row.due:.2f}" if row.due == row.due and row.due is not None else ""
-    times = f"{row.ratio:.2f}x" if row.ratio == row.ratio else "-"
-    return f"{value}{due}{'*' if row.best else ' '} {times:>6}"
+    due = f" of {row.due:.2f}" if has_due(row) else ""
+    times = "-" if isnan(row.ratio) else f"{row.ratio:.2f}x"
+    return f"{shown(row.value)}{due}{'*' if row.best else ' '} {times:>6}"
+
+
+def has_due(row):
+    return row.due is not None and not isnan(row.due)
+
+
+def shown(value):
+    """A number with two places, or with none where these are 0."""
+    return f"{value:.2f}".removesuffix(".00")

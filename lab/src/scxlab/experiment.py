@@ -3,6 +3,7 @@
 import random
 import tomllib
 from dataclasses import dataclass
+from functools import lru_cache
 from itertools import product
 from math import prod
 from pathlib import Path
@@ -29,6 +30,11 @@ class Experiment:
     def size(self):
         return self.sample[0] if self.sample else prod(map(len, self._sides()))
 
+    @property
+    def wants_counted(self):
+        """Whether a figure is asked for that an older program lacks."""
+        return any(figure.is_counted for figure in self.figures.values())
+
     def _sides(self):
         return [list(self.policies), *self.parameters.values()]
 
@@ -48,8 +54,13 @@ class Experiment:
     def texts(self, policy, values):
         """The policy and the workload at a point."""
         workload = templates.filled(self.workload, values, self.workload_path)
-        return (templates.filled(self.policies[policy], values, policy),
-                templates.workload_of(workload, self.workload_path))
+        return templates.filled(self.policies[policy], values, policy), drawn(workload, self.workload_path)
+
+
+@lru_cache(maxsize=4096)
+def drawn(workload, path):
+    """The workload of a filled template. Points that differ in the policy alone share it."""
+    return templates.workload_of(workload, path)
 
 
 def combination(sides, number):
@@ -111,11 +122,16 @@ def values_of(value, place):
     if isinstance(value, list) and value and all(type(each) in (int, str) for each in value):
         return value
     keys = {"from", "to", "step"}
-    if isinstance(value, dict) and {"from", "to"} <= set(value) <= keys and all(type(each) is int for each in value.values()):
-        values = range(value["from"], value["to"] + 1, max(1, value.get("step", 1)))
-        if values and value.get("step", 1) > 0:
+    if isinstance(value, dict) and {"from", "to"} <= set(value) <= keys and whole_numbers(value.values()):
+        step = value.get("step", 1)
+        values = range(value["from"], value["to"] + 1, step) if step > 0 else ()
+        if values:
             return values
     raise LabError(f"{place}: is no list of numbers or texts, and no {{ from = 1, to = 9 }}")
+
+
+def whole_numbers(values):
+    return all(type(each) is int for each in values)
 
 
 def check_places(texts, parameters, path):
@@ -131,7 +147,7 @@ def sample_of(told, size, path):
     if "sample" not in told:
         return None
     sample = table_of(told, "sample", path)
-    if not {"runs"} <= set(sample) <= {"runs", "seed"} or not all(type(each) is int for each in sample.values()):
+    if not {"runs"} <= set(sample) <= {"runs", "seed"} or not whole_numbers(sample.values()):
         raise LabError(f"{path}: sample: has `runs`, and may have `seed`, both whole numbers")
     if not 1 <= sample["runs"] <= size:
         raise LabError(f"{path}: sample.runs: out of range, the grid has {size} points")

@@ -1,4 +1,5 @@
-"""Figures by name, as experiments and goals ask for them: `longest_wait_ms(a)`, `max mean_wait_ms(w*)`."""
+"""Figures: the lines of `stats-csv`, and single ones by name, as experiments and goals ask for them:
+`longest_wait_ms(a)`, `max mean_wait_ms(w*)`."""
 
 import csv
 import re
@@ -7,18 +8,24 @@ from fnmatch import fnmatchcase
 
 from scxlab.errors import LabError
 
+COLUMNS = ["kind", "name", "figure", "value"]
 OF_STATS = {
-    "task": ["run_ms", "waits", "mean_wait_ms", "wait_99_percent_ms", "longest_wait_ms", "longest_wait_since_ms", "wakes",
-             "stopped", "parked_ms"],
+    "task": ["run_ms", "waits", "mean_wait_ms", "wait_99_percent_ms", "longest_wait_ms", "longest_wait_since_ms",
+             "wakes", "stopped", "parked_ms"],
     "cpu": ["busy_ms", "idle_ms", "changes"],
     "group": ["share_percent", "due_percent", "quota_ms", "period_ms", "most_in_a_period_ms", "periods",
               "throttled_periods", "throttled_ms"],
+    "policy": ["ejected_at_ms"],
 }
-OF_TRACES = ["bursts", "mean_burst_ms", "burst_50_percent_ms", "burst_90_percent_ms", "burst_99_percent_ms",
-             "longest_burst_ms", "slowdown", "idle_while_waiting_ms"]
-KNOWN = [figure for figures in OF_STATS.values() for figure in figures] + OF_TRACES
+# Those that an older program lacks; they are then counted from its traces.
+COUNTED = ["bursts", "mean_burst_ms", "burst_50_percent_ms", "burst_90_percent_ms", "burst_99_percent_ms",
+           "longest_burst_ms", "slowdown", "idle_while_waiting_ms"]
+KNOWN = [figure for figures in OF_STATS.values() for figure in figures] + COUNTED
+
 OVER = {"max": max, "min": min, "sum": sum, "mean": lambda values: sum(values) / len(values)}
 FORM = re.compile(r"(?:(max|min|sum|mean) +)?([a-z0-9_]+)\(([a-z0-9_*?]+)\)")
+ENDED = re.compile(r"^policy,[^,]*,ended,(.+)$", re.M)
+EJECTED_AT = re.compile(r"^policy,[^,]*,ejected_at_ms,(.+)$", re.M)
 NOTHING = float("nan")
 
 
@@ -35,8 +42,8 @@ class Figure:
         return f"{self.over + ' ' if self.over else ''}{self.figure}({self.name})"
 
     @property
-    def is_of_traces(self):
-        return self.figure in OF_TRACES
+    def is_counted(self):
+        return self.figure in COUNTED
 
     def matches(self, values):
         return [value for (figure, name), value in values.items()
@@ -62,9 +69,29 @@ def figure_of(text):
     return Figure(*match.groups())
 
 
-def values_of(text):
-    """The values of the lines `kind,name,figure,value`, by figure and name."""
+def rows_of(text):
+    """The lines of `stats-csv` that hold numbers, as kind, name, figure and value. What is of the policy has the name
+    `policy`, whatever its file calls it."""
     rows = csv.reader(text.splitlines())
-    if next(rows, None) != ["kind", "name", "figure", "value"]:
-        raise LabError("the figures aren't of this version: their first line isn't kind,name,figure,value")
-    return {(figure, name): float(value) for _, name, figure, value in rows if value}
+    if next(rows, None) != COLUMNS:
+        raise LabError(f"the figures aren't of this version: their first line isn't {','.join(COLUMNS)}")
+    return [(kind, "policy" if kind == "policy" else name, figure, float(value))
+            for kind, name, figure, value in rows if figure != "ended"]
+
+
+def values_of(text):
+    """The values of the lines of `stats-csv`, by figure and name."""
+    return {(figure, name): value for _, name, figure, value in rows_of(text)}
+
+
+def state_of(text):
+    """What became of the policy, in the words of a report; None where the lines don't say it."""
+    ended = ENDED.search(text)
+    if not ended or ended[1] == "in force":
+        return ended and ended[1]
+    return f"ejected {ended[1]} at {EJECTED_AT.search(text)[1]}"
+
+
+def has_counted(text):
+    """Whether lines of `stats-csv` have the figures that an older program lacks."""
+    return ",bursts," in text

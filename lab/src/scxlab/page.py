@@ -2,9 +2,10 @@
 
 from base64 import b64encode
 from html import escape
+from math import isnan
 
 from scxlab.charts import shares_chart, waits_chart
-from scxlab.compare import MEASURES
+from scxlab.compare import MEASURES, has_due, shown
 
 STYLE = """
 body { font-family: sans-serif; margin: 2em auto; max-width: 90em; color: #111; }
@@ -48,16 +49,16 @@ def table_of(comparison, measure):
     head = "".join(f"<th>{escape(name)}</th>" for name in comparison.runs)
     rows = "".join(f"<tr><th>{escape(name)}</th>{''.join(map(cell, group.itertuples()))}</tr>"
                    for name, group in mine.groupby("name", sort=False))
-    return (f"<h3>{escape(measure.title)}</h3>\n<table><tr><th>{escape(measure.kind)}</th>{head}</tr>\n{rows}</table>")
+    return f"<h3>{escape(measure.title)}</h3>\n<table><tr><th>{escape(measure.kind)}</th>{head}</tr>\n{rows}</table>"
 
 
 def cell(row):
-    if row.value != row.value:
+    if isnan(row.value):
         return "<td>&ndash;</td>"
-    due = f" of {row.due:.2f}" if row.due is not None and row.due == row.due else ""
-    times = f" <small>({row.ratio:.2f}&times;)</small>" if row.ratio == row.ratio else ""
+    due = f" of {row.due:.2f}" if has_due(row) else ""
+    times = "" if isnan(row.ratio) else f" <small>({row.ratio:.2f}&times;)</small>"
     star, style = (" *", ' class="best"') if row.best else ("", "")
-    return f"<td{style}>{f'{row.value:.2f}'.removesuffix('.00')}{due}{star}{times}</td>"
+    return f"<td{style}>{shown(row.value)}{due}{star}{times}</td>"
 
 
 def image(svg, caption):

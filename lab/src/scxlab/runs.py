@@ -1,6 +1,5 @@
 """One run of a workload under a policy, as tables of pandas."""
 
-import io
 import tomllib
 from functools import cached_property
 from pathlib import Path
@@ -9,47 +8,66 @@ import pandas
 
 from scxlab import traces
 from scxlab.errors import LabError
+from scxlab.figures import COLUMNS, has_counted, rows_of, state_of
 from scxlab.program import find_program
-
-COLUMNS = ["kind", "name", "figure", "value"]
 
 
 class Run:
-    """A run of a workload file under a policy file. Each table is computed when it is first asked for; a file that the
+    """A run of a workload file under a policy file. Each part is computed when it is first asked for; a file that the
     program refuses raises `Refused` then."""
 
     def __init__(self, program, policy, workload):
         self.program, self.policy, self.workload = program, str(policy), str(workload)
 
-    def _call(self, command):
+    def _told(self, command):
         return self.program.call(command, self.policy, self.workload)
+
+    @cached_property
+    def stats(self):
+        """What `stats-csv` writes."""
+        return self._told("stats-csv")
+
+    @cached_property
+    def all_stats(self):
+        """The same, and behind it the figures of bursts and idle processors where the program has none."""
+        if has_counted(self.stats):
+            return self.stats
+        return self.stats + "".join(f"{kind},{name},{figure},{value}\n" for kind, name, figure, value in self.counted)
+
+    @cached_property
+    def state(self):
+        """`in force`, or for what and when the policy was ejected. Of an older program only `report` says it."""
+        return state_of(self.stats) or self._told("report").splitlines()[-1].removeprefix("policy ")
+
+    def names(self, kind):
+        """The names of its tasks, groups or processors, in the order of the workload."""
+        return list(dict.fromkeys(name for each, name, *_ in rows_of(self.stats) if each == kind))
 
     @cached_property
     def plan(self):
         """The workload as its file has it."""
-        self.state  # a file that is no workload is refused by the program, with its place
         try:
             return tomllib.loads(Path(self.workload).read_text())
-        except tomllib.TOMLDecodeError as error:
+        except (tomllib.TOMLDecodeError, UnicodeDecodeError) as error:
             raise LabError(f"{self.workload}: Python reads TOML 1.0 alone: {error}") from error
 
     @cached_property
-    def state(self):
-        """`in force`, or when and for what the policy was ejected."""
-        return self._call("report").splitlines()[-1].removeprefix("policy ")
-
-    @cached_property
     def trace(self):
-        return self._call("run")
+        return self._told("run")
 
     @cached_property
     def slices(self):
-        return traces.slices_of(self._call("timeline"))
+        return traces.slices_of(self._told("timeline"))
 
     @cached_property
     def picture(self):
         """The run as SVG."""
-        return self._call("picture")
+        return self._told("picture")
+
+    @cached_property
+    def why(self):
+        """What `why` says of the run, where the program has that command."""
+        return self._told("why")
 
     @cached_property
     def waits(self):
@@ -57,31 +75,36 @@ class Run:
 
     @cached_property
     def bursts(self):
-        return traces.bursts_of(self.trace, {task["name"]: task.get("run", 0) for task in self.plan["task"]})
+        trace = self.trace
+        return traces.bursts_of(trace, {task["name"]: task.get("run") for task in self.plan["task"]})
+
+    @cached_property
+    def counted(self):
+        """The figures of bursts and of idle processors, counted from trace and timeline: kind, name, figure, value."""
+        return self._counted_of_tasks() + self._counted_of_processors()
+
+    def _counted_of_tasks(self):
+        rows = []
+        for name in self.names("task"):
+            mine = self.bursts[self.bursts.task == name]
+            rows += [("task", name, figure, value) for figure, value in traces.figures_of_bursts(mine).items()]
+        return rows
+
+    def _counted_of_processors(self):
+        cpus = self.names("cpu")
+        lost, anywhere = traces.idle_while_waiting(self.trace, self.slices, len(cpus), self.plan["ms"])
+        rows = [("cpu", cpu, "idle_while_waiting_ms", value) for cpu, value in zip(cpus, lost)]
+        return [*rows, ("policy", "policy", "idle_while_waiting_ms", anywhere)]
 
     @cached_property
     def figures(self):
-        """Those of `stats-csv`, and behind them those of bursts and idle processors: a line each."""
-        own = pandas.read_csv(io.StringIO(self._call("stats-csv")), dtype={"name": str})
-        return pandas.concat([own, self._figures_of_bursts(), self._figures_of_idle()], ignore_index=True)
-
-    def _figures_of_bursts(self):
-        rows = []
-        for task in self.plan["task"]:
-            mine = self.bursts[self.bursts.task == task["name"]]
-            rows += [("task", task["name"], figure, value) for figure, value in figures_of_bursts(mine).items()]
-        return pandas.DataFrame(rows, columns=COLUMNS)
-
-    def _figures_of_idle(self):
-        lost, anywhere = traces.idle_while_waiting(self.trace, self.slices, self.plan["cpus"], self.plan["ms"])
-        rows = [("cpu", str(cpu), "idle_while_waiting_ms", value) for cpu, value in enumerate(lost)]
-        rows.append(("policy", "policy", "idle_while_waiting_ms", anywhere))
-        return pandas.DataFrame(rows, columns=COLUMNS)
+        """All figures: a row each, with its kind, name, figure and value."""
+        return pandas.DataFrame(rows_of(self.all_stats), columns=COLUMNS)
 
     def _table(self, kind):
         mine = self.figures[self.figures.kind == kind]
-        names, columns = mine.name.drop_duplicates(), mine.figure.drop_duplicates()
-        return mine.pivot(index="name", columns="figure", values="value").reindex(index=names, columns=columns)
+        table = mine.pivot(index="name", columns="figure", values="value")
+        return table.reindex(index=self.names(kind), columns=mine.figure.drop_duplicates())
 
     @property
     def tasks(self):
@@ -94,21 +117,6 @@ class Run:
     @property
     def groups(self):
         return self._table("group")
-
-
-def figures_of_bursts(bursts):
-    """How many bursts were finished, how long they took, and their length by what they had to run, on average."""
-    lengths = sorted(bursts.burst_ms)
-    if not lengths:
-        return {"bursts": 0}
-    figures = {"bursts": len(lengths), "mean_burst_ms": sum(lengths) / len(lengths)}
-    figures |= {f"burst_{part}_percent_ms": part_of(lengths, part) for part in (50, 90, 99)}
-    return figures | {"longest_burst_ms": lengths[-1], "slowdown": bursts.slowdown.mean()}
-
-
-def part_of(lengths, percent):
-    """The least length that at least this part of the sorted lengths doesn't exceed."""
-    return lengths[-(-len(lengths) * percent // 100) - 1]
 
 
 def run(policy, workload, program=None):

@@ -8,6 +8,7 @@ from pathlib import Path
 
 from scxlab import templates
 from scxlab.account import account_of
+from scxlab.compare import shown
 from scxlab.errors import LabError, Refused
 from scxlab.figures import Figure, figure_of, values_of
 from scxlab.runs import Run
@@ -85,11 +86,9 @@ class Space:
         self.file.write_text(text)
         one = Run(self.program, self.policy, self.file)
         try:
-            written = (one.figures.to_csv(index=False) if self.goal.figure.is_of_traces
-                       else self.program.call("stats-csv", self.policy, self.file))
+            values = values_of(one.all_stats if self.goal.figure.is_counted else one.stats)
         except Refused as refusal:
             return self.without(refusal)
-        values = values_of(written)
         found = self.goal.figure.matches(values)
         self.named |= bool(found)
         return self.goal.score(self.goal.figure.value(values)) if found else -inf
@@ -173,9 +172,8 @@ def report(found, space):
     space.file.write_text(found.text)
     one = Run(space.program, space.policy, space.file)
     value = space.goal.score(found.score)
-    lines = [f"{space.goal.text} is {value:.2f}".removesuffix(".00") + f" under {Path(space.policy).name}.",
+    lines = [f"{space.goal.text} is {shown(value)} under {Path(space.policy).name}.",
              f"The smallest of the worst that were found in {space.runs} runs of {Path(space.path).name}.",
              f"The policy is {one.state}." if one.state == "in force" else f"The policy was {one.state} ms."]
-    if "wait" in space.goal.figure.figure:
-        lines += account_of(one, space.goal.figure.name)
-    return "".join(f"# {line}\n" for line in lines) + found.text
+    lines += account_of(one, space.goal.figure)
+    return "".join(f"# {line}".rstrip() + "\n" for line in lines) + found.text

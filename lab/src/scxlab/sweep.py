@@ -3,6 +3,7 @@
 import sys
 import time
 from dataclasses import dataclass, field
+from functools import cache
 from itertools import islice
 
 import pandas
@@ -11,7 +12,7 @@ from scxlab.compare import names_of
 from scxlab.errors import LabError
 from scxlab.experiment import Experiment
 from scxlab.figures import values_of
-from scxlab.store import key_of
+from scxlab.store import hash_of, key_of
 from scxlab.work import Job, run_batch
 
 BATCH = 25
@@ -29,23 +30,20 @@ class Outcome:
 
 @dataclass
 class Plan:
-    """The points of an experiment, each as a policy, its parameters and the key of its run, and the jobs that are due."""
+    """The points of an experiment, each as a policy, its parameters and the key of its run, and the jobs that are
+    due."""
 
     experiment: Experiment
     points: list
     due: list
 
 
-def wants_traces(experiment):
-    return any(figure.is_of_traces for figure in experiment.figures.values())
-
-
 def plan(experiment, program, store):
     """All points of an experiment; due are the runs whose results aren't in the store yet, each once."""
-    there, traced, points, due = store.keys(), wants_traces(experiment), [], {}
+    there, points, due, hash_once = store.keys(experiment.wants_counted), [], {}, cache(hash_of)
     for policy, values in experiment.points():
         texts = experiment.texts(policy, values)
-        key = key_of(program.hash, *texts, traced)
+        key = key_of(program.hash, *map(hash_once, texts))
         points.append((policy, values, key))
         if key not in there and key not in due:
             due[key] = Job(key, *texts)
@@ -59,22 +57,22 @@ def sweep(planned, program, store, client, tell=lambda done, due: None):
     if not planned.due:
         return outcome
     with client() as workers:
-        traced = wants_traces(planned.experiment)
-        for results in batches_done(workers, program, planned.due, traced, outcome.faults):
+        for results in batches_done(workers, program, planned, outcome.faults):
             store.add(program.hash, results)
             outcome.done += len(results)
             tell(outcome.done, outcome.due)
     return outcome
 
 
-def batches_done(client, program, jobs, traced, faults):
+def batches_done(client, program, planned, faults):
     """The results of batches as they come. What a batch fails of is added to the faults, and the others go on."""
     from distributed import as_completed
 
+    jobs, counted = planned.due, planned.experiment.wants_counted
     waiting = (jobs[at : at + BATCH] for at in range(0, len(jobs), BATCH))
 
     def submit(batch):
-        return client.submit(run_batch, program.path, program.hash, batch, traced, pure=False)
+        return client.submit(run_batch, program.path, program.hash, batch, counted, pure=False)
 
     coming = as_completed(submit(batch) for batch in islice(waiting, IN_FLIGHT))
     for future in coming:
@@ -96,20 +94,20 @@ def fault_of(error):
 
 def table(planned, store):
     """A line for each point that was run: its parameters, what became of the policy, the figures, and the key."""
-    figures, rows, lacking = planned.experiment.figures, [], set(planned.experiment.figures)
-    names = dict(zip(planned.experiment.policies, names_of(list(planned.experiment.policies))))
+    experiment, rows, lacking = planned.experiment, [], set(planned.experiment.figures)
+    names = dict(zip(experiment.policies, names_of(list(experiment.policies))))
     for policy, values, key in planned.points:
         kept = store.get(key)
         if kept is None:
             continue
         state, text = kept
         own = values_of(text) if text else {}
-        lacking -= {name for name, figure in figures.items() if not text or figure.matches(own)}
-        of_figures = {name: figure.value(own) for name, figure in figures.items()}
+        lacking -= {name for name, figure in experiment.figures.items() if not text or figure.matches(own)}
+        of_figures = {name: figure.value(own) for name, figure in experiment.figures.items()}
         rows.append({"policy": names[policy], **values, "state": state, **of_figures, "key": key})
     for name in sorted(lacking if rows else []):
-        raise LabError(f"figures.{name}: no run has {figures[name].text}")
-    columns = ["policy", *planned.experiment.parameters, "state", *figures, "key"]
+        raise LabError(f"figures.{name}: no run has {experiment.figures[name].text}")
+    columns = ["policy", *experiment.parameters, "state", *experiment.figures, "key"]
     return pandas.DataFrame(rows, columns=columns)
 
 
@@ -128,5 +126,3 @@ class Progress:
         if done == due:
             self.stream.write("\r\x1b[K")
         self.stream.flush()
-
-

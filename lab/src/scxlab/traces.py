@@ -1,4 +1,4 @@
-"""What lines of a trace and slices of a timeline say of waits, bursts and idle processors."""
+"""What the lines of a trace and the slices of a timeline say of waits, bursts and idle processors."""
 
 import json
 
@@ -6,51 +6,81 @@ import numpy
 import pandas
 
 
-def waits_of(trace, ms):
-    """Each wait as the task, when it began and how long it was, by the clock, as `stats` counts them; in the order
-    in which they end."""
-    since, running, waits = {}, set(), []
-
-    def end(task, clock):
-        if task in since:
-            waits.append((task, since[task], clock - since.pop(task)))
-
+def lines_of(trace):
+    """Each line of a trace as the clock, the verb and the words behind it."""
     for line in trace.splitlines():
         clock, verb, *words = line.split()
-        clock, task = int(clock), words[0]
-        if verb == "wake":
-            since[task] = clock
-        elif verb == "insert" and words[1] == "parked":
-            end(task, clock)
-        elif verb == "insert":
-            since.setdefault(task, clock)
+        yield int(clock), verb, words
+
+
+class Waits:
+    """Waits as a trace begins and ends them, by the clock, as `stats` counts them."""
+
+    def __init__(self):
+        self.ended, self._since, self._running = [], {}, set()
+
+    def begin(self, task, clock):
+        self._since.setdefault(task, clock)
+
+    def end(self, task, clock):
+        if task in self._since:
+            self.ended.append((task, self._since[task], clock - self._since.pop(task)))
+
+    def line(self, clock, verb, words):
+        task = words[0]
+        if verb == "wake" or verb == "insert" and words[1] != "parked":
+            self.begin(task, clock)
+        elif verb == "stop" and task in self._running:
+            self._running.discard(task)
+            self.begin(task, clock)
         elif verb == "run":
-            running.add(task)
-            end(task, clock)
-        elif verb == "sleep":
-            running.discard(task)
-            end(task, clock)
-        elif verb == "stop" and task in running:
-            running.discard(task)
-            since[task] = clock
-    for task in list(since):
-        end(task, ms)
-    return pandas.DataFrame(waits, columns=["task", "since_ms", "wait_ms"])
+            self._running.add(task)
+            self.end(task, clock)
+        elif verb in ("sleep", "insert"):
+            self._running.discard(task)
+            self.end(task, clock)
+
+    def finish(self, clock):
+        for task in list(self._since):
+            self.end(task, clock)
+
+
+def waits_of(trace, ms):
+    """Each wait as its task, when it began and its length, in the order in which they end."""
+    waits = Waits()
+    for line in lines_of(trace):
+        waits.line(*line)
+    waits.finish(ms)
+    return pandas.DataFrame(waits.ended, columns=["task", "since_ms", "wait_ms"])
 
 
 def bursts_of(trace, run_of):
-    """Each finished burst: the task, when it woke, for how long until it slept, and that by what it had to run. A wake
-    comes as its millisecond begins, and a sleep as it ends."""
+    """Each finished burst: the task, when it woke, for how long until it slept, and that by what it had to run. A
+    wake comes as its millisecond begins, and a sleep as it ends."""
     woke, bursts = {}, []
-    for line in trace.splitlines():
-        clock, verb, *words = line.split()
+    for clock, verb, words in lines_of(trace):
+        task = words[0]
         if verb == "wake":
-            woke[words[0]] = int(clock)
+            woke[task] = clock
         elif verb == "sleep":
-            task = words[0]
-            length = int(clock) + 1 - woke[task]
+            length = clock + 1 - woke[task]
             bursts.append((task, woke[task], length, length / run_of[task]))
     return pandas.DataFrame(bursts, columns=["task", "wake_ms", "burst_ms", "slowdown"])
+
+
+def figures_of_bursts(bursts):
+    """How many bursts were finished, how long they took, and their length by what they had to run, on average."""
+    lengths = sorted(bursts.burst_ms)
+    if not lengths:
+        return {"bursts": 0}
+    figures = {"bursts": len(lengths), "mean_burst_ms": sum(lengths) / len(lengths)}
+    figures |= {f"burst_{part}_percent_ms": part_of(lengths, part) for part in (50, 90, 99)}
+    return figures | {"longest_burst_ms": lengths[-1], "slowdown": bursts.slowdown.mean()}
+
+
+def part_of(lengths, percent):
+    """The least length that at least this part of the sorted lengths doesn't exceed."""
+    return lengths[-(-len(lengths) * percent // 100) - 1]
 
 
 def slices_of(timeline):
@@ -75,12 +105,11 @@ def counts_by_ms(begins, ends, ms):
 def runnable_by_ms(trace, ms):
     """For each millisecond how many tasks are awake in it."""
     begins, ends = [], []
-    for line in trace.splitlines():
-        clock, verb, *_ = line.split()
+    for clock, verb, _ in lines_of(trace):
         if verb == "wake":
-            begins.append(int(clock))
+            begins.append(clock)
         elif verb == "sleep":
-            ends.append(int(clock) + 1)
+            ends.append(clock + 1)
     return counts_by_ms(begins, ends, ms)
 
 

@@ -8,7 +8,7 @@ from pathlib import Path
 from scxlab.errors import LabError, Refused
 from scxlab.program import Program
 from scxlab.runs import Run
-from scxlab.store import hash_of
+from scxlab.store import Result, hash_of
 
 
 @dataclass(frozen=True)
@@ -33,6 +33,13 @@ def policy_file(text):
     return path
 
 
+def workload_file(text):
+    """A file with the text, until the next call."""
+    path = Path(folder().name) / "workload.toml"
+    path.write_text(text)
+    return path
+
+
 @cache
 def checked(path, wanted):
     """The program at the path, which has to be the one with that hash."""
@@ -46,19 +53,18 @@ def checked(path, wanted):
     return program
 
 
-def run_job(program, job, traced):
-    """The state and the figures of a run as text; a refusal is a state, without figures."""
-    workload = Path(folder().name) / "workload.toml"
-    workload.write_text(job.workload)
-    one = Run(program, policy_file(job.policy), workload)
+def run_job(program, job, counted):
+    """The state and the figures of a run, with those that are counted if they are wanted. A refusal is a state, without
+    figures."""
+    one = Run(program, policy_file(job.policy), workload_file(job.workload))
     try:
-        state = one.state
-        return state, one.figures.to_csv(index=False) if traced else program.call("stats-csv", one.policy, one.workload)
+        state, figures = one.state, one.all_stats if counted else one.stats
     except Refused as refusal:
-        return str(refusal), ""
+        state, figures = str(refusal), ""
+    return Result(job.key, job.policy, job.workload, state, figures)
 
 
-def run_batch(path, wanted, jobs, traced):
-    """Does the jobs with the program at the path, and answers each with its state and figures."""
+def run_batch(path, wanted, jobs, counted):
+    """Does the jobs with the program at the path, which has to have the wanted hash."""
     program = checked(path, wanted)
-    return [(job, *run_job(program, job, traced)) for job in jobs]
+    return [run_job(program, job, counted) for job in jobs]
