@@ -43,7 +43,7 @@ def test_what_is_lost_is_said(tmp_path):
     text = fit(path)
     assert "# lost: a: bursts of 1 to 4 ms are all 2 ms\n" in text
     assert "# lost: a: sleeps of 2 to 3 ms are all 2 ms\n" in text
-    assert "# lost: groups, their weights and quotas aren't in a timeline" in text
+    assert "# lost: groups, their weights and quotas aren't in a recording" in text
     assert "# lost: no processor was busy at 14 ms, so the run may have been longer\n" in text
 
 

@@ -67,28 +67,25 @@ def search_command(words):
     from scxlab.sweep import Progress
 
     goal, program = goal_of(words.goal), find_program(words.program)
-    if words.runs < 1:
-        raise LabError("--runs wants 1 or more")
     found, space = search(program, words.policy, words.template, goal, words.runs, words.seed, Progress("search"))
-    text = report(found, space)
-    if words.output:
-        Path(words.output).write_text(text)
-        print("".join(line[2:] + "\n" for line in text.splitlines() if line.startswith("#")), end="")
-    else:
-        print(text, end="")
+    deliver(report(found, space), words.output)
     return 0
 
 
 def fit_command(words):
     from scxlab.fit import fit
 
-    text = fit(words.timeline, words.groups)
-    if words.output:
-        Path(words.output).write_text(text)
-        print("".join(line[2:] + "\n" for line in text.splitlines() if line.startswith("#")), end="")
-    else:
-        print(text, end="")
+    deliver(fit(words.recording, words.groups, words.unit, words.tasks), words.output)
     return 0
+
+
+def deliver(text, path):
+    """Writes a workload to a file and tells what its comments say; without a file all goes to standard output."""
+    if not path:
+        print(text, end="")
+        return
+    Path(path).write_text(text)
+    print("".join(line[2:] + "\n" for line in text.splitlines() if line.startswith("#")), end="")
 
 
 def check_command(words):
@@ -96,45 +93,74 @@ def check_command(words):
 
     if words.program:
         os.environ["SCXSIM"] = words.program
-    return int(pytest.main(["-p", "scxlab.plugin", "-W", "ignore::pytest.PytestAssertRewriteWarning", *words.options, *words.files]))
+    quiet = ["-W", "ignore::pytest.PytestAssertRewriteWarning"]
+    return int(pytest.main(["-p", "scxlab.plugin", *quiet, *words.options, *words.files]))
+
+
+def at_least_one(text):
+    number = int(text)
+    if number < 1:
+        raise argparse.ArgumentTypeError("has to be 1 or more")
+    return number
 
 
 def parser():
     top = argparse.ArgumentParser(prog="scxlab", description="Experiments with scheduling policies under scxsim.")
     top.add_argument("--program", help="the program scxsim, where it isn't that of this repository")
     commands = top.add_subparsers(required=True, metavar="COMMAND")
+    for add in (add_compare, add_sweep, add_search, add_fit, add_check):
+        add(commands)
+    return top
+
+
+def add_compare(commands):
     one = commands.add_parser("compare", help="runs workloads under several policies, and compares the figures")
     one.add_argument("policies", nargs="+", metavar="POLICY", help="a policy file")
     one.add_argument("--workload", nargs="+", required=True, metavar="W", help="a workload file")
     one.add_argument("--csv", metavar="F", help="write the table to this file")
     one.add_argument("--html", metavar="F", help="write a page with tables, charts and pictures to this file")
     one.set_defaults(do=compare_command)
+
+
+def add_sweep(commands):
     one = commands.add_parser("sweep", help="runs all points of an experiment that weren't run yet")
     one.add_argument("experiment", metavar="EXPERIMENT", help="a TOML file, as docs/LAB.md has it")
     where = one.add_mutually_exclusive_group()
-    where.add_argument("--local", type=int, metavar="N", help="on so many processors of this machine; all, if none is given")
+    where.add_argument("--local", type=at_least_one, metavar="N", help="on so many processors of this machine; else all")
     where.add_argument("--scheduler", metavar="ADDRESS", help="on the workers of a running dask cluster")
-    one.add_argument("--results", metavar="F", help="the SQLite file of results; the experiment's name if none is given")
+    one.add_argument("--results", metavar="F", help="the SQLite file of results; else the experiment's name")
     one.add_argument("--csv", metavar="F", help="write the table to this file")
     one.set_defaults(do=sweep_command)
+
+
+def add_search(commands):
     one = commands.add_parser("search", help="looks for the workload of a template under which a policy is worst")
     one.add_argument("policy", metavar="POLICY", help="a policy file")
     one.add_argument("template", metavar="TEMPLATE", help="a workload in which numbers may be ranges [least, greatest]")
     one.add_argument("--goal", required=True, metavar="G", help="max or min, and a figure: 'max longest_wait_ms(a)'")
-    one.add_argument("--runs", type=int, default=1000, metavar="N", help="look at so many workloads, then shrink; 1000")
+    one.add_argument("--runs", type=at_least_one, default=1000, metavar="N",
+                     help="look at so many workloads, then shrink; 1000")
     one.add_argument("--seed", type=int, default=0, metavar="N", help="the same seed finds the same; 0")
     one.add_argument("--output", metavar="F", help="write the workload to this file")
     one.set_defaults(do=search_command)
-    one = commands.add_parser("fit", help="makes a workload of a timeline, and says what was lost")
-    one.add_argument("timeline", metavar="TIMELINE", help="what `scxsim timeline` wrote")
+
+
+def add_fit(commands):
+    one = commands.add_parser("fit", help="makes a workload of a recording, and says what was lost")
+    one.add_argument("recording", metavar="RECORDING", help="what `scxsim timeline` or `perf sched script` wrote")
     one.add_argument("--groups", metavar="W", help="take groups and changes of weights from this workload file")
+    one.add_argument("--unit", type=at_least_one, default=1000, metavar="N",
+                     help="so many microseconds of perf's recording become a millisecond; 1000")
+    one.add_argument("--tasks", nargs="+", default=["*"], metavar="NAME", help="take these tasks alone; with * for several")
     one.add_argument("--output", metavar="F", help="write the workload to this file")
     one.set_defaults(do=fit_command)
+
+
+def add_check(commands):
     one = commands.add_parser("check", help="tests whether policies do what files of checks say, by pytest")
     one.add_argument("files", nargs="+", metavar="FILE", help="a TOML file of policies, workloads and what must hold")
     one.add_argument("--options", nargs=argparse.REMAINDER, default=[], metavar="O", help="what follows goes to pytest")
     one.set_defaults(do=check_command)
-    return top
 
 
 def main(arguments=None):

@@ -1,128 +1,91 @@
-"""Makes a workload of a timeline as scxsim writes it, and says what of the run was lost."""
+"""Makes a workload of a recording, and says what of it was lost."""
 
-import json
 import tomllib
-from collections import defaultdict
-from dataclasses import dataclass, field
+from fnmatch import fnmatchcase
+from math import ceil
 from pathlib import Path
 
 from scxlab.errors import LabError
+from scxlab.perf import is_perf, read_perf
 from scxlab.templates import written
+from scxlab.timelines import read_timeline
 
-MOST_MS = 1_000_000
-
-
-@dataclass
-class Seen:
-    """What a timeline shows of one task, in milliseconds: when it woke, when it came to wait or was parked, and its
-    slices as begin and length."""
-
-    wakes: list = field(default_factory=list)
-    inserts: list = field(default_factory=list)
-    slices: list = field(default_factory=list)
+MOST_MS, MOST_TASKS, MOST_CPUS = 1_000_000, 1024, 64
+NO_GROUPS = "groups, their weights and quotas aren't in a recording: all tasks are in one group (see --groups)"
 
 
-def read_timeline(path):
-    """The events of a timeline."""
-    try:
-        events = json.loads(Path(path).read_text())["traceEvents"]
-        return [event for event in events if event["ph"] in "MXiC"]
-    except (ValueError, KeyError, TypeError) as error:
-        raise LabError(f"{path}: is no timeline of scxsim") from error
-
-
-def tasks_of(events):
-    """What is seen of each task, in the order in which they woke first, and the end of the last event."""
-    tasks, end = defaultdict(Seen), 0
-    for event in events:
-        track, at = (event["ph"], event["pid"], event.get("tid")), event.get("ts", 0) // 1000
-        end = max(end, at + event.get("dur", 0) // 1000)
-        if track == ("i", 1, 0):
-            tasks[event["name"]].wakes.append(at)
-        elif track == ("i", 1, 1):
-            tasks[event["name"].split()[0]].inserts.append(at)
-        elif track[:2] == ("X", 0):
-            tasks[event["name"]].slices.append((at, event["dur"] // 1000))
-    return dict(tasks), end
-
-
-@dataclass(frozen=True)
-class Burst:
-    """What ran between two wakes, and for how long the task slept then; nothing where it didn't wake again."""
-
-    run: int
-    end: int
-    sleep: int | None
-
-
-def bursts_of(seen, end):
-    """The bursts that were finished. The last one was where the task then neither came to wait nor ran at the end."""
-    bursts = []
-    for wake, following in zip(seen.wakes, [*seen.wakes[1:], None]):
-        mine = [(at, length) for at, length in seen.slices if wake <= at and (following is None or at < following)]
-        if not mine:
-            continue
-        last = max(at + length for at, length in mine)
-        if following is None and (last >= end or any(at >= last for at in seen.inserts)):
-            continue
-        bursts.append(Burst(sum(length for _, length in mine), last, None if following is None else following - last))
-    return bursts
-
-
-def task_of(name, seen, end, group, losses):
-    """The task as a workload has it: one `run` and one `sleep` for all its bursts."""
-    bursts = bursts_of(seen, end)
-    task = {"name": name, "group": group, "start": seen.wakes[0]}
-    if not bursts:
-        return task
-    runs, sleeps = [burst.run for burst in bursts], [burst.sleep for burst in bursts if burst.sleep is not None]
-    task["run"] = one_of(runs, f"{name}: bursts", losses)
-    task["sleep"] = one_of(sleeps, f"{name}: sleeps", losses) if sleeps else end - bursts[-1].end
-    if not sleeps:
-        losses.append(f"{name}: slept once and didn't wake again; it sleeps to the end of the run")
-    return task
-
-
-def one_of(lengths, what, losses):
-    """The one length, or their mean where they differ."""
-    mean = round(sum(lengths) / len(lengths))
-    if min(lengths) < max(lengths):
-        losses.append(f"{what} of {min(lengths)} to {max(lengths)} ms are all {mean} ms")
-    return mean
-
-
-def fit(path, groups=None):
-    """The workload of a timeline as a text, with groups and changes of weights from a workload file if one is given; what
-    was lost stands in comments at its top."""
-    events, losses = read_timeline(path), []
-    tasks, end = tasks_of(events)
-    cpus = sum(event["ph"] == "M" and event["pid"] == 0 and event["name"] == "thread_name" for event in events)
-    if not tasks or not cpus or not all(seen.wakes for seen in tasks.values()):
-        raise LabError(f"{path}: is no timeline of scxsim, or nothing wakes in it")
-    known = groups_of(groups, tasks) if groups else {"group": [{"name": "all"}]}
-    home = {task["name"]: task["group"] for task in known.pop("task", [])}
-    if not groups:
-        losses.append("groups, their weights and quotas aren't in a timeline: all tasks are in one group (see --groups)")
-    if any((event["ph"], event["pid"], event.get("tid")) == ("i", 1, 3) for event in events):
-        losses.append("the policy was ejected in this run")
-    if not any(at + length == end for seen in tasks.values() for at, length in seen.slices):
-        losses.append(f"no processor was busy at {end} ms, so the run may have been longer")
-    plan = {"cpus": cpus, "ms": min(max(end, 1), MOST_MS), "group": known["group"],
-            "task": [task_of(name, seen, end, home.get(name, "all"), losses) for name, seen in tasks.items()],
+def fit(path, groups=None, unit=1000, tasks=("*",)):
+    """The workload of a timeline, or of a text of perf, as a text; comments at its top say what was lost. Groups and
+    changes of weights come from a workload file if one is given. `unit` microseconds of perf's are a millisecond, and
+    only tasks are taken whose names fit a pattern of `tasks`."""
+    recording = recording_of(path, unit, tasks)
+    known = groups_of(groups, recording.bursts) if groups else {"group": [{"name": "all"}]}
+    home = {task["name"]: task["group"] for task in known.get("task", [])}
+    losses = [*recording.losses] if groups else [NO_GROUPS, *recording.losses]
+    plan = {"cpus": recording.cpus, "ms": max(1, ceil(recording.end)), "group": known["group"],
+            "task": [task_of(name, bursts, recording.end, home.get(name, "all"), losses)
+                     for name, bursts in recording.bursts.items()],
             "change": known.get("change", [])}
     return "".join(f"# lost: {line}\n" for line in losses) + written(plan)
 
 
+def recording_of(path, unit, tasks):
+    """What a file shows of the tasks that are wanted, as far as a workload may have it."""
+    recording = read_perf(path, unit) if is_perf(path) else read_timeline(path)
+    if recording.cpus > MOST_CPUS or recording.end > MOST_MS:
+        raise LabError(f"{path}: {recording.cpus} processors and {ceil(recording.end)} ms are more than a workload has")
+    wanted = [name for name in recording.bursts if any(fnmatchcase(name, pattern) for pattern in tasks)]
+    if not wanted:
+        raise LabError(f"{path}: has no task {' or '.join(tasks)}")
+    kept = sorted(wanted, key=recording.ran, reverse=True)[:MOST_TASKS]
+    left_out = recording.bursts.keys() - kept
+    if left_out:
+        total = sum(map(recording.ran, left_out))
+        recording.losses.append(f"{len(left_out)} tasks that ran {total:.0f} ms in all aren't here")
+    return recording.without(left_out)
+
+
+def task_of(name, bursts, end, group, losses):
+    """The task as a workload has it: one `run` and one `sleep` for all its bursts."""
+    task = {"name": name, "group": group, "start": int(bursts[0].woke)}
+    runs = [burst.ran for burst in bursts if burst.slept is not None]
+    if not runs:
+        return task
+    sleeps = [after.woke - before.slept for before, after in zip(bursts, bursts[1:])]
+    task["run"] = max(1, round(mean(runs)))
+    tell_if_other(f"{name}: bursts", runs, task["run"], losses)
+    if sleeps:
+        # A longer or shorter run has a longer or shorter sleep behind it, so that the load stays what it was.
+        task["sleep"] = round(mean(sleeps) * task["run"] / mean(runs))
+        tell_if_other(f"{name}: sleeps", sleeps, task["sleep"], losses)
+    else:
+        task["sleep"] = ceil(end - bursts[-1].slept)
+        losses.append(f"{name}: slept once and didn't wake again; it sleeps to the end of the run")
+    return task
+
+
+def mean(lengths):
+    return sum(lengths) / len(lengths)
+
+
+def tell_if_other(what, lengths, length, losses):
+    """Tells of lengths that weren't what stands for all of them."""
+    least, most = round(min(lengths), 2), round(max(lengths), 2)
+    if least < most:
+        losses.append(f"{what} of {least:g} to {most:g} ms are all {length} ms")
+    elif least != length:
+        losses.append(f"{what} of {least:g} ms are {length} ms")
+
+
 def groups_of(path, tasks):
-    """The groups, changes and tasks' groups of a workload file, which has to have all tasks of the timeline."""
+    """The groups, changes and tasks' groups of a workload file, which has to have all tasks of the recording."""
     try:
         plan = tomllib.loads(Path(path).read_text())
         names = {task["name"] for task in plan["task"]}
         found = {key: plan[key] for key in ("group", "change", "task") if key in plan}
-    except (tomllib.TOMLDecodeError, KeyError, TypeError) as error:
+    except (tomllib.TOMLDecodeError, UnicodeDecodeError, KeyError, TypeError) as error:
         raise LabError(f"{path}: is no workload") from error
     for name in tasks:
         if name not in names:
             raise LabError(f"{path}: has no task {name}")
-    found["task"] = plan["task"]
     return found
