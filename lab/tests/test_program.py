@@ -2,6 +2,7 @@
 
 import os
 import sys
+from math import isnan
 
 import pytest
 from scxlab.account import account_of
@@ -21,8 +22,6 @@ task,a,bursts,2
 task,a,mean_burst_ms,1.50
 task,a,slowdown,1.50
 task,b,bursts,0
-task,b,mean_burst_ms,0.00
-task,b,slowdown,0.00
 cpu,0,idle_while_waiting_ms,1
 policy,mine,idle_while_waiting_ms,1
 """
@@ -52,16 +51,9 @@ def calls(tmp_path):
 def test_one_call_says_all_where_the_program_has_all(tmp_path):
     one = Run(program(tmp_path, STATS + STALLED), "p", "w")
     assert one.state == "ejected stall a at 12"
-    assert one.tasks.slowdown["a"] == 1.5
+    assert one.tasks.slowdown["a"] == 1.5 and isnan(one.tasks.slowdown["b"])
     assert values_of(one.all_stats)["idle_while_waiting_ms", "policy"] == 1
     assert calls(tmp_path) == ["stats-csv"]
-
-
-def test_a_task_without_a_finished_burst_has_no_figures_of_bursts():
-    values = values_of(STATS)
-    assert values["bursts", "b"] == 0
-    assert ("slowdown", "b") not in values and ("mean_burst_ms", "b") not in values
-    assert values["slowdown", "a"] == 1.5
 
 
 def test_what_is_of_the_policy_has_one_name():

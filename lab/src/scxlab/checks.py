@@ -5,13 +5,14 @@ import re
 import tomllib
 from dataclasses import dataclass
 from functools import cache
+from math import isnan
 from pathlib import Path
 
 import pandas
 
 from scxlab.account import account_of
 from scxlab.errors import LabError
-from scxlab.figures import figure_of
+from scxlab.figures import NOTHING, figure_of, values_of
 from scxlab.runs import run
 
 KEYS = {"policies", "workloads", "must"}
@@ -20,6 +21,7 @@ BOUND = re.compile(r"(.+?) *(<=|>=|==|<|>) *(-?[0-9]+(?:\.[0-9]+)?)")
 SHARE = re.compile(r"share\(([a-z0-9_]+)\) +within +([0-9]+(?:\.[0-9]+)?) +of +due")
 SLOWER = re.compile(r"not +slower +than +(\S+) +by +([0-9]+(?:\.[0-9]+)?) *%")
 SLOW_FIGURES = ["mean_wait_ms", "slowdown"]
+ROUNDING = 1e-9
 
 
 class Failed(Exception):
@@ -99,13 +101,8 @@ def in_force(one):
         raise failed(one, f"the policy was {one.state} ms")
 
 
-def all_values(one):
-    known = one.figures.dropna()
-    return dict(zip(zip(known.figure, known.name), known.value))
-
-
 def within_bound(one, figure, order, bound):
-    values = all_values(one)
+    values = values_of(one.all_stats)
     if not figure.matches(values):
         raise Failed(f"the run has no {figure.text}")
     value = figure.value(values)
@@ -123,19 +120,27 @@ def share_within(one, group, most):
 
 def not_slower(one, path, percent):
     """No task waits longer on average or has slower bursts than a table of `compare` has it, by so many percent."""
+    now, slower = values_of(one.all_stats), []
+    for row in rows_before(one, path):
+        value = now.get((row.figure, row.name), NOTHING)
+        if not value <= row.value * (1 + percent / 100) + ROUNDING:
+            slower.append(f"{row.figure}({row.name}) is {value:g}, and was {row.value:g}")
+    if slower:
+        raise failed(one, "\n".join([f"slower than {path.name} by more than {percent:g} %:", *slower]))
+
+
+def rows_before(one, path):
+    """The rows of a table of `compare` that say how slow tasks were under the same policy with the same workload."""
     try:
-        table = pandas.read_csv(path)
+        table = pandas.read_csv(path, dtype={"name": str}, keep_default_na=False, na_values={"value": ""})
     except (OSError, ValueError) as error:
         raise Failed(f"{path}: {error}") from error
     if not {"workload", "figure", "name", "policy", "value"} <= set(table):
         raise Failed(f"{path} is no table that `scxlab compare --csv` wrote")
-    mine = table[(table.policy == Path(one.policy).stem) & (table.figure.isin(SLOW_FIGURES))
-                 & ([Path(name).name == Path(one.workload).name for name in table.workload])].dropna(subset=["value"])
-    if mine.empty:
-        raise Failed(f"{path} has no line of {Path(one.policy).stem} and {Path(one.workload).name}")
-    now = all_values(one)
-    slower = [f"{row.figure}({row.name}) is {now.get((row.figure, row.name), float('nan')):g}, and was {row.value:g}"
-              for row in mine.itertuples(index=False)
-              if not now.get((row.figure, row.name), float("nan")) <= row.value * (1 + percent / 100) + 1e-9]
-    if slower:
-        raise Failed("\n".join([f"slower than {path.name} by more than {percent:g} %:", *slower]))
+    policy, workload = Path(one.policy).stem, Path(one.workload).name
+    rows = [row for row in table.itertuples(index=False)
+            if row.policy == policy and Path(row.workload).name == workload and row.figure in SLOW_FIGURES
+            and not isnan(row.value)]
+    if not rows:
+        raise Failed(f"{path} has no line of {policy} and {workload}")
+    return rows

@@ -75,7 +75,7 @@ def search_command(words):
 def fit_command(words):
     from scxlab.fit import fit
 
-    deliver(fit(words.recording, words.groups, words.unit, words.tasks), words.output)
+    deliver(fit(words.recording, words.groups, words.unit, words.tasks, words.events), words.output)
     return 0
 
 
@@ -153,6 +153,7 @@ def add_fit(commands):
                      help="so many microseconds of perf's recording become a millisecond; 1000")
     one.add_argument("--tasks", nargs="+", default=["*"], metavar="NAME", help="take these tasks alone; with * for several")
     one.add_argument("--output", metavar="F", help="write the workload to this file")
+    one.add_argument("--events", action="store_true", help="write a file of events, as `scxsim replay` reads it")
     one.set_defaults(do=fit_command)
 
 

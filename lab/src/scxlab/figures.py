@@ -17,10 +17,9 @@ OF_STATS = {
               "throttled_periods", "throttled_ms"],
     "policy": ["ejected_at_ms"],
 }
-OF_BURSTS = ["mean_burst_ms", "burst_50_percent_ms", "burst_90_percent_ms", "burst_99_percent_ms", "longest_burst_ms",
-             "slowdown"]
 # Those that an older program lacks; they are then counted from its traces.
-COUNTED = ["bursts", *OF_BURSTS, "idle_while_waiting_ms"]
+COUNTED = ["bursts", "mean_burst_ms", "burst_50_percent_ms", "burst_90_percent_ms", "burst_99_percent_ms",
+           "longest_burst_ms", "slowdown", "idle_while_waiting_ms"]
 KNOWN = [figure for figures in OF_STATS.values() for figure in figures] + COUNTED
 
 OVER = {"max": max, "min": min, "sum": sum, "mean": lambda values: sum(values) / len(values)}
@@ -72,15 +71,12 @@ def figure_of(text):
 
 def rows_of(text):
     """The lines of `stats-csv` that hold numbers, as kind, name, figure and value. What is of the policy has the name
-    `policy`, whatever its file calls it. Of a task without a finished burst only `bursts` says something."""
+    `policy`, whatever its file calls it."""
     lines = list(csv.reader(text.splitlines()))
     if lines[:1] != [COLUMNS]:
         raise LabError(f"the figures aren't of this version: their first line isn't {','.join(COLUMNS)}")
-    lines = lines[1:]
-    unfinished = {name for _, name, figure, value in lines if figure == "bursts" and float(value) == 0}
     return [(kind, "policy" if kind == "policy" else name, figure, float(value))
-            for kind, name, figure, value in lines
-            if figure != "ended" and not (figure in OF_BURSTS and name in unfinished)]
+            for kind, name, figure, value in lines[1:] if figure != "ended"]
 
 
 def values_of(text):

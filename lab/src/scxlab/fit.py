@@ -1,4 +1,4 @@
-"""Makes a workload of a recording, and says what of it was lost."""
+"""Makes a workload or a file of events of a recording, and says what of it was lost."""
 
 import tomllib
 from fnmatch import fnmatchcase
@@ -10,23 +10,61 @@ from scxlab.perf import is_perf, read_perf
 from scxlab.templates import written
 from scxlab.timelines import read_timeline
 
-MOST_MS, MOST_TASKS, MOST_CPUS = 1_000_000, 1024, 64
+MOST_MS, MOST_TASKS, MOST_CPUS, MOST_EVENTS = 1_000_000, 1024, 64, 65_536
 NO_GROUPS = "groups, their weights and quotas aren't in a recording: all tasks are in one group (see --groups)"
 
 
-def fit(path, groups=None, unit=1000, tasks=("*",)):
-    """The workload of a timeline, or of a text of perf, as a text; comments at its top say what was lost. Groups and
-    changes of weights come from a workload file if one is given. `unit` microseconds of perf's are a millisecond, and
-    only tasks are taken whose names fit a pattern of `tasks`."""
+def fit(path, groups=None, unit=1000, tasks=("*",), as_events=False):
+    """The workload, or the file of events, of a timeline or a text of perf, as a text; comments at its top say what was
+    lost. Groups and changes of weights come from a workload file if one is given. `unit` microseconds of perf's are a
+    millisecond, and only tasks are taken whose names fit a pattern of `tasks`."""
     recording = recording_of(path, unit, tasks)
-    known = groups_of(groups, recording.bursts) if groups else {"group": [{"name": "all"}]}
-    home = {task["name"]: task["group"] for task in known.get("task", [])}
-    losses = [*recording.losses] if groups else [NO_GROUPS, *recording.losses]
-    plan = {"cpus": recording.cpus, "ms": max(1, ceil(recording.end)), "group": known["group"],
-            "task": [task_of(name, bursts, recording.end, home.get(name, "all"), losses)
-                     for name, bursts in recording.bursts.items()],
-            "change": known.get("change", [])}
-    return "".join(f"# lost: {line}\n" for line in losses) + written(plan)
+    losses, home = recording.losses, {}
+    plan = {"cpus": recording.cpus, "ms": max(1, ceil(recording.end)), "group": [{"name": "all"}], "change": []}
+    if groups:
+        known = groups_of(groups, recording.bursts)
+        home = {task["name"]: task["group"] for task in known["task"]}
+        plan |= {"group": known["group"], "change": known.get("change", [])}
+    else:
+        losses.insert(0, NO_GROUPS)
+    names = [name for name in home or recording.bursts if name in recording.bursts]
+    plan["task"] = [{"name": name, "group": home.get(name, "all")} for name in names]
+    filled = with_events if as_events else with_rhythms
+    text = written(filled(plan, recording))
+    return "".join(f"# lost: {line}\n" for line in losses) + text
+
+
+def with_rhythms(plan, recording):
+    """The workload: each task with one `run` and one `sleep` for all its bursts."""
+    tasks = [task | rhythm_of(task["name"], recording) for task in plan["task"]]
+    return plan | {"task": tasks}
+
+
+def with_events(plan, recording):
+    """The file of events: each task wakes and sleeps when it did."""
+    lines = [(change["at"], 0, f"weight {change['group']} {change['weight']}") for change in plan["change"]]
+    for name in (task["name"] for task in plan["task"]):
+        for woke, slept in spans_of(recording.bursts[name]):
+            lines += [(woke, 1, f"wake {name}"), *([] if slept is None else [(slept, 2, f"sleep {name}")])]
+    # In a millisecond weights come first, then wakes, and sleeps at its end.
+    kept = sorted((line for line in lines if line[0] < plan["ms"]), key=lambda line: line[:2])
+    if len(kept) > MOST_EVENTS:
+        raise LabError(f"{len(kept)} events are more than the {MOST_EVENTS} of a file: take fewer tasks (see --tasks)")
+    recording.losses.append("tasks sleep when they did in the recording, however long they have run by then")
+    events = "".join(f"{at} {told}\n" for at, _, told in kept)
+    return {"cpus": plan["cpus"], "ms": plan["ms"], "events": events, "group": plan["group"], "task": plan["task"]}
+
+
+def spans_of(bursts):
+    """From which millisecond to which a task was awake. A sleep that ended in the millisecond in which it began is left
+    out."""
+    spans = []
+    for burst in bursts:
+        woke, slept = int(burst.woke), burst.slept and max(int(burst.woke), ceil(burst.slept) - 1)
+        if spans and spans[-1][1] >= woke:
+            woke = spans.pop()[0]
+        spans.append((woke, slept))
+    return spans
 
 
 def recording_of(path, unit, tasks):
@@ -45,23 +83,25 @@ def recording_of(path, unit, tasks):
     return recording.without(left_out)
 
 
-def task_of(name, bursts, end, group, losses):
-    """The task as a workload has it: one `run` and one `sleep` for all its bursts."""
-    task = {"name": name, "group": group, "start": int(bursts[0].woke)}
-    runs = [burst.ran for burst in bursts if burst.slept is not None]
+def rhythm_of(name, recording):
+    """When a task first wakes, and one `run` and one `sleep` for all its bursts. Without a finished one it never
+    sleeps."""
+    bursts, losses = recording.bursts[name], recording.losses
+    rhythm = {"start": int(bursts[0].woke)}
+    runs = [burst.ran for burst in bursts if burst.ran and burst.slept is not None]
     if not runs:
-        return task
+        return rhythm
     sleeps = [after.woke - before.slept for before, after in zip(bursts, bursts[1:])]
-    task["run"] = max(1, round(mean(runs)))
-    tell_if_other(f"{name}: bursts", runs, task["run"], losses)
+    rhythm["run"] = max(1, round(mean(runs)))
+    tell_if_other(f"{name}: bursts", runs, rhythm["run"], losses)
     if sleeps:
         # A longer or shorter run has a longer or shorter sleep behind it, so that the load stays what it was.
-        task["sleep"] = round(mean(sleeps) * task["run"] / mean(runs))
-        tell_if_other(f"{name}: sleeps", sleeps, task["sleep"], losses)
+        rhythm["sleep"] = round(mean(sleeps) * rhythm["run"] / mean(runs))
+        tell_if_other(f"{name}: sleeps", sleeps, rhythm["sleep"], losses)
     else:
-        task["sleep"] = ceil(end - bursts[-1].slept)
+        rhythm["sleep"] = ceil(recording.end - bursts[-1].slept)
         losses.append(f"{name}: slept once and didn't wake again; it sleeps to the end of the run")
-    return task
+    return rhythm
 
 
 def mean(lengths):

@@ -112,7 +112,8 @@ def literal(value):
     if isinstance(value, bool):
         return str(value).lower()
     if isinstance(value, str):
-        return '"' + "".join(escaped(letter) for letter in value) + '"'
+        lines = ["".join(map(escaped, line)) for line in value.split("\n")]
+        return f'"{lines[0]}"' if len(lines) == 1 else '"""\n' + "\n".join(lines) + '"""'
     if isinstance(value, list):
         return "[" + ", ".join(map(literal, value)) + "]"
     return str(value)
