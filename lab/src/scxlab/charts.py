@@ -49,7 +49,9 @@ def waits_chart(runs):
         for number, (name, one) in enumerate(runs.items()):
             if len(one.waits):
                 lengths, parts = curve_of(one.waits.wait_ms)
-                axes.step([*lengths, greatest], [*parts, 100], where="post", label=name, **line_style(number))
+                # The line goes on to the right edge; marks stand at lengths that there are.
+                axes.step([*lengths, greatest], [*parts, 100], where="post", label=name,
+                          markevery=range(len(lengths)), **line_style(number))
         axes.set_xscale("symlog", linthresh=1)
         axes.xaxis.set_major_formatter(ScalarFormatter())
         axes.set_xlim(-0.05, greatest * 1.1 + 1)
@@ -75,11 +77,13 @@ def shares_chart(runs):
             at = [place - 0.4 + width * (2 * number + 0.5) for place in range(len(shares))]
             axes.bar(at, shares[name], width, label=name, color="#dddddd", edgecolor="black",
                      hatch=HATCHES[number % len(HATCHES)])
-            axes.bar([place + width for place in at], dues[name], width, fill=False, edgecolor="black",
-                     linestyle=":", label="due" if number == 0 else None)
+        for number, name in enumerate(runs):
+            at = [place - 0.4 + width * (2 * number + 1.5) for place in range(len(shares))]
+            axes.bar(at, dues[name], width, fill=False, edgecolor="black", linestyle=":",
+                     label=None if number else "due to each")
         axes.set_xticks(range(len(shares)), shares.index)
         axes.set_ylabel("share, %")
-        axes.set_ylim(0, 100)
+        axes.set_ylim(0, 104)
         axes.legend(loc="upper left", bbox_to_anchor=(1.01, 1))
 
     return svg_of(draw, max(5, 1.2 * len(shares) + 2), 4)

@@ -8,15 +8,20 @@ from scxlab.charts import shares_chart, waits_chart
 from scxlab.compare import MEASURES, has_due, shown
 
 STYLE = """
-body { font-family: sans-serif; margin: 2em auto; max-width: 90em; color: #111; }
-table { border-collapse: collapse; margin: 0.5em 0 1.5em; }
+body { font-family: sans-serif; margin: 2em auto; max-width: 90em; padding: 0 2em; color: #111; }
+h3 { margin: 0.5em 0; }
+table { border-collapse: collapse; margin: 0 0 1em; }
 th, td { border: 1px solid #bbb; padding: 0.25em 0.7em; text-align: right; }
 th:first-child { text-align: left; }
 td.best { font-weight: bold; background: #eee; }
 figure { margin: 0 0 1em; }
+.row { display: flex; flex-wrap: wrap; gap: 0 3em; align-items: flex-start; }
 .beside { display: grid; grid-template-columns: 1fr 1fr; gap: 1em; }
 .beside img { width: 100%; }
+.below figure { overflow-x: auto; }
 """
+# Longer runs stand one below another, as wide as they are, and are scrolled.
+SIDE_BY_SIDE_MS = 200
 
 
 def page(comparisons):
@@ -33,12 +38,16 @@ def parts_of(comparison):
     yield "<ul>" + "".join(f"<li>{escape(name)}: {escape(state)}</li>" for name, state in states) + "</ul>"
     if not runs:
         return
-    yield from (table_of(comparison, measure) for measure in MEASURES)
-    yield image(waits_chart(runs), "Waits: which part was no longer than a length")
-    yield image(shares_chart(runs), "Shares of groups, each beside what was due (dotted)")
+    yield within("row", (table_of(comparison, measure) for measure in MEASURES))
+    yield within("row", (image(waits_chart(runs), "Waits: which part was no longer than a length"),
+                         image(shares_chart(runs), "Shares of groups, each beside what was due (dotted)")))
     yield "<h3>Runs, on one scale</h3>"
-    pictures = "".join(image(one.picture, name) for name, one in runs.items())
-    yield f'<div class="beside">{pictures}</div>'
+    is_long = any(one.plan["ms"] > SIDE_BY_SIDE_MS for one in runs.values())
+    yield within("below" if is_long else "beside", (image(one.picture, name) for name, one in runs.items()))
+
+
+def within(style, parts):
+    return f'<div class="{style}">{"".join(parts)}</div>'
 
 
 def table_of(comparison, measure):
@@ -49,7 +58,8 @@ def table_of(comparison, measure):
     head = "".join(f"<th>{escape(name)}</th>" for name in comparison.runs)
     rows = "".join(f"<tr><th>{escape(name)}</th>{''.join(map(cell, group.itertuples()))}</tr>"
                    for name, group in mine.groupby("name", sort=False))
-    return f"<h3>{escape(measure.title)}</h3>\n<table><tr><th>{escape(measure.kind)}</th>{head}</tr>\n{rows}</table>"
+    table = f"<table><tr><th>{escape(measure.kind)}</th>{head}</tr>\n{rows}</table>"
+    return f"<section><h3>{escape(measure.title)}</h3>\n{table}</section>\n"
 
 
 def cell(row):
