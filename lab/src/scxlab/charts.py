@@ -4,11 +4,10 @@ import io
 
 import matplotlib
 import pandas
+from matplotlib.figure import Figure
+from matplotlib.ticker import ScalarFormatter
 
-matplotlib.use("svg")
-
-from matplotlib.figure import Figure  # noqa: E402
-from matplotlib.ticker import ScalarFormatter  # noqa: E402
+from scxlab.pictures import Picture
 
 DASHES = ["-", "--", ":", "-.", (0, (6, 1, 1, 1, 1, 1)), (0, (1, 3))]
 MARKS = ["o", "s", "^", "x", "D", "v"]
@@ -24,7 +23,8 @@ def svg_of(draw, width, height):
         draw(figure)
         target = io.StringIO()
         figure.savefig(target, format="svg", metadata={"Date": None, "Creator": None})
-    return target.getvalue()
+    text = target.getvalue()
+    return Picture(text[text.index("<svg") :])
 
 
 def line_style(number):

@@ -1,11 +1,11 @@
 """Comparisons as one page that a browser opens: tables, charts, and pictures of the runs."""
 
-from base64 import b64encode
 from html import escape
 from math import isnan
 
 from scxlab.charts import shares_chart, waits_chart
 from scxlab.compare import MEASURES, has_due, shown
+from scxlab.pictures import image_of
 
 STYLE = """
 body { font-family: sans-serif; margin: 2em auto; max-width: 90em; padding: 0 2em; color: #111; }
@@ -72,8 +72,4 @@ def cell(row):
 
 
 def image(svg, caption):
-    """A picture of its own, so that names within two of them don't meet."""
-    data = b64encode(svg.encode()).decode()
-    caption = escape(caption)
-    return (f'<figure><img src="data:image/svg+xml;base64,{data}" alt="{caption}">'
-            f"<figcaption>{caption}</figcaption></figure>")
+    return f"<figure>{image_of(svg, caption)}<figcaption>{escape(caption)}</figcaption></figure>"

@@ -9,6 +9,7 @@ import pandas
 from scxlab import traces
 from scxlab.errors import LabError
 from scxlab.figures import COLUMNS, has_counted, rows_of, state_of
+from scxlab.pictures import Picture
 from scxlab.program import find_program
 
 
@@ -62,7 +63,7 @@ class Run:
     @cached_property
     def picture(self):
         """The run as SVG."""
-        return self._told("picture")
+        return Picture(self._told("picture"))
 
     @cached_property
     def why(self):
