@@ -62,6 +62,7 @@ def cluster(tmp_path):
             process.wait()
 
 
+@pytest.mark.slow
 def test_nothing_is_lost_with_a_worker_that_is_killed_in_the_middle(cluster, tmp_path):
     address, workers = cluster
     (tmp_path / "e.toml").write_text(EXPERIMENT)

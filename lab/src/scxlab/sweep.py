@@ -76,10 +76,13 @@ def batches_done(client, program, planned, faults):
 
     coming = as_completed(submit(batch) for batch in islice(waiting, IN_FLIGHT))
     for future in coming:
-        if future.status == "finished":
-            yield future.result()
+        try:
+            # Where a worker ended with a result that it had told of, this waits until another has made it anew.
+            results = future.result()
+        except Exception as error:
+            faults.append(fault_of(error))
         else:
-            faults.append(fault_of(future.exception()))
+            yield results
         for batch in islice(waiting, 1):
             coming.add(submit(batch))
 
