@@ -111,6 +111,22 @@ def test_a_worker_that_is_ended_loses_nothing(folder):
     assert (outcome.due, outcome.done, len(rows)) == (200, 200, 200)
 
 
+def test_an_interrupted_sweep_keeps_what_was_done(folder, two_workers, monkeypatch, capsys):
+    (folder / "e.toml").write_text(EXPERIMENT.replace("[2, 5]", "{ from = 1, to = 10 }")
+                                   .replace("[2, 4]", "{ from = 2, to = 11 }"))
+
+    def interrupt(progress, done, due):
+        raise KeyboardInterrupt
+
+    monkeypatch.setattr("scxlab.clusters.client_of", lambda *where: lent(two_workers))
+    with monkeypatch.context() as within:
+        within.setattr("scxlab.sweep.Progress.__call__", interrupt)
+        assert main(["sweep", str(folder / "e.toml")]) == 130
+    assert capsys.readouterr().err == f"scxlab: interrupted; what was done is kept in {folder / 'e.sqlite'}\n"
+    assert main(["sweep", str(folder / "e.toml")]) == 0
+    assert "100 points, 75 runs were due, 75 done" in capsys.readouterr().out
+
+
 def test_a_refused_point_is_named_and_the_others_are_kept(folder, capsys):
     (folder / "e.toml").write_text(EXPERIMENT.replace("[2, 4]", "[2, 1024, 0]").replace("[2, 5]", "[2]"))
     assert main(["sweep", str(folder / "e.toml"), "--local", "1"]) == 1

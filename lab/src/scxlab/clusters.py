@@ -31,8 +31,6 @@ def local_client(count):
     import dask
     from distributed import Client, LocalCluster
 
-    if count is not None and count < 1:
-        raise LabError("--local wants 1 or more")
     count = count or len(os.sched_getaffinity(0))
     # To look a hundred times a second at what a worker does would take 30 % of its own time.
     with (dask.config.set({"distributed.worker.profile.enabled": False}),

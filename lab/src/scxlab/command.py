@@ -3,6 +3,7 @@
 import argparse
 import os
 import sys
+from contextlib import closing
 from functools import partial
 from pathlib import Path
 
@@ -26,28 +27,33 @@ def compare_command(words):
 
 
 def sweep_command(words):
-    from scxlab.clusters import client_of
     from scxlab.experiment import read_experiment
     from scxlab.program import find_program
     from scxlab.store import Store
-    from scxlab.sweep import Progress, plan, sweep, table
 
     experiment, program = read_experiment(words.experiment), find_program(words.program)
     path = words.results or Path(words.experiment).with_suffix(".sqlite")
-    store = Store(path)
-    planned = plan(experiment, program, store)
-    try:
-        client = partial(client_of, words.local, words.scheduler)
-        outcome = sweep(planned, program, store, client, Progress("sweep"))
-    except KeyboardInterrupt:
-        print(f"scxlab: interrupted; what was done is kept in {path}", file=sys.stderr)
-        return 130
-    rows = table(planned, store)
+    with closing(Store(path)) as store:
+        try:
+            rows, outcome = swept(experiment, program, store, words)
+        except KeyboardInterrupt:
+            print(f"scxlab: interrupted; what was done is kept in {path}", file=sys.stderr)
+            return 130
     if words.csv:
         rows.to_csv(words.csv, index=False)
     print(f"{experiment.size} points, {outcome.due} runs were due, {outcome.done} done; results in {path}")
     print(rows.drop(columns="key").to_string(max_rows=20))
     return tell_faults(rows, outcome)
+
+
+def swept(experiment, program, store, words):
+    """Does the runs that are due, and answers the table of all."""
+    from scxlab.clusters import client_of
+    from scxlab.sweep import Progress, plan, sweep, table
+
+    planned = plan(experiment, program, store)
+    outcome = sweep(planned, program, store, partial(client_of, words.local, words.scheduler), Progress("sweep"))
+    return table(planned, store), outcome
 
 
 def tell_faults(rows, outcome):
