@@ -132,7 +132,8 @@ def add_sweep(commands):
     one = commands.add_parser("sweep", help="runs all points of an experiment that weren't run yet")
     one.add_argument("experiment", metavar="EXPERIMENT", help="a TOML file, as docs/LAB.md has it")
     where = one.add_mutually_exclusive_group()
-    where.add_argument("--local", type=at_least_one, metavar="N", help="on so many processors of this machine; else all")
+    where.add_argument("--local", type=at_least_one, metavar="N",
+                       help="on so many processors of this machine; else on all")
     where.add_argument("--scheduler", metavar="ADDRESS", help="on the workers of a running dask cluster")
     one.add_argument("--results", metavar="F", help="the SQLite file of results; else the experiment's name")
     one.add_argument("--csv", metavar="F", help="write the table to this file")
@@ -157,7 +158,8 @@ def add_fit(commands):
     one.add_argument("--groups", metavar="W", help="take groups and changes of weights from this workload file")
     one.add_argument("--unit", type=at_least_one, default=1000, metavar="N",
                      help="so many microseconds of perf's recording become a millisecond; 1000")
-    one.add_argument("--tasks", nargs="+", default=["*"], metavar="NAME", help="take these tasks alone; with * for several")
+    one.add_argument("--tasks", nargs="+", default=["*"], metavar="NAME",
+                     help="take these tasks alone; a * stands for any letters")
     one.add_argument("--output", metavar="F", help="write the workload to this file")
     one.add_argument("--events", action="store_true", help="write a file of events, as `scxsim replay` reads it")
     one.set_defaults(do=fit_command)

@@ -26,9 +26,10 @@ SIDE_BY_SIDE_MS = 200
 
 def page(comparisons):
     """The page; everything that it shows stands in it."""
-    parts = [part for comparison in comparisons for part in parts_of(comparison)]
-    return ('<!DOCTYPE html>\n<html lang="en"><head><meta charset="utf-8"><title>Policies compared</title>\n'
-            f"<style>{STYLE}</style></head><body>\n<h1>Policies compared</h1>\n" + "\n".join(parts) + "\n</body></html>\n")
+    parts = "\n".join(part for comparison in comparisons for part in parts_of(comparison))
+    head = f'<meta charset="utf-8"><title>Policies compared</title>\n<style>{STYLE}</style>'
+    body = f"<h1>Policies compared</h1>\n{parts}\n"
+    return f'<!DOCTYPE html>\n<html lang="en"><head>{head}</head><body>\n{body}</body></html>\n'
 
 
 def parts_of(comparison):

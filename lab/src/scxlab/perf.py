@@ -12,7 +12,8 @@ LINE = re.compile(r"\s*(?P<comm>\S.*?)\s+(?P<pid>-?\d+)(?:/\d+)?\s+\[(?P<cpu>\d+
 # With the plugins of libtraceevent perf writes a task as `comm:pid [prio]`, without them as `comm=.. pid=..`.
 SWITCH = re.compile(r"prev_comm=(?P<comm>.*) prev_pid=(?P<pid>\d+) .*prev_state=(?P<state>\S+) ==> "
                     r"next_comm=(?P<next_comm>.*) next_pid=(?P<next_pid>\d+)")
-SHORT_SWITCH = re.compile(r"(?P<comm>.*):(?P<pid>\d+) \[\d+\] (?P<state>\S+) ==> (?P<next_comm>.*):(?P<next_pid>\d+) \[\d+\]")
+SHORT_SWITCH = re.compile(r"(?P<comm>.*):(?P<pid>\d+) \[\d+\] (?P<state>\S+) ==> "
+                          r"(?P<next_comm>.*):(?P<next_pid>\d+) \[\d+\]")
 WAKE = re.compile(r"comm=(?P<comm>.*) pid=(?P<pid>\d+)")
 SHORT_WAKE = re.compile(r"(?P<comm>.*):(?P<pid>\d+) \[\d+\]")
 WAKES = {"sched_waking", "sched_wakeup", "sched_wakeup_new"}

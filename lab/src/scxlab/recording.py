@@ -14,8 +14,8 @@ class Burst:
 
 @dataclass
 class Recording:
-    """The bursts of each task, in the order in which they woke first, and the millisecond at which it ends; `losses` are
-    lines that say what of it isn't here."""
+    """The bursts of each task, in the order in which they were seen first, and the millisecond at which it ends;
+    `losses` are lines that say what of it isn't here."""
 
     cpus: int
     end: float

@@ -1,5 +1,5 @@
-"""Looks for the workload of a template under which a figure is the greatest or the least: climbs from random beginnings,
-and then makes the best one found smaller."""
+"""Looks for the workload of a template under which a figure is the greatest or the least: climbs from random
+beginnings, and then makes the best one found smaller."""
 
 import random
 from dataclasses import dataclass
@@ -33,7 +33,7 @@ class Goal:
 
 
 def goal_of(text):
-    """Reads `max FIGURE` or `min FIGURE`; of several names it is the greatest or the least, where nothing else is said."""
+    """Reads `max FIGURE` or `min FIGURE`; of several names it is the greatest or the least, if nothing else is said."""
     direction, _, rest = text.strip().partition(" ")
     if direction not in ("max", "min"):
         raise LabError(f"{text!r} is no goal: it begins with max or min")
@@ -144,8 +144,8 @@ def shrunk(space, candidate):
 
 
 def smaller(candidate, place):
-    """Changes by which the number at a place gets smaller: at once to the least, by half, by one; of a count also by each of
-    the tasks, whose place the last one takes."""
+    """Changes by which the number at a place gets smaller: at once to the least, by half, by one; of a count also by
+    each of the tasks, whose place the last one takes."""
     least, value = candidate.ranges.get(place, (0, 0))[0], candidate.numbers.get(place, 0)
     for number in sorted({least, (least + value) // 2, value - 1}):
         if least <= number < value:

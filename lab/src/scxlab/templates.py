@@ -1,5 +1,5 @@
-"""Policies and workloads with places for numbers: `{slice}` in a text, a `count` of a sort of tasks, and numbers that are
-drawn from a range."""
+"""Policies and workloads with places for numbers: `{slice}` in a text, a `count` of a sort of tasks, and numbers that
+are drawn from a range."""
 
 import re
 import tomllib
@@ -28,8 +28,8 @@ def filled(text, values, path):
 
 
 def workload_of(text, path, choose=None):
-    """The workload that a filled template stands for. One without `seed`, `count` and ranges goes as it stands, and so does
-    one that isn't TOML, for the program to refuse."""
+    """The workload that a filled template stands for. One without `seed`, `count` and ranges goes as it stands, and so
+    does one that isn't TOML, for the program to refuse."""
     try:
         plan = tomllib.loads(text)
     except tomllib.TOMLDecodeError:

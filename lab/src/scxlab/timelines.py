@@ -64,8 +64,8 @@ def tasks_of(events):
 
 
 def bursts_of(seen, end):
-    """The bursts of a task. Where it woke again the one before was finished. The last one was where the task then neither
-    came to wait nor ran at the end."""
+    """The bursts of a task. Where it woke again the one before was finished. The last one was where the task then
+    neither came to wait nor ran at the end."""
     bursts = []
     for wake, following in zip(seen.wakes, [*seen.wakes[1:], None]):
         mine = [(at, length) for at, length in seen.slices if wake <= at and (following is None or at < following)]
