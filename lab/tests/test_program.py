@@ -8,7 +8,7 @@ import pytest
 from scxlab.account import account_of
 from scxlab.checks import Failed, in_force
 from scxlab.command import main
-from scxlab.figures import rows_of, state_of, values_of
+from scxlab.figures import figure_of, rows_of, state_of, values_of
 from scxlab.program import Program, find_program
 from scxlab.runs import Run
 
@@ -27,6 +27,18 @@ policy,mine,idle_while_waiting_ms,1
 """
 STALLED = "policy,mine,ended,stall a\npolicy,mine,ejected_at_ms,12\n"
 IN_FORCE = "policy,,ended,in force\n"
+WHY = """policy ejected at 12 ms: a had waited too long (stall)
+each task ran
+
+the last lines of the trace up to there, of a
+0 wake a
+
+b waited 2 ms, from 0 to 2
+  processor 0: a ran 2 ms
+
+a waited 12 ms, from 0 to 12
+  processor 0: b ran 12 ms
+"""
 HELP = "Runs workloads.\n\nCommands:\n  verify     Reads\n  stats-csv  Writes figures,\n             a line each\n  why        Says why\n\nOptions:\n"
 
 
@@ -36,7 +48,7 @@ def program(tmp_path, stats, told=HELP):
     path.write_text(f"""#!{sys.executable}
 import sys
 print(*sys.argv[1:2], file=open({str(tmp_path / 'calls')!r}, "a"))
-texts = {{"stats-csv": {stats!r}, "why": "a waited.\\n  Nobody dispatched.\\n", "--help": {told!r}}}
+texts = {{"stats-csv": {stats!r}, "why": {WHY!r}, "--help": {told!r}}}
 sys.stdout.write(texts[sys.argv[1]])
 sys.exit(2 if sys.argv[1] == "--help" else 0)
 """)
@@ -65,8 +77,12 @@ def test_what_is_of_the_policy_has_one_name():
 def test_a_program_that_says_why_is_asked(tmp_path):
     one = Run(program(tmp_path, STATS + STALLED), "p", "w")
     assert one.program.commands == {"verify", "stats-csv", "why"}
-    assert account_of(one) == ["a waited.", "  Nobody dispatched."]
-    with pytest.raises(Failed, match="the policy was ejected stall a at 12 ms\na waited.\n  Nobody dispatched."):
+    begin = ["policy ejected at 12 ms: a had waited too long (stall)", "each task ran"]
+    of_a = ["a waited 12 ms, from 0 to 12", "  processor 0: b ran 12 ms"]
+    assert account_of(one) == begin
+    assert account_of(one, figure_of("longest_wait_ms(a)")) == begin + of_a
+    assert account_of(one, figure_of("busy_ms(0)")) == begin
+    with pytest.raises(Failed, match="^the policy was ejected stall a at 12 ms\npolicy ejected at 12 ms: a had waited"):
         in_force(one)
 
 

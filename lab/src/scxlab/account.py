@@ -7,10 +7,23 @@ def account_of(one, figure=None):
     """Lines that say why a run is as it is. An older program has no `why`: then, of a figure of waits, the longest
     one with what each processor did meanwhile."""
     if "why" in one.program.commands:
-        return one.why.splitlines()
+        return account_of_page(one.why, figure)
     if figure and "wait" in figure.figure:
         return account_of_wait(one, longest_wait(one, figure.name))
     return []
+
+
+def account_of_page(page, figure):
+    """Of the page of `why` the block at its beginning, and the one of the longest wait of a task that a figure is of."""
+    summary, *blocks = page.split("\n\n")
+    of_waits = [block for block in blocks if figure and is_of_wait(block, figure.name)]
+    return [line for block in [summary, *of_waits[:1]] for line in block.splitlines()]
+
+
+def is_of_wait(block, pattern):
+    """Whether a block tells of a wait of a task whose name fits."""
+    task, _, told = block.partition(" ")
+    return told.startswith("waited ") and fnmatchcase(task, pattern)
 
 
 def longest_wait(one, pattern):
