@@ -1,0 +1,5 @@
+import sys
+
+from scxlab.command import main
+
+sys.exit(main())

@@ -1,0 +1,154 @@
+"""Experiments: templates of policies and a workload, the numbers for their places, and the figures to look at."""
+
+import random
+import tomllib
+from dataclasses import dataclass
+from functools import lru_cache
+from itertools import product
+from math import prod
+from pathlib import Path
+
+from scxlab import templates
+from scxlab.errors import LabError
+from scxlab.figures import figure_of
+
+KEYS = {"policies", "workload", "parameters", "sample", "figures"}
+
+
+@dataclass(frozen=True)
+class Experiment:
+    """What is to be run. Policies are texts by their names."""
+
+    policies: dict
+    workload: str
+    workload_path: str
+    parameters: dict
+    sample: tuple | None
+    figures: dict
+
+    @property
+    def size(self):
+        return self.sample[0] if self.sample else prod(map(len, self._sides()))
+
+    @property
+    def wants_counted(self):
+        """Whether a figure is asked for that an older program lacks."""
+        return any(figure.is_counted for figure in self.figures.values())
+
+    def _sides(self):
+        return [list(self.policies), *self.parameters.values()]
+
+    def points(self):
+        """Each point as the name of a policy and the values of all parameters: of the full grid the last one changes
+        fastest; a sample has no point twice."""
+        sides = self._sides()
+        if self.sample:
+            runs, seed = self.sample
+            combinations = (combination(sides, number)
+                            for number in random.Random(seed).sample(range(prod(map(len, sides))), runs))
+        else:
+            combinations = product(*sides)
+        for policy, *values in combinations:
+            yield policy, dict(zip(self.parameters, values))
+
+    def texts(self, policy, values):
+        """The policy and the workload at a point."""
+        workload = templates.filled(self.workload, values, self.workload_path)
+        return templates.filled(self.policies[policy], values, policy), drawn(workload, self.workload_path)
+
+
+@lru_cache(maxsize=4096)
+def drawn(workload, path):
+    """The workload of a filled template. Points that differ in the policy alone share it."""
+    return templates.workload_of(workload, path)
+
+
+def combination(sides, number):
+    """The combination that stands at a number of the full grid."""
+    values = []
+    for side in reversed(sides):
+        number, at = divmod(number, len(side))
+        values.append(side[at])
+    return values[::-1]
+
+
+def read_experiment(path):
+    """Reads an experiment; what is wrong with it is named by its key."""
+    try:
+        told = tomllib.loads(Path(path).read_text())
+    except (tomllib.TOMLDecodeError, UnicodeDecodeError) as error:
+        raise LabError(f"{path}: not TOML: {error}") from error
+    for key in told:
+        if key not in KEYS:
+            raise LabError(f"{path}: {key}: unknown")
+    folder = Path(path).parent
+    policies = {name: text_of(folder / name, path, "policies") for name in list_of(told, "policies", str, path)}
+    if not isinstance(told.get("workload"), str):
+        raise LabError(f"{path}: workload: {'wrong type' if 'workload' in told else 'missing'}")
+    workload = text_of(folder / told["workload"], path, "workload")
+    parameters = {name: values_of(value, f"{path}: parameters.{name}")
+                  for name, value in table_of(told, "parameters", path).items()}
+    figures = {name: figure_of(text) for name, text in table_of(told, "figures", path).items()}
+    check_places(policies | {told["workload"]: workload}, parameters, path)
+    sample = sample_of(told, len(policies) * prod(map(len, parameters.values())), path)
+    return Experiment(policies, workload, told["workload"], parameters, sample, figures)
+
+
+def text_of(file, path, key):
+    try:
+        return file.read_text()
+    except (OSError, UnicodeDecodeError) as error:
+        raise LabError(f"{path}: {key}: {file} can't be read") from error
+
+
+def list_of(told, key, kind, path):
+    values = told.get(key)
+    if not isinstance(values, list) or not values or not all(isinstance(value, kind) for value in values):
+        raise LabError(f"{path}: {key}: {'wrong type' if key in told else 'missing'}")
+    if len(set(values)) < len(values):
+        raise LabError(f"{path}: {key}: one stands there twice")
+    return values
+
+
+def table_of(told, key, path):
+    table = told.get(key, {})
+    if not isinstance(table, dict):
+        raise LabError(f"{path}: {key}: wrong type")
+    return table
+
+
+def values_of(value, place):
+    """The values of a parameter: a list, or whole numbers `from` one `to` another, by `step` where it isn't 1."""
+    if isinstance(value, list) and value and all(type(each) in (int, str) for each in value):
+        return value
+    keys = {"from", "to", "step"}
+    if isinstance(value, dict) and {"from", "to"} <= set(value) <= keys and whole_numbers(value.values()):
+        step = value.get("step", 1)
+        values = range(value["from"], value["to"] + 1, step) if step > 0 else ()
+        if values:
+            return values
+    raise LabError(f"{place}: is no list of numbers or texts, and no {{ from = 1, to = 9 }}")
+
+
+def whole_numbers(values):
+    return all(type(each) is int for each in values)
+
+
+def check_places(texts, parameters, path):
+    """Each place has a parameter, and each parameter a place."""
+    for name, text in texts.items():
+        templates.filled(text, parameters, name)
+    for name in parameters:
+        if not any(name in templates.places(text) for text in texts.values()):
+            raise LabError(f"{path}: parameters.{name}: no template has {{{name}}}")
+
+
+def sample_of(told, size, path):
+    if "sample" not in told:
+        return None
+    sample = table_of(told, "sample", path)
+    if not {"runs"} <= set(sample) <= {"runs", "seed"} or not whole_numbers(sample.values()):
+        raise LabError(f"{path}: sample: has `runs`, and may have `seed`, both whole numbers")
+    if not 1 <= sample["runs"] <= size:
+        raise LabError(f"{path}: sample.runs: out of range, the grid has {size} points")
+    return sample["runs"], sample.get("seed", 0)

@@ -1,0 +1,97 @@
+"""Figures: the lines of `stats-csv`, and single ones by name, as experiments and goals ask for them:
+`longest_wait_ms(a)`, `max mean_wait_ms(w*)`."""
+
+import csv
+import re
+from dataclasses import dataclass
+from fnmatch import fnmatchcase
+
+from scxlab.errors import LabError
+
+COLUMNS = ["kind", "name", "figure", "value"]
+OF_STATS = {
+    "task": ["run_ms", "waits", "mean_wait_ms", "wait_99_percent_ms", "longest_wait_ms", "longest_wait_since_ms",
+             "wakes", "stopped", "parked_ms"],
+    "cpu": ["busy_ms", "idle_ms", "changes"],
+    "group": ["share_percent", "due_percent", "quota_ms", "period_ms", "most_in_a_period_ms", "periods",
+              "throttled_periods", "throttled_ms"],
+    "policy": ["ejected_at_ms"],
+}
+# Those that an older program lacks; they are then counted from its traces.
+COUNTED = ["bursts", "mean_burst_ms", "burst_50_percent_ms", "burst_90_percent_ms", "burst_99_percent_ms",
+           "longest_burst_ms", "slowdown", "idle_while_waiting_ms"]
+KNOWN = [figure for figures in OF_STATS.values() for figure in figures] + COUNTED
+
+OVER = {"max": max, "min": min, "sum": sum, "mean": lambda values: sum(values) / len(values)}
+FORM = re.compile(r"(?:(max|min|sum|mean) +)?([a-z0-9_]+)\(([a-z0-9_*?]+)\)")
+ENDED = re.compile(r"^policy,[^,]*,ended,(.+)$", re.M)
+EJECTED_AT = re.compile(r"^policy,[^,]*,ejected_at_ms,(.+)$", re.M)
+NOTHING = float("nan")
+
+
+@dataclass(frozen=True)
+class Figure:
+    """A figure of one task, processor or group, or over all whose names fit a pattern with `*`."""
+
+    over: str | None
+    figure: str
+    name: str
+
+    @property
+    def text(self):
+        return f"{self.over + ' ' if self.over else ''}{self.figure}({self.name})"
+
+    @property
+    def is_counted(self):
+        return self.figure in COUNTED
+
+    def matches(self, values):
+        return [value for (figure, name), value in values.items()
+                if figure == self.figure and fnmatchcase(name, self.name)]
+
+    def value(self, values):
+        """Its value among those of a run, by figure and name; nothing where the run has none."""
+        found = self.matches(values)
+        if not found:
+            return NOTHING
+        if self.over is None and len(found) > 1:
+            raise LabError(f"{self.text} is {len(found)} figures: put max, min, sum or mean in front")
+        return OVER[self.over or "max"](found)
+
+
+def figure_of(text):
+    """Reads a figure as it is written in an experiment or a goal."""
+    match = FORM.fullmatch(text.strip())
+    if not match:
+        raise LabError(f"{text!r} is no figure: write one as longest_wait_ms(a), or as max longest_wait_ms(w*)")
+    if match[2] not in KNOWN:
+        raise LabError(f"{match[2]} is an unknown figure: known are {', '.join(KNOWN)}")
+    return Figure(*match.groups())
+
+
+def rows_of(text):
+    """The lines of `stats-csv` that hold numbers, as kind, name, figure and value. What is of the policy has the name
+    `policy`, whatever its file calls it."""
+    lines = list(csv.reader(text.splitlines()))
+    if lines[:1] != [COLUMNS]:
+        raise LabError(f"the figures aren't of this version: their first line isn't {','.join(COLUMNS)}")
+    return [(kind, "policy" if kind == "policy" else name, figure, float(value))
+            for kind, name, figure, value in lines[1:] if figure != "ended"]
+
+
+def values_of(text):
+    """The values of the lines of `stats-csv`, by figure and name."""
+    return {(figure, name): value for _, name, figure, value in rows_of(text)}
+
+
+def state_of(text):
+    """What became of the policy, in the words of a report; None where the lines don't say it."""
+    ended = ENDED.search(text)
+    if not ended or ended[1] == "in force":
+        return ended and ended[1]
+    return f"ejected {ended[1]} at {EJECTED_AT.search(text)[1]}"
+
+
+def has_counted(text):
+    """Whether lines of `stats-csv` have the figures that an older program lacks."""
+    return ",bursts," in text

@@ -1,0 +1,19 @@
+"""Pictures as texts of SVG, and in pages of HTML."""
+
+from base64 import b64encode
+from html import escape
+
+
+class Picture(str):
+    """A text of SVG, which a notebook shows as a picture."""
+
+    def _repr_html_(self):
+        return image_of(self, "a picture")
+
+    def __repr__(self):
+        return f"<picture of {len(self)} characters>"
+
+
+def image_of(svg, caption):
+    """The picture as HTML: an image of its own, so that names within two of them don't meet."""
+    return f'<img src="data:image/svg+xml;base64,{b64encode(svg.encode()).decode()}" alt="{escape(caption)}">'

@@ -1,0 +1,113 @@
+"""Workloads that are made of timelines: one of a timeline counted by hand, and those of the examples run again."""
+
+import os
+import re
+import tomllib
+
+import pytest
+from scxlab.command import main
+from scxlab.errors import LabError
+from scxlab.fit import fit
+from scxlab.program import Program
+
+PROGRAM = Program(os.environ["SCXSIM"])
+HEAD = '{"ph":"M","pid":0,"tid":0,"name":"thread_name","args":{"name":"cpu 0"}}'
+
+
+def timeline(tmp_path, *events):
+    """A timeline of one processor: `wake` and `insert` as (what, task, ms), slices as (`run`, task, ms, length)."""
+    lines = [HEAD]
+    for what, task, at, *length in events:
+        if what == "run":
+            lines.append(f'{{"ph":"X","pid":0,"tid":0,"ts":{at * 1000},"dur":{length[0] * 1000},"name":"{task}"}}')
+        else:
+            track, name = (0, task) if what == "wake" else (1, f"{task} to queue 0")
+            lines.append(f'{{"ph":"i","pid":1,"tid":{track},"ts":{at * 1000},"s":"t","name":"{name}"}}')
+    path = tmp_path / "t.json"
+    path.write_text('{"displayTimeUnit":"ms","traceEvents":[\n' + ",\n".join(lines) + "\n]}")
+    return path
+
+
+def test_bursts_and_sleeps_are_those_between_wakes(tmp_path):
+    # a: 2 ms from 0 on, sleeps 3, 1 ms from 5 and 1 from 8, sleeps 3 again, and runs as the run ends. b never sleeps.
+    path = timeline(tmp_path, ("wake", "a", 0), ("wake", "b", 0), ("run", "a", 0, 2), ("run", "b", 2, 3), ("wake", "a", 5),
+                    ("run", "a", 5, 1), ("insert", "a", 6), ("run", "b", 6, 2), ("run", "a", 8, 1), ("run", "b", 9, 3),
+                    ("insert", "b", 12), ("wake", "a", 12), ("run", "a", 12, 1))
+    plan = tomllib.loads(fit(path))
+    assert (plan["cpus"], plan["ms"]) == (1, 13)
+    assert plan["task"] == [{"name": "a", "group": "all", "start": 0, "run": 2, "sleep": 3},
+                            {"name": "b", "group": "all", "start": 0}]
+
+
+def test_what_is_lost_is_said(tmp_path):
+    path = timeline(tmp_path, ("wake", "a", 1), ("run", "a", 1, 2), ("wake", "a", 5), ("run", "a", 5, 4), ("wake", "a", 12),
+                    ("run", "a", 12, 1), ("wake", "c", 14))
+    text = fit(path)
+    assert "# lost: a: bursts of 1 to 4 ms are all 2 ms\n" in text
+    assert "# lost: a: sleeps of 2 to 3 ms are all 2 ms\n" in text
+    assert "# lost: groups, their weights and quotas aren't in a recording" in text
+    assert "# lost: no processor was busy at 14 ms, so the run may have been longer\n" in text
+
+
+def test_a_task_that_slept_once_sleeps_to_the_end(tmp_path):
+    path = timeline(tmp_path, ("wake", "a", 0), ("run", "a", 0, 2), ("wake", "b", 0), ("run", "b", 2, 7))
+    text = fit(path)
+    assert tomllib.loads(text)["task"][0] == {"name": "a", "group": "all", "start": 0, "run": 2, "sleep": 7}
+    assert "# lost: a: slept once and didn't wake again; it sleeps to the end of the run\n" in text
+
+
+def ran(policy, workload):
+    lines = PROGRAM.call("report", policy, workload).splitlines()
+    return {line.split()[1]: int(line.split()[3]) for line in lines if line.startswith("task")}
+
+
+def pairs(policies, workloads):
+    return [(policy, workload) for policy in policies.glob("*.toml") for workload in workloads.glob("*.toml")]
+
+
+def test_the_examples_run_as_before_within_2_percent(policies, workloads, tmp_path):
+    for policy, workload in pairs(policies, workloads):
+        (tmp_path / "t.json").write_text(PROGRAM.call("timeline", policy, workload))
+        (tmp_path / "w.toml").write_text(fit(tmp_path / "t.json", workload))
+        before, after = ran(policy, workload), ran(policy, tmp_path / "w.toml")
+        assert {task: pytest.approx(ms, rel=0.02) for task, ms in before.items()} == after, (policy, workload)
+
+
+def test_events_are_written_in_the_order_of_a_millisecond(tmp_path, workloads):
+    # a wakes at 0 and runs in 0 and 1; b wakes at 2 and runs in 2; a wakes again at 2 and is under way at the end.
+    path = timeline(tmp_path, ("wake", "a", 0), ("run", "a", 0, 2), ("wake", "b", 2), ("run", "b", 2, 1), ("wake", "a", 2),
+                    ("run", "a", 3, 1))
+    plan = tomllib.loads(fit(path, as_events=True))
+    assert plan["events"] == "0 wake a\n1 sleep a\n2 wake a\n2 wake b\n2 sleep b\n"
+    assert plan["task"] == [{"name": "a", "group": "all"}, {"name": "b", "group": "all"}]
+
+
+def test_changes_of_weights_are_events(tmp_path, policies, workloads):
+    # Of weights.toml the first change and the names of groups and tasks are read by hand.
+    changes = tomllib.loads((workloads / "weights.toml").read_text())["change"]
+    (tmp_path / "t.json").write_text(PROGRAM.call("timeline", policies / "simple.toml", workloads / "weights.toml"))
+    lines = tomllib.loads(fit(tmp_path / "t.json", workloads / "weights.toml", as_events=True))["events"].splitlines()
+    first = changes[0]
+    assert f"{first['at']} weight {first['group']} {first['weight']}" in lines
+
+
+@pytest.mark.skipif("replay-csv" not in PROGRAM.commands, reason="this program has no replay-csv")
+def test_events_of_a_run_make_the_same_run(policies, workloads, tmp_path):
+    for policy, workload in pairs(policies, workloads):
+        (tmp_path / "t.json").write_text(PROGRAM.call("timeline", policy, workload))
+        # A timeline doesn't say how long a run goes on in which nobody runs any more.
+        ms = tomllib.loads(workload.read_text())["ms"]
+        text = re.sub(r"^ms = \d+$", f"ms = {ms}", fit(tmp_path / "t.json", workload, as_events=True), flags=re.M)
+        (tmp_path / "e.toml").write_text(text)
+        assert PROGRAM.call("replay-csv", policy, tmp_path / "e.toml") == PROGRAM.call("stats-csv", policy, workload)
+
+
+def test_a_file_that_is_no_timeline_is_named(tmp_path, workloads, capsys):
+    (tmp_path / "t.json").write_text("[]")
+    assert main(["fit", str(tmp_path / "t.json")]) == 1
+    assert "t.json: is no timeline of scxsim" in capsys.readouterr().err
+    path = timeline(tmp_path, ("wake", "z", 0), ("run", "z", 0, 2))
+    with pytest.raises(LabError, match="has no task z"):
+        fit(path, workloads / "two_tasks.toml")
+    with pytest.raises(LabError, match="is no workload"):
+        fit(path, path)

@@ -1,0 +1,229 @@
+"""Templates, experiments and sweeps, on a small experiment that can be counted by hand."""
+
+import os
+import signal
+import sqlite3
+from contextlib import contextmanager
+from functools import partial
+
+import pytest
+from hypothesis import given
+from hypothesis import strategies as some
+from scxlab import templates
+from scxlab.clusters import client_of
+from scxlab.command import main
+from scxlab.errors import LabError
+from scxlab.experiment import read_experiment
+from scxlab.figures import figure_of, values_of
+from scxlab.program import Program
+from scxlab.store import Store
+from scxlab.sweep import plan, sweep, table
+
+POLICY = '''name = "slices"
+[code]
+init = """
+r1 = 0
+call 1001
+exit
+"""
+enqueue = """
+r4 = r2
+r2 = 0
+r3 = {slice}000000
+call 1002
+exit
+"""
+dispatch = """
+r1 = 0
+call 1004
+exit
+"""
+'''
+WORKLOAD = 'cpus = 1\nms = 40\n[[group]]\nname = "g"\n[[task]]\nname = "t"\ngroup = "g"\ncount = {tasks}\n'
+EXPERIMENT = """policies = ["p.toml"]
+workload = "w.toml"
+[parameters]
+slice = [2, 5]
+tasks = [2, 4]
+[figures]
+longest = "max longest_wait_ms(t*)"
+"""
+
+
+@pytest.fixture
+def folder(tmp_path):
+    (tmp_path / "p.toml").write_text(POLICY)
+    (tmp_path / "w.toml").write_text(WORKLOAD)
+    (tmp_path / "e.toml").write_text(EXPERIMENT)
+    return tmp_path
+
+
+@pytest.fixture(scope="module")
+def two_workers():
+    with client_of(local=2) as client:
+        yield client
+
+
+@contextmanager
+def lent(client):
+    yield client
+
+
+def run_all(folder, client, store=None):
+    experiment, program = read_experiment(folder / "e.toml"), Program(os.environ["SCXSIM"])
+    store = store or Store(folder / "r.sqlite")
+    outcome = sweep(plan(experiment, program, store), program, store, partial(lent, client))
+    return outcome, table(plan(experiment, program, store), store)
+
+
+def test_who_runs_in_turn_waits_for_a_slice_of_each_other(folder, two_workers):
+    outcome, rows = run_all(folder, two_workers)
+    assert (outcome.due, outcome.done, outcome.faults) == (4, 4, [])
+    # Slices of s ms and n tasks in turn: a wait of (n - 1) s.
+    assert list(zip(rows.slice, rows.tasks, rows.longest)) == [(2, 2, 2), (2, 4, 6), (5, 2, 5), (5, 4, 15)]
+    assert set(rows.state) == {"in force"}
+
+
+def test_what_is_there_is_not_done_again(folder, two_workers):
+    run_all(folder, two_workers)
+    assert run_all(folder, None)[0].due == 0
+    (folder / "e.toml").write_text(EXPERIMENT.replace("[2, 5]", "[2, 5, 3]"))
+    outcome, rows = run_all(folder, two_workers)
+    assert (outcome.due, outcome.done) == (2, 2)
+    assert list(rows.longest) == [2, 6, 5, 15, 3, 9]
+
+
+def test_a_worker_that_is_ended_loses_nothing(folder):
+    (folder / "e.toml").write_text(EXPERIMENT.replace("[2, 5]", "{ from = 1, to = 10 }")
+                                   .replace("[2, 4]", "{ from = 2, to = 21 }"))
+    with client_of(local=2) as client:
+        victim = min(client.run(os.getpid).values())
+        ended = []
+
+        class Ending(Store):
+            def add(self, program, results):
+                if not ended:
+                    ended.append(os.kill(victim, signal.SIGKILL))
+                super().add(program, results)
+
+        outcome, rows = run_all(folder, client, Ending(folder / "r.sqlite"))
+    assert ended and outcome.faults == []
+    assert (outcome.due, outcome.done, len(rows)) == (200, 200, 200)
+
+
+def test_an_interrupted_sweep_keeps_what_was_done(folder, two_workers, monkeypatch, capsys):
+    (folder / "e.toml").write_text(EXPERIMENT.replace("[2, 5]", "{ from = 1, to = 10 }")
+                                   .replace("[2, 4]", "{ from = 2, to = 11 }"))
+
+    def interrupt(progress, done, due):
+        raise KeyboardInterrupt
+
+    monkeypatch.setattr("scxlab.clusters.client_of", lambda *where: lent(two_workers))
+    with monkeypatch.context() as within:
+        within.setattr("scxlab.sweep.Progress.__call__", interrupt)
+        assert main(["sweep", str(folder / "e.toml")]) == 130
+    assert capsys.readouterr().err == f"scxlab: interrupted; what was done is kept in {folder / 'e.sqlite'}\n"
+    assert main(["sweep", str(folder / "e.toml")]) == 0
+    assert "100 points, 75 runs were due, 75 done" in capsys.readouterr().out
+
+
+def test_a_refused_point_is_named_and_the_others_are_kept(folder, capsys):
+    (folder / "e.toml").write_text(EXPERIMENT.replace("[2, 4]", "[2, 1024, 0]").replace("[2, 5]", "[2]"))
+    assert main(["sweep", str(folder / "e.toml"), "--local", "1"]) == 1
+    told = capsys.readouterr()
+    assert told.err == "scxlab: refused: workload task: missing (1 points)\n"
+    assert "3 points, 3 runs were due, 3 done" in told.out
+
+
+@pytest.mark.parametrize("was, becomes, told", [
+    ("slice = [2, 5]\n", "", "p.toml: line 11: {slice} is no parameter"),
+    ("slice =", "slyce = [1]\nslice =", "e.toml: parameters.slyce: no template has {slyce}"),
+    ("slice = [2, 5]", "slice = []", "parameters.slice: is no list"),
+    ("slice = [2, 5]", "slice = { from = 5, to = 2 }", "parameters.slice: is no list"),
+    ("longest_wait_ms", "longest_weight_ms", "longest_weight_ms is an unknown figure: known are run_ms, waits"),
+    ("max longest_wait_ms(t*)", "longest wait", "'longest wait' is no figure"),
+    ('"p.toml"', '"q.toml"', "e.toml: policies: .*q.toml can't be read"),
+    ("workload =", "workloads =", "e.toml: workloads: unknown"),
+    ("[figures]", "[sample]\nruns = 5\n[figures]", "sample.runs: out of range, the grid has 4 points"),
+    ("policies", "policies =", "e.toml: not TOML"),
+])
+def test_what_is_wrong_with_an_experiment_is_named(folder, was, becomes, told):
+    assert was in EXPERIMENT
+    (folder / "e.toml").write_text(EXPERIMENT.replace(was, becomes, 1))
+    with pytest.raises(LabError, match=told.replace("{", "\\{")):
+        read_experiment(folder / "e.toml")
+
+
+def test_a_figure_that_no_run_has_is_named(folder, two_workers):
+    (folder / "e.toml").write_text(EXPERIMENT.replace("t*", "u*"))
+    with pytest.raises(LabError, match=r"figures.longest: no run has max longest_wait_ms\(u\*\)"):
+        run_all(folder, two_workers)
+
+
+def test_files_of_results_of_another_version_or_none_are_named(tmp_path):
+    Store(tmp_path / "a").close()
+    with sqlite3.connect(tmp_path / "a") as base:
+        base.execute("UPDATE version SET version = '0'")
+    with pytest.raises(LabError, match="is of version 0 of results"):
+        Store(tmp_path / "a")
+    (tmp_path / "b").write_text("no data base, but long enough to be looked at as one")
+    with pytest.raises(LabError, match="b is no file of results"):
+        Store(tmp_path / "b")
+
+
+def test_another_program_is_told_from_this_one(folder, two_workers):
+    experiment, program = read_experiment(folder / "e.toml"), Program(os.environ["SCXSIM"])
+    other = Program(str(folder / "w.toml"))
+    other.__dict__["hash"] = program.hash
+    store = Store(folder / "r.sqlite")
+    outcome = sweep(plan(experiment, other, store), other, store, partial(lent, two_workers))
+    assert (outcome.done, outcome.faults) == (0, [f"a worker has another program at {other.path}"])
+
+
+def test_a_sample_has_each_point_once_and_is_the_same_each_time(folder):
+    text = EXPERIMENT.replace("[2, 5]", "{ from = 1, to = 30 }")
+    (folder / "e.toml").write_text(text + "[sample]\nruns = 20\nseed = 3\n")
+    points = [(values["slice"], values["tasks"]) for _, values in read_experiment(folder / "e.toml").points()]
+    assert len(set(points)) == 20
+    assert points == [(values["slice"], values["tasks"]) for _, values in read_experiment(folder / "e.toml").points()]
+    (folder / "e.toml").write_text(text + "[sample]\nruns = 60\n")
+    assert len({tuple(values.items()) for _, values in read_experiment(folder / "e.toml").points()}) == 60
+
+
+def test_a_count_of_tasks_is_written_out():
+    text = 'cpus = 1\nms = 9\n[[group]]\nname = "g"\n[[task]]\nname = "w"\ngroup = "g"\ncount = 2\nrun = 3\n'
+    assert templates.workload_of(text, "w") == (
+        'cpus = 1\nms = 9\n\n[[group]]\nname = "g"\n\n[[task]]\nname = "w1"\ngroup = "g"\nrun = 3\n'
+        '\n[[task]]\nname = "w2"\ngroup = "g"\nrun = 3\n')
+
+
+def test_a_plain_workload_goes_as_it_stands():
+    text = '# two\ncpus = 2\nms=3\n[[group]]\nname="g"\n'
+    assert templates.workload_of(text, "w") == text
+    assert templates.workload_of("cpus =", "w") == "cpus ="
+
+
+@given(some.integers(0, 2**70), some.integers(-5, 1000), some.integers(0, 1000))
+def test_drawn_numbers_lie_in_their_range_and_depend_on_seed_and_place_alone(seed, least, more):
+    number = templates.drawn_by(seed)("task.0.run", least, least + more)
+    assert least <= number <= least + more
+    assert number == templates.drawn_by(seed)("task.0.run", least, least + more)
+
+
+@given(some.text())
+def test_a_text_in_a_workload_is_read_back_as_it_was(text):
+    import tomllib
+
+    try:
+        text.encode()
+    except UnicodeEncodeError:
+        return
+    assert tomllib.loads(f"key = {templates.literal(text)}") == {"key": text}
+
+
+def test_a_figure_over_several_names():
+    values = values_of("kind,name,figure,value\ntask,w1,waits,3\ntask,w2,waits,5\ntask,x,waits,7\n")
+    assert [figure_of(f"{over} waits(w*)").value(values) for over in ("max", "min", "sum", "mean")] == [5, 3, 8, 4]
+    assert figure_of("waits(x)").value(values) == 7
+    with pytest.raises(LabError, match="is 2 figures"):
+        figure_of("waits(w*)").value(values)
