@@ -25,7 +25,7 @@ def listed(text, title):
     """The pairs of a name and what it means below a line such as 'Commands:'."""
     found = re.search(rf"^{title}:\n((?:  .*\n)*)", text, re.M)
     lines = found[1].splitlines() if found else []
-    return [re.fullmatch(r"  (-h, --\S+|-\S+(?:, --\S+)?|\S+) +(.*)", line).groups() for line in lines]
+    return [re.fullmatch(r"  (-\w, --\S+|\S+) +(.*)", line).groups() for line in lines]
 
 
 def usage_of(text):
