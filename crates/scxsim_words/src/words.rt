@@ -4,6 +4,9 @@ use clap::{Arg, ArgMatches, Command, Error};
 use std::alloc::{AllocError, Global};
 use std::convert::AsStr;
 
+/// The version, which nothing else says: scripts ask the program for it.
+const VERSION: &str = "0.2.0";
+
 const SLOTS: &str = "A file of BPF instructions, in slots of 8 bytes, low byte first";
 
 const TEXT: &str = "A file of assembler text, as docs/ASSEMBLY.md has it";
@@ -26,7 +29,7 @@ const CASES: &str = "Files of cases, as docs/CASES.md has them";
 ///
 /// # Errors
 ///
-/// The words are no command with its files, or ask for help, or memory ran out.
+/// The words are no command with its files, or ask for help or for the version, or memory ran out.
 pub fn read_words<'a, S: AsStr>(
     alloc: Global,
     words: &'a [S],
@@ -85,6 +88,7 @@ fn scxsim<'a>(alloc: Global) -> Result<Command<'a>, AllocError> {
         .about(
             "Runs workloads on simulated processors under a CPU scheduling policy in BPF, after verifying it.",
         )
+        .version(VERSION)
         .after_help(
             "scxsim help COMMAND says what a command reads and writes, with an example.\nA refused file is one line on standard output, with status 1. docs/REFUSALS.md explains each.",
         )

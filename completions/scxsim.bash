@@ -1,0 +1,50 @@
+# Completion of scxsim, made of its help by tools/completions.
+
+_scxsim_files() {
+    local IFS=$'\n'
+    compopt -o filenames
+    # shellcheck disable=SC2207
+    COMPREPLY=($(compgen -f -X "!*.$1" -- "$current") $(compgen -d -- "$current"))
+}
+
+_scxsim_words() {
+    # shellcheck disable=SC2207
+    COMPREPLY=($(compgen -W "$1" -- "$current"))
+}
+
+_scxsim_tasks() {
+    awk '/^[ \t]*\[/ { is_task = /^[ \t]*\[\[[ \t]*task[ \t]*\]\]/ }
+is_task && /^[ \t]*name[ \t]*=/ { sub(/^[^=]*=[ \t]*/, ""); print substr($0, 2, index(substr($0, 2), substr($0, 1, 1)) - 1) }' "$1" 2> /dev/null
+}
+
+_scxsim() {
+    local current=${COMP_WORDS[COMP_CWORD]}
+    COMPREPLY=()
+    if [ "$COMP_CWORD" -eq 1 ]; then
+        _scxsim_words "verify explain run report stats stats-csv timeline picture exec asm dis cases help --help"
+        return
+    fi
+    case ${COMP_WORDS[1]},$COMP_CWORD in
+        help,2) _scxsim_words "verify explain run report stats stats-csv timeline picture exec asm dis cases" ;;
+        verify,2) _scxsim_files toml ;;
+        explain,2) _scxsim_files toml ;;
+        run,2) _scxsim_files toml ;;
+        run,3) _scxsim_files toml ;;
+        report,2) _scxsim_files toml ;;
+        report,3) _scxsim_files toml ;;
+        stats,2) _scxsim_files toml ;;
+        stats,3) _scxsim_files toml ;;
+        stats-csv,2) _scxsim_files toml ;;
+        stats-csv,3) _scxsim_files toml ;;
+        timeline,2) _scxsim_files toml ;;
+        timeline,3) _scxsim_files toml ;;
+        picture,2) _scxsim_files toml ;;
+        picture,3) _scxsim_files toml ;;
+        exec,2) _scxsim_files bin ;;
+        asm,2) _scxsim_files asm ;;
+        dis,2) _scxsim_files bin ;;
+        cases,*) _scxsim_files txt ;;
+    esac
+}
+
+complete -F _scxsim scxsim
