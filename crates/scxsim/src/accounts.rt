@@ -2,39 +2,48 @@ use crate::console::Console;
 use crate::ending::{Ending, end};
 use crate::files::{RunFiles, Unread, files_of, hint_of_files};
 use crate::remarks::{named, remark_of_run};
-use scxsim_commands::{Fault, Out, text};
+use scxsim_charts::{Span, gantt, title};
+use scxsim_commands::{Fault, Out, Refusal, text};
 use scxsim_pictures::{picture, timeline};
 use scxsim_progress::Progress;
 use scxsim_simulation::{Listener, report, simulate};
 use scxsim_statistics::{stats, stats_csv};
 use scxsim_why::why;
-use scxsim_words::{Account, Course, Summary};
+use scxsim_words::{Account, Course, Part, Summary};
 use std::alloc::Global;
 
-/// The texts of the files of a run.
+/// What names a run: the paths of its files, and the words of a part of it.
+#[derive(Clone, Copy)]
+pub(crate) struct RunWords<'a> {
+    pub(crate) policy: &'a str,
+    pub(crate) workload: &'a str,
+    pub(crate) part: Option<Part<'a>>,
+}
+
+/// The texts of the files of a run, and what names it.
 #[derive(Clone, Copy)]
 struct RunTexts<'a> {
     policy: &'a str,
     workload: &'a str,
+    words: RunWords<'a>,
 }
 
 /// Writes an account of the run of these files, and says meanwhile on standard error how far it is.
 pub(crate) fn tell<'a, R: AllocGlobal + Console, W: Out>(
     rt: &R,
     account: Account,
-    policy: &'a str,
-    workload: &'a str,
+    words: RunWords<'a>,
     out: &mut W,
 ) -> Result<Ending, Unread<'a>> {
-    let files = files_of(rt, policy, workload)?;
+    let files = files_of(rt, words.policy, words.workload)?;
     let mut progress = Progress::new(rt, is_progress_seen(rt, account));
-    let outcome = write_account(rt.alloc(), account, &files, &mut progress, out);
+    let outcome = write_account(rt.alloc(), account, &files, words, &mut progress, out);
     progress.end();
     let remark = remark_of_run(
         rt.alloc(),
         &outcome,
-        named(policy, &files.policy),
-        named(workload, &files.workload),
+        named(words.policy, &files.policy),
+        named(words.workload, &files.workload),
     );
     Ok(end(outcome, hint_of_files(&files), remark, out))
 }
@@ -52,20 +61,25 @@ fn write_account<L: Listener, W: Out>(
     alloc: Global,
     account: Account,
     files: &RunFiles,
+    words: RunWords<'_>,
     listener: &mut L,
     out: &mut W,
 ) -> Result<bool, Fault> {
-    let texts = texts_of(files)?;
+    let texts = texts_of(files, words)?;
     match account {
         Account::Course(course) => write_course(alloc, course, texts, listener, out),
         Account::Summary(summary) => write_summary(alloc, summary, texts, listener, out),
     }
 }
 
-fn texts_of(files: &RunFiles) -> Result<RunTexts<'_>, Fault> {
+fn texts_of<'a>(files: &'a RunFiles, words: RunWords<'a>) -> Result<RunTexts<'a>, Fault> {
     let policy = text(files.policy.as_slice())?;
     let workload = text(files.workload.as_slice())?;
-    Ok(RunTexts { policy, workload })
+    Ok(RunTexts {
+        policy,
+        workload,
+        words,
+    })
 }
 
 fn write_course<L: Listener, W: Out>(
@@ -75,7 +89,11 @@ fn write_course<L: Listener, W: Out>(
     listener: &mut L,
     out: &mut W,
 ) -> Result<bool, Fault> {
-    let RunTexts { policy, workload } = texts;
+    let RunTexts {
+        policy,
+        workload,
+        ..
+    } = texts;
     match course {
         Course::Trace => simulate(alloc, policy, workload, listener, out),
         Course::Timeline => timeline(alloc, policy, workload, listener, out),
@@ -90,11 +108,41 @@ fn write_summary<L: Listener, W: Out>(
     listener: &mut L,
     out: &mut W,
 ) -> Result<bool, Fault> {
-    let RunTexts { policy, workload } = texts;
+    let RunTexts {
+        policy,
+        workload,
+        ..
+    } = texts;
     match summary {
         Summary::Report => report(alloc, policy, workload, listener, out),
         Summary::Stats => stats(alloc, policy, workload, listener, out),
         Summary::StatsCsv => stats_csv(alloc, policy, workload, listener, out),
         Summary::Why => why(alloc, policy, workload, listener, out),
+        Summary::Gantt => write_chart(alloc, texts, listener, out),
     }
+}
+
+fn write_chart<L: Listener, W: Out>(
+    alloc: Global,
+    texts: RunTexts<'_>,
+    listener: &mut L,
+    out: &mut W,
+) -> Result<bool, Fault> {
+    let RunTexts {
+        policy,
+        workload,
+        words,
+    } = texts;
+    let title = title_of(alloc, words)?;
+    let span = span_of(words.part);
+    gantt(alloc, title.as_str(), policy, workload, span, listener, out)
+}
+
+fn title_of(alloc: Global, words: RunWords<'_>) -> Result<String, Refusal> {
+    Ok(title(alloc, words.policy, words.workload)?)
+}
+
+fn span_of<'a>(part: Option<Part<'a>>) -> Option<Span<'a>> {
+    let Part { from, to } = part?;
+    Some(Span { from, to })
 }

@@ -27,6 +27,7 @@ mod usage;
 
 use crate::ending::{end_without_memory, say};
 use crate::process::run;
+pub use scxsim_charts::gantt;
 use scxsim_commands::FAILED;
 pub use scxsim_commands::{
     Counted, Failed, Fault, Out, Refusal, asm, check, dis, exec, finish, text,

@@ -1,4 +1,4 @@
-use crate::accounts::tell;
+use crate::accounts::{RunWords, tell};
 use crate::console::Console;
 use crate::ending::{Ending, end, end_without_memory, in_silence};
 use crate::files::{Unread, bytes_of};
@@ -39,7 +39,15 @@ fn do_request<'a, R: AllocGlobal + Console, W: Out>(
             account,
             policy,
             workload,
-        } => tell(rt, account, policy, workload, out),
+            part,
+        } => {
+            let words = RunWords {
+                policy,
+                workload,
+                part,
+            };
+            tell(rt, account, words, out)
+        }
         Request::Cases => Ok(in_silence(write_usage(
             "error: a file of cases can't run files of cases\n",
             out,
