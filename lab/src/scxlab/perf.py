@@ -66,7 +66,8 @@ class Reader:
             return
         seconds = float(match["at"])
         self.begin = seconds if self.begin is None else self.begin
-        self.at = (seconds - self.begin) * 1_000_000 / self.unit
+        # The difference of two binary fractions may be a bit less than what perf wrote.
+        self.at = round((seconds - self.begin) * 1_000_000 / self.unit, 6)
         self.cpus.add(int(match["cpu"]))
         if match["event"] == "sched_switch":
             self.switch(match["told"])
