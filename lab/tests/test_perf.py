@@ -58,6 +58,19 @@ x:1 9 [000] 5.004000: sched:sched_switch: x:1:9 [120] S ==> swapper/0:0 [120]
     assert bursts(recording, "x_1_9") == [(0, 3, 4)]
 
 
+def test_perf_begins_and_ends_with_one_processor_after_another(tmp_path):
+    # Processor 1 is recorded from 3 to 6: x ran there from 3 to 5 and y from 5 to 6, though processor 0 goes on to 9.
+    recording = recorded(tmp_path, BEGIN + """\
+x 1 [001] 5.003000: sched:sched_stat_runtime: comm=x pid=1 runtime=2000000 [ns]
+x 1 [001] 5.005000: sched:sched_switch: prev_comm=x prev_pid=1 prev_prio=120 prev_state=S ==> next_comm=y next_pid=2 next_prio=120
+y 2 [001] 5.006000: sched:sched_stat_runtime: comm=y pid=2 runtime=1000000 [ns]
+z 3 [000] 5.009000: sched:sched_stat_runtime: comm=z pid=3 runtime=1000000 [ns]
+""")
+    assert bursts(recording, "x_1") == [(3, 2, 5)]
+    assert bursts(recording, "y_2") == [(5, 1, None)]
+    assert recording.end == pytest.approx(9)
+
+
 def test_lines_that_were_lost_make_no_burst_longer(tmp_path):
     # a is seen to stop at 7 though it slept at 2: what it ran in between isn't known.
     lost = "".join(line for line in LINES.splitlines(True) if "next_comm=a " not in line and "comm=a pid=8 prio" not in line)
