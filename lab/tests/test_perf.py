@@ -58,6 +58,19 @@ x:1 9 [000] 5.004000: sched:sched_switch: x:1:9 [120] S ==> swapper/0:0 [120]
     assert bursts(recording, "x_1_9") == [(0, 3, 4)]
 
 
+def test_perf_begins_and_ends_with_one_processor_after_another(tmp_path):
+    # Processor 1 is recorded from 3 to 6: x ran there from 3 to 5 and y from 5 to 6, though processor 0 goes on to 9.
+    recording = recorded(tmp_path, BEGIN + """\
+x 1 [001] 5.003000: sched:sched_stat_runtime: comm=x pid=1 runtime=2000000 [ns]
+x 1 [001] 5.005000: sched:sched_switch: prev_comm=x prev_pid=1 prev_prio=120 prev_state=S ==> next_comm=y next_pid=2 next_prio=120
+y 2 [001] 5.006000: sched:sched_stat_runtime: comm=y pid=2 runtime=1000000 [ns]
+z 3 [000] 5.009000: sched:sched_stat_runtime: comm=z pid=3 runtime=1000000 [ns]
+""")
+    assert bursts(recording, "x_1") == [(3, 2, 5)]
+    assert bursts(recording, "y_2") == [(5, 1, None)]
+    assert recording.end == pytest.approx(9)
+
+
 def test_lines_that_were_lost_make_no_burst_longer(tmp_path):
     # a is seen to stop at 7 though it slept at 2: what it ran in between isn't known.
     lost = "".join(line for line in LINES.splitlines(True) if "next_comm=a " not in line and "comm=a pid=8 prio" not in line)
@@ -91,6 +104,20 @@ q 5 [000] {at + 0.00025:.6f}: sched:sched_switch: prev_comm=q prev_pid=5 prev_pr
     told = fit(tmp_path / "perf.txt")
     assert tomllib.loads(told)["task"] == [{"name": "q_5", "group": "all", "start": 0, "run": 1, "sleep": 39}]
     assert "# lost: q_5: bursts of 0.25 ms are 1 ms\n# lost: q_5: sleeps of 9.75 ms are 39 ms\n" in told
+
+
+def test_events_of_a_recording(tmp_path):
+    # a sleeps from 2 to 5 and from 7 on; the other one wakes at 2 and ends at 10.
+    (tmp_path / "perf.txt").write_text(BEGIN + LINES)
+    plan = tomllib.loads(fit(tmp_path / "perf.txt", as_events=True))
+    assert plan["events"] == "0 wake a_8\n1 sleep a_8\n2 wake web_content_9\n5 wake a_8\n6 sleep a_8\n9 sleep web_content_9\n"
+    # In units of 5 ms it sleeps at 0.4 and wakes at 1; then it sleeps at 1.4.
+    assert tomllib.loads(fit(tmp_path / "perf.txt", unit=5000, tasks=["a*"], as_events=True))["events"] == (
+        "0 wake a_8\n0 sleep a_8\n1 wake a_8\n1 sleep a_8\n")
+    # In units of 8 ms all that is one millisecond.
+    told = fit(tmp_path / "perf.txt", unit=8000, tasks=["a*"], as_events=True)
+    assert tomllib.loads(told)["events"] == "0 wake a_8\n0 sleep a_8\n"
+    assert "# lost: 1 sleeps that ended in the millisecond in which they began aren't here\n" in told
 
 
 @pytest.mark.parametrize("comm, name", [

@@ -93,6 +93,16 @@ def test_what_is_there_is_not_done_again(folder, two_workers):
     assert list(rows.longest) == [2, 6, 5, 15, 3, 9]
 
 
+def test_figures_that_are_asked_for_later_are_there_too(folder, two_workers):
+    run_all(folder, two_workers)
+    (folder / "e.toml").write_text(EXPERIMENT + 'bursts = "sum bursts(t*)"\n')
+    outcome, rows = run_all(folder, two_workers)
+    # Where the program has these figures nothing is done again. No task sleeps, so no burst was finished.
+    assert outcome.due == outcome.done and outcome.due in (0, 4)
+    assert list(rows.longest) == [2, 6, 5, 15] and list(rows.bursts) == [0, 0, 0, 0]
+    assert run_all(folder, None)[0].due == 0
+
+
 def test_a_worker_that_is_ended_loses_nothing(folder):
     (folder / "e.toml").write_text(EXPERIMENT.replace("[2, 5]", "{ from = 1, to = 10 }")
                                    .replace("[2, 4]", "{ from = 2, to = 21 }"))

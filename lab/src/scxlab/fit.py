@@ -42,15 +42,18 @@ def with_rhythms(plan, recording):
 
 def with_events(plan, recording):
     """The file of events: each task wakes and sleeps when it did."""
+    spans = {task["name"]: spans_of(recording.bursts[task["name"]]) for task in plan["task"]}
     lines = [(change["at"], 0, f"weight {change['group']} {change['weight']}") for change in plan["change"]]
-    for name in (task["name"] for task in plan["task"]):
-        for woke, slept in spans_of(recording.bursts[name]):
-            lines += [(woke, 1, f"wake {name}"), *([] if slept is None else [(slept, 2, f"sleep {name}")])]
+    lines += [(woke, 1, f"wake {name}") for name in spans for woke, _ in spans[name]]
+    lines += [(slept, 2, f"sleep {name}") for name in spans for _, slept in spans[name] if slept is not None]
     # In a millisecond weights come first, then wakes, and sleeps at its end.
     kept = sorted((line for line in lines if line[0] < plan["ms"]), key=lambda line: line[:2])
     if len(kept) > MOST_EVENTS:
         raise LabError(f"{len(kept)} events are more than the {MOST_EVENTS} of a file: take fewer tasks (see --tasks)")
     recording.losses.append("tasks sleep when they did in the recording, however long they have run by then")
+    short = sum(len(recording.bursts[name]) - len(spans[name]) for name in spans)
+    if short:
+        recording.losses.append(f"{short} sleeps that ended in the millisecond in which they began aren't here")
     events = "".join(f"{at} {told}\n" for at, _, told in kept)
     return {"cpus": plan["cpus"], "ms": plan["ms"], "events": events, "group": plan["group"], "task": plan["task"]}
 
@@ -60,7 +63,8 @@ def spans_of(bursts):
     out."""
     spans = []
     for burst in bursts:
-        woke, slept = int(burst.woke), burst.slept and max(int(burst.woke), ceil(burst.slept) - 1)
+        woke = int(burst.woke)
+        slept = None if burst.slept is None else max(woke, ceil(burst.slept) - 1)
         if spans and spans[-1][1] >= woke:
             woke = spans.pop()[0]
         spans.append((woke, slept))

@@ -17,16 +17,18 @@ SHORT_SWITCH = re.compile(r"(?P<comm>.*):(?P<pid>\d+) \[\d+\] (?P<state>\S+) ==>
 WAKE = re.compile(r"comm=(?P<comm>.*) pid=(?P<pid>\d+)")
 SHORT_WAKE = re.compile(r"(?P<comm>.*):(?P<pid>\d+) \[\d+\]")
 WAKES = {"sched_waking", "sched_wakeup", "sched_wakeup_new"}
+IDLE = "0"
 LONGEST_NAME = 16
 
 
 @dataclass
 class Task:
-    """One task of a kernel: its bursts so far, and since when it runs."""
+    """One task of a kernel: its bursts so far, and since when it runs and where."""
 
     comm: str
     bursts: list = field(default_factory=list)
     since: float | None = None
+    cpu: int | None = None
 
     @property
     def is_awake(self):
@@ -36,38 +38,39 @@ class Task:
         if not self.is_awake:
             self.bursts.append(Burst(at))
 
-    def run(self, at):
+    def run(self, at, cpu):
         """It begins to run, and so it is awake, though nothing told of it."""
         self.wake(at)
-        self.since = at
+        self.since, self.cpu = at, cpu
 
-    def stop(self, at, sleeps):
-        """It stops. One of which nothing was seen before has run since the recording began; of another that wasn't seen
-        to begin the lines were lost."""
-        if self.since is None:
-            self.run(at if self.bursts else 0)
+    def stop(self, at):
         self.bursts[-1].ran += at - self.since
         self.since = None
-        if sleeps:
-            self.bursts[-1].slept = at
+
+    def sleep(self, at):
+        self.bursts[-1].slept = at
 
 
 class Reader:
-    """Takes the lines one after another. Times are in milliseconds from the first line on."""
+    """Takes the lines one after another. Times are in milliseconds from the first line on. perf begins and ends with
+    one processor after another."""
 
     def __init__(self, unit):
-        self.unit, self.tasks, self.cpus = unit, {}, set()
-        self.begin, self.at, self.unread = None, 0, 0
+        self.unit, self.tasks = unit, {}
+        self.begin, self.at, self.cpu, self.unread = None, 0, None, 0
+        self.first, self.last = {}, {}
 
     def line(self, text):
         match = LINE.match(text)
         if not match:
             self.unread += 1
             return
-        seconds = float(match["at"])
+        seconds, self.cpu = float(match["at"]), int(match["cpu"])
         self.begin = seconds if self.begin is None else self.begin
-        self.at = (seconds - self.begin) * 1_000_000 / self.unit
-        self.cpus.add(int(match["cpu"]))
+        # The difference of two binary fractions may be a bit less than what perf wrote.
+        self.at = round((seconds - self.begin) * 1_000_000 / self.unit, 6)
+        self.first.setdefault(self.cpu, self.at)
+        self.last[self.cpu] = self.at
         if match["event"] == "sched_switch":
             self.switch(match["told"])
         elif match["event"] in WAKES:
@@ -78,11 +81,19 @@ class Reader:
         if not match:
             self.unread += 1
             return
-        if match["pid"] != "0":
-            # A state that begins with R is that of a task that would run on.
-            self.task(match["pid"], match["comm"]).stop(self.at, not match["state"].startswith("R"))
-        if match["next_pid"] != "0":
-            self.task(match["next_pid"], match["next_comm"]).run(self.at)
+        if match["pid"] != IDLE:
+            self.stop(self.task(match["pid"], match["comm"]), match["state"])
+        if match["next_pid"] != IDLE:
+            self.task(match["next_pid"], match["next_comm"]).run(self.at, self.cpu)
+
+    def stop(self, task, state):
+        """A task stops. One of which nothing was seen before has run since the recording of its processor began; of
+        another that wasn't seen to begin the lines were lost. In a state that begins with R it would run on."""
+        if task.since is None:
+            task.run(self.at if task.bursts else self.first[self.cpu], self.cpu)
+        task.stop(self.at)
+        if not state.startswith("R"):
+            task.sleep(self.at)
 
     def wake(self, told):
         match = WAKE.match(told) or SHORT_WAKE.match(told)
@@ -97,9 +108,10 @@ class Reader:
         return known
 
     def finish(self):
+        """Who runs at the end has run until its processor's recording ended."""
         for task in self.tasks.values():
             if task.since is not None:
-                task.bursts[-1].ran += self.at - task.since
+                task.stop(max(task.since, self.last[task.cpu]))
 
 
 def read_perf(path, unit):
@@ -108,7 +120,7 @@ def read_perf(path, unit):
     try:
         with open(path) as lines:
             for text in lines:
-                if "sched_stat_" not in text and text.strip():
+                if text.strip():
                     reader.line(text)
     except UnicodeDecodeError as error:
         raise LabError(f"{path}: is no text of perf sched script") from error
@@ -116,7 +128,7 @@ def read_perf(path, unit):
     if not reader.tasks:
         raise LabError(f"{path}: has no line of sched_switch as perf sched script writes them")
     bursts = {name_of(task.comm, pid): task.bursts for pid, task in reader.tasks.items()}
-    recording = Recording(len(reader.cpus), reader.at, bursts)
+    recording = Recording(len(reader.last), reader.at, bursts)
     idle = [name for name in bursts if not recording.ran(name)]
     recording.losses.append("priorities, and on which processors a task may run, aren't in a workload")
     if idle:
