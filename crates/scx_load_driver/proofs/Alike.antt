@@ -4,7 +4,6 @@ use Rattle.std.proofs.Common.{◌≡◌, ℕ, zero, suc, ◌<◌, ◌≤◌, ◌
 use Rattle.std.proofs.lemmas.Bool.{cases_eq, cases_lt}
 use Rattle.std.proofs.lemmas.List.{length-set, length-replicate, get_or-set_same, get_or-set_other, set_past}
 use Rattle.scx_dsq.specs.Queues.{len_of, front_of, behind_of}
-use Rattle.scx_dsq.specs.Calls.{after_create}
 use Rattle.scx_isa_semantics.specs.declared.callbacks.Callback.{Callback}
 use Rattle.scx_isa_semantics.specs.declared.callbacks.Callback.TheVariants as callback
 use Rattle.scx_isa_semantics.specs.declared.host_tables.Helper.{Helper}
@@ -24,11 +23,10 @@ use Rattle.scx_sched_world.specs.declared.call.Insert.{Insert}
 use Rattle.scx_sched_tasks.specs.declared.task.Task.{Task}
 use Rattle.scx_sched_tasks.specs.Tasks.{no_task}
 use Rattle.scx_sched_world.specs.declared.faults.Fault.{Fault}
-use Rattle.scx_sched_world.specs.declared.faults.Fault.TheVariants.{NoSuchQueue, NoSuchCpu, CannotCreate}
 use Rattle.scx_sched_world.specs.Ids.{global, builtin_queue, parked_queue, local_on}
-use Rattle.scx_sched_world.specs.World.{WorldState, with_queues, with_task, task_at, is_throttled, waits, running, at_callback}
+use Rattle.scx_sched_world.specs.World.{WorldState, with_task, task_at, is_throttled, waits, running, at_callback}
 use Rattle.scx_sched_world.specs.Tasks.{after_leave, after_enter, for_cpu, brought, fill_front, after_stop, started_at, put_parked, after_take, let_go}
-use Rattle.scx_sched_world.specs.Helpers.{is_there, can_create, with_fault, is_dispatch, insert_fault, with_insert, after_release, insert_or_fault, insert_of, insert_of_vtime, can_move, front_moved_to_local, given_number, given_task, helper_after, stored_in, world_functions}
+use Rattle.scx_sched_world.specs.Helpers.{is_dispatch, with_insert, after_release, insert_or_fault, front_moved_to_local, helper_after, stored_in, world_functions}
 use Rattle.scx_sched_machine.specs.Policy.{PolicyState}
 use Rattle.scx_sched_world.specs.declared.eject.Eject.{Eject}
 use Rattle.scx_sched_world.specs.Ejecting.{put_out, put_builtin, after_evictions, after_cut, cut_task, after_charge, after_catch_up}

@@ -1,7 +1,7 @@
 -- No event of a workload is refused: each block is accepted, and leaves a machine of as many tasks,
 -- processors and groups.
-use Rattle.std.proofs.Common.{◌≡◌, ℕ, zero, suc, ◌+◌, ◌*◌, ◌<◌, ◌≤◌, Bool, true, false, not, ◌&&◌, List, [], ◌∷◌, length, set, refl, ◌∙◌, ap, arith, cond}
-use Rattle.std.proofs.lemmas.List.{length-set, length-map}
+use Rattle.std.proofs.Common.{◌≡◌, ℕ, zero, suc, ◌+◌, ◌*◌, ◌<◌, ◌≤◌, Bool, true, false, not, ◌&&◌, List, [], ◌∷◌, length, refl, ◌∙◌, ap, arith}
+use Rattle.std.proofs.lemmas.List.{length-map}
 use Rattle.scx_weights.specs.Hierarchy.{idle}
 use Rattle.scx_sched_world.specs.World.{WorldState, is_runnable}
 use Rattle.scx_sched_machine.specs.declared.events.Event.TheVariants as event
@@ -11,7 +11,7 @@ use Rattle.scx_sched.specs.Sim.{SimState, max_events, IsFirstState}
 use Rattle.scx_load_workloads.specs.declared.workload.Timing.{Timing}
 use Rattle.scx_load_workloads.specs.Workload.{WorkloadState, IsWorkload, IsChange, change_at}
 use Rattle.scx_load_driver.specs.Runs.{stepped_all, AreAccepted}
-use Rattle.scx_load_driver.specs.Blocks.{Plan, Memory, Block, Changes, Wakes, Ticks, Sleeps, Clock, events_below, set_below, is_at, is_due, has_run_enough, block_events, memory_after}
+use Rattle.scx_load_driver.specs.Blocks.{Plan, Memory, Block, Changes, Wakes, Ticks, Sleeps, Clock, events_below, is_at, is_due, has_run_enough, block_events, memory_after}
 use Rattle.scx_load_driver.specs.Events.{blocks_from, events_from, plan_of, first_memory, workload_events}
 use Rattle.scx_load_driver.proofs.Below.{length_set_below}
 use Rattle.scx_load_driver.proofs.Alike.{Times, IsLike, times_of, like_groups, like_first}

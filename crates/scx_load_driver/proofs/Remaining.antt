@@ -12,7 +12,6 @@ use Rattle.scx_load_driver.specs.declared.driver.Phase.TheVariants as phase
 use Rattle.scx_load_driver.specs.Runs.{stepped_all}
 use Rattle.scx_load_driver.specs.Blocks.{Block, Changes, Wakes, Ticks, Sleeps, Clock, changes_at, wakes_at, ticks_of, ran_after}
 use Rattle.scx_load_driver.specs.Watch.{sleeps_seen, due_seen, watched_still, events_seen, watched_after_all}
-use Rattle.scx_load_driver.specs.Events.{blocks_from}
 use Rattle.scx_load_driver.specs.Driver.{DriverState, remaining, is_empty, after_answer, at_first_block, at_next_block, blocks_left, phase_number, next_number}
 
 -- there are blocks where milliseconds are left

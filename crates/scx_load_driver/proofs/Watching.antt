@@ -1,6 +1,6 @@
 -- A driver that watches whoever may have run enough gives all events of a workload: a task that has run enough was
 -- watched as it ran so far.
-use Rattle.std.proofs.Common.{◌≡◌, ℕ, zero, suc, ◌+◌, ◌-◌, ◌*◌, ◌<◌, ◌≤◌, ◌⊎◌, inl, inr, Bool, true, false, not, ◌&&◌, nat_lt, nat_le, ◌==◌, is_none, if◌then◌else◌, List, [], ◌∷◌, ◌++◌, length, set, get_or, map, replicate, Option, Some, None, refl, sym, ap, ◌∙◌, subst, arith}
+use Rattle.std.proofs.Common.{◌≡◌, ℕ, ◌+◌, ◌-◌, ◌*◌, ◌<◌, ◌≤◌, ◌⊎◌, inl, inr, Bool, true, false, not, ◌&&◌, nat_lt, nat_le, ◌==◌, is_none, if◌then◌else◌, List, [], ◌∷◌, ◌++◌, length, set, get_or, map, replicate, Option, Some, None, refl, sym, ap, ◌∙◌, subst, arith}
 use Rattle.std.proofs.lemmas.Bool.{cases_eq, cases_lt, eq-eqb, ne_eqb}
 use Rattle.std.proofs.lemmas.Bool.Decides.{nat_tests}
 use Rattle.std.proofs.lemmas.List.{length-set, length-replicate, get_or-replicate, get_or-set_same, get_or-set_other, set_past}
@@ -29,8 +29,8 @@ use Rattle.scx_load_driver.specs.Watch.{is_watched, lacks_at_most, watched_if, w
 use Rattle.scx_load_driver.specs.Events.{blocks_from, events_from, plan_of, first_memory, workload_events}
 use Rattle.scx_load_driver.specs.Driver.{remaining}
 use Rattle.scx_load_driver.proofs.Below.{events_alike, sets_alike, kept_out, length_set_below}
-use Rattle.scx_load_driver.proofs.Alike.{IsLike, times_of, like_active}
-use Rattle.scx_load_driver.proofs.Happening.{times_after_tick, like_clock, like_tick, like_wake, like_sleep, others_stay}
+use Rattle.scx_load_driver.proofs.Alike.{IsLike, times_of}
+use Rattle.scx_load_driver.proofs.Happening.{like_clock, like_tick, like_wake, like_sleep, others_stay}
 
 -- ---- lists
 

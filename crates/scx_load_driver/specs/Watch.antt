@@ -9,7 +9,7 @@ use Rattle.scx_sched.specs.Sim.{SimState, after_event}
 use Rattle.scx_load_workloads.specs.declared.workload.Timing.{Timing}
 use Rattle.scx_load_workloads.specs.Workload.{timing_at}
 use Rattle.scx_load_driver.specs.Runs.{stepped_all}
-use Rattle.scx_load_driver.specs.Blocks.{Plan, Memory, Block, Changes, Wakes, Ticks, Sleeps, Clock, events_below, set_below, has_run_enough, block_events, memory_after}
+use Rattle.scx_load_driver.specs.Blocks.{Plan, Memory, Block, Sleeps, events_below, set_below, has_run_enough, block_events, memory_after}
 
 -- whether the task is watched; none is past the end
 abbrev pub is_watched : List Bool → ℕ → Bool

@@ -1,4 +1,4 @@
-use Rattle.std.proofs.Common.{◌≡◌, true, false, List, Bool, sym, subst, ◌∙◌}
+use Rattle.std.proofs.Common.{false, sym, ◌∙◌}
 use Rattle.scx_load_driver.specs.Driver.{AreUnwatched}
 use Rattle.scx_load_driver.proofs.Quiet.{no_sleeps, same_due, same_watched}
 use Rattle.scx_load_driver.proofs.blocks.add_sleeps.Goals as goal

@@ -1,4 +1,4 @@
-use Rattle.std.proofs.Common.{◌≡◌, sym, ◌∙◌, arith}
+use Rattle.std.proofs.Common.{sym, ◌∙◌, arith}
 use Rattle.scx_load_driver.proofs.Quiet.{no_wakes, same_ran}
 use Rattle.scx_load_driver.proofs.blocks.add_wakes.Goals as goal
 

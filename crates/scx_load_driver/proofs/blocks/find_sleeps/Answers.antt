@@ -1,4 +1,4 @@
-use Rattle.std.proofs.Common.{rules, ◌≡◌, ℕ, ◌+◌, ◌≤◌, ◌<◌, [], length, not, set, slice_set, true, false, List, ◌∷◌, ◌++◌, sym, ap, ◌∙◌, subst, arith}
+use Rattle.std.proofs.Common.{rules, ◌≡◌, ◌+◌, [], not, set, true, false, ◌∷◌, ◌++◌, sym, ap, ◌∙◌, subst, arith}
 use Rattle.scx_sched_machine.specs.declared.events.Event.TheVariants.{Sleep}
 use Rattle.scx_load_workloads.specs.Workload.{timing_at}
 use Rattle.scx_load_driver.specs.Watch.{is_seen}
