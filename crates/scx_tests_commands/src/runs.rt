@@ -1,5 +1,6 @@
 //! The commands that run a workload.
 
+use scxsim_charts::gantt;
 use scxsim_commands::Fault;
 use scxsim_output::Out;
 use scxsim_pictures::{picture, timeline};
@@ -27,13 +28,15 @@ pub(crate) enum Summary {
     Report,
     Stats,
     StatsCsv,
+    Gantt,
 }
 
-pub(crate) const ACCOUNTS: [Account; 6] = [
+pub(crate) const ACCOUNTS: [Account; 7] = [
     Account::Course(Course::Trace),
     Account::Summary(Summary::Report),
     Account::Summary(Summary::Stats),
     Account::Summary(Summary::StatsCsv),
+    Account::Summary(Summary::Gantt),
     Account::Course(Course::Timeline),
     Account::Course(Course::Picture),
 ];
@@ -79,5 +82,6 @@ fn write_summary<L: Listener, W: Out>(
         Summary::Report => report(alloc, policy, workload, listener, out),
         Summary::Stats => stats(alloc, policy, workload, listener, out),
         Summary::StatsCsv => stats_csv(alloc, policy, workload, listener, out),
+        Summary::Gantt => gantt(alloc, "a on b", policy, workload, None, listener, out),
     }
 }
