@@ -1,5 +1,6 @@
 //! The commands that run a workload.
 
+use scxsim_charts::gantt;
 use scxsim_commands::Fault;
 use scxsim_output::Out;
 use scxsim_pictures::{picture, timeline};
@@ -29,14 +30,16 @@ pub(crate) enum Summary {
     Stats,
     StatsCsv,
     Why,
+    Gantt,
 }
 
-pub(crate) const ACCOUNTS: [Account; 7] = [
+pub(crate) const ACCOUNTS: [Account; 8] = [
     Account::Course(Course::Trace),
     Account::Summary(Summary::Report),
     Account::Summary(Summary::Stats),
     Account::Summary(Summary::StatsCsv),
     Account::Summary(Summary::Why),
+    Account::Summary(Summary::Gantt),
     Account::Course(Course::Timeline),
     Account::Course(Course::Picture),
 ];
@@ -83,5 +86,6 @@ fn write_summary<L: Listener, W: Out>(
         Summary::Stats => stats(alloc, policy, workload, listener, out),
         Summary::StatsCsv => stats_csv(alloc, policy, workload, listener, out),
         Summary::Why => why(alloc, policy, workload, listener, out),
+        Summary::Gantt => gantt(alloc, "a on b", policy, workload, None, listener, out),
     }
 }
