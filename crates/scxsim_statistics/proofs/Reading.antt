@@ -13,7 +13,7 @@ use Rattle.scxsim_statistics.proofs.Staying.{tasks_stay}
 
 all_there : (policy workload : List ℕ) (w : WorkloadState) (s : SimState) → IsRun policy workload w s → length (last_of w s).state.world.tasks ≡ length w.homes
 all_there policy workload w s run =
-    tasks_stay (workload_events w s) s run.accepted ∙ (like_first run.machine (idle w.groups w.homes) w.cpus s.state run.first.0).1
+    tasks_stay (workload_events w s) s run.accepted ∙ (like_first run.machine (idle w.groups w.homes) w.cpus s.state run.first.0).1.0
 
 -- figures of the run that two texts stand for, through all its events, are figures of the texts
 pub of_texts : (policy workload : List ℕ) (w : WorkloadState) (s : SimState) (es : List Event) (f : Figures)

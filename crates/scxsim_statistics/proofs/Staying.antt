@@ -1,5 +1,5 @@
 -- An accepted event leaves as many tasks as there were.
-use Rattle.std.proofs.Common.{◌≡◌, ℕ, ◌<◌, ◌≤◌, Bool, true, false, cond, eqb, List, [], ◌∷◌, length, Option, None, Some, is_none, refl, sym, ap, ◌∙◌, ◌⊎◌, inl, inr}
+use Rattle.std.proofs.Common.{◌≡◌, ℕ, ◌<◌, ◌≤◌, Bool, true, false, cond, eqb, List, [], ◌∷◌, length, Option, None, Some, is_none, refl, sym, ap, ◌∙◌, ◌⊎◌, inl, inr, arith}
 use Rattle.std.proofs.lemmas.Bool.{cases_lt, le-ltb}
 use Rattle.scx_weights.specs.Refusals.{weight_fault}
 use Rattle.scx_sched_machine.specs.declared.events.Event.{Event}
@@ -10,27 +10,31 @@ use Rattle.scx_sched_machine.specs.Steps.{State}
 use Rattle.scx_sched_machine.specs.Events as machine
 use Rattle.scx_sched.specs.Sim.{SimState, max_events, refusal, after_event, stepped_if}
 use Rattle.scx_load_driver.specs.Runs.{stepped_all, AreAccepted}
-use Rattle.scx_load_driver.proofs.Alike.{IsLike}
+use Rattle.scx_load_driver.proofs.Alike.{IsLike, Times, times_of}
 use Rattle.scx_load_driver.proofs.Happening.{like_clock, like_tick, like_wake, like_sleep}
 
-like_now : (s : State) → IsLike s.world.tree (length s.world.tasks) (length s.world.cpus) s.world
-like_now s = ((refl, refl, refl), refl, refl)
+-- as many tasks as now, which have run as long
+abbrev times : State → Times
+times s = times_of (length s.world.tasks) s.world
+
+like_now : (s : State) → IsLike s.world.tree (times s) (length s.world.cpus) s.world
+like_now s = ((refl, refl, refl), (refl, λ u. omega arith), refl)
 
 -- a task that isn't there can't sleep
 not_there : (s : State) (t : ℕ) → length s.world.tasks ≤ t → machine.refusal s (event.Sleep t) ≡ Some UnknownTask
 not_there s t past = rw (le-ltb t (length s.world.tasks) past) refl
 
 as_many : (v : Event) (s : State) → machine.refusal s v ≡ None → length (machine.event_step s v).state.world.tasks ≡ length s.world.tasks
-as_many (event.Wake t) s accepted = (like_wake s.world.tree (length s.world.tasks) (length s.world.cpus) s t (like_now s)).1
+as_many (event.Wake t) s accepted = (like_wake s.world.tree (times s) (length s.world.cpus) s t (like_now s)).1.0
 as_many (event.Sleep t) s accepted = go (cases_lt t (length s.world.tasks))
   where
     go : (t < length s.world.tasks) ⊎ (length s.world.tasks ≤ t) → length (machine.event_step s (event.Sleep t)).state.world.tasks ≡ length s.world.tasks
-    go (inl there) = (like_sleep s.world.tree (length s.world.tasks) (length s.world.cpus) s t there (like_now s)).1
+    go (inl there) = (like_sleep s.world.tree (times s) (length s.world.cpus) s t there (like_now s)).1.0
     go (inr past) =
         let wrong : Some UnknownTask ≡ None = sym (not_there s t past) ∙ accepted in
         absurd (cc)
-as_many (event.Tick c) s accepted = (like_tick s.world.tree (length s.world.tasks) (length s.world.cpus) s c (like_now s)).1
-as_many event.Clock s accepted = (like_clock s.world.tree (length s.world.tasks) (length s.world.cpus) s (like_now s)).1
+as_many (event.Tick c) s accepted = (like_tick s.world.tree (times s) (length s.world.cpus) s c (like_now s)).1.0
+as_many event.Clock s accepted = (like_clock s.world.tree (times s) (length s.world.cpus) s (like_now s)).1.0
 as_many (event.SetWeight g x) s accepted = go (is_none (weight_fault s.world.tree g x)) refl
   where
     go : (b : Bool) → is_none (weight_fault s.world.tree g x) ≡ b → length (machine.event_step s (event.SetWeight g x)).state.world.tasks ≡ length s.world.tasks
