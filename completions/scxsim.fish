@@ -28,7 +28,7 @@ end
 
 complete -c scxsim -f
 complete -c scxsim -n 'test (count (commandline -opc)) -eq 1' -a help -d 'says what a command reads and writes'
-complete -c scxsim -n 'test (count (commandline -opc)) -eq 1' -a '--help'
+complete -c scxsim -n 'test (count (commandline -opc)) -eq 1' -a '--help --version'
 complete -c scxsim -n '__scxsim_at 2 help' -a 'verify explain run report stats stats-csv timeline picture exec asm dis cases'
 complete -c scxsim -n 'test (count (commandline -opc)) -eq 1' -a verify -d 'Reads a policy file, and says of each callback whether it is safe'
 complete -c scxsim -n 'test (count (commandline -opc)) -eq 1' -a explain -d 'Verifies the same, and shows what is known before each instruction, and why one is refused'
