@@ -119,4 +119,4 @@ def test_a_move_changes_two_numbers_at_most(numbers, dice):
 
 def test_the_figures_of_stats_are_known(policies, workloads):
     written = Program(os.environ["SCXSIM"]).call("stats-csv", policies / "fifo.toml", workloads / "limited.toml")
-    assert {line.split(",")[2] for line in written.splitlines()[1:]} <= set(KNOWN)
+    assert {line.split(",")[2] for line in written.splitlines()[1:]} <= {*KNOWN, "ended"}
