@@ -1,14 +1,17 @@
 """Checks of runs that are counted in docs/FILES.md: of two tasks on one processor for 4 ms, in slices of 2 ms."""
 
 import os
+import re
 import subprocess
 import sys
 from pathlib import Path
 
 import pytest
+from scxlab.account import account_of, account_of_wait, longest_wait
 from scxlab.checks import Failed, read_checks, reading_of
 from scxlab.compare import compare
 from scxlab.errors import LabError
+from scxlab.figures import figure_of
 from scxlab.runs import run
 
 SOURCES = Path(__file__).resolve().parent.parent / "src"
@@ -36,14 +39,20 @@ def test_lines_that_hold(one, line):
 
 
 def test_a_line_that_fails_shows_figure_bound_and_what_happened(one):
-    assert told(one, "longest_wait_ms(a) <= 1") == (
-        "longest_wait_ms(a) is 2, and the bound is <= 1\na waited for 2 ms by the clock, in the picture from 2 to 4. Meanwhile:\n"
-        "  cpu 0: b ran 2 ms")
+    lines = told(one, "longest_wait_ms(a) <= 1").splitlines()
+    assert lines[0] == "longest_wait_ms(a) is 2, and the bound is <= 1"
+    assert lines[1:] == account_of(one, figure_of("longest_wait_ms(a)")) != []
+
+
+def test_what_happened_in_the_longest_wait(one):
+    assert account_of_wait(one, longest_wait(one, "a")) == [
+        "a waited for 2 ms by the clock, in the picture from 2 to 4. Meanwhile:", "  cpu 0: b ran 2 ms"]
 
 
 def test_shares_and_ejections_that_fail(policies, workloads):
     fair = run(policies / "simple.toml", workloads / "three_to_one.toml")
-    assert told(fair, "share(web) within 24.9 of due") == "share(web) is 50 %, 75 % were due, and the bound is within 24.9"
+    assert told(fair, "share(web) within 24.9 of due").startswith(
+        "share(web) is 50 %, 75 % were due, and the bound is within 24.9")
     assert told(fair, "share(web) within 25 of due") is None
     assert told(fair, "share(www) within 25 of due") == "the workload has no group www"
     # A held task that goes to sleep stays in the ring of central.toml, and is inserted while it sleeps.
@@ -58,7 +67,7 @@ def test_what_became_slower_is_named(policies, workloads, tmp_path):
     assert told(one, "not slower than main.csv by 5 %", tmp_path) is None
     table.loc[(table.figure == "mean_wait_ms") & (table.name == "a"), "value"] = 0.5
     table.to_csv(tmp_path / "main.csv", index=False)
-    assert told(one, "not slower than main.csv by 5 %", tmp_path) == (
+    assert told(one, "not slower than main.csv by 5 %", tmp_path).startswith(
         "slower than main.csv by more than 5 %:\nmean_wait_ms(a) is 1, and was 0.5")
     assert told(one, "not slower than main.csv by 100 %", tmp_path) is None
     other = run(policies / "fifo.toml", workloads / "two_tasks.toml")
@@ -87,6 +96,7 @@ def test_the_command_is_pytest(policies, workloads, tmp_path):
     done = subprocess.run([sys.executable, "-m", "scxlab", "check", str(file), "--options", f"--junitxml={report}"],
                           capture_output=True, text=True, env=os.environ | {"PYTHONPATH": str(SOURCES)}, cwd=tmp_path)
     assert done.returncode == 1
-    assert "longest_wait_ms(b) is 4, and the bound is <= 1\nb waited for 4 ms by the clock" in done.stdout
+    assert "longest_wait_ms(b) is 4, and the bound is <= 1\n" in done.stdout
+    assert re.search("^b waited (for )?4 ms", done.stdout, re.M)
     assert "1 failed, 1 passed" in done.stdout
     assert 'tests="2"' in report.read_text() and 'failures="1"' in report.read_text()
