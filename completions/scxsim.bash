@@ -21,11 +21,11 @@ _scxsim() {
     local current=${COMP_WORDS[COMP_CWORD]}
     COMPREPLY=()
     if [ "$COMP_CWORD" -eq 1 ]; then
-        _scxsim_words "verify explain run report stats stats-csv timeline picture exec asm dis cases help --help --version"
+        _scxsim_words "verify explain run report stats stats-csv why timeline picture gantt gantt-part exec asm dis cases help --help --version"
         return
     fi
     case ${COMP_WORDS[1]},$COMP_CWORD in
-        help,2) _scxsim_words "verify explain run report stats stats-csv timeline picture exec asm dis cases" ;;
+        help,2) _scxsim_words "verify explain run report stats stats-csv why timeline picture gantt gantt-part exec asm dis cases" ;;
         verify,2) _scxsim_files toml ;;
         explain,2) _scxsim_files toml ;;
         run,2) _scxsim_files toml ;;
@@ -36,10 +36,16 @@ _scxsim() {
         stats,3) _scxsim_files toml ;;
         stats-csv,2) _scxsim_files toml ;;
         stats-csv,3) _scxsim_files toml ;;
+        why,2) _scxsim_files toml ;;
+        why,3) _scxsim_files toml ;;
         timeline,2) _scxsim_files toml ;;
         timeline,3) _scxsim_files toml ;;
         picture,2) _scxsim_files toml ;;
         picture,3) _scxsim_files toml ;;
+        gantt,2) _scxsim_files toml ;;
+        gantt,3) _scxsim_files toml ;;
+        gantt-part,2) _scxsim_files toml ;;
+        gantt-part,3) _scxsim_files toml ;;
         exec,2) _scxsim_files bin ;;
         asm,2) _scxsim_files asm ;;
         dis,2) _scxsim_files bin ;;
