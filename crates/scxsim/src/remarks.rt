@@ -1,5 +1,6 @@
 use scxsim_commands::Fault;
 use scxsim_remarks::{NamedText, remark_on_file, remark_on_run, remarks_on_callbacks};
+use scxsim_words::PolicyCommand;
 use std::alloc::Global;
 
 /// A file's text, if it is one.
@@ -21,15 +22,17 @@ pub(crate) fn remark_of_run(
     }
 }
 
-/// Where a policy's file is wrong, if it or one of its callbacks was refused.
+/// Where a policy's file is wrong, if it or one of its callbacks was refused. What `explain` writes of a callback
+/// shows that itself.
 pub(crate) fn remark_of_policy(
     alloc: Global,
+    command: PolicyCommand,
     outcome: &Result<bool, Fault>,
     policy: Option<NamedText<'_>>,
 ) -> Option<String> {
-    match outcome {
-        Err(Fault::Refused(refusal)) => remark_on_file(alloc, refusal, policy?),
-        Ok(false) => remarks_on_callbacks(alloc, policy?),
+    match (command, outcome) {
+        (_, Err(Fault::Refused(refusal))) => remark_on_file(alloc, refusal, policy?),
+        (PolicyCommand::Verify, Ok(false)) => remarks_on_callbacks(alloc, policy?),
         _ => None,
     }
 }

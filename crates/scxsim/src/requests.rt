@@ -92,7 +92,7 @@ fn work_on_policy<'a, R: AllocGlobal + Console, W: Out>(
 ) -> Result<Ending, Unread<'a>> {
     let bytes = bytes_of(rt, path)?;
     let outcome = do_policy(rt.alloc(), command, bytes.as_slice(), out);
-    let remark = remark_of_policy(rt.alloc(), &outcome, named(path, bytes.as_slice()));
+    let remark = remark_of_policy(rt.alloc(), command, &outcome, named(path, bytes.as_slice()));
     Ok(end(outcome, hint_of_text(bytes.as_slice()), remark, out))
 }
 
