@@ -2,7 +2,6 @@
 
 import operator
 import re
-import tomllib
 from dataclasses import dataclass
 from functools import cache
 from math import isnan
@@ -13,6 +12,7 @@ import pandas
 from scxlab.account import account_of
 from scxlab.errors import LabError
 from scxlab.figures import NOTHING, figure_of, values_of
+from scxlab.files import table_of
 from scxlab.runs import run
 
 KEYS = {"policies", "workloads", "must"}
@@ -53,13 +53,7 @@ def run_of(policy, workload):
 
 def read_checks(path):
     """All checks of a file; what is wrong with the file is named."""
-    try:
-        told = tomllib.loads(Path(path).read_text())
-    except (tomllib.TOMLDecodeError, UnicodeDecodeError) as error:
-        raise LabError(f"{path}: not TOML: {error}") from error
-    for key in told:
-        if key not in KEYS:
-            raise LabError(f"{path}: {key}: unknown")
+    told = table_of(path, KEYS)
     folder = Path(path).parent
     policies, workloads, lines = (texts_of(told, key, path) for key in ("policies", "workloads", "must"))
     meant = [(line, reading_of(line, folder, f"{path}: must.{number}")) for number, line in enumerate(lines)]

@@ -1,7 +1,6 @@
 """Experiments: templates of policies and a workload, the numbers for their places, and the figures to look at."""
 
 import random
-import tomllib
 from dataclasses import dataclass
 from functools import lru_cache
 from itertools import product
@@ -11,6 +10,7 @@ from pathlib import Path
 from scxlab import templates
 from scxlab.errors import LabError
 from scxlab.figures import figure_of
+from scxlab.files import table_of
 
 KEYS = {"policies", "workload", "parameters", "sample", "figures"}
 
@@ -74,13 +74,7 @@ def combination(sides, number):
 
 def read_experiment(path):
     """Reads an experiment; what is wrong with it is named by its key."""
-    try:
-        told = tomllib.loads(Path(path).read_text())
-    except (tomllib.TOMLDecodeError, UnicodeDecodeError) as error:
-        raise LabError(f"{path}: not TOML: {error}") from error
-    for key in told:
-        if key not in KEYS:
-            raise LabError(f"{path}: {key}: unknown")
+    told = table_of(path, KEYS)
     folder = Path(path).parent
     policies = {name: text_of(folder / name, path, "policies") for name in list_of(told, "policies", str, path)}
     if not isinstance(told.get("workload"), str):

@@ -1,0 +1,18 @@
+"""Files of the lab's own: TOML with known keys."""
+
+import tomllib
+from pathlib import Path
+
+from scxlab.errors import LabError
+
+
+def table_of(path, keys):
+    """The table of a file; what is no TOML and a key that isn't one of these is named."""
+    try:
+        told = tomllib.loads(Path(path).read_text())
+    except (tomllib.TOMLDecodeError, UnicodeDecodeError) as error:
+        raise LabError(f"{path}: not TOML: {error}") from error
+    for key in told:
+        if key not in keys:
+            raise LabError(f"{path}: {key}: unknown")
+    return told
