@@ -12,7 +12,7 @@ import pandas
 from scxlab.account import account_of
 from scxlab.errors import LabError
 from scxlab.figures import NOTHING, figure_of, values_of
-from scxlab.files import table_of
+from scxlab.files import known_table
 from scxlab.runs import run
 
 KEYS = {"policies", "workloads", "must"}
@@ -53,7 +53,7 @@ def run_of(policy, workload):
 
 def read_checks(path):
     """All checks of a file; what is wrong with the file is named."""
-    told = table_of(path, KEYS)
+    told = known_table(path, KEYS)
     folder = Path(path).parent
     policies, workloads, lines = (texts_of(told, key, path) for key in ("policies", "workloads", "must"))
     meant = [(line, reading_of(line, folder, f"{path}: must.{number}")) for number, line in enumerate(lines)]

@@ -10,7 +10,7 @@ from pathlib import Path
 from scxlab import templates
 from scxlab.errors import LabError
 from scxlab.figures import figure_of
-from scxlab.files import table_of
+from scxlab.files import known_table
 
 KEYS = {"policies", "workload", "parameters", "sample", "figures"}
 
@@ -74,7 +74,7 @@ def combination(sides, number):
 
 def read_experiment(path):
     """Reads an experiment; what is wrong with it is named by its key."""
-    told = table_of(path, KEYS)
+    told = known_table(path, KEYS)
     folder = Path(path).parent
     policies = {name: text_of(folder / name, path, "policies") for name in list_of(told, "policies", str, path)}
     if not isinstance(told.get("workload"), str):

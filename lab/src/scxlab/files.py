@@ -6,7 +6,7 @@ from pathlib import Path
 from scxlab.errors import LabError
 
 
-def table_of(path, keys):
+def known_table(path, keys):
     """The table of a file; what is no TOML and a key that isn't one of these is named."""
     try:
         told = tomllib.loads(Path(path).read_text())
