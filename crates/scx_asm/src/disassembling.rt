@@ -5,7 +5,6 @@ ghost use Rattle.scx_asm.specs.Printing.{program_text};
 use scx_asm_text::Canonical;
 use scx_isa::Program;
 use std::alloc::{AllocError, Global};
-use std::fmt::Write;
 
 /// The canonical text of the program.
 pub fn disassemble(alloc: Global, program: &Program) -> Result<String, AllocError>
@@ -14,8 +13,9 @@ pub fn disassemble(alloc: Global, program: &Program) -> Result<String, AllocErro
     let mut text = String::new(alloc);
     for slot in 0..program.slots() {
         if let Some(insn) = program.at(slot) {
-            let canonical = Canonical(insn);
-            writeln!(text, "{canonical}")?;
+            let mut line = Canonical(insn).line();
+            line.push_str("\n");
+            text.push_str(line.as_str())?;
         }
     }
     Ok(text)

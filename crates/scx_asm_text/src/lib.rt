@@ -14,6 +14,6 @@ mod words;
 pub use items::{Item, Jump, Literal, Statement, Target, WrittenOperand};
 pub use laws::longest_token_is_read;
 pub use lexer::{Token, tokens};
-pub use printing::Canonical;
+pub use printing::{Canonical, Line};
 pub use statements::item_of;
 pub use symbols::Symbol;

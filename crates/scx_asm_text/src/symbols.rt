@@ -1,4 +1,4 @@
-ghost use Rattle.std.specs.Prelude.{◌≡◌};
+ghost use Rattle.std.specs.Prelude.{◌≡◌, ◌≤◌, length};
 ghost use Rattle.scx_asm_text.specs.declared.symbols.Symbol.TheVariants.{Assign, Compare};
 ghost use Rattle.scx_asm_text.specs.Symbols.{spelling, first_of, symbol_at};
 
@@ -67,7 +67,8 @@ const AND: [Symbol; 2] = [
 impl Symbol {
     /// How it is written.
     pub fn text(self) -> &'static str
-        ensures { result.now ≡ spelling self }
+        ensures text { result.now ≡ spelling self }
+        ensures short { length result.now ≤ 4 }
     {
         match self {
             Symbol::Assign(operation) => assignment_text(operation),
@@ -83,7 +84,8 @@ impl Symbol {
 }
 
 fn assignment_text(operation: Operation) -> &'static str
-    ensures { result.now ≡ spelling (Assign operation) }
+    ensures text { result.now ≡ spelling (Assign operation) }
+    ensures short { length result.now ≤ 4 }
 {
     match operation {
         Operation::Add => "+=",
@@ -104,7 +106,8 @@ fn assignment_text(operation: Operation) -> &'static str
 }
 
 fn comparison_text(comparison: Comparison) -> &'static str
-    ensures { result.now ≡ spelling (Compare comparison) }
+    ensures text { result.now ≡ spelling (Compare comparison) }
+    ensures short { length result.now ≤ 4 }
 {
     match comparison {
         Comparison::Equal => "==",

@@ -1,4 +1,4 @@
-ghost use Rattle.std.specs.Prelude.{◌≡◌};
+ghost use Rattle.std.specs.Prelude.{◌≡◌, ◌≤◌, length};
 ghost use Rattle.std.specs.Str.{bytes_eq};
 ghost use Rattle.scx_asm_text.specs.Names.{access_text, named_accesses, access_named, width_named, register_numbered, register_named, register_in, stored_size, stored_access, extension_of, extension_access, order_text, orders, order_named};
 
@@ -75,7 +75,8 @@ pub(crate) fn register_in(width: Width, name: &[u8]) -> Option<Register>
 }
 
 pub(crate) fn access_text(access: Access) -> &'static str
-    ensures { result.now ≡ access_text access }
+    ensures text { result.now ≡ access_text access }
+    ensures short { length result.now ≤ 3 }
 {
     match access {
         Access::Byte => "u8",
@@ -149,7 +150,8 @@ pub(crate) fn extension_access(extension: Extension) -> Access
 }
 
 pub(crate) fn order_text(order: (ByteOrder, SwapWidth)) -> &'static str
-    ensures { result.now ≡ order_text order }
+    ensures text { result.now ≡ order_text order }
+    ensures short { length result.now ≤ 7 }
 {
     match order {
         (ByteOrder::Little, SwapWidth::Bits16) => "le16",
