@@ -69,6 +69,16 @@ impl Tasks {
         }
     }
 
+    /// Has the records of the other one, of which there are as many, in place of its own. No memory is taken.
+    pub fn copy_from(&mut self, other: &Tasks)
+        requires { length self.old ≡ length other.now }
+        ensures { self.new ≡ other.now }
+    {
+        self.records.copy_from_slice(&other.records);
+        self.watch.oldest = other.watch.oldest;
+        self.watch.blocks = other.watch.blocks;
+    }
+
     /// Of the tasks that have waited longer than that the one of the least number.
     #[tactic(auto, using(crate::proofs::Watching::nobody_late))]
     pub fn first_overdue(&mut self, clock: u64, limit: u64) -> Option<u16>

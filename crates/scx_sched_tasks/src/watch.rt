@@ -20,7 +20,7 @@ pub(crate) struct Watch {
     /// Of all tasks.
     pub(crate) oldest: u64,
     /// Of each block of tasks.
-    blocks: [u64; BLOCKS],
+    pub(crate) blocks: [u64; BLOCKS],
 }
 
 impl Watch {
