@@ -24,3 +24,4 @@ pub mod Shifts
 pub mod HeapEdits
 pub mod Holdings
 pub mod Behind
+pub mod Copies

@@ -1,6 +1,6 @@
 -- How the queues are kept: a queue in FIFO order by links from task to task, one by virtual time as
 -- a heap; and empty heaps for queues to come. No public clause cites it.
-use Rattle.std.specs.Prelude.{◌≡◌, ℕ, ◌+◌, ◌<◌, ◌≤◌, List, [], ◌∷◌, ◌++◌, map, length, Option, None, is_some, MatchOption, All, HoldsAt, vec_capacity, if◌then◌else◌, Bool, true, false, ◌==◌}
+use Rattle.std.specs.Prelude.{◌≡◌, ℕ, ◌+◌, ◌<◌, ◌≤◌, List, [], ◌∷◌, ◌++◌, map, length, slice_index_or, Option, None, is_some, MatchOption, All, HoldsAt, vec_capacity, if◌then◌else◌, Bool, true, false, ◌==◌}
 use Rattle.std.specs.List.{list_any}
 use Rattle.std.specs.List.Sorted.{IsPermutation}
 use Rattle.scx_dsq.specs.declared.entries.Rank.{Rank}
@@ -166,6 +166,29 @@ pub record TakenOut (spots : List ℕ) (q : Queue) (t : ℕ) (stood : List ℕ) 
 abbrev pub Left : Rank → List Link → List ℕ → Queue → ℕ → List Link → List ℕ → Queue → Type 0
 Left Fifo links spots q t linked stood new = Unlinked links spots q t linked stood new
 Left (Vtime k) links spots q t linked stood new = TakenOut spots q t stood new × (linked ≡ links)
+
+-- ---- one as another
+
+-- the queue has the id and the tasks of the other one, and no less room than it had
+pub record IsCopy (q other new : Queue) : Type 0 where
+  pub id : new.id ≡ other.id
+  pub ends : new.ends ≡ other.ends
+  pub items : new.heap.items ≡ other.heap.items
+  pub room : q.heap.room ≤ new.heap.room
+
+-- at each position the queue is a copy of the other one there
+abbrev pub AreCopies : List Queue → List Queue → List Queue → Type 0
+AreCopies live others new =
+    (k : ℕ) (d : Queue)
+    → k < length live
+    → IsCopy (slice_index_or live k d) (slice_index_or others k d) (slice_index_or new k d)
+
+-- at each position the heap of the first queue has room for that of the second one
+abbrev pub HaveRoomFor : List Queue → List Queue → Type 0
+HaveRoomFor live others =
+    (k : ℕ) (d : Queue)
+    → k < length live
+    → length (slice_index_or others k d).heap.items ≤ (slice_index_or live k d).heap.room
 
 -- ---- all of them
 

@@ -39,6 +39,19 @@ impl Heap {
         })
     }
 
+    /// Holds the items of the other one in place of its own. No memory is taken.
+    pub fn copy_from(&mut self, other: &Heap)
+        requires { length other.now.items ≤ self.old.room }
+        ensures items { self.new.items ≡ other.now.items }
+        ensures room { self.old.room ≤ self.new.room }
+    {
+        self.items.clear();
+        match self.items.extend_from_slice(&other.items) {
+            Ok(()) => (),
+            Err(_) => unreachable!(),
+        }
+    }
+
     pub fn len(&self) -> usize
         ensures { result ≡ length self.now.items }
     {

@@ -29,7 +29,7 @@ mod queue;
 mod queues;
 mod steps;
 
-pub use entries::Rank;
+pub use entries::{Entry, Rank};
 pub use errors::QueueError;
 pub use laws::{appearances_are_conserved, fronts_are_unique};
 pub use queues::Queues;

@@ -1,7 +1,7 @@
-ghost use Rattle.std.specs.Prelude.{◌≡◌, ◌-◌, ◌≤◌};
+ghost use Rattle.std.specs.Prelude.{◌≡◌, ◌-◌, ◌≤◌, length};
 ghost use Rattle.scx_dsq.specs.declared.entries.Rank.TheVariants.{Fifo};
 ghost use Rattle.scx_dsq.specs.Heaps.{IsCheap};
-ghost use Rattle.scx_dsq.specs.Kept.{front_in, len_in, mixes, CanAppend, with_last, CanInsert, Inserted, CanTakeOut, TakenOut, CanLeave, Left};
+ghost use Rattle.scx_dsq.specs.Kept.{front_in, len_in, mixes, CanAppend, with_last, CanInsert, Inserted, CanTakeOut, TakenOut, CanLeave, Left, IsCopy};
 ghost use Rattle.scx_dsq.specs.Links.{links_appended};
 
 use crate::entries::Rank;
@@ -20,6 +20,16 @@ pub struct Queue {
 }
 
 impl Queue {
+    /// Has the id and the tasks of the other one in place of its own.
+    pub fn copy_from(&mut self, other: &Queue)
+        requires { length other.now.heap.items ≤ self.old.heap.room }
+        ensures { IsCopy self.old other.now self.new }
+    {
+        self.id = other.id;
+        self.ends = other.ends;
+        self.heap.copy_from(&other.heap);
+    }
+
     pub fn front(&self) -> Option<u32>
         ensures { result ≡ front_in self.now }
     {

@@ -8,7 +8,7 @@ ghost use Rattle.scx_dsq.specs.Laws.{HasOneOfEach, WaitsInAQueue, HasOneSort, Is
 ghost use Rattle.scx_dsq.specs.Arrays.{IsPaid};
 ghost use Rattle.scx_dsq.specs.Holdings.{HasArrays};
 ghost use Rattle.scx_dsq.specs.Order.{IsOrder, IsGap};
-ghost use Rattle.scx_dsq.specs.Kept.{ids_of, IsQueueAt, IsAdmitted, IsRefused};
+ghost use Rattle.scx_dsq.specs.Kept.{ids_of, IsQueueAt, IsAdmitted, IsRefused, AreCopies, HaveRoomFor};
 
 use crate::entries::{Entry, Rank};
 use crate::errors::QueueError;
@@ -385,11 +385,45 @@ impl Queues {
         let _live = &self.live;
     }
 
+    /// Becomes what the other one is, if both know the same queues, and as many tasks. No memory is taken.
+    pub fn copy_from(&mut self, other: &Queues)
+        requires room { self.old.state.room ≡ other.now.state.room }
+        requires queues { self.old.state.ids ≡ other.now.state.ids }
+        requires tasks { task_count self.old.state ≡ task_count other.now.state }
+        ensures { self.new ≡ other.now }
+    {
+        copy_each(&mut self.live, &other.live);
+        self.entries.copy_from_slice(&other.entries);
+        self.links.copy_from_slice(&other.links);
+        self.spots.copy_from_slice(&other.spots);
+        self.pushes = other.pushes;
+    }
+
+    /// Where the task waits, by which rank, and how many pushes were accepted before it.
+    pub fn entry(&self, task: u32) -> Option<Entry>
+        requires { task < task_count self.now.state }
+        ensures { result ≡ entry_of self.now.state task }
+    {
+        self.entries[task as usize]
+    }
+
     /// How many pushes were accepted.
     pub fn pushes(&self) -> u64
         ensures { result ≡ self.now.state.pushes }
     {
         self.pushes
+    }
+}
+
+/// Each queue becomes the one at its position of the others.
+fn copy_each(live: &mut [Queue], others: &[Queue])
+    requires count { length live.old ≡ length others.now }
+    requires room { HaveRoomFor live.old others.now }
+    ensures count { length live.new ≡ length live.old }
+    ensures copies { AreCopies live.old others.now live.new }
+{
+    for at in 0..live.len() {
+        live[at].copy_from(&others[at]);
     }
 }
 
