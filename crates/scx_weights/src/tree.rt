@@ -197,6 +197,19 @@ impl Tree {
         self.usages.of(group)
     }
 
+    /// Becomes what the other one is, which has as many groups and tasks. No memory is taken.
+    pub fn copy_from(&mut self, other: &Tree)
+        requires groups { length self.old.groups ≡ length other.now.groups }
+        requires tasks { length self.old.homes ≡ length other.now.homes }
+        ensures { self.new ≡ other.now }
+    {
+        self.groups.copy_from_slice(&other.groups);
+        self.homes.copy_from_slice(&other.homes);
+        self.active.copy_from_slice(&other.active);
+        self.sums.copy_from(&other.sums);
+        self.usages.copy_from(&other.usages);
+    }
+
     /// How many active tasks the task's group has, the task itself counted as active.
     fn active_beside(&self, task: u32) -> u32
         requires { task < length self.now.homes }
