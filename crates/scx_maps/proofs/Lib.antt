@@ -7,3 +7,4 @@ pub mod Bounds
 pub mod Same
 pub mod ByPlace
 pub mod Shaped
+pub mod SameShapes

@@ -152,6 +152,14 @@ impl Maps {
         &self.block
     }
 
+    /// Becomes what the other one is, whose maps have the same shapes. No memory is taken.
+    pub fn copy_from(&mut self, other: &Maps)
+        requires { lengths_of self.old ≡ lengths_of other.now }
+        ensures { self.new ≡ other.now }
+    {
+        self.block.copy_from_slice(&other.block);
+    }
+
     /// Writes the lowest bytes of a number from a byte of all maps on, low byte first.
     pub fn store_at(&mut self, offset: usize, size: Size, number: u64)
         requires { offset + size_bytes size ≤ length (all_bytes self.old) }
