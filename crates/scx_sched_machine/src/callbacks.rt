@@ -44,13 +44,14 @@ fn acting<'a>(policy: &'a Policy, world: &World, callback: Callback) -> Option<&
 /// Runs a callback of the policy, and answers what its program does. One that is absent, or of a policy that
 /// is ejected, answers 0.
 #[tactic(auto, unfolding(crate::specs::Callbacks::call_ending))]
-pub(crate) fn run_callback(
+pub(crate) fn run_callback<S: Sink>(
     core: &mut Core,
     policy: &Policy,
     callback: Callback,
     arguments: Args,
     maps: &mut Maps,
     world: &mut World,
+    sink: &mut S,
 ) -> u64
     requires shapes { HasShapes policy.now.shapes maps.old }
     requires arguments { FitsCallback callback (program_arguments arguments) }
@@ -64,15 +65,16 @@ pub(crate) fn run_callback(
         arguments maps.old world.old) }
     ensures shapes { HasShapes policy.now.shapes maps.new }
     ensures few { world.new.queues.pushes ≤ world.old.queues.pushes + program_pushes }
+    ensures sink { sink.new ≡ sink.old }
 {
     match acting(policy, world, callback) {
-        Some(program) => run_program(core, program, arguments, maps, world),
+        Some(program) => sink.run(core, program, arguments, maps, world),
         None => 0,
     }
 }
 
 /// Runs a program as the callback that it was verified for.
-fn run_program(
+pub(crate) fn run_program(
     core: &mut Core,
     program: &Verified,
     arguments: Args,
@@ -226,6 +228,7 @@ impl Machine {
             arguments,
             &mut self.maps,
             &mut self.world,
+            sink,
         );
         flush(&mut self.world, sink);
         let fault = self.fault(callback, answer);

@@ -10,6 +10,7 @@ ghost use Rattle.scx_sched_machine.specs.Start.{is_bad_shape, blank, fault_answe
 use crate::callbacks::{one_task, run_callback};
 use crate::machine::Machine;
 use crate::policy::Policy;
+use crate::sink::Unseen;
 use scx_isa::Callback;
 use scx_maps::Maps;
 use scx_sched_world::World;
@@ -135,6 +136,7 @@ impl Machine {
             Args::NONE,
             &mut self.maps,
             &mut self.world,
+            &mut Unseen,
         );
         if self.world.first_fault().is_some() {
             return Err(FAULT_ANSWER);
@@ -183,6 +185,7 @@ impl Machine {
             one_task(task),
             &mut self.maps,
             &mut self.world,
+            &mut Unseen,
         );
         if self.world.first_fault().is_some() {
             return Err(FAULT_ANSWER);

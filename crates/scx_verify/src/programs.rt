@@ -62,6 +62,13 @@ impl Verified {
         self.program.instructions()
     }
 
+    /// What was verified.
+    pub fn program(&self) -> &Program
+        ensures { result.now ≡ self.now.code }
+    {
+        &self.program
+    }
+
     /// Its operations, one for each instruction.
     pub fn code(&self) -> &[Packed]
         ensures ready { IsReady self.now.context self.now.code result.now }
