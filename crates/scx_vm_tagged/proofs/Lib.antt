@@ -8,3 +8,4 @@ pub mod Registers
 pub mod HelperCalls
 pub mod Fields
 pub mod Ended
+pub mod Coming

@@ -5,3 +5,4 @@ pub mod Locations
 pub mod Execute
 pub mod Run
 pub mod Outcome
+pub mod Watched

@@ -6,12 +6,13 @@
 //! It says how the run ended: with an answer at an `exit`, or stuck at an instruction that has no
 //! meaning in the state there, as one that reads an unset register. Its contract says that the run is
 //! the one that the definitions of `scx_isa_semantics` give the program, and that it takes no more steps
-//! than there are instructions.
+//! than there are instructions. `run_watched` does the same with a `Watch`, who is shown each instruction
+//! before it is done, and says at which slot what is awaited of the host came about.
 //!
 //! The layers, from below: the 512 bytes of stack (`stack`), values that pass to the host and back
 //! (`arguments`), registers and stack (`state`), operands and pointers (`values`), comparisons
 //! (`jumps`), addresses (`memory`), loads and stores (`access`), helper calls (`calls`), one
-//! instruction (`execute`), slots and the run (`run`).
+//! instruction (`execute`), who looks on (`watch`), slots and the run (`run`).
 #![tactic(auto)]
 
 mod access;
@@ -25,5 +26,8 @@ mod run;
 mod stack;
 mod state;
 mod values;
+mod watch;
 
-pub use run::{Ran, try_run};
+pub use run::{Ran, Watched, run_watched, try_run};
+pub use state::Core;
+pub use watch::Watch;

@@ -1,4 +1,4 @@
-ghost use Rattle.std.specs.Prelude.{◌≡◌, ◌+◌, ◌≤◌, length};
+ghost use Rattle.std.specs.Prelude.{◌≡◌, ◌+◌, ◌≤◌, false, length, None, IfSome};
 ghost use Rattle.scx_isa.specs.Flow.{Flows};
 ghost use Rattle.scx_maps.specs.Contents.{lengths_of};
 ghost use Rattle.scx_isa_semantics.specs.Code.{instruction_count, instructions_from};
@@ -10,10 +10,12 @@ ghost use Rattle.scx_vm.specs.Host.{host, answer_to, after_query};
 ghost use Rattle.scx_vm_tagged.specs.Outcome.{answer_of};
 ghost use Rattle.scx_vm_tagged.specs.Run.{StepsTo, LeadsNearer, IfDone, IfStuck, GetsStuckAt};
 ghost use Rattle.scx_vm_tagged.specs.State.{seen};
+ghost use Rattle.scx_vm_tagged.specs.Watched.{CameAt, came_at};
 
 use crate::effect::Effect;
 use crate::execute::execute;
 use crate::state::Core;
+use crate::watch::{Nobody, Watch};
 use scx_isa::{Callback, MAX_SLOTS, Program, target};
 use scx_maps::Maps;
 use scx_vm::{Args, Done, Env};
@@ -30,6 +32,14 @@ pub enum Ran {
     /// is not a field of a task, names a map that isn't there, calls a helper that isn't there, may
     /// not be called or doesn't find what it takes, or exits with no number in r0.
     Stuck(usize),
+}
+
+/// How a run ended on which somebody looked.
+#[derive(Clone, Copy, Debug, PartialEq, Eq)]
+pub struct Watched {
+    pub ran: Ran,
+    /// The slot at which what was awaited came about.
+    pub slot: Option<usize>,
 }
 
 /// Where a step led.
@@ -69,44 +79,109 @@ pub fn try_run<E: Env>(
     ensures room { E.room env.old ≤ E.room env.new + instruction_count program.now }
     ensures spent { E.spent env.new ≤ E.spent env.old + instruction_count program.now }
 {
-    walk(program, callback, arguments, maps, env)
+    walk(program, callback, arguments, maps, env, &mut Nobody).ran
 }
 
-/// Does its steps, one after another.
-fn walk<E: Env>(
+/// The same, with somebody who looks on.
+pub fn run_watched<E: Env, W: Watch<E>>(
     program: &Program,
     callback: Callback,
     arguments: Args,
     maps: &mut Maps,
     env: &mut E,
-) -> Ran
+    watch: &mut W,
+) -> Watched
     requires flows { Flows program.now }
     requires room { instruction_count program.now ≤ E.room env.old }
-    ensures done { IfDone result
+    ensures done { IfDone result.ran
         (λ done. Runs (host E.functions) callback program.now (program_arguments arguments) maps.old env.old
         done.r0 done.steps maps.new env.new) }
-    ensures in_bound { IfDone result (λ done. done.steps ≤ instruction_count program.now) }
-    ensures stuck { IfStuck result
+    ensures in_bound { IfDone result.ran (λ done. done.steps ≤ instruction_count program.now) }
+    ensures stuck { IfStuck result.ran
+        (λ slot. GetsStuckAt (host E.functions) callback program.now (program_arguments arguments) maps.old
+        env.old slot maps.new env.new) }
+    ensures exact { record { answer = answer_of result.ran; maps = maps.new; outside = env.new }
+        ≡ run_of (answer_to E.functions) (after_query E.functions) callback program.now
+        (program_arguments arguments) maps.old env.old }
+    ensures shapes { lengths_of maps.new ≡ lengths_of maps.old }
+    ensures room { E.room env.old ≤ E.room env.new + instruction_count program.now }
+    ensures spent { E.spent env.new ≤ E.spent env.old + instruction_count program.now }
+    ensures came { IfSome result.slot
+        (CameAt (host E.functions) W.awaited callback program.now (program_arguments arguments) maps.old
+        env.old) }
+    ensures did_not_come { result.slot ≡ None
+        → W.awaited env.old ≡ false → W.awaited env.new ≡ false }
+{
+    walk(program, callback, arguments, maps, env, watch)
+}
+
+/// Does its steps, one after another.
+fn walk<E: Env, W: Watch<E>>(
+    program: &Program,
+    callback: Callback,
+    arguments: Args,
+    maps: &mut Maps,
+    env: &mut E,
+    watch: &mut W,
+) -> Watched
+    requires flows { Flows program.now }
+    requires room { instruction_count program.now ≤ E.room env.old }
+    ensures done { IfDone result.ran
+        (λ done. Runs (host E.functions) callback program.now (program_arguments arguments) maps.old env.old
+        done.r0 done.steps maps.new env.new) }
+    ensures in_bound { IfDone result.ran (λ done. done.steps ≤ instruction_count program.now) }
+    ensures stuck { IfStuck result.ran
         (λ slot. GetsStuckAt (host E.functions) callback program.now (program_arguments arguments) maps.old
         env.old slot maps.new env.new) }
     ensures shapes { lengths_of maps.new ≡ lengths_of maps.old }
     ensures room { E.room env.old ≤ E.room env.new + instruction_count program.now }
     ensures spent { E.spent env.new ≤ E.spent env.old + instruction_count program.now }
+    ensures came { IfSome result.slot
+        (CameAt (host E.functions) W.awaited callback program.now (program_arguments arguments) maps.old
+        env.old) }
+    ensures did_not_come { result.slot ≡ None
+        → W.awaited env.old ≡ false → W.awaited env.new ≡ false }
 {
     let mut core = Core::start(arguments);
     let mut slot = 0;
+    let mut found = None;
     for steps in 0..program.slots() {
+        watch.see(slot, &core, env);
+        let had_come = watch.has_come(env);
         match step(program, slot, callback, &mut core, maps, env) {
-            Outcome::Stuck => return Ran::Stuck(slot),
-            Outcome::At(next) => slot = next,
-            Outcome::Ended(r0) => return Ran::Done(Done {
-                r0,
-                steps: steps + 1,
-            }),
+            Outcome::Stuck => return Watched {
+                ran: Ran::Stuck(slot),
+                slot: found,
+            },
+            Outcome::At(next) => {
+                found = came_at(found, had_come, watch.has_come(env), slot);
+                slot = next;
+            }
+            Outcome::Ended(r0) => return Watched {
+                ran: Ran::Done(Done {
+                    r0,
+                    steps: steps + 1,
+                }),
+                slot: found,
+            },
         }
     }
     // As many steps as there are slots leave no instruction from this slot on.
-    Ran::Stuck(slot)
+    Watched {
+        ran: Ran::Stuck(slot),
+        slot: found,
+    }
+}
+
+/// Where it came first: as it was found before, else at that slot, if it has come there.
+fn came_at(found: Option<usize>, had_come: bool, has_come: bool, slot: usize) -> Option<usize>
+    ensures { result ≡ came_at found had_come has_come slot }
+{
+    if found.is_none() && !had_come && has_come {
+        Some(slot)
+    } else {
+        found
+    }
 }
 
 /// Does the instruction at the slot, if one begins there.

@@ -1,10 +1,11 @@
-use Rattle.std.proofs.Common.{◌≡◌, ◌≤◌, add-one, refl, ◌∙◌, arith}
+use Rattle.std.proofs.Common.{◌≡◌, ◌≤◌, add-one, refl, sym, ◌∙◌, arith}
 use Rattle.scx_isa_semantics.specs.Code.{instruction_count, instructions_from}
 use Rattle.scx_isa_semantics.specs.Machine.{start}
 use Rattle.scx_isa.proofs.Counts.{instruction_count-length, none_left}
 use Rattle.scx_vm.specs.Arguments.{program_arguments}
 use Rattle.scx_vm_tagged.specs.State.{seen}
 use Rattle.scx_vm_tagged.proofs.RunSteps.{Leads-more, one_left_at_end, run_done, run_stuck}
+use Rattle.scx_vm_tagged.proofs.Coming.{came_next, none_next}
 use Rattle.scx_vm_tagged.proofs.run.walk.Goals as goal
 
 pub loop-steps-init : goal.loop-steps-init
@@ -14,6 +15,8 @@ loop-steps-init g c = record {
   shapes = refl;
   room = omega arith;
   spent = omega arith;
+  came = tt;
+  did_not_come = λ none not_yet. not_yet;
 }
 
 pub step-requires-clause-room : goal.step-requires-clause-room
@@ -28,6 +31,8 @@ loop-steps-preserved g c =
       shapes = c.step.ensures.shapes ∙ at.invariant.shapes;
       room = omega (arith, c.step.ensures.room, at.invariant.room);
       spent = omega (arith, c.step.ensures.spent, at.invariant.spent);
+      came = rw (c.came_at-found.ensures, c.has_come-had_come.ensures, c.has_come.ensures) (came_next _ g.W.Watch.awaited c.args.callback c.args.program.now (program_arguments c.args.arguments) c.args.maps.now c.args.env.now at.found at.steps at.slot (seen at.core at.maps) at.env c.in-At.next (seen c.step.new.core c.step.new.maps) c.step.new.env at.invariant.came at.invariant.leads c.in-At.ensures.step);
+      did_not_come = λ none not_yet. none_next at.found _ _ at.slot (sym (c.came_at-found.ensures ∙ rw (c.has_come-had_come.ensures, c.has_come.ensures) refl) ∙ none) (λ e. at.invariant.did_not_come e not_yet);
     }
 
 pub returns-in-Ended-clause-done : goal.returns-in-Ended-clause-done

@@ -1,0 +1,30 @@
+ghost use Rattle.std.specs.Prelude.{◌≡◌, Bool, false};
+
+use crate::state::Core;
+
+/// Somebody who looks on as a program is run over a host.
+pub trait Watch<E> {
+    /// What is awaited of the host.
+    ghost awaited: { E → Bool };
+
+    /// Whether that has come about.
+    fn has_come(&self, env: &E) -> bool
+        ensures { result ≡ awaited env.now };
+
+    /// The instruction at that slot is done next, on these registers.
+    fn see(&mut self, slot: usize, core: &Core, env: &E);
+}
+
+/// Nobody looks on, and nothing is awaited.
+#[derive(Drop)]
+pub(crate) struct Nobody;
+
+impl<E> Watch<E> for Nobody {
+    ghost awaited = { λ w. false };
+
+    fn has_come(&self, _env: &E) -> bool {
+        false
+    }
+
+    fn see(&mut self, _slot: usize, _core: &Core, _env: &E) {}
+}
