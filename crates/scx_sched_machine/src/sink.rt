@@ -67,9 +67,9 @@ pub trait Sink {
     ghost failed_stays: { (s t : Self) (n : Note) → has_failed s ≡ true → takes s n t → t ≡ s };
 }
 
-/// Nobody looks on: before the policy is in force, nothing is noted.
+/// Where notes are lost, and nobody looks on.
 #[derive(Drop)]
-pub(crate) struct Unseen;
+pub struct Unseen;
 
 impl Sink for Unseen {
     ghost takes = { λ s n t. t ≡ s };

@@ -10,7 +10,7 @@ ghost use Rattle.scx_sched_machine.specs.Start.{is_bad_shape, blank, fault_answe
 use crate::callbacks::{one_task, run_callback};
 use crate::machine::Machine;
 use crate::policy::Policy;
-use crate::sink::Unseen;
+use crate::sink::Sink;
 use scx_isa::Callback;
 use scx_maps::Maps;
 use scx_sched_world::World;
@@ -49,8 +49,14 @@ impl Machine {
     /// The machine of a policy, after its init and its enable of each task.
     ///
     /// The shape is looked at first: 1 to 64 processors, and no active task. Then all memory is taken, and
-    /// then init runs.
-    pub fn new(alloc: Global, policy: Policy, tree: Tree, cpus: usize) -> Result<Machine, NewError>
+    /// then init runs. The sink may run the programs, but takes no notes.
+    pub fn new<S: Sink>(
+        alloc: Global,
+        policy: Policy,
+        tree: Tree,
+        cpus: usize,
+        sink: &mut S,
+    ) -> Result<Machine, NewError>
         ensures shape { OnOk result (is_bad_shape tree cpus ≡ false) }
         ensures made { IfOk result (λ machine. first_state policy tree cpus ≡ Ok machine) }
         ensures few { IfOk result (λ machine. machine.world.queues.pushes ≤ start_pushes) }
@@ -67,7 +73,7 @@ impl Machine {
             return Err(NewError::BadShape);
         }
         let mut machine = Machine::blank(alloc, policy, tree, cpus)?;
-        match machine.begin() {
+        match machine.begin(sink) {
             Ok(()) => Ok(machine),
             Err(answer) => {
                 drop(machine);
@@ -107,7 +113,7 @@ impl Machine {
 
     /// Runs init, and enable of each task; where one fails, answers the number that stands for it.
     #[tactic(auto, using(crate::proofs::Taking::answered_append))]
-    fn begin(&mut self) -> Result<(), i64>
+    fn begin<S: Sink>(&mut self, sink: &mut S) -> Result<(), i64>
         requires { self.old.world.queues.pushes ≡ 0 }
         ensures done { OnOk result (all_enabled (after_init self.old) ≡ Ok self.new) }
         ensures failed { IfErr result (λ answer. all_enabled (after_init self.old) ≡ Err answer) }
@@ -115,13 +121,13 @@ impl Machine {
         ensures answered { AreAnswered
             (init_calls self.old ++ calls_after_init (after_init self.old)) }
     {
-        self.initialize()?;
-        self.enable_all()
+        self.initialize(sink)?;
+        self.enable_all(sink)
     }
 
     /// Runs init. Where it fails, answers the number that stands for it.
     #[tactic(auto, unfolding(crate::specs::Start::after_init))]
-    fn initialize(&mut self) -> Result<(), i64>
+    fn initialize<S: Sink>(&mut self, sink: &mut S) -> Result<(), i64>
         requires { HasRoom program_pushes self.old }
         ensures done { OnOk result (after_init self.old ≡ Ok self.new) }
         ensures failed { IfErr result (λ answer. after_init self.old ≡ Err answer) }
@@ -136,7 +142,7 @@ impl Machine {
             Args::NONE,
             &mut self.maps,
             &mut self.world,
-            &mut Unseen,
+            sink,
         );
         if self.world.first_fault().is_some() {
             return Err(FAULT_ANSWER);
@@ -150,7 +156,7 @@ impl Machine {
 
     /// Runs enable of each task, by number.
     #[tactic(auto, using(crate::proofs::Enabling::answered_next))]
-    fn enable_all(&mut self) -> Result<(), i64>
+    fn enable_all<S: Sink>(&mut self, sink: &mut S) -> Result<(), i64>
         requires { HasRoom enable_pushes self.old }
         ensures done { OnOk result
             (after_enables (length self.old.world.tasks) self.old ≡ Some self.new) }
@@ -160,7 +166,7 @@ impl Machine {
         ensures answered { AreAnswered (calls_below (length self.old.world.tasks) self.old) }
     {
         for task in 0..self.world.tasks() {
-            if let Err(answer) = self.enable(task) {
+            if let Err(answer) = self.enable(task, sink) {
                 return Err(answer);
             }
         }
@@ -169,7 +175,7 @@ impl Machine {
 
     /// Runs enable of a task.
     #[tactic(auto, unfolding(crate::specs::Start::enable))]
-    fn enable(&mut self, task: u16) -> Result<(), i64>
+    fn enable<S: Sink>(&mut self, task: u16, sink: &mut S) -> Result<(), i64>
         requires { HasRoom program_pushes self.old }
         ensures done { OnOk result (enable self.old task ≡ Some self.new) }
         ensures failed { OnErr result (enable self.old task ≡ None) }
@@ -185,7 +191,7 @@ impl Machine {
             one_task(task),
             &mut self.maps,
             &mut self.world,
-            &mut Unseen,
+            sink,
         );
         if self.world.first_fault().is_some() {
             return Err(FAULT_ANSWER);

@@ -3,13 +3,13 @@ use Rattle.scx_sched_machine.proofs.Enabling.{enabled_fails, answered_fails}
 use Rattle.scx_sched_machine.proofs.machine.Machine.enable_all.Goals as goal
 
 pub returns-in-Err-clause-failed : goal.returns-in-Err-clause-failed
-returns-in-Err-clause-failed c =
+returns-in-Err-clause-failed g c =
     let s = c.args.self.now in
     let l : c.loop-task.task < length c.args.self.now.world.tasks = rw (← c.self.view_is) (omega (arith, c.loop-task-test.true, c.tasks-task-end.ensures.tasks)) in
     enabled_fails (length s.world.tasks) c.loop-task.task s c.loop-task.self l c.loop-task.invariant.state c.in-Err.ensures.failed
 
 pub returns-in-Err-clause-answered : goal.returns-in-Err-clause-answered
-returns-in-Err-clause-answered c =
+returns-in-Err-clause-answered g c =
     let s = c.args.self.now in
     let l : c.loop-task.task < length c.args.self.now.world.tasks = rw (← c.self.view_is) (omega (arith, c.loop-task-test.true, c.tasks-task-end.ensures.tasks)) in
     answered_fails (length s.world.tasks) c.loop-task.task s c.loop-task.self l c.loop-task.invariant.state c.in-Err.ensures.failed c.loop-task.invariant.answered c.in-Err.ensures.answered

@@ -5,7 +5,7 @@ use Rattle.scx_sched_machine.proofs.machine.Machine.enable_all.Given as goal
 
 -- those so far are enabled
 abbrev pub invariant-loop-task : goal.invariant-loop-task
-invariant-loop-task l = record {
+invariant-loop-task g l = record {
   state : after_enables l.task l.fn.self ≡ Some l.self;
   few : l.self.world.queues.pushes ≤ l.fn.self.world.queues.pushes + 4096 * l.task;
   answered : AreAnswered (calls_below l.task l.fn.self);
