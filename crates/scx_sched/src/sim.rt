@@ -16,7 +16,7 @@ ghost use Rattle.scx_sched.specs.Places.{place};
 ghost use Rattle.scx_sched.specs.Sim.{max_events, refusal, answer_of, after_event, notes_of, calls_of, IsFirstState};
 
 use crate::places::{Place, place_in};
-use scx_sched_machine::{Event, Machine, NewError, Policy, Refused, Sink};
+use scx_sched_machine::{Event, Machine, NewError, Policy, Refused, Sink, Unseen};
 use scx_sched_world::Eject;
 use scx_weights::Tree;
 use std::alloc::Global;
@@ -59,7 +59,27 @@ impl Sim {
         ensures answered { OnOk result (AreAnswered (start_calls policy tree cpus)) }
         ensures answered_before { IfErr result (AreAnsweredBefore policy tree cpus) }
     {
-        let machine = Machine::new(alloc, policy, tree, cpus as usize)?;
+        Sim::new_seen(alloc, policy, tree, cpus, &mut Unseen)
+    }
+
+    /// The same. The sink may run init and enable itself; it takes no notes.
+    pub fn new_seen<S: Sink>(
+        alloc: Global,
+        policy: Policy,
+        tree: Tree,
+        cpus: u32,
+        sink: &mut S,
+    ) -> Result<Sim, NewError>
+        ensures first { IfOk result (IsFirstState policy tree cpus) }
+        ensures shape { OnOk result (is_bad_shape tree cpus ≡ false) }
+        ensures timeout { OnOk result (IsTimeout policy.timeout_ms) }
+        ensures programs { OnOk result (AreAs policy.callbacks) }
+        ensures in_force { IfOk result (λ sim. sim.state.world.ejected ≡ None) }
+        ensures refused { IfErr result (IsRefusal policy tree cpus) }
+        ensures answered { OnOk result (AreAnswered (start_calls policy tree cpus)) }
+        ensures answered_before { IfErr result (AreAnsweredBefore policy tree cpus) }
+    {
+        let machine = Machine::new(alloc, policy, tree, cpus as usize, sink)?;
         Ok(Sim { machine, events: 0 })
     }
 
