@@ -4,3 +4,4 @@ pub mod Paths
 pub mod Keys
 pub mod Values
 pub mod Unknown
+pub mod EventFaults

@@ -3,6 +3,7 @@ ghost use Rattle.scx_load_files.specs.declared.fault.LoadError.TheVariants.{NoMe
 ghost use Rattle.scx_load_files.specs.Faults.{Gives, refusal};
 ghost use Rattle.scx_load_files.specs.Paths.{below};
 
+use crate::event_fault::EventFault;
 use crate::path::key_path;
 use scx_asm::AsmFault;
 use scx_isa_encoding::DecodeFault;
@@ -41,6 +42,8 @@ pub enum Cause {
     Asm { fault: AsmFault, line: usize },
     /// The bytes don't decode: the fault and its slot.
     Decode { fault: DecodeFault, slot: usize },
+    /// The line of that number, from 1, is no event, or can't come there.
+    Event { fault: EventFault, line: usize },
 }
 
 impl fmt::Display for Cause {
@@ -63,6 +66,9 @@ impl fmt::Display for Cause {
             }
             Cause::Decode { fault, slot } => {
                 return write!(f, "decode {} {} at {slot}", fault.number(), fault.name());
+            }
+            Cause::Event { fault, line } => {
+                return write!(f, "event {} {} at {line}", fault.number(), fault.name());
             }
         };
         f.write_str(text)

@@ -5,6 +5,7 @@
 //! unknown keys first, and then a `Section` is asked for one key after another.
 #![tactic(auto)]
 
+mod event_fault;
 mod fault;
 mod keys;
 mod names;
@@ -12,6 +13,7 @@ mod path;
 mod section;
 mod unknown;
 
+pub use event_fault::EventFault;
 pub use fault::{Cause, LoadError, refused, refused_at};
 pub use names::is_name;
 pub use path::{element_path, key_path};
