@@ -1,4 +1,5 @@
 pub mod Each
 pub mod Limits
+pub mod Numbers
 pub mod Values
 pub mod Forest

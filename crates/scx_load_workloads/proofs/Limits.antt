@@ -11,10 +11,13 @@ use Rattle.std.proofs.lemmas.Slice.Eq.{bytes_eq-Decides}
 use Rattle.std.proofs.lemmas.Str.Parse.{IsNumeralModel, numerals_by_value, tells_all_ascii_digits, parse_digits, not_in_digits}
 use Rattle.scx_weights.specs.Refusals.{max_quota, max_period, is_outside, is_bad_quota}
 use Rattle.scx_load_workloads.specs.declared.limit.Limit.{Limit}
-use Rattle.scx_load_workloads.specs.Limit.{is_numeral, IsTime, IsQuota, Says, Says.both, Says.alone, SaysJust, TextsSayOneLimit, is_time, ms_in, quota_in, limit_of, limit_at, limit_in}
+use Rattle.scx_load_workloads.specs.Limit.{is_numeral, numeral, IsTime, IsQuota, Says, Says.both, Says.alone, SaysJust, TextsSayOneLimit, is_time, whole_ms, ms_in, quota_in, limit_of, limit_at, limit_in}
 
 own : IsNumeralModel (λ ds. all_ascii_digits ds ≡ true) (digits_value 10)
 own = numerals_by_value _ tells_all_ascii_digits
+
+same : {A : Type 0} (a b : A) → ◌≡◌ {A = Option A} (Some a) (Some b) → a ≡ b
+same a b e = cc
 
 record AreDigits (text : List ℕ) : Type 0 where
   pub some : 0 < length text
@@ -42,22 +45,38 @@ big most us l h =
     go true false false e = absurd (cc)
     go false b c e = refl
 
--- digits of a number that takes more than 32 bits say no time
-pub too_long : (most : ℕ) (text : List ℕ) → most ≤ 1000000 → is_numeral text ≡ true → ¬ (IsNumeral 10 (without_leading_plus text) × (digits_value 10 (without_leading_plus text) < 2 ^ 32)) → None ≡ ms_in most text
-too_long most text l n p =
+-- digits that aren't a number of 32 bits say a greater one
+pub too_long : (text : List ℕ) → is_numeral text ≡ true → ¬ (IsNumeral 10 (without_leading_plus text) × (digits_value 10 (without_leading_plus text) < 2 ^ 32)) → None ≡ numeral text
+too_long text n p =
     let digits = are_digits text n in
     let no = parse_digits own {E = ℕ} 32 text (Err 0) p digits.all in
     let long : 2 ^ 32 ≤ digits_value 10 text = go (cases_lt (digits_value 10 text) (2 ^ 32)) (λ lt. no (digits.some, lt)) in
-    rw (n, big most (digits_value 10 text) l long) refl
+    let past : nat_lt (digits_value 10 text) (2 ^ 32) ≡ false = grind (arith, nat_tests, long) in
+    rw (n, past) refl
   where
     go : (digits_value 10 text < 2 ^ 32) ⊎ (2 ^ 32 ≤ digits_value 10 text) → (digits_value 10 text < 2 ^ 32 → ⊥) → 2 ^ 32 ≤ digits_value 10 text
     go (inl lt) f = absurd (f lt)
     go (inr le) f = le
 
--- ---- a quota, and a period
+-- what isn't a number of 32 bits says no time
+pub no_numeral : (most : ℕ) (text : List ℕ) → most ≤ 1000000 → numeral text ≡ None → ms_in most text ≡ None
+no_numeral most text l e = go (is_numeral text) (nat_lt (digits_value 10 text) (2 ^ 32)) refl refl e
+  where
+    go : (a b : Bool) → is_numeral text ≡ a → nat_lt (digits_value 10 text) (2 ^ 32) ≡ b → (if a && b then Some (digits_value 10 text) else None) ≡ None → ms_in most text ≡ None
+    go true true x y f = absurd (cc)
+    go true false x y f = let long : 2 ^ 32 ≤ digits_value 10 text = grind (arith, nat_tests, y) in rw (x, big most (digits_value 10 text) l long) refl
+    go false b x y f = rw x refl
 
-same : {A : Type 0} (a b : A) → ◌≡◌ {A = Option A} (Some a) (Some b) → a ≡ b
-same a b e = cc
+-- and of what is one it is that number's
+pub numeral_is : (most n : ℕ) (text : List ℕ) → numeral text ≡ Some n → ms_in most text ≡ whole_ms most n
+numeral_is most n text e = go (is_numeral text) (nat_lt (digits_value 10 text) (2 ^ 32)) refl e
+  where
+    go : (a b : Bool) → is_numeral text ≡ a → (if a && b then Some (digits_value 10 text) else None) ≡ Some n → ms_in most text ≡ whole_ms most n
+    go true true x f = rw (x, same (digits_value 10 text) n f) refl
+    go true false x f = absurd (cc)
+    go false b x f = absurd (cc)
+
+-- ---- a quota, and a period
 
 record IsWhole (most us : ℕ) : Type 0 where
   pub value : us ≡ us / 1000 * 1000

@@ -1,7 +1,7 @@
 -- What `cpu_max` of a group says: `MAX PERIOD` or `MAX`, a quota and the length of its periods in
 -- microseconds (Linux Documentation/admin-guide/cgroup-v2.rst, `cpu.max`). That both are whole
 -- milliseconds is this project's own.
-use Rattle.std.specs.Prelude.{◌≡◌, ℕ, ◌≤◌, ◌+◌, ◌*◌, ◌/◌, ◌%◌, Bool, true, ◌==◌, ◌&&◌, nat_lt, not, List, ◌∷◌, ◌++◌, length, take, drop, Option, Some, None, option_map, codes, if◌then◌else◌}
+use Rattle.std.specs.Prelude.{◌≡◌, ℕ, ◌≤◌, ◌+◌, ◌*◌, ◌/◌, ◌%◌, ◌^◌, Bool, true, ◌==◌, ◌&&◌, nat_lt, not, List, ◌∷◌, ◌++◌, length, take, drop, Option, Some, None, option_map, codes, if◌then◌else◌}
 use Rattle.std.specs.List.{position}
 use Rattle.std.specs.Str.{bytes_eq, all_ascii_digits}
 use Rattle.std.specs.Str.Parse.{digits_value}
@@ -17,6 +17,12 @@ no_limit = record { quota_ms = None; period_ms = 100 }
 -- one digit or more, and nothing else
 abbrev pub is_numeral : List ℕ → Bool
 is_numeral text = nat_lt 0 (length text) && all_ascii_digits text
+
+-- the number that a numeral says, if it is less than 2 ^ 32
+abbrev pub numeral : List ℕ → Option ℕ
+numeral text =
+    if is_numeral text && nat_lt (digits_value 10 text) (2 ^ 32) then Some (digits_value 10 text)
+    else None
 
 -- digits, as many as one likes, write so many milliseconds in microseconds: 1 ms to the greatest
 pub record IsTime (most : ℕ) (text : List ℕ) (ms : ℕ) : Type 0 where

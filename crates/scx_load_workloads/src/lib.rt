@@ -6,11 +6,13 @@
 mod elements;
 mod groups;
 mod limit;
+mod numerals;
 mod reading;
 mod tasks;
 mod workload;
 
 pub use limit::texts_say_one_limit;
-pub use reading::read_workload;
+pub use numerals::numeral;
+pub use reading::{read_known_keys, read_workload};
 pub use scx_weights::Group;
 pub use workload::{Change, MAX_CHANGES, MAX_CPUS, MAX_MS, Timing, Workload};

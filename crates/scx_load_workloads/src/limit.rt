@@ -1,13 +1,13 @@
 //! What `cpu_max` of a group says.
 ghost use Rattle.std.specs.Prelude.{◌≡◌, ◌≤◌, Some, codes};
-ghost use Rattle.std.specs.Str.{all_ascii_digits};
 ghost use Rattle.toml.specs.View.{view, table_view};
 ghost use Rattle.scx_load_files.specs.Faults.{Gives};
 ghost use Rattle.scx_load_files.specs.Paths.{below};
 ghost use Rattle.scx_load_files.specs.Values.{optional};
 ghost use Rattle.scx_load_workloads.specs.Reading.{limit_read};
-ghost use Rattle.scx_load_workloads.specs.Limit.{no_limit, is_numeral, whole_ms, ms_in, quota_in, limit_of, limit_in, TextsSayOneLimit};
+ghost use Rattle.scx_load_workloads.specs.Limit.{no_limit, whole_ms, ms_in, quota_in, limit_of, limit_in, TextsSayOneLimit};
 
+use crate::numerals::numeral;
 use scx_load_files::{Cause, LoadError, Section, refused};
 use scx_weights::{DEFAULT_PERIOD_MS, MAX_PERIOD_MS, MAX_QUOTA_MS};
 use std::alloc::Global;
@@ -90,17 +90,12 @@ fn quota_in(text: &str) -> Option<Option<u32>>
 }
 
 /// The milliseconds that digits say in microseconds, 1 to the greatest.
+#[tactic(auto, using(crate::proofs::Limits::no_numeral, crate::proofs::Limits::numeral_is))]
 fn ms_in(text: &str, most: u32) -> Option<u32>
     requires { most ≤ 1000000 }
     ensures { result ≡ ms_in most text.now }
 {
-    if !is_numeral(text.as_bytes()) {
-        return None;
-    }
-    match text.parse::<u32>() {
-        Ok(us) => whole_ms(us, most),
-        Err(_) => None,
-    }
+    whole_ms(numeral(text)?, most)
 }
 
 /// The milliseconds that so many microseconds are, if they are whole ones, 1 to the greatest.
@@ -111,22 +106,4 @@ fn whole_ms(us: u32, most: u32) -> Option<u32>
         return Some(us / 1000);
     }
     None
-}
-
-/// Whether the bytes are digits, one or more.
-fn is_numeral(bytes: &[u8]) -> bool
-    ensures { result ≡ is_numeral bytes.now }
-{
-    0 < bytes.len() && are_digits(bytes)
-}
-
-fn are_digits(bytes: &[u8]) -> bool
-    ensures { result ≡ all_ascii_digits bytes.now }
-{
-    for byte in bytes {
-        if !byte.is_ascii_digit() {
-            return false;
-        }
-    }
-    true
 }

@@ -44,7 +44,7 @@ fn read_table(alloc: Global, file: Section<'_>) -> Result<Workload, LoadError>
         (workload_file (table_view file.entry.table.now)) }
 {
     check_keys(alloc, file)?;
-    read_file(alloc, file)
+    read_known_keys(alloc, file)
 }
 
 /// Refuses the unknown key of the least path.
@@ -70,9 +70,10 @@ fn check_keys(alloc: Global, file: Section<'_>) -> Result<(), LoadError>
     unknown.refuse()
 }
 
-/// What the known keys of a file say.
+/// What the known keys of the table of a file say: `cpus`, `ms`, the groups, the tasks and the changes, in
+/// this order. Other keys aren't looked at.
 #[tactic(auto, using(crate::proofs::Forest::tree_is_right))]
-fn read_file(alloc: Global, file: Section<'_>) -> Result<Workload, LoadError>
+pub fn read_known_keys(alloc: Global, file: Section<'_>) -> Result<Workload, LoadError>
     requires { file.path.now ≡ [] }
     ensures { Gives (λ workload. workload) result (workload_in (table_view file.entry.table.now)) }
 {

@@ -1,5 +1,7 @@
 ghost use Rattle.std.specs.Prelude.{◌≡◌, ◌<◌, length, slice_index_or, []};
+ghost use Rattle.scx_load_workloads.specs.Reading.{index_of};
 
+use crate::elements::index_of;
 use scx_weights::Group;
 use std::marker::Model;
 
@@ -110,6 +112,21 @@ impl Workload {
         ensures { result.now ≡ self.now.changes }
     {
         &self.changes
+    }
+
+    /// The number of the group of that name, if there is one.
+    #[tactic(auto, using(crate::proofs::Numbers::few_groups))]
+    pub fn group_named(&self, name: &str) -> Option<u32>
+        ensures number { result ≡ index_of self.now.group_names name.now }
+    {
+        Some(index_of(&self.group_names, name)? as u32)
+    }
+
+    /// The number of the task of that name, if there is one.
+    pub fn task_named(&self, name: &str) -> Option<u16>
+        ensures number { result ≡ index_of self.now.task_names name.now }
+    {
+        Some(index_of(&self.task_names, name)? as u16)
     }
 
     /// The name of a group.
