@@ -1,0 +1,6 @@
+pub mod Numbers
+pub mod Passing
+pub mod Following
+pub mod Remaining
+pub mod Accepting
+pub mod Keys

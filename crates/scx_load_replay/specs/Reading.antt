@@ -1,0 +1,70 @@
+-- The reading of a file of events: unknown keys first, wherever they stand; then `cpus`, `ms`, the
+-- groups and the tasks as in a workload, and `events`, line by line.
+use Rattle.std.specs.Prelude.{ℕ, ◌+◌, ⊤, List, [], ◌∷◌, ◌++◌, Result, Ok, Err, codes}
+use Rattle.std.specs.Str.Lines.{lines}
+use Rattle.toml.specs.Data.{Members}
+use Rattle.scx_isa_semantics.specs.Results.{◌>>=◌}
+use Rattle.scx_load_files.specs.declared.event_fault.EventFault.{EventFault}
+use Rattle.scx_load_files.specs.declared.fault.Cause.TheVariants as cause
+use Rattle.scx_load_files.specs.Faults.{Reading, refusal}
+use Rattle.scx_load_files.specs.Unknown.{known_alone, unknown, unknown_in_each}
+use Rattle.scx_load_files.specs.Values.{document, required, text_of}
+use Rattle.scx_load_workloads.specs.Workload.{WorkloadState}
+use Rattle.scx_load_workloads.specs.Reading.{group_keys, workload_in}
+use Rattle.scx_load_replay.specs.Replay.{ReplayState}
+use Rattle.scx_load_replay.specs.Lines.{ProgressState, no_lines, text_behind}
+
+-- ---- lines
+
+-- what was read of the line of that number, or its fault
+abbrev pub at_line : {A : Type 0} → ℕ → Result A EventFault → Reading A
+at_line n (Ok x) = Ok x
+at_line n (Err f) = refusal (codes "events") (cause.Event f n)
+
+-- the lines from the n-th on, one behind another
+unfoldable pub lines_from :
+    WorkloadState → ℕ → ProgressState → List (List ℕ) → Reading ProgressState
+lines_from w n p [] = Ok p
+lines_from w n p (text ∷ texts) =
+    at_line n (text_behind w p text) >>= λ q. lines_from w (n + 1) q texts
+
+-- what the lines of a text say of that workload
+abbrev pub lines_in : WorkloadState → List ℕ → Reading ProgressState
+lines_in w text = lines_from w 1 (no_lines w) (lines text)
+
+-- the file of events of that workload, with the lines of a text
+abbrev pub replay_with : WorkloadState → List ℕ → Reading ReplayState
+replay_with w text = lines_in w text >>= λ p. Ok (record { workload = w; lines = p.lines })
+
+-- ---- the file
+
+-- the keys that the table of a whole file may have
+abbrev pub file_keys : List (List ℕ)
+file_keys = codes "cpus" ∷ codes "ms" ∷ codes "group" ∷ codes "task" ∷ codes "events" ∷ []
+
+-- the keys that an element of the array `task` may have
+abbrev pub task_keys : List (List ℕ)
+task_keys = codes "name" ∷ codes "group" ∷ []
+
+-- the paths of all unknown keys of a file
+abbrev pub unknown_keys : Members → List (List ℕ)
+unknown_keys ms =
+    unknown file_keys [] ms
+    ++ unknown_in_each group_keys [] (codes "group") ms
+    ++ unknown_in_each task_keys [] (codes "task") ms
+
+-- no key is unknown, or the least path is refused
+abbrev pub known_file_keys : Members → Reading ⊤
+known_file_keys ms = known_alone (unknown_keys ms)
+
+-- what the table of a file says
+abbrev pub replay_file : Members → Reading ReplayState
+replay_file ms = do
+  known ← known_file_keys ms
+  w ← workload_in ms
+  text ← required text_of [] (codes "events") ms
+  replay_with w text
+
+-- the file of events that a text is
+abbrev pub replay_of : List ℕ → Reading ReplayState
+replay_of text = document text >>= replay_file

@@ -1,0 +1,20 @@
+//! Files of events: processors, groups and tasks as in a workload, and lines that say when tasks wake and
+//! sleep and when weights change.
+//!
+//! `read_replay` reads a file (TOML 1.1), or names its first fault and where it stands. `Replayer::next`
+//! answers the event that comes next: in each millisecond weights change, tasks wake, each processor ticks,
+//! tasks go to sleep, and the clock grows.
+#![tactic(auto)]
+
+mod laws;
+mod lines;
+mod progress;
+mod reading;
+mod replay;
+mod replayer;
+
+pub use laws::no_event_is_refused;
+pub use lines::Line;
+pub use reading::read_replay;
+pub use replay::Replay;
+pub use replayer::Replayer;

@@ -1,0 +1,136 @@
+ghost use Rattle.std.specs.Prelude.{◌≡◌, [], map, codes, IfOk};
+ghost use Rattle.std.specs.Str.Lines.{lines};
+ghost use Rattle.toml.specs.View.{table_view};
+ghost use Rattle.scx_load_files.specs.declared.fault.Cause.TheVariants.{Event};
+ghost use Rattle.scx_load_files.specs.Faults.{Gives, refusal};
+ghost use Rattle.scx_load_replay.specs.Lines.{line_behind, text_behind};
+ghost use Rattle.scx_load_replay.specs.Kept.{progress_of};
+ghost use Rattle.scx_load_replay.specs.Reading.{at_line, lines_in, replay_of, replay_file, known_file_keys, replay_with};
+
+use crate::lines::{Line, line_in};
+use crate::progress::Progress;
+use crate::replay::Replay;
+use scx_load_files::{Cause, EventFault, LoadError, Section, Unknown, read_document, refused};
+use scx_load_workloads::{Workload, read_known_keys};
+use std::alloc::{AllocError, Global};
+
+/// Reads a file of events, or names its first fault.
+///
+/// Unknown keys are faults before all others, the least path by bytes first. Then the order is `cpus`, `ms`,
+/// the groups and the tasks, as in a workload, and `events`, line by line.
+pub fn read_replay(alloc: Global, text: &str) -> Result<Replay, LoadError>
+    ensures { Gives (λ replay. replay) result (replay_of text.now) }
+{
+    let table = read_document(alloc, text)?;
+    let replay = read_table(alloc, Section::whole(&table));
+    drop(table);
+    replay
+}
+
+fn read_table(alloc: Global, file: Section<'_>) -> Result<Replay, LoadError>
+    requires { file.path.now ≡ [] }
+    ensures { Gives (λ replay. replay) result (replay_file (table_view file.entry.table.now)) }
+{
+    check_keys(alloc, file)?;
+    let workload = read_known_keys(alloc, file)?;
+    match file.text(alloc, "events") {
+        Ok(text) => read_events(alloc, workload, text),
+        Err(error) => {
+            drop(workload);
+            Err(error)
+        }
+    }
+}
+
+/// Refuses the unknown key of the least path.
+fn check_keys(alloc: Global, file: Section<'_>) -> Result<(), LoadError>
+    requires { file.path.now ≡ [] }
+    ensures { Gives (λ t. t) result (known_file_keys (table_view file.entry.table.now)) }
+{
+    let unknown = Unknown::none()
+        .in_section(alloc, file, &["cpus", "ms", "group", "task", "events"])?
+        .below_each(
+            alloc,
+            file,
+            "group",
+            &["name", "weight", "parent", "cpu_max"],
+        )?
+        .below_each(alloc, file, "task", &["name", "group"])?;
+    unknown.refuse()
+}
+
+/// The file of events of that workload, with the lines of a text.
+fn read_events(alloc: Global, workload: Workload, text: &str) -> Result<Replay, LoadError>
+    ensures { Gives (λ replay. replay) result (replay_with workload text.now) }
+{
+    workload.is_whole();
+    match read_lines(alloc, &workload, text) {
+        Ok(Progress { lines, .. }) => Ok(Replay { workload, lines }),
+        Err(error) => {
+            drop(workload);
+            Err(error)
+        }
+    }
+}
+
+fn lines_of<'a>(alloc: Global, text: &'a str) -> Result<Vec<&'a str>, AllocError>
+    ensures { IfOk result (λ found. map (λ l. l.now) found.items ≡ lines text.now) }
+{
+    text.lines().collect(alloc)
+}
+
+/// What the lines of a text say, one behind another.
+fn read_lines(alloc: Global, workload: &Workload, text: &str) -> Result<Progress, LoadError>
+    ensures { Gives (λ progress. progress_of progress) result (lines_in workload.now text.now) }
+{
+    let texts = lines_of(alloc, text)?;
+    let mut progress = Progress::none(alloc, workload)?;
+    for index in 0..texts.len() {
+        match read_line(alloc, workload, &mut progress, index + 1, texts[index]) {
+            Ok(()) => {}
+            Err(error) => return Err(error),
+        }
+    }
+    Ok(progress)
+}
+
+/// Reads the line of that number, from 1, behind others; an empty one says nothing.
+fn read_line(
+    alloc: Global,
+    workload: &Workload,
+    progress: &mut Progress,
+    number: usize,
+    text: &str,
+) -> Result<(), LoadError>
+    ensures { Gives (λ _. progress_of progress.new) result
+        (at_line number (text_behind workload.now (progress_of progress.old) text.now)) }
+{
+    if text.is_empty() {
+        return Ok(());
+    }
+    match line_in(workload, text) {
+        Ok(line) => push_line(alloc, progress, number, line),
+        Err(fault) => refused_at_line(alloc, fault, number),
+    }
+}
+
+fn push_line(
+    alloc: Global,
+    progress: &mut Progress,
+    number: usize,
+    line: Line,
+) -> Result<(), LoadError>
+    ensures { Gives (λ _. progress_of progress.new) result
+        (at_line number (line_behind (progress_of progress.old) line)) }
+{
+    match progress.fault(line) {
+        Some(fault) => refused_at_line(alloc, fault, number),
+        None => Ok(progress.push(line)?),
+    }
+}
+
+fn refused_at_line<T: Drop>(alloc: Global, fault: EventFault, line: usize) -> Result<T, LoadError>
+    ensures { Gives (λ t. t) result (refusal (codes "events") (Event fault line)) }
+{
+    refused(alloc, "", "events", Cause::Event { fault, line })
+}
