@@ -8,7 +8,7 @@ use Rattle.scx_load_files.specs.declared.fault.Cause.{Cause}
 use Rattle.scx_load_files.specs.declared.fault.Cause.TheVariants as causes
 use Rattle.scx_isa_semantics.specs.Callbacks.{callback_name}
 use Rattle.scxsim_commands.specs.declared.refusal.Refusal.{Refusal}
-use Rattle.scxsim_commands.specs.declared.refusal.Refusal.TheVariants.{TooLarge, NotUtf8, NoMemory, Decode, Verify, Assemble, Callback, Policy, Workload, Init, OutOfRange}
+use Rattle.scxsim_commands.specs.declared.refusal.Refusal.TheVariants.{TooLarge, NotUtf8, NoMemory, Decode, Verify, Assemble, Callback, Policy, Workload, Init, OutOfRange, NoSuchTask}
 use Rattle.scxsim_commands.specs.declared.refusal.Word.{Word}
 use Rattle.scxsim_commands.specs.declared.refusal.Word.TheVariants.{From, To}
 use Rattle.scxsim_commands.specs.Lines.{fault_text}
@@ -63,6 +63,7 @@ refusal_line (Workload path cause) =
     codes "refused: workload " ++ string_bytes path ++ codes ": " ++ cause_text cause ++ codes "\n"
 refusal_line (Init answer) = init_line answer
 refusal_line (OutOfRange word) = word_line word
+refusal_line NoSuchTask = codes "refused: word TASK: no such task\n"
 
 -- ---- the same in three parts: what stands before the path of a key, the path, and what
 -- stands behind it

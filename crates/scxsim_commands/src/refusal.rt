@@ -69,6 +69,9 @@ pub enum Refusal {
     /// A word that names a part of a run.
     #[error("{} is out of range", .0.name())]
     OutOfRange(Word),
+    /// A word is to name a task, and the workload has none of that name.
+    #[error("TASK names no task")]
+    NoSuchTask,
 }
 
 /// A word of a command that isn't a path.

@@ -53,6 +53,7 @@ fn start(refusal: &Refusal) -> Line
         Refusal::Workload { .. } => whole_line("refused: workload "),
         Refusal::Init(answer) => init_line(*answer),
         Refusal::OutOfRange(word) => word_line(*word),
+        Refusal::NoSuchTask => whole_line("refused: word TASK: no such task\n"),
     }
 }
 
