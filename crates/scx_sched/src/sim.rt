@@ -1,4 +1,5 @@
 ghost use Rattle.std.specs.Prelude.{◌≡◌, ℕ, ◌<◌, ◌≤◌, ◌^◌, false, length, None, IfOk, IfErr, OnOk, OnErr};
+ghost use Rattle.scx_dsq.specs.Queues.{entry_of};
 ghost use Rattle.scx_weights.specs.Limits.{usage_of};
 ghost use Rattle.scx_sched_world.specs.World.{task_at, is_runnable, running, wait};
 ghost use Rattle.scx_sched_machine.specs.Notes.{Takes};
@@ -17,7 +18,7 @@ ghost use Rattle.scx_sched.specs.Sim.{max_events, refusal, answer_of, after_even
 
 use crate::places::{Place, place_in};
 use scx_sched_machine::{Event, Machine, NewError, Policy, Refused, Sink, Unseen};
-use scx_sched_world::Eject;
+use scx_sched_world::{Eject, Entry};
 use scx_weights::Tree;
 use std::alloc::Global;
 use std::marker::Model;
@@ -177,6 +178,13 @@ impl Sim {
     {
         let world = self.machine.world();
         place_in(world.cpu_of(task), world.queue_of(task))
+    }
+
+    /// Where the task waits or is parked, by which rank, and how many pushes were accepted before it.
+    pub fn entry(&self, task: u16) -> Option<Entry>
+        ensures { result ≡ entry_of self.now.state.world.queues task }
+    {
+        self.machine.world().entry(task)
     }
 
     /// Whether the task has work to do: it runs or waits. One that isn't there has none.

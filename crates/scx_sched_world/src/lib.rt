@@ -21,6 +21,6 @@ pub use eject::Eject;
 pub use faults::Fault;
 pub use ids::{BUILTIN, GLOBAL, HELD, LOCAL, LOCAL_ON, PARKED, POLICY_END};
 pub use notes::{Note, What};
-pub use scx_dsq::Rank;
+pub use scx_dsq::{Entry, Rank};
 pub use scx_sched_tasks::{DEFAULT_SLICE, Task};
 pub use world::World;

@@ -1,7 +1,7 @@
 ghost use Rattle.std.specs.Prelude.{◌≡◌, ◌≢◌, ℕ, true, ◌+◌, ◌≤◌, ◌<◌, nat_lt, length, position, IfSome, IfOk, OnOk};
 ghost use Rattle.std.specs.Int.{bit_at};
 ghost use Rattle.scx_dsq.specs.Laws.{one_if};
-ghost use Rattle.scx_dsq.specs.Queues.{queue_of, task_count};
+ghost use Rattle.scx_dsq.specs.Queues.{entry_of, queue_of, task_count};
 ghost use Rattle.scx_weights.specs.Limits.{has_quota};
 ghost use Rattle.scx_sched_world.specs.First.{with_locals, first_queues, first_world};
 ghost use Rattle.scx_sched_world.specs.Helpers.{task_argument};
@@ -15,7 +15,7 @@ use crate::eject::Eject;
 use crate::faults::Fault;
 use crate::ids::{BUILTIN, GLOBAL, HELD, LOCAL_ON, PARKED};
 use crate::notes::{Note, What};
-use scx_dsq::Queues;
+use scx_dsq::{Entry, Queues};
 use scx_isa::{Callback, TaskId};
 use scx_sched_tasks::{Task, Tasks};
 use scx_vm::Arg;
@@ -163,6 +163,17 @@ impl World {
     {
         if (task as usize) < self.queues.tasks() {
             self.queues.queue_of(u32::from(task))
+        } else {
+            None
+        }
+    }
+
+    /// Where the task waits or is parked, by which rank, and how many pushes were accepted before it.
+    pub fn entry(&self, task: u16) -> Option<Entry>
+        ensures { result ≡ entry_of self.now.queues task }
+    {
+        if (task as usize) < self.queues.tasks() {
+            self.queues.entry(u32::from(task))
         } else {
             None
         }
