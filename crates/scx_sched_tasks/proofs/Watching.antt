@@ -1,5 +1,5 @@
 -- That nobody is late where the clocks that are kept for that say so.
-use Rattle.std.proofs.Common.{◌≡◌, ℕ, ◌+◌, ◌-◌, ◌*◌, ◌/◌, ◌<◌, ◌≤◌, min, ◌⊎◌, inl, inr, Bool, true, false, nat_lt, List, length, get_or, set, take, drop, replicate, Option, Some, None, refl, sym, ap, ◌∙◌, arith}
+use Rattle.std.proofs.Common.{◌≡◌, ℕ, ◌+◌, ◌-◌, ◌*◌, ◌/◌, ◌<◌, ◌≤◌, min, ◌⊎◌, inl, inr, Bool, true, false, nat_lt, List, length, get_or, set, take, drop, replicate, Option, Some, None, refl, sym, ap, ◌∙◌, subst, arith}
 use Rattle.std.specs.List.{position}
 use Rattle.std.proofs.lemmas.Bool.{cases_eq, cases_lt}
 use Rattle.std.proofs.lemmas.Bool.Decides.{nat_tests}
@@ -88,6 +88,14 @@ watched_since w tasks t x (Some m) e h =
 -- a task has another record
 pub watched_set : (w : Watch) (tasks : List Task) (t : ℕ) (x : Task) → AreWatched w tasks → AreWatched (with_earlier w t x.since) (set tasks t x)
 watched_set w tasks t x h = watched_since w tasks t x x.since refl h
+
+-- a task has another record, and waits as before
+pub watched_same : (w : Watch) (tasks : List Task) (t : ℕ) (x : Task) → x.since ≡ (get_or tasks t no_task).since → AreWatched w tasks → AreWatched w (set tasks t x)
+watched_same w tasks t x same h = record {
+  count = h.count;
+  least = h.least;
+  each = λ b u n of is. in_set (λ y. y.since ≡ Some n → get_or w.blocks b 0 ≤ n) tasks t u x (λ here e. h.each b t n (subst (λ k. k / 32 ≡ b) here of) (sym same ∙ e)) (λ e. h.each b u n of e) is;
+}
 
 -- ---- nobody
 

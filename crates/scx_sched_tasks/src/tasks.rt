@@ -79,6 +79,35 @@ impl Tasks {
         self.watch.blocks = other.watch.blocks;
     }
 
+    /// Sets what is left of the task's slice, and how long it has run. Where there is no such task nothing is
+    /// changed.
+    #[inline(always)]
+    #[tactic(auto, using(crate::proofs::Watching::watched_same))]
+    pub fn set_times(&mut self, task: u16, slice: u64, run_ns: u64)
+        ensures { self.new
+            ≡ slice_set self.old task
+            (record (slice_index_or self.old task no_task) { slice = slice; run_ns = run_ns }) }
+    {
+        if (task as usize) < self.records.len() {
+            let facts = &mut self.records[task as usize];
+            facts.slice = slice;
+            facts.run_ns = run_ns;
+        }
+    }
+
+    /// Sets the task's virtual time. Where there is no such task nothing is changed.
+    #[inline(always)]
+    #[tactic(auto, using(crate::proofs::Watching::watched_same))]
+    pub fn set_vtime(&mut self, task: u16, vtime: u64)
+        ensures { self.new
+            ≡ slice_set self.old task
+            (record (slice_index_or self.old task no_task) { vtime = vtime }) }
+    {
+        if (task as usize) < self.records.len() {
+            self.records[task as usize].vtime = vtime;
+        }
+    }
+
     /// Of the tasks that have waited longer than that the one of the least number.
     #[tactic(auto, using(crate::proofs::Watching::nobody_late))]
     pub fn first_overdue(&mut self, clock: u64, limit: u64) -> Option<u16>
