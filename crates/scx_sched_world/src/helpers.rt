@@ -236,15 +236,14 @@ impl World {
         ensures number { result ≡ field_of self.now task field }
         ensures fits { result < 2 ^ (8 * field_width field) }
     {
-        let facts = self.task(task);
         match field {
             Field::Pid => u64::from(task) + 1,
             Field::Weight => self.weight(task),
-            Field::Slice => facts.slice,
-            Field::DsqVtime => facts.vtime,
-            Field::PrevCpu => u64::from(facts.prev_cpu),
+            Field::Slice => self.task(task).slice,
+            Field::DsqVtime => self.task(task).vtime,
+            Field::PrevCpu => u64::from(self.task(task).prev_cpu),
             Field::Group => self.group(task),
-            Field::RunNs => facts.run_ns,
+            Field::RunNs => self.task(task).run_ns,
         }
     }
 

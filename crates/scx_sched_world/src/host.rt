@@ -52,13 +52,15 @@ impl Env for World {
     }
 
     fn store(&mut self, task: TaskId, field: Field, value: u64) {
-        let mut facts = self.task(task.0);
         match field {
-            Field::Slice => facts.slice = value,
-            Field::DsqVtime => facts.vtime = value,
+            Field::Slice => {
+                let run_ns = self.task(task.0).run_ns;
+                self.tasks.set_times(task.0, value, run_ns);
+            }
+            Field::DsqVtime => self.tasks.set_vtime(task.0, value),
+            // Into these no program stores.
             Field::Pid | Field::Weight | Field::PrevCpu | Field::Group | Field::RunNs => {}
         }
-        self.set_task(task.0, facts);
     }
 }
 

@@ -152,7 +152,7 @@ impl World {
             if facts.slice == 0 {
                 facts.slice = DEFAULT_SLICE;
             }
-            self.set_task(task, facts);
+            self.tasks.set_times(task, facts.slice, facts.run_ns);
         }
     }
 
@@ -236,7 +236,7 @@ impl World {
             facts.slice = facts.slice.saturating_sub(1_000_000);
         }
         facts.run_ns += 1_000_000;
-        self.set_task(task, facts);
+        self.tasks.set_times(task, facts.slice, facts.run_ns);
     }
 
     /// The task's groups have used a millisecond more.
