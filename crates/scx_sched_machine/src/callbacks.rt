@@ -26,6 +26,7 @@ use scx_vm::{Arg, Args};
 use scx_vm_run::{Core, run_on};
 
 /// The program of a callback, while the policy is in force.
+#[inline(always)]
 fn acting<'a>(policy: &'a Policy, world: &World, callback: Callback) -> Option<&'a Verified>
     ensures program { option_map (λ p. p.now) result
         ≡ unless_ejected world.now.ejected (program_of policy.now callback) }
@@ -43,6 +44,7 @@ fn acting<'a>(policy: &'a Policy, world: &World, callback: Callback) -> Option<&
 
 /// Runs a callback of the policy, and answers what its program does. One that is absent, or of a policy that
 /// is ejected, answers 0.
+#[inline(always)]
 #[tactic(auto, unfolding(crate::specs::Callbacks::call_ending))]
 pub(crate) fn run_callback<S: Sink>(
     core: &mut Core,
@@ -74,6 +76,7 @@ pub(crate) fn run_callback<S: Sink>(
 }
 
 /// Runs a program as the callback that it was verified for.
+#[inline(always)]
 pub(crate) fn run_program(
     core: &mut Core,
     program: &Verified,
@@ -204,6 +207,7 @@ impl Machine {
 
     /// Runs a callback of the policy, with that task and processor at hand, and answers what its program
     /// does. Where it has a fault the policy is ejected. Once it is ejected, none runs, and the answer is 0.
+    #[inline(always)]
     #[tactic(auto, unfolding(crate::specs::Callbacks::call_back, crate::specs::Callbacks::answered_by), using(crate::proofs::Taking::takings))]
     pub(crate) fn call_back<S: Sink>(
         &mut self,

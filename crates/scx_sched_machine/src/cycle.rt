@@ -291,6 +291,7 @@ impl Machine {
     }
 
     /// A whole cycle. `ran` says whether a task ran there as the event began.
+    #[inline(never)]
     #[tactic(auto, unfolding(crate::specs::Cycle::cycle), using(crate::proofs::Taking::takings))]
     pub(crate) fn cycle<S: Sink>(&mut self, cpu: u32, before: Option<u16>, ran: bool, sink: &mut S)
         requires { HasRoom cycle_pushes self.old }

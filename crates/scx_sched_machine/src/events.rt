@@ -60,6 +60,7 @@ pub enum Refused {
 
 impl Machine {
     /// Why the event isn't accepted.
+    #[inline(always)]
     pub fn refusal(&self, event: Event) -> Option<Refused>
         ensures { result ≡ refusal self.now event }
     {
@@ -169,6 +170,7 @@ impl Machine {
     }
 
     /// A task wakes.
+    #[inline(never)]
     #[tactic(auto, unfolding(crate::specs::Events::wake), using(crate::proofs::Taking::takings))]
     fn wake<S: Sink>(&mut self, task: u16, sink: &mut S)
         requires known { task < length self.old.world.tasks }
@@ -196,6 +198,7 @@ impl Machine {
     }
 
     /// A task goes to sleep.
+    #[inline(never)]
     #[tactic(auto, unfolding(crate::specs::Events::sleep), using(crate::proofs::Taking::takings))]
     fn sleep<S: Sink>(&mut self, task: u16, sink: &mut S)
         requires { HasRoom sleep_pushes self.old }
@@ -213,6 +216,7 @@ impl Machine {
     }
 
     /// A task that may not run any more leaves its processor and is parked.
+    #[inline(never)]
     #[tactic(auto, unfolding(crate::specs::Events::throttle), using(crate::proofs::Taking::takings))]
     fn throttle<S: Sink>(&mut self, cpu: u32, task: u16, sink: &mut S)
         requires { HasRoom throttle_pushes self.old }
@@ -239,6 +243,7 @@ impl Machine {
     }
 
     /// A task has run for a millisecond, which its groups have used.
+    #[inline(always)]
     #[tactic(auto, unfolding(crate::specs::Events::count_down), using(crate::proofs::Taking::takings))]
     fn count_down<S: Sink>(&mut self, cpu: u32, task: u16, sink: &mut S)
         requires early { (task_at self.old.world task).run_ns < 2 ^ 63 }
@@ -257,6 +262,7 @@ impl Machine {
     }
 
     /// A processor ran for a millisecond.
+    #[inline(always)]
     #[tactic(auto, unfolding(crate::specs::Events::tick), using(crate::proofs::Taking::takings))]
     fn tick<S: Sink>(&mut self, cpu: u32, sink: &mut S)
         requires early { (t : ℕ) → (task_at self.old.world t).run_ns < 2 ^ 63 }
@@ -296,6 +302,7 @@ impl Machine {
     }
 
     /// The clock grows by a millisecond, and periods begin: who may run again is let go.
+    #[inline(always)]
     #[tactic(auto, unfolding(crate::specs::Events::clock), using(crate::proofs::Taking::takings))]
     fn clock<S: Sink>(&mut self, sink: &mut S)
         requires early { self.old.world.clock < 2 ^ 32 }
@@ -310,6 +317,7 @@ impl Machine {
     }
 
     /// Does what an event does that is accepted.
+    #[inline(always)]
     #[tactic(auto, using(crate::proofs::Taking::takings))]
     pub fn event<S: Sink>(&mut self, event: Event, sink: &mut S)
         requires accepted { refusal self.old event ≡ None }

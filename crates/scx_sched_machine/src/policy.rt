@@ -82,6 +82,7 @@ impl Policy {
     }
 
     /// The program of a callback.
+    #[inline(always)]
     pub(crate) fn program(&self, callback: Callback) -> Option<&Verified>
         ensures program { option_map (λ p. p.now) result ≡ program_of self.now callback }
         ensures callback { IsAs callback (program_of self.now callback) }
