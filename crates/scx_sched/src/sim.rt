@@ -85,6 +85,7 @@ impl Sim {
     }
 
     /// Why the event isn't accepted.
+    #[inline(always)]
     fn refusal(&self, event: Event) -> Option<Refused>
         ensures { result ≡ refusal self.now event }
     {
@@ -95,6 +96,7 @@ impl Sim {
     }
 
     /// One event, with all that it causes. One that isn't accepted changes nothing, and has no notes.
+    #[inline(always)]
     pub fn step<S: Sink>(&mut self, event: Event, sink: &mut S) -> Result<(), Refused>
         ensures answer { result ≡ answer_of (refusal self.old event) }
         ensures state { self.new ≡ after_event self.old event }
