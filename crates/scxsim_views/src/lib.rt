@@ -6,8 +6,10 @@ mod pages;
 mod pauses;
 mod sketching;
 mod watching;
+mod words;
 
 pub use pages::{Line, Page, Part, push_number};
 pub use pauses::{Pause, PauseKind, Pauses};
 pub use sketching::{Sketch, write_sketch};
 pub use watching::{View, watch};
+pub use words::{QueueName, fault_words};
