@@ -1,0 +1,133 @@
+ghost use Rattle.std.specs.Prelude.{◌≡◌, ◌⊎◌, ℕ, List, [], true, Err, IfOk, IfErr, OnOk, string_bytes};
+ghost use Rattle.std.specs.Io.KnownBytes.{Appends};
+ghost use Rattle.scx_load_driver.specs.Driver.{remaining};
+ghost use Rattle.scx_load_driver.specs.Runs.{notes_of_all};
+ghost use Rattle.scxsim_output.specs.Output.{HasFailed};
+ghost use Rattle.scxsim_commands.specs.Outcome.{IfRefused, IsRefused};
+ghost use Rattle.scxsim_commands.specs.declared.refusal.Refusal.TheVariants.{NoMemory, NoSuchTask};
+ghost use Rattle.scxsim_story.specs.Occurrences.{occurrences, Tells};
+ghost use Rattle.scxsim_story.specs.Stories.{IsNoTask, IsStory, IsStoryCause, IsToldIn};
+
+use crate::subjects::{Subject, subject_of};
+use crate::watching::Storyteller;
+use scx_load_workloads::Workload;
+use scx_sched::Sim;
+use scxsim_commands::{Fault, Refusal};
+use scxsim_output::{Out, write_all};
+use scxsim_simulation::{Heard, Listener, Run, give_back, prepare};
+use scxsim_trace::Events;
+use scxsim_views::watch;
+use std::alloc::{AllocError, Global};
+
+/// Writes the story of the task of that name in the run that the texts of a policy file and of a workload file
+/// stand for. The answer is true.
+///
+/// # Errors
+///
+/// The texts are refused, or the workload has no such task, or memory runs out, and then nothing is written, or
+/// writing the story fails.
+pub fn story<L: Listener, W: Out>(
+    alloc: Global,
+    policy: &str,
+    workload: &str,
+    task: &str,
+    listener: &mut L,
+    out: &mut W,
+) -> Result<bool, Fault>
+    // A line for each occurrence of the task in the run.
+    ensures done { IfOk result (λ answer. (answer ≡ true) × (text : List ℕ)
+        × IsStory policy.now workload.now task.now text
+        × Appends (W.contents out.old) (W.contents out.new) text) }
+    ensures unfailed { OnOk result (W.failure_count out.new ≡ W.failure_count out.old) }
+
+    // A refusal has its cause in the texts or in the name, and comes before any byte is written.
+    ensures refused { IfRefused result (IsStoryCause policy.now workload.now task.now) }
+    ensures quiet { IsRefused result → out.new ≡ out.old }
+    ensures counted { result ≡ Err Fault.WriteFailed
+        → HasFailed (W.failure_count out.old) (W.failure_count out.new) }
+{
+    let text = told(alloc, policy, workload, task, listener)?;
+    write_all(out, text.as_bytes())?;
+    Ok(true)
+}
+
+/// The story. All memory is taken before the first byte is written.
+#[tactic(auto, using(crate::proofs::Refusing::cause_of_run, crate::proofs::Refusing::story_of_run))]
+fn told<L: Listener>(
+    alloc: Global,
+    policy: &str,
+    workload: &str,
+    task: &str,
+    listener: &mut L,
+) -> Result<String, Refusal>
+    ensures told { IfOk result
+        (λ text. IsStory policy.now workload.now task.now (string_bytes text)) }
+    ensures refused { IfErr result (IsStoryCause policy.now workload.now task.now) }
+{
+    let run = prepare(alloc, policy, workload)?;
+    told_of_run(alloc, run, task, listener)
+}
+
+/// The story of the task of that name in this run.
+#[tactic(auto, using(crate::proofs::Refusing::told_of_subject))]
+fn told_of_run<L: Listener>(
+    alloc: Global,
+    run: Run,
+    task: &str,
+    listener: &mut L,
+) -> Result<String, Refusal>
+    ensures told { IfOk result (λ text. IsToldIn run.workload task.now
+        (notes_of_all run.sim (remaining run.driver run.sim)) (string_bytes text)) }
+    ensures refused { IfErr result (λ refusal. (refusal ≡ NoMemory)
+        ⊎ ((refusal ≡ NoSuchTask) × IsNoTask run.workload task.now)) }
+{
+    match subject_of(&run.workload, task) {
+        Some(subject) => Ok(tell(alloc, run, subject, listener)?),
+        None => {
+            drop(run);
+            Err(Refusal::NoSuchTask)
+        }
+    }
+}
+
+/// The story of this task in this run.
+fn tell<L: Listener>(
+    alloc: Global,
+    run: Run,
+    subject: Subject,
+    listener: &mut L,
+) -> Result<String, AllocError>
+    ensures { IfOk result (λ text. Tells
+        (occurrences subject (notes_of_all run.sim (remaining run.driver run.sim))) []
+        (string_bytes text)) }
+{
+    let Run {
+        workload,
+        driver,
+        mut sim,
+    } = run;
+    let mut events = Heard::new(driver, workload.ms(), listener);
+    let text = tell_from(alloc, &workload, subject, &mut events, &mut sim);
+    give_back(events, sim);
+    drop(workload);
+    text
+}
+
+/// The same of a run that is lent.
+fn tell_from<E: Events>(
+    alloc: Global,
+    workload: &Workload,
+    subject: Subject,
+    events: &mut E,
+    sim: &mut Sim,
+) -> Result<String, AllocError>
+    ensures { IfOk result (λ text. Tells
+        (occurrences subject (notes_of_all sim.old (E.remaining events.old sim.old))) []
+        (string_bytes text)) }
+{
+    let mut storyteller = Storyteller::new(alloc, workload, subject);
+    watch(sim, events, &mut storyteller);
+    storyteller.result?;
+    storyteller.end(sim)?;
+    Ok(storyteller.into_text())
+}
