@@ -8,6 +8,8 @@ pub(crate) enum Kind {
     Run(Account),
     /// Of a part of a run.
     Part(Account),
+    /// Of one task in a run.
+    Task(Account),
     Cases,
 }
 
@@ -25,7 +27,7 @@ pub(crate) fn forms() -> &'static [Form] {
     &FORMS
 }
 
-const FORMS: [Form; 15] = [
+const FORMS: [Form; 16] = [
     Form {
         name: "verify",
         kind: Kind::Policy(PolicyCommand::Verify),
@@ -67,6 +69,12 @@ const FORMS: [Form; 15] = [
         kind: Kind::Run(Account::Summary(Summary::Why)),
         about: "Reads and runs the same, and prints how it ended, who waited longest and why",
         example: "Example: scxsim why examples/gallery/undrained.toml examples/workloads/two_tasks.toml\nprints:  in five lines how the policy ended, the longest wait, processors that were idle\n         while tasks waited, queues that nobody left and tasks that never ran, and then\n         more of each\ndocs/WHY.md says how to read it.",
+    },
+    Form {
+        name: "story",
+        kind: Kind::Task(Account::Summary(Summary::Story)),
+        about: "Does the same for one task, and prints what happened to it, a line each with its reason",
+        example: "Example: scxsim story examples/policies/short_slices.toml examples/workloads/two_tasks.toml b\nprints:  0 wakes, 0 of 1 processors idle\n         0 waits alone in queue 0\n         1 moves from queue 0 to local 0\n         1 runs on cpu 0 after waiting 1 ms, slice 2000000 ns\n         3 stops on cpu 0 after 2 ms: its slice is used up\n         3 waits alone in queue 0\ndocs/WHY.md says how to read it.",
     },
     Form {
         name: "timeline",

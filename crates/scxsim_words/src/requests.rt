@@ -35,6 +35,7 @@ pub enum Summary {
     Stats,
     StatsCsv,
     Why,
+    Story,
     Gantt,
 }
 
@@ -62,6 +63,8 @@ pub enum Request<'a> {
         workload: &'a str,
         /// None where it is of the whole run.
         part: Option<Part<'a>>,
+        /// The name of a task, where it is of one.
+        task: Option<&'a str>,
     },
     /// Of the files that the words behind the command name.
     Cases,

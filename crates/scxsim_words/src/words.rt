@@ -22,6 +22,8 @@ const FROM: &str = "The millisecond with which the part begins, from 0 on";
 const TO: &str =
     "The millisecond with which it ends, greater than FROM and at most that of the run's end";
 
+const TASK: &str = "The name of a task in the workload";
+
 const CASES: &str = "Files of cases, as docs/CASES.md has them";
 
 /// What the words ask for. `clap` refuses words that name no command and no file, so there is a
@@ -52,8 +54,9 @@ fn request_of<'a>(name: &str, command: &ArgMatches<'a>) -> Option<Request<'a>> {
             command: of,
             path: command.get_str("POLICY")?,
         }),
-        Kind::Run(account) => run_of(account, command, None),
-        Kind::Part(account) => run_of(account, command, Some(part_of(command)?)),
+        Kind::Run(account) => run_of(account, command, None, None),
+        Kind::Part(account) => run_of(account, command, Some(part_of(command)?), None),
+        Kind::Task(account) => run_of(account, command, None, Some(command.get_str("TASK")?)),
         Kind::Cases => Some(Request::Cases),
     }
 }
@@ -62,12 +65,14 @@ fn run_of<'a>(
     account: Account,
     command: &ArgMatches<'a>,
     part: Option<Part<'a>>,
+    task: Option<&'a str>,
 ) -> Option<Request<'a>> {
     Some(Request::Run {
         account,
         policy: command.get_str("POLICY")?,
         workload: command.get_str("WORKLOAD")?,
         part,
+        task,
     })
 }
 
@@ -124,6 +129,7 @@ fn command_of<'a>(alloc: Global, form: &Form) -> Result<Command<'a>, AllocError>
         Kind::Policy(_) => with_word(alloc, command, "POLICY", POLICY),
         Kind::Run(_) => with_run(alloc, command),
         Kind::Part(_) => with_part(alloc, command),
+        Kind::Task(_) => with_task(alloc, command),
         Kind::Cases => with_cases(alloc, command),
     }
 }
@@ -147,6 +153,12 @@ fn with_part<'a>(alloc: Global, command: Command<'a>) -> Result<Command<'a>, All
     let command = with_run(alloc, command)?;
     let command = with_word(alloc, command, "FROM", FROM)?;
     with_word(alloc, command, "TO", TO)
+}
+
+/// The command, which reads the same, and the name of a task.
+fn with_task<'a>(alloc: Global, command: Command<'a>) -> Result<Command<'a>, AllocError> {
+    let command = with_run(alloc, command)?;
+    with_word(alloc, command, "TASK", TASK)
 }
 
 /// The command, which reads files of cases, one or more.
