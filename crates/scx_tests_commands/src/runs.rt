@@ -6,6 +6,7 @@ use scxsim_output::Out;
 use scxsim_pictures::{picture, timeline};
 use scxsim_simulation::{Listener, report, simulate};
 use scxsim_statistics::{stats, stats_csv};
+use scxsim_story::story;
 use scxsim_why::why;
 use std::alloc::Global;
 
@@ -30,15 +31,17 @@ pub(crate) enum Summary {
     Stats,
     StatsCsv,
     Why,
+    Story,
     Gantt,
 }
 
-pub(crate) const ACCOUNTS: [Account; 8] = [
+pub(crate) const ACCOUNTS: [Account; 9] = [
     Account::Course(Course::Trace),
     Account::Summary(Summary::Report),
     Account::Summary(Summary::Stats),
     Account::Summary(Summary::StatsCsv),
     Account::Summary(Summary::Why),
+    Account::Summary(Summary::Story),
     Account::Summary(Summary::Gantt),
     Account::Course(Course::Timeline),
     Account::Course(Course::Picture),
@@ -86,6 +89,7 @@ fn write_summary<L: Listener, W: Out>(
         Summary::Stats => stats(alloc, policy, workload, listener, out),
         Summary::StatsCsv => stats_csv(alloc, policy, workload, listener, out),
         Summary::Why => why(alloc, policy, workload, listener, out),
+        Summary::Story => story(alloc, policy, workload, "a", listener, out),
         Summary::Gantt => gantt(alloc, "a on b", policy, workload, None, listener, out),
     }
 }

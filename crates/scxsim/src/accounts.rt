@@ -8,16 +8,18 @@ use scxsim_pictures::{picture, timeline};
 use scxsim_progress::Progress;
 use scxsim_simulation::{Listener, report, simulate};
 use scxsim_statistics::{stats, stats_csv};
+use scxsim_story::story;
 use scxsim_why::why;
 use scxsim_words::{Account, Course, Part, Summary};
 use std::alloc::Global;
 
-/// What names a run: the paths of its files, and the words of a part of it.
+/// What names a run: the paths of its files, and the words of a part or of a task of it.
 #[derive(Clone, Copy)]
 pub(crate) struct RunWords<'a> {
     pub(crate) policy: &'a str,
     pub(crate) workload: &'a str,
     pub(crate) part: Option<Part<'a>>,
+    pub(crate) task: Option<&'a str>,
 }
 
 /// The texts of the files of a run, and what names it.
@@ -118,8 +120,24 @@ fn write_summary<L: Listener, W: Out>(
         Summary::Stats => stats(alloc, policy, workload, listener, out),
         Summary::StatsCsv => stats_csv(alloc, policy, workload, listener, out),
         Summary::Why => why(alloc, policy, workload, listener, out),
+        Summary::Story => write_story(alloc, texts, listener, out),
         Summary::Gantt => write_chart(alloc, texts, listener, out),
     }
+}
+
+fn write_story<L: Listener, W: Out>(
+    alloc: Global,
+    texts: RunTexts<'_>,
+    listener: &mut L,
+    out: &mut W,
+) -> Result<bool, Fault> {
+    let RunTexts {
+        policy,
+        workload,
+        words,
+    } = texts;
+    let task = words.task.unwrap_or("");
+    story(alloc, policy, workload, task, listener, out)
 }
 
 fn write_chart<L: Listener, W: Out>(

@@ -36,6 +36,7 @@ pub use scxsim_explain::explain;
 pub use scxsim_pictures::{picture, timeline};
 pub use scxsim_simulation::{Listener, report, simulate};
 pub use scxsim_statistics::{stats, stats_csv};
+pub use scxsim_story::story;
 pub use scxsim_why::why;
 use std::io;
 use std::io::BufWriter;

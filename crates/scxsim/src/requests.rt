@@ -40,11 +40,13 @@ fn do_request<'a, R: AllocGlobal + Console, W: Out>(
             policy,
             workload,
             part,
+            task,
         } => {
             let words = RunWords {
                 policy,
                 workload,
                 part,
+                task,
             };
             tell(rt, account, words, out)
         }
