@@ -1,15 +1,16 @@
-use crate::ending::{Cause, Ejection, words_of};
+use crate::ending::{Cause, Ejection};
 use crate::finding::Findings;
 use crate::queues::QueueFigures;
 use crate::recent::Recent;
 use crate::stretches::Seen;
 use crate::waits::Meanwhile;
 use crate::watching::Account;
-use crate::words::{Count, QueueName};
+use crate::words::Count;
 use scx_load_workloads::Workload;
 use scx_sched::{Event, Sink};
 use scxsim_output::Counted;
 use scxsim_trace::{Names, Trace};
+use scxsim_views::{QueueName, fault_words};
 use std::alloc::{AllocError, Global};
 
 /// Makes the page, behind its first word.
@@ -51,7 +52,7 @@ fn write_ending(
         }
         Cause::Fault(fault, event) => {
             let number = fault.number();
-            let words = words_of(fault);
+            let words = fault_words(fault);
             write!(page, "fault {number}, {words}, ")?;
             write_event(workload, event, page)
         }
