@@ -4,3 +4,4 @@ pub mod Following
 pub mod Remaining
 pub mod Accepting
 pub mod Keys
+pub mod Listing
