@@ -4,11 +4,12 @@ use Rattle.std.specs.Fmt.{signed_decimal}
 use Rattle.scx_isa_encoding.specs.Faults.{decode_number, decode_name}
 use Rattle.scx_verify.specs.Faults.{fault_number, fault_name}
 use Rattle.scx_asm.specs.Faults.{asm_number, asm_name}
+use Rattle.scx_load_files.specs.EventFaults.{event_number, event_name}
 use Rattle.scx_load_files.specs.declared.fault.Cause.{Cause}
 use Rattle.scx_load_files.specs.declared.fault.Cause.TheVariants as causes
 use Rattle.scx_isa_semantics.specs.Callbacks.{callback_name}
 use Rattle.scxsim_commands.specs.declared.refusal.Refusal.{Refusal}
-use Rattle.scxsim_commands.specs.declared.refusal.Refusal.TheVariants.{TooLarge, NotUtf8, NoMemory, Decode, Verify, Assemble, Callback, Policy, Workload, Init, OutOfRange, NoSuchTask}
+use Rattle.scxsim_commands.specs.declared.refusal.Refusal.TheVariants.{TooLarge, NotUtf8, NoMemory, Decode, Verify, Assemble, Callback, Policy, Workload, Init, OutOfRange, NoSuchTask, Events}
 use Rattle.scxsim_commands.specs.declared.refusal.Word.{Word}
 use Rattle.scxsim_commands.specs.declared.refusal.Word.TheVariants.{From, To}
 use Rattle.scxsim_commands.specs.Lines.{fault_text}
@@ -31,6 +32,8 @@ cause_text (causes.Asm fault line) =
     codes "asm " ++ fault_text (asm_number fault) (asm_name fault) line
 cause_text (causes.Decode fault slot) =
     codes "decode " ++ fault_text (decode_number fault) (decode_name fault) slot
+cause_text (causes.Event fault line) =
+    codes "event " ++ fault_text (event_number fault) (event_name fault) line
 
 -- an `init` that failed with that answer
 abbrev pub init_line : ℤ → List ℕ
@@ -61,6 +64,8 @@ refusal_line (Policy path cause) =
     codes "refused: policy " ++ string_bytes path ++ codes ": " ++ cause_text cause ++ codes "\n"
 refusal_line (Workload path cause) =
     codes "refused: workload " ++ string_bytes path ++ codes ": " ++ cause_text cause ++ codes "\n"
+refusal_line (Events path cause) =
+    codes "refused: events " ++ string_bytes path ++ codes ": " ++ cause_text cause ++ codes "\n"
 refusal_line (Init answer) = init_line answer
 refusal_line (OutOfRange word) = word_line word
 refusal_line NoSuchTask = codes "refused: word TASK: no such task\n"
@@ -72,16 +77,19 @@ refusal_line NoSuchTask = codes "refused: word TASK: no such task\n"
 abbrev pub start : Refusal → List ℕ
 start (Policy path cause) = codes "refused: policy "
 start (Workload path cause) = codes "refused: workload "
+start (Events path cause) = codes "refused: events "
 start refusal = refusal_line refusal
 
 -- the path of the key that is refused in a file; empty of a refusal that has none
 abbrev pub path_of : Refusal → List ℕ
 path_of (Policy path cause) = string_bytes path
 path_of (Workload path cause) = string_bytes path
+path_of (Events path cause) = string_bytes path
 path_of refusal = []
 
 -- what stands behind the path of a key, with the line feed; empty of a refusal that has no path
 abbrev pub end : Refusal → List ℕ
 end (Policy path cause) = codes ": " ++ cause_text cause ++ codes "\n"
 end (Workload path cause) = codes ": " ++ cause_text cause ++ codes "\n"
+end (Events path cause) = codes ": " ++ cause_text cause ++ codes "\n"
 end refusal = []

@@ -13,7 +13,7 @@ use Rattle.scx_load_files.specs.declared.fault.LoadError.TheVariants as load
 use Rattle.scx_load_policies.specs.declared.building.BuildError.{BuildError}
 use Rattle.scx_load_policies.specs.declared.building.BuildError.TheVariants as build
 use Rattle.scxsim_commands.specs.declared.refusal.Refusal.{Refusal}
-use Rattle.scxsim_commands.specs.declared.refusal.Refusal.TheVariants.{NoMemory, Decode, Verify, Assemble, Callback, Policy, Workload}
+use Rattle.scxsim_commands.specs.declared.refusal.Refusal.TheVariants.{NoMemory, Decode, Verify, Assemble, Callback, Policy, Workload, Events}
 
 -- why bytes aren't decoded: their first fault and its slot, or want of memory
 abbrev pub decode_refusal : DecodeError → Refusal
@@ -48,3 +48,8 @@ policy_refusal load.NoMemory = NoMemory
 abbrev pub workload_refusal : LoadError → Refusal
 workload_refusal (load.At path cause) = Workload path cause
 workload_refusal load.NoMemory = NoMemory
+
+-- why a file of events isn't read: the path of its first fault and the cause, or want of memory
+abbrev pub events_refusal : LoadError → Refusal
+events_refusal (load.At path cause) = Events path cause
+events_refusal load.NoMemory = NoMemory

@@ -1,5 +1,5 @@
 ghost use Rattle.std.specs.Prelude.{◌≡◌};
-ghost use Rattle.scxsim_commands.specs.Refusals.{decode_refusal, verify_refusal, asm_refusal, build_refusal, policy_refusal, workload_refusal};
+ghost use Rattle.scxsim_commands.specs.Refusals.{decode_refusal, verify_refusal, asm_refusal, build_refusal, policy_refusal, workload_refusal, events_refusal};
 ghost use Rattle.scxsim_commands.specs.declared.refusal.Refusal.TheVariants.{NoMemory};
 ghost use Rattle.scxsim_commands.specs.declared.refusal.Fault.TheVariants.{Refused, WriteFailed};
 
@@ -60,6 +60,12 @@ pub enum Refusal {
     /// The first fault of a workload file: the path of what is wrong, and the cause.
     #[error("the workload's {path}: {cause}")]
     Workload {
+        path: String,
+        cause: Cause,
+    },
+    /// The first fault of a file of events: the path of what is wrong, and the cause.
+    #[error("the events' {path}: {cause}")]
+    Events {
         path: String,
         cause: Cause,
     },
@@ -128,6 +134,16 @@ impl Refusal {
         match error {
             LoadError::NoMemory => Refusal::NoMemory,
             LoadError::At { path, cause } => Refusal::Workload { path, cause },
+        }
+    }
+
+    /// What a file of events is refused for.
+    pub fn of_events(error: LoadError) -> Refusal
+        ensures { result ≡ events_refusal error }
+    {
+        match error {
+            LoadError::NoMemory => Refusal::NoMemory,
+            LoadError::At { path, cause } => Refusal::Events { path, cause },
         }
     }
 }

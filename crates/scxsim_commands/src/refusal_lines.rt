@@ -51,6 +51,7 @@ fn start(refusal: &Refusal) -> Line
         } => callback_line("refused: verify ", *callback, " ", *fault, *slot),
         Refusal::Policy { .. } => whole_line("refused: policy "),
         Refusal::Workload { .. } => whole_line("refused: workload "),
+        Refusal::Events { .. } => whole_line("refused: events "),
         Refusal::Init(answer) => init_line(*answer),
         Refusal::OutOfRange(word) => word_line(*word),
         Refusal::NoSuchTask => whole_line("refused: word TASK: no such task\n"),
@@ -64,6 +65,7 @@ fn path_of(refusal: &Refusal) -> &str
     match refusal {
         Refusal::Policy { path, .. } => path.as_str(),
         Refusal::Workload { path, .. } => path.as_str(),
+        Refusal::Events { path, .. } => path.as_str(),
         _ => "",
     }
 }
@@ -75,6 +77,7 @@ fn end(refusal: &Refusal) -> Line
     match refusal {
         Refusal::Policy { cause, .. } => cause_end(*cause),
         Refusal::Workload { cause, .. } => cause_end(*cause),
+        Refusal::Events { cause, .. } => cause_end(*cause),
         _ => Line::new(),
     }
 }
@@ -100,6 +103,7 @@ fn cause_end(cause: Cause) -> Line
         Cause::Decode { fault, slot } => {
             fault_line(": decode ", fault.number(), fault.name(), slot)
         }
+        Cause::Event { fault, line } => fault_line(": event ", fault.number(), fault.name(), line),
     }
 }
 
