@@ -2,8 +2,10 @@ ghost use Rattle.std.specs.Prelude.{◌≡◌, [], ◌∷◌, List, IfSome, IfNo
 ghost use Rattle.scx_sched_machine.specs.declared.events.Event.{Event};
 ghost use Rattle.scx_sched.specs.Sim.{SimState, after_event};
 ghost use Rattle.scx_load_driver.specs.Driver as driver;
+ghost use Rattle.scx_load_replay.specs.Replayer as replayer;
 
 use scx_load_driver::Driver;
+use scx_load_replay::Replayer;
 use scx_sched::{Event, Sim};
 
 /// Events for a machine, one after another.
@@ -23,5 +25,13 @@ impl Events for Driver {
 
     fn next(&mut self, sim: &Sim) -> Option<Event> {
         Driver::next(self, sim)
+    }
+}
+
+impl Events for Replayer {
+    ghost remaining = { λ r s. replayer.remaining r };
+
+    fn next(&mut self, _sim: &Sim) -> Option<Event> {
+        Replayer::next(self)
     }
 }
