@@ -1,4 +1,4 @@
--- The headline holds of the run that two texts stand for, through the events that its machine took.
+-- The headline holds of a run through the events that its machine took.
 use Rattle.std.proofs.Common.{ℕ, List, [], ◌∷◌, ◌++◌, Option, Result, Ok, Err, OnErr, sym, subst}
 use Rattle.scx_weights.specs.Hierarchy.{idle}
 use Rattle.scx_sched_machine.specs.declared.events.Event.{Event}
@@ -6,13 +6,12 @@ use Rattle.scx_sched_machine.specs.Callbacks.{AreAnswered}
 use Rattle.scx_sched_machine.proofs.Taking.{answered_append}
 use Rattle.scx_sched.specs.Sim.{SimState, after_event, calls_of}
 use Rattle.scx_load_workloads.specs.Workload.{WorkloadState}
-use Rattle.scx_load_driver.specs.Events.{workload_events}
 use Rattle.scxsim_headline.specs.Headline.{states_from, calls_of_all, NoneIsLate, EachFollows}
 use Rattle.scxsim_headline.proofs.Going.{AreOnce, AreCounted, AreTimely, AreAllBounded, follows_before}
 use Rattle.scxsim_headline.proofs.Whole.{run_notes, run_last, run_never_stuck, run_once, run_counted, run_timely, run_bounded, run_follows}
 use Rattle.scxsim_trace.specs.Lines.{NameLists, names_of}
 use Rattle.scxsim_trace.specs.Runs.{StaysInOrder, StopsAtFailure}
-use Rattle.scxsim_simulation.specs.Runs.{IsRun, run_of, IsOfHeadline, IsCutOff}
+use Rattle.scxsim_simulation.specs.Runs.{IsBegun, run_of, IsOfHeadline, IsCutOff}
 
 all_answered : (s : SimState) (events : List Event) → StaysInOrder s events → AreAnswered (calls_of_all s events)
 all_answered s [] h = tt
@@ -40,8 +39,8 @@ all_follow s [] h = tt
 all_follow s (e ∷ es) (now, well, more) = follows_before s e es well.1 (all_follow (after_event s e) es more)
 
 -- the headline holds of a run through events that leave its machine in order after each
-pub headline_holds : {policy workload : List ℕ} {w : WorkloadState} {s : SimState} (x : IsRun policy workload w s) (events : List Event) → StaysInOrder s events → IsOfHeadline x events
-headline_holds {policy} {workload} {w} {s} x events h =
+pub headline_holds : {policy : List ℕ} {w : WorkloadState} {s : SimState} (x : IsBegun policy w s) (events : List Event) → StaysInOrder s events → IsOfHeadline x events
+headline_holds {policy} {w} {s} x events h =
     let tree = idle w.groups w.homes in
     let limit : ℕ → Type 0 = λ n. NoneIsLate n (run_of x events) in
     record {
@@ -56,9 +55,9 @@ headline_holds {policy} {workload} {w} {s} x events h =
     }
 
 -- up to where writing failed
-pub headline_cut : {policy workload : List ℕ} {w : WorkloadState} {s : SimState} (x : IsRun policy workload w s) (t : SimState) (old new : Option (List ℕ))
-    → StopsAtFailure (names_of w) (workload_events w s) s t old new → IsCutOff x old new
-headline_cut x t old new h = record {
+pub headline_cut : {policy : List ℕ} {w : WorkloadState} {s : SimState} (x : IsBegun policy w s) (events : List Event) (t : SimState) (old new : Option (List ℕ))
+    → StopsAtFailure (names_of w) events s t old new → IsCutOff x events old new
+headline_cut x events t old new h = record {
   done = h.done;
   event = h.event;
   rest = h.rest;

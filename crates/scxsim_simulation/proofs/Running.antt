@@ -1,6 +1,7 @@
 -- What is read, built and begun makes a run.
 use Rattle.std.proofs.Common.{◌≡◌, ℕ, List, Result, Ok, Err, IfOk, OnOk, sym, subst}
 use Rattle.scx_weights.specs.Hierarchy.{idle}
+use Rattle.scx_sched_machine.specs.declared.events.Event.{Event}
 use Rattle.scx_sched_machine.specs.Policy.{PolicyState}
 use Rattle.scx_sched_machine.specs.Callbacks.{AreAnswered}
 use Rattle.scx_sched_machine.specs.Start.{start_calls}
@@ -12,7 +13,11 @@ use Rattle.scx_load_workloads.specs.Workload.{WorkloadState}
 use Rattle.scx_load_workloads.specs.Reading.{workload_of}
 use Rattle.scx_load_driver.specs.Runs.{AreAccepted}
 use Rattle.scx_load_driver.specs.Events.{workload_events}
+use Rattle.scx_load_replay.specs.Replay.{ReplayState}
+use Rattle.scx_load_replay.specs.Reading.{replay_of}
+use Rattle.scx_load_replay.specs.Events.{replay_events}
 use Rattle.scxsim_simulation.specs.Runs.{IsRun}
+use Rattle.scxsim_simulation.specs.Replays.{IsReplayRun}
 
 -- of whatever is handed back with a workload and a machine
 pub run_is : {R E : Type 0} (policy workload : List ℕ) (file : PolicyFile) (machine : PolicyState) (w : WorkloadState) (workload_in : R → WorkloadState) (machine_in : R → SimState) (r : Result R E) → policy_text policy ≡ Ok file → workload_of workload ≡ Ok w → IsBuilt file machine
@@ -20,5 +25,14 @@ pub run_is : {R E : Type 0} (policy workload : List ℕ) (file : PolicyFile) (ma
     → OnOk r (AreAnswered (start_calls machine (idle w.groups w.homes) w.cpus))
     → IfOk r (λ run. IsRun policy workload (workload_in run) (machine_in run))
 run_is policy workload file machine w workload_in machine_in (Ok run) policy_read workload_read built same first accepted answered =
-    subst (λ v. IsRun policy workload v (machine_in run)) (sym same) (record { file = file; machine = machine; policy_read = policy_read; workload_read = workload_read; built = built; first = first; accepted = accepted; answered = answered })
+    subst (λ v. IsRun policy workload v (machine_in run)) (sym same) (record { begun = record { file = file; machine = machine; policy_read = policy_read; built = built; first = first; answered = answered }; workload_read = workload_read; accepted = accepted })
 run_is policy workload file machine w workload_in machine_in (Err e) policy_read workload_read built same first accepted answered = tt
+
+-- the same of a file of events
+pub replay_is : {R E : Type 0} (policy events : List ℕ) (file : PolicyFile) (machine : PolicyState) (r : ReplayState) (workload_in : R → WorkloadState) (machine_in : R → SimState) (events_in : R → List Event) (x : Result R E) → policy_text policy ≡ Ok file → replay_of events ≡ Ok r → IsBuilt file machine
+    → IfOk x (λ run. workload_in run ≡ r.workload) → IfOk x (λ run. events_in run ≡ replay_events r) → IfOk x (λ run. IsFirstState machine (idle r.workload.groups r.workload.homes) r.workload.cpus (machine_in run)) → IfOk x (λ run. AreAccepted (machine_in run) (replay_events r))
+    → OnOk x (AreAnswered (start_calls machine (idle r.workload.groups r.workload.homes) r.workload.cpus))
+    → IfOk x (λ run. (q : ReplayState) × IsReplayRun policy events q (machine_in run) × (workload_in run ≡ q.workload) × (events_in run ≡ replay_events q))
+replay_is policy events file machine r workload_in machine_in events_in (Ok run) policy_read events_read built same listed first accepted answered =
+    (r, record { begun = record { file = file; machine = machine; policy_read = policy_read; built = built; first = first; answered = answered }; events_read = events_read; accepted = accepted }, same, listed)
+replay_is policy events file machine r workload_in machine_in events_in (Err e) policy_read events_read built same listed first accepted answered = tt

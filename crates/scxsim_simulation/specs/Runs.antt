@@ -24,17 +24,22 @@ use Rattle.scxsim_trace.specs.Report as reports
 use Rattle.scxsim_commands.specs.declared.refusal.Refusal.{Refusal}
 use Rattle.scxsim_commands.specs.declared.refusal.Refusal.TheVariants.{NoMemory, Policy, Workload, Callback, Init}
 
--- the texts stand for the run of that workload from that first state on; none of its events is
--- refused, and no callback got stuck before the first one
-pub record IsRun (policy workload : List ℕ) (w : WorkloadState) (s : SimState) : Type 0 where
+-- the policy that the text stands for begins with that state, on these processors and with these
+-- groups and tasks; no callback got stuck before the first event
+pub record IsBegun (policy : List ℕ) (w : WorkloadState) (s : SimState) : Type 0 where
   pub file : PolicyFile
   pub machine : PolicyState
   pub policy_read : policy_text policy ≡ Ok file
-  pub workload_read : workload_of workload ≡ Ok w
   pub built : IsBuilt file machine
   pub first : IsFirstState machine (idle w.groups w.homes) w.cpus s
-  pub accepted : AreAccepted s (workload_events w s)
   pub answered : AreAnswered (start_calls machine (idle w.groups w.homes) w.cpus)
+
+-- the texts stand for the run of that workload from that first state on; none of its events is
+-- refused
+pub record IsRun (policy workload : List ℕ) (w : WorkloadState) (s : SimState) : Type 0 where
+  pub begun : IsBegun policy w s
+  pub workload_read : workload_of workload ≡ Ok w
+  pub accepted : AreAccepted s (workload_events w s)
 
 -- a line for each note of its events
 abbrev pub trace_text : WorkloadState → SimState → List ℕ
@@ -50,14 +55,12 @@ report_text w s =
     reports.report (names_of w) (reports.times (last_of w s).state.world)
     (last_of w s).state.world.ejected
 
--- ---- the headline, of such a run
+-- ---- the headline, of a run that has begun so
 
 -- the run of its machine through these events
 abbrev pub run_of :
-    {policy workload : List ℕ} {w : WorkloadState} {s : SimState}
-    → IsRun policy workload w s → List Event → Run
-run_of {policy} {workload} {w} {s} x events =
-    machine_run x.machine (idle w.groups w.homes) w.cpus events
+    {policy : List ℕ} {w : WorkloadState} {s : SimState} → IsBegun policy w s → List Event → Run
+run_of {policy} {w} {s} x events = machine_run x.machine (idle w.groups w.homes) w.cpus events
 
 -- Through these events it is that run: it has these notes, and ends in that state. In it no
 -- callback is ever stuck or takes more steps than it has instructions, every runnable task appears
@@ -65,8 +68,8 @@ run_of {policy} {workload} {w} {s} x events =
 -- no task has waited longer than the limit in the policy's text, and in no period does a group
 -- with a quota use as much as its quota and one millisecond for each processor. Each event does
 -- what it alone decides.
-pub record IsOfHeadline {policy workload : List ℕ} {w : WorkloadState} {s : SimState}
-    (x : IsRun policy workload w s) (events : List Event) : Type 0 where
+pub record IsOfHeadline {policy : List ℕ} {w : WorkloadState} {s : SimState}
+    (x : IsBegun policy w s) (events : List Event) : Type 0 where
   pub notes : (run_of x events).notes ≡ notes_of_all s events
   pub last : IsLast (stepped_all s events) (run_of x events).states
   pub never_stuck : NoneIsStuck (run_of x events)
@@ -76,14 +79,14 @@ pub record IsOfHeadline {policy workload : List ℕ} {w : WorkloadState} {s : Si
   pub bounded : EachUsageIsBounded (run_of x events)
   pub follows : EachFollows events (run_of x events).states
 
--- The machine took the events up to the first one of which a line wasn't written whole,
--- and none behind it.
-pub record IsCutOff {policy workload : List ℕ} {w : WorkloadState} {s : SimState}
-    (x : IsRun policy workload w s) (old new : Option (List ℕ)) : Type 0 where
+-- The machine took these events up to the first one of which a line wasn't written whole, and
+-- none behind it.
+pub record IsCutOff {policy : List ℕ} {w : WorkloadState} {s : SimState} (x : IsBegun policy w s)
+    (events : List Event) (old new : Option (List ℕ)) : Type 0 where
   pub done : List Event
   pub event : Event
   pub rest : List Event
-  pub whole : workload_events w s ≡ done ++ event ∷ rest
+  pub whole : events ≡ done ++ event ∷ rest
   pub headline : IsOfHeadline x (done ++ event ∷ [])
   pub lines : IsCutIn (names_of w) s done event old new
 

@@ -5,10 +5,12 @@
 
 mod hearing;
 mod preparing;
+mod replaying;
 mod reporting;
 mod simulating;
 
 pub use hearing::{Heard, Listener, Nobody};
 pub use preparing::{Run, give_back, prepare};
+pub use replaying::{ReplayRun, prepare_replay, replay};
 pub use reporting::report;
 pub use simulating::simulate;

@@ -22,6 +22,7 @@ use scx_load_workloads::{Workload, read_workload};
 use scx_sched::{NewError, Policy, Sim};
 use scx_weights::{Tree, TreeError};
 use scxsim_commands::Refusal;
+use scxsim_trace::Events;
 use std::alloc::{AllocError, Global};
 
 /// A run that is about to begin.
@@ -33,7 +34,7 @@ pub struct Run {
 }
 
 /// Gives back the memory of a machine, and of the events that it was run through.
-pub fn give_back<L: Listener>(events: Heard<'_, Driver, L>, sim: Sim) {
+pub fn give_back<E: Events + Drop, L: Listener>(events: Heard<'_, E, L>, sim: Sim) {
     drop(events);
     drop(sim);
 }
@@ -112,7 +113,7 @@ fn begin_at(
 
 /// The machine of a workload under a policy, before the first event.
 #[tactic(auto, using(crate::proofs::Shapes::shape_is_right))]
-fn start(alloc: Global, policy: Policy, workload: &Workload) -> Result<Sim, Refusal>
+pub(crate) fn start(alloc: Global, policy: Policy, workload: &Workload) -> Result<Sim, Refusal>
     ensures first { IfOk result
         (IsFirstState policy (idle workload.now.groups workload.now.homes) workload.now.cpus) }
     ensures answered { OnOk result (AreAnswered
@@ -130,7 +131,7 @@ fn start(alloc: Global, policy: Policy, workload: &Workload) -> Result<Sim, Refu
     }
 }
 
-fn policy_in(alloc: Global, text: &str) -> Result<PolicyText, Refusal>
+pub(crate) fn policy_in(alloc: Global, text: &str) -> Result<PolicyText, Refusal>
     ensures read { IfOk result (λ policy. policy_text text.now ≡ Ok policy) }
     ensures refused { IfErr result (IsPolicyFault text.now) }
 {

@@ -32,7 +32,7 @@ pub fn report<L: Listener, W: Out>(
     // The report is written of a run, and the headline holds of it.
     ensures done { IfOk result (λ answer. (answer ≡ true)
         × (w : WorkloadState) × (s : SimState) × (run : IsRun policy.now workload.now w s)
-        × IsOfHeadline run (workload_events w s)
+        × IsOfHeadline run.begun (workload_events w s)
         × Appends (W.contents out.old) (W.contents out.new) (report_text w s)) }
     ensures unfailed { OnOk result (W.failure_count out.new ≡ W.failure_count out.old) }
 
@@ -43,7 +43,7 @@ pub fn report<L: Listener, W: Out>(
     // The report is cut off where writing fails.
     ensures cut { result ≡ Err Fault.WriteFailed
         → (w : WorkloadState) × (s : SimState) × (run : IsRun policy.now workload.now w s)
-        × IsOfHeadline run (workload_events w s)
+        × IsOfHeadline run.begun (workload_events w s)
         × AppendsBeginning (W.contents out.old) (W.contents out.new) (report_text w s) }
     ensures counted { result ≡ Err Fault.WriteFailed
         → HasFailed (W.failure_count out.old) (W.failure_count out.new) }

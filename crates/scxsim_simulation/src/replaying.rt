@@ -1,0 +1,145 @@
+ghost use Rattle.std.specs.Prelude.{◌≡◌, true, Ok, Err, IfOk, IfErr, OnOk};
+ghost use Rattle.std.specs.Io.KnownBytes.{Appends};
+ghost use Rattle.scx_weights.specs.Hierarchy.{idle};
+ghost use Rattle.scx_sched_machine.specs.Callbacks.{AreAnswered};
+ghost use Rattle.scx_sched_machine.specs.Start.{start_calls};
+ghost use Rattle.scx_sched.specs.Sim.{SimState, IsFirstState};
+ghost use Rattle.scx_load_driver.specs.Runs.{AreAccepted};
+ghost use Rattle.scx_load_replay.specs.Events.{replay_events};
+ghost use Rattle.scx_load_replay.specs.Reading.{replay_of};
+ghost use Rattle.scx_load_replay.specs.Replay.{ReplayState};
+ghost use Rattle.scx_load_replay.specs.Replayer.{remaining};
+ghost use Rattle.scxsim_output.specs.Output.{HasFailed, AppendsBeginning};
+ghost use Rattle.scxsim_commands.specs.Outcome.{IfRefused, IsRefused};
+ghost use Rattle.scxsim_commands.specs.Refusals.{events_refusal};
+ghost use Rattle.scxsim_simulation.specs.Refusals.{or_refusal};
+ghost use Rattle.scxsim_simulation.specs.Runs.{IsOfHeadline, IsCutOff, IsStartFault};
+ghost use Rattle.scxsim_simulation.specs.Replays.{IsReplayRun, IsReplayCause, IsEventsFault, replay_text};
+
+use crate::hearing::Listener;
+use crate::preparing::{policy_in, start};
+use crate::simulating::write_events;
+use scx_load_files::LoadError;
+use scx_load_policies::build;
+use scx_load_replay::{Replay, Replayer, read_replay};
+use scx_load_workloads::Workload;
+use scx_sched::{Policy, Sim};
+use scxsim_commands::{Fault, Refusal};
+use scxsim_output::Out;
+use std::alloc::Global;
+
+/// A run of a file of events that is about to begin.
+#[derive(Drop)]
+pub struct ReplayRun {
+    pub workload: Workload,
+    pub replayer: Replayer,
+    pub sim: Sim,
+}
+
+/// Writes the trace of the run that the texts of a policy file and of a file of events stand for. The
+/// answer is true.
+///
+/// # Errors
+///
+/// The texts are refused, and then nothing is written, or writing the trace fails.
+pub fn replay<L: Listener, W: Out>(
+    alloc: Global,
+    policy: &str,
+    events: &str,
+    listener: &mut L,
+    out: &mut W,
+) -> Result<bool, Fault>
+    // The trace is written of a run, and the headline holds of it.
+    ensures done { IfOk result (λ answer. (answer ≡ true)
+        × (r : ReplayState) × (s : SimState) × (run : IsReplayRun policy.now events.now r s)
+        × IsOfHeadline run.begun (replay_events r)
+        × Appends (W.contents out.old) (W.contents out.new) (replay_text r s)) }
+    ensures unfailed { OnOk result (W.failure_count out.new ≡ W.failure_count out.old) }
+
+    // A refusal has its cause in the texts, and comes before any byte is written.
+    ensures refused { IfRefused result (IsReplayCause policy.now events.now) }
+    ensures quiet { IsRefused result → out.new ≡ out.old }
+
+    // The trace is cut off where writing fails, and the run ends there.
+    ensures cut { result ≡ Err Fault.WriteFailed
+        → (r : ReplayState) × (s : SimState) × (run : IsReplayRun policy.now events.now r s)
+        × IsCutOff run.begun (replay_events r) (W.contents out.old) (W.contents out.new)
+        × AppendsBeginning (W.contents out.old) (W.contents out.new) (replay_text r s) }
+    ensures counted { result ≡ Err Fault.WriteFailed
+        → HasFailed (W.failure_count out.old) (W.failure_count out.new) }
+{
+    let run = prepare_replay(alloc, policy, events)?;
+    let ReplayRun {
+        workload,
+        replayer,
+        sim,
+    } = run;
+    write_events(workload, replayer, sim, listener, out)?;
+    Ok(true)
+}
+
+/// The run that the texts of a policy file and of a file of events stand for.
+///
+/// # Errors
+///
+/// The texts are refused.
+pub fn prepare_replay(alloc: Global, policy: &str, events: &str) -> Result<ReplayRun, Refusal>
+    ensures run { IfOk result (λ run. (r : ReplayState)
+        × IsReplayRun policy.now events.now r run.sim
+        × (run.workload ≡ r.workload) × (remaining run.replayer ≡ replay_events r)) }
+    ensures refused { IfErr result (IsReplayCause policy.now events.now) }
+{
+    let text = policy_in(alloc, policy)?;
+    let replay = events_in(alloc, events)?;
+    let policy = build(alloc, text)?;
+    begin_replay(alloc, policy, replay)
+}
+
+fn events_in(alloc: Global, text: &str) -> Result<Replay, Refusal>
+    ensures read { IfOk result (λ replay. replay_of text.now ≡ Ok replay) }
+    ensures refused { IfErr result (IsEventsFault text.now) }
+{
+    events_or_refusal(read_replay(alloc, text))
+}
+
+/// A file of events that was read, or what it is refused for: its fault where one was found.
+fn events_or_refusal(read: Result<Replay, LoadError>) -> Result<Replay, Refusal>
+    ensures { result ≡ or_refusal events_refusal read }
+{
+    match read {
+        Ok(replay) => Ok(replay),
+        Err(error) => Err(Refusal::of_events(error)),
+    }
+}
+
+/// The run of a file of events under a policy.
+#[tactic(auto, using(scx_load_replay::proofs::Accepting::none_is_refused))]
+fn begin_replay(alloc: Global, policy: Policy, replay: Replay) -> Result<ReplayRun, Refusal>
+    ensures workload { IfOk result (λ run. run.workload ≡ replay.workload) }
+    ensures events { IfOk result (λ run. remaining run.replayer ≡ replay_events replay) }
+    ensures first { IfOk result
+        (λ run. IsFirstState policy (idle replay.workload.groups replay.workload.homes)
+        replay.workload.cpus run.sim) }
+    ensures accepted { IfOk result (λ run. AreAccepted run.sim (replay_events replay)) }
+    ensures answered { OnOk result (AreAnswered
+        (start_calls policy (idle replay.workload.groups replay.workload.homes)
+        replay.workload.cpus)) }
+    ensures refused { IfErr result
+        (IsStartFault policy (idle replay.workload.groups replay.workload.homes)
+        replay.workload.cpus) }
+{
+    replay.is_whole();
+    let (workload, replayer) = replay.into_parts();
+    match start(alloc, policy, &workload) {
+        Ok(sim) => Ok(ReplayRun {
+            workload,
+            replayer,
+            sim,
+        }),
+        Err(refusal) => {
+            drop(workload);
+            drop(replayer);
+            Err(refusal)
+        }
+    }
+}
