@@ -1,6 +1,7 @@
 """Workloads that are made of timelines: one of a timeline counted by hand, and those of the examples run again."""
 
 import os
+import re
 import tomllib
 
 import pytest
@@ -70,6 +71,35 @@ def test_the_examples_run_as_before_within_2_percent(policies, workloads, tmp_pa
         (tmp_path / "w.toml").write_text(fit(tmp_path / "t.json", workload))
         before, after = ran(policy, workload), ran(policy, tmp_path / "w.toml")
         assert {task: pytest.approx(ms, rel=0.02) for task, ms in before.items()} == after, (policy, workload)
+
+
+def test_events_are_written_in_the_order_of_a_millisecond(tmp_path, workloads):
+    # a wakes at 0 and runs in 0 and 1; b wakes at 2 and runs in 2; a wakes again at 2 and is under way at the end.
+    path = timeline(tmp_path, ("wake", "a", 0), ("run", "a", 0, 2), ("wake", "b", 2), ("run", "b", 2, 1), ("wake", "a", 2),
+                    ("run", "a", 3, 1))
+    plan = tomllib.loads(fit(path, as_events=True))
+    assert plan["events"] == "0 wake a\n1 sleep a\n2 wake a\n2 wake b\n2 sleep b\n"
+    assert plan["task"] == [{"name": "a", "group": "all"}, {"name": "b", "group": "all"}]
+
+
+def test_changes_of_weights_are_events(tmp_path, policies, workloads):
+    # Of weights.toml the first change and the names of groups and tasks are read by hand.
+    changes = tomllib.loads((workloads / "weights.toml").read_text())["change"]
+    (tmp_path / "t.json").write_text(PROGRAM.call("timeline", policies / "simple.toml", workloads / "weights.toml"))
+    lines = tomllib.loads(fit(tmp_path / "t.json", workloads / "weights.toml", as_events=True))["events"].splitlines()
+    first = changes[0]
+    assert f"{first['at']} weight {first['group']} {first['weight']}" in lines
+
+
+@pytest.mark.skipif("replay-csv" not in PROGRAM.commands, reason="this program has no replay-csv")
+def test_events_of_a_run_make_the_same_run(policies, workloads, tmp_path):
+    for policy, workload in pairs(policies, workloads):
+        (tmp_path / "t.json").write_text(PROGRAM.call("timeline", policy, workload))
+        # A timeline doesn't say how long a run goes on in which nobody runs any more.
+        ms = tomllib.loads(workload.read_text())["ms"]
+        text = re.sub(r"^ms = \d+$", f"ms = {ms}", fit(tmp_path / "t.json", workload, as_events=True), flags=re.M)
+        (tmp_path / "e.toml").write_text(text)
+        assert PROGRAM.call("replay-csv", policy, tmp_path / "e.toml") == PROGRAM.call("stats-csv", policy, workload)
 
 
 def test_a_file_that_is_no_timeline_is_named(tmp_path, workloads, capsys):

@@ -106,6 +106,20 @@ q 5 [000] {at + 0.00025:.6f}: sched:sched_switch: prev_comm=q prev_pid=5 prev_pr
     assert "# lost: q_5: bursts of 0.25 ms are 1 ms\n# lost: q_5: sleeps of 9.75 ms are 39 ms\n" in told
 
 
+def test_events_of_a_recording(tmp_path):
+    # a sleeps from 2 to 5 and from 7 on; the other one wakes at 2 and ends at 10.
+    (tmp_path / "perf.txt").write_text(BEGIN + LINES)
+    plan = tomllib.loads(fit(tmp_path / "perf.txt", as_events=True))
+    assert plan["events"] == "0 wake a_8\n1 sleep a_8\n2 wake web_content_9\n5 wake a_8\n6 sleep a_8\n9 sleep web_content_9\n"
+    # In units of 5 ms it sleeps at 0.4 and wakes at 1; then it sleeps at 1.4.
+    assert tomllib.loads(fit(tmp_path / "perf.txt", unit=5000, tasks=["a*"], as_events=True))["events"] == (
+        "0 wake a_8\n0 sleep a_8\n1 wake a_8\n1 sleep a_8\n")
+    # In units of 8 ms all that is one millisecond.
+    told = fit(tmp_path / "perf.txt", unit=8000, tasks=["a*"], as_events=True)
+    assert tomllib.loads(told)["events"] == "0 wake a_8\n0 sleep a_8\n"
+    assert "# lost: 1 sleeps that ended in the millisecond in which they began aren't here\n" in told
+
+
 @pytest.mark.parametrize("comm, name", [
     ("Web Content", "web_content_9"), ("migration/0", "migration_0_9"), ("9p", "t_9p_9"), ("<<<>>>", "t_9"),
     ("memfd:sealed-91", "memfd_sealed_9_9"), ("a_very_long_name_of", "a_very_long_na_9")])

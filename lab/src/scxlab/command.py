@@ -81,7 +81,7 @@ def search_command(words):
 def fit_command(words):
     from scxlab.fit import fit
 
-    deliver(fit(words.recording, words.groups, words.unit, words.tasks), words.output)
+    deliver(fit(words.recording, words.groups, words.unit, words.tasks, words.events), words.output)
     return 0
 
 
@@ -161,6 +161,7 @@ def add_fit(commands):
     one.add_argument("--tasks", nargs="+", default=["*"], metavar="NAME",
                      help="take these tasks alone; a * stands for any letters")
     one.add_argument("--output", metavar="F", help="write the workload to this file")
+    one.add_argument("--events", action="store_true", help="write a file of events, as `scxsim replay` reads it")
     one.set_defaults(do=fit_command)
 
 

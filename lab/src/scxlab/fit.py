@@ -1,4 +1,4 @@
-"""Makes a workload of a recording, and says what of it was lost."""
+"""Makes a workload or a file of events of a recording, and says what of it was lost."""
 
 import tomllib
 from fnmatch import fnmatchcase
@@ -10,12 +10,13 @@ from scxlab.perf import is_perf, read_perf
 from scxlab.templates import written
 from scxlab.timelines import read_timeline
 
-MOST_MS, MOST_TASKS, MOST_CPUS = 1_000_000, 1024, 64
+MOST_MS, MOST_TASKS, MOST_CPUS, MOST_EVENTS = 1_000_000, 1024, 64, 65_536
 NO_GROUPS = "groups, their weights and quotas aren't in a recording: all tasks are in one group (see --groups)"
 
 
-def fit(path, groups=None, unit=1000, tasks=("*",)):
-    """The workload of a timeline or a text of perf, as a text; comments at its top say what was lost. Groups and changes of weights come from a workload file if one is given. `unit` microseconds of perf's are a
+def fit(path, groups=None, unit=1000, tasks=("*",), as_events=False):
+    """The workload, or the file of events, of a timeline or a text of perf, as a text; comments at its top say what was
+    lost. Groups and changes of weights come from a workload file if one is given. `unit` microseconds of perf's are a
     millisecond, and only tasks are taken whose names fit a pattern of `tasks`."""
     recording = recording_of(path, unit, tasks)
     losses, home = recording.losses, {}
@@ -27,10 +28,47 @@ def fit(path, groups=None, unit=1000, tasks=("*",)):
     else:
         losses.insert(0, NO_GROUPS)
     names = [name for name in home or recording.bursts if name in recording.bursts]
-    # Each task has one `run` and one `sleep` for all its bursts.
-    plan["task"] = [{"name": name, "group": home.get(name, "all")} | rhythm_of(name, recording) for name in names]
-    text = written(plan)
+    plan["task"] = [{"name": name, "group": home.get(name, "all")} for name in names]
+    filled = with_events if as_events else with_rhythms
+    text = written(filled(plan, recording))
     return "".join(f"# lost: {line}\n" for line in losses) + text
+
+
+def with_rhythms(plan, recording):
+    """The workload: each task with one `run` and one `sleep` for all its bursts."""
+    tasks = [task | rhythm_of(task["name"], recording) for task in plan["task"]]
+    return plan | {"task": tasks}
+
+
+def with_events(plan, recording):
+    """The file of events: each task wakes and sleeps when it did."""
+    spans = {task["name"]: spans_of(recording.bursts[task["name"]]) for task in plan["task"]}
+    lines = [(change["at"], 0, f"weight {change['group']} {change['weight']}") for change in plan["change"]]
+    lines += [(woke, 1, f"wake {name}") for name in spans for woke, _ in spans[name]]
+    lines += [(slept, 2, f"sleep {name}") for name in spans for _, slept in spans[name] if slept is not None]
+    # In a millisecond weights come first, then wakes, and sleeps at its end.
+    kept = sorted((line for line in lines if line[0] < plan["ms"]), key=lambda line: line[:2])
+    if len(kept) > MOST_EVENTS:
+        raise LabError(f"{len(kept)} events are more than the {MOST_EVENTS} of a file: take fewer tasks (see --tasks)")
+    recording.losses.append("tasks sleep when they did in the recording, however long they have run by then")
+    short = sum(len(recording.bursts[name]) - len(spans[name]) for name in spans)
+    if short:
+        recording.losses.append(f"{short} sleeps that ended in the millisecond in which they began aren't here")
+    events = "".join(f"{at} {told}\n" for at, _, told in kept)
+    return {"cpus": plan["cpus"], "ms": plan["ms"], "events": events, "group": plan["group"], "task": plan["task"]}
+
+
+def spans_of(bursts):
+    """From which millisecond to which a task was awake. A sleep that ended in the millisecond in which it began is left
+    out."""
+    spans = []
+    for burst in bursts:
+        woke = int(burst.woke)
+        slept = None if burst.slept is None else max(woke, ceil(burst.slept) - 1)
+        if spans and spans[-1][1] >= woke:
+            woke = spans.pop()[0]
+        spans.append((woke, slept))
+    return spans
 
 
 def recording_of(path, unit, tasks):
