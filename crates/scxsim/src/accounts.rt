@@ -6,14 +6,15 @@ use scxsim_charts::{Span, gantt, title};
 use scxsim_commands::{Fault, Out, Refusal, text};
 use scxsim_pictures::{picture, timeline};
 use scxsim_progress::Progress;
-use scxsim_simulation::{Listener, report, simulate};
-use scxsim_statistics::{stats, stats_csv};
+use scxsim_simulation::{Listener, report, simulate, replay};
+use scxsim_statistics::{stats, stats_csv, replay_csv};
 use scxsim_story::story;
 use scxsim_why::why;
-use scxsim_words::{Account, Course, Part, Summary};
+use scxsim_words::{Account, Course, Part, Replay, Summary};
 use std::alloc::Global;
 
 /// What names a run: the paths of its files, and the words of a part or of a task of it.
+/// What names a run: the paths of its files, of which the second is a workload or a file of events, and the words of a part of it.
 #[derive(Clone, Copy)]
 pub(crate) struct RunWords<'a> {
     pub(crate) policy: &'a str,
@@ -54,8 +55,10 @@ pub(crate) fn tell<'a, R: AllocGlobal + Console, W: Out>(
 /// by it on the same terminal, and says itself how far the run is.
 fn is_progress_seen<R: Console>(rt: &R, account: Account) -> bool {
     match account {
-        Account::Course(_) => rt.shows_errors() && !rt.shows_output(),
-        Account::Summary(_) => rt.shows_errors(),
+        Account::Course(_) | Account::Replay(Replay::Trace) => {
+            rt.shows_errors() && !rt.shows_output()
+        }
+        Account::Summary(_) | Account::Replay(Replay::StatsCsv) => rt.shows_errors(),
     }
 }
 
@@ -71,6 +74,7 @@ fn write_account<L: Listener, W: Out>(
     match account {
         Account::Course(course) => write_course(alloc, course, texts, listener, out),
         Account::Summary(summary) => write_summary(alloc, summary, texts, listener, out),
+        Account::Replay(what) => write_replay(alloc, what, texts, listener, out),
     }
 }
 
@@ -127,6 +131,10 @@ fn write_summary<L: Listener, W: Out>(
 
 fn write_story<L: Listener, W: Out>(
     alloc: Global,
+/// Of a run of a file of events, which stands in the place of a workload.
+fn write_replay<L: Listener, W: Out>(
+    alloc: Global,
+    what: Replay,
     texts: RunTexts<'_>,
     listener: &mut L,
     out: &mut W,
@@ -138,6 +146,13 @@ fn write_story<L: Listener, W: Out>(
     } = texts;
     let task = words.task.unwrap_or("");
     story(alloc, policy, workload, task, listener, out)
+        workload: events,
+        ..
+    } = texts;
+    match what {
+        Replay::Trace => replay(alloc, policy, events, listener, out),
+        Replay::StatsCsv => replay_csv(alloc, policy, events, listener, out),
+    }
 }
 
 fn write_chart<L: Listener, W: Out>(

@@ -2,14 +2,15 @@ use scx_isa::CALLBACKS;
 use std::alloc::{AllocError, Global};
 use strsim::levenshtein;
 
-/// The keys of policies and workloads, but for the names of callbacks.
-const KEYS: [&str; 19] = [
+/// The keys of policies, workloads and files of events, but for the names of callbacks.
+const KEYS: [&str; 20] = [
     "at",
     "change",
     "code",
     "cpu_max",
     "cpus",
     "entries",
+    "events",
     "group",
     "map",
     "ms",

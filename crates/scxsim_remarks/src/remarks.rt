@@ -9,7 +9,7 @@ use scx_verify::Fault;
 use scxsim_commands::Refusal;
 use std::alloc::Global;
 
-/// Of a refusal of a run's files: where it stands, and what may have been meant. None where it stands nowhere in
+/// Of a refusal of a run's files, of which the second may be a file of events: where it stands, and what may have been meant. None where it stands nowhere in
 /// a text, or memory ran out.
 pub fn remark_on_run(
     alloc: Global,
@@ -20,6 +20,7 @@ pub fn remark_on_run(
     match refusal {
         Refusal::Policy { path, cause } => remark_on_policy(alloc, policy, path, *cause),
         Refusal::Workload { path, cause } => remark_on_key(alloc, workload, path, *cause),
+        Refusal::Events { path, cause } => remark_on_key(alloc, workload, path, *cause),
         Refusal::Callback {
             callback,
             fault,
@@ -75,6 +76,10 @@ fn remark_on_key(alloc: Global, file: NamedText<'_>, path: &str, cause: Cause) -
         Cause::NotToml => remark_on_toml(alloc, file),
         Cause::Unknown => remark_on_unknown(alloc, file, path),
         Cause::Asm { line, .. } => {
+            let place = place_of_line(alloc, file.text, path, line);
+            remark_at(alloc, file, place, path, cause)
+        }
+        Cause::Event { line, .. } => {
             let place = place_of_line(alloc, file.text, path, line);
             remark_at(alloc, file, place, path, cause)
         }

@@ -1,4 +1,4 @@
-use crate::requests::{Account, Course, PolicyCommand, ProgramCommand, Summary};
+use crate::requests::{Account, Course, PolicyCommand, ProgramCommand, Replay, Summary};
 
 /// Which command it is.
 #[derive(Clone, Copy)]
@@ -10,6 +10,8 @@ pub(crate) enum Kind {
     Part(Account),
     /// Of one task in a run.
     Task(Account),
+    /// Of a file of events.
+    Replay(Account),
     Cases,
 }
 
@@ -28,6 +30,7 @@ pub(crate) fn forms() -> &'static [Form] {
 }
 
 const FORMS: [Form; 16] = [
+const FORMS: [Form; 17] = [
     Form {
         name: "verify",
         kind: Kind::Policy(PolicyCommand::Verify),
@@ -99,6 +102,18 @@ const FORMS: [Form; 16] = [
         kind: Kind::Part(Account::Summary(Summary::Gantt)),
         about: "Does the same of a part of the run",
         example: "Example: scxsim gantt-part examples/policies/short_slices.toml examples/workloads/two_tasks.toml 1 3\nprints:  the chart of the two milliseconds from 1 to 3.",
+    },
+    Form {
+        name: "replay",
+        kind: Kind::Replay(Account::Replay(Replay::Trace)),
+        about: "Reads a policy file and a file of events, runs the events, and prints the trace",
+        example: "Example: scxsim replay examples/policies/short_slices.toml examples/events/two_bursts.toml\nprints:  a line for each thing that happens, as run does.\ndocs/FILES.md has the format of files of events.",
+    },
+    Form {
+        name: "replay-csv",
+        kind: Kind::Replay(Account::Replay(Replay::StatsCsv)),
+        about: "Reads and runs the same as replay, and prints what stats-csv does",
+        example: "Example: scxsim replay-csv examples/policies/short_slices.toml examples/events/two_bursts.toml\nprints:  kind,name,figure,value\n         task,a,run_ms,6\nand a line for each other figure.",
     },
     Form {
         name: "exec",

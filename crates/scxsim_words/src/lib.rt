@@ -5,5 +5,7 @@ mod forms;
 mod requests;
 mod words;
 
-pub use requests::{Account, Course, Part, PolicyCommand, ProgramCommand, Request, Summary};
+pub use requests::{
+    Account, Course, Part, PolicyCommand, ProgramCommand, Replay, Request, Summary,
+};
 pub use words::read_words;

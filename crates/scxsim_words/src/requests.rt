@@ -18,6 +18,8 @@ pub enum PolicyCommand {
 pub enum Account {
     Course(Course),
     Summary(Summary),
+    /// Of a file of events in the place of a workload.
+    Replay(Replay),
 }
 
 /// What is written as the run goes.
@@ -37,6 +39,13 @@ pub enum Summary {
     Why,
     Story,
     Gantt,
+}
+
+/// What is written of the run of a file of events.
+#[derive(Clone, Copy)]
+pub enum Replay {
+    Trace,
+    StatsCsv,
 }
 
 /// The words that name a part of a run.
@@ -60,6 +69,7 @@ pub enum Request<'a> {
     Run {
         account: Account,
         policy: &'a str,
+        /// The workload file, or the file of events.
         workload: &'a str,
         /// None where it is of the whole run.
         part: Option<Part<'a>>,

@@ -14,6 +14,9 @@ const TEXT: &str = "A file of assembler text, as docs/ASSEMBLY.md has it";
 const WORKLOAD: &str =
     "A workload file in TOML: processors, groups and tasks, as docs/FILES.md has it";
 
+const EVENTS: &str =
+    "A file of events in TOML: processors, groups, tasks and lines, as docs/FILES.md has it";
+
 const POLICY: &str =
     "A policy file in TOML: programs by callback, and maps, as docs/FILES.md has it";
 
@@ -57,20 +60,25 @@ fn request_of<'a>(name: &str, command: &ArgMatches<'a>) -> Option<Request<'a>> {
         Kind::Run(account) => run_of(account, command, None, None),
         Kind::Part(account) => run_of(account, command, Some(part_of(command)?), None),
         Kind::Task(account) => run_of(account, command, None, Some(command.get_str("TASK")?)),
+        Kind::Run(account) => run_of(account, command, "WORKLOAD", None),
+        Kind::Part(account) => run_of(account, command, "WORKLOAD", Some(part_of(command)?)),
+        Kind::Replay(account) => run_of(account, command, "EVENTS", None),
         Kind::Cases => Some(Request::Cases),
     }
 }
 
+/// A command of a run, of which the second file has that name.
 fn run_of<'a>(
     account: Account,
     command: &ArgMatches<'a>,
+    name: &str,
     part: Option<Part<'a>>,
     task: Option<&'a str>,
 ) -> Option<Request<'a>> {
     Some(Request::Run {
         account,
         policy: command.get_str("POLICY")?,
-        workload: command.get_str("WORKLOAD")?,
+        workload: command.get_str(name)?,
         part,
         task,
     })
@@ -130,6 +138,7 @@ fn command_of<'a>(alloc: Global, form: &Form) -> Result<Command<'a>, AllocError>
         Kind::Run(_) => with_run(alloc, command),
         Kind::Part(_) => with_part(alloc, command),
         Kind::Task(_) => with_task(alloc, command),
+        Kind::Replay(_) => with_replay(alloc, command),
         Kind::Cases => with_cases(alloc, command),
     }
 }
@@ -159,6 +168,12 @@ fn with_part<'a>(alloc: Global, command: Command<'a>) -> Result<Command<'a>, All
 fn with_task<'a>(alloc: Global, command: Command<'a>) -> Result<Command<'a>, AllocError> {
     let command = with_run(alloc, command)?;
     with_word(alloc, command, "TASK", TASK)
+}
+
+/// The command, which reads a policy file and a file of events.
+fn with_replay<'a>(alloc: Global, command: Command<'a>) -> Result<Command<'a>, AllocError> {
+    let command = with_word(alloc, command, "POLICY", POLICY)?;
+    with_word(alloc, command, "EVENTS", EVENTS)
 }
 
 /// The command, which reads files of cases, one or more.
