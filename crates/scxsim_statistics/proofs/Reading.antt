@@ -6,14 +6,18 @@ use Rattle.scx_sched.specs.Sim.{SimState}
 use Rattle.scx_load_driver.specs.Events.{workload_events}
 use Rattle.scx_load_driver.proofs.Alike.{like_first}
 use Rattle.scx_load_workloads.specs.Workload.{WorkloadState}
+use Rattle.scx_load_driver.specs.Runs.{stepped_all}
+use Rattle.scx_load_replay.specs.Replay.{ReplayState}
+use Rattle.scx_load_replay.specs.Events.{replay_events}
 use Rattle.scxsim_simulation.specs.Runs.{IsRun, last_of}
+use Rattle.scxsim_simulation.specs.Replays.{IsReplayRun}
 use Rattle.scxsim_statistics.specs.declared.gathering.Figures.{Figures}
-use Rattle.scxsim_statistics.specs.Figures.{AreOfRun, AreOfTexts}
+use Rattle.scxsim_statistics.specs.Figures.{AreOfRun, AreOfTexts, AreOfEvents}
 use Rattle.scxsim_statistics.proofs.Staying.{tasks_stay}
 
 all_there : (policy workload : List ℕ) (w : WorkloadState) (s : SimState) → IsRun policy workload w s → length (last_of w s).state.world.tasks ≡ length w.homes
 all_there policy workload w s run =
-    tasks_stay (workload_events w s) s run.accepted ∙ (like_first run.machine (idle w.groups w.homes) w.cpus s.state run.first.0).1.0
+    tasks_stay (workload_events w s) s run.accepted ∙ (like_first run.begun.machine (idle w.groups w.homes) w.cpus s.state run.begun.first.0).1.0
 
 -- figures of the run that two texts stand for, through all its events, are figures of the texts
 pub of_texts : (policy workload : List ℕ) (w : WorkloadState) (s : SimState) (es : List Event) (f : Figures)
@@ -27,4 +31,22 @@ of_texts policy workload w s es f same run events figures =
       run = subst P (sym same) run;
       all_there = subst Q (sym same) (all_there policy workload w s run);
       of_run = subst R (sym same) (subst (λ xs. AreOfRun w s xs f.tasks.items f.cpus.items) events figures);
+    }
+
+all_listed : (policy events : List ℕ) (r : ReplayState) (s : SimState) → IsReplayRun policy events r s → length (stepped_all s (replay_events r)).state.world.tasks ≡ length r.workload.homes
+all_listed policy events r s run =
+    tasks_stay (replay_events r) s run.accepted ∙ (like_first run.begun.machine (idle r.workload.groups r.workload.homes) r.workload.cpus s.state run.begun.first.0).1.0
+
+-- the same of a policy's text and a file of events
+pub of_events : (policy events : List ℕ) (r : ReplayState) (w : WorkloadState) (s : SimState) (es : List Event) (f : Figures)
+    → f.workload ≡ w → w ≡ r.workload → IsReplayRun policy events r s → es ≡ replay_events r → AreOfRun w s es f.tasks.items f.cpus.items → AreOfEvents policy events f
+of_events policy events r w s es f same of run listed figures =
+    let R : WorkloadState → Type 0 = λ v. AreOfRun v s (replay_events r) f.tasks.items f.cpus.items in
+    record {
+      r = r;
+      first = s;
+      run = run;
+      workload = same ∙ of;
+      all_there = all_listed policy events r s run;
+      of_run = subst R of (subst (λ xs. AreOfRun w s xs f.tasks.items f.cpus.items) listed figures);
     }

@@ -12,7 +12,10 @@ use Rattle.scx_load_driver.specs.Runs.{stepped_all, notes_of_all}
 use Rattle.scxsim_trace.specs.Report.{ran_ms}
 use Rattle.scx_load_driver.specs.Events.{workload_events}
 use Rattle.scx_load_workloads.specs.Workload.{WorkloadState}
+use Rattle.scx_load_replay.specs.Replay.{ReplayState}
+use Rattle.scx_load_replay.specs.Events.{replay_events}
 use Rattle.scxsim_simulation.specs.Runs.{IsRun, last_of}
+use Rattle.scxsim_simulation.specs.Replays.{IsReplayRun}
 use Rattle.scxsim_views.specs.declared.pauses.Doing.{Doing}
 use Rattle.scxsim_views.specs.declared.pauses.Doing.TheVariants.{Sleeps}
 use Rattle.scxsim_views.specs.declared.pauses.Pause.{Pause}
@@ -188,3 +191,13 @@ pub record AreOfTexts (policy workload : List ℕ) (f : Figures) : Type 0 where
   pub all_there : length (last_of f.workload first).state.world.tasks ≡ length f.workload.homes
   pub of_run :
       AreOfRun f.workload first (workload_events f.workload first) f.tasks.items f.cpus.items
+
+-- the figures of the run that a policy's text and a file of events stand for
+pub record AreOfEvents (policy events : List ℕ) (f : Figures) : Type 0 where
+  pub r : ReplayState
+  pub first : SimState
+  pub run : IsReplayRun policy events r first
+  pub workload : f.workload ≡ r.workload
+  pub all_there :
+      length (stepped_all first (replay_events r)).state.world.tasks ≡ length r.workload.homes
+  pub of_run : AreOfRun r.workload first (replay_events r) f.tasks.items f.cpus.items

@@ -50,9 +50,24 @@ pub(crate) fn gather<L: Listener>(
     let Run {
         workload,
         driver,
-        mut sim,
+        sim,
     } = run;
-    let mut events = Heard::new(driver, workload.ms(), listener);
+    gather_events(alloc, workload, driver, sim, listener)
+}
+
+/// Goes through these events, and answers the figures.
+pub(crate) fn gather_events<E: Events + Drop, L: Listener>(
+    alloc: Global,
+    workload: Workload,
+    source: E,
+    mut sim: Sim,
+    listener: &mut L,
+) -> Result<Figures, AllocError>
+    ensures workload { IfOk result (λ figures. figures.workload ≡ workload) }
+    ensures of_run { IfOk result (λ figures.
+        AreOfRun workload sim (E.remaining source sim) figures.tasks.items figures.cpus.items) }
+{
+    let mut events = Heard::new(source, workload.ms(), listener);
     let gathered = gather_from(alloc, &workload, &mut events, &mut sim);
     give_back(events, sim);
     match gathered {

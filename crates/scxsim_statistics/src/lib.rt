@@ -16,4 +16,4 @@ pub use counting::WaitCounts;
 pub use gathering::{Figures, GroupFigures};
 pub use quotas::{QuotaFigures, Quotas};
 pub use tally::{CpuFigures, TaskFigures};
-pub use telling::{figures, stats, stats_csv};
+pub use telling::{figures, replay_csv, replay_figures, stats, stats_csv};

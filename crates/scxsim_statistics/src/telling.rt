@@ -3,14 +3,15 @@ ghost use Rattle.std.specs.Io.KnownBytes.{Appends};
 ghost use Rattle.scxsim_output.specs.Output.{HasFailed};
 ghost use Rattle.scxsim_commands.specs.Outcome.{IfRefused, IsRefused};
 ghost use Rattle.scxsim_simulation.specs.Runs.{IsCause};
-ghost use Rattle.scxsim_statistics.specs.Figures.{tables, values, AreOfTexts};
+ghost use Rattle.scxsim_simulation.specs.Replays.{IsReplayCause};
+ghost use Rattle.scxsim_statistics.specs.Figures.{tables, values, AreOfTexts, AreOfEvents};
 
-use crate::gathering::{Figures, gather};
+use crate::gathering::{Figures, gather, gather_events};
 use crate::listing::{COLUMNS, write_list};
 use crate::tables::{TASKS, write_tables};
 use scxsim_commands::{Fault, Refusal};
 use scxsim_output::{Failed, Out, write_all};
-use scxsim_simulation::{Listener, prepare};
+use scxsim_simulation::{Listener, ReplayRun, prepare, prepare_replay};
 use scxsim_trace::Names;
 use std::alloc::{AllocError, Global};
 
@@ -87,6 +88,47 @@ pub fn stats_csv<L: Listener, W: Out>(
     Ok(true)
 }
 
+/// Writes the figures of the run that the texts of a policy file and of a file of events stand for, as
+/// comma-separated values. The answer is true.
+///
+/// # Errors
+///
+/// The texts are refused, or memory runs out, and then nothing is written, or writing the values fails.
+pub fn replay_csv<L: Listener, W: Out>(
+    alloc: Global,
+    policy: &str,
+    events: &str,
+    listener: &mut L,
+    out: &mut W,
+) -> Result<bool, Fault>
+    ensures done { IfOk result (λ answer. (answer ≡ true) × (rows : List ℕ)
+        × Appends (W.contents out.old) (W.contents out.new) (values rows)) }
+    ensures unfailed { OnOk result (W.failure_count out.new ≡ W.failure_count out.old) }
+
+    // A refusal has its cause in the texts, and comes before any byte is written.
+    ensures refused { IfRefused result (IsReplayCause policy.now events.now) }
+    ensures quiet { IsRefused result → out.new ≡ out.old }
+    ensures counted { result ≡ Err Fault.WriteFailed
+        → HasFailed (W.failure_count out.old) (W.failure_count out.new) }
+{
+    let rows = replay_values(alloc, policy, events, listener)?;
+    write_rows(COLUMNS, rows.as_str(), out)?;
+    Ok(true)
+}
+
+/// The rows of the values of the run of a file of events.
+fn replay_values<L: Listener>(
+    alloc: Global,
+    policy: &str,
+    events: &str,
+    listener: &mut L,
+) -> Result<String, Refusal>
+    ensures { IfErr result (IsReplayCause policy.now events.now) }
+{
+    let all = replay_figures(alloc, policy, events, listener)?;
+    Ok(value_rows(alloc, &all)?)
+}
+
 /// Writes what stands above rows, and then the rows.
 fn write_rows<W: Out>(head: &str, rows: &str, out: &mut W) -> Result<(), Failed>
     ensures ok { OnOk result
@@ -153,4 +195,27 @@ pub fn figures<L: Listener>(
 {
     let run = prepare(alloc, policy, workload)?;
     Ok(gather(alloc, run, listener)?)
+}
+
+/// The figures of the run that the texts of a policy file and of a file of events stand for.
+///
+/// # Errors
+///
+/// The texts are refused, or memory runs out.
+pub fn replay_figures<L: Listener>(
+    alloc: Global,
+    policy: &str,
+    events: &str,
+    listener: &mut L,
+) -> Result<Figures, Refusal>
+    ensures of_events { IfOk result (AreOfEvents policy.now events.now) }
+    ensures refused { IfErr result (IsReplayCause policy.now events.now) }
+{
+    let run = prepare_replay(alloc, policy, events)?;
+    let ReplayRun {
+        workload,
+        replayer,
+        sim,
+    } = run;
+    Ok(gather_events(alloc, workload, replayer, sim, listener)?)
 }
