@@ -2,7 +2,7 @@
 use Rattle.std.proofs.Common.{◌≡◌, ℕ, List, [], ◌++◌, sym, ap, ◌∙◌, append_assoc, codes, string_bytes}
 use Rattle.std.proofs.lemmas.List.{append-nil}
 use Rattle.scxsim_commands.specs.declared.refusal.Refusal.{Refusal}
-use Rattle.scxsim_commands.specs.declared.refusal.Refusal.TheVariants.{TooLarge, NotUtf8, NoMemory, Decode, Verify, Assemble, Callback, Policy, Workload, Init, OutOfRange, NoSuchTask, Events}
+use Rattle.scxsim_commands.specs.declared.refusal.Refusal.TheVariants.{TooLarge, NotUtf8, NoMemory, Decode, Verify, Assemble, Callback, Policy, Workload, Init, OutOfRange, NoSuchTask, Events, TooManyStretches}
 use Rattle.scxsim_commands.specs.RefusalLines.{refusal_line, cause_text, start, path_of, end}
 
 alone : (line : List ℕ) → line ++ [] ++ [] ≡ line
@@ -26,3 +26,4 @@ line_in_parts (Events path cause) = behind (codes "refused: events " ++ string_b
 line_in_parts (Init answer) = alone (refusal_line (Init answer))
 line_in_parts (OutOfRange word) = alone (refusal_line (OutOfRange word))
 line_in_parts NoSuchTask = alone (refusal_line NoSuchTask)
+line_in_parts (TooManyStretches stretches) = alone (refusal_line (TooManyStretches stretches))

@@ -1,5 +1,5 @@
 -- The lines of refusals, each with the line feed that ends it.
-use Rattle.std.specs.Prelude.{ℕ, ℤ, List, [], ◌++◌, codes, string_bytes}
+use Rattle.std.specs.Prelude.{ℕ, ℤ, List, [], ◌++◌, codes, string_bytes, decimal}
 use Rattle.std.specs.Fmt.{signed_decimal}
 use Rattle.scx_isa_encoding.specs.Faults.{decode_number, decode_name}
 use Rattle.scx_verify.specs.Faults.{fault_number, fault_name}
@@ -9,7 +9,7 @@ use Rattle.scx_load_files.specs.declared.fault.Cause.{Cause}
 use Rattle.scx_load_files.specs.declared.fault.Cause.TheVariants as causes
 use Rattle.scx_isa_semantics.specs.Callbacks.{callback_name}
 use Rattle.scxsim_commands.specs.declared.refusal.Refusal.{Refusal}
-use Rattle.scxsim_commands.specs.declared.refusal.Refusal.TheVariants.{TooLarge, NotUtf8, NoMemory, Decode, Verify, Assemble, Callback, Policy, Workload, Init, OutOfRange, NoSuchTask, Events}
+use Rattle.scxsim_commands.specs.declared.refusal.Refusal.TheVariants.{TooLarge, NotUtf8, NoMemory, Decode, Verify, Assemble, Callback, Policy, Workload, Init, OutOfRange, NoSuchTask, Events, TooManyStretches}
 use Rattle.scxsim_commands.specs.declared.refusal.Word.{Word}
 use Rattle.scxsim_commands.specs.declared.refusal.Word.TheVariants.{From, To}
 use Rattle.scxsim_commands.specs.Lines.{fault_text}
@@ -44,6 +44,11 @@ abbrev pub word_line : Word → List ℕ
 word_line From = codes "refused: word FROM: out of range\n"
 word_line To = codes "refused: word TO: out of range\n"
 
+-- a page that would hold so many stretches of time
+abbrev pub stretches_line : ℕ → List ℕ
+stretches_line stretches =
+    codes "refused: too many stretches: " ++ decimal stretches ++ codes ", at most 3750000\n"
+
 -- the line of a refused input
 abbrev pub refusal_line : Refusal → List ℕ
 refusal_line TooLarge = codes "refused: too large\n"
@@ -69,6 +74,7 @@ refusal_line (Events path cause) =
 refusal_line (Init answer) = init_line answer
 refusal_line (OutOfRange word) = word_line word
 refusal_line NoSuchTask = codes "refused: word TASK: no such task\n"
+refusal_line (TooManyStretches stretches) = stretches_line stretches
 
 -- ---- the same in three parts: what stands before the path of a key, the path, and what
 -- stands behind it

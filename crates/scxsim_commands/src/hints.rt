@@ -1,4 +1,6 @@
-/// What the bytes of a refused file seem to be, where a person may have meant something else.
+use crate::refusal::Refusal;
+
+/// What a refused file seems to be, where a person may have meant something else, or what else may help.
 #[derive(Clone, Copy, Debug, PartialEq, Eq)]
 pub enum Hint {
     /// An ELF object, as compilers write.
@@ -11,6 +13,8 @@ pub enum Hint {
     ByteOrderMark,
     /// A text of two bytes a character.
     Utf16,
+    /// A run of which a page would hold too much.
+    LongRun,
 }
 
 impl Hint {
@@ -26,7 +30,17 @@ impl Hint {
             Hint::ByteOrderMark =>
                 "this text begins with a byte-order mark: save it as UTF-8 without one",
             Hint::Utf16 => "this text is UTF-16: save it as UTF-8",
+            Hint::LongRun =>
+                "scxsim view-part POLICY WORKLOAD FROM TO makes the page of a part of the run",
         }
+    }
+}
+
+/// What may be done about a refusal that isn't the fault of a file.
+pub fn hint_of_refusal(refusal: &Refusal) -> Option<Hint> {
+    match refusal {
+        Refusal::TooManyStretches(_) => Some(Hint::LongRun),
+        _ => None,
     }
 }
 

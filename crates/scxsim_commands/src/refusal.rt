@@ -78,7 +78,13 @@ pub enum Refusal {
     /// A word is to name a task, and the workload has none of that name.
     #[error("TASK names no task")]
     NoSuchTask,
+    /// A page would hold so many stretches of time, which are more than `MOST_STRETCHES`.
+    #[error("{0} stretches are too many")]
+    TooManyStretches(u64),
 }
+
+/// How many stretches of time a page holds, at most.
+pub const MOST_STRETCHES: u64 = 3_750_000;
 
 /// A word of a command that isn't a path.
 #[derive(Clone, Copy, PartialEq, Eq)]

@@ -55,6 +55,7 @@ fn start(refusal: &Refusal) -> Line
         Refusal::Init(answer) => init_line(*answer),
         Refusal::OutOfRange(word) => word_line(*word),
         Refusal::NoSuchTask => whole_line("refused: word TASK: no such task\n"),
+        Refusal::TooManyStretches(stretches) => stretches_line(*stretches),
     }
 }
 
@@ -125,6 +126,17 @@ fn word_line(word: Word) -> Line
         Word::From => whole_line("refused: word FROM: out of range\n"),
         Word::To => whole_line("refused: word TO: out of range\n"),
     }
+}
+
+fn stretches_line(stretches: u64) -> Line
+    ensures { result.bytes ≡ lines.stretches_line stretches }
+{
+    let mut digits = Buffer::new();
+    let mut line = Line::new();
+    line.push_str("refused: too many stretches: ");
+    line.push_str(digits.format(stretches));
+    line.push_str(", at most 3750000\n");
+    line
 }
 
 fn fault_line(start: &str, number: u8, name: &str, at: usize) -> Line
