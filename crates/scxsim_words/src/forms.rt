@@ -92,6 +92,18 @@ const FORMS: [Form; 17] = [
         example: "Example: scxsim picture examples/policies/short_slices.toml examples/workloads/two_tasks.toml > picture.svg\nwrites:  a file that browsers open.",
     },
     Form {
+        name: "view",
+        kind: Kind::Run(Account::Course(Course::View)),
+        about: "Reads and runs the same, and prints a page that a browser shows, to move about in",
+        example: "Example: scxsim view examples/policies/short_slices.toml examples/workloads/two_tasks.toml > run.html\nwrites:  a file that browsers open. It wants no network.\ndocs/PICTURES.md says how to read it.",
+    },
+    Form {
+        name: "view-part",
+        kind: Kind::Part(Account::Course(Course::View)),
+        about: "Does the same of a part of the run",
+        example: "Example: scxsim view-part examples/policies/short_slices.toml examples/workloads/two_tasks.toml 1 3 > part.html\nwrites:  the page of the two milliseconds from 1 to 3.",
+    },
+    Form {
         name: "gantt",
         kind: Kind::Run(Account::Summary(Summary::Gantt)),
         about: "Reads and runs the same, and prints a chart in lines of characters",

@@ -28,6 +28,7 @@ pub enum Course {
     Trace,
     Timeline,
     Picture,
+    View,
 }
 
 /// What is written at its end.
