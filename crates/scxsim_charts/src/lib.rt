@@ -17,4 +17,4 @@ mod writing;
 
 pub use telling::gantt;
 pub use titles::title;
-pub use windows::Span;
+pub use windows::{Span, Window};

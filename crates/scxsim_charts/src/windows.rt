@@ -12,9 +12,9 @@ pub struct Span<'a> {
 
 /// A part of a run, in moments. It isn't empty.
 #[derive(Clone, Copy)]
-pub(crate) struct Window {
-    pub(crate) from: u64,
-    pub(crate) to: u64,
+pub struct Window {
+    pub from: u64,
+    pub to: u64,
 }
 
 impl Window {
@@ -24,7 +24,7 @@ impl Window {
     ///
     /// `FROM` is no number, or doesn't come before `TO` and the end of the run. `TO` is no number, or comes
     /// behind the end of the run.
-    pub(crate) fn of(span: Option<Span<'_>>, ms: u32) -> Result<Window, Refusal>
+    pub fn of(span: Option<Span<'_>>, ms: u32) -> Result<Window, Refusal>
         ensures window { IfOk result (IsWindow ms span.entry) }
         ensures refused { IfErr result (IsBadSpan ms span.entry) }
     {
