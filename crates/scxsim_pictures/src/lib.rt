@@ -16,3 +16,4 @@ mod writing;
 
 pub use charting::timeline;
 pub use drawing::picture;
+pub use writing::write_document;

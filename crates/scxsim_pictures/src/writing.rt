@@ -15,7 +15,11 @@ use std::alloc::AllocError;
 
 /// Goes through the run, and writes the sketch of it between a head and an end, if there was memory for a
 /// sketch. The answer is true.
-pub(crate) fn write_document<S: Sketch + Drop, L: Listener, W: Out>(
+///
+/// # Errors
+///
+/// There was no memory for a sketch, and then nothing is written, or writing fails.
+pub fn write_document<S: Sketch + Drop, L: Listener, W: Out>(
     run: Run,
     sketch: Result<S, AllocError>,
     head: &str,
