@@ -1,11 +1,3 @@
--- No event of a file of events is refused.
-use Rattle.scx_weights.specs.Hierarchy.{idle}
-use Rattle.scx_sched_machine.specs.Policy.{PolicyState}
-use Rattle.scx_sched.specs.Sim.{SimState, IsFirstState}
-use Rattle.scx_load_driver.specs.Runs.{AreAccepted}
-use Rattle.scx_load_replay.specs.Replay.{ReplayState, IsReplay}
-use Rattle.scx_load_replay.specs.Events.{replay_events}
-
 -- What holds of the events of every file: each line comes, and none is refused.
 use Rattle.std.specs.Prelude.{◌≡◌, nat_lt, Bool, map, filter}
 use Rattle.scx_weights.specs.Hierarchy.{idle}

@@ -13,7 +13,6 @@ mod reading;
 mod replay;
 mod replayer;
 
-pub use laws::no_event_is_refused;
 pub use laws::{each_line_comes, no_event_is_refused};
 pub use lines::Line;
 pub use reading::read_replay;
