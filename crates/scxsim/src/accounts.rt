@@ -6,15 +6,15 @@ use scxsim_charts::{Span, gantt, title};
 use scxsim_commands::{Fault, Out, Refusal, text};
 use scxsim_pictures::{picture, timeline};
 use scxsim_progress::Progress;
-use scxsim_simulation::{Listener, report, simulate, replay};
-use scxsim_statistics::{stats, stats_csv, replay_csv};
+use scxsim_simulation::{Listener, replay, report, simulate};
+use scxsim_statistics::{replay_csv, stats, stats_csv};
 use scxsim_story::story;
 use scxsim_why::why;
 use scxsim_words::{Account, Course, Part, Replay, Summary};
 use std::alloc::Global;
 
-/// What names a run: the paths of its files, and the words of a part or of a task of it.
-/// What names a run: the paths of its files, of which the second is a workload or a file of events, and the words of a part of it.
+/// What names a run: the paths of its files, of which the second is a workload or a file of events, and the
+/// words of a part or of a task of it.
 #[derive(Clone, Copy)]
 pub(crate) struct RunWords<'a> {
     pub(crate) policy: &'a str,
@@ -131,10 +131,6 @@ fn write_summary<L: Listener, W: Out>(
 
 fn write_story<L: Listener, W: Out>(
     alloc: Global,
-/// Of a run of a file of events, which stands in the place of a workload.
-fn write_replay<L: Listener, W: Out>(
-    alloc: Global,
-    what: Replay,
     texts: RunTexts<'_>,
     listener: &mut L,
     out: &mut W,
@@ -146,6 +142,18 @@ fn write_replay<L: Listener, W: Out>(
     } = texts;
     let task = words.task.unwrap_or("");
     story(alloc, policy, workload, task, listener, out)
+}
+
+/// Of a run of a file of events, which stands in the place of a workload.
+fn write_replay<L: Listener, W: Out>(
+    alloc: Global,
+    what: Replay,
+    texts: RunTexts<'_>,
+    listener: &mut L,
+    out: &mut W,
+) -> Result<bool, Fault> {
+    let RunTexts {
+        policy,
         workload: events,
         ..
     } = texts;

@@ -34,8 +34,8 @@ pub use scxsim_commands::{
 };
 pub use scxsim_explain::explain;
 pub use scxsim_pictures::{picture, timeline};
-pub use scxsim_simulation::{Listener, report, simulate, replay};
-pub use scxsim_statistics::{stats, stats_csv, replay_csv};
+pub use scxsim_simulation::{Listener, replay, report, simulate};
+pub use scxsim_statistics::{replay_csv, stats, stats_csv};
 pub use scxsim_story::story;
 pub use scxsim_why::why;
 use std::io;

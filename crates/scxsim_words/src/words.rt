@@ -57,12 +57,16 @@ fn request_of<'a>(name: &str, command: &ArgMatches<'a>) -> Option<Request<'a>> {
             command: of,
             path: command.get_str("POLICY")?,
         }),
-        Kind::Run(account) => run_of(account, command, None, None),
-        Kind::Part(account) => run_of(account, command, Some(part_of(command)?), None),
-        Kind::Task(account) => run_of(account, command, None, Some(command.get_str("TASK")?)),
-        Kind::Run(account) => run_of(account, command, "WORKLOAD", None),
-        Kind::Part(account) => run_of(account, command, "WORKLOAD", Some(part_of(command)?)),
-        Kind::Replay(account) => run_of(account, command, "EVENTS", None),
+        Kind::Run(account) => run_of(account, command, "WORKLOAD", None, None),
+        Kind::Part(account) => run_of(account, command, "WORKLOAD", Some(part_of(command)?), None),
+        Kind::Task(account) => run_of(
+            account,
+            command,
+            "WORKLOAD",
+            None,
+            Some(command.get_str("TASK")?),
+        ),
+        Kind::Replay(account) => run_of(account, command, "EVENTS", None, None),
         Kind::Cases => Some(Request::Cases),
     }
 }
