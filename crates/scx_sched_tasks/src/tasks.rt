@@ -109,6 +109,7 @@ impl Tasks {
     }
 
     /// Of the tasks that have waited longer than that the one of the least number.
+    #[inline(always)]
     #[tactic(auto, using(crate::proofs::Watching::nobody_late))]
     pub fn first_overdue(&mut self, clock: u64, limit: u64) -> Option<u16>
         ensures answer { result ≡ position (is_overdue clock limit) self.old }
@@ -135,6 +136,7 @@ impl Tasks {
     }
 }
 
+#[inline(never)]
 fn position_overdue(records: &[Task], clock: u64, limit: u64) -> Option<usize>
     ensures at { result ≡ position (is_overdue clock limit) records.now }
     ensures within { IfSome result (λ i. i < length records.now) }

@@ -49,6 +49,7 @@ impl Watch {
     }
 
     /// Looks anew at the blocks in which somebody may have waited longer than that.
+    #[inline(never)]
     pub(crate) fn refresh(&mut self, records: &[Task], clock: u64, limit: u64)
         requires { AreWatched self.old records.now }
         ensures { AreWatched self.new records.now }
