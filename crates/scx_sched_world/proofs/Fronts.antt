@@ -1,5 +1,5 @@
 -- Who stands at the front of a queue, and whom a task has right behind it there.
-use Rattle.std.proofs.Common.{◌≡◌, ℕ, Bool, true, false, ◌==◌, ◌&&◌, Option, Some, None, option_map, refl, sym, ap, ◌∙◌, subst}
+use Rattle.std.proofs.Common.{◌≡◌, ℕ, Bool, true, false, nat_lt, ◌==◌, ◌&&◌, cond, if◌then◌else◌, Option, Some, None, option_map, refl, sym, ap, ◌∙◌, subst}
 use Rattle.std.proofs.lemmas.Bool.{and_parts, eqb-true, both_ways}
 use Rattle.std.proofs.lemmas.List.Quantifiers.{position-Some}
 use Rattle.scx_dsq.specs.declared.entries.Entry.{Entry}
@@ -9,6 +9,8 @@ use Rattle.scx_dsq.specs.Entries.{is_before}
 use Rattle.scx_dsq.specs.Queues.{QueueState, entry_of, queue_of, is_first, front_of, is_right_behind, next_by, right_behind, behind_of}
 use Rattle.scx_dsq.proofs.Orders.{before-asym}
 use Rattle.scx_sched_world.specs.Ids.{parked_queue}
+use Rattle.scx_sched_world.specs.World.{WorldState}
+use Rattle.scx_sched_world.specs.Tasks.{local_len, fill_front}
 
 -- the front of a queue stands there
 pub front_in : (s : QueueState) (q t : ℕ) → front_of s q ≡ Some t → queue_of s t ≡ Some q
@@ -18,6 +20,19 @@ front_in s q t e = go (entry_of s t) (position-Some (is_first s.entries q) s.ent
     go : (o : Option Entry) → is_first s.entries q o ≡ true → option_map (λ (p : Entry). p.queue) o ≡ Some q
     go None h = absurd (cc)
     go (Some p) h = ap Some (eqb-true p.queue q (and_parts (p.queue == q) _ h).0)
+
+-- nobody in either case
+pub none_either : (b : Bool) → cond {A = Option ℕ} b None None ≡ None
+none_either true = refl
+none_either false = refl
+
+-- from an empty queue nobody comes
+pub nobody_comes : (w : WorldState) (q c : ℕ) → front_of w.queues q ≡ None → fill_front w q c ≡ None
+nobody_comes w q c e = go (nat_lt 0 (local_len w c))
+  where
+    go : (b : Bool) → (if b then None else front_of w.queues q) ≡ None
+    go true = refl
+    go false = e
 
 -- ---- whom a task has right behind it
 

@@ -14,6 +14,7 @@ impl Env for World {
 
     ghost spent = { spent_of };
 
+    #[inline(always)]
     fn call(&mut self, helper: Helper, arguments: &[Arg; 5]) -> Answer {
         let first = given_number(arguments[0]);
         match helper {

@@ -82,6 +82,7 @@ impl World {
     }
 
     /// The task goes into a queue, as the insert wants it to.
+    #[inline(always)]
     pub fn enter(&mut self, task: u16, insert: Insert)
         requires few { self.old.queues.pushes < 2 ^ 63 }
         ensures world { self.new ≡ after_enter self.old task insert }
@@ -102,12 +103,17 @@ impl World {
     }
 
     /// Where the local queue is empty the front of another comes to it, and is answered.
+    #[inline(always)]
+    #[tactic(auto, using(crate::proofs::Fronts::nobody_comes, crate::proofs::Fronts::none_either))]
     pub fn fill(&mut self, queue: u64, cpu: u32) -> Option<u16>
         requires few { self.old.queues.pushes < 2 ^ 63 }
         ensures answer { result ≡ fill_front self.old queue cpu }
         ensures world { self.new ≡ after_fill self.old queue cpu }
         ensures few { self.new.queues.pushes ≤ self.old.queues.pushes + 1 }
     {
+        if self.front(queue).is_none() {
+            return None;
+        }
         if self.local_len(cpu) > 0 {
             return None;
         }
@@ -117,6 +123,7 @@ impl World {
     }
 
     /// The task leaves its processor, and waits from now on.
+    #[inline(always)]
     pub fn stop(&mut self, cpu: u32, task: u16)
         ensures world { self.new ≡ after_stop self.old cpu task }
         ensures few { self.new.queues.pushes ≡ self.old.queues.pushes }
@@ -128,6 +135,7 @@ impl World {
     }
 
     /// The front of the local queue runs, waits no more, and is answered.
+    #[inline(always)]
     pub fn start(&mut self, cpu: u32) -> Option<u16>
         ensures answer { result ≡ front_of self.old.queues (local_on cpu) }
         ensures world { self.new ≡ after_start self.old cpu }
@@ -143,6 +151,7 @@ impl World {
     }
 
     /// The task before, if there is one, keeps the processor, and where it has no slice gets one.
+    #[inline(always)]
     pub fn keep(&mut self, before: Option<u16>)
         ensures world { self.new ≡ after_keep self.old before }
         ensures few { self.new.queues.pushes ≡ self.old.queues.pushes }

@@ -137,6 +137,7 @@ impl World {
     }
 
     /// Of the tasks that have waited longer than that the one of the least number.
+    #[inline(always)]
     pub fn first_overdue(&mut self, limit: u64) -> Option<u16>
         ensures answer { result ≡ first_overdue self.old limit }
         ensures world { self.new ≡ self.old }
@@ -204,6 +205,12 @@ impl World {
         ensures few { result ≤ 64 }
     {
         self.cpus.len() as u32
+    }
+
+    pub fn has_cpu(&self, cpu: u32) -> bool
+        ensures { result ≡ nat_lt cpu (length self.now.cpus) }
+    {
+        (cpu as usize) < self.cpus.len()
     }
 
     /// The task that runs on the processor.
@@ -316,6 +323,7 @@ impl World {
 
     /// Whether all of the parked are throttled. They are looked at only where that isn't known: since a period of a
     /// throttled group has begun.
+    #[inline(never)]
     #[tactic(auto, using(crate::proofs::Parked::all_looked_at, crate::proofs::Parked::none_free))]
     pub fn are_parked_throttled(&mut self) -> bool
         ensures throttled { result ≡ true → NobodyIsFree self.old }
