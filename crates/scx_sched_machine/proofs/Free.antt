@@ -79,3 +79,7 @@ supply_free s c none = go (in_reach s c) refl
     go (suc n) e =
         rw (free_front (after_fill s.world global c) (front_of (after_fill s.world global c).queues (local_on c)) free)
         (ap (λ notes. record { state = (fill s global c).state; notes = notes; calls = [] }) (no_more (fill_front s.world global c) s.world c))
+
+-- and where that is empty, nobody comes
+pub supply_nobody : (s : State) (c : ℕ) → has_quota s.world.tree.groups ≡ false → front_of s.world.queues global ≡ None → supply s c ≡ stays s
+supply_nobody s c none e = supply_free s c none ∙ fill_nobody s c (nobody_comes (ltb 0 (local_len s.world c)) (front_of s.world.queues global) e)

@@ -6,5 +6,6 @@ pub mod Evicting
 pub mod Unchanged
 pub mod Parked
 pub mod Free
+pub mod Idling
 pub mod Choices
 pub mod HelperCalls

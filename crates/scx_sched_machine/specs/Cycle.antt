@@ -1,16 +1,18 @@
 -- The scheduling cycle (sched-ext.rst, "Scheduling Cycle"): a processor looks for the task
 -- that it runs next.
-use Rattle.std.specs.Prelude.{ℕ, zero, suc, Bool, true, false, ◌&&◌, ◌==◌, not, List, [], ◌∷◌, if◌then◌else◌, Option, Some, None}
+use Rattle.std.specs.Prelude.{ℕ, zero, suc, Bool, true, false, ◌&&◌, ◌==◌, not, List, [], ◌∷◌, if◌then◌else◌, Option, Some, None, is_none}
 use Rattle.scx_dsq.specs.Queues.{front_of, len_of}
 use Rattle.scx_isa_semantics.specs.declared.callbacks.Callback.TheVariants as callback
 use Rattle.scx_sched_world.specs.declared.notes.Note.{Note}
 use Rattle.scx_sched_world.specs.declared.notes.What.TheVariants.{Stop, Run, Idle}
-use Rattle.scx_sched_world.specs.Ids.{builtin_queue, local_on}
-use Rattle.scx_sched_world.specs.World.{WorldState, with_cycling, note_now}
+use Rattle.scx_weights.specs.Limits.{has_quota}
+use Rattle.scx_sched_world.specs.Ids.{global, builtin_queue, local_on}
+use Rattle.scx_sched_world.specs.World.{WorldState, with_cycling, at_callback, note_now}
 use Rattle.scx_sched_world.specs.Tasks.{local_len, after_stop, started_at, after_keep}
 use Rattle.scx_sched_world.specs.Ejecting.{after_catch_up, after_charge}
 use Rattle.scx_sched_machine.specs.Steps.{State, Stepped, with_world, stays, after, one_after_other, is_ejected}
 use Rattle.scx_sched_machine.specs.Callbacks.{call_back, one_task, task_and_number, cpu_and_task}
+use Rattle.scx_sched_machine.specs.Policy.{program_of}
 use Rattle.scx_sched_machine.specs.Put.{put}
 use Rattle.scx_sched_machine.specs.Filling.{fill}
 use Rattle.scx_sched_machine.specs.Parking.{park_fronts, supply}
@@ -159,6 +161,19 @@ look s c p ran = if is_ejected s then builtin_cycle s c p ran else seek s c p ra
 -- the cycle begins or ends
 abbrev pub cycling : State → Option ℕ → State
 cycling s o = with_world s (with_cycling s.world o)
+
+-- whether nobody waits for the processor or for any, no task may be throttled, and there is no
+-- dispatch to ask
+unfoldable pub stays_idle : State → ℕ → Bool
+stays_idle s c =
+    is_none (program_of s.policy callback.Dispatch)
+    && (not (is_ejected s)
+    && (not (has_quota s.world.tree.groups)
+    && ((local_len s.world c == 0) && is_none (front_of s.world.queues global))))
+
+-- a cycle that comes to nothing: dispatch would be asked, and nobody runs
+unfoldable pub idles : State → ℕ → Stepped
+idles s c = stays (cycling (with_world s (at_callback s.world callback.Dispatch 0 c)) None)
 
 -- all the while the cycle is under way
 unfoldable pub cycle : State → ℕ → Option ℕ → Bool → Stepped

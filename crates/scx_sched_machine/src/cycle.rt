@@ -1,17 +1,18 @@
-ghost use Rattle.std.specs.Prelude.{◌*◌};
+ghost use Rattle.std.specs.Prelude.{◌≡◌, ◌*◌, false, None};
 ghost use Rattle.scx_sched_machine.specs.Budgets.{HasRoom, ask_pushes, builtin_ask_pushes, builtin_cycle_pushes, builtin_dispatch_pushes, callback_pushes, cycle_pushes, dispatch_pushes, fill_pushes, leave_pushes, pick_pushes, swap_pushes};
 ghost use Rattle.scx_sched_machine.specs.Does.{Does};
 ghost use Rattle.scx_sched_machine.specs.Filling.{fill};
-ghost use Rattle.scx_sched_machine.specs.Cycle.{after_dispatch, tries, after_stopping, after_running, leave, start, rest, swap, swap_or_rest, builtin_dispatch, builtin_fill, builtin_ask, builtin_cycle, start_or_cycle, pick, pick_or_rest, conclude, ask, seek, look, cycle};
+ghost use Rattle.scx_sched_machine.specs.Cycle.{after_dispatch, tries, after_stopping, after_running, leave, start, rest, swap, swap_or_rest, builtin_dispatch, builtin_fill, builtin_ask, builtin_cycle, start_or_cycle, pick, pick_or_rest, conclude, ask, seek, look, stays_idle, idles, cycle};
 
 use crate::callbacks::{cpu_and_task, one_task, task_and_number};
 use crate::machine::Machine;
 use crate::sink::Sink;
 use scx_isa::Callback;
-use scx_sched_world::{BUILTIN, What};
+use scx_sched_world::{BUILTIN, GLOBAL, What};
 
 impl Machine {
     /// Where the local queue is empty, the front of another comes to it.
+    #[inline(always)]
     #[tactic(auto, unfolding(crate::specs::Filling::fill), using(crate::proofs::Taking::takings))]
     pub(crate) fn fill<S: Sink>(&mut self, queue: u64, cpu: u32, sink: &mut S)
         requires { HasRoom fill_pushes self.old }
@@ -24,6 +25,7 @@ impl Machine {
     }
 
     /// Asks dispatch once, and then supplies the local queue.
+    #[inline(always)]
     #[tactic(auto, unfolding(crate::specs::Cycle::after_dispatch), using(crate::proofs::Taking::takings))]
     fn call_dispatch<S: Sink>(&mut self, cpu: u32, before: Option<u16>, sink: &mut S)
         requires { HasRoom dispatch_pushes self.old }
@@ -72,6 +74,7 @@ impl Machine {
     }
 
     /// A task has come to its processor.
+    #[inline(always)]
     #[tactic(auto, unfolding(crate::specs::Cycle::after_running), using(crate::proofs::Taking::takings))]
     fn call_running<S: Sink>(&mut self, cpu: u32, task: u16, sink: &mut S)
         requires { HasRoom callback_pushes self.old }
@@ -86,6 +89,7 @@ impl Machine {
     }
 
     /// The task before leaves the processor, and is put.
+    #[inline(always)]
     #[tactic(auto, unfolding(crate::specs::Cycle::leave), using(crate::proofs::Taking::takings))]
     fn leave<S: Sink>(&mut self, cpu: u32, before: Option<u16>, sink: &mut S)
         requires { HasRoom leave_pushes self.old }
@@ -101,6 +105,7 @@ impl Machine {
     }
 
     /// The front of the local queue runs.
+    #[inline(always)]
     #[tactic(auto, unfolding(crate::specs::Cycle::start), using(crate::proofs::Taking::takings))]
     fn start<S: Sink>(&mut self, cpu: u32, sink: &mut S)
         requires { HasRoom callback_pushes self.old }
@@ -114,6 +119,7 @@ impl Machine {
     }
 
     /// Nobody comes: the task before stays, or the processor is idle.
+    #[inline(always)]
     #[tactic(auto, unfolding(crate::specs::Cycle::rest), using(crate::proofs::Taking::takings))]
     fn rest<S: Sink>(&mut self, cpu: u32, before: Option<u16>, ran: bool, sink: &mut S)
         requires { HasRoom 0 self.old }
@@ -187,6 +193,7 @@ impl Machine {
     }
 
     /// A cycle of the built-in scheduler.
+    #[inline(never)]
     #[tactic(auto, unfolding(crate::specs::Cycle::builtin_cycle), using(crate::proofs::Taking::takings))]
     fn builtin_cycle<S: Sink>(&mut self, cpu: u32, before: Option<u16>, ran: bool, sink: &mut S)
         requires { HasRoom builtin_cycle_pushes self.old }
@@ -198,6 +205,7 @@ impl Machine {
     }
 
     /// The front of the local queue runs. An ejection may have emptied it; then the cycle begins anew.
+    #[inline(always)]
     #[tactic(auto, unfolding(crate::specs::Cycle::start_or_cycle), using(crate::proofs::Taking::takings))]
     fn start_or_cycle<S: Sink>(&mut self, cpu: u32, ran: bool, sink: &mut S)
         requires { HasRoom builtin_cycle_pushes self.old }
@@ -212,6 +220,7 @@ impl Machine {
     }
 
     /// The front of the local queue runs in the place of the task before.
+    #[inline(never)]
     #[tactic(auto, unfolding(crate::specs::Cycle::pick), using(crate::proofs::Taking::takings))]
     fn pick<S: Sink>(&mut self, cpu: u32, before: Option<u16>, ran: bool, sink: &mut S)
         requires { HasRoom pick_pushes self.old }
@@ -287,6 +296,44 @@ impl Machine {
             self.builtin_cycle(cpu, before, ran, sink);
         } else {
             self.seek(cpu, before, ran, sink);
+        }
+    }
+
+    /// Whether nobody waits for the processor or for any, no task may be throttled, and there is no dispatch to ask.
+    #[inline(always)]
+    #[tactic(auto, unfolding(crate::specs::Cycle::stays_idle))]
+    fn stays_idle(&self, cpu: u32) -> bool
+        ensures { result ≡ stays_idle self.now cpu }
+    {
+        self.policy.program(Callback::Dispatch).is_none()
+            && !self.is_ejected()
+            && !self.world.is_limited()
+            && self.world.local_len(cpu) == 0
+            && self.world.front(GLOBAL).is_none()
+    }
+
+    /// A cycle that comes to nothing.
+    #[inline(always)]
+    #[tactic(auto, unfolding(crate::specs::Cycle::idles))]
+    fn stay_idle<S: Sink>(&mut self, cpu: u32, sink: &mut S)
+        ensures { Does S.takes 0 (idles self.old cpu) self.old sink.old self.new sink.new }
+    {
+        self.world.begin(Callback::Dispatch, 0, cpu);
+        self.world.set_cycling(None);
+    }
+
+    /// The cycle of a processor on which nobody runs.
+    #[inline(always)]
+    #[tactic(auto, using(crate::proofs::Taking::takings, crate::proofs::Idling::idle_cycle))]
+    pub(crate) fn idle_cycle<S: Sink>(&mut self, cpu: u32, sink: &mut S)
+        requires { HasRoom cycle_pushes self.old }
+        ensures { Does S.takes cycle_pushes (cycle self.old cpu None false)
+            self.old sink.old self.new sink.new }
+    {
+        if self.stays_idle(cpu) {
+            self.stay_idle(cpu, sink);
+        } else {
+            self.cycle(cpu, None, false, sink);
         }
     }
 

@@ -19,6 +19,7 @@ impl Machine {
     }
 
     /// Puts the policy out of force, and hands all who wait to the built-in scheduler.
+    #[inline(never)]
     #[tactic(auto, unfolding(crate::specs::Ejecting::eject), using(crate::proofs::Taking::takings))]
     pub(crate) fn eject<S: Sink>(&mut self, why: Eject, sink: &mut S)
         requires { HasRoom eject_pushes self.old }

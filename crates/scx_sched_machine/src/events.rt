@@ -68,7 +68,7 @@ impl Machine {
             Event::Wake(task) => self.wake_refusal(task),
             Event::Sleep(task) => self.sleep_refusal(task),
             Event::Tick(cpu) => {
-                if cpu < self.world.cpus() {
+                if self.world.has_cpu(cpu) {
                     None
                 } else {
                     Some(Refused::UnknownCpu)
@@ -273,11 +273,12 @@ impl Machine {
     {
         match self.world.running(cpu) {
             Some(task) => self.count_down(cpu, task, sink),
-            None => self.cycle(cpu, None, false, sink),
+            None => self.idle_cycle(cpu, sink),
         }
     }
 
     /// Who has waited too long, while the policy is in force.
+    #[inline(always)]
     fn overdue(&mut self) -> Option<u16>
         ensures answer { result ≡ overdue self.old }
         ensures same { self.new ≡ self.old }
@@ -289,6 +290,7 @@ impl Machine {
     }
 
     /// A policy that let a task wait too long is ejected.
+    #[inline(always)]
     #[tactic(auto, using(crate::proofs::Taking::takings))]
     fn watch<S: Sink>(&mut self, sink: &mut S)
         requires { HasRoom eject_pushes self.old }

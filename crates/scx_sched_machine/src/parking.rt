@@ -79,6 +79,7 @@ impl Machine {
     }
 
     /// The local queue comes to have a front that may run, where some tasks may not.
+    #[inline(never)]
     #[tactic(auto, unfolding(crate::specs::Parking::supply), using(crate::proofs::Taking::takings))]
     fn supply_limited<S: Sink>(&mut self, cpu: u32, sink: &mut S)
         requires { HasRoom supply_pushes self.old }
@@ -90,6 +91,7 @@ impl Machine {
     }
 
     /// The local queue comes to have a front that may run, if it has such a task, or that of all processors.
+    #[inline(always)]
     #[tactic(auto, using(crate::proofs::Taking::takings, crate::proofs::Free::supply_free))]
     pub(crate) fn supply<S: Sink>(&mut self, cpu: u32, sink: &mut S)
         requires { HasRoom supply_pushes self.old }
@@ -118,6 +120,7 @@ impl Machine {
 
     /// Of the parked those that may run again are let go, in their order from that one on; at most so many are
     /// looked at.
+    #[inline(never)]
     #[tactic(auto, using(crate::proofs::Taking::takings, crate::proofs::Parked::let_go_steps, crate::proofs::Unchanged::left_few))]
     fn let_go_from<S: Sink>(&mut self, left: usize, at: Option<u16>, sink: &mut S)
         requires { CanLetGo left self.old }
@@ -140,6 +143,7 @@ impl Machine {
     }
 
     /// All of the parked that may run again are let go.
+    #[inline(always)]
     #[tactic(auto, unfolding(crate::specs::Parking::let_all_go), using(crate::proofs::Taking::takings, crate::proofs::Parked::go_nobody, crate::proofs::Parked::all_stay, crate::proofs::Unchanged::left_few))]
     pub(crate) fn let_all_go<S: Sink>(&mut self, sink: &mut S)
         requires { HasRoom (let_go_pushes + put_pushes) self.old }

@@ -1,0 +1,114 @@
+-- A processor on which nobody runs stays idle where nobody waits for it and there is no dispatch.
+use Rattle.std.proofs.Common.{arith, ◌≡◌, ℕ, ◌==◌, ◌&&◌, not, Bool, true, false, if◌then◌else◌, is_some, is_none, Option, Some, None, refl, ap, ◌∙◌}
+use Rattle.std.proofs.lemmas.Bool.{and_parts, eqb-true}
+use Rattle.scx_dsq.specs.Queues.{front_of}
+use Rattle.scx_isa_semantics.specs.declared.callbacks.Callback.TheVariants as callback
+use Rattle.scx_vm.specs.Programs.{VerifiedProgram}
+use Rattle.scx_weights.specs.Limits.{has_quota}
+use Rattle.scx_sched_world.specs.Ids.{global}
+use Rattle.scx_sched_world.specs.World.{at_callback}
+use Rattle.scx_sched_world.specs.Tasks.{local_len}
+use Rattle.scx_sched_machine.specs.Policy.{program_of}
+use Rattle.scx_sched_machine.specs.Steps.{State, Stepped, with_world, is_ejected, stays, one_after_other}
+use Rattle.scx_sched_machine.specs.Ejecting.{ejected_for}
+use Rattle.scx_sched_machine.specs.Callbacks.{unless_ejected, acting, call_ending, after_callback, calls_of, fault_of, call_back, cpu_and_task}
+use Rattle.scx_sched_machine.specs.Parking.{supply}
+use Rattle.scx_sched_machine.specs.Cycle.{has_local, after_dispatch, asks_again, tries, rest, builtin_cycle, pick, pick_or_rest, conclude, ask, seek, look, cycling, stays_idle, idles, cycle}
+use Rattle.scx_sched_machine.proofs.Free.{supply_nobody}
+use Rattle.scx_sched_machine.proofs.Tries.{tries_last}
+
+and_false : (b : Bool) → (b && false) ≡ false
+and_false true = refl
+and_false false = refl
+
+-- nobody waits for the processor, or for any, and there is no dispatch to ask
+record Rests (s : State) (c : ℕ) : Type 0 where
+  force : s.world.ejected ≡ None
+  unasked : program_of s.policy callback.Dispatch ≡ None
+  free : has_quota s.world.tree.groups ≡ false
+  empty : local_len s.world c ≡ 0
+  nobody : front_of s.world.queues global ≡ None
+
+-- the state once dispatch would have been asked
+abbrev called : State → ℕ → State
+called s c = with_world s (at_callback s.world callback.Dispatch 0 c)
+
+rests_called : (s : State) (c : ℕ) → Rests s c → Rests (called s c) c
+rests_called s c h = record { force = h.force; unasked = h.unasked; free = h.free; empty = h.empty; nobody = h.nobody }
+
+-- what a callback comes to that has this program
+abbrev called_with : State → ℕ → Option VerifiedProgram → Stepped
+called_with s c p =
+    let w = at_callback s.world callback.Dispatch 0 c in
+    let e = call_ending p callback.Dispatch (cpu_and_task c None) s.maps w in
+    one_after_other (record { state = after_callback s.policy e; notes = e.outside.notes; calls = calls_of p callback.Dispatch (cpu_and_task c None) s.maps w })
+    (ejected_for (fault_of callback.Dispatch e) (after_callback s.policy e))
+
+no_call : (s : State) (c : ℕ) → Rests s c → call_back s callback.Dispatch (cpu_and_task c None) 0 c ≡ stays (called s c)
+unfolding call_back call_ending
+no_call s c h =
+    let none : acting s callback.Dispatch ≡ None = ap (λ o. unless_ejected o (program_of s.policy callback.Dispatch)) h.force ∙ h.unasked in
+    ap (λ p. called_with s c p) none
+
+no_dispatch : (s : State) (c : ℕ) → Rests s c → after_dispatch s c None ≡ stays (called s c)
+unfolding after_dispatch
+no_dispatch s c h =
+    ap (λ r. one_after_other r (supply r.state c)) (no_call s c h)
+    ∙ ap (λ r. one_after_other (stays (called s c)) r) (supply_nobody (called s c) c h.free h.nobody)
+
+no_tries : (s : State) (c : ℕ) → Rests s c → tries 32 s c None ≡ stays (called s c)
+no_tries s c h =
+    tries_last 32 c s None (omega arith) (ap (λ r. asks_again r.state c) (no_dispatch s c h) ∙ and_false (local_len s.world c == 0))
+    ∙ no_dispatch s c h
+
+conclude_rests : (s : State) (c : ℕ) → Rests s c → conclude s c None false ≡ stays s
+unfolding conclude pick_or_rest rest
+conclude_rests s c h =
+    ap (λ b. if b then builtin_cycle s c None false else pick_or_rest s c None false) (ap is_some h.force)
+    ∙ ap (λ n. if not (n == 0) then pick s c None false else rest s c None false) h.empty
+
+no_ask : (s : State) (c : ℕ) → Rests s c → ask s c None false ≡ stays (called s c)
+unfolding ask
+no_ask s c h =
+    ap (λ d. one_after_other d (conclude d.state c None false)) (no_tries s c h)
+    ∙ ap (λ r. one_after_other (stays (called s c)) r) (conclude_rests (called s c) c (rests_called s c h))
+
+no_seek : (s : State) (c : ℕ) → Rests s c → seek s c None false ≡ stays (called s c)
+unfolding seek
+no_seek s c h =
+    ap (λ f. one_after_other f (if has_local f.state c then pick f.state c None false else ask f.state c None false)) (supply_nobody s c h.free h.nobody)
+    ∙ ap (λ n. one_after_other (stays s) (if not (n == 0) then pick s c None false else ask s c None false)) h.empty
+    ∙ ap (λ r. one_after_other (stays s) r) (no_ask s c h)
+
+none_is : {A : Type 0} (o : Option A) → is_none o ≡ true → o ≡ None
+none_is None e = refl
+none_is (Some x) e = absurd (cc)
+
+not_some : {A : Type 0} (o : Option A) → not (is_some o) ≡ true → o ≡ None
+not_some None e = refl
+not_some (Some x) e = absurd (cc)
+
+is_false : (b : Bool) → not b ≡ true → b ≡ false
+is_false true e = absurd (cc)
+is_false false e = refl
+
+-- where the processor stays idle, a cycle comes to nothing
+pub idle_cycle : (s : State) (c : ℕ) → stays_idle s c ≡ true → cycle s c None false ≡ idles s c
+unfolding stays_idle cycle look idles
+idle_cycle s c e =
+    let begun = cycling s (Some c) in
+    let first = and_parts (is_none (program_of s.policy callback.Dispatch)) _ e in
+    let second = and_parts (not (is_ejected s)) _ first.1 in
+    let third = and_parts (not (has_quota s.world.tree.groups)) _ second.1 in
+    let fourth = and_parts (local_len s.world c == 0) _ third.1 in
+    let force : s.world.ejected ≡ None = not_some s.world.ejected second.0 in
+    let h : Rests begun c = record {
+      force = force;
+      unasked = none_is (program_of s.policy callback.Dispatch) first.0;
+      free = is_false (has_quota s.world.tree.groups) third.0;
+      empty = eqb-true (local_len s.world c) 0 fourth.0;
+      nobody = none_is (front_of s.world.queues global) fourth.1;
+    } in
+    let nothing : look begun c None false ≡ stays (called begun c) =
+    ap (λ b. if b then builtin_cycle begun c None false else seek begun c None false) (ap is_some force) ∙ no_seek begun c h in
+    ap (λ (r : Stepped). record r { state = cycling r.state None }) nothing
