@@ -201,6 +201,13 @@ impl Sim {
         requires { cpu < length self.now.state.world.cpus }
         ensures { result ≡ running self.now.state.world cpu }
     {
+        self.runner(cpu)
+    }
+
+    /// The task that runs on the processor; none where there is no such processor.
+    pub fn runner(&self, cpu: u32) -> Option<u16>
+        ensures { result ≡ running self.now.state.world cpu }
+    {
         self.machine.world().running(cpu)
     }
 
