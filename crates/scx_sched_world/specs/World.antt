@@ -1,5 +1,5 @@
 -- The world that a policy's programs see and change, and its parts.
-use Rattle.std.specs.Prelude.{ℕ, zero, suc, Bool, false, ◌==◌, ◌&&◌, not, nat_lt, List, [], ◌∷◌, ◌++◌, length, if◌then◌else◌, Option, Some, None, is_none, unwrap_or, slice_index_or, slice_set, position}
+use Rattle.std.specs.Prelude.{◌≡◌, ℕ, zero, suc, Bool, false, ◌==◌, ◌&&◌, not, nat_lt, List, [], ◌∷◌, ◌++◌, length, if◌then◌else◌, Option, Some, None, is_none, unwrap_or, slice_index_or, slice_set, position}
 use Rattle.scx_dsq.specs.Queues.{QueueState, queue_of}
 use Rattle.scx_weights.specs.Hierarchy.{Hierarchy, is_active_task}
 use Rattle.scx_weights.specs.Limits as limits
@@ -26,6 +26,14 @@ pub record WorldState : Type 0 where
   pub builtin_clock : ℕ  -- the virtual time of the built-in scheduler
   pub ejected : Option Eject  -- why and when the policy was put out of force, if it was
   pub notes : List Note  -- what was noted and not handed on yet
+
+-- both worlds have the same queues, room for as many, and as many tasks, processors and groups
+pub record IsLike (v w : WorldState) : Type 0 where
+  pub tasks : length v.tasks ≡ length w.tasks
+  pub cpus : length v.cpus ≡ length w.cpus
+  pub room : v.queues.room ≡ w.queues.room
+  pub queues : v.queues.ids ≡ w.queues.ids
+  pub groups : length v.tree.groups ≡ length w.tree.groups
 
 -- ---- one part changed
 

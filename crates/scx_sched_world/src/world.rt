@@ -1,4 +1,4 @@
-ghost use Rattle.std.specs.Prelude.{◌≡◌, ◌≢◌, ℕ, true, ◌+◌, ◌≤◌, ◌<◌, nat_lt, length, position, IfSome, IfOk, OnOk};
+ghost use Rattle.std.specs.Prelude.{◌≡◌, ◌≢◌, ℕ, true, ◌+◌, ◌≤◌, ◌<◌, nat_lt, length, position, vec_capacity, IfSome, IfOk, OnOk};
 ghost use Rattle.std.specs.Int.{bit_at};
 ghost use Rattle.scx_dsq.specs.Laws.{one_if};
 ghost use Rattle.scx_dsq.specs.Queues.{entry_of, queue_of, task_count};
@@ -8,7 +8,7 @@ ghost use Rattle.scx_sched_world.specs.Helpers.{task_argument};
 ghost use Rattle.scx_sched_world.specs.Kept.{AreTaken, StaysParked, NobodyIsFree};
 ghost use Rattle.scx_sched_world.specs.Waits.{first_overdue};
 ghost use Rattle.scx_weights.specs.Limits.{usage_of};
-ghost use Rattle.scx_sched_world.specs.World.{task_at, wait, with_task, is_runnable, is_throttled, waits, running, with_cpu, with_cycling, is_this, cpu_of, is_idle, first_idle, default_choice, at_callback, quiet, note_now};
+ghost use Rattle.scx_sched_world.specs.World.{task_at, wait, with_task, is_runnable, is_throttled, waits, running, with_cpu, with_cycling, is_this, cpu_of, is_idle, first_idle, default_choice, at_callback, quiet, note_now, IsLike};
 
 use crate::call::{Call, Insert};
 use crate::eject::Eject;
@@ -99,6 +99,25 @@ impl World {
         }
     }
 
+    /// Becomes what the other one is. No memory is taken.
+    pub fn copy_from(&mut self, other: &World)
+        requires { IsLike self.old other.now }
+        ensures { self.new ≡ other.now }
+    {
+        self.clock = other.clock;
+        self.tasks.copy_from(&other.tasks);
+        self.cpus.copy_from_slice(&other.cpus);
+        self.busy = other.busy;
+        self.cycling = other.cycling;
+        self.queues.copy_from(&other.queues);
+        self.tree.copy_from(&other.tree);
+        self.call = other.call;
+        self.builtin_clock = other.builtin_clock;
+        self.ejected = other.ejected;
+        copy_notes(&mut self.notes, &other.notes);
+        self.parked_throttled = other.parked_throttled;
+    }
+
     pub fn clock(&self) -> u64
         ensures { result ≡ self.now.clock }
     {
@@ -171,6 +190,7 @@ impl World {
 
     /// Where the task waits or is parked, by which rank, and how many pushes were accepted before it.
     pub fn entry(&self, task: u16) -> Option<Entry>
+    pub fn entry_of(&self, task: u16) -> Option<Entry>
         ensures { result ≡ entry_of self.now.queues task }
     {
         if (task as usize) < self.queues.tasks() {
@@ -178,6 +198,13 @@ impl World {
         } else {
             None
         }
+    }
+
+    /// How many pushes the queues accepted.
+    pub fn pushes(&self) -> u64
+        ensures { result ≡ self.now.queues.pushes }
+    {
+        self.queues.pushes()
     }
 
     /// Whether the task waits in a queue, and isn't parked.
@@ -442,6 +469,19 @@ impl World {
         ensures { result ≡ self.now.call.fault }
     {
         self.call.fault
+    }
+}
+
+/// The other notes stand in place of those, in the memory that there is.
+fn copy_notes(notes: &mut Vec<Note>, others: &[Note])
+    requires { length others.now ≤ vec_capacity notes.old }
+    ensures notes { notes.new.items ≡ others.now }
+    ensures room { vec_capacity notes.old ≤ vec_capacity notes.new }
+{
+    notes.clear();
+    match notes.extend_from_slice(others) {
+        Ok(()) => (),
+        Err(_) => unreachable!(),
     }
 }
 
