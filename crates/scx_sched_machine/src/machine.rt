@@ -1,4 +1,5 @@
 ghost use Rattle.std.specs.Prelude.{◌≡◌};
+ghost use Rattle.scx_sched_world.specs.World.{IsLike};
 ghost use Rattle.scx_sched_machine.specs.Cycle.{has_local, asks_again};
 
 use crate::policy::Policy;
@@ -40,6 +41,22 @@ impl Machine {
         ensures { result.now ≡ self.now.world }
     {
         &self.world
+    }
+
+    pub fn maps(&self) -> &Maps
+        ensures { result.now ≡ self.now.maps }
+    {
+        &self.maps
+    }
+
+    /// Becomes what the other one is, which has the same policy. No memory is taken.
+    pub fn copy_from(&mut self, other: &Machine)
+        requires policy { self.old.policy ≡ other.now.policy }
+        requires world { IsLike self.old.world other.now.world }
+        ensures { self.new ≡ other.now }
+    {
+        self.maps.copy_from(&other.maps);
+        self.world.copy_from(&other.world);
     }
 
     /// Whether a task waits in the local queue of the processor.
