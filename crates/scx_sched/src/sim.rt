@@ -1,7 +1,7 @@
 ghost use Rattle.std.specs.Prelude.{◌≡◌, ℕ, ◌<◌, ◌≤◌, ◌^◌, false, length, None, IfOk, IfErr, OnOk, OnErr};
 ghost use Rattle.scx_dsq.specs.Queues.{entry_of};
 ghost use Rattle.scx_weights.specs.Limits.{usage_of};
-ghost use Rattle.scx_sched_world.specs.World.{task_at, is_runnable, running, wait};
+ghost use Rattle.scx_sched_world.specs.World.{task_at, is_runnable, running, wait, IsLike};
 ghost use Rattle.scx_sched_machine.specs.Notes.{Takes};
 ghost use Rattle.scx_sched_machine.specs.Callbacks.{AreAnswered};
 ghost use Rattle.scx_sched_machine.specs.Policy.{IsTimeout, AreAs};
@@ -18,7 +18,8 @@ ghost use Rattle.scx_sched.specs.Sim.{max_events, refusal, answer_of, after_even
 
 use crate::places::{Place, place_in};
 use scx_sched_machine::{Event, Machine, NewError, Policy, Refused, Sink, Unseen};
-use scx_sched_world::{Eject, Entry};
+use scx_sched_world::{Eject, Entry, World};
+use scx_maps::Maps;
 use scx_weights::Tree;
 use std::alloc::Global;
 use std::marker::Model;
@@ -120,6 +121,17 @@ impl Sim {
         Ok(())
     }
 
+    /// Becomes what the other one is, which has the same policy and queues, and as many tasks, processors
+    /// and groups. No memory is taken.
+    pub fn copy_from(&mut self, other: &Sim)
+        requires policy { self.old.state.policy ≡ other.now.state.policy }
+        requires world { IsLike self.old.state.world other.now.state.world }
+        ensures { self.new ≡ other.now }
+    {
+        self.machine.copy_from(&other.machine);
+        self.events = other.events;
+    }
+
     /// What holds between two events: each runnable task is in one place, and no other task anywhere; a task
     /// has a wait where it is in a queue and not parked, and no longer one than a policy in force may let it
     /// have; no group with a quota has used as much as that and one millisecond for each processor in its
@@ -142,6 +154,20 @@ impl Sim {
         ensures programs { AreAs self.now.state.policy.callbacks }
     {
         let _events = self.events;
+    }
+
+    /// The clock, tasks, processors, queues and weights.
+    pub fn world(&self) -> &World
+        ensures { result.now ≡ self.now.state.world }
+    {
+        self.machine.world()
+    }
+
+    /// The values of the policy's maps.
+    pub fn maps(&self) -> &Maps
+        ensures { result.now ≡ self.now.state.maps }
+    {
+        self.machine.maps()
     }
 
     /// How many events were accepted.
