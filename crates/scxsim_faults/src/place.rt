@@ -1,0 +1,59 @@
+use crate::created::Created;
+use scx_isa::{Callback, Helper, Pointer, Value};
+use scx_sched::Fault;
+use scx_vm::Arg;
+
+/// A helper's call, with what r1 to r5 held.
+#[derive(Clone, Copy)]
+pub struct HelperCall {
+    pub helper: Helper,
+    /// The number by which the program calls it.
+    pub number: i32,
+    pub arguments: [Value; 5],
+}
+
+impl HelperCall {
+    /// The number in the argument at that index, from 0; 0 where it is none.
+    pub(crate) fn number_at(&self, index: usize) -> u64 {
+        match self.arguments.get(index) {
+            Some(Value::Number(n)) => *n,
+            _ => 0,
+        }
+    }
+
+    /// The task in the argument at that index, from 0.
+    pub(crate) fn task_at(&self, index: usize) -> Option<u16> {
+        match self.arguments.get(index) {
+            Some(Value::Pointer(Pointer::Task(task))) => Some(task.0),
+            _ => None,
+        }
+    }
+}
+
+/// Where a callback's first fault came.
+#[derive(Clone, Copy)]
+pub struct FaultPlace {
+    pub callback: Callback,
+    /// The slot of the instruction, counted from 0.
+    pub slot: usize,
+    pub fault: Fault,
+    /// The call that had the fault. None where the callback's answer has it.
+    pub call: Option<HelperCall>,
+    /// What the callback answered.
+    pub answer: u64,
+    /// What the callback was given in r1.
+    pub given: Arg,
+    /// How many processors there are.
+    pub cpus: u32,
+    pub(crate) queues: Created,
+}
+
+impl FaultPlace {
+    /// The task that the callback is about; in dispatch the one that ran before, if there is one.
+    pub fn task(&self) -> Option<u16> {
+        match self.given {
+            Arg::Task(task) => Some(task.0),
+            Arg::Unset | Arg::Num(_) => None,
+        }
+    }
+}
