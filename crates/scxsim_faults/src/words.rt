@@ -169,11 +169,7 @@ fn write_argument<N: Names>(
     }
 }
 
-fn write_task<N: Names>(
-    task: Option<u16>,
-    names: &N,
-    said: &mut String,
-) -> Result<(), AllocError> {
+fn write_task<N: Names>(task: Option<u16>, names: &N, said: &mut String) -> Result<(), AllocError> {
     match task {
         Some(task) => said.push_str(names.task(task)),
         None => said.push_str("no task"),
@@ -195,7 +191,12 @@ pub fn write_reason<N: Names>(
         Fault::Stuck => said.push_str("it can't go on"),
         Fault::NoSuchQueue => write_no_queue(queue, said),
         Fault::CannotInsert => write_no_insert(place, &call, names, said),
-        Fault::Mixed => write!(said, "tasks wait in {} {}", QueueId(queue), other_order(&call)),
+        Fault::Mixed => write!(
+            said,
+            "tasks wait in {} {}",
+            QueueId(queue),
+            other_order(&call)
+        ),
         Fault::BuiltinVtime => write!(said, "by virtual time into {}", QueueId(queue)),
         Fault::NoSuchCpu => write_no_cpu(cpu_of(&call), place.cpus, said),
         Fault::UnknownFlag => write!(said, "flags other than 0 and 1"),
