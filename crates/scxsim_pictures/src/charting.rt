@@ -5,15 +5,16 @@ ghost use Rattle.scxsim_commands.specs.Outcome.{IfRefused, IsRefused};
 ghost use Rattle.scxsim_simulation.specs.Runs.{IsCause};
 ghost use Rattle.scxsim_pictures.specs.Documents.{document};
 
+use crate::arrows::Arrows;
 use crate::documents::{END, HEAD, titles};
-use crate::lengths::Lengths;
-use crate::objects::{count, entry, fault, slice, stall, wake};
+use crate::lengths::{Lengths, Stay};
+use crate::objects::{arrow_end, arrow_start, count, entry, fault, slice, stall, wait, wake};
 use crate::running::{Runners, Running};
 use crate::tracks::{CPUS, INSERTS, MOVES, PARKED};
 use crate::writing::write_document;
 use scx_load_workloads::Workload;
 use scx_sched::What;
-use scx_sched_world::LOCAL_ON;
+use scx_sched_world::{LOCAL_ON, PARKED as PARKED_QUEUE};
 use scxsim_commands::Fault;
 use scxsim_output::Out;
 use scxsim_simulation::{Listener, prepare};
@@ -56,6 +57,7 @@ struct Chart {
     runners: Runners,
     pauses: Pauses,
     lengths: Lengths,
+    arrows: Arrows,
 }
 
 impl Chart {
@@ -67,14 +69,18 @@ impl Chart {
             runners: Runners::new(alloc, workload.cpus())?,
             pauses: Pauses::new(alloc, workload.tasks().len())?,
             lengths: Lengths::new(alloc, workload.tasks().len())?,
+            arrows: Arrows::new(alloc, workload.tasks().len())?,
         })
     }
 
-    /// Makes what happens in the second place, and how many wait then in the queue that is left and in the
-    /// one that is entered in the third and the fourth.
+    /// Makes the wait that ends in the first place, what happens in the second, and how many wait then in the
+    /// queue that is left and in the one that is entered in the third and the fourth.
     fn put(&mut self, moment: u64, what: What) {
         match what {
-            What::Wake(task) => self.page.second = Some(wake(moment, task)),
+            What::Wake(task) => {
+                self.arrows.wake(task, moment);
+                self.page.second = Some(wake(moment, task));
+            }
             What::Sleep(task) => self.place(moment, task, None),
             What::Insert(task, queue) => self.enter(moment, INSERTS, task, queue),
             What::Move(task, cpu) => {
@@ -92,11 +98,21 @@ impl Chart {
         }
     }
 
-    /// Nobody runs on the processor any more. Who ran there is in the second place, if somebody did and not
-    /// for no time at all.
+    /// Nobody runs on the processor any more. If somebody did, and not for no time at all, who it was is in the
+    /// second place, and the arrow from its wake in the third and the fourth.
     fn stop(&mut self, moment: u64, cpu: u32) {
-        if let Some(running) = self.runners.stop(cpu) {
-            self.page.second = ran(running, cpu, moment);
+        let Some(running) = self.runners.stop(cpu) else {
+            return;
+        };
+        let Running { task, since } = running;
+        let arrow = self.arrows.stop(task);
+        if moment <= since {
+            return;
+        }
+        self.page.second = Some(slice(CPUS, cpu, task, since, moment));
+        if let Some(arrow) = arrow {
+            self.page.third = Some(arrow_start(task, arrow));
+            self.page.fourth = Some(arrow_end(cpu, since, arrow));
         }
     }
 
@@ -109,18 +125,31 @@ impl Chart {
 
     /// The task waits in that queue from now on, or nowhere.
     fn place(&mut self, moment: u64, task: u16, queue: Option<u64>) {
-        if let Some(before) = self.lengths.replace(task, queue) {
-            self.page.third = Some(count(moment, self.lengths.take(before)));
+        let stay = stay_in(queue, moment);
+        if let Some(before) = self.lengths.replace(task, stay) {
+            self.page.third = Some(count(moment, self.lengths.take(before.queue)));
+            self.leave(moment, task, before);
         }
+    }
+
+    /// The wait in a queue is over. It is in the first place, if it isn't for no time at all; when a task was
+    /// parked stands there anyway.
+    fn leave(&mut self, moment: u64, task: u16, stay: Stay) {
+        if stay.queue == PARKED_QUEUE || moment <= stay.since {
+            return;
+        }
+        self.arrows.show(task, stay.since);
+        self.page.first = Some(wait(task, stay.queue, stay.since, moment));
     }
 }
 
-/// Who ran on the processor, if not for no time at all.
-fn ran(running: Running, cpu: u32, moment: u64) -> Option<Line> {
-    if moment <= running.since {
-        return None;
-    }
-    Some(slice(CPUS, cpu, running.task, running.since, moment))
+/// A stay in that queue that begins at that moment, or none.
+fn stay_in(queue: Option<u64>, moment: u64) -> Option<Stay> {
+    let queue = queue?;
+    Some(Stay {
+        queue,
+        since: moment,
+    })
 }
 
 /// For how long a task was parked, if it was and not for no time at all.
@@ -163,6 +192,9 @@ impl Sketch for Chart {
     fn end_task(&mut self, moment: u64, task: u16) {
         self.page.clear();
         self.page.first = parked(self.pauses.open_pause(task, moment));
+        if let Some(stay) = self.lengths.stay(task) {
+            self.leave(moment, task, stay);
+        }
     }
 
     fn end(&mut self, _moment: u64) {

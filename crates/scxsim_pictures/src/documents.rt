@@ -1,4 +1,4 @@
-use crate::tracks::{CPUS, EJECTIONS, INSERTS, MOVES, PARKED, QUEUES, TASKS, WAKES};
+use crate::tracks::{CPUS, EJECTIONS, INSERTS, MOVES, PARKED, QUEUES, TASKS, WAITS, WAKES};
 use arrayvec::ArrayString;
 use scx_load_workloads::Workload;
 use scxsim_trace::Names;
@@ -15,10 +15,13 @@ pub(crate) fn titles(alloc: Global, workload: &Workload) -> Result<String, Alloc
     let mut text = String::new(alloc);
     push_cpus(&mut text, workload.cpus())?;
     push_tasks(&mut text)?;
-    push_title(&mut text, "process_name", QUEUES, 0, "queues")?;
+    push_group(&mut text, QUEUES, 3, "queues")?;
     if has_quotas(workload) {
-        push_parked(&mut text, workload)?;
+        push_group(&mut text, PARKED, 2, "parked")?;
+        push_names(&mut text, PARKED, workload)?;
     }
+    push_group(&mut text, WAITS, 1, "waits")?;
+    push_names(&mut text, WAITS, workload)?;
     Ok(text)
 }
 
@@ -31,9 +34,10 @@ fn has_quotas(workload: &Workload) -> bool {
 }
 
 fn push_cpus(text: &mut String, cpus: u32) -> Result<(), AllocError> {
-    push_title(text, "process_name", CPUS, 0, "processors")?;
+    push_group(text, CPUS, 0, "processors")?;
     for cpu in 0..cpus {
         push_title(text, "thread_name", CPUS, cpu, cpu_name(cpu).as_str())?;
+        push_place(text, "thread_sort_index", CPUS, cpu, cpu)?;
     }
     Ok(())
 }
@@ -45,23 +49,43 @@ fn cpu_name(cpu: u32) -> ArrayString<16> {
 }
 
 fn push_tasks(text: &mut String) -> Result<(), AllocError> {
-    push_title(text, "process_name", TASKS, 0, "tasks")?;
+    push_group(text, TASKS, 4, "tasks")?;
     push_title(text, "thread_name", TASKS, WAKES, "wakes")?;
     push_title(text, "thread_name", TASKS, INSERTS, "inserts")?;
     push_title(text, "thread_name", TASKS, MOVES, "moves")?;
     push_title(text, "thread_name", TASKS, EJECTIONS, "ejections")
 }
 
-/// Each task has a track for when it is parked.
-fn push_parked(text: &mut String, workload: &Workload) -> Result<(), AllocError> {
-    push_title(text, "process_name", PARKED, 0, "parked")?;
+/// Each task has a track in that group, in the workload's order.
+fn push_names(text: &mut String, pid: u32, workload: &Workload) -> Result<(), AllocError> {
     let mut task = 0u16;
     for _group in workload.tasks() {
-        let name = workload.task(task);
-        push_title(text, "thread_name", PARKED, u32::from(task), name)?;
+        let track = u32::from(task);
+        push_title(text, "thread_name", pid, track, workload.task(task))?;
+        push_place(text, "thread_sort_index", pid, track, track)?;
         task = task.saturating_add(1);
     }
     Ok(())
+}
+
+/// Appends the title of a group of tracks, and its place among the others.
+fn push_group(text: &mut String, pid: u32, place: u32, title: &str) -> Result<(), AllocError> {
+    push_title(text, "process_name", pid, 0, title)?;
+    push_place(text, "process_sort_index", pid, 0, place)
+}
+
+/// Appends the place of a group of tracks among the others, or of a track in its group. Some title stands before.
+fn push_place(
+    text: &mut String,
+    what: &str,
+    pid: u32,
+    tid: u32,
+    place: u32,
+) -> Result<(), AllocError> {
+    write!(
+        text,
+        ",\n{{\"ph\":\"M\",\"pid\":{pid},\"tid\":{tid},\"name\":\"{what}\",\"args\":{{\"sort_index\":{place}}}}}"
+    )
 }
 
 /// Appends that a group of tracks, or a track, as `what` says, has that title. No title has a character that

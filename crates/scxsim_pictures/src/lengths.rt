@@ -20,10 +20,17 @@ pub(crate) struct Length {
     pub(crate) tasks: u64,
 }
 
+/// In which queue a task waits, and since which moment.
+#[derive(Clone, Copy)]
+pub(crate) struct Stay {
+    pub(crate) queue: u64,
+    pub(crate) since: u64,
+}
+
 /// Which queue each task waits in, and how many wait in each queue.
 #[derive(Drop)]
 pub(crate) struct Lengths {
-    places: Vec<Option<u64>>,
+    stays: Vec<Option<Stay>>,
     queues: ArrayVec<Length, MAX_QUEUES>,
 }
 
@@ -31,16 +38,21 @@ impl Lengths {
     /// So many tasks wait nowhere.
     pub(crate) fn new(alloc: Global, tasks: usize) -> Result<Lengths, AllocError> {
         Ok(Lengths {
-            places: vec![in alloc; None; tasks]?,
+            stays: vec![in alloc; None; tasks]?,
             queues: ArrayVec::new(),
         })
     }
 
-    /// The task comes to wait in that queue, or nowhere. The answer is where it waited before.
-    pub(crate) fn replace(&mut self, task: u16, queue: Option<u64>) -> Option<u64> {
-        let place = self.places.get_mut(task as usize)?;
+    /// Where the task waits.
+    pub(crate) fn stay(&self, task: u16) -> Option<Stay> {
+        *self.stays.get(task as usize)?
+    }
+
+    /// The task comes to wait there, or nowhere. The answer is where it waited before.
+    pub(crate) fn replace(&mut self, task: u16, stay: Option<Stay>) -> Option<Stay> {
+        let place = self.stays.get_mut(task as usize)?;
         let before = *place;
-        *place = queue;
+        *place = stay;
         before
     }
 

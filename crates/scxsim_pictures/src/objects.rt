@@ -5,8 +5,9 @@
 ghost use Rattle.std.specs.Prelude.{◌+◌, ◌≤◌, length};
 ghost use Rattle.arrayvec.specs.ArrayString.{array_string_len};
 
+use crate::arrows::Arrow;
 use crate::lengths::Length;
-use crate::tracks::{EJECTIONS, QUEUES, TASKS, WAKES};
+use crate::tracks::{CPUS, EJECTIONS, QUEUES, TASKS, WAITS, WAKES};
 use scx_sched_world::{BUILTIN, GLOBAL, HELD, PARKED, POLICY_END};
 use scxsim_views::{Line, Part, push_number};
 
@@ -15,6 +16,21 @@ const MS: u64 = 1000;
 
 /// From one moment to another a task ran on a processor, or was parked.
 pub(crate) fn slice(pid: u32, tid: u32, task: u16, since: u64, until: u64) -> Line {
+    named(slice_start(pid, tid, since, until), task, name_end())
+}
+
+/// From one moment to another a task waited in a queue.
+pub(crate) fn wait(task: u16, queue: u64, since: u64, until: u64) -> Line {
+    let mut text = slice_start(WAITS, u32::from(task), since, until);
+    push_queue(&mut text, queue);
+    text.push_str("\"}");
+    Line::nameless(text)
+}
+
+/// What stands before the name of a slice.
+fn slice_start(pid: u32, tid: u32, since: u64, until: u64) -> Part
+    ensures { array_string_len result ≤ 150 }
+{
     let mut start = Part::new();
     push_number(&mut start, ",\n{\"ph\":\"X\",\"pid\":", u64::from(pid));
     push_number(&mut start, ",\"tid\":", u64::from(tid));
@@ -22,7 +38,38 @@ pub(crate) fn slice(pid: u32, tid: u32, task: u16, since: u64, until: u64) -> Li
     let length = until.saturating_sub(since);
     push_number(&mut start, ",\"dur\":", length.saturating_mul(MS));
     start.push_str(",\"name\":\"");
-    named(start, task, name_end())
+    start
+}
+
+/// An arrow begins at the slice of a task that waits, where it woke.
+pub(crate) fn arrow_start(task: u16, arrow: Arrow) -> Line {
+    let mut text = arrow_at("s", WAITS, u32::from(task), arrow.moment);
+    push_number(&mut text, ",\"id\":", arrow.number);
+    text.push_str("}");
+    Line::nameless(text)
+}
+
+/// It ends at the slice of a processor, where the task began to run.
+pub(crate) fn arrow_end(cpu: u32, moment: u64, arrow: Arrow) -> Line {
+    let mut text = arrow_at("f", CPUS, cpu, moment);
+    push_number(&mut text, ",\"bp\":\"e\",\"id\":", arrow.number);
+    text.push_str("}");
+    Line::nameless(text)
+}
+
+/// What stands before the number of an arrow.
+fn arrow_at(phase: &str, pid: u32, tid: u32, moment: u64) -> Part
+    requires { length phase.now ≤ 1 }
+    ensures { array_string_len result ≤ 150 }
+{
+    let mut text = Part::new();
+    text.push_str(",\n{\"ph\":\"");
+    text.push_str(phase);
+    push_number(&mut text, "\",\"pid\":", u64::from(pid));
+    push_number(&mut text, ",\"tid\":", u64::from(tid));
+    push_number(&mut text, ",\"ts\":", moment.saturating_mul(MS));
+    text.push_str(",\"cat\":\"wake\",\"name\":\"wake\"");
+    text
 }
 
 /// A task wakes.

@@ -9,6 +9,9 @@ pub(crate) const QUEUES: u32 = 2;
 /// When tasks are parked.
 pub(crate) const PARKED: u32 = 3;
 
+/// When tasks wait, by queue.
+pub(crate) const WAITS: u32 = 4;
+
 pub(crate) const WAKES: u32 = 0;
 
 pub(crate) const INSERTS: u32 = 1;
