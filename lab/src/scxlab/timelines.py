@@ -8,6 +8,8 @@ from pathlib import Path
 from scxlab.errors import LabError
 from scxlab.recording import Burst, Recording
 
+# The tracks of waits, which inserts and slices say too.
+WAITS = 4
 # An event's sort, its process and its track, as docs/FILES.md has them.
 WAKE, INSERT, EJECTION = ("i", 1, 0), ("i", 1, 1), ("i", 1, 3)
 
@@ -39,7 +41,7 @@ def read_timeline(path):
 def events_of(path):
     try:
         events = json.loads(Path(path).read_text())["traceEvents"]
-        return [event for event in events if event["ph"] in "MXiC"]
+        return [event for event in events if event["ph"] in "MXiC" and event["pid"] != WAITS]
     except (ValueError, KeyError, TypeError) as error:
         raise LabError(f"{path}: is no timeline of scxsim") from error
 

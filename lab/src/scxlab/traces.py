@@ -84,11 +84,11 @@ def part_of(lengths, percent):
 
 
 def slices_of(timeline):
-    """Each slice of a timeline: what it is (`run` or `parked`), the task, its processor, when it began and its length.
-    An event has a line of its own, so only one at a time is taken apart."""
+    """Each slice of a timeline in which a task ran or was parked: what it is (`run` or `parked`), the task, its
+    processor, when it began and its length. An event has a line of its own, so only one at a time is taken apart."""
     slices = []
     for line in timeline.splitlines():
-        if line.startswith('{"ph":"X"'):
+        if line.startswith(('{"ph":"X","pid":0,', '{"ph":"X","pid":3,')):
             event = json.loads(line.rstrip(",]}") + "}")
             kind, cpu = ("run", event["tid"]) if event["pid"] == 0 else ("parked", -1)
             slices.append((kind, event["name"], cpu, event["ts"] // 1000, event["dur"] // 1000))
