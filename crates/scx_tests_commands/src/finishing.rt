@@ -92,7 +92,11 @@ fn words_are_named(rt: HostRuntime) {
     refuses(&rt, from, "refused: word FROM: out of range\n");
     let to = Refusal::OutOfRange(Word::To);
     refuses(&rt, to, "refused: word TO: out of range\n");
-    refuses(&rt, Refusal::NoSuchTask, "refused: word TASK: no such task\n");
+    refuses(
+        &rt,
+        Refusal::NoSuchTask,
+        "refused: word TASK: no such task\n",
+    );
 }
 
 const CAUSES: [(Cause, &str); 14] = [
