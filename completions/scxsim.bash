@@ -21,11 +21,11 @@ _scxsim() {
     local current=${COMP_WORDS[COMP_CWORD]}
     COMPREPLY=()
     if [ "$COMP_CWORD" -eq 1 ]; then
-        _scxsim_words "verify explain run report stats stats-csv why story timeline picture gantt gantt-part exec asm dis cases help --help --version"
+        _scxsim_words "verify explain run report stats stats-csv why story timeline picture gantt gantt-part replay replay-csv exec asm dis cases help --help --version"
         return
     fi
     case ${COMP_WORDS[1]},$COMP_CWORD in
-        help,2) _scxsim_words "verify explain run report stats stats-csv why story timeline picture gantt gantt-part exec asm dis cases" ;;
+        help,2) _scxsim_words "verify explain run report stats stats-csv why story timeline picture gantt gantt-part replay replay-csv exec asm dis cases" ;;
         verify,2) _scxsim_files toml ;;
         explain,2) _scxsim_files toml ;;
         run,2) _scxsim_files toml ;;
@@ -49,6 +49,10 @@ _scxsim() {
         gantt,3) _scxsim_files toml ;;
         gantt-part,2) _scxsim_files toml ;;
         gantt-part,3) _scxsim_files toml ;;
+        replay,2) _scxsim_files toml ;;
+        replay,3) _scxsim_files toml ;;
+        replay-csv,2) _scxsim_files toml ;;
+        replay-csv,3) _scxsim_files toml ;;
         exec,2) _scxsim_files bin ;;
         asm,2) _scxsim_files asm ;;
         dis,2) _scxsim_files bin ;;
