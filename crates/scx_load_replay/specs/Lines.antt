@@ -1,5 +1,5 @@
--- What a line of a file of events says: `MS wake TASK`, `MS sleep TASK` or `MS weight GROUP W`, with
--- one space between words. An empty line says nothing.
+-- What a line of a file of events says: `MS wake TASK`, `MS sleep TASK` or `MS weight GROUP W`,
+-- with one space between words. An empty line says nothing.
 use Rattle.std.specs.Prelude.{ℕ, ◌+◌, ◌-◌, ◌==◌, ◌&&◌, nat_le, Bool, List, [], ◌∷◌, ◌++◌, length, take, drop, Option, Some, None, codes, Result, Ok, Err, if◌then◌else◌}
 use Rattle.std.specs.List.{position}
 use Rattle.std.specs.Str.{bytes_eq}

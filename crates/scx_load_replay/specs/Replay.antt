@@ -42,8 +42,8 @@ awake_after awake (event.SetWeight g x) = awake
 awake_after awake (event.Tick c) = awake
 awake_after awake event.Clock = awake
 
--- a line may come: its event is of a task that sleeps and wakes, or is awake and goes to sleep, or of
--- a group and a weight in its limits
+-- a line may come: its event is of a task that sleeps and wakes, or is awake and goes to sleep,
+-- or of a group and a weight in its limits
 abbrev pub Fits : WorkloadState → List Bool → Event → Type 0
 Fits w awake (event.Wake t) = (t < length w.homes) × (is_awake awake t ≡ false)
 Fits w awake (event.Sleep t) = (t < length w.homes) × (is_awake awake t ≡ true)
@@ -51,8 +51,8 @@ Fits w awake (event.SetWeight g x) = (g < length w.groups) × (1 ≤ x) × (x �
 Fits w awake (event.Tick c) = ⊥
 Fits w awake event.Clock = ⊥
 
--- lines behind an event of that millisecond and block, with these tasks awake: each comes before the
--- end of the run, none before the line above it, and the event of each fits
+-- lines behind an event of that millisecond and block, with these tasks awake: each comes before
+-- the end of the run, none before the line above it, and the event of each fits
 abbrev pub Follow : WorkloadState → ℕ → ℕ → List Bool → List Line → Type 0
 Follow w at block awake [] = Unit {0}
 Follow w at block awake (l ∷ ls) =

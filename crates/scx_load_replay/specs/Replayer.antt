@@ -7,8 +7,8 @@ use Rattle.scx_load_replay.specs.declared.lines.Line.{Line}
 use Rattle.scx_load_replay.specs.declared.replayer.Replayer.TheInside.{Inside}
 use Rattle.scx_load_replay.specs.Events.{is_before_ticks, is_behind_ticks, first_events, lines_behind, ticks_from, events_from}
 
--- the milliseconds that aren't over, from m on, how many processors of the first have ticked, and the
--- lines that are left
+-- the milliseconds that aren't over, from m on, how many processors of the first have ticked,
+-- and the lines that are left
 pub record ReplayerState : Type 0 where
   pub cpus : ℕ
   pub m : ℕ

@@ -1,5 +1,5 @@
--- What the texts of a policy file and of a file of events say together: a run, with its trace, or why
--- they are refused.
+-- What the texts of a policy file and of a file of events say together: a run, with its trace, or
+-- why they are refused.
 use Rattle.std.specs.Prelude.{◌≡◌, ℕ, ℤ, List, ⊤, Ok, Err, IsOk, string_bytes}
 use Rattle.scx_isa_semantics.specs.declared.callbacks.Callback as callbacks
 use Rattle.scx_verify.specs.declared.faults.Fault.{Fault}
@@ -20,8 +20,8 @@ use Rattle.scxsim_commands.specs.declared.refusal.Refusal.{Refusal}
 use Rattle.scxsim_commands.specs.declared.refusal.Refusal.TheVariants.{NoMemory, Policy, Events, Callback, Init}
 use Rattle.scxsim_simulation.specs.Runs.{IsBegun, IsPolicyFault}
 
--- the texts stand for the run of that file of events from that first state on; none of its events is
--- refused
+-- the texts stand for the run of that file of events from that first state on; none of its events
+-- is refused
 pub record IsReplayRun (policy events : List ℕ) (r : ReplayState) (s : SimState) : Type 0 where
   pub begun : IsBegun policy r.workload s
   pub events_read : replay_of events ≡ Ok r
