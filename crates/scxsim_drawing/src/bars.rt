@@ -1,0 +1,78 @@
+use crate::places::Stretch;
+use crate::scales::Scale;
+use std::alloc::{AllocError, Global};
+
+/// How many bars of their own a picture has, at most: as many as are wide enough.
+const MOST: usize = 9500;
+
+/// With how many rows a picture still has wakes.
+const WAKE_ROWS: usize = 40;
+
+/// How many wakes a row has, at most, and how far they are from each other, in hundredths of a pixel.
+const WAKES_A_ROW: usize = 170;
+
+const APART: u64 = 800;
+
+/// What a task did, in a row, as a bar of its own.
+#[derive(Clone, Copy)]
+pub(crate) struct Bar {
+    pub(crate) row: usize,
+    pub(crate) stretch: Stretch,
+    pub(crate) colour: usize,
+}
+
+/// A task woke: its row, and where that is.
+#[derive(Clone, Copy)]
+pub(crate) struct Woken {
+    pub(crate) row: usize,
+    pub(crate) x: u64,
+}
+
+/// The bars of a picture, in the order of their ends, and the wakes.
+#[derive(Drop)]
+pub(crate) struct Bars {
+    pub(crate) bars: Vec<Bar>,
+    pub(crate) wakes: Vec<Woken>,
+    most_wakes: usize,
+    /// Where the next wake of each row may be.
+    next: Vec<u64>,
+}
+
+impl Bars {
+    /// No bars for so many rows.
+    pub(crate) fn new(alloc: Global, rows: usize) -> Result<Bars, AllocError> {
+        let most_wakes = if rows <= WAKE_ROWS {
+            rows.saturating_mul(WAKES_A_ROW)
+        } else {
+            0
+        };
+        let bars = Vec::with_capacity(alloc, MOST)?;
+        let wakes = Vec::with_capacity(alloc, most_wakes)?;
+        Ok(Bars {
+            bars,
+            wakes,
+            most_wakes,
+            next: vec![in alloc; 0; rows]?,
+        })
+    }
+
+    /// Keeps a bar, if there is room for it. The answer is whether there is.
+    pub(crate) fn push(&mut self, bar: Bar) -> bool {
+        self.bars.len() < MOST && self.bars.push(bar).is_ok()
+    }
+
+    /// A task woke in that row. It is kept where there is room for it.
+    pub(crate) fn wake(&mut self, row: usize, scale: Scale, moment: u64) {
+        if !scale.has(moment) || self.wakes.len() >= self.most_wakes {
+            return;
+        }
+        let x = scale.x(moment);
+        let Some(next) = self.next.get_mut(row) else {
+            return;
+        };
+        if *next <= x {
+            *next = x.saturating_add(APART);
+            let _ = self.wakes.push(Woken { row, x });
+        }
+    }
+}

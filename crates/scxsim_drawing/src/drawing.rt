@@ -1,0 +1,170 @@
+use crate::cells::{Cells, Coat};
+use crate::gathering::Picture;
+use crate::rows::Row;
+use crate::shades::Shade;
+use crate::sheets::Sheet;
+use crate::styles::{DARK, LIGHT, OTHERS, QUEUES};
+use std::alloc::{AllocError, Global};
+
+/// How far the first row is below the legend, in pixels: the notes and the axis are there.
+const AXIS: u64 = 58;
+
+/// What is left below the last row.
+const BELOW: u64 = 16;
+
+/// The classes of the colours of columns.
+const STROKES: [&str; 6] = ["c0", "c1", "c2", "c3", "c4", "c5"];
+
+fn stroke(colour: usize) -> &'static str {
+    STROKES.get(colour).copied().unwrap_or("c6")
+}
+
+/// Makes the text of a picture, but for its first words and its end.
+pub(crate) fn draw(alloc: Global, picture: &Picture, title: &str) -> Result<String, AllocError> {
+    let columns = picture.gathered.layout.scale.columns as usize;
+    let mut cells = Cells::new(alloc, columns)?;
+    let mut sheet = Sheet::new(alloc);
+    picture.draw_all(&mut sheet, &mut cells, title);
+    drop(cells);
+    sheet.text()
+}
+
+impl Picture {
+    fn draw_all(&self, sheet: &mut Sheet, cells: &mut Cells, title: &str) {
+        self.draw_head(sheet, title);
+        self.draw_heading(sheet, title);
+        let top = self.legend_end().saturating_add(AXIS);
+        sheet.put_number("<g transform=\"translate(0 ", top);
+        sheet.put(")\">\n");
+        self.draw_ground(sheet);
+        self.draw_axis(sheet);
+        self.draw_names(sheet);
+        self.draw_strips(sheet);
+        self.draw_sums(sheet, cells);
+        self.draw_bars(sheet);
+        self.draw_wakes(sheet);
+        self.draw_waits(sheet);
+        self.draw_ejection(sheet);
+        sheet.put("</g>\n");
+    }
+
+    /// Adds the size of the picture, its colours and its paper.
+    fn draw_head(&self, sheet: &mut Sheet, title: &str) {
+        let high = self
+            .legend_end()
+            .saturating_add(AXIS)
+            .saturating_add(self.gathered.layout.high)
+            .saturating_add(BELOW);
+        sheet.put_number("width=\"1600\" height=\"", high);
+        sheet.put_number("\" viewBox=\"0 0 1600 ", high);
+        sheet.put("\" role=\"img\" font-family=\"system-ui, DejaVu Sans, sans-serif\" ");
+        sheet.put("font-size=\"12\">\n<title>");
+        sheet.put_quoted(title);
+        sheet.put("</title>\n");
+        sheet.put(LIGHT);
+        sheet.put(DARK);
+        sheet.put("</style>\n");
+        sheet.put(QUEUES);
+        sheet.put(OTHERS);
+        sheet.put_number("<path class=\"paper\" d=\"M0 0h1600v", high);
+        sheet.put("h-1600z\"/>\n");
+    }
+
+    /// Draws the ground behind the time after an ejection.
+    fn draw_ground(&self, sheet: &mut Sheet) {
+        let layout = &self.gathered.layout;
+        let Some(ejection) = self.gathered.ejection else {
+            return;
+        };
+        if ejection.moment() >= layout.scale.to {
+            return;
+        }
+        let x = layout.scale.x(ejection.moment());
+        sheet.put_hundredths("<path class=\"wrong\" opacity=\".07\" d=\"M", x);
+        sheet.put_hundredths(" -4H", layout.scale.end_x());
+        sheet.put_number("V", layout.high);
+        sheet.put_hundredths("H", x);
+        sheet.put("z\"/>\n");
+    }
+
+    /// Draws the line of an ejection, if it is in the picture.
+    fn draw_ejection(&self, sheet: &mut Sheet) {
+        let layout = &self.gathered.layout;
+        let Some(ejection) = self.gathered.ejection else {
+            return;
+        };
+        let moment = ejection.moment();
+        if !layout.scale.has(moment) {
+            return;
+        }
+        let x = layout.scale.x(moment);
+        sheet.put_hundredths("<path class=\"frame\" stroke-width=\"2\" d=\"M", x);
+        sheet.put_number(" -26V", layout.high);
+        sheet.put_hundredths("\"/><text class=\"wrong h\" x=\"", x.saturating_add(500));
+        sheet.put("\" y=\"-26\">ejected</text>\n");
+    }
+
+    /// Draws what is added up in columns, of all rows.
+    fn draw_sums(&self, sheet: &mut Sheet, cells: &mut Cells) {
+        let mut place = 0usize;
+        for row in &self.gathered.layout.rows {
+            if row.has_runs() {
+                self.draw_row(sheet, cells, place, *row);
+            }
+            place = place.saturating_add(1);
+        }
+    }
+
+    fn draw_row(&self, sheet: &mut Sheet, cells: &mut Cells, place: usize, row: Row) {
+        let step = self.gathered.layout.scale.step;
+        let most = row.members.min(u64::from(self.workload.cpus()));
+        let unit = step.saturating_mul(row.members);
+        cells.take(&self.gathered.sums.ran, place, step.saturating_mul(most));
+        let coat = Coat {
+            class: "c6",
+            words: " ran",
+            band: row.runs(),
+            shade: None,
+        };
+        if row.is_cpu() {
+            self.draw_cpu(sheet, cells, place, coat);
+            cells.take(&self.gathered.sums.waited, place, unit);
+            self.draw_idle(sheet, cells, row);
+            return;
+        }
+        let class = stroke(row.colour);
+        self.draw_cells(sheet, cells, place, Coat { class, ..coat });
+        cells.take(&self.gathered.sums.waited, place, unit);
+        let waited = Coat {
+            class: "cw",
+            words: " waited",
+            band: row.waits(),
+            shade: None,
+        };
+        self.draw_cells(sheet, cells, place, waited);
+        cells.take(&self.gathered.sums.parked, place, unit);
+        let parked = Coat {
+            class: "cp",
+            words: " was parked",
+            ..waited
+        };
+        self.draw_cells(sheet, cells, place, parked);
+    }
+
+    /// Draws who ran on a processor: columns of tasks of one colour have that.
+    fn draw_cpu(&self, sheet: &mut Sheet, cells: &Cells, place: usize, coat: Coat) {
+        for colour in 0..STROKES.len() {
+            let one = Coat {
+                class: stroke(colour),
+                shade: Some(Shade::One(colour)),
+                ..coat
+            };
+            self.draw_cells(sheet, cells, place, one);
+        }
+        let several = Coat {
+            shade: Some(Shade::Several),
+            ..coat
+        };
+        self.draw_cells(sheet, cells, place, several);
+    }
+}

@@ -1,0 +1,36 @@
+use scx_sched::What;
+
+/// When and why the policy was ejected.
+#[derive(Clone, Copy)]
+pub(crate) enum Ejection {
+    Stall { moment: u64, task: u16 },
+    Fault { moment: u64, number: u8 },
+}
+
+impl Ejection {
+    /// The ejection that this is, if it is one.
+    pub(crate) fn of(moment: u64, what: What) -> Option<Ejection> {
+        match what {
+            What::Stall(task) => Some(Ejection::Stall { moment, task }),
+            What::Fault(fault) => {
+                let number = fault.number();
+                Some(Ejection::Fault { moment, number })
+            }
+            What::Wake(_)
+            | What::Sleep(_)
+            | What::Insert(_, _)
+            | What::Move(_, _)
+            | What::Run(_, _)
+            | What::Stop(_, _)
+            | What::Idle(_)
+            | What::Weight(_, _) => None,
+        }
+    }
+
+    pub(crate) fn moment(self) -> u64 {
+        match self {
+            Ejection::Stall { moment, .. } => moment,
+            Ejection::Fault { moment, .. } => moment,
+        }
+    }
+}

@@ -1,0 +1,340 @@
+use crate::ejections::Ejection;
+use crate::gathering::Picture;
+use crate::moments::put_time;
+use crate::rows::Folding;
+use crate::sheets::Sheet;
+
+/// Where the first line of a legend is, how far its lines are from each other, and how wide they are, in pixels.
+const TOP: u64 = 56;
+
+const LINE: u64 = 22;
+
+const RIGHT: u64 = 1584;
+
+/// How wide two letters of a legend are, and what stands before and behind the words.
+const TWO_LETTERS: u64 = 13;
+
+const SWATCH: u64 = 58;
+
+/// How many entries a legend has, at most: the last ones are those of the policy's queues.
+const ENTRIES: usize = 27;
+
+/// The place in a legend of the first queue of the policy.
+const FIRST_QUEUE: usize = 11;
+
+/// Where an entry of the legend stands, in pixels.
+#[derive(Clone, Copy)]
+pub(crate) struct Pen {
+    x: u64,
+    pub(crate) y: u64,
+}
+
+impl Pen {
+    /// Where the first entry stands.
+    fn first() -> Pen {
+        Pen { x: 16, y: TOP }
+    }
+
+    /// Where an entry of that width stands.
+    fn at(self, width: u64) -> Pen {
+        if self.x.saturating_add(width) > RIGHT {
+            Pen {
+                x: 16,
+                y: self.y.saturating_add(LINE),
+            }
+        } else {
+            self
+        }
+    }
+
+    /// What stands behind an entry of that width.
+    fn behind(self, width: u64) -> Pen {
+        Pen {
+            x: self.x.saturating_add(width),
+            y: self.y,
+        }
+    }
+}
+
+/// An entry of the legend: what is drawn before its words, and a number behind them, if any.
+#[derive(Clone, Copy)]
+struct Entry {
+    swatch: &'static str,
+    words: &'static str,
+    number: Option<u64>,
+}
+
+impl Entry {
+    fn new(swatch: &'static str, words: &'static str) -> Option<Entry> {
+        Some(Entry {
+            swatch,
+            words,
+            number: None,
+        })
+    }
+
+    fn width(self) -> u64 {
+        let letters = (self.words.len() as u64).saturating_add(digits(self.number));
+        (letters.saturating_mul(TWO_LETTERS) / 2).saturating_add(SWATCH)
+    }
+}
+
+/// How many digits a number has, if there is one.
+fn digits(number: Option<u64>) -> u64 {
+    let Some(number) = number else {
+        return 0;
+    };
+    let mut rest = number;
+    let mut count = 1u64;
+    for _ in 0..20 {
+        if rest >= 10 {
+            rest /= 10;
+            count = count.saturating_add(1);
+        }
+    }
+    count
+}
+
+/// The entry, if there is such a thing in the picture.
+fn entry_if(is_there: bool, swatch: &'static str, words: &'static str) -> Option<Entry> {
+    if is_there {
+        Entry::new(swatch, words)
+    } else {
+        None
+    }
+}
+
+/// The swatches of the queues of a policy.
+const QUEUES: [&str; 8] = [
+    "<path class=\"q0\" d=\"M0 0h30v12h-30z\"/>",
+    "<path class=\"q1\" d=\"M0 0h30v12h-30z\"/>",
+    "<path class=\"q2\" d=\"M0 0h30v12h-30z\"/>",
+    "<path class=\"q3\" d=\"M0 0h30v12h-30z\"/>",
+    "<path class=\"q4\" d=\"M0 0h30v12h-30z\"/>",
+    "<path class=\"q5\" d=\"M0 0h30v12h-30z\"/>",
+    "<path class=\"q6\" d=\"M0 0h30v12h-30z\"/>",
+    "<path class=\"q7\" d=\"M0 0h30v12h-30z\"/>",
+];
+
+impl Picture {
+    /// Where the legend ends, in pixels.
+    pub(crate) fn legend_end(&self) -> u64 {
+        let mut pen = Pen::first();
+        for place in 0..ENTRIES {
+            if let Some(entry) = self.entry(place) {
+                pen = pen.at(entry.width()).behind(entry.width());
+            }
+        }
+        pen.y.saturating_add(LINE)
+    }
+
+    /// Draws the title, the legend, and what is added up. The answer is where that ends, in pixels.
+    pub(crate) fn draw_heading(&self, sheet: &mut Sheet, title: &str) {
+        self.draw_title(sheet, title);
+        let mut pen = Pen::first();
+        for place in 0..ENTRIES {
+            if let Some(entry) = self.entry(place) {
+                pen = pen.at(entry.width());
+                draw_entry(sheet, entry, pen);
+                pen = pen.behind(entry.width());
+            }
+        }
+        self.draw_notes(sheet);
+    }
+
+    fn draw_title(&self, sheet: &mut Sheet, title: &str) {
+        sheet.put("<text x=\"16\" y=\"32\"><tspan font-size=\"20\" font-weight=\"650\">");
+        sheet.put_quoted(title);
+        sheet.put("</tspan><tspan dx=\"16\" font-size=\"14\" font-weight=\"600\"");
+        self.put_end(sheet);
+        sheet.put("</tspan><tspan dx=\"16\" font-size=\"13\" class=\"faint\">");
+        self.put_counts(sheet);
+        sheet.put("</tspan></text>\n");
+    }
+
+    /// Adds how the policy ended.
+    fn put_end(&self, sheet: &mut Sheet) {
+        match self.gathered.ejection {
+            None => sheet.put(">in force to the end"),
+            Some(Ejection::Stall { moment, task }) => {
+                sheet.put(" class=\"wrong\">ejected at ");
+                put_time(sheet, moment);
+                sheet.put(": stall of ");
+                sheet.put(self.task_name(task));
+            }
+            Some(Ejection::Fault { moment, number }) => {
+                sheet.put(" class=\"wrong\">ejected at ");
+                put_time(sheet, moment);
+                sheet.put_number(": fault ", u64::from(number));
+            }
+        }
+    }
+
+    fn put_counts(&self, sheet: &mut Sheet) {
+        let scale = self.gathered.layout.scale;
+        let tasks = self.workload.tasks().len() as u64;
+        let ms = u64::from(self.workload.ms());
+        put_count(sheet, u64::from(self.workload.cpus()), " processor");
+        sheet.put(", ");
+        put_count(sheet, tasks, " task");
+        sheet.put(", ");
+        if scale.length() < ms {
+            put_time(sheet, scale.from);
+            sheet.put(" to ");
+            put_time(sheet, scale.to);
+            sheet.put(" of ");
+        }
+        put_time(sheet, ms);
+    }
+
+    /// Adds what is added up, below the legend.
+    fn draw_notes(&self, sheet: &mut Sheet) {
+        let layout = &self.gathered.layout;
+        let notes = match layout.folding {
+            Folding::Nothing => "",
+            Folding::Tasks => " Tasks are added up by groups.",
+            Folding::Cpus => " Processors are added up by fours, tasks by groups.",
+            Folding::Groups(_) => {
+                " Processors are added up by fours, and groups with those within them."
+            }
+        };
+        if layout.scale.step == 1 && notes.is_empty() {
+            return;
+        }
+        let y = self.legend_end().saturating_add(12);
+        sheet.put_number("<text class=\"faint\" x=\"16\" y=\"", y);
+        sheet.put_number("\">A column is ", layout.scale.step);
+        sheet.put(" ms: the darker it is, the more of it ran or waited.");
+        sheet.put(notes);
+        sheet.put("</text>\n");
+    }
+
+    /// The entry in that place of the legend, if there is one.
+    fn entry(&self, place: usize) -> Option<Entry> {
+        if place >= FIRST_QUEUE {
+            return self.queue_entry(place.saturating_sub(FIRST_QUEUE));
+        }
+        if place < 5 {
+            self.entry_of_runs(place)
+        } else {
+            self.entry_of_waits(place)
+        }
+    }
+
+    fn entry_of_runs(&self, place: usize) -> Option<Entry> {
+        let layout = &self.gathered.layout;
+        let is_folded = layout.folding.by_group() || layout.rows.len() > 40;
+        match place {
+            0 => Entry::new(
+                "<path class=\"b0\" d=\"M0 0h14v12h-14z\"/><path class=\"b1\" d=\"M16 0h14v12h-14z\"/>",
+                self.runs_words(),
+            ),
+            1 => entry_if(
+                self.has_several(),
+                "<path class=\"several\" d=\"M0 0h30v12h-30z\"/>",
+                "several of them in turn",
+            ),
+            2 => entry_if(
+                !is_folded,
+                "<path class=\"ink\" d=\"M15 2l4 8h-8z\"/>",
+                "wakes",
+            ),
+            3 => entry_if(
+                layout.strips > 0,
+                "<path class=\"b3\" opacity=\".5\" d=\"M0 7h30v5h-30z\"/>\
+<path class=\"qi\" d=\"M0 2h30v5h-30z\"/><path class=\"edge\" d=\"M0 1.5h30\"/>",
+                "a group's share; line: what is due by weight; hatched: it lacks",
+            ),
+            _ => Entry::new(
+                "<path class=\"qi\" d=\"M0 0h30v12h-30z\"/>",
+                "idle while somebody waits",
+            ),
+        }
+    }
+
+    fn entry_of_waits(&self, place: usize) -> Option<Entry> {
+        let queues = &self.gathered.queues;
+        match place {
+            5 => entry_if(
+                queues.short,
+                "<path class=\"cw\" stroke-width=\"12\" d=\"M0 6h30\"/>",
+                "waits, in any queue",
+            ),
+            6 => entry_if(
+                queues.global,
+                "<path class=\"qg\" d=\"M0 0h30v12h-30z\"/>",
+                "waits, global queue",
+            ),
+            7 => entry_if(
+                queues.local,
+                "<path class=\"ql\" d=\"M0 0h30v12h-30z\"/>",
+                "waits, local queue",
+            ),
+            8 => entry_if(
+                queues.held,
+                "<path class=\"qh\" d=\"M0 0h30v12h-30z\"/>",
+                "held: in no queue",
+            ),
+            9 => entry_if(
+                queues.built_in,
+                "<path class=\"qb\" d=\"M0 0h30v12h-30z\"/>",
+                "waits, built-in scheduler",
+            ),
+            _ => entry_if(
+                queues.parked,
+                "<path class=\"qp\" d=\"M0 0h30v12h-30z\"/>",
+                "parked: quota used up",
+            ),
+        }
+    }
+
+    /// What colours say.
+    fn runs_words(&self) -> &'static str {
+        let layout = &self.gathered.layout;
+        if layout.folding.by_group() {
+            "runs, by group"
+        } else if layout.strips > 0 && self.workload.tasks().len() > 6 {
+            "runs (colour: its group, letter: the task)"
+        } else {
+            "runs (letter and colour: the task)"
+        }
+    }
+
+    /// Whether columns of processors are there.
+    fn has_several(&self) -> bool {
+        self.gathered.layout.scale.step > 1
+    }
+
+    fn queue_entry(&self, place: usize) -> Option<Entry> {
+        let used = self.gathered.queues.policy.get(place)?;
+        if !used.is_drawn {
+            return None;
+        }
+        Some(Entry {
+            swatch: QUEUES.get(place % 8)?,
+            words: "waits, queue ",
+            number: Some(used.id),
+        })
+    }
+}
+
+fn put_count(sheet: &mut Sheet, count: u64, words: &str) {
+    sheet.number(count);
+    sheet.put(words);
+    if count != 1 {
+        sheet.put("s");
+    }
+}
+
+fn draw_entry(sheet: &mut Sheet, entry: Entry, pen: Pen) {
+    sheet.put_number("<g transform=\"translate(", pen.x);
+    sheet.put_number(" ", pen.y);
+    sheet.put(")\">");
+    sheet.put(entry.swatch);
+    sheet.put("<text x=\"36\" y=\"10\">");
+    sheet.put(entry.words);
+    if let Some(number) = entry.number {
+        sheet.number(number);
+    }
+    sheet.put("</text></g>\n");
+}

@@ -1,0 +1,85 @@
+use std::alloc::{AllocError, Global};
+
+/// How many of the longest waits are kept.
+const MOST: usize = 16;
+
+/// A task waited from one moment to another, whatever queues it was in.
+#[derive(Clone, Copy)]
+pub(crate) struct Wait {
+    pub(crate) task: u16,
+    pub(crate) since: u64,
+    pub(crate) until: u64,
+}
+
+impl Wait {
+    pub(crate) fn length(self) -> u64 {
+        self.until.saturating_sub(self.since)
+    }
+}
+
+/// The longest waits, and how many there were and for how long in all.
+#[derive(Drop)]
+pub(crate) struct Longest {
+    pub(crate) waits: Vec<Wait>,
+    count: u64,
+    total: u64,
+}
+
+impl Longest {
+    pub(crate) fn new(alloc: Global) -> Result<Longest, AllocError> {
+        Ok(Longest {
+            waits: Vec::with_capacity(alloc, MOST)?,
+            count: 0,
+            total: 0,
+        })
+    }
+
+    pub(crate) fn add(&mut self, wait: Wait) {
+        if wait.length() == 0 {
+            return;
+        }
+        self.count = self.count.saturating_add(1);
+        self.total = self.total.saturating_add(wait.length());
+        if self.waits.len() < MOST {
+            // There is room for it.
+            let _ = self.waits.push(wait);
+        } else {
+            self.replace(wait);
+        }
+    }
+
+    /// Keeps the wait in the place of the shortest one, if it is longer.
+    fn replace(&mut self, wait: Wait) {
+        let place = shortest(&self.waits);
+        if let Some(least) = self.waits.get_mut(place) {
+            if least.length() < wait.length() {
+                *least = wait;
+            }
+        }
+    }
+
+    /// Whether a wait stands out: it is four times as long as the others on the average, and a twentieth of that
+    /// time.
+    pub(crate) fn stands_out(&self, wait: Wait, length: u64) -> bool {
+        let others = self.total.saturating_sub(wait.length());
+        let count = self.count.saturating_sub(1);
+        count >= 4
+            && wait.length().saturating_mul(20) >= length
+            && wait.length().saturating_mul(count) >= others.saturating_mul(4)
+    }
+}
+
+/// The place of the shortest wait.
+fn shortest(waits: &[Wait]) -> usize {
+    let mut place = 0usize;
+    let mut found = 0usize;
+    let mut least = u64::MAX;
+    for wait in waits {
+        if wait.length() < least {
+            least = wait.length();
+            found = place;
+        }
+        place = place.saturating_add(1);
+    }
+    found
+}

@@ -1,0 +1,159 @@
+use crate::bars::Bar;
+use crate::figures::ink;
+use crate::gathering::Picture;
+use crate::longest::Wait;
+use crate::moments::put_time;
+use crate::names::{letters, put_letters};
+use crate::places::Doing;
+use crate::queues::Queue;
+use crate::rows::{Band, Row};
+use crate::sheets::Sheet;
+use crate::strips::fill;
+
+/// How wide a bar is from which on there is a gap behind it, and how wide that is, in hundredths of a pixel.
+const WIDE: u64 = 400;
+
+const GAP: u64 = 100;
+
+/// How high a bar is that has a letter, in pixels.
+const TALL: u64 = 10;
+
+/// The classes of waits in a policy's queues.
+const QUEUES: [&str; 8] = ["q0", "q1", "q2", "q3", "q4", "q5", "q6", "q7"];
+
+/// The class of a wait.
+fn class_of(queue: Queue) -> &'static str {
+    match queue {
+        Queue::Policy(place) => QUEUES.get(place % 8).copied().unwrap_or("q0"),
+        Queue::Global => "qg",
+        Queue::Held => "qh",
+        Queue::BuiltIn => "qb",
+        Queue::Local(_) => "ql",
+        Queue::Parked => "qp",
+    }
+}
+
+impl Picture {
+    /// Draws all bars of their own, each with a title.
+    pub(crate) fn draw_bars(&self, sheet: &mut Sheet) {
+        for bar in &self.gathered.bars.bars {
+            if let Some(row) = self.gathered.layout.row(bar.row) {
+                self.draw_bar(sheet, *bar, row);
+            }
+        }
+    }
+
+    fn draw_bar(&self, sheet: &mut Sheet, bar: Bar, row: Row) {
+        match bar.stretch.doing {
+            Doing::Runs(_) => {
+                self.draw_box(sheet, bar, fill(bar.colour), row.runs());
+                self.draw_letters(sheet, bar, row.runs());
+            }
+            Doing::Waits(queue) => self.draw_box(sheet, bar, class_of(queue), row.waits()),
+        }
+    }
+
+    fn draw_box(&self, sheet: &mut Sheet, bar: Bar, class: &str, band: Band) {
+        let scale = self.gathered.layout.scale;
+        let width = scale.width(bar.stretch.since, bar.stretch.until);
+        let gap = if width >= WIDE { GAP } else { 0 };
+        sheet.put("<rect class=\"");
+        sheet.put(class);
+        sheet.put_hundredths("\" x=\"", scale.x(bar.stretch.since));
+        sheet.put_number("\" y=\"", band.top);
+        sheet.put_hundredths("\" width=\"", width.saturating_sub(gap));
+        sheet.put_number("\" height=\"", band.tall);
+        sheet.put("\"><title>");
+        sheet.put(self.task_name(bar.stretch.task));
+        self.put_doing(sheet, bar.stretch.doing);
+        sheet.put_number(", ", bar.stretch.since);
+        sheet.put_number(" to ", bar.stretch.until);
+        sheet.put(" ms</title></rect>\n");
+    }
+
+    fn put_doing(&self, sheet: &mut Sheet, doing: Doing) {
+        sheet.put(" ");
+        match doing {
+            Doing::Runs(cpu) => sheet.put_number("ran on cpu ", u64::from(cpu)),
+            Doing::Waits(queue) => self.put_queue(sheet, queue),
+        }
+    }
+
+    /// Draws the letters of the task on a bar, if they fit.
+    fn draw_letters(&self, sheet: &mut Sheet, bar: Bar, band: Band) {
+        let scale = self.gathered.layout.scale;
+        let task = bar.stretch.task as usize;
+        let width = scale.width(bar.stretch.since, bar.stretch.until);
+        let needs = letters(task).saturating_mul(800).saturating_add(600);
+        if width < needs || band.tall < TALL {
+            return;
+        }
+        let x = scale.x(bar.stretch.since);
+        sheet.put("<text class=\"");
+        sheet.put(ink(bar.colour));
+        sheet.put_hundredths("\" x=\"", x.saturating_add(width / 2));
+        sheet.put_number("\" y=\"", band.middle().saturating_add(4));
+        sheet.put("\">");
+        put_letters(sheet, task);
+        sheet.put("</text>\n");
+    }
+
+    /// Draws where tasks woke, as one path.
+    pub(crate) fn draw_wakes(&self, sheet: &mut Sheet) {
+        if self.gathered.bars.wakes.is_empty() {
+            return;
+        }
+        sheet.put("<path class=\"ink\" d=\"");
+        for woken in &self.gathered.bars.wakes {
+            if let Some(row) = self.gathered.layout.row(woken.row) {
+                let bottom = row.top.saturating_add(row.tall).saturating_sub(5);
+                sheet.put_hundredths("M", woken.x);
+                sheet.put_number(" ", bottom);
+                sheet.put("l3 6h-6z");
+            }
+        }
+        sheet.put("\"><title>wakes</title></path>\n");
+    }
+
+    /// Draws a frame round each wait that stands out.
+    pub(crate) fn draw_waits(&self, sheet: &mut Sheet) {
+        let layout = &self.gathered.layout;
+        for wait in &self.gathered.longest.waits {
+            if self
+                .gathered
+                .longest
+                .stands_out(*wait, layout.scale.length())
+            {
+                if let Some(row) = layout.row(layout.task_row(wait.task)) {
+                    self.draw_wait(sheet, *wait, row);
+                }
+            }
+        }
+    }
+
+    fn draw_wait(&self, sheet: &mut Sheet, wait: Wait, row: Row) {
+        let scale = self.gathered.layout.scale;
+        let width = scale.width(wait.since, wait.until);
+        if !row.has_bars() || width < WIDE {
+            return;
+        }
+        let x = scale.x(wait.since);
+        let band = row.waits();
+        sheet.put_hundredths("<rect class=\"frame\" stroke-width=\"1.5\" x=\"", x);
+        sheet.put_number("\" y=\"", band.top);
+        sheet.put_hundredths("\" width=\"", width);
+        sheet.put_number("\" height=\"", band.tall);
+        sheet.put("\"/>\n");
+        if width < 16_000 || row.tall < 20 {
+            return;
+        }
+        sheet.put_hundredths("<text class=\"wrong h\" x=\"", x.saturating_add(500));
+        sheet.put_number("\" y=\"", band.top.saturating_sub(4));
+        sheet.put("\">waited ");
+        put_time(sheet, wait.length());
+        if wait.until == u64::from(self.workload.ms()) {
+            sheet.put(", to the end");
+        }
+        sheet.put("</text>\n");
+    }
+}

@@ -1,0 +1,224 @@
+use crate::gathering::Picture;
+use crate::rows::{Band, Row};
+use crate::scales::LEFT;
+use crate::shares::{Shares, WHOLE};
+use crate::sheets::Sheet;
+
+/// Shares are in parts of this many.
+const PARTS: u64 = 10_000;
+
+/// What is due and isn't reached is hatched from this on: 3 %.
+const LACKS: u64 = 300;
+
+/// A share that falls this far short of what is due stands out: 5 %.
+const SHORT: u64 = 500;
+
+/// Up to which share the strips of a picture go, where no group has more than 60 %.
+const MOST_OF_SOME: u64 = 6000;
+
+/// The classes of colours.
+const FILLS: [&str; 6] = ["b0", "b1", "b2", "b3", "b4", "b5"];
+
+/// The class of a colour.
+pub(crate) fn fill(colour: usize) -> &'static str {
+    match FILLS.get(colour) {
+        Some(class) => class,
+        None => "several",
+    }
+}
+
+/// A group's share, and what is due to it.
+#[derive(Clone, Copy)]
+struct Share {
+    has: u64,
+    due: u64,
+}
+
+/// Which part of what ran some time is.
+fn part_of(ms: u64, all: u64) -> u64 {
+    ms.saturating_mul(PARTS) / all.max(1)
+}
+
+/// Sums of some steps.
+#[derive(Clone, Copy)]
+struct Sums {
+    ran: u64,
+    due: u64,
+    all: u64,
+}
+
+impl Sums {
+    /// The sums of the steps from one to another.
+    fn of(shares: &Shares, strip: usize, first: u64, end: u64) -> Sums {
+        let mut sums = Sums {
+            ran: 0,
+            due: 0,
+            all: 0,
+        };
+        for step in first..end {
+            sums.ran = sums.ran.saturating_add(shares.ran(strip, step));
+            sums.due = sums.due.saturating_add(shares.due(strip, step));
+            sums.all = sums.all.saturating_add(shares.all(step));
+        }
+        sums
+    }
+
+    fn share(self) -> Share {
+        Share {
+            has: part_of(self.ran, self.all),
+            due: part_of(self.due / WHOLE, self.all),
+        }
+    }
+}
+
+/// The share in a step: over a fortieth of the picture, so that one slice doesn't fill it.
+fn share_at(shares: &Shares, strip: usize, step: u64) -> Share {
+    let around = shares.scale.columns / 40;
+    let end = step.saturating_add(around).saturating_add(1);
+    let first = step.saturating_sub(around);
+    Sums::of(shares, strip, first, end.min(shares.scale.columns)).share()
+}
+
+/// A strip on its way: where it is, and which share its top is.
+#[derive(Clone, Copy)]
+struct Strip {
+    strip: usize,
+    band: Band,
+    top: u64,
+}
+
+impl Strip {
+    /// Adds where a share is, from top to bottom, in tenths of a pixel.
+    fn put_y(self, sheet: &mut Sheet, part: u64) {
+        let tall = self.band.tall.saturating_mul(10);
+        let high = part.min(self.top).saturating_mul(tall) / self.top.max(1);
+        let y = self.base().saturating_mul(10).saturating_sub(high);
+        sheet.number(y / 10);
+        if y % 10 > 0 {
+            sheet.put_number(".", y % 10);
+        }
+    }
+
+    fn base(self) -> u64 {
+        self.band.top.saturating_add(self.band.tall)
+    }
+}
+
+impl Picture {
+    /// Up to which share strips go: all, or less where no group has and is due as much.
+    fn strip_top(&self) -> u64 {
+        let shares = &self.gathered.shares;
+        let mut most = 0u64;
+        for strip in 0..self.gathered.layout.strips {
+            let share = Sums::of(shares, strip, 0, shares.scale.columns).share();
+            most = most.max(share.has).max(share.due);
+        }
+        if most > MOST_OF_SOME {
+            PARTS
+        } else {
+            (most.saturating_mul(3) / 2).clamp(500, PARTS)
+        }
+    }
+
+    /// Draws the shares of all groups over time.
+    pub(crate) fn draw_strips(&self, sheet: &mut Sheet) {
+        let top = self.strip_top();
+        for row in &self.gathered.layout.rows {
+            if let Some(strip) = row.strip {
+                let band = Band {
+                    top: row.top.saturating_add(2),
+                    tall: row.strip_tall.saturating_sub(4),
+                };
+                self.draw_strip(sheet, *row, Strip { strip, band, top });
+            }
+        }
+    }
+
+    fn draw_strip(&self, sheet: &mut Sheet, row: Row, strip: Strip) {
+        let shares = &self.gathered.shares;
+        sheet.put("<path class=\"");
+        sheet.put(fill(row.colour));
+        sheet.put("\" opacity=\".45\" d=\"");
+        put_outline(sheet, shares, strip, true);
+        sheet.put("\"/>");
+        put_lacks(sheet, shares, strip);
+        sheet.put("<path class=\"edge\" d=\"");
+        put_outline(sheet, shares, strip, false);
+        sheet.put("\"/>\n");
+        let all = Sums::of(shares, strip.strip, 0, shares.scale.columns).share();
+        let is_short = all.has.saturating_add(SHORT) < all.due;
+        let y = strip.band.middle().saturating_add(4);
+        put_class(sheet, is_short);
+        sheet.put_number(" r\" x=\"1590\" y=\"", y);
+        sheet.put_number("\">", all.has.saturating_add(50) / 100);
+        sheet.put_number(" of ", all.due.saturating_add(50) / 100);
+        sheet.put(" %</text>\n");
+    }
+}
+
+/// Begins a text that says whether something is wrong.
+fn put_class(sheet: &mut Sheet, is_wrong: bool) {
+    if is_wrong {
+        sheet.put("<text class=\"wrong h");
+    } else {
+        sheet.put("<text class=\"faint");
+    }
+}
+
+/// Adds the shape of a group's share, or the line of what is due to it.
+fn put_outline(sheet: &mut Sheet, shares: &Shares, strip: Strip, is_filled: bool) {
+    sheet.put_hundredths("M", LEFT);
+    sheet.put(" ");
+    if is_filled {
+        sheet.number(strip.base());
+    } else {
+        strip.put_y(sheet, share_at(shares, strip.strip, 0).due);
+    }
+    for step in 0..shares.scale.columns {
+        let share = share_at(shares, strip.strip, step);
+        sheet.put("V");
+        strip.put_y(sheet, if is_filled { share.has } else { share.due });
+        sheet.put_hundredths("H", step_end(shares, step));
+    }
+    if is_filled {
+        sheet.put_number("V", strip.base());
+        sheet.put("z");
+    }
+}
+
+/// Where a step ends: the last one with the window.
+fn step_end(shares: &Shares, step: u64) -> u64 {
+    let scale = shares.scale;
+    scale.column_x(step.saturating_add(1)).min(scale.end_x())
+}
+
+/// Hatches what a group lacks of what is due to it.
+fn put_lacks(sheet: &mut Sheet, shares: &Shares, strip: Strip) {
+    let mut is_begun = false;
+    for step in 0..shares.scale.columns {
+        let share = share_at(shares, strip.strip, step);
+        if share.has.saturating_add(LACKS) < share.due {
+            if !is_begun {
+                sheet.put("<path class=\"qi\" d=\"");
+                is_begun = true;
+            }
+            put_lack(sheet, shares, strip, step);
+        }
+    }
+    if is_begun {
+        sheet.put("\"/>");
+    }
+}
+
+fn put_lack(sheet: &mut Sheet, shares: &Shares, strip: Strip, step: u64) {
+    let share = share_at(shares, strip.strip, step);
+    let x = shares.scale.column_x(step);
+    sheet.put_hundredths("M", x);
+    sheet.put(" ");
+    strip.put_y(sheet, share.due);
+    sheet.put_hundredths("H", step_end(shares, step));
+    sheet.put("V");
+    strip.put_y(sheet, share.has);
+    sheet.put_hundredths("H", x);
+    sheet.put("z");
+}
