@@ -3,7 +3,8 @@ use crate::ending::{Ending, end};
 use crate::files::{RunFiles, Unread, files_of, hint_of_files};
 use crate::remarks::{named, remark_of_run};
 use scxsim_charts::{Span, gantt, title};
-use scxsim_commands::{Fault, Out, Refusal, text};
+use scxsim_commands::{Fault, Hint, Out, Refusal, hint_of_refusal, text};
+use scxsim_page::{Paths, view};
 use scxsim_pictures::{picture, timeline};
 use scxsim_progress::Progress;
 use scxsim_simulation::{Listener, replay, report, simulate};
@@ -48,7 +49,19 @@ pub(crate) fn tell<'a, R: AllocGlobal + Console, W: Out>(
         named(words.policy, &files.policy),
         named(words.workload, &files.workload),
     );
-    Ok(end(outcome, hint_of_files(&files), remark, out))
+    let hint = hint_of_outcome(&outcome, &files);
+    Ok(end(outcome, hint, remark, out))
+}
+
+/// What may help where the run was refused.
+fn hint_of_outcome(outcome: &Result<bool, Fault>, files: &RunFiles) -> Option<Hint> {
+    match outcome {
+        Err(Fault::Refused(refusal)) => match hint_of_refusal(refusal) {
+            Some(hint) => Some(hint),
+            None => hint_of_files(files),
+        },
+        _ => None,
+    }
 }
 
 /// Whether a line on standard error is seen, and tears nothing. What is written as the run goes would be torn
@@ -104,6 +117,7 @@ fn write_course<L: Listener, W: Out>(
         Course::Trace => simulate(alloc, policy, workload, listener, out),
         Course::Timeline => timeline(alloc, policy, workload, listener, out),
         Course::Picture => picture(alloc, policy, workload, listener, out),
+        Course::View => write_view(alloc, texts, listener, out),
     }
 }
 
@@ -130,6 +144,7 @@ fn write_summary<L: Listener, W: Out>(
 }
 
 fn write_story<L: Listener, W: Out>(
+fn write_view<L: Listener, W: Out>(
     alloc: Global,
     texts: RunTexts<'_>,
     listener: &mut L,
@@ -161,6 +176,12 @@ fn write_replay<L: Listener, W: Out>(
         Replay::Trace => replay(alloc, policy, events, listener, out),
         Replay::StatsCsv => replay_csv(alloc, policy, events, listener, out),
     }
+    let paths = Paths {
+        policy: words.policy,
+        workload: words.workload,
+    };
+    let span = span_of(words.part);
+    view(alloc, paths, policy, workload, span, listener, out)
 }
 
 fn write_chart<L: Listener, W: Out>(

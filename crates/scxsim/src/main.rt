@@ -33,6 +33,7 @@ pub use scxsim_commands::{
     Counted, Failed, Fault, Out, Refusal, asm, check, dis, exec, finish, text,
 };
 pub use scxsim_explain::explain;
+pub use scxsim_page::view;
 pub use scxsim_pictures::{picture, timeline};
 pub use scxsim_simulation::{Listener, replay, report, simulate};
 pub use scxsim_statistics::{replay_csv, stats, stats_csv};
