@@ -1,7 +1,7 @@
 //! What is heard of a run, and what standard error says of it.
 
 use crate::memory::Memory;
-use crate::runs::{ACCOUNTS, Account, Summary, execute};
+use crate::runs::{ACCOUNTS, Account, Course, Summary, execute};
 use crate::same::expect_same;
 use crate::texts::{SHORT_SLICES, TWO_TASKS};
 use scxsim_output::Counted;
@@ -55,7 +55,7 @@ fn expect_heard<R: AllocGlobal + Abort>(rt: &R, place: usize, account: Account) 
         (8, 8),
     ];
     let wanted = match account {
-        Account::Summary(Summary::Why) => twice.as_slice(),
+        Account::Summary(Summary::Why) | Account::Course(Course::View) => twice.as_slice(),
         Account::Course(_) | Account::Summary(_) => once.as_slice(),
     };
     expect_same(rt, record.heard.as_slice(), wanted, place);

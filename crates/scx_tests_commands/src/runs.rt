@@ -3,6 +3,7 @@
 use scxsim_charts::gantt;
 use scxsim_commands::Fault;
 use scxsim_output::Out;
+use scxsim_page::{Paths, view};
 use scxsim_pictures::{picture, timeline};
 use scxsim_simulation::{Listener, report, simulate};
 use scxsim_statistics::{stats, stats_csv};
@@ -22,6 +23,7 @@ pub(crate) enum Course {
     Trace,
     Timeline,
     Picture,
+    View,
 }
 
 /// What is written at its end.
@@ -35,6 +37,11 @@ pub(crate) enum Summary {
     Gantt,
 }
 
+const PATHS: Paths<'static> = Paths {
+    policy: "a",
+    workload: "b",
+};
+
 pub(crate) const ACCOUNTS: [Account; 9] = [
     Account::Course(Course::Trace),
     Account::Summary(Summary::Report),
@@ -45,6 +52,7 @@ pub(crate) const ACCOUNTS: [Account; 9] = [
     Account::Summary(Summary::Gantt),
     Account::Course(Course::Timeline),
     Account::Course(Course::Picture),
+    Account::Course(Course::View),
 ];
 
 pub(crate) fn execute<L: Listener, W: Out>(
@@ -73,6 +81,7 @@ fn write_course<L: Listener, W: Out>(
         Course::Trace => simulate(alloc, policy, workload, listener, out),
         Course::Timeline => timeline(alloc, policy, workload, listener, out),
         Course::Picture => picture(alloc, policy, workload, listener, out),
+        Course::View => view(alloc, PATHS, policy, workload, None, listener, out),
     }
 }
 
