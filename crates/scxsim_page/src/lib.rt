@@ -1,0 +1,20 @@
+//! The page of a run, which a browser shows without a network: what the two files say, each stretch of time in
+//! which a task ran or waited, in the order in which they end, and the code that draws them. A first way through
+//! the run counts the stretches, and a second one writes them.
+#![tactic(auto)]
+
+mod counting;
+mod courses;
+mod drafts;
+mod halves;
+mod heads;
+mod lines;
+mod queues;
+mod stretches;
+mod tails;
+mod tasks;
+mod telling;
+mod template;
+
+pub use drafts::Paths;
+pub use telling::view;
