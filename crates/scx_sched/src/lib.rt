@@ -24,5 +24,5 @@ pub use laws::{
 };
 pub use places::Place;
 pub use scx_sched_machine::{BadPolicy, Callbacks, Event, NewError, Policy, Refused, Sink, Unseen};
-pub use scx_sched_world::{Eject, Fault, Note, What, Entry, Rank};
+pub use scx_sched_world::{Eject, Entry, Fault, Note, Rank, What};
 pub use sim::{MAX_EVENTS, Sim};

@@ -17,9 +17,9 @@ ghost use Rattle.scx_sched.specs.Places.{place};
 ghost use Rattle.scx_sched.specs.Sim.{max_events, refusal, answer_of, after_event, notes_of, calls_of, IsFirstState};
 
 use crate::places::{Place, place_in};
+use scx_maps::Maps;
 use scx_sched_machine::{Event, Machine, NewError, Policy, Refused, Sink, Unseen};
 use scx_sched_world::{Eject, Entry, World};
-use scx_maps::Maps;
 use scx_weights::Tree;
 use std::alloc::Global;
 use std::marker::Model;

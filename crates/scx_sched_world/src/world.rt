@@ -190,7 +190,6 @@ impl World {
 
     /// Where the task waits or is parked, by which rank, and how many pushes were accepted before it.
     pub fn entry(&self, task: u16) -> Option<Entry>
-    pub fn entry_of(&self, task: u16) -> Option<Entry>
         ensures { result ≡ entry_of self.now.queues task }
     {
         if (task as usize) < self.queues.tasks() {

@@ -30,7 +30,6 @@ pub(crate) fn forms() -> &'static [Form] {
 }
 
 const FORMS: [Form; 20] = [
-const FORMS: [Form; 16] = [
     Form {
         name: "verify",
         kind: Kind::Policy(PolicyCommand::Verify),

@@ -67,9 +67,6 @@ fn request_of<'a>(name: &str, command: &ArgMatches<'a>) -> Option<Request<'a>> {
             Some(command.get_str("TASK")?),
         ),
         Kind::Replay(account) => run_of(account, command, "EVENTS", None, None),
-        Kind::Run(account) => run_of(account, command, None, None),
-        Kind::Part(account) => run_of(account, command, Some(part_of(command)?), None),
-        Kind::Task(account) => run_of(account, command, None, Some(command.get_str("TASK")?)),
         Kind::Cases => Some(Request::Cases),
     }
 }

@@ -37,7 +37,7 @@ returns c =
       pushes = c.other.inside.pushes;
     } in
     copied_value c.self.inside c.other.inside made rooms ids (subst (λ qs. AreCopies c.self.inside.live.items c.other.inside.live.items qs) (sym shown) copies) (ap length shown ∙ count)
-      (c.copy_from_slice.ensures.items ∙ c.deref-2.ensures.value) refl refl
+    (c.copy_from_slice.ensures.items ∙ c.deref-2.ensures.value) refl refl
     ∙ c.other.view_is
 
 pub invariant_of-self : goal.invariant_of-self
@@ -49,4 +49,4 @@ invariant_of-self c =
     let shown = with_items_is c.self.inside.live c.copy_each.new.live (omega (arith, count, c.self.inside.live.ok.0)) in
     let copies : AreCopies c.self.inside.live.items c.other.inside.live.items c.copy_each.new.live = rw (c.deref_mut.ensures.value, c.deref.ensures.value) at c.copy_each.ensures.copies in
     copied_keeps c.self.inside c.other.inside _ rooms ids (subst (λ qs. AreCopies c.self.inside.live.items c.other.inside.live.items qs) (sym shown) copies) (ap length shown ∙ count)
-      (c.copy_from_slice.ensures.items ∙ c.deref-2.ensures.value) refl refl c.self.invariant c.other.invariant tasks (c.copy_from_slice-2.ensures.items ∙ c.deref-3.ensures.value) (c.copy_from_slice-3.ensures.items ∙ c.deref-4.ensures.value) refl refl
+    (c.copy_from_slice.ensures.items ∙ c.deref-2.ensures.value) refl refl c.self.invariant c.other.invariant tasks (c.copy_from_slice-2.ensures.items ∙ c.deref-3.ensures.value) (c.copy_from_slice-3.ensures.items ∙ c.deref-4.ensures.value) refl refl

@@ -16,7 +16,7 @@ copy_from-requires c =
 pub returns : goal.returns
 returns c =
     let all : ◌≡◌ {A = SimState} (record { state = c.copy_from.new.self; events = c.other.inside.events }) (record { state = c.other.inside.machine; events = c.other.inside.events }) =
-        λ i. record { state = c.copy_from.ensures i; events = c.other.inside.events } in
+    λ i. record { state = c.copy_from.ensures i; events = c.other.inside.events } in
     all ∙ c.other.view_is
 
 pub invariant_of-self : goal.invariant_of-self

@@ -21,7 +21,7 @@ pub returns : goal.returns
 returns c =
     let same : c.self.inside.policy ≡ c.other.inside.policy = ap (λ (s : State). s.policy) c.self.view_is ∙ (c.requires.policy ∙ sym (ap (λ (s : State). s.policy) c.other.view_is)) in
     let all : ◌≡◌ {A = State} (record { policy = c.self.inside.policy; maps = c.copy_from.new.self; world = c.copy_from-2.new.self }) (record { policy = c.other.inside.policy; maps = c.other.inside.maps; world = c.other.inside.world }) =
-        λ i. record { policy = same i; maps = c.copy_from.ensures i; world = c.copy_from-2.ensures i } in
+    λ i. record { policy = same i; maps = c.copy_from.ensures i; world = c.copy_from-2.ensures i } in
     all ∙ c.other.view_is
 
 pub invariant_of-self : goal.invariant_of-self
