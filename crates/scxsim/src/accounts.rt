@@ -144,7 +144,6 @@ fn write_summary<L: Listener, W: Out>(
 }
 
 fn write_story<L: Listener, W: Out>(
-fn write_view<L: Listener, W: Out>(
     alloc: Global,
     texts: RunTexts<'_>,
     listener: &mut L,
@@ -176,6 +175,20 @@ fn write_replay<L: Listener, W: Out>(
         Replay::Trace => replay(alloc, policy, events, listener, out),
         Replay::StatsCsv => replay_csv(alloc, policy, events, listener, out),
     }
+}
+
+/// The page of a run, or of a part of it.
+fn write_view<L: Listener, W: Out>(
+    alloc: Global,
+    texts: RunTexts<'_>,
+    listener: &mut L,
+    out: &mut W,
+) -> Result<bool, Fault> {
+    let RunTexts {
+        policy,
+        workload,
+        words,
+    } = texts;
     let paths = Paths {
         policy: words.policy,
         workload: words.workload,
