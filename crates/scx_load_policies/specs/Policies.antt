@@ -1,4 +1,5 @@
--- What a policy file says: the shapes of its maps, how long a task may wait, and its programs.
+-- What a policy file says: its name, the shapes of its maps, how long a task may wait, and its
+-- programs.
 use Rattle.std.specs.Prelude.{ℕ, List, map, Option, None}
 use Rattle.scx_maps.specs.declared.shape.Shape.{Shape}
 use Rattle.scx_isa_semantics.specs.Code.{Code}
@@ -10,8 +11,9 @@ use Rattle.scx_isa_semantics.specs.Callbacks.{callback_name, callbacks, at, with
 abbrev pub Programs : Type 0
 Programs = PerCallback (Option Code)
 
--- what a policy file says, without its name: maps, the milliseconds of its timeout, and programs
+-- what a policy file says: its name, maps, the milliseconds of its timeout, and programs
 pub record PolicyFile : Type 0 where
+  pub name : List ℕ  -- empty where the file gives none
   pub shapes : List Shape
   pub timeout_ms : ℕ
   pub programs : Programs

@@ -1,6 +1,6 @@
 -- The reading of a policy file: unknown keys first, wherever they stand; then the name, the
 -- timeout, the maps, the programs in `code` and those in `slots`.
-use Rattle.std.specs.Prelude.{ℕ, ⊤, List, [], ◌∷◌, ◌++◌, codes, Ok}
+use Rattle.std.specs.Prelude.{ℕ, List, [], ◌∷◌, ◌++◌, codes, Ok}
 use Rattle.toml.specs.Data.{Members, no_members}
 use Rattle.scx_load_files.specs.declared.section.Limits.{Limits}
 use Rattle.scx_isa_semantics.specs.Results.{◌>>=◌}
@@ -32,9 +32,9 @@ unknown_keys ms =
 abbrev pub timeout_limits : Limits
 timeout_limits = record { least = 1; most = 30000 }
 
--- the name, which may be absent and has no use
-abbrev pub checked_name : Members → Reading ⊤
-checked_name ms = optional name_of [] [] (codes "name") ms >>= λ name. Ok tt
+-- the name; where it is absent, an empty one
+abbrev pub policy_name : Members → Reading (List ℕ)
+policy_name ms = optional name_of [] [] (codes "name") ms
 
 -- the table at a key; where it is absent, one without keys
 abbrev pub table_in : List ℕ → Members → Reading Members
@@ -58,11 +58,11 @@ programs_in ms = programs_with ms none
 -- what the known keys of a file say
 abbrev pub policy_in : Members → Reading PolicyFile
 policy_in ms = do
-  name ← checked_name ms
+  name ← policy_name ms
   timeout ← optional (integer_of timeout_limits) 30000 [] (codes "timeout_ms") ms
   shapes ← maps ms
   programs ← programs_in ms
-  Ok (record { shapes = shapes; timeout_ms = timeout; programs = programs })
+  Ok (record { name = name; shapes = shapes; timeout_ms = timeout; programs = programs })
 
 -- what the table of a file says; an unknown key is refused before any other fault
 abbrev pub policy_file : Members → Reading PolicyFile

@@ -1,4 +1,4 @@
-ghost use Rattle.std.specs.Prelude.{◌≡◌, map};
+ghost use Rattle.std.specs.Prelude.{◌≡◌, map, string_bytes};
 ghost use Rattle.scx_sched_machine.specs.Policy.{IsTimeout};
 ghost use Rattle.scx_load_policies.specs.Policies.{callback_keys, program_of, without};
 
@@ -12,23 +12,37 @@ pub type Programs = PerCallback<Option<Program>>;
 /// What a policy file says, which `read_policy` alone makes.
 #[derive(Drop)]
 pub struct PolicyText {
+    pub(crate) name: String,
     pub(crate) defs: MapDefs,
     pub(crate) timeout_ms: u32,
     pub(crate) programs: Programs,
 }
 
 impl Model for PolicyText {
+    ghost use Rattle.std.specs.Prelude.{string_bytes};
     ghost use Rattle.scx_sched_machine.specs.Policy.{IsTimeout};
     ghost use Rattle.scx_load_policies.specs.Policies.{PolicyFile};
 
     ghost Value = { PolicyFile };
 
-    ghost view = { λ p. record { shapes = p.defs; timeout_ms = p.timeout_ms; programs = p.programs } };
+    ghost view = { λ p. record {
+      name = string_bytes p.name;
+      shapes = p.defs;
+      timeout_ms = p.timeout_ms;
+      programs = p.programs;
+    } };
 
     ghost invariant = { λ p. IsTimeout p.timeout_ms };
 }
 
 impl PolicyText {
+    /// The policy's name, empty where the file gives none.
+    pub fn name(&self) -> &str
+        ensures { result.now ≡ self.now.name }
+    {
+        self.name.as_str()
+    }
+
     /// The shapes of its maps.
     pub fn defs(&self) -> &MapDefs
         ensures { result.now ≡ self.now.shapes }
@@ -48,7 +62,8 @@ impl PolicyText {
     pub fn into_programs(self) -> Programs
         ensures { result ≡ self.programs }
     {
-        self.programs
+        let PolicyText { programs, .. } = self;
+        programs
     }
 
     /// Takes the program of a callback out; `None` where there is none, or no more.

@@ -1,9 +1,9 @@
-ghost use Rattle.std.specs.Prelude.{◌≡◌, [], IfOk};
+ghost use Rattle.std.specs.Prelude.{◌≡◌, [], IfOk, string_bytes};
 ghost use Rattle.toml.specs.Data.{no_members};
 ghost use Rattle.toml.specs.View.{table_view};
 ghost use Rattle.scx_load_files.specs.Faults.{Gives};
 ghost use Rattle.scx_load_files.specs.Unknown.{known_alone};
-ghost use Rattle.scx_load_policies.specs.Reading.{unknown_keys, checked_name, table_in, programs_in, programs_with, policy_in, policy_file, policy_text};
+ghost use Rattle.scx_load_policies.specs.Reading.{unknown_keys, policy_name, table_in, programs_in, programs_with, policy_in, policy_file, policy_text};
 
 use crate::maps::read_maps;
 use crate::policy_text::{PolicyText, Programs, callback_keys};
@@ -62,26 +62,30 @@ fn read_file(alloc: Global, file: Section<'_>) -> Result<PolicyText, LoadError>
     requires { file.path.now ≡ [] }
     ensures { Gives (λ policy. policy) result (policy_in (table_view file.entry.table.now)) }
 {
-    check_name(alloc, file)?;
+    let name = read_name(alloc, file)?;
     let timeout_ms = file.integer_or(alloc, "timeout_ms", TIMEOUT, LONGEST_TIMEOUT)?;
     let defs = read_maps(alloc, file)?;
     let programs = read_programs(alloc, file)?;
     Ok(PolicyText {
+        name,
         defs,
         timeout_ms,
         programs,
     })
 }
 
-/// Looks at the name, which may be absent and has no use.
-fn check_name(alloc: Global, file: Section<'_>) -> Result<(), LoadError>
+/// The name, empty where it is absent.
+fn read_name(alloc: Global, file: Section<'_>) -> Result<String, LoadError>
     requires { file.path.now ≡ [] }
-    ensures { Gives (λ t. t) result (checked_name (table_view file.entry.table.now)) }
+    ensures { Gives string_bytes result (policy_name (table_view file.entry.table.now)) }
 {
-    if let Some(value) = file.value("name") {
-        file.name_in(alloc, "name", value)?;
+    match file.value("name") {
+        Some(value) => {
+            let name = file.name_in(alloc, "name", value)?;
+            Ok(String::from_str(alloc, name)?)
+        }
+        None => Ok(String::new(alloc)),
     }
-    Ok(())
 }
 
 /// The programs of both tables, of which each may be absent.
