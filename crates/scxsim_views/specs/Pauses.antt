@@ -16,6 +16,13 @@ sleeps (Waits since) = false
 sleeps Runs = false
 sleeps (IsParked since) = false
 
+-- whether the task waits for a processor
+abbrev pub waits : Doing → Bool
+waits Sleeps = false
+waits (Waits since) = true
+waits Runs = false
+waits (IsParked since) = false
+
 -- whether the task is on a processor
 abbrev pub runs : Doing → Bool
 runs Sleeps = false

@@ -1,6 +1,7 @@
 ghost use Rattle.std.specs.Prelude.{◌≡◌, ◌-◌, replicate, slice_set, None, IfOk};
+ghost use Rattle.std.specs.List.{list_any};
 ghost use Rattle.scxsim_views.specs.declared.pauses.Doing.TheVariants.{Sleeps};
-ghost use Rattle.scxsim_views.specs.Pauses.{sleeps, runs, is_parked, doing_at, doing_after_stop, doing_after_insert, ended_by_insert, doing_after, open_pause, ended_by};
+ghost use Rattle.scxsim_views.specs.Pauses.{sleeps, waits, runs, is_parked, doing_at, doing_after_stop, doing_after_insert, ended_by_insert, doing_after, open_pause, ended_by};
 
 use scx_sched::What;
 use scx_sched_world::PARKED;
@@ -25,6 +26,15 @@ impl Doing {
         match self {
             Doing::Sleeps => true,
             Doing::Waits(_) | Doing::Runs | Doing::IsParked(_) => false,
+        }
+    }
+
+    fn waits(self) -> bool
+        ensures { result ≡ waits self }
+    {
+        match self {
+            Doing::Waits(_) => true,
+            Doing::Sleeps | Doing::Runs | Doing::IsParked(_) => false,
         }
     }
 
@@ -141,6 +151,13 @@ impl Pauses {
             }),
             Doing::Sleeps | Doing::Runs => None,
         }
+    }
+
+    /// Whether some task waits for a processor; one that is parked doesn't.
+    pub fn somebody_waits(&self) -> bool
+        ensures { result ≡ list_any waits self.now }
+    {
+        self.doing.iter().any(|doing| doing.waits())
     }
 
     /// Whether the task sleeps.
