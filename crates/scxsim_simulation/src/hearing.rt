@@ -1,12 +1,15 @@
 ghost use Rattle.std.specs.Prelude.{◌≡◌};
 
-use scx_sched::{Event, Sim};
+use scx_sched::{Eject, Event, Sim};
 use scxsim_trace::Events;
 
 /// Is told how far a run is.
 pub trait Listener {
     /// So many of all milliseconds are over. Whatever is made of it, the run is the same.
     fn hear(&mut self, over: u64, total: u32);
+
+    /// The run is over, and that is why and when the policy was ejected, if it was.
+    fn hear_end(&mut self, _ejected: Option<Eject>) {}
 }
 
 /// A listener that does nothing.
@@ -45,11 +48,14 @@ impl<E: Events, L: Listener> Events for Heard<'_, E, L> {
     ghost remaining = { λ heard s. E.remaining heard.events s };
 
     fn next(&mut self, sim: &Sim) -> Option<Event> {
-        let event = self.events.next(sim)?;
-        if event == Event::Clock {
-            self.listener
-                .hear(sim.clock().saturating_add(1), self.total);
+        let event = self.events.next(sim);
+        match event {
+            Some(Event::Clock) => self
+                .listener
+                .hear(sim.clock().saturating_add(1), self.total),
+            Some(_) => {}
+            None => self.listener.hear_end(sim.ejected()),
         }
-        Some(event)
+        event
     }
 }
