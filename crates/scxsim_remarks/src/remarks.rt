@@ -1,3 +1,4 @@
+use crate::faults::remark_on_fault;
 use crate::meant::nearest_key;
 use crate::named_text::NamedText;
 use scx_asm::AsmFault;
@@ -26,6 +27,7 @@ pub fn remark_on_run(
             fault,
             slot,
         } => remark_on_callback(alloc, policy, *callback, *fault, *slot),
+        Refusal::Init(_) => remark_on_fault(alloc, policy, workload, 0),
         _ => None,
     }
 }
