@@ -42,10 +42,16 @@ pub(crate) fn tell<'a, R: AllocGlobal + Console, W: Out>(
     let files = files_of(rt, words.policy, words.workload)?;
     let mut progress = Progress::new(rt, is_progress_seen(rt, account));
     let outcome = write_account(rt.alloc(), account, &files, words, &mut progress, out);
+    let ejected = if is_ejection_told(account) {
+        progress.ejected()
+    } else {
+        None
+    };
     progress.end();
     let remark = remark_of_run(
         rt.alloc(),
         &outcome,
+        ejected,
         named(words.policy, &files.policy),
         named(words.workload, &files.workload),
     );
@@ -73,6 +79,15 @@ fn is_progress_seen<R: Console>(rt: &R, account: Account) -> bool {
         }
         Account::Summary(_) | Account::Replay(Replay::StatsCsv) => rt.shows_errors(),
     }
+}
+
+/// Whether standard error says where the fault came for which the policy was ejected: where the output says no more
+/// than which it was.
+fn is_ejection_told(account: Account) -> bool {
+    matches!(
+        account,
+        Account::Course(Course::Trace) | Account::Summary(Summary::Report)
+    )
 }
 
 fn write_account<L: Listener, W: Out>(

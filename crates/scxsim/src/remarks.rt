@@ -1,5 +1,8 @@
+use scx_sched::Eject;
 use scxsim_commands::Fault;
-use scxsim_remarks::{NamedText, remark_on_file, remark_on_run, remarks_on_callbacks};
+use scxsim_remarks::{
+    NamedText, remark_on_fault, remark_on_file, remark_on_run, remarks_on_callbacks,
+};
 use scxsim_words::PolicyCommand;
 use std::alloc::Global;
 
@@ -9,15 +12,20 @@ pub(crate) fn named<'a>(path: &'a str, bytes: &'a [u8]) -> Option<NamedText<'a>>
     Some(NamedText { path, text })
 }
 
-/// Where the files of a run are wrong, if they were refused.
+/// Where the files of a run are wrong, if they were refused, or where the fault came for which the policy was
+/// ejected.
 pub(crate) fn remark_of_run(
     alloc: Global,
     outcome: &Result<bool, Fault>,
+    ejected: Option<Eject>,
     policy: Option<NamedText<'_>>,
     workload: Option<NamedText<'_>>,
 ) -> Option<String> {
-    match outcome {
-        Err(Fault::Refused(refusal)) => remark_on_run(alloc, refusal, policy?, workload?),
+    match (outcome, ejected) {
+        (Err(Fault::Refused(refusal)), _) => remark_on_run(alloc, refusal, policy?, workload?),
+        (Ok(_), Some(Eject::Fault(_, clock))) => {
+            remark_on_fault(alloc, policy?, workload?, clock)
+        }
         _ => None,
     }
 }
