@@ -1,4 +1,5 @@
 use crate::estimate::Estimate;
+use scx_sched::Eject;
 use scxsim_simulation::Listener;
 use std::rt::Clock;
 use std::time::{Duration, Instant};
@@ -21,6 +22,7 @@ pub struct Progress<'a, R> {
     rt: &'a R,
     /// None where nothing is said.
     line: Option<Line>,
+    ejected: Option<Eject>,
 }
 
 /// The line that says how far a run is.
@@ -37,7 +39,16 @@ impl<'a, R: Clock + Eprint> Progress<'a, R> {
     /// read.
     pub fn new(rt: &'a R, is_seen: bool) -> Self {
         let line = if is_seen { Line::new(rt) } else { None };
-        Progress { rt, line }
+        Progress {
+            rt,
+            line,
+            ejected: None,
+        }
+    }
+
+    /// Why and when the policy was ejected in a run that came to its end, if it was.
+    pub fn ejected(&self) -> Option<Eject> {
+        self.ejected
     }
 
     /// Takes back what was said of a run that came to no end.
@@ -53,6 +64,10 @@ impl<R: Clock + Eprint> Listener for Progress<'_, R> {
         if let Some(line) = &mut self.line {
             line.hear(self.rt, over, total);
         }
+    }
+
+    fn hear_end(&mut self, ejected: Option<Eject>) {
+        self.ejected = ejected;
     }
 }
 
