@@ -5,6 +5,8 @@ use scxsim_commands::Fault;
 use scxsim_output::Out;
 use scxsim_page::{Paths, view};
 use scxsim_pictures::{picture, timeline};
+use scxsim_drawing::picture;
+use scxsim_pictures::timeline;
 use scxsim_simulation::{Listener, report, simulate};
 use scxsim_statistics::{stats, stats_csv};
 use scxsim_story::story;
@@ -34,6 +36,7 @@ pub(crate) enum Summary {
     StatsCsv,
     Why,
     Story,
+    Picture,
     Gantt,
 }
 
@@ -53,6 +56,7 @@ pub(crate) const ACCOUNTS: [Account; 9] = [
     Account::Course(Course::Timeline),
     Account::Course(Course::Picture),
     Account::Course(Course::View),
+    Account::Summary(Summary::Picture),
 ];
 
 pub(crate) fn execute<L: Listener, W: Out>(
@@ -99,6 +103,7 @@ fn write_summary<L: Listener, W: Out>(
         Summary::StatsCsv => stats_csv(alloc, policy, workload, listener, out),
         Summary::Why => why(alloc, policy, workload, listener, out),
         Summary::Story => story(alloc, policy, workload, "a", listener, out),
+        Summary::Picture => picture(alloc, "a on b", policy, workload, None, listener, out),
         Summary::Gantt => gantt(alloc, "a on b", policy, workload, None, listener, out),
     }
 }

@@ -6,6 +6,8 @@ use scxsim_charts::{Span, gantt, title};
 use scxsim_commands::{Fault, Hint, Out, Refusal, hint_of_refusal, text};
 use scxsim_page::{Paths, view};
 use scxsim_pictures::{picture, timeline};
+use scxsim_drawing::picture;
+use scxsim_pictures::timeline;
 use scxsim_progress::Progress;
 use scxsim_simulation::{Listener, replay, report, simulate};
 use scxsim_statistics::{replay_csv, stats, stats_csv};
@@ -154,11 +156,13 @@ fn write_summary<L: Listener, W: Out>(
         Summary::StatsCsv => stats_csv(alloc, policy, workload, listener, out),
         Summary::Why => why(alloc, policy, workload, listener, out),
         Summary::Story => write_story(alloc, texts, listener, out),
+        Summary::Picture => write_picture(alloc, texts, listener, out),
         Summary::Gantt => write_chart(alloc, texts, listener, out),
     }
 }
 
 fn write_story<L: Listener, W: Out>(
+fn write_picture<L: Listener, W: Out>(
     alloc: Global,
     texts: RunTexts<'_>,
     listener: &mut L,
@@ -210,6 +214,9 @@ fn write_view<L: Listener, W: Out>(
     };
     let span = span_of(words.part);
     view(alloc, paths, policy, workload, span, listener, out)
+    let title = title_of(alloc, words)?;
+    let span = span_of(words.part);
+    picture(alloc, title.as_str(), policy, workload, span, listener, out)
 }
 
 fn write_chart<L: Listener, W: Out>(

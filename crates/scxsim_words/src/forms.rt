@@ -30,6 +30,7 @@ pub(crate) fn forms() -> &'static [Form] {
 }
 
 const FORMS: [Form; 20] = [
+const FORMS: [Form; 16] = [
     Form {
         name: "verify",
         kind: Kind::Policy(PolicyCommand::Verify),
@@ -86,9 +87,15 @@ const FORMS: [Form; 20] = [
     },
     Form {
         name: "picture",
-        kind: Kind::Run(Account::Course(Course::Picture)),
+        kind: Kind::Run(Account::Summary(Summary::Picture)),
         about: "Reads and runs the same, and prints a picture in SVG",
-        example: "Example: scxsim picture examples/policies/short_slices.toml examples/workloads/two_tasks.toml > picture.svg\nwrites:  a file that browsers open.",
+        example: "Example: scxsim picture examples/policies/short_slices.toml examples/workloads/two_tasks.toml > picture.svg\nwrites:  a file that browsers open, of at most 2 MB\ndocs/PICTURES.md says how to read it.",
+    },
+    Form {
+        name: "picture-part",
+        kind: Kind::Part(Account::Summary(Summary::Picture)),
+        about: "Does the same of a part of the run",
+        example: "Example: scxsim picture-part examples/policies/short_slices.toml examples/workloads/two_tasks.toml 1 3 > part.svg\nwrites:  the picture of the two milliseconds from 1 to 3.",
     },
     Form {
         name: "view",

@@ -39,6 +39,7 @@ pub enum Summary {
     StatsCsv,
     Why,
     Story,
+    Picture,
     Gantt,
 }
 
