@@ -1,5 +1,6 @@
 -- Lists by a test, one number further, and lists by tests that answer alike.
-use Rattle.std.proofs.Common.{◌≡◌, ℕ, zero, suc, ◌+◌, ◌<◌, ◌≤◌, Bool, true, false, List, [], ◌∷◌, ◌++◌, length, set, get_or, cond, refl, sym, ap, ◌∙◌, add-one, arith}
+use Rattle.std.proofs.Common.{◌≡◌, ℕ, zero, suc, ◌+◌, ◌<◌, ◌≤◌, ◌⊎◌, inl, inr, Bool, true, false, List, [], ◌∷◌, ◌++◌, length, set, get_or, cond, refl, sym, ap, ◌∙◌, add-one, arith}
+use Rattle.std.proofs.lemmas.Bool.{cases_eq}
 use Rattle.std.proofs.lemmas.List.{append-nil, length-set, get_or-set_other, set-get_or}
 use Rattle.scx_sched_machine.specs.declared.events.Event.{Event}
 use Rattle.scx_load_driver.specs.Blocks.{events_below, set_below}
@@ -24,7 +25,30 @@ pub no_events : (n : ℕ) (test : ℕ → Bool) (event : ℕ → Event) → ((t 
 no_events zero test event h = refl
 no_events (suc n) test event h = rw (h n (omega arith), no_events n test event (λ t l. h t (omega (arith, l)))) refl
 
+-- between two numbers between which none passes there is no event
+pub events_between : (a b : ℕ) (test : ℕ → Bool) (event : ℕ → Event) → a ≤ b → ((t : ℕ) → a ≤ t → t < b → test t ≡ false) → events_below b test event ≡ events_below a test event
+events_between a zero test event up h = let same : zero ≡ a = omega (arith, up) in ap (λ k. events_below k test event) same
+events_between a (suc b) test event up h = go (cases_eq a (suc b)) (λ l. events_between a b test event l (λ t from below. h t from (omega (arith, below))))
+  where
+    go : (a ≡ suc b) ⊎ (a ≡ suc b → ⊥) → (a ≤ b → events_below b test event ≡ events_below a test event) → events_below (suc b) test event ≡ events_below a test event
+    go (inl e) before = ap (λ k. events_below k test event) (sym e)
+    go (inr d) before =
+        ap (λ x. events_below b test event ++ cond x (event b ∷ []) []) (h b (omega (arith, up, d)) (omega arith))
+        ∙ append-nil (events_below b test event)
+        ∙ before (omega (arith, up, d))
+
 module _ {A : Type 0} where
+  -- between two numbers between which none passes nothing is set
+  pub sets_between : (a b : ℕ) (test : ℕ → Bool) (value : ℕ → A) (xs : List A) → a ≤ b → ((t : ℕ) → a ≤ t → t < b → test t ≡ false) → set_below b test value xs ≡ set_below a test value xs
+  sets_between a zero test value xs up h = let same : zero ≡ a = omega (arith, up) in ap (λ k. set_below k test value xs) same
+  sets_between a (suc b) test value xs up h = go (cases_eq a (suc b)) (λ l. sets_between a b test value xs l (λ t from below. h t from (omega (arith, below))))
+    where
+      go : (a ≡ suc b) ⊎ (a ≡ suc b → ⊥) → (a ≤ b → set_below b test value xs ≡ set_below a test value xs) → set_below (suc b) test value xs ≡ set_below a test value xs
+      go (inl e) before = ap (λ k. set_below k test value xs) (sym e)
+      go (inr d) before =
+          ap (λ x. cond x (set (set_below b test value xs) b (value b)) (set_below b test value xs)) (h b (omega (arith, up, d)) (omega arith))
+          ∙ before (omega (arith, up, d))
+
   -- a number that passes is set
   pub set_push : (n : ℕ) (test : ℕ → Bool) (value : ℕ → A) (xs : List A) → test n ≡ true → set_below (n + 1) test value xs ≡ set (set_below n test value xs) n (value n)
   set_push n test value xs e = rw (add-one, e) refl

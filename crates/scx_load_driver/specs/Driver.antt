@@ -1,5 +1,5 @@
 -- A driver: what is left of a workload.
-use Rattle.std.specs.Prelude.{ℕ, ◌+◌, ◌≡◌, ◌≤◌, Bool, true, false, List, [], ◌∷◌, ◌++◌, drop, length, slice_index, vec_capacity, ◌<◌}
+use Rattle.std.specs.Prelude.{ℕ, ◌+◌, ◌≡◌, ◌≤◌, Bool, true, false, List, [], ◌∷◌, ◌++◌, drop, length, vec_capacity, ◌<◌}
 use Rattle.scx_sched_machine.specs.declared.events.Event.{Event}
 use Rattle.scx_sched.specs.Sim.{SimState}
 use Rattle.scx_load_workloads.specs.Workload.{max_ms, timing_at}
@@ -8,6 +8,7 @@ use Rattle.scx_load_driver.specs.declared.driver.Phase.TheVariants as phase
 use Rattle.scx_load_driver.specs.declared.driver.Driver.TheInside.{Inside}
 use Rattle.scx_load_driver.specs.Runs.{stepped_all}
 use Rattle.scx_load_driver.specs.Blocks.{Plan, Memory, Block, Changes, Wakes, Ticks, Sleeps, Clock, ticks_of}
+use Rattle.scx_load_driver.specs.Quiet.{AreQuiet}
 use Rattle.scx_load_driver.specs.Watch.{is_watched, watched_after, watched_after_all, block_seen, memory_seen, watched_in, events_seen}
 use Rattle.scx_load_driver.specs.Events.{blocks_from}
 
@@ -85,15 +86,6 @@ woken_before phase.Wakes m = m
 woken_before phase.Ticks m = m + 1
 woken_before phase.Sleeps m = m + 1
 woken_before phase.Clock m = m + 1
-
--- of the tasks below a number, whoever wakes from that millisecond on wakes at the other or later
-abbrev pub AreQuietBelow : ℕ → List ℕ → ℕ → ℕ → Type 0
-AreQuietBelow n due from quiet =
-    (t : ℕ) → t < n → from ≤ slice_index due t → quiet ≤ slice_index due t
-
--- the same of all tasks
-abbrev pub AreQuiet : List ℕ → ℕ → ℕ → Type 0
-AreQuiet due from quiet = AreQuietBelow (length due) due from quiet
 
 -- nobody is watched, unless it may be that somebody is
 abbrev pub AreUnwatched : Bool → List Bool → Type 0

@@ -1,13 +1,17 @@
 //! The events of one block.
-ghost use Rattle.std.specs.Prelude.{◌≡◌, ℕ, ◌+◌, ◌≤◌, ◌<◌, [], length, slice_set, vec_capacity};
+ghost use Rattle.std.specs.Prelude.{◌≡◌, ℕ, ◌+◌, ◌≤◌, ◌<◌, [], ◌∷◌, ◌++◌, length, slice_set, vec_len, vec_capacity, if◌then◌else◌};
 ghost use Rattle.scx_sched_world.specs.World.{task_at, running};
 ghost use Rattle.scx_load_workloads.specs.Workload.{max_ms, timing_at};
 ghost use Rattle.scx_load_driver.specs.Blocks.{is_due, has_run_enough, changes_at, wakes_at, ran_after};
 ghost use Rattle.scx_load_driver.specs.Watch.{lacks_at_most, watched_if, watched_at_tick, watched_after, is_seen, sleeps_seen, due_seen, watched_still};
-ghost use Rattle.scx_load_driver.specs.Driver.{AreQuiet, AreUnwatched};
+ghost use Rattle.scx_sched_machine.specs.declared.events.Event.TheVariants.{Wake};
+ghost use Rattle.scx_load_driver.specs.Quiet.{AreQuiet};
+ghost use Rattle.scx_load_driver.specs.Driver.{AreUnwatched};
 
+use crate::rows::{Quiet, ROW};
 use scx_load_workloads::{Change, Timing};
 use scx_sched::{Event, Sim};
+use std::cmp;
 
 /// How long a millisecond is, in nanoseconds.
 const MS_NS: u64 = 1_000_000;
@@ -59,66 +63,82 @@ pub(crate) fn add_changes(changes: &[Change], now: u32, events: &mut Vec<Event>)
     }
 }
 
-/// The sooner of that millisecond and one that is to come.
+/// The task wakes if it is due; how long it has run is remembered.
 #[inline(always)]
-fn sooner(quiet: u32, due: u32, now: u32) -> u32
-    ensures least { result ≤ quiet }
-    ensures this { now + 1 ≤ due → result ≤ due }
+fn wake(due: &[u32], ran: &mut [u64], now: u32, sim: &Sim, task: u16, events: &mut Vec<Event>)
+    requires there { task < length due.now }
+    requires even { length ran.old ≡ length due.now }
+    requires room { vec_len events.old < vec_capacity events.old }
+    ensures events { events.new.items ≡ events.old.items
+        ++ (if is_due due.now now sim.now.state.world task then Wake task ∷ [] else []) }
+    ensures ran { ran.new ≡ if is_due due.now now sim.now.state.world task
+        then slice_set ran.old task (task_at sim.now.state.world task).run_ns else ran.old }
+    ensures even { length ran.new ≡ length due.now }
+    ensures one { vec_len events.new ≤ vec_len events.old + 1 }
+    ensures room { vec_capacity events.new ≡ vec_capacity events.old }
 {
-    if now < due && due < quiet { due } else { quiet }
+    if is_due(due, now, sim, task) {
+        events.push_reserved(Event::Wake(task));
+        ran[task as usize] = run_ns(sim, task);
+    }
 }
 
-/// The tasks that wake now; how long each has run is remembered. Answers before which millisecond nobody
-/// wakes behind this one.
-#[tactic(auto, using(crate::proofs::Below::events_push, crate::proofs::Below::events_skip, crate::proofs::Below::set_push, crate::proofs::Below::set_skip))]
-fn find_wakes(due: &[u32], ran: &mut [u64], now: u32, sim: &Sim, events: &mut Vec<Event>) -> u32
+/// The tasks that wake now; how long each has run is remembered. Rows of which nobody wakes are left out.
+fn find_wakes(
+    due: &[u32],
+    ran: &mut [u64],
+    quiet: &Quiet,
+    now: u32,
+    sim: &Sim,
+    events: &mut Vec<Event>,
+)
     requires few { length due.now ≤ 1024 }
     requires even { length ran.old ≡ length due.now }
+    requires quiet { AreQuiet due.now now quiet.now }
     requires room { 1024 ≤ vec_capacity events.old }
     requires empty { events.old.items ≡ [] }
     ensures events { events.new.items ≡ wakes_at due.now now sim.now.state.world }
     ensures ran { ran.new ≡ ran_after due.now ran.old now sim.now.state.world }
     ensures even { length ran.new ≡ length due.now }
     ensures room { 1024 ≤ vec_capacity events.new }
-    ensures quiet { AreQuiet due.now (now + 1) result }
 {
-    let mut quiet = u32::MAX;
-    for task in 0..due.len() as u16 {
-        quiet = sooner(quiet, due[task as usize], now);
-        if is_due(due, now, sim, task) {
-            events.push_reserved(Event::Wake(task));
-            ran[task as usize] = run_ns(sim, task);
+    let mut task = 0;
+    while task < due.len() {
+        if quiet.skips(task, now) {
+            task = cmp::min(task + ROW, due.len());
+        } else {
+            wake(due, ran, now, sim, task as u16, events);
+            task += 1;
         }
     }
-    quiet
 }
 
-/// The same, for one who knows before which millisecond nobody wakes.
+/// The same, and when tasks wake behind this millisecond. Where nobody wakes none is looked at.
 #[inline(always)]
 pub(crate) fn add_wakes(
     due: &[u32],
     ran: &mut [u64],
-    quiet: u32,
+    quiet: &mut Quiet,
     now: u32,
     sim: &Sim,
     events: &mut Vec<Event>,
-) -> u32
+)
     requires few { length due.now ≤ 1024 }
     requires even { length ran.old ≡ length due.now }
-    requires quiet { AreQuiet due.now now quiet }
+    requires quiet { AreQuiet due.now now quiet.old }
     requires room { 1024 ≤ vec_capacity events.old }
     requires empty { events.old.items ≡ [] }
     ensures events { events.new.items ≡ wakes_at due.now now sim.now.state.world }
     ensures ran { ran.new ≡ ran_after due.now ran.old now sim.now.state.world }
     ensures even { length ran.new ≡ length due.now }
     ensures room { 1024 ≤ vec_capacity events.new }
-    ensures quiet { AreQuiet due.now (now + 1) result }
+    ensures quiet { AreQuiet due.now (now + 1) quiet.new }
 {
-    if now < quiet {
-        quiet
-    } else {
-        find_wakes(due, ran, now, sim, events)
+    if now < quiet.all {
+        return;
     }
+    find_wakes(due, ran, quiet, now, sim, events);
+    quiet.refresh(due, now);
 }
 
 /// Whether the task has run as long as it runs at once, but for so many ticks at most.
@@ -188,18 +208,6 @@ fn watch(
     }
 }
 
-/// The task that runs on the processor; none where it isn't there.
-#[inline(always)]
-fn running(sim: &Sim, cpu: u32) -> Option<u16>
-    ensures { result ≡ running sim.now.state.world cpu }
-{
-    if cpu < sim.cpus() {
-        sim.running(cpu)
-    } else {
-        None
-    }
-}
-
 /// Watches who runs on the processor, which ticks next, where it lacks at most that tick. Answers whether
 /// somebody may be watched.
 #[inline(always)]
@@ -220,7 +228,7 @@ pub(crate) fn watch_runner(
     ensures even { length watched.new ≡ length timings.now }
     ensures unwatched { AreUnwatched result watched.new }
 {
-    match running(sim, cpu) {
+    match sim.runner(cpu) {
         Some(task) => watch(1, timings, ran, watched, some, sim, task),
         None => some,
     }
@@ -269,7 +277,7 @@ fn find_sleeps(
     due: &mut [u32],
     ran: &[u64],
     watched: &mut [bool],
-    quiet: &mut u32,
+    quiet: &mut Quiet,
     now: u32,
     sim: &Sim,
     events: &mut Vec<Event>,
@@ -301,7 +309,7 @@ fn find_sleeps(
             let ms = now + 1 + timings[task as usize].sleep;
             events.push_reserved(Event::Sleep(task));
             due[task as usize] = ms;
-            *quiet = sooner(*quiet, ms, now);
+            quiet.lower(task, ms);
             some = true;
         } else {
             watched[task as usize] = false;
@@ -318,7 +326,7 @@ pub(crate) fn add_sleeps(
     ran: &[u64],
     watched: &mut [bool],
     some: bool,
-    quiet: &mut u32,
+    quiet: &mut Quiet,
     now: u32,
     sim: &Sim,
     events: &mut Vec<Event>,

@@ -4,6 +4,7 @@ ghost use Rattle.scx_load_workloads.specs.declared.workload.Timing.{Timing};
 ghost use Rattle.scx_load_driver.specs.Events.{workload_events};
 
 use crate::blocks::{add_changes, add_sleeps, add_wakes, watch_event, watch_runner};
+use crate::rows::Quiet;
 use scx_load_workloads::{Change, Timing, Workload};
 use scx_sched::{Event, Sim};
 use std::alloc::{AllocError, Global};
@@ -40,8 +41,8 @@ pub struct Driver {
     left: u32,
     /// When each task wakes.
     due: Vec<u32>,
-    /// Nobody wakes before this millisecond any more.
-    quiet: u32,
+    /// Before which milliseconds nobody wakes any more.
+    quiet: Quiet,
     /// How long each task had run when it woke last, in nanoseconds.
     ran: Vec<u64>,
     /// Which tasks may have run enough.
@@ -88,7 +89,7 @@ impl Driver {
             clock: 0,
             left: workload.ms(),
             due,
-            quiet: 0,
+            quiet: Quiet::new(),
             ran,
             watched,
             some_watched: true,
@@ -216,7 +217,7 @@ impl Driver {
                 self.phase = Phase::Wakes;
             }
             Phase::Wakes => {
-                self.quiet = add_wakes(&self.due, &mut self.ran, self.quiet, now, sim, events);
+                add_wakes(&self.due, &mut self.ran, &mut self.quiet, now, sim, events);
                 self.phase = Phase::Ticks;
             }
             Phase::Ticks => {

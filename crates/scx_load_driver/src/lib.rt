@@ -8,6 +8,7 @@
 mod blocks;
 mod driver;
 mod laws;
+mod rows;
 
 pub use driver::{Driver, Phase};
 pub use laws::no_event_is_refused;

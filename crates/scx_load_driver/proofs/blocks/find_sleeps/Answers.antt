@@ -3,7 +3,7 @@ use Rattle.scx_sched_machine.specs.declared.events.Event.TheVariants.{Sleep}
 use Rattle.scx_load_workloads.specs.Workload.{timing_at}
 use Rattle.scx_load_driver.specs.Watch.{is_seen}
 use Rattle.scx_load_driver.proofs.Below.{events_push, events_skip, set_push, set_skip}
-use Rattle.scx_load_driver.specs.Driver.{AreQuiet}
+use Rattle.scx_load_driver.specs.Quiet.{AreQuiet, with_sooner}
 use Rattle.scx_load_driver.proofs.Quiet.{AreUnwatchedBelow, seen_above, quiet_set, unwatched_more}
 use Rattle.scx_load_driver.proofs.blocks.find_sleeps.Goals.{then-is_seen, else-is_seen}
 use Rattle.scx_load_driver.proofs.blocks.find_sleeps.Goals as goal
@@ -29,9 +29,9 @@ loop-task-preserved c =
             even_watched = (search rules);
             unwatched = λ (e : c.if-is_seen.some ≡ false) t l. let y = sym x.some-is ∙ e in absurd (cc);
             quiet =
-                subst (λ q. AreQuiet c.if-is_seen.due (c.args.now + 1) q) (sym x.quiet-is)
-                (subst (λ ds. AreQuiet ds (c.args.now + 1) x.sooner.result) (sym x.due-is)
-                (quiet_set c.loop-task.due k _ (c.args.now + 1) c.loop-task.quiet x.sooner.result c.loop-task.invariant.quiet x.sooner.ensures.least x.sooner.ensures.this));
+                subst (λ q. AreQuiet c.if-is_seen.due (c.args.now + 1) q) (sym (x.quiet-is ∙ x.lower.ensures))
+                (subst (λ ds. AreQuiet ds (c.args.now + 1) (with_sooner c.loop-task.quiet k (c.args.now + 1 + (timing_at c.args.timings.now k).sleep))) (sym x.due-is)
+                (quiet_set c.loop-task.due k (c.args.now + 1 + (timing_at c.args.timings.now k).sleep) (c.args.now + 1) c.loop-task.quiet c.loop-task.invariant.quiet));
             few = (search rules);
             room = (search rules);
           }

@@ -3,7 +3,7 @@ use Rattle.scx_sched_machine.specs.declared.events.Event.TheVariants.{Sleep}
 use Rattle.scx_load_workloads.specs.Workload.{timing_at}
 use Rattle.scx_load_driver.specs.Blocks.{events_below, set_below}
 use Rattle.scx_load_driver.specs.Watch.{is_seen}
-use Rattle.scx_load_driver.specs.Driver.{AreQuiet}
+use Rattle.scx_load_driver.specs.Quiet.{AreQuiet}
 use Rattle.scx_load_driver.proofs.Quiet.{AreUnwatchedBelow}
 use Rattle.scx_load_driver.proofs.blocks.find_sleeps.Given as goal
 

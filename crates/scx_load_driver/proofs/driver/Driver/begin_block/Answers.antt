@@ -18,9 +18,9 @@ returns-in-Wakes c =
     let inside = c.self.inside in
     let whole = c.self.invariant in
     let some = some_left inside.phase inside.left inside.clock (ap (λ (d : DriverState). not (is_empty d.blocks)) c.self.view_is ∙ c.requires) in
-    let even : length c.add_wakes-self-inside.new.ran ≡ inside.ran.len = omega (arith, c.add_wakes-self-inside.ensures.even, ap length c.deref-in-Wakes.ensures.value, whole.due, whole.ran, inside.ran.ok.0) in
-    begun_wakes (state_of inside) inside.clock inside.left c.args.sim.now _ (with_items inside.ran c.add_wakes-self-inside.new.ran).items some
-    (ap (λ q. blocks_left q inside.clock inside.left) c.in-Wakes.is) (none_ticks inside.cpus inside.cpus _ _ (omega arith) (search rules)) (with_items_is inside.ran c.add_wakes-self-inside.new.ran even ∙ (search rules))
+    let even : length c.add_wakes.new.ran ≡ inside.ran.len = omega (arith, c.add_wakes.ensures.even, ap length c.deref-in-Wakes.ensures.value, whole.due, whole.ran, inside.ran.ok.0) in
+    begun_wakes (state_of inside) inside.clock inside.left c.args.sim.now _ (with_items inside.ran c.add_wakes.new.ran).items some
+    (ap (λ q. blocks_left q inside.clock inside.left) c.in-Wakes.is) (none_ticks inside.cpus inside.cpus _ _ (omega arith) (search rules)) (with_items_is inside.ran c.add_wakes.new.ran even ∙ (search rules))
     ∙ ap (λ (d : DriverState). at_next_block d c.args.sim.now) c.self.view_is
 
 pub returns-in-Ticks : goal.returns-in-Ticks
