@@ -4,9 +4,8 @@ use crate::files::{RunFiles, Unread, files_of, hint_of_files};
 use crate::remarks::{named, remark_of_run};
 use scxsim_charts::{Span, gantt, title};
 use scxsim_commands::{Fault, Hint, Out, Refusal, hint_of_refusal, text};
-use scxsim_page::{Paths, view};
-use scxsim_pictures::{picture, timeline};
 use scxsim_drawing::picture;
+use scxsim_page::{Paths, view};
 use scxsim_pictures::timeline;
 use scxsim_progress::Progress;
 use scxsim_simulation::{Listener, replay, report, simulate};
@@ -133,7 +132,6 @@ fn write_course<L: Listener, W: Out>(
     match course {
         Course::Trace => simulate(alloc, policy, workload, listener, out),
         Course::Timeline => timeline(alloc, policy, workload, listener, out),
-        Course::Picture => picture(alloc, policy, workload, listener, out),
         Course::View => write_view(alloc, texts, listener, out),
     }
 }
@@ -162,7 +160,6 @@ fn write_summary<L: Listener, W: Out>(
 }
 
 fn write_story<L: Listener, W: Out>(
-fn write_picture<L: Listener, W: Out>(
     alloc: Global,
     texts: RunTexts<'_>,
     listener: &mut L,
@@ -214,6 +211,19 @@ fn write_view<L: Listener, W: Out>(
     };
     let span = span_of(words.part);
     view(alloc, paths, policy, workload, span, listener, out)
+}
+
+fn write_picture<L: Listener, W: Out>(
+    alloc: Global,
+    texts: RunTexts<'_>,
+    listener: &mut L,
+    out: &mut W,
+) -> Result<bool, Fault> {
+    let RunTexts {
+        policy,
+        workload,
+        words,
+    } = texts;
     let title = title_of(alloc, words)?;
     let span = span_of(words.part);
     picture(alloc, title.as_str(), policy, workload, span, listener, out)

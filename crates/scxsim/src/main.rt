@@ -35,11 +35,10 @@ pub use scxsim_commands::{
 pub use scxsim_drawing::picture;
 pub use scxsim_explain::explain;
 pub use scxsim_page::view;
-pub use scxsim_pictures::{picture, timeline};
+pub use scxsim_pictures::{picture, timeline, timeline};
 pub use scxsim_simulation::{Listener, replay, report, simulate};
 pub use scxsim_statistics::{replay_csv, stats, stats_csv};
 pub use scxsim_story::story;
-pub use scxsim_pictures::timeline;
 pub use scxsim_why::why;
 use std::io;
 use std::io::BufWriter;

@@ -29,8 +29,7 @@ pub(crate) fn forms() -> &'static [Form] {
     &FORMS
 }
 
-const FORMS: [Form; 20] = [
-const FORMS: [Form; 16] = [
+const FORMS: [Form; 21] = [
     Form {
         name: "verify",
         kind: Kind::Policy(PolicyCommand::Verify),

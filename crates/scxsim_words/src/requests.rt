@@ -27,7 +27,6 @@ pub enum Account {
 pub enum Course {
     Trace,
     Timeline,
-    Picture,
     View,
 }
 
