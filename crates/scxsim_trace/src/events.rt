@@ -23,6 +23,7 @@ pub trait Events {
 impl Events for Driver {
     ghost remaining = { driver.remaining };
 
+    #[inline(always)]
     fn next(&mut self, sim: &Sim) -> Option<Event> {
         Driver::next(self, sim)
     }

@@ -3,14 +3,43 @@ ghost use Rattle.std.specs.Io.KnownBytes.{Appends};
 ghost use Rattle.scxsim_output.specs.Output.{HasFailed, AppendsBeginning};
 ghost use Rattle.scxsim_trace.specs.Lines.{note_lines};
 ghost use Rattle.scx_load_driver.specs.Runs.{notes_of_all, stepped_all};
-ghost use Rattle.scxsim_trace.specs.Runs.{StaysInOrder, GoesThrough, StopsAtFailure};
+ghost use Rattle.scx_sched_machine.specs.Notes.{Takes};
+ghost use Rattle.scx_sched.specs.Sim.{after_event, notes_of};
+ghost use Rattle.scxsim_trace.specs.Runs.{IsInOrder, GoesWell, StaysInOrder, GoesThrough, StopsAtFailure};
 
 use crate::events::Events;
 use crate::names::Names;
 use crate::silence::Silence;
 use crate::trace::Trace;
-use scx_sched::{Sim, Sink};
+use scx_sched::{Event, Sim, Sink};
 use scxsim_output::{Failed, Out};
+
+/// Gives an event to the machine.
+#[inline(always)]
+fn step<S: Sink>(sim: &mut Sim, event: Event, sink: &mut S)
+    ensures state { sim.new ≡ after_event sim.old event }
+    ensures notes { Takes S.takes sink.old (notes_of sim.old event) sink.new }
+    ensures well { GoesWell sim.old event }
+    ensures order { IsInOrder sim.new }
+{
+    let _ = sim.step(event, sink);
+    sim.is_sound();
+}
+
+/// Gives an event to the machine. Most are ticks, which have a place of their own: what is compiled there
+/// doesn't ask which event it is.
+#[inline(always)]
+fn take<S: Sink>(sim: &mut Sim, event: Event, sink: &mut S)
+    ensures state { sim.new ≡ after_event sim.old event }
+    ensures notes { Takes S.takes sink.old (notes_of sim.old event) sink.new }
+    ensures well { GoesWell sim.old event }
+    ensures order { IsInOrder sim.new }
+{
+    match event {
+        Event::Tick(cpu) => step(sim, Event::Tick(cpu), sink),
+        other => step(sim, other, sink),
+    }
+}
 
 /// Gives the events to the machine, one after another, up to the end or until the sink has failed.
 #[tactic(auto, using(crate::proofs::Going::gone_to_end))]
@@ -20,8 +49,7 @@ fn go_through<E: Events, S: Sink>(sim: &mut Sim, events: &mut E, sink: &mut S)
 {
     sim.is_sound();
     while let Some(event) = events.next(sim) {
-        let _ = sim.step(event, sink);
-        sim.is_sound();
+        take(sim, event, sink);
         if sink.failed() {
             return;
         }
