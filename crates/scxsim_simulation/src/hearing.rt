@@ -47,6 +47,7 @@ impl<'a, E: Events, L: Listener> Heard<'a, E, L> {
 impl<E: Events, L: Listener> Events for Heard<'_, E, L> {
     ghost remaining = { λ heard s. E.remaining heard.events s };
 
+    #[inline(always)]
     fn next(&mut self, sim: &Sim) -> Option<Event> {
         let event = self.events.next(sim);
         match event {
