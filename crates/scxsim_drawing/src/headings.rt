@@ -128,7 +128,7 @@ impl Picture {
         pen.y.saturating_add(LINE)
     }
 
-    /// Draws the title, the legend, and what is added up. The answer is where that ends, in pixels.
+    /// Draws the title, the legend, and what is added up.
     pub(crate) fn draw_heading(&self, sheet: &mut Sheet, title: &str) {
         self.draw_title(sheet, title);
         let mut pen = Pen::first();
