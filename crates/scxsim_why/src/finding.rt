@@ -4,11 +4,14 @@ ghost use Rattle.scxsim_simulation.specs.Runs.{IsCause};
 ghost use Rattle.scxsim_statistics.specs.Figures.{AreOfTexts};
 ghost use Rattle.scxsim_why.specs.Idling.{idle_of, IsIdleOfTexts};
 
+use crate::ending::{Cause, Ejection};
 use crate::halves::Half;
 use crate::watching::Account;
 use crate::worst::worst_of;
+use scx_load_workloads::Workload;
 use scx_sched::Sim;
 use scxsim_commands::Refusal;
+use scxsim_faults::{FaultPlace, find_fault};
 use scxsim_simulation::{Heard, Listener, Run, give_back, prepare};
 use scxsim_statistics::{Figures, figures};
 use scxsim_trace::Events;
@@ -22,6 +25,8 @@ pub struct Findings {
     pub figures: Figures,
     pub idle: IdleFigures,
     pub(crate) account: Account,
+    /// Where the fault came for which the policy was ejected.
+    pub(crate) fault: Option<FaultPlace>,
 }
 
 /// How processors were idle while a task waited for one.
@@ -52,11 +57,32 @@ pub fn examine<L: Listener>(
     let run = prepare(alloc, policy, workload)?;
     let account = second_half(alloc, &figures, run, listener)?;
     let idle = account.idling.figures();
+    let fault = fault_of(alloc, policy, &figures.workload, account.ejection)?;
     Ok(Findings {
         figures,
         idle,
         account,
+        fault,
     })
+}
+
+/// Where the fault came, if the policy was ejected for one.
+fn fault_of(
+    alloc: Global,
+    policy: &str,
+    workload: &Workload,
+    ejection: Option<Ejection>,
+) -> Result<Option<FaultPlace>, AllocError> {
+    match ejection {
+        Some(
+            Ejection {
+                clock,
+                cause: Cause::Fault(_, _),
+                ..
+            },
+        ) => find_fault(alloc, policy, workload, clock),
+        _ => Ok(None),
+    }
 }
 
 /// Goes through the run the first time.

@@ -7,7 +7,8 @@ use crate::waits::Meanwhile;
 use crate::watching::Account;
 use crate::words::Count;
 use scx_load_workloads::Workload;
-use scx_sched::{Event, Sink};
+use scx_sched::{Event, Fault, Sink};
+use scxsim_faults::{FaultPlace, write_call, write_policy_queues, write_reason};
 use scxsim_output::Counted;
 use scxsim_trace::{Names, Trace};
 use scxsim_views::{QueueName, fault_words};
@@ -21,7 +22,7 @@ pub(crate) fn write_page(
 ) -> Result<(), AllocError> {
     let account = &found.account;
     let workload = &found.figures.workload;
-    write_ending(workload, account.ejection, page)?;
+    write_ending(workload, account.ejection, found.fault, page)?;
     write_worst(found, page)?;
     write_idle(found, page)?;
     write_undrained(account, page)?;
@@ -37,6 +38,7 @@ pub(crate) fn write_page(
 fn write_ending(
     workload: &Workload,
     ejection: Option<Ejection>,
+    place: Option<FaultPlace>,
     page: &mut String,
 ) -> Result<(), AllocError> {
     let Some(ejection) = ejection else {
@@ -55,23 +57,60 @@ fn write_ending(
             let words = fault_words(fault);
             write!(page, "fault {number}, {words}, ")?;
             write_event(workload, event, page)
+            write!(page, "fault {number}")?;
+            match place {
+                Some(place) => write_fault(workload, place, event, page),
+                None => write_unplaced(workload, fault, event, page),
+            }
         }
     }
+}
+
+/// Writes in which callback a fault came, and with what call.
+fn write_fault(
+    workload: &Workload,
+    place: FaultPlace,
+    event: Event,
+    page: &mut String,
+) -> Result<(), AllocError> {
+    let callback = place.callback.name();
+    let slot = place.slot;
+    write!(page, " in {callback} at slot {slot}, ")?;
+    write_event(workload, event, page)?;
+    page.push_str(": ")?;
+    write_call(&place, workload, page)?;
+    page.push_str(": ")?;
+    write_reason(&place, workload, page)?;
+    write_policy_queues(&place, page)?;
+    page.push_str("\n")
+}
+
+/// Writes a fault of which no more is known.
+fn write_unplaced(
+    workload: &Workload,
+    fault: Fault,
+    event: Event,
+    page: &mut String,
+) -> Result<(), AllocError> {
+    let words = words_of(fault);
+    write!(page, ", {words}, ")?;
+    write_event(workload, event, page)?;
+    page.push_str("\n")
 }
 
 fn write_event(workload: &Workload, event: Event, page: &mut String) -> Result<(), AllocError> {
     match event {
         Event::Wake(task) => {
             let name = workload.task(task);
-            writeln!(page, "as {name} woke")
+            write!(page, "as {name} woke")
         }
         Event::Sleep(task) => {
             let name = workload.task(task);
-            writeln!(page, "as {name} went to sleep")
+            write!(page, "as {name} went to sleep")
         }
-        Event::Tick(cpu) => writeln!(page, "at a tick of processor {cpu}"),
-        Event::Clock => writeln!(page, "as the clock grew"),
-        Event::SetWeight(_, _) => writeln!(page, "as a weight changed"),
+        Event::Tick(cpu) => write!(page, "at a tick of processor {cpu}"),
+        Event::Clock => write!(page, "as the clock grew"),
+        Event::SetWeight(_, _) => write!(page, "as a weight changed"),
     }
 }
 
