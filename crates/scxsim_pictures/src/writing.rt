@@ -39,6 +39,7 @@ pub fn write_document<S: Sketch + Drop, L: Listener, W: Out>(
         workload,
         driver,
         mut sim,
+        ..
     } = run;
     let mut events = Heard::new(driver, workload.ms(), listener);
     let written = write_events(&mut sim, &mut events, sketch, &workload, head, end, out);

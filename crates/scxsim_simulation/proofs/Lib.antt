@@ -2,3 +2,4 @@ mod Shapes
 pub mod Running
 mod Passing
 mod Holding
+mod Causing

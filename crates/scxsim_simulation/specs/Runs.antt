@@ -9,6 +9,8 @@ use Rattle.scx_sched_machine.specs.Policy.{PolicyState}
 use Rattle.scx_sched_machine.specs.Callbacks.{AreAnswered}
 use Rattle.scx_sched_machine.specs.Start.{first_state, start_calls}
 use Rattle.scx_sched.specs.Sim.{SimState, IsFirstState}
+use Rattle.scx_isa_semantics.specs.Results.{◌>>=◌}
+use Rattle.scx_load_files.specs.Faults.{Reading}
 use Rattle.scx_load_policies.specs.Policies.{PolicyFile}
 use Rattle.scx_load_policies.specs.Reading.{policy_text}
 use Rattle.scx_load_policies.specs.declared.building.BuildError.TheVariants as build
@@ -40,6 +42,9 @@ pub record IsRun (policy workload : List ℕ) (w : WorkloadState) (s : SimState)
   pub begun : IsBegun policy w s
   pub workload_read : workload_of workload ≡ Ok w
   pub accepted : AreAccepted s (workload_events w s)
+-- the name that a policy's text gives the policy; empty where it gives none
+abbrev pub name_in : List ℕ → Reading (List ℕ)
+name_in policy = policy_text policy >>= λ file. Ok file.name
 
 -- a line for each note of its events
 abbrev pub trace_text : WorkloadState → SimState → List ℕ

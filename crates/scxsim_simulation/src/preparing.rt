@@ -1,4 +1,4 @@
-ghost use Rattle.std.specs.Prelude.{◌≡◌, ◌≢◌, false, Ok, IfOk, IfErr, OnOk};
+ghost use Rattle.std.specs.Prelude.{◌≡◌, ◌≢◌, false, Ok, IfOk, IfErr, OnOk, string_bytes};
 ghost use Rattle.scx_weights.specs.Hierarchy.{idle};
 ghost use Rattle.scx_sched_machine.specs.declared.start.NewError.TheVariants.{BadShape};
 ghost use Rattle.scx_sched_machine.specs.Callbacks.{AreAnswered};
@@ -11,7 +11,7 @@ ghost use Rattle.scx_load_driver.specs.Events.{workload_events};
 ghost use Rattle.scx_load_driver.specs.Runs.{AreAccepted};
 ghost use Rattle.scxsim_commands.specs.declared.refusal.Refusal.TheVariants.{NoMemory};
 ghost use Rattle.scxsim_commands.specs.Refusals.{policy_refusal, workload_refusal};
-ghost use Rattle.scxsim_simulation.specs.Runs.{IsRun, IsCause, IsPolicyFault, IsWorkloadFault, IsStartFault};
+ghost use Rattle.scxsim_simulation.specs.Runs.{IsRun, name_in, IsCause, IsPolicyFault, IsWorkloadFault, IsStartFault};
 ghost use Rattle.scxsim_simulation.specs.Refusals.{or_refusal, IsStartRefusal};
 
 use crate::hearing::{Heard, Listener};
@@ -28,6 +28,8 @@ use std::alloc::{AllocError, Global};
 /// A run that is about to begin.
 #[derive(Drop)]
 pub struct Run {
+    /// The policy's name, empty where its file gives none.
+    pub policy_name: String,
     pub workload: Workload,
     pub driver: Driver,
     pub sim: Sim,
@@ -48,17 +50,20 @@ pub fn prepare(alloc: Global, policy: &str, workload: &str) -> Result<Run, Refus
     ensures run { IfOk result (λ run. IsRun policy.now workload.now run.workload run.sim) }
     ensures events { IfOk result
         (λ run. remaining run.driver run.sim ≡ workload_events run.workload run.sim) }
+    ensures named { IfOk result (λ run. name_in policy.now ≡ Ok (string_bytes run.policy_name)) }
     ensures refused { IfErr result (IsCause policy.now workload.now) }
 {
     let text = policy_in(alloc, policy)?;
     let workload = workload_in(alloc, workload)?;
+    let name = String::from_str(alloc, text.name())?;
     let policy = build(alloc, text)?;
-    begin(alloc, policy, workload)
+    begin(alloc, name, policy, workload)
 }
 
 /// The run of a workload under a policy. All of its memory is taken here.
 #[tactic(auto, using(scx_load_driver::proofs::Law::none_is_refused))]
-fn begin(alloc: Global, policy: Policy, workload: Workload) -> Result<Run, Refusal>
+fn begin(alloc: Global, name: String, policy: Policy, workload: Workload) -> Result<Run, Refusal>
+    ensures name { IfOk result (λ run. run.policy_name ≡ name) }
     ensures workload { IfOk result (λ run. run.workload ≡ workload) }
     ensures first { IfOk result
         (λ run. IsFirstState policy (idle workload.groups workload.homes) workload.cpus run.sim) }
@@ -72,8 +77,9 @@ fn begin(alloc: Global, policy: Policy, workload: Workload) -> Result<Run, Refus
 {
     workload.is_whole();
     match Driver::new(alloc, &workload) {
-        Ok(driver) => begin_at(alloc, policy, workload, driver),
+        Ok(driver) => begin_at(alloc, name, policy, workload, driver),
         Err(AllocError) => {
+            drop(name);
             drop(policy);
             drop(workload);
             Err(Refusal::NoMemory)
@@ -84,10 +90,12 @@ fn begin(alloc: Global, policy: Policy, workload: Workload) -> Result<Run, Refus
 /// The run of a workload under a policy, whose events are at hand.
 fn begin_at(
     alloc: Global,
+    name: String,
     policy: Policy,
     workload: Workload,
     driver: Driver,
 ) -> Result<Run, Refusal>
+    ensures name { IfOk result (λ run. run.policy_name ≡ name) }
     ensures workload { IfOk result (λ run. run.workload ≡ workload) }
     ensures driver { IfOk result (λ run. run.driver ≡ driver) }
     ensures first { IfOk result
@@ -99,11 +107,13 @@ fn begin_at(
 {
     match start(alloc, policy, &workload) {
         Ok(sim) => Ok(Run {
+            policy_name: name,
             workload,
             driver,
             sim,
         }),
         Err(refusal) => {
+            drop(name);
             drop(workload);
             drop(driver);
             Err(refusal)

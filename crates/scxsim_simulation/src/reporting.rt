@@ -70,6 +70,7 @@ fn write_end<L: Listener, W: Out>(run: Run, listener: &mut L, out: &mut W) -> Re
         workload,
         driver,
         mut sim,
+        ..
     } = run;
     let mut events = Heard::new(driver, workload.ms(), listener);
     run_silently(&mut sim, &mut events);

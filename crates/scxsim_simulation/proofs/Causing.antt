@@ -1,0 +1,22 @@
+-- Why texts are refused whose workload is.
+use Rattle.std.proofs.Common.{◌≡◌, ℕ, List, Ok, refl, sym, subst}
+use Rattle.std.specs.Prelude.{IsOk}
+use Rattle.scx_load_policies.specs.Policies.{PolicyFile}
+use Rattle.scx_load_policies.specs.Reading.{policy_text}
+use Rattle.scxsim_commands.specs.declared.refusal.Refusal.{Refusal}
+use Rattle.scxsim_commands.specs.declared.refusal.Refusal.TheVariants.{TooLarge, NotUtf8, NoMemory, OutOfRange, Decode, Verify, Assemble, Callback, Policy, Workload, Init}
+use Rattle.scxsim_simulation.specs.Runs.{IsWorkloadFault, IsCause}
+
+-- where the policy is read, what its workload is refused for is why both are
+pub workload_cause : (policy workload : List ℕ) (file : PolicyFile) (r : Refusal) → policy_text policy ≡ Ok file → IsWorkloadFault workload r → IsCause policy workload r
+workload_cause policy workload file (Workload path cause) read fault = (subst (λ x. IsOk x) (sym read) refl, fault)
+workload_cause policy workload file NoMemory read fault = tt
+workload_cause policy workload file TooLarge read fault = absurd fault
+workload_cause policy workload file (OutOfRange word) read fault = absurd fault
+workload_cause policy workload file NotUtf8 read fault = absurd fault
+workload_cause policy workload file (Decode f slot) read fault = absurd fault
+workload_cause policy workload file (Verify f slot) read fault = absurd fault
+workload_cause policy workload file (Assemble f line) read fault = absurd fault
+workload_cause policy workload file (Callback b f slot) read fault = absurd fault
+workload_cause policy workload file (Policy path cause) read fault = absurd fault
+workload_cause policy workload file (Init answer) read fault = absurd fault
