@@ -58,6 +58,7 @@ pub(crate) fn gather<L: Listener>(
         workload,
         driver,
         mut sim,
+        ..
     } = run;
     let mut events = Heard::new(driver, workload.ms(), listener);
     let gathered = gather_from(alloc, &workload, scale, &mut events, &mut sim);

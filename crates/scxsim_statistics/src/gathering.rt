@@ -51,6 +51,8 @@ pub(crate) fn gather<L: Listener>(
         workload,
         driver,
         sim,
+        mut sim,
+        ..
     } = run;
     gather_events(alloc, workload, driver, sim, listener)
 }

@@ -116,6 +116,7 @@ fn second_half<L: Listener>(
         workload,
         driver,
         mut sim,
+        ..
     } = run;
     let mut half = Half {
         listener,
