@@ -11,9 +11,9 @@ use Rattle.scx_sched_machine.specs.declared.events.Event.TheVariants as event
 use Rattle.scx_sched.specs.Sim.{SimState, after_event, notes_of}
 use Rattle.scxsim_views.specs.Watching.{noted_all, kept_of_all}
 use Rattle.scxsim_statistics.specs.declared.tally.CpuFigures.{CpuFigures}
-use Rattle.scxsim_statistics.specs.Waits.{at_most_64_bits, up}
+use Rattle.scxsim_statistics.specs.Lengths.{one_if, at_most_64_bits, up}
 use Rattle.scxsim_statistics.specs.Counting.{Counts, unused_cpu, cpu_at, with_tick, with_begin, cpus_counted, counts_after_note, counts_after_event}
-use Rattle.scxsim_statistics.specs.Figures.{is_tick, one_if, busy_in, idle_in}
+use Rattle.scxsim_statistics.specs.Figures.{is_tick, busy_in, idle_in}
 use Rattle.scxsim_statistics.proofs.Places.{at_changed_by, part_stays}
 use Rattle.scxsim_statistics.proofs.Told.{more_if}
 
@@ -93,7 +93,7 @@ is_ticked c s (event.Tick b) k within =
       idle = ap (λ (x : CpuFigures). x.idle) at ∙ said.1;
     }
 is_ticked c s (event.Wake t) k within = untouched c s (event.Wake t) k refl refl
-is_ticked c s (event.Sleep t) k within = untouched c s (event.Sleep t) k refl refl
+is_ticked c s (event.Sleep t) k within = record { there = refl; busy = refl; idle = refl }
 is_ticked c s event.Clock k within = untouched c s event.Clock k refl refl
 is_ticked c s (event.SetWeight g x) k within = untouched c s (event.SetWeight g x) k refl refl
 

@@ -1,5 +1,7 @@
 -- The figures of the run that texts stand for.
-use Rattle.std.proofs.Common.{◌≡◌, ℕ, List, length, sym, subst, ◌∙◌}
+use Rattle.std.proofs.Common.{◌≡◌, ℕ, List, Ok, length, sym, ap, subst, ◌∙◌}
+use Rattle.std.specs.Prelude.{String, string_bytes}
+use Rattle.std.specs.declared.alloc.Global.{Global}
 use Rattle.scx_weights.specs.Hierarchy.{idle}
 use Rattle.scx_sched_machine.specs.declared.events.Event.{Event}
 use Rattle.scx_sched.specs.Sim.{SimState}
@@ -9,10 +11,10 @@ use Rattle.scx_load_workloads.specs.Workload.{WorkloadState}
 use Rattle.scx_load_driver.specs.Runs.{stepped_all}
 use Rattle.scx_load_replay.specs.Replay.{ReplayState}
 use Rattle.scx_load_replay.specs.Events.{replay_events}
-use Rattle.scxsim_simulation.specs.Runs.{IsRun, last_of}
+use Rattle.scxsim_simulation.specs.Runs.{IsRun, last_of, name_in}
 use Rattle.scxsim_simulation.specs.Replays.{IsReplayRun}
 use Rattle.scxsim_statistics.specs.declared.gathering.Figures.{Figures}
-use Rattle.scxsim_statistics.specs.Figures.{AreOfRun, AreOfTexts, AreOfEvents}
+use Rattle.scxsim_statistics.specs.Figures.{AreOfRun, AreOfTexts, AreOfEvents, of_figures}
 use Rattle.scxsim_statistics.proofs.Staying.{tasks_stay}
 
 all_there : (policy workload : List ℕ) (w : WorkloadState) (s : SimState) → IsRun policy workload w s → length (last_of w s).state.world.tasks ≡ length w.homes
@@ -21,16 +23,17 @@ all_there policy workload w s run =
 
 -- figures of the run that two texts stand for, through all its events, are figures of the texts
 pub of_texts : (policy workload : List ℕ) (w : WorkloadState) (s : SimState) (es : List Event) (f : Figures)
-    → f.workload ≡ w → IsRun policy workload w s → es ≡ workload_events w s → AreOfRun w s es f.tasks.items f.cpus.items → AreOfTexts policy workload f
-of_texts policy workload w s es f same run events figures =
+    → f.workload ≡ w → IsRun policy workload w s → es ≡ workload_events w s → AreOfRun w s es (of_figures f) → name_in policy ≡ Ok (string_bytes f.policy_name) → AreOfTexts policy workload f
+of_texts policy workload w s es f same run events figures named =
     let P : WorkloadState → Type 0 = λ v. IsRun policy workload v s in
     let Q : WorkloadState → Type 0 = λ v. length (last_of v s).state.world.tasks ≡ length v.homes in
-    let R : WorkloadState → Type 0 = λ v. AreOfRun v s (workload_events v s) f.tasks.items f.cpus.items in
+    let R : WorkloadState → Type 0 = λ v. AreOfRun v s (workload_events v s) (of_figures f) in
     record {
       first = s;
       run = subst P (sym same) run;
       all_there = subst Q (sym same) (all_there policy workload w s run);
-      of_run = subst R (sym same) (subst (λ xs. AreOfRun w s xs f.tasks.items f.cpus.items) events figures);
+      of_run = subst R (sym same) (subst (λ xs. AreOfRun w s xs (of_figures f)) events figures);
+      named = named;
     }
 
 all_listed : (policy events : List ℕ) (r : ReplayState) (s : SimState) → IsReplayRun policy events r s → length (stepped_all s (replay_events r)).state.world.tasks ≡ length r.workload.homes
@@ -50,3 +53,6 @@ of_events policy events r w s es f same of run listed figures =
       all_there = all_listed policy events r s run;
       of_run = subst R of (subst (λ xs. AreOfRun w s xs f.tasks.items f.cpus.items) listed figures);
     }
+-- what was taken over is the name that it was taken from
+pub name_is : (policy : List ℕ) (f g : String Global) → f ≡ g → name_in policy ≡ Ok (string_bytes g) → name_in policy ≡ Ok (string_bytes f)
+name_is policy f g same named = named ∙ ap (λ n. Ok (string_bytes n)) (sym same)

@@ -215,7 +215,7 @@ row_of_notes t (n ∷ ns) k there =
 
 same_rows : (t : ℕ) (s : SimState) (e : Event) (k : Counts) → IsThere t k → IsThere t (counts_after_event s e k) × (row t (counts_after_event s e k) ≡ row t k)
 same_rows t s (event.Wake u) k there = (there, refl)
-same_rows t s (event.Sleep u) k there = (there, refl)
+same_rows t s (event.Sleep u) k there = (record { tasks = there.tasks; doing = there.doing }, refl)
 same_rows t s (event.Tick c) k there = (record { tasks = there.tasks; doing = there.doing }, refl)
 same_rows t s event.Clock k there = (there, refl)
 same_rows t s (event.SetWeight g x) k there = (there, refl)

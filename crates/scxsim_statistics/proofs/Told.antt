@@ -1,5 +1,5 @@
 -- What is counted of one task is what the notes say.
-use Rattle.std.proofs.Common.{◌≡◌, ℕ, ◌+◌, ◌-◌, ◌^◌, min, max, Bool, true, false, not, ◌&&◌, ◌||◌, cond, eqb, ltb, List, [], ◌∷◌, ◌++◌, length, Option, None, Some, refl, sym, ap, ◌∙◌, arith}
+use Rattle.std.proofs.Common.{◌≡◌, ℕ, ◌+◌, ◌-◌, ◌^◌, min, max, Bool, true, false, not, ◌&&◌, ◌||◌, cond, eqb, ltb, List, [], ◌∷◌, ◌++◌, length, map, Option, None, Some, refl, sym, ap, ◌∙◌, arith}
 use Rattle.std.specs.List.{filter}
 use Rattle.scx_sched_world.specs.declared.notes.Note.{Note}
 use Rattle.scx_sched_world.specs.declared.notes.What.{What}
@@ -11,10 +11,11 @@ use Rattle.scxsim_views.specs.declared.pauses.PauseKind.{PauseKind}
 use Rattle.scxsim_views.specs.declared.pauses.PauseKind.TheVariants as kind
 use Rattle.scxsim_views.specs.Pauses.{sleeps, does, ending_pause}
 use Rattle.scxsim_statistics.specs.declared.tally.TaskFigures.{TaskFigures}
-use Rattle.scxsim_statistics.specs.Waits as w
-use Rattle.scxsim_statistics.specs.Waits.{at_most_64_bits, up, length_of, with_wait}
+use Rattle.scxsim_statistics.specs.Lengths as w
+use Rattle.scxsim_statistics.specs.Lengths.{one_if, at_most_64_bits, up, length_of, with_length, with_wait}
 use Rattle.scxsim_statistics.specs.Counting.{with_stop, with_pause_of, counted_for}
-use Rattle.scxsim_statistics.specs.Figures.{is_of, does_at, does_after, to_list, ended_at, pauses_in, is_wait_kind, is_wait, longest_of, is_wake, is_stop, wakes_of, one_if, stops_in}
+use Rattle.scxsim_statistics.specs.Figures.{is_of, does_at, does_after, to_list, ended_at, pauses_in, is_wait_kind, is_wait, longest_of, is_wake, is_stop, wakes_of, stops_in}
+use Rattle.scxsim_statistics.proofs.Percentiles.{times_with}
 use Rattle.scxsim_statistics.proofs.Rows.{with_option, Row, figures_noted, row_noted, row_all}
 
 -- ---- a count that is capped
@@ -128,16 +129,16 @@ does_told t [] r = refl
 does_told t (n ∷ ns) r = does_told t ns (row_noted t n r)
 
 -- what pauses make of waits
-abbrev pub waited_if : Bool → Pause → w.Waits → w.Waits
+abbrev pub waited_if : Bool → Pause → w.Lengths → w.Lengths
 waited_if true p x = with_wait p x
 waited_if false p x = x
 
-abbrev pub waited_all : List Pause → w.Waits → w.Waits
+abbrev pub waited_all : List Pause → w.Lengths → w.Lengths
 waited_all [] x = x
 waited_all (p ∷ ps) x = waited_all ps (waited_if (is_wait p) p x)
 
 -- the pauses of two lists count in waits as those of one and then those of the other do
-pub waited_append : (ps qs : List Pause) (x : w.Waits) → waited_all (ps ++ qs) x ≡ waited_all qs (waited_all ps x)
+pub waited_append : (ps qs : List Pause) (x : w.Lengths) → waited_all (ps ++ qs) x ≡ waited_all qs (waited_all ps x)
 waited_append [] qs x = refl
 waited_append (p ∷ ps) qs x = waited_append ps qs (waited_if (is_wait p) p x)
 
@@ -181,7 +182,7 @@ waits_told t (n ∷ ns) r =
 
 -- ---- how many waits, and the longest
 
-count_one : (b : Bool) (p : Pause) (x : w.Waits) → (waited_if b p x).count ≡ cond b (up x.count) x.count
+count_one : (b : Bool) (p : Pause) (x : w.Lengths) → (waited_if b p x).count ≡ cond b (up x.count) x.count
 count_one true p x = refl
 count_one false p x = refl
 
@@ -190,41 +191,55 @@ length_filtered true p ps a = omega arith
 length_filtered false p ps a = omega arith
 
 -- the waits among some pauses are added to as many as were counted before
-pub count_told : (ps : List Pause) (x : w.Waits) (a : ℕ) → x.count ≡ at_most_64_bits a → (waited_all ps x).count ≡ at_most_64_bits (a + length (filter is_wait ps))
+pub count_told : (ps : List Pause) (x : w.Lengths) (a : ℕ) → x.count ≡ at_most_64_bits a → (waited_all ps x).count ≡ at_most_64_bits (a + length (filter is_wait ps))
 count_told [] x a is = is ∙ ap at_most_64_bits (none a)
 count_told (p ∷ ps) x a is =
     let one = more_if (is_wait p) x.count (waited_if (is_wait p) p x).count a is (count_one (is_wait p) p x) in
     count_told ps (waited_if (is_wait p) p x) (a + one_if (is_wait p)) one ∙ ap at_most_64_bits (length_filtered (is_wait p) p ps a)
 
+-- the table of lengths after some pauses is the one before with those of the waits among them
+pub times_told : (ps : List Pause) (x : w.Lengths) → (waited_all ps x).times ≡ times_with (map length_of (filter is_wait ps)) x.times
+times_told [] x = refl
+times_told (p ∷ ps) x = by_test (is_wait p) (times_told ps (waited_if (is_wait p) p x))
+  where
+    by_test : (b : Bool) → (waited_all ps (waited_if b p x)).times ≡ times_with (map length_of (filter is_wait ps)) (waited_if b p x).times
+        → (waited_all ps (waited_if b p x)).times ≡ times_with (map length_of (cond b (p ∷ filter is_wait ps) (filter is_wait ps))) x.times
+    by_test true later = later
+    by_test false later = later
+
 -- the longest is at least 0, which it is while there is none
-abbrev pub IsLongest : w.Waits → Type 0
+abbrev pub IsLongest : w.Lengths → Type 0
 IsLongest x = x.count ≡ 0 → x.longest ≡ 0
 
-longest_one : (p : Pause) (x : w.Waits) → IsLongest x → (with_wait p x).longest ≡ max x.longest (length_of p)
-longest_one p x first = by_test (x.count) (x.longest) (length_of p) first
+-- with one more the longest is the longer of it and of the longest before
+pub longest_made : (since length : ℕ) (x : w.Lengths) → IsLongest x → (with_length since length x).longest ≡ max x.longest length
+longest_made since length x first = by_test (x.count) (x.longest) length first
   where
     by_test : (n old new : ℕ) → (n ≡ 0 → old ≡ 0) → cond (eqb n 0 || ltb old new) new old ≡ max old new
     by_test n old new first = grind (arith, first)
 
-longest_stays : (p : Pause) (x : w.Waits) → IsLongest (with_wait p x)
-longest_stays p x none = absurd (never x.count none)
+-- with one more there is one
+pub longest_stays : (since length : ℕ) (x : w.Lengths) → IsLongest (with_length since length x)
+longest_stays since length x none = absurd (never x.count none)
   where
     never : (n : ℕ) → min (n + 1) (2 ^ 64 - 1) ≡ 0 → ⊥
     never n e = omega (arith, e)
 
-max_none : (a : ℕ) → a ≡ max a 0
+-- a number is the greater of it and of 0
+pub max_none : (a : ℕ) → a ≡ max a 0
 max_none a = omega arith
 
-max_shifted : (a b c : ℕ) → max (max a b) c ≡ max a (max b c)
+-- the greatest of three numbers, in whichever order
+pub max_shifted : (a b c : ℕ) → max (max a b) c ≡ max a (max b c)
 max_shifted a b c = omega arith
 
 -- the longest wait after some pauses is the longest of those before and of those among them
-pub longest_told : (ps : List Pause) (x : w.Waits) → IsLongest x → (waited_all ps x).longest ≡ max x.longest (longest_of (filter is_wait ps))
+pub longest_told : (ps : List Pause) (x : w.Lengths) → IsLongest x → (waited_all ps x).longest ≡ max x.longest (longest_of (filter is_wait ps))
 longest_told [] x first = max_none x.longest
-longest_told (p ∷ ps) x first = by_test (is_wait p) (longest_told ps (with_wait p x) (longest_stays p x)) (longest_told ps x first)
+longest_told (p ∷ ps) x first = by_test (is_wait p) (longest_told ps (with_wait p x) (longest_stays p.since (length_of p) x)) (longest_told ps x first)
   where
     by_test : (b : Bool) → (waited_all ps (with_wait p x)).longest ≡ max (with_wait p x).longest (longest_of (filter is_wait ps)) → (waited_all ps x).longest ≡ max x.longest (longest_of (filter is_wait ps))
         → (waited_all ps (waited_if b p x)).longest ≡ max x.longest (longest_of (cond b (p ∷ filter is_wait ps) (filter is_wait ps)))
     by_test true with_it without =
-        with_it ∙ ap (λ m. max m (longest_of (filter is_wait ps))) (longest_one p x first) ∙ max_shifted x.longest (length_of p) (longest_of (filter is_wait ps))
+        with_it ∙ ap (λ m. max m (longest_of (filter is_wait ps))) (longest_made p.since (length_of p) x first) ∙ max_shifted x.longest (length_of p) (longest_of (filter is_wait ps))
     by_test false with_it without = without

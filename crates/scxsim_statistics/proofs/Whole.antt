@@ -1,7 +1,7 @@
 -- The figures of a whole run.
-use Rattle.std.proofs.Common.{◌≡◌, ℕ, zero, suc, ◌+◌, ◌<◌, ◌≤◌, max, false, List, length, replicate, Option, None, Some, Result, Ok, Err, refl, sym, ap, subst, ◌∙◌, arith, ◌⊎◌, inl, inr}
+use Rattle.std.proofs.Common.{◌≡◌, ℕ, zero, suc, ◌+◌, ◌<◌, ◌≤◌, max, false, List, length, map, replicate, Option, None, Some, Result, Ok, Err, refl, sym, ap, subst, ◌∙◌, arith, ◌⊎◌, inl, inr}
 use Rattle.std.proofs.lemmas.Bool.{cases_eq}
-use Rattle.std.proofs.lemmas.List.{length-set, length-replicate, get_or-replicate, get_or-set_same, get_or-set_other}
+use Rattle.std.proofs.lemmas.List.{length-set, length-map, length-replicate, get_or-replicate, get_or-set_same, get_or-set_other}
 use Rattle.std.specs.List.{filter}
 use Rattle.std.specs.Prelude.{is_err, IfOk, OnOk}
 use Rattle.scx_sched_world.specs.declared.notes.Note.{Note}
@@ -22,13 +22,19 @@ use Rattle.scxsim_views.proofs.Keeping.{run_is_kept}
 use Rattle.scxsim_statistics.specs.declared.tally.Tally.{Tally}
 use Rattle.scxsim_statistics.specs.declared.tally.TaskFigures.{TaskFigures}
 use Rattle.scxsim_statistics.specs.declared.tally.CpuFigures.{CpuFigures}
+use Rattle.scx_sched_world.specs.declared.eject.Eject.{Eject}
 use Rattle.scxsim_statistics.specs.declared.gathering.Gathered.{Gathered}
-use Rattle.scxsim_statistics.specs.Waits.{no_waits, at_most_64_bits}
+use Rattle.scxsim_statistics.specs.Lengths.{no_lengths, at_most_64_bits, length_of}
+use Rattle.scxsim_statistics.specs.Bursts.{no_bursts, bursts_at}
+use Rattle.scxsim_statistics.specs.Losses.{lost_at}
 use Rattle.scxsim_statistics.specs.Counting.{Counts, counts_of, no_figures, unused_cpu, nothing, figures_at, cpu_at, with_run, with_pause, with_pause_of, after_pause, has_run, counts_after_note, counts_after_event, ended_below, counts_at_end}
-use Rattle.scxsim_statistics.specs.Figures.{does_after, to_list, pauses_in, pauses_of, waits_of, is_wait, longest_of, wakes_of, stops_in, busy_in, idle_in, IsOfTask, IsOfCpu, AreOfRun}
+use Rattle.scxsim_statistics.specs.Figures.{does_after, to_list, pauses_in, pauses_of, waits_of, is_wait, longest_of, wakes_of, stops_in, busy_in, idle_in, lost_in, lost_anywhere_in, RunFigures, of_counts, of_gathered, all_asleep, IsOfTask, IsOfBursts, IsOfCpu, AreOfRun}
 use Rattle.scxsim_statistics.proofs.Rows.{tasks_kept, with_option, pause_here, pause_there, of_pause, Row, row, row_all, IsThere, row_of_run}
-use Rattle.scxsim_statistics.proofs.Told.{wakes_told, stops_told, does_told, waits_told, waited_all, waited_append, pause_said, count_told, longest_told}
+use Rattle.scxsim_statistics.proofs.Told.{wakes_told, stops_told, does_told, waits_told, waited_all, waited_append, pause_said, count_told, times_told, longest_told}
 use Rattle.scxsim_statistics.proofs.Processors.{cpu_told, cpus_stay}
+use Rattle.scxsim_statistics.proofs.Percentiles.{are_percentiles}
+use Rattle.scxsim_statistics.proofs.Awake.{are_of_bursts}
+use Rattle.scxsim_statistics.proofs.Lost.{lost_told, anywhere_told}
 
 from_0 : (n : ℕ) → 0 + n ≡ n
 from_0 n = omega arith
@@ -100,19 +106,19 @@ abbrev first_row : Row
 first_row = record { doing = Sleeps; figures = no_figures }
 
 task_told : (t clock ms : ℕ) (ns : List Note) (r : Row) (x : TaskFigures) → r ≡ row_all t ns first_row → x ≡ with_option (pause_of clock t r.doing) (with_run ms r.figures)
-    → (x.run ≡ ms) × (x.wakes ≡ at_most_64_bits (wakes_of t ns)) × (x.stopped ≡ at_most_64_bits (stops_in t Sleeps ns)) × (x.waits ≡ waited_all (pauses_of t clock ns) no_waits)
+    → (x.run ≡ ms) × (x.wakes ≡ at_most_64_bits (wakes_of t ns)) × (x.stopped ≡ at_most_64_bits (stops_in t Sleeps ns)) × (x.waits ≡ waited_all (pauses_of t clock ns) no_lengths)
 task_told t clock ms ns r x all end =
     let q = pause_of clock t r.doing in
     let y = with_run ms r.figures in
     let keeps = end_keeps q y in
     let doing : r.doing ≡ does_after t Sleeps ns = ap (λ (z : Row). z.doing) all ∙ does_told t ns first_row in
-    let waits : r.figures.waits ≡ waited_all (pauses_in t Sleeps ns) no_waits = ap (λ (z : Row). z.figures.waits) all ∙ waits_told t ns first_row in (
+    let waits : r.figures.waits ≡ waited_all (pauses_in t Sleeps ns) no_lengths = ap (λ (z : Row). z.figures.waits) all ∙ waits_told t ns first_row in (
       ap (λ (z : TaskFigures). z.run) end ∙ keeps.0,
       ap (λ (z : TaskFigures). z.wakes) end ∙ keeps.1 ∙ ap (λ (z : Row). z.figures.wakes) all ∙ wakes_told t ns first_row 0 refl ∙ ap at_most_64_bits (from_0 (wakes_of t ns)),
       ap (λ (z : TaskFigures). z.stopped) end ∙ keeps.2 ∙ ap (λ (z : Row). z.figures.stopped) all ∙ stops_told t ns first_row 0 refl ∙ ap at_most_64_bits (from_0 (stops_in t Sleeps ns)),
       ap (λ (z : TaskFigures). z.waits) end ∙ pause_said q y ∙ ap (λ z. waited_all (to_list q) z) waits
-          ∙ ap (λ d. waited_all (to_list (pause_of clock t d)) (waited_all (pauses_in t Sleeps ns) no_waits)) doing
-          ∙ sym (waited_append (pauses_in t Sleeps ns) (to_list (pause_of clock t (does_after t Sleeps ns))) no_waits),
+          ∙ ap (λ d. waited_all (to_list (pause_of clock t d)) (waited_all (pauses_in t Sleeps ns) no_lengths)) doing
+          ∙ sym (waited_append (pauses_in t Sleeps ns) (to_list (pause_of clock t (does_after t Sleeps ns))) no_lengths),
     )
 
 first_is_there : (n m t : ℕ) → t < n → IsThere t (nothing n m)
@@ -143,12 +149,16 @@ task_of_run wl s es t below in_world =
     let there : IsThere t k = run.0 in
     let told = task_told t world.clock (ran_ms (task_at world t)) ns (row t k) (figures_at (final wl s es).tasks t) all
     (is_ended (length world.tasks) t world k.doing k.tasks in_world there.tasks) in
+    let waits = ap (λ x. x.count) told.3 ∙ count_told (pauses_of t world.clock ns) no_lengths 0 refl ∙ ap at_most_64_bits (from_0 (length (waits_of t world.clock ns))) in
+    let lengths = map length_of (waits_of t world.clock ns) in
     record {
       run = told.0;
       wakes = told.1;
       stopped = told.2;
-      waits = ap (λ x. x.count) told.3 ∙ count_told (pauses_of t world.clock ns) no_waits 0 refl ∙ ap at_most_64_bits (from_0 (length (waits_of t world.clock ns)));
-      longest = ap (λ x. x.longest) told.3 ∙ longest_told (pauses_of t world.clock ns) no_waits (λ e. refl) ∙ from_none (longest_of (filter is_wait (pauses_of t world.clock ns)));
+      waits = waits;
+      longest = ap (λ x. x.longest) told.3 ∙ longest_told (pauses_of t world.clock ns) no_lengths (λ e. refl) ∙ from_none (longest_of (filter is_wait (pauses_of t world.clock ns)));
+      percentiles =
+          are_percentiles lengths (figures_at (final wl s es).tasks t).waits (waits ∙ ap at_most_64_bits (sym (length-map (waits_of t world.clock ns) length_of))) (ap (λ x. x.times) told.3 ∙ times_told (pauses_of t world.clock ns) no_lengths);
     }
   where
     from_none : (a : ℕ) → max 0 a ≡ a
@@ -162,14 +172,31 @@ cpu_of_run wl s es c below =
     (ap (λ (x : CpuFigures). x.busy) unused_there) (ap (λ (x : CpuFigures). x.idle) unused_there) in
     record { busy = told.0 ∙ ap at_most_64_bits (from_0 (busy_in c s es)); idle = told.1 ∙ ap at_most_64_bits (from_0 (idle_in c s es)) }
 
--- what is counted in a whole run are the figures of that run
-pub figures_told : (wl : WorkloadState) (s : SimState) (es : List Event) (tasks : List TaskFigures) (cpus : List CpuFigures)
-    → tasks ≡ (final wl s es).tasks → cpus ≡ (final wl s es).cpus → AreOfRun wl s es tasks cpus
-figures_told wl s es tasks cpus same_tasks same_cpus = record {
-  all_tasks = ap (λ xs. length xs) same_tasks ∙ tasks_stay wl s es;
-  all_cpus = ap (λ xs. length xs) same_cpus ∙ cpus_stay es s (nothing (length wl.homes) wl.cpus) ∙ length-replicate wl.cpus unused_cpu;
-  of_task = λ t below in_world. subst (λ xs. IsOfTask t (stepped_all s es).state.world (notes_of_all s es) (figures_at xs t)) (sym same_tasks) (task_of_run wl s es t below in_world);
-  of_cpu = λ c below. subst (λ xs. IsOfCpu c s es (cpu_at xs c)) (sym same_cpus) (cpu_of_run wl s es c below);
+bursts_of_run : (wl : WorkloadState) (s : SimState) (es : List Event) (t : ℕ) → t < length wl.homes → IsOfBursts t s es (notes_of_all s es) (bursts_at (final wl s es).bursts t)
+bursts_of_run wl s es t below =
+    are_of_bursts t s es (nothing (length wl.homes) wl.cpus) (subst (λ k. t < k) (sym (length-replicate (length wl.homes) no_bursts)) below)
+    (get_or-replicate (length wl.homes) t no_bursts no_bursts below)
+
+loss_of_run : (wl : WorkloadState) (s : SimState) (es : List Event) (c : ℕ) → c < wl.cpus → lost_at (final wl s es).lost c ≡ at_most_64_bits (lost_in c (all_asleep wl) s es)
+loss_of_run wl s es c below =
+    lost_told c es s (nothing (length wl.homes) wl.cpus) 0 (subst (λ k. c < k) (sym (length-replicate wl.cpus 0)) below) (get_or-replicate wl.cpus c 0 0 below)
+    ∙ ap at_most_64_bits (from_0 (lost_in c (all_asleep wl) s es))
+
+anywhere_of_run : (wl : WorkloadState) (s : SimState) (es : List Event) → (final wl s es).anywhere ≡ at_most_64_bits (lost_anywhere_in (all_asleep wl) s es)
+anywhere_of_run wl s es =
+    anywhere_told es s (nothing (length wl.homes) wl.cpus) 0 refl ∙ ap at_most_64_bits (from_0 (lost_anywhere_in (all_asleep wl) s es))
+
+-- what is counted in a whole run, with how the policy has ended, are the figures of that run
+pub figures_told : (wl : WorkloadState) (s : SimState) (es : List Event) → AreOfRun wl s es (of_counts (final wl s es) (stepped_all s es).state.world.ejected)
+figures_told wl s es = record {
+  all_tasks = tasks_stay wl s es;
+  all_cpus = cpus_stay es s (nothing (length wl.homes) wl.cpus) ∙ length-replicate wl.cpus unused_cpu;
+  of_task = task_of_run wl s es;
+  of_bursts = bursts_of_run wl s es;
+  of_cpu = cpu_of_run wl s es;
+  of_loss = loss_of_run wl s es;
+  anywhere = anywhere_of_run wl s es;
+  ejected = refl;
 }
   where
     tasks_stay : (wl : WorkloadState) (s : SimState) (es : List Event) → length (final wl s es).tasks ≡ length wl.homes
@@ -185,20 +212,22 @@ pub gathered : {G : Type 0} (tally : G → Tally) (wl : WorkloadState) (s t : Si
     → counts_of (tally first) ≡ nothing (length wl.homes) wl.cpus
     → Watches (CountsEvent (λ g. is_err (tally g).result) (λ g. counts_of (tally g)) counts_after_event) (λ g. is_err (tally g).result) (CountsNote (λ g. is_err (tally g).result) (λ g. counts_of (tally g)) counts_after_note) es s first t shown
     → (is_err (tally last).result ≡ false → (is_err (tally shown).result ≡ false) × (counts_of (tally last) ≡ counts_at_end t.state.world (counts_of (tally shown))))
-    → is_err (tally last).result ≡ false → counts_of (tally last) ≡ final wl s es
+    → is_err (tally last).result ≡ false → (counts_of (tally last) ≡ final wl s es) × (t ≡ stepped_all s es)
 gathered tally wl s t es first shown last begins watched ends well =
     let at_end = ends well in
-    let kept = run_is_kept (λ g. is_err (tally g).result) (λ g. counts_of (tally g)) counts_after_event counts_after_note es s t first shown watched at_end.0 in
-    at_end.1 ∙ ap (λ (x : SimState). counts_at_end x.state.world (counts_of (tally shown))) kept.0
-    ∙ ap (λ k. counts_at_end (stepped_all s es).state.world k) (kept.1 ∙ ap (λ k. kept_of_all counts_after_event counts_after_note s es k) begins)
+    let kept = run_is_kept (λ g. is_err (tally g).result) (λ g. counts_of (tally g)) counts_after_event counts_after_note es s t first shown watched at_end.0 in (
+      at_end.1 ∙ ap (λ (x : SimState). counts_at_end x.state.world (counts_of (tally shown))) kept.0
+          ∙ ap (λ k. counts_at_end (stepped_all s es).state.world k) (kept.1 ∙ ap (λ k. kept_of_all counts_after_event counts_after_note s es k) begins),
+      kept.0,
+    )
 
 -- an answer with the figures of a tally that counted all of a run has the figures of the run
-pub answered : {E : Type 0} (r : Result Gathered E) (x : Tally) (wl : WorkloadState) (s : SimState) (es : List Event)
-    → IfOk r (λ f. f.tasks ≡ x.tasks) → IfOk r (λ f. f.cpus ≡ x.cpus) → OnOk r (is_err x.result ≡ false)
-    → (is_err x.result ≡ false → counts_of x ≡ final wl s es) → IfOk r (λ f. AreOfRun wl s es f.tasks.items f.cpus.items)
-answered (Ok f) x wl s es tasks cpus well counts =
-    let same = counts well in
-    figures_told wl s es f.tasks.items f.cpus.items
-    (ap (λ v. v.items) tasks ∙ ap (λ (k : Counts). k.tasks) same)
-    (ap (λ v. v.items) cpus ∙ ap (λ (k : Counts). k.cpus) same)
-answered (Err e) x wl s es tasks cpus well counts = tt
+pub answered : {E : Type 0} (r : Result Gathered E) (x : Tally) (wl : WorkloadState) (s t : SimState) (es : List Event) (ejected : Option Eject)
+    → IfOk r (λ f. of_gathered f ≡ of_counts (counts_of x) ejected) → OnOk r (is_err x.result ≡ false) → ejected ≡ t.state.world.ejected
+    → (is_err x.result ≡ false → (counts_of x ≡ final wl s es) × (t ≡ stepped_all s es)) → IfOk r (λ f. AreOfRun wl s es (of_gathered f))
+answered (Ok f) x wl s t es ejected same well end counts =
+    let both = counts well in
+    let how : ejected ≡ (stepped_all s es).state.world.ejected = end ∙ ap (λ (u : SimState). u.state.world.ejected) both.1 in
+    let all : of_gathered f ≡ of_counts (final wl s es) (stepped_all s es).state.world.ejected = same ∙ ap (λ k. of_counts k ejected) both.0 ∙ ap (λ o. of_counts (final wl s es) o) how in
+    subst (λ v. AreOfRun wl s es v) (sym all) (figures_told wl s es)
+answered (Err e) x wl s t es ejected same well end counts = tt

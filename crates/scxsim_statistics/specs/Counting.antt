@@ -14,7 +14,10 @@ use Rattle.scxsim_views.specs.declared.pauses.Pause.{Pause}
 use Rattle.scxsim_views.specs.declared.pauses.PauseKind.{PauseKind}
 use Rattle.scxsim_views.specs.declared.pauses.PauseKind.TheVariants as kind
 use Rattle.scxsim_views.specs.Pauses.{sleeps, doing_at, doing_after, open_pause, ended_by}
-use Rattle.scxsim_statistics.specs.Waits.{no_waits, up, up_by, with_wait}
+use Rattle.scxsim_statistics.specs.Lengths.{no_lengths, up, up_by, with_wait}
+use Rattle.scxsim_statistics.specs.Bursts.{no_bursts, slept_at, bursts_noted}
+use Rattle.scxsim_statistics.specs.Losses.{loses, lost_if, anywhere_if}
+use Rattle.scxsim_statistics.specs.declared.bursts.BurstFigures.{BurstFigures}
 use Rattle.scxsim_statistics.specs.declared.tally.TaskFigures.{TaskFigures}
 use Rattle.scxsim_statistics.specs.declared.tally.CpuFigures.{CpuFigures}
 use Rattle.scxsim_statistics.specs.declared.tally.Tally.{Tally}
@@ -24,14 +27,24 @@ pub record Counts : Type 0 where
   pub tasks : List TaskFigures
   pub cpus : List CpuFigures
   pub doing : List Doing
+  pub bursts : List BurstFigures
+  pub lost : List ℕ  -- the milliseconds that each processor lost
+  pub anywhere : ℕ  -- those in which some processor lost one
 
 -- what a tally has counted
 abbrev pub counts_of : Tally → Counts
-counts_of t = record { tasks = t.tasks.items; cpus = t.cpus.items; doing = t.pauses }
+counts_of t = record {
+  tasks = t.tasks.items;
+  cpus = t.cpus.items;
+  doing = t.pauses;
+  bursts = t.bursts.items;
+  lost = t.losses.cpus.items;
+  anywhere = t.losses.anywhere;
+}
 
 -- the figures of a task before a run: nothing has been counted of it
 abbrev pub no_figures : TaskFigures
-no_figures = record { run = 0; waits = no_waits; wakes = 0; stopped = 0; parked = 0 }
+no_figures = record { run = 0; waits = no_lengths; wakes = 0; stopped = 0; parked = 0 }
 
 -- the figures of a processor before a run: nothing has been counted, and no task has begun on it
 abbrev pub unused_cpu : CpuFigures
@@ -43,6 +56,9 @@ nothing tasks cpus = record {
   tasks = replicate tasks no_figures;
   cpus = replicate cpus unused_cpu;
   doing = replicate tasks Sleeps;
+  bursts = replicate tasks no_bursts;
+  lost = replicate cpus 0;
+  anywhere = 0;
 }
 
 -- the figures of the task of that number; those before a run where there is none
@@ -169,30 +185,48 @@ cpus_counted (Fault f) cpus = cpus
 
 -- the pause that a note ends
 abbrev pub pause_counted : ℕ → What → Counts → Counts
-pause_counted clock what k = record {
+pause_counted clock what k = record k {
   tasks = after_pause (ended_by clock what k.doing) k.tasks;
-  cpus = k.cpus;
   doing = doing_after clock what k.doing;
 }
 
 -- what a note counts beside the pause that it ends, of tasks that already do what it says
 abbrev pub counts_after_step : What → Counts → Counts
-counts_after_step what k = record {
+counts_after_step what k = record k {
   tasks = tasks_counted what k.doing k.tasks;
   cpus = cpus_counted what k.cpus;
-  doing = k.doing;
 }
+
+-- the burst that a note begins or ends
+abbrev pub burst_counted : ℕ → What → Counts → Counts
+burst_counted clock what k = record k { bursts = bursts_noted clock what k.bursts }
 
 -- a note
 abbrev pub counts_after_note : ℕ → What → Counts → Counts
-counts_after_note clock what k = counts_after_step what (pause_counted clock what k)
+counts_after_note clock what k =
+    burst_counted clock what (counts_after_step what (pause_counted clock what k))
 
--- a tick is of a processor that runs a task, or none, before it
+-- what processors lose of the millisecond whose ticks begin with this one
+abbrev pub loss_counted : WorldState → ℕ → Counts → Counts
+loss_counted w c k = record k {
+  lost = lost_if (loses c k.doing) w k.lost;
+  anywhere = anywhere_if (loses c k.doing) w k.anywhere;
+}
+
+-- a tick of a processor that runs a task before it, or none
+abbrev pub tick_counted : ℕ → Bool → Counts → Counts
+tick_counted c is_busy k = record k { cpus = with_tick_at k.cpus c is_busy }
+
+-- how long a task has run that goes to sleep in that world
+abbrev pub sleep_counted : WorldState → ℕ → Counts → Counts
+sleep_counted w t k = record k { bursts = slept_at k.bursts t (ran_ms (task_at w t)) }
+
+-- an event, by the state before it
 abbrev pub counts_after_event : SimState → Event → Counts → Counts
 counts_after_event s (event.Tick c) k =
-    record k { cpus = with_tick_at k.cpus c (is_some (running s.state.world c)) }
+    tick_counted c (is_some (running s.state.world c)) (loss_counted s.state.world c k)
 counts_after_event s (event.Wake t) k = k
-counts_after_event s (event.Sleep t) k = k
+counts_after_event s (event.Sleep t) k = sleep_counted s.state.world t k
 counts_after_event s event.Clock k = k
 counts_after_event s (event.SetWeight g x) k = k
 

@@ -1,32 +1,40 @@
 -- What `stats` and `stats-csv` write: a line that says what stands below it, and then the figures;
 -- and what the figures say of the notes of a run.
-use Rattle.std.specs.Prelude.{◌≡◌, ℕ, ◌+◌, ◌<◌, ◌==◌, ◌&&◌, max, Bool, true, false, not, List, [], ◌∷◌, ◌++◌, length, codes, Option, Some, None, is_some, if◌then◌else◌, filter}
+use Rattle.std.specs.Prelude.{◌≡◌, ℕ, ◌+◌, ◌<◌, ◌==◌, ◌&&◌, max, Bool, true, false, not, List, [], ◌∷◌, ◌++◌, length, map, replicate, sum, codes, Option, Some, None, is_some, Ok, string_bytes, if◌then◌else◌, filter}
+use Rattle.std.specs.List.{list_any}
 use Rattle.scx_sched_world.specs.declared.notes.Note.{Note}
 use Rattle.scx_sched_world.specs.declared.notes.What.{What}
 use Rattle.scx_sched_world.specs.declared.notes.What.TheVariants.{Wake, Sleep, Insert, Move, Run, Stop, Idle, Weight, Stall, Fault}
+use Rattle.scx_sched_world.specs.declared.eject.Eject.{Eject}
 use Rattle.scx_sched_world.specs.World.{WorldState, task_at, running}
 use Rattle.scx_sched_machine.specs.declared.events.Event.{Event}
 use Rattle.scx_sched_machine.specs.declared.events.Event.TheVariants as event
-use Rattle.scx_sched.specs.Sim.{SimState, after_event}
+use Rattle.scx_sched.specs.Sim.{SimState, after_event, notes_of}
 use Rattle.scx_load_driver.specs.Runs.{stepped_all, notes_of_all}
 use Rattle.scxsim_trace.specs.Report.{ran_ms}
 use Rattle.scx_load_driver.specs.Events.{workload_events}
 use Rattle.scx_load_workloads.specs.Workload.{WorkloadState}
 use Rattle.scx_load_replay.specs.Replay.{ReplayState}
 use Rattle.scx_load_replay.specs.Events.{replay_events}
-use Rattle.scxsim_simulation.specs.Runs.{IsRun, last_of}
+use Rattle.scxsim_simulation.specs.Runs.{IsRun, last_of, name_in}
 use Rattle.scxsim_simulation.specs.Replays.{IsReplayRun}
 use Rattle.scxsim_views.specs.declared.pauses.Doing.{Doing}
 use Rattle.scxsim_views.specs.declared.pauses.Doing.TheVariants.{Sleeps}
 use Rattle.scxsim_views.specs.declared.pauses.Pause.{Pause}
 use Rattle.scxsim_views.specs.declared.pauses.PauseKind.{PauseKind}
 use Rattle.scxsim_views.specs.declared.pauses.PauseKind.TheVariants as kind
-use Rattle.scxsim_views.specs.Pauses.{sleeps, of_task, does, ending_pause, pause_of}
-use Rattle.scxsim_statistics.specs.Waits.{at_most_64_bits, length_of}
-use Rattle.scxsim_statistics.specs.Counting.{figures_at, cpu_at}
+use Rattle.scxsim_views.specs.Pauses.{sleeps, waits, of_task, does, doing_after, ending_pause, pause_of}
+use Rattle.scxsim_views.specs.Watching.{noted_all}
+use Rattle.scxsim_statistics.specs.Lengths.{one_if, at_most_64_bits, length_of}
+use Rattle.scxsim_statistics.specs.Percentiles.{ArePercentiles}
+use Rattle.scxsim_statistics.specs.Bursts.{bursts_at, burst_ms}
+use Rattle.scxsim_statistics.specs.Losses.{runs_nobody, nobody_below, lost_at}
+use Rattle.scxsim_statistics.specs.Counting.{Counts, figures_at, cpu_at}
 use Rattle.scxsim_statistics.specs.declared.tally.TaskFigures.{TaskFigures}
 use Rattle.scxsim_statistics.specs.declared.tally.CpuFigures.{CpuFigures}
+use Rattle.scxsim_statistics.specs.declared.bursts.BurstFigures.{BurstFigures}
 use Rattle.scxsim_statistics.specs.declared.gathering.Figures.{Figures}
+use Rattle.scxsim_statistics.specs.declared.gathering.Gathered.{Gathered}
 
 -- what `stats` writes: the heads of columns above the tasks' figures, and then all the rest
 abbrev pub tables : List ℕ → List ℕ
@@ -123,11 +131,6 @@ is_stop t (Weight g x) = false
 is_stop t (Stall u) = false
 is_stop t (Fault f) = false
 
--- 1 where something holds, and 0 where it doesn't
-abbrev pub one_if : Bool → ℕ
-one_if true = 1
-one_if false = 0
-
 -- how often a task wakes in these notes
 abbrev pub wakes_of : ℕ → List Note → ℕ
 wakes_of t [] = 0
@@ -137,6 +140,58 @@ wakes_of t (n ∷ ns) = one_if (is_wake t n.what) + wakes_of t ns
 abbrev pub stops_in : ℕ → Doing → List Note → ℕ
 stops_in t d [] = 0
 stops_in t d (n ∷ ns) = one_if (is_stop t n.what && not (sleeps d)) + stops_in t (does_at t n d) ns
+
+-- ---- bursts
+
+-- the note says that this task goes to sleep
+abbrev pub is_sleep : ℕ → What → Bool
+is_sleep t (Sleep u) = t == u
+is_sleep t (Wake u) = false
+is_sleep t (Insert u queue) = false
+is_sleep t (Move u c) = false
+is_sleep t (Run u c) = false
+is_sleep t (Stop u c) = false
+is_sleep t (Idle c) = false
+is_sleep t (Weight g x) = false
+is_sleep t (Stall u) = false
+is_sleep t (Fault f) = false
+
+-- how many milliseconds the burst took that ends here, as a list; none where none ends
+abbrev pub burst_if : Bool → ℕ → ℕ → List ℕ
+burst_if true woke clock = burst_ms woke clock ∷ []
+burst_if false woke clock = []
+
+-- the lengths of the bursts of a task that end in these notes, if it woke at that clock before them
+abbrev pub bursts_in : ℕ → ℕ → List Note → List ℕ
+bursts_in t woke [] = []
+bursts_in t woke (n ∷ ns) =
+    burst_if (is_sleep t n.what) woke n.clock
+    ++ bursts_in t (if is_wake t n.what then n.clock else woke) ns
+
+-- the lengths of all finished bursts of a task in a run with these notes, in their order
+abbrev pub bursts_of : ℕ → List Note → List ℕ
+bursts_of t ns = bursts_in t 0 ns
+
+-- the greatest of some numbers; 0 of none
+abbrev pub greatest : List ℕ → ℕ
+greatest [] = 0
+greatest (x ∷ xs) = max x (greatest xs)
+
+-- the event is that this task goes to sleep
+abbrev pub sends_to_sleep : ℕ → Event → Bool
+sends_to_sleep t (event.Sleep u) = t == u
+sends_to_sleep t (event.Wake u) = false
+sends_to_sleep t (event.Tick c) = false
+sends_to_sleep t event.Clock = false
+sends_to_sleep t (event.SetWeight g x) = false
+
+-- for how many milliseconds a task had run as it went to sleep last in these events from that state
+-- on; so many as before where it doesn't
+abbrev pub ran_asleep_in : ℕ → ℕ → SimState → List Event → ℕ
+ran_asleep_in t ran s [] = ran
+ran_asleep_in t ran s (e ∷ es) =
+    ran_asleep_in t (if sends_to_sleep t e then ran_ms (task_at s.state.world t) else ran)
+    (after_event s e) es
 
 -- ---- processors
 
@@ -160,7 +215,80 @@ idle_in c s [] = 0
 idle_in c s (e ∷ es) =
     one_if (is_tick c e && not (is_some (running s.state.world c))) + idle_in c (after_event s e) es
 
+-- ---- losses
+
+-- the ticks of a millisecond begin with this event
+abbrev pub begins_ticks : Event → Bool
+begins_ticks (event.Tick c) = c == 0
+begins_ticks (event.Wake t) = false
+begins_ticks (event.Sleep t) = false
+begins_ticks event.Clock = false
+begins_ticks (event.SetWeight g x) = false
+
+-- what each task does behind these notes
+abbrev pub doing_behind : List Note → List Doing → List Doing
+doing_behind ns ds = noted_all doing_after ns ds
+
+-- In these events from that state on, while tasks do so before them: for how many milliseconds, as
+-- their ticks begin, a task waits and this processor runs nobody
+abbrev pub lost_in : ℕ → List Doing → SimState → List Event → ℕ
+lost_in c ds s [] = 0
+lost_in c ds s (e ∷ es) =
+    one_if ((begins_ticks e && list_any waits ds) && runs_nobody s.state.world c)
+    + lost_in c (doing_behind (notes_of s e) ds) (after_event s e) es
+
+-- the same of some processor
+abbrev pub lost_anywhere_in : List Doing → SimState → List Event → ℕ
+lost_anywhere_in ds s [] = 0
+lost_anywhere_in ds s (e ∷ es) =
+    one_if ((begins_ticks e && list_any waits ds)
+    && nobody_below (length s.state.world.cpus) s.state.world)
+    + lost_anywhere_in (doing_behind (notes_of s e) ds) (after_event s e) es
+
 -- ---- a run
+
+-- the figures of a run: of its tasks, their bursts and its processors, for how many milliseconds
+-- each processor and some processor ran nobody while a task waited, and how the policy ended
+pub record RunFigures : Type 0 where
+  pub tasks : List TaskFigures
+  pub bursts : List BurstFigures
+  pub cpus : List CpuFigures
+  pub lost : List ℕ
+  pub anywhere : ℕ
+  pub ejected : Option Eject
+
+-- what was counted, and how the policy ended
+abbrev pub of_counts : Counts → Option Eject → RunFigures
+of_counts k o = record {
+  tasks = k.tasks;
+  bursts = k.bursts;
+  cpus = k.cpus;
+  lost = k.lost;
+  anywhere = k.anywhere;
+  ejected = o;
+}
+
+-- those that were gathered
+abbrev pub of_gathered : Gathered → RunFigures
+of_gathered g = record {
+  tasks = g.tasks.items;
+  bursts = g.bursts.items;
+  cpus = g.cpus.items;
+  lost = g.losses.cpus.items;
+  anywhere = g.losses.anywhere;
+  ejected = g.ejected;
+}
+
+-- those that are handed out
+abbrev pub of_figures : Figures → RunFigures
+of_figures f = record {
+  tasks = f.tasks.items;
+  bursts = f.bursts.items;
+  cpus = f.cpus.items;
+  lost = f.losses.cpus.items;
+  anywhere = f.losses.anywhere;
+  ejected = f.ejected;
+}
 
 -- of a task in a run with these notes that ends in that world
 pub record IsOfTask (t : ℕ) (w : WorldState) (ns : List Note) (x : TaskFigures) : Type 0 where
@@ -169,20 +297,40 @@ pub record IsOfTask (t : ℕ) (w : WorldState) (ns : List Note) (x : TaskFigures
   pub stopped : x.stopped ≡ at_most_64_bits (stops_in t Sleeps ns)
   pub waits : x.waits.count ≡ at_most_64_bits (length (waits_of t w.clock ns))
   pub longest : x.waits.longest ≡ longest_of (waits_of t w.clock ns)
+  pub percentiles : ArePercentiles (map length_of (waits_of t w.clock ns)) x.waits
+
+-- the finished bursts of a task in a run from that state through these events, with these notes
+pub record IsOfBursts (t : ℕ) (s : SimState) (es : List Event) (ns : List Note) (x : BurstFigures)
+    : Type 0 where
+  pub count : x.lengths.count ≡ at_most_64_bits (length (bursts_of t ns))
+  pub total : x.lengths.total ≡ at_most_64_bits (sum (bursts_of t ns))
+  pub longest : x.lengths.longest ≡ greatest (bursts_of t ns)
+  pub percentiles : ArePercentiles (bursts_of t ns) x.lengths
+  pub ran : x.ran ≡ ran_asleep_in t 0 s es
 
 -- the figures of a processor in a run from that state through these events: its ticks, busy or idle
 pub record IsOfCpu (c : ℕ) (s : SimState) (es : List Event) (x : CpuFigures) : Type 0 where
   pub busy : x.busy ≡ at_most_64_bits (busy_in c s es)
   pub idle : x.idle ≡ at_most_64_bits (idle_in c s es)
 
--- the figures of tasks and processors of the run from that state through these events
-pub record AreOfRun (w : WorkloadState) (s : SimState) (es : List Event) (tasks : List TaskFigures)
-    (cpus : List CpuFigures) : Type 0 where
-  pub all_tasks : length tasks ≡ length w.homes
-  pub all_cpus : length cpus ≡ w.cpus
+-- all tasks sleep before a run
+abbrev pub all_asleep : WorkloadState → List Doing
+all_asleep w = replicate (length w.homes) Sleeps
+
+-- the figures of the run from that state through these events
+pub record AreOfRun (w : WorkloadState) (s : SimState) (es : List Event) (f : RunFigures)
+    : Type 0 where
+  pub all_tasks : length f.tasks ≡ length w.homes
+  pub all_cpus : length f.cpus ≡ w.cpus
   pub of_task : (t : ℕ) → t < length w.homes → t < length (stepped_all s es).state.world.tasks
-      → IsOfTask t (stepped_all s es).state.world (notes_of_all s es) (figures_at tasks t)
-  pub of_cpu : (c : ℕ) → c < w.cpus → IsOfCpu c s es (cpu_at cpus c)
+      → IsOfTask t (stepped_all s es).state.world (notes_of_all s es) (figures_at f.tasks t)
+  pub of_bursts : (t : ℕ) → t < length w.homes
+      → IsOfBursts t s es (notes_of_all s es) (bursts_at f.bursts t)
+  pub of_cpu : (c : ℕ) → c < w.cpus → IsOfCpu c s es (cpu_at f.cpus c)
+  pub of_loss : (c : ℕ) → c < w.cpus
+      → lost_at f.lost c ≡ at_most_64_bits (lost_in c (all_asleep w) s es)
+  pub anywhere : f.anywhere ≡ at_most_64_bits (lost_anywhere_in (all_asleep w) s es)
+  pub ejected : f.ejected ≡ (stepped_all s es).state.world.ejected
 
 -- the figures of the run that the two texts stand for
 pub record AreOfTexts (policy workload : List ℕ) (f : Figures) : Type 0 where
@@ -201,3 +349,5 @@ pub record AreOfEvents (policy events : List ℕ) (f : Figures) : Type 0 where
   pub all_there :
       length (stepped_all first (replay_events r)).state.world.tasks ≡ length r.workload.homes
   pub of_run : AreOfRun r.workload first (replay_events r) f.tasks.items f.cpus.items
+  pub of_run : AreOfRun f.workload first (workload_events f.workload first) (of_figures f)
+  pub named : name_in policy ≡ Ok (string_bytes f.policy_name)

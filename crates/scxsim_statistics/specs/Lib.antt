@@ -1,3 +1,6 @@
 pub mod Figures
-pub mod Waits
+pub mod Lengths
+pub mod Percentiles
+pub mod Bursts
+pub mod Losses
 pub mod Counting

@@ -1,19 +1,20 @@
-ghost use Rattle.std.specs.Prelude.{◌≡◌, OnOk, IfOk};
-ghost use Rattle.scxsim_statistics.specs.Waits.{no_waits, is_longest, with_wait, mean};
+ghost use Rattle.std.specs.Prelude.{◌≡◌, OnOk};
+ghost use Rattle.std.specs.Option.{unwrap_or};
+ghost use Rattle.std.specs.Ordering.{nat_cmp};
+ghost use Rattle.std.specs.BTreeMap.{get};
+ghost use Rattle.scxsim_statistics.specs.Lengths.{no_lengths, is_longest, one_more_of, with_length, mean, first_reaching, percentile};
 
-use scxsim_views::Pause;
 use std::alloc::{AllocError, Global};
 use std::collections::BTreeMap;
 use std::marker::Model;
 
-/// How often a task waited, and how long, in milliseconds of the clock.
+/// How often a task waited, or was awake, and for how long, in milliseconds.
 ///
-/// A task has few lengths of waits: they are different numbers whose sum is no more than the run's length, so
-/// in the longest run there are less than 1415 of them. A contract sees all but how many waits were of each
-/// length.
+/// A task has few lengths of either: they are different numbers whose sum is no more than the run's length, so
+/// in the longest run there are less than 1415 of them.
 #[derive(Drop)]
-pub struct WaitCounts {
-    /// How many waits were of each length.
+pub struct LengthCounts {
+    /// How many there were of each length.
     lengths: BTreeMap<u64, u64>,
     count: u64,
     total: u64,
@@ -21,24 +22,25 @@ pub struct WaitCounts {
     longest_since: u64,
 }
 
-impl Model for WaitCounts {
-    ghost use Rattle.scxsim_statistics.specs.Waits.{Waits};
+impl Model for LengthCounts {
+    ghost use Rattle.scxsim_statistics.specs.Lengths.{Lengths};
 
-    ghost Value = { Waits };
+    ghost Value = { Lengths };
 
     ghost view = { λ w. record {
       count = w.count;
       total = w.total;
       longest = w.longest;
       longest_since = w.longest_since;
+      times = w.lengths.entries;
     } };
 }
 
-impl WaitCounts {
-    pub(crate) fn new(alloc: Global) -> WaitCounts
-        ensures { result ≡ no_waits }
+impl LengthCounts {
+    pub(crate) fn new(alloc: Global) -> LengthCounts
+        ensures { result ≡ no_lengths }
     {
-        WaitCounts {
+        LengthCounts {
             lengths: BTreeMap::new(alloc),
             count: 0,
             total: 0,
@@ -47,15 +49,14 @@ impl WaitCounts {
         }
     }
 
-    pub(crate) fn add(&mut self, wait: Pause) -> Result<(), AllocError>
-        ensures { OnOk result (self.new ≡ with_wait wait self.old) }
+    /// One more, which began then and took so long.
+    pub(crate) fn add(&mut self, since: u64, length: u64) -> Result<(), AllocError>
+        ensures { OnOk result (self.new ≡ with_length since length self.old) }
     {
-        let length = wait.length();
-        let times = self.lengths.entry(length)?.or_insert(0);
-        *times = times.saturating_add(1);
+        add_length(&mut self.lengths, length)?;
         if self.is_longest(length) {
             self.longest = length;
-            self.longest_since = wait.since;
+            self.longest_since = since;
         }
         self.count = self.count.saturating_add(1);
         self.total = self.total.saturating_add(length);
@@ -75,7 +76,15 @@ impl WaitCounts {
         count
     }
 
-    /// The mean in hundredths of a millisecond, rounded down; 0 where there was no wait.
+    /// How long all took together.
+    pub fn total(&self) -> u64
+        ensures { result ≡ self.now.total }
+    {
+        let total = self.total;
+        total
+    }
+
+    /// The mean in hundredths of a millisecond, rounded down; 0 where there was none.
     pub fn mean(&self) -> u64
         ensures { result ≡ mean self.now }
     {
@@ -85,16 +94,11 @@ impl WaitCounts {
         self.total.saturating_mul(100) / self.count
     }
 
-    /// The least length that 99 of 100 waits didn't exceed.
-    pub fn percentile_99(&self) -> u64 {
-        let mut passed = 0u64;
-        for (length, times) in self.lengths.iter() {
-            passed = passed.saturating_add(*times);
-            if passed.saturating_mul(100) >= self.count.saturating_mul(99) {
-                return *length;
-            }
-        }
-        0
+    /// The least length that so many of 100 didn't exceed; 0 where there was none.
+    pub fn percentile(&self, percent: u64) -> u64
+        ensures { result ≡ percentile percent self.now }
+    {
+        first_reaching(&self.lengths, self.count.saturating_mul(percent))
     }
 
     pub fn longest(&self) -> u64
@@ -104,11 +108,45 @@ impl WaitCounts {
         longest
     }
 
-    /// When the first of the longest waits began.
+    /// When the first of the longest began.
     pub fn longest_since(&self) -> u64
         ensures { result ≡ self.now.longest_since }
     {
         let since = self.longest_since;
         since
     }
+}
+
+/// One more of that length.
+#[tactic(auto, using(crate::proofs::Percentiles::insert_is))]
+fn add_length(lengths: &mut BTreeMap<u64, u64>, length: u64) -> Result<(), AllocError>
+    ensures { OnOk result (lengths.new.entries ≡ one_more_of length lengths.old.entries) }
+{
+    let times = times_of(lengths, length);
+    lengths.insert(length, times.saturating_add(1))?;
+    Ok(())
+}
+
+/// How many there were of that length.
+fn times_of(lengths: &BTreeMap<u64, u64>, length: u64) -> u64
+    ensures { result ≡ unwrap_or (get nat_cmp lengths.now length) 0 }
+{
+    match lengths.get(&length) {
+        Some(times) => *times,
+        None => 0,
+    }
+}
+
+/// The first length with which so many hundredths are reached; 0 where they never are.
+fn first_reaching(lengths: &BTreeMap<u64, u64>, enough: u64) -> u64
+    ensures { result ≡ first_reaching enough 0 lengths.now.entries }
+{
+    let mut passed = 0u64;
+    for (length, times) in lengths.iter() {
+        passed = passed.saturating_add(*times);
+        if passed.saturating_mul(100) >= enough {
+            return *length;
+        }
+    }
+    0
 }

@@ -1,17 +1,19 @@
 ghost use Rattle.std.specs.Prelude.{◌≡◌, false, length, is_err, IfOk, OnOk};
 ghost use Rattle.scx_sched_world.specs.World.{running};
 ghost use Rattle.scx_load_driver.specs.Driver.{remaining};
-ghost use Rattle.scx_sched_machine.specs.declared.events.Event.TheVariants.{Tick};
+ghost use Rattle.scx_sched_machine.specs.declared.events.Event.TheVariants.{Sleep, Tick};
 ghost use Rattle.scxsim_views.specs.Watching.{CountsEvent, CountsNote};
 ghost use Rattle.scxsim_statistics.specs.Counting.{counts_of, nothing, counts_after_event, counts_after_note, counts_at_end};
-ghost use Rattle.scxsim_statistics.specs.Figures.{AreOfRun};
+ghost use Rattle.scxsim_statistics.specs.Figures.{AreOfRun, of_counts, of_figures, of_gathered};
 
+use crate::bursts::BurstFigures;
+use crate::losses::Losses;
 use crate::numbers::percent;
 use crate::quotas::Quotas;
 use crate::shares::{Shares, WHOLE};
 use crate::tally::{CpuFigures, Tally, TaskFigures};
 use scx_load_workloads::Workload;
-use scx_sched::{Event, Sim, What};
+use scx_sched::{Eject, Event, Sim, What};
 use scx_weights::MAX_DEPTH;
 use scxsim_simulation::{Heard, Listener, Run, give_back};
 use scxsim_trace::Events;
@@ -28,9 +30,15 @@ pub struct GroupFigures {
 /// The figures of a run.
 #[derive(Drop)]
 pub struct Figures {
+    /// The policy's name, empty where its file gives none.
+    pub policy_name: String,
+    /// Why and when the policy was ejected, if it was.
+    pub ejected: Option<Eject>,
     pub workload: Workload,
     pub tasks: Vec<TaskFigures>,
+    pub bursts: Vec<BurstFigures>,
     pub cpus: Vec<CpuFigures>,
+    pub losses: Losses,
     /// Of each group in its order.
     pub groups: Vec<GroupFigures>,
     pub quotas: Quotas,
@@ -42,12 +50,13 @@ pub(crate) fn gather<L: Listener>(
     run: Run,
     listener: &mut L,
 ) -> Result<Figures, AllocError>
+    ensures name { IfOk result (λ figures. figures.policy_name ≡ run.policy_name) }
     ensures workload { IfOk result (λ figures. figures.workload ≡ run.workload) }
     ensures of_run { IfOk result (λ figures.
-        AreOfRun run.workload run.sim (remaining run.driver run.sim) figures.tasks.items
-        figures.cpus.items) }
+        AreOfRun run.workload run.sim (remaining run.driver run.sim) (of_figures figures)) }
 {
     let Run {
+        policy_name,
         workload,
         driver,
         sim,
@@ -73,40 +82,55 @@ pub(crate) fn gather_events<E: Events + Drop, L: Listener>(
     let gathered = gather_from(alloc, &workload, &mut events, &mut sim);
     give_back(events, sim);
     match gathered {
-        Ok(gathered) => Ok(figures_of(workload, gathered)),
+        Ok(gathered) => Ok(figures_of(policy_name, workload, gathered)),
         Err(error) => {
+            drop(policy_name);
             drop(workload);
             Err(error)
         }
     }
 }
 
-/// The figures with the workload that they are of.
-fn figures_of(workload: Workload, gathered: Gathered) -> Figures
+/// The figures with the policy's name and the workload that they are of.
+fn figures_of(policy_name: String, workload: Workload, gathered: Gathered) -> Figures
+    ensures name { result.policy_name ≡ policy_name }
     ensures workload { result.workload ≡ workload }
+    ensures ejected { result.ejected ≡ gathered.ejected }
     ensures tasks { result.tasks ≡ gathered.tasks }
+    ensures bursts { result.bursts ≡ gathered.bursts }
     ensures cpus { result.cpus ≡ gathered.cpus }
+    ensures losses { result.losses ≡ gathered.losses }
 {
     let Gathered {
+        ejected,
         tasks,
+        bursts,
         cpus,
+        losses,
         groups,
         quotas,
     } = gathered;
     Figures {
+        policy_name,
+        ejected,
         workload,
         tasks,
+        bursts,
         cpus,
+        losses,
         groups,
         quotas,
     }
 }
 
-/// The figures of a run, without its workload.
+/// The figures of a run, without what it is of.
 #[derive(Drop)]
 struct Gathered {
+    ejected: Option<Eject>,
     tasks: Vec<TaskFigures>,
+    bursts: Vec<BurstFigures>,
     cpus: Vec<CpuFigures>,
+    losses: Losses,
     groups: Vec<GroupFigures>,
     quotas: Quotas,
 }
@@ -118,13 +142,12 @@ fn gather_from<E: Events>(
     sim: &mut Sim,
 ) -> Result<Gathered, AllocError>
     ensures { IfOk result (λ gathered.
-        AreOfRun workload.now sim.old (E.remaining events.old sim.old) gathered.tasks.items
-        gathered.cpus.items) }
+        AreOfRun workload.now sim.old (E.remaining events.old sim.old) (of_gathered gathered)) }
 {
     let mut gathering = Gathering::new(alloc, workload)?;
     watch(sim, events, &mut gathering);
     gathering.end(sim);
-    gathering.gathered(alloc)
+    gathering.gathered(alloc, sim.ejected())
 }
 
 /// What is due to groups, and what they use of their quotas.
@@ -194,17 +217,26 @@ impl<'a> Gathering<'a> {
     }
 
     /// All figures, if there was memory for them.
-    fn gathered(self, alloc: Global) -> Result<Gathered, AllocError>
-        ensures tasks { IfOk result (λ gathered. gathered.tasks ≡ self.entry.tally.tasks) }
-        ensures cpus { IfOk result (λ gathered. gathered.cpus ≡ self.entry.tally.cpus) }
+    fn gathered(self, alloc: Global, ejected: Option<Eject>) -> Result<Gathered, AllocError>
+        ensures figures { IfOk result (λ gathered.
+            of_gathered gathered ≡ of_counts (counts_of self.entry.tally) ejected) }
         ensures well { OnOk result (is_err self.entry.tally.result ≡ false) }
     {
         let groups = self.groups(alloc)?;
         let Gathering { tally, dues, .. } = self;
-        let Tally { tasks, cpus, .. } = tally;
-        Ok(Gathered {
+        let Tally {
             tasks,
             cpus,
+            bursts,
+            losses,
+            ..
+        } = tally;
+        Ok(Gathered {
+            ejected,
+            tasks,
+            bursts,
+            cpus,
+            losses,
             groups,
             quotas: dues.quotas,
         })
@@ -230,11 +262,21 @@ impl<'a> Gathering<'a> {
             self.old sim.now (Tick cpu) self.new }
     {
         let running = running_on(sim, cpu);
+        self.tally.lose(sim, cpu);
         self.tally.tick(cpu, running.is_some());
         if let Some(task) = running {
             let group = self.home(task);
             self.dues.charge(group);
         }
+    }
+
+    /// A task is about to go to sleep.
+    fn sleep(&mut self, sim: &Sim, task: u16)
+        ensures { CountsEvent (λ g. is_err g.tally.result) (λ g. counts_of g.tally) counts_after_event
+            self.old sim.now (Sleep task) self.new }
+    {
+        self.tally.sleep(sim, task);
+        self.dues.settle();
     }
 
     /// What is due to groups goes by who is runnable, and by their weights.
@@ -283,7 +325,7 @@ impl View for Gathering<'_> {
     fn expect(&mut self, sim: &Sim, event: Event) {
         match event {
             Event::Tick(cpu) => self.tick(sim, cpu),
-            Event::Sleep(_) => self.dues.settle(),
+            Event::Sleep(task) => self.sleep(sim, task),
             Event::Clock => self.dues.pass(sim.clock().saturating_add(1)),
             Event::Wake(_) | Event::SetWeight(_, _) => {}
         }

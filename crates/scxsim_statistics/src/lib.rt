@@ -2,9 +2,12 @@
 //! group reached beside the one that is due to it. They are written once the run is over.
 #![tactic(auto)]
 
+mod bursts;
 mod counting;
+mod faults;
 mod gathering;
 mod listing;
+mod losses;
 mod numbers;
 mod quotas;
 mod shares;
@@ -12,8 +15,11 @@ mod tables;
 mod tally;
 mod telling;
 
-pub use counting::WaitCounts;
+pub use bursts::BurstFigures;
+pub use counting::LengthCounts;
+pub use faults::words_of;
 pub use gathering::{Figures, GroupFigures};
+pub use losses::Losses;
 pub use quotas::{QuotaFigures, Quotas};
 pub use tally::{CpuFigures, TaskFigures};
 pub use telling::{figures, replay_csv, replay_figures, stats, stats_csv};

@@ -1,7 +1,9 @@
+use crate::bursts::BurstFigures;
 use crate::gathering::{Figures, GroupFigures};
 use crate::numbers::{decimal, hundredths};
 use crate::quotas::QuotaFigures;
 use crate::tally::{CpuFigures, TaskFigures};
+use scx_sched::Eject;
 use std::alloc::AllocError;
 
 /// What stands above the values.
@@ -11,25 +13,33 @@ pub(crate) const COLUMNS: &str = "kind,name,figure,value\n";
 /// have to be quoted.
 pub(crate) fn write_list(figures: &Figures, page: &mut String) -> Result<(), AllocError> {
     list_tasks(figures, page)?;
-    list_cpus(figures.cpus.as_slice(), page)?;
+    list_cpus(figures, page)?;
     list_groups(figures, page)?;
     if figures.quotas.are_some() {
         list_parked(figures, page)?;
         list_quotas(figures, page)?;
     }
-    Ok(())
+    list_policy(figures, page)
 }
 
 fn list_tasks(figures: &Figures, page: &mut String) -> Result<(), AllocError> {
     for (number, task) in figures.tasks.iter().enumerate() {
-        list_task(figures.task_name(number), task, page)?;
+        let name = figures.task_name(number);
+        list_task(name, task, page)?;
+        if let Some(bursts) = figures.bursts.get(number) {
+            list_bursts(name, bursts, page)?;
+        }
     }
     Ok(())
 }
 
-fn list_cpus(cpus: &[CpuFigures], page: &mut String) -> Result<(), AllocError> {
-    for (number, cpu) in cpus.iter().enumerate() {
-        list_cpu(decimal(number).as_str(), cpu, page)?;
+fn list_cpus(figures: &Figures, page: &mut String) -> Result<(), AllocError> {
+    for (number, cpu) in figures.cpus.iter().enumerate() {
+        let name = decimal(number);
+        list_cpu(name.as_str(), cpu, page)?;
+        if let Some(lost) = figures.losses.cpus.get(number) {
+            list(page, "cpu", name.as_str(), "idle_while_waiting_ms", *lost)?;
+        }
     }
     Ok(())
 }
@@ -70,7 +80,7 @@ fn list_task(name: &str, task: &TaskFigures, page: &mut String) -> Result<(), Al
         "task",
         name,
         "wait_99_percent_ms",
-        waits.percentile_99(),
+        waits.percentile(99),
     )?;
     list(page, "task", name, "longest_wait_ms", waits.longest())?;
     list(
@@ -82,6 +92,24 @@ fn list_task(name: &str, task: &TaskFigures, page: &mut String) -> Result<(), Al
     )?;
     list(page, "task", name, "wakes", task.wakes)?;
     list(page, "task", name, "stopped", task.stopped)
+}
+
+/// Writes the figures of a task's finished bursts; where there are none, only that.
+fn list_bursts(name: &str, bursts: &BurstFigures, page: &mut String) -> Result<(), AllocError> {
+    let lengths = &bursts.lengths;
+    list(page, "task", name, "bursts", lengths.count())?;
+    if lengths.count() == 0 {
+        return Ok(());
+    }
+    list_hundredths(page, "task", name, "mean_burst_ms", lengths.mean())?;
+    let half = lengths.percentile(50);
+    let most = lengths.percentile(90);
+    let nearly_all = lengths.percentile(99);
+    list(page, "task", name, "burst_50_percent_ms", half)?;
+    list(page, "task", name, "burst_90_percent_ms", most)?;
+    list(page, "task", name, "burst_99_percent_ms", nearly_all)?;
+    list(page, "task", name, "longest_burst_ms", lengths.longest())?;
+    list_hundredths(page, "task", name, "slowdown", bursts.slowdown())
 }
 
 fn list_cpu(name: &str, cpu: &CpuFigures, page: &mut String) -> Result<(), AllocError> {
@@ -113,6 +141,32 @@ fn list_quota(
         group.throttled_periods,
     )?;
     list(page, "group", name, "throttled_ms", group.throttled)
+}
+
+/// Writes for how long some processor was idle while a task waited, and how the policy ended.
+fn list_policy(figures: &Figures, page: &mut String) -> Result<(), AllocError> {
+    let name = figures.policy_name.as_str();
+    list(
+        page,
+        "policy",
+        name,
+        "idle_while_waiting_ms",
+        figures.losses.anywhere,
+    )?;
+    let ejected = figures.ejected;
+    match ejected {
+        None => writeln!(page, "policy,{name},ended,in force"),
+        Some(Eject::Stall(task, clock)) => {
+            let task = figures.task_name(task as usize);
+            writeln!(page, "policy,{name},ended,stall {task}")?;
+            list(page, "policy", name, "ejected_at_ms", clock)
+        }
+        Some(Eject::Fault(fault, clock)) => {
+            let number = fault.number();
+            writeln!(page, "policy,{name},ended,fault {number}")?;
+            list(page, "policy", name, "ejected_at_ms", clock)
+        }
+    }
 }
 
 /// Writes the line of a figure.

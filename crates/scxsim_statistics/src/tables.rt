@@ -1,7 +1,9 @@
+use crate::faults::words_of;
 use crate::gathering::{Figures, GroupFigures};
 use crate::numbers::hundredths;
 use crate::quotas::QuotaFigures;
 use crate::tally::{CpuFigures, TaskFigures};
+use scx_sched::Eject;
 use std::alloc::AllocError;
 
 /// What stands above the tables.
@@ -28,7 +30,27 @@ pub(crate) fn write_tables(figures: &Figures, page: &mut String) -> Result<(), A
         page.push_str("\n")?;
         write_quotas(figures, page)?;
     }
-    Ok(())
+    page.push_str("\n")?;
+    write_policy(figures, page)
+}
+
+/// Writes whether the policy is in force at the end, or when and why it was ejected.
+fn write_policy(figures: &Figures, page: &mut String) -> Result<(), AllocError> {
+    page.push_str("policy  ")?;
+    let ejected = figures.ejected;
+    match ejected {
+        None => page.push_str("in force\n"),
+        Some(Eject::Stall(task, clock)) => {
+            let task = figures.task_name(task as usize);
+            writeln!(page, "ejected at {clock} ms: stall {task}")
+        }
+        Some(Eject::Fault(fault, clock)) => {
+            let number = fault.number();
+            let words = words_of(fault);
+            write!(page, "ejected at {clock} ms: fault {number}")?;
+            writeln!(page, " ({words})")
+        }
+    }
 }
 
 fn write_tasks(figures: &Figures, page: &mut String) -> Result<(), AllocError> {
@@ -53,11 +75,7 @@ fn write_task(name: &str, task: &TaskFigures, page: &mut String) -> Result<(), A
     write!(page, "{name:<16}")?;
     write_numbers(&[task.run, waits.count()], page)?;
     write!(page, "{mean:>12}")?;
-    let waited = [
-        waits.percentile_99(),
-        waits.longest(),
-        waits.longest_since(),
-    ];
+    let waited = [waits.percentile(99), waits.longest(), waits.longest_since()];
     write_numbers(&waited, page)?;
     write_numbers(&[task.wakes, task.stopped], page)
 }

@@ -1,8 +1,12 @@
 ghost use Rattle.std.specs.Prelude.{◌≡◌, replicate, false, is_err, IfOk, OnOk};
 ghost use Rattle.scxsim_views.specs.Pauses.{open_pause};
-ghost use Rattle.scxsim_statistics.specs.Counting.{counts_of, no_figures, unused_cpu, nothing, with_tick, with_begin, with_pause, with_wake_at, cut_off, has_run, with_pause_at, after_pause, stop_counted, with_tick_at, begun_on, pause_counted, counts_after_step, counts_after_note, counts_at_end};
+ghost use Rattle.scx_sched_world.specs.World.{task_at};
+ghost use Rattle.scxsim_trace.specs.Report.{ran_ms};
+ghost use Rattle.scxsim_statistics.specs.Counting.{counts_of, no_figures, unused_cpu, nothing, with_tick, with_begin, with_pause, with_wake_at, cut_off, has_run, with_pause_at, after_pause, stop_counted, with_tick_at, begun_on, pause_counted, counts_after_step, burst_counted, loss_counted, tick_counted, sleep_counted, counts_after_note, counts_at_end};
 
-use crate::counting::WaitCounts;
+use crate::bursts::{BurstFigures, note_burst, sleep, unused_bursts};
+use crate::counting::LengthCounts;
+use crate::losses::Losses;
 use scx_sched::{Sim, What};
 use scxsim_views::{Pause, PauseKind, Pauses};
 use std::alloc::{AllocError, Global};
@@ -15,7 +19,7 @@ const MS: u64 = 1_000_000;
 pub struct TaskFigures {
     /// For how many milliseconds it ran.
     pub run: u64,
-    pub waits: WaitCounts,
+    pub waits: LengthCounts,
     pub wakes: u64,
     /// How often it had to stop although it had work to do.
     pub stopped: u64,
@@ -29,7 +33,7 @@ impl TaskFigures {
     {
         TaskFigures {
             run: 0,
-            waits: WaitCounts::new(alloc),
+            waits: LengthCounts::new(alloc),
             wakes: 0,
             stopped: 0,
             parked: 0,
@@ -40,7 +44,7 @@ impl TaskFigures {
         ensures { OnOk result (self.new ≡ with_pause pause self.old) }
     {
         match pause.kind {
-            PauseKind::Wait => self.waits.add(pause),
+            PauseKind::Wait => self.waits.add(pause.since, pause.length()),
             PauseKind::Parked => {
                 self.parked = self.parked.saturating_add(pause.length());
                 Ok(())
@@ -110,6 +114,8 @@ fn unused_cpus(alloc: Global, count: usize) -> Result<Vec<CpuFigures>, AllocErro
 pub(crate) struct Tally {
     pub(crate) tasks: Vec<TaskFigures>,
     pub(crate) cpus: Vec<CpuFigures>,
+    pub(crate) bursts: Vec<BurstFigures>,
+    pub(crate) losses: Losses,
     pauses: Pauses,
     /// Whether there was memory for all.
     pub(crate) result: Result<(), AllocError>,
@@ -123,6 +129,8 @@ impl Tally {
         Ok(Tally {
             tasks: unused_tasks(alloc, tasks)?,
             cpus: unused_cpus(alloc, cpus)?,
+            bursts: unused_bursts(alloc, tasks)?,
+            losses: Losses::new(alloc, cpus)?,
             pauses: Pauses::new(alloc, tasks)?,
             result: Ok(()),
         })
@@ -130,12 +138,31 @@ impl Tally {
 
     /// A processor is about to have run for a millisecond, or not to have.
     pub(crate) fn tick(&mut self, cpu: u32, is_busy: bool)
-        ensures tasks { self.new.tasks ≡ self.old.tasks }
-        ensures cpus { self.new.cpus.items ≡ with_tick_at self.old.cpus.items cpu is_busy }
-        ensures pauses { self.new.pauses ≡ self.old.pauses }
+        ensures counts { counts_of self.new ≡ tick_counted cpu is_busy (counts_of self.old) }
         ensures result { self.new.result ≡ self.old.result }
     {
         tick(&mut self.cpus, cpu, is_busy);
+    }
+
+    /// Counts what is lost of a millisecond, with the first of its ticks.
+    pub(crate) fn lose(&mut self, sim: &Sim, cpu: u32)
+        ensures counts { counts_of self.new
+            ≡ loss_counted sim.now.state.world cpu (counts_of self.old) }
+        ensures result { self.new.result ≡ self.old.result }
+    {
+        if cpu == 0 && self.pauses.somebody_waits() {
+            self.losses.add(sim);
+        }
+    }
+
+    /// A task is about to go to sleep.
+    pub(crate) fn sleep(&mut self, sim: &Sim, task: u16)
+        ensures counts { counts_of self.new
+            ≡ sleep_counted sim.now.state.world task (counts_of self.old) }
+        ensures result { self.new.result ≡ self.old.result }
+    {
+        let ran = run_ms(sim, task);
+        sleep(&mut self.bursts, task, ran);
     }
 
     /// Something happens. Once memory has run out, nothing is counted any more.
@@ -145,6 +172,7 @@ impl Tally {
     {
         self.count_pause(clock, what);
         self.count(what);
+        self.count_burst(clock, what);
     }
 
     /// Counts the pause that ends, if one does.
@@ -154,6 +182,17 @@ impl Tally {
     {
         if let Some(pause) = self.pauses.show(clock, what) {
             self.result = add_pause(&mut self.tasks, pause);
+        }
+    }
+
+    /// Counts the burst that ends, if one does.
+    fn count_burst(&mut self, clock: u64, what: What)
+        ensures counts { is_err self.new.result ≡ false
+            → counts_of self.new ≡ burst_counted clock what (counts_of self.old) }
+        ensures before { is_err self.new.result ≡ false → is_err self.old.result ≡ false }
+    {
+        if self.result.is_ok() {
+            self.result = note_burst(&mut self.bursts, clock, what);
         }
     }
 
@@ -180,6 +219,8 @@ impl Tally {
         ensures tasks { self.new.tasks.items
             ≡ stop_counted self.old.pauses self.old.tasks.items task }
         ensures cpus { self.new.cpus ≡ self.old.cpus }
+        ensures bursts { self.new.bursts ≡ self.old.bursts }
+        ensures losses { self.new.losses ≡ self.old.losses }
         ensures pauses { self.new.pauses ≡ self.old.pauses }
         ensures result { self.new.result ≡ self.old.result }
     {
@@ -204,6 +245,8 @@ impl Tally {
         ensures tasks { is_err self.new.result ≡ false → self.new.tasks.items
             ≡ after_pause (open_pause clock self.old.pauses task) self.old.tasks.items }
         ensures cpus { self.new.cpus ≡ self.old.cpus }
+        ensures bursts { self.new.bursts ≡ self.old.bursts }
+        ensures losses { self.new.losses ≡ self.old.losses }
         ensures pauses { self.new.pauses ≡ self.old.pauses }
         ensures before { is_err self.new.result ≡ false → is_err self.old.result ≡ false }
     {
@@ -212,6 +255,17 @@ impl Tally {
                 self.result = add_pause(&mut self.tasks, pause);
             }
         }
+    }
+}
+
+/// For how many milliseconds the task has run; 0 where there is none.
+fn run_ms(sim: &Sim, task: u16) -> u64
+    ensures { result ≡ ran_ms (task_at sim.now.state.world task) }
+{
+    if task < sim.tasks() {
+        sim.run_ns(task) / MS
+    } else {
+        0
     }
 }
 

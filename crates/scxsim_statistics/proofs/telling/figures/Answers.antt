@@ -1,7 +1,7 @@
-use Rattle.scxsim_statistics.proofs.Reading.{of_texts}
+use Rattle.scxsim_statistics.proofs.Reading.{of_texts, name_is}
 use Rattle.scxsim_statistics.proofs.telling.figures.Goals as goal
 
 pub returns-clause-of_texts : goal.returns-clause-of_texts
 returns-clause-of_texts g c =
     of_texts c.args.policy.now c.args.workload.now _ _ _ _
-    c.in_ok-gather.ensures.workload c.in_ok-run.ensures.run c.in_ok-run.ensures.events c.in_ok-gather.ensures.of_run
+    c.in_ok-gather.ensures.workload c.in_ok-run.ensures.run c.in_ok-run.ensures.events c.in_ok-gather.ensures.of_run (name_is c.args.policy.now _ _ c.in_ok-gather.ensures.name c.in_ok-run.ensures.named)
