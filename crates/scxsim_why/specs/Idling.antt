@@ -10,7 +10,7 @@ use Rattle.scx_load_driver.specs.Events.{workload_events}
 use Rattle.scx_load_workloads.specs.Workload.{WorkloadState}
 use Rattle.scxsim_simulation.specs.Runs.{IsRun}
 use Rattle.scxsim_statistics.specs.Figures.{is_wait}
-use Rattle.scxsim_statistics.specs.Waits.{up}
+use Rattle.scxsim_statistics.specs.Lengths.{up}
 use Rattle.scxsim_views.specs.declared.pauses.Doing.{Doing}
 use Rattle.scxsim_views.specs.declared.pauses.Doing.TheVariants.{Sleeps}
 use Rattle.scxsim_views.specs.declared.pauses.Pause.{Pause}

@@ -10,6 +10,7 @@ use scx_load_workloads::Workload;
 use scx_sched::{Event, Fault, Sink};
 use scxsim_faults::{FaultPlace, write_call, write_policy_queues, write_reason};
 use scxsim_output::Counted;
+use scxsim_statistics::words_of;
 use scxsim_trace::{Names, Trace};
 use scxsim_views::{QueueName, fault_words};
 use std::alloc::{AllocError, Global};
