@@ -266,7 +266,7 @@ are_percentiles (l ∷ ls) x count times percent some most small =
     let whole : all es ≡ suc (length ls) = all_with all_ls [] (λ k. true) fits ∙ from_0 (how_many (λ k. true) all_ls) ∙ all_pass all_ls in
     let enough : at_most_64_bits (x.count * percent) ≡ m = counted (suc (length ls)) percent x.count count small most in
     let is : percentile percent x ≡ exact m 0 es = ap (λ t. first_reaching (at_most_64_bits (x.count * percent)) 0 t) times
-        ∙ ap (λ n. first_reaching n 0 es) enough ∙ is_exact m 0 es (subst (λ a. 0 + a < 2 ^ 57) (sym whole) fits) in
+    ∙ ap (λ n. first_reaching n 0 es) enough ∙ is_exact m 0 es (subst (λ a. 0 + a < 2 ^ 57) (sym whole) fits) in
     let first = is_first m 0 es (all_in_order all_ls [] tt) (positive (length ls) percent some)
     (subst (λ a. m ≤ (0 + a) * 100) (sym whole) (no_more (suc (length ls)) percent most)) in
     subst (λ v. IsPercentile percent all_ls v) (sym is)
