@@ -2,10 +2,9 @@
 
 use scxsim_charts::gantt;
 use scxsim_commands::Fault;
+use scxsim_drawing::picture;
 use scxsim_output::Out;
 use scxsim_page::{Paths, view};
-use scxsim_pictures::{picture, timeline};
-use scxsim_drawing::picture;
 use scxsim_pictures::timeline;
 use scxsim_simulation::{Listener, report, simulate};
 use scxsim_statistics::{stats, stats_csv};
@@ -24,7 +23,6 @@ pub(crate) enum Account {
 pub(crate) enum Course {
     Trace,
     Timeline,
-    Picture,
     View,
 }
 
@@ -45,7 +43,7 @@ const PATHS: Paths<'static> = Paths {
     workload: "b",
 };
 
-pub(crate) const ACCOUNTS: [Account; 9] = [
+pub(crate) const ACCOUNTS: [Account; 10] = [
     Account::Course(Course::Trace),
     Account::Summary(Summary::Report),
     Account::Summary(Summary::Stats),
@@ -54,7 +52,6 @@ pub(crate) const ACCOUNTS: [Account; 9] = [
     Account::Summary(Summary::Story),
     Account::Summary(Summary::Gantt),
     Account::Course(Course::Timeline),
-    Account::Course(Course::Picture),
     Account::Course(Course::View),
     Account::Summary(Summary::Picture),
 ];
@@ -84,7 +81,6 @@ fn write_course<L: Listener, W: Out>(
     match course {
         Course::Trace => simulate(alloc, policy, workload, listener, out),
         Course::Timeline => timeline(alloc, policy, workload, listener, out),
-        Course::Picture => picture(alloc, policy, workload, listener, out),
         Course::View => view(alloc, PATHS, policy, workload, None, listener, out),
     }
 }

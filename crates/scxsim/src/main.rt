@@ -35,7 +35,7 @@ pub use scxsim_commands::{
 pub use scxsim_drawing::picture;
 pub use scxsim_explain::explain;
 pub use scxsim_page::view;
-pub use scxsim_pictures::{picture, timeline, timeline};
+pub use scxsim_pictures::timeline;
 pub use scxsim_simulation::{Listener, replay, report, simulate};
 pub use scxsim_statistics::{replay_csv, stats, stats_csv};
 pub use scxsim_story::story;

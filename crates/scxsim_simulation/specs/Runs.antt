@@ -42,6 +42,7 @@ pub record IsRun (policy workload : List ℕ) (w : WorkloadState) (s : SimState)
   pub begun : IsBegun policy w s
   pub workload_read : workload_of workload ≡ Ok w
   pub accepted : AreAccepted s (workload_events w s)
+
 -- the name that a policy's text gives the policy; empty where it gives none
 abbrev pub name_in : List ℕ → Reading (List ℕ)
 name_in policy = policy_text policy >>= λ file. Ok file.name

@@ -1,4 +1,4 @@
-ghost use Rattle.std.specs.Prelude.{◌≡◌, true, Ok, Err, IfOk, IfErr, OnOk};
+ghost use Rattle.std.specs.Prelude.{◌≡◌, true, Ok, Err, IfOk, IfErr, OnOk, string_bytes};
 ghost use Rattle.std.specs.Io.KnownBytes.{Appends};
 ghost use Rattle.scx_weights.specs.Hierarchy.{idle};
 ghost use Rattle.scx_sched_machine.specs.Callbacks.{AreAnswered};
@@ -13,7 +13,7 @@ ghost use Rattle.scxsim_output.specs.Output.{HasFailed, AppendsBeginning};
 ghost use Rattle.scxsim_commands.specs.Outcome.{IfRefused, IsRefused};
 ghost use Rattle.scxsim_commands.specs.Refusals.{events_refusal};
 ghost use Rattle.scxsim_simulation.specs.Refusals.{or_refusal};
-ghost use Rattle.scxsim_simulation.specs.Runs.{IsOfHeadline, IsCutOff, IsStartFault};
+ghost use Rattle.scxsim_simulation.specs.Runs.{name_in, IsOfHeadline, IsCutOff, IsStartFault};
 ghost use Rattle.scxsim_simulation.specs.Replays.{IsReplayRun, IsReplayCause, IsEventsFault, replay_text};
 
 use crate::hearing::Listener;
@@ -31,6 +31,8 @@ use std::alloc::Global;
 /// A run of a file of events that is about to begin.
 #[derive(Drop)]
 pub struct ReplayRun {
+    /// The policy's name, empty where its file gives none.
+    pub policy_name: String,
     pub workload: Workload,
     pub replayer: Replayer,
     pub sim: Sim,
@@ -73,6 +75,7 @@ pub fn replay<L: Listener, W: Out>(
         workload,
         replayer,
         sim,
+        ..
     } = run;
     write_events(workload, replayer, sim, listener, out)?;
     Ok(true)
@@ -87,12 +90,14 @@ pub fn prepare_replay(alloc: Global, policy: &str, events: &str) -> Result<Repla
     ensures run { IfOk result (λ run. (r : ReplayState)
         × IsReplayRun policy.now events.now r run.sim
         × (run.workload ≡ r.workload) × (remaining run.replayer ≡ replay_events r)) }
+    ensures named { IfOk result (λ run. name_in policy.now ≡ Ok (string_bytes run.policy_name)) }
     ensures refused { IfErr result (IsReplayCause policy.now events.now) }
 {
     let text = policy_in(alloc, policy)?;
     let replay = events_in(alloc, events)?;
+    let name = String::from_str(alloc, text.name())?;
     let policy = build(alloc, text)?;
-    begin_replay(alloc, policy, replay)
+    begin_replay(alloc, name, policy, replay)
 }
 
 fn events_in(alloc: Global, text: &str) -> Result<Replay, Refusal>
@@ -114,7 +119,13 @@ fn events_or_refusal(read: Result<Replay, LoadError>) -> Result<Replay, Refusal>
 
 /// The run of a file of events under a policy.
 #[tactic(auto, using(scx_load_replay::proofs::Accepting::none_is_refused))]
-fn begin_replay(alloc: Global, policy: Policy, replay: Replay) -> Result<ReplayRun, Refusal>
+fn begin_replay(
+    alloc: Global,
+    name: String,
+    policy: Policy,
+    replay: Replay,
+) -> Result<ReplayRun, Refusal>
+    ensures name { IfOk result (λ run. run.policy_name ≡ name) }
     ensures workload { IfOk result (λ run. run.workload ≡ replay.workload) }
     ensures events { IfOk result (λ run. remaining run.replayer ≡ replay_events replay) }
     ensures first { IfOk result
@@ -132,11 +143,13 @@ fn begin_replay(alloc: Global, policy: Policy, replay: Replay) -> Result<ReplayR
     let (workload, replayer) = replay.into_parts();
     match start(alloc, policy, &workload) {
         Ok(sim) => Ok(ReplayRun {
+            policy_name: name,
             workload,
             replayer,
             sim,
         }),
         Err(refusal) => {
+            drop(name);
             drop(workload);
             drop(replayer);
             Err(refusal)

@@ -78,7 +78,6 @@ fn write_trace<L: Listener, W: Out>(run: Run, listener: &mut L, out: &mut W) -> 
         workload,
         driver,
         sim,
-        mut sim,
         ..
     } = run;
     write_events(workload, driver, sim, listener, out)

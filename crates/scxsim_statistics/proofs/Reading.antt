@@ -42,17 +42,19 @@ all_listed policy events r s run =
 
 -- the same of a policy's text and a file of events
 pub of_events : (policy events : List ℕ) (r : ReplayState) (w : WorkloadState) (s : SimState) (es : List Event) (f : Figures)
-    → f.workload ≡ w → w ≡ r.workload → IsReplayRun policy events r s → es ≡ replay_events r → AreOfRun w s es f.tasks.items f.cpus.items → AreOfEvents policy events f
-of_events policy events r w s es f same of run listed figures =
-    let R : WorkloadState → Type 0 = λ v. AreOfRun v s (replay_events r) f.tasks.items f.cpus.items in
+    → f.workload ≡ w → w ≡ r.workload → IsReplayRun policy events r s → es ≡ replay_events r → AreOfRun w s es (of_figures f) → name_in policy ≡ Ok (string_bytes f.policy_name) → AreOfEvents policy events f
+of_events policy events r w s es f same of run listed figures named =
+    let R : WorkloadState → Type 0 = λ v. AreOfRun v s (replay_events r) (of_figures f) in
     record {
       r = r;
       first = s;
       run = run;
       workload = same ∙ of;
       all_there = all_listed policy events r s run;
-      of_run = subst R of (subst (λ xs. AreOfRun w s xs f.tasks.items f.cpus.items) listed figures);
+      of_run = subst R of (subst (λ xs. AreOfRun w s xs (of_figures f)) listed figures);
+      named = named;
     }
+
 -- what was taken over is the name that it was taken from
 pub name_is : (policy : List ℕ) (f g : String Global) → f ≡ g → name_in policy ≡ Ok (string_bytes g) → name_in policy ≡ Ok (string_bytes f)
 name_is policy f g same named = named ∙ ap (λ n. Ok (string_bytes n)) (sym same)

@@ -337,8 +337,8 @@ pub record AreOfTexts (policy workload : List ℕ) (f : Figures) : Type 0 where
   pub first : SimState
   pub run : IsRun policy workload f.workload first
   pub all_there : length (last_of f.workload first).state.world.tasks ≡ length f.workload.homes
-  pub of_run :
-      AreOfRun f.workload first (workload_events f.workload first) f.tasks.items f.cpus.items
+  pub of_run : AreOfRun f.workload first (workload_events f.workload first) (of_figures f)
+  pub named : name_in policy ≡ Ok (string_bytes f.policy_name)
 
 -- the figures of the run that a policy's text and a file of events stand for
 pub record AreOfEvents (policy events : List ℕ) (f : Figures) : Type 0 where
@@ -348,6 +348,5 @@ pub record AreOfEvents (policy events : List ℕ) (f : Figures) : Type 0 where
   pub workload : f.workload ≡ r.workload
   pub all_there :
       length (stepped_all first (replay_events r)).state.world.tasks ≡ length r.workload.homes
-  pub of_run : AreOfRun r.workload first (replay_events r) f.tasks.items f.cpus.items
-  pub of_run : AreOfRun f.workload first (workload_events f.workload first) (of_figures f)
+  pub of_run : AreOfRun r.workload first (replay_events r) (of_figures f)
   pub named : name_in policy ≡ Ok (string_bytes f.policy_name)

@@ -60,23 +60,24 @@ pub(crate) fn gather<L: Listener>(
         workload,
         driver,
         sim,
-        mut sim,
         ..
     } = run;
-    gather_events(alloc, workload, driver, sim, listener)
+    gather_events(alloc, policy_name, workload, driver, sim, listener)
 }
 
 /// Goes through these events, and answers the figures.
 pub(crate) fn gather_events<E: Events + Drop, L: Listener>(
     alloc: Global,
+    policy_name: String,
     workload: Workload,
     source: E,
     mut sim: Sim,
     listener: &mut L,
 ) -> Result<Figures, AllocError>
+    ensures name { IfOk result (λ figures. figures.policy_name ≡ policy_name) }
     ensures workload { IfOk result (λ figures. figures.workload ≡ workload) }
     ensures of_run { IfOk result (λ figures.
-        AreOfRun workload sim (E.remaining source sim) figures.tasks.items figures.cpus.items) }
+        AreOfRun workload sim (E.remaining source sim) (of_figures figures)) }
 {
     let mut events = Heard::new(source, workload.ms(), listener);
     let gathered = gather_from(alloc, &workload, &mut events, &mut sim);

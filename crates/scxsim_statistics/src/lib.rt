@@ -4,7 +4,6 @@
 
 mod bursts;
 mod counting;
-mod faults;
 mod gathering;
 mod listing;
 mod losses;
@@ -17,7 +16,6 @@ mod telling;
 
 pub use bursts::BurstFigures;
 pub use counting::LengthCounts;
-pub use faults::words_of;
 pub use gathering::{Figures, GroupFigures};
 pub use losses::Losses;
 pub use quotas::{QuotaFigures, Quotas};

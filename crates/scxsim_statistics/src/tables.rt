@@ -1,9 +1,9 @@
-use crate::faults::words_of;
 use crate::gathering::{Figures, GroupFigures};
 use crate::numbers::hundredths;
 use crate::quotas::QuotaFigures;
 use crate::tally::{CpuFigures, TaskFigures};
 use scx_sched::Eject;
+use scxsim_views::fault_words;
 use std::alloc::AllocError;
 
 /// What stands above the tables.
@@ -46,7 +46,7 @@ fn write_policy(figures: &Figures, page: &mut String) -> Result<(), AllocError> 
         }
         Some(Eject::Fault(fault, clock)) => {
             let number = fault.number();
-            let words = words_of(fault);
+            let words = fault_words(fault);
             write!(page, "ejected at {clock} ms: fault {number}")?;
             writeln!(page, " ({words})")
         }

@@ -213,9 +213,10 @@ pub fn replay_figures<L: Listener>(
 {
     let run = prepare_replay(alloc, policy, events)?;
     let ReplayRun {
+        policy_name,
         workload,
         replayer,
         sim,
     } = run;
-    Ok(gather_events(alloc, workload, replayer, sim, listener)?)
+    Ok(gather_events(alloc, policy_name, workload, replayer, sim, listener)?)
 }

@@ -10,7 +10,6 @@ use scx_load_workloads::Workload;
 use scx_sched::{Event, Fault, Sink};
 use scxsim_faults::{FaultPlace, write_call, write_policy_queues, write_reason};
 use scxsim_output::Counted;
-use scxsim_statistics::words_of;
 use scxsim_trace::{Names, Trace};
 use scxsim_views::{QueueName, fault_words};
 use std::alloc::{AllocError, Global};
@@ -55,9 +54,6 @@ fn write_ending(
         }
         Cause::Fault(fault, event) => {
             let number = fault.number();
-            let words = fault_words(fault);
-            write!(page, "fault {number}, {words}, ")?;
-            write_event(workload, event, page)
             write!(page, "fault {number}")?;
             match place {
                 Some(place) => write_fault(workload, place, event, page),
@@ -93,7 +89,7 @@ fn write_unplaced(
     event: Event,
     page: &mut String,
 ) -> Result<(), AllocError> {
-    let words = words_of(fault);
+    let words = fault_words(fault);
     write!(page, ", {words}, ")?;
     write_event(workload, event, page)?;
     page.push_str("\n")
