@@ -102,6 +102,7 @@ pub(crate) fn gather<L: Listener>(
         workload,
         driver,
         mut sim,
+        ..
     } = run;
     let mut events = Heard::new(driver, workload.ms(), listener);
     let gathered = gather_from(alloc, &workload, window, &mut events, &mut sim);

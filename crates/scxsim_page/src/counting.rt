@@ -17,6 +17,7 @@ pub(crate) fn count_stretches<L: Listener>(
         workload,
         driver,
         mut sim,
+        ..
     } = run;
     let mut events = Heard::new(driver, workload.ms(), listener);
     let course = Course::new(alloc, workload.tasks().len(), window);

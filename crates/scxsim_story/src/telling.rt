@@ -105,6 +105,7 @@ fn tell<L: Listener>(
         workload,
         driver,
         mut sim,
+        ..
     } = run;
     let mut events = Heard::new(driver, workload.ms(), listener);
     let text = tell_from(alloc, &workload, subject, &mut events, &mut sim);
