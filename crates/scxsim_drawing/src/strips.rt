@@ -7,6 +7,9 @@ use crate::sheets::Sheet;
 /// Shares are in parts of this many.
 const PARTS: u64 = 10_000;
 
+/// How many parts of what is due, as it is counted, are one part of a millisecond's share.
+const DUE_PARTS: u64 = WHOLE / PARTS;
+
 /// What is due and isn't reached is hatched from this on: 3 %.
 const LACKS: u64 = 300;
 
@@ -66,7 +69,7 @@ impl Sums {
     fn share(self) -> Share {
         Share {
             has: part_of(self.ran, self.all),
-            due: part_of(self.due / WHOLE, self.all),
+            due: self.due / DUE_PARTS / self.all.max(1),
         }
     }
 }
