@@ -90,6 +90,7 @@ fn write_unplaced(
     page: &mut String,
 ) -> Result<(), AllocError> {
     let words = fault_words(fault);
+    let words = words_of(fault);
     write!(page, ", {words}, ")?;
     write_event(workload, event, page)?;
     page.push_str("\n")
