@@ -59,6 +59,9 @@ fn write_ending(
                 Some(place) => write_fault(workload, place, event, page),
                 None => write_unplaced(workload, fault, event, page),
             }
+            let words = fault_words(fault);
+            write!(page, "fault {number}, {words}, ")?;
+            write_event(workload, event, page)
         }
     }
 }
