@@ -59,9 +59,6 @@ fn write_ending(
                 Some(place) => write_fault(workload, place, event, page),
                 None => write_unplaced(workload, fault, event, page),
             }
-            let words = fault_words(fault);
-            write!(page, "fault {number}, {words}, ")?;
-            write_event(workload, event, page)
         }
     }
 }
@@ -93,7 +90,6 @@ fn write_unplaced(
     page: &mut String,
 ) -> Result<(), AllocError> {
     let words = fault_words(fault);
-    let words = words_of(fault);
     write!(page, ", {words}, ")?;
     write_event(workload, event, page)?;
     page.push_str("\n")
