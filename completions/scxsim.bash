@@ -21,11 +21,11 @@ _scxsim() {
     local current=${COMP_WORDS[COMP_CWORD]}
     COMPREPLY=()
     if [ "$COMP_CWORD" -eq 1 ]; then
-        _scxsim_words "verify explain run report stats stats-csv why story timeline picture view view-part picture-part gantt gantt-part replay replay-csv exec asm dis cases help --help --version"
+        _scxsim_words "verify explain run report stats stats-csv why story timeline picture picture-part view view-part gantt gantt-part replay replay-csv exec asm dis cases help --help --version"
         return
     fi
     case ${COMP_WORDS[1]},$COMP_CWORD in
-        help,2) _scxsim_words "verify explain run report stats stats-csv why story timeline picture view view-part picture-part gantt gantt-part replay replay-csv exec asm dis cases" ;;
+        help,2) _scxsim_words "verify explain run report stats stats-csv why story timeline picture picture-part view view-part gantt gantt-part replay replay-csv exec asm dis cases" ;;
         verify,2) _scxsim_files toml ;;
         explain,2) _scxsim_files toml ;;
         run,2) _scxsim_files toml ;;
@@ -45,12 +45,12 @@ _scxsim() {
         timeline,3) _scxsim_files toml ;;
         picture,2) _scxsim_files toml ;;
         picture,3) _scxsim_files toml ;;
+        picture-part,2) _scxsim_files toml ;;
+        picture-part,3) _scxsim_files toml ;;
         view,2) _scxsim_files toml ;;
         view,3) _scxsim_files toml ;;
         view-part,2) _scxsim_files toml ;;
         view-part,3) _scxsim_files toml ;;
-        picture-part,2) _scxsim_files toml ;;
-        picture-part,3) _scxsim_files toml ;;
         gantt,2) _scxsim_files toml ;;
         gantt,3) _scxsim_files toml ;;
         gantt-part,2) _scxsim_files toml ;;
