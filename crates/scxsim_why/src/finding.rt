@@ -112,17 +112,30 @@ fn second_half<L: Listener>(
     ensures { IfOk result (λ account. account.idling
         ≡ idle_of run.sim (remaining run.driver run.sim)) }
 {
+    let mut half = Half {
+        listener,
+        is_second: true,
+    };
+    go_through(alloc, figures, run, &mut half)
+}
+
+/// Goes through the run, and watches what becomes of the longest waits.
+fn go_through<L: Listener>(
+    alloc: Global,
+    figures: &Figures,
+    run: Run,
+    listener: &mut L,
+) -> Result<Account, AllocError>
+    ensures { IfOk result (λ account. account.idling
+        ≡ idle_of run.sim (remaining run.driver run.sim)) }
+{
     let Run {
         workload,
         driver,
         mut sim,
         ..
     } = run;
-    let mut half = Half {
-        listener,
-        is_second: true,
-    };
-    let mut events = Heard::new(driver, workload.ms(), &mut half);
+    let mut events = Heard::new(driver, workload.ms(), listener);
     let account = account_from(alloc, figures, &mut events, &mut sim);
     give_back(events, sim);
     drop(workload);
