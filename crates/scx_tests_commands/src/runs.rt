@@ -7,8 +7,8 @@ use scxsim_output::Out;
 use scxsim_page::{Paths, view};
 use scxsim_pictures::timeline;
 use scxsim_simulation::{Listener, report, simulate};
-use scxsim_statistics::{stats, stats_csv};
 use scxsim_story::story;
+use scxsim_tables::{stats, stats_csv};
 use scxsim_why::why;
 use std::alloc::Global;
 

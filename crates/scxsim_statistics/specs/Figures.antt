@@ -1,6 +1,5 @@
--- What `stats` and `stats-csv` write: a line that says what stands below it, and then the figures;
--- and what the figures say of the notes of a run.
-use Rattle.std.specs.Prelude.{◌≡◌, ℕ, ◌+◌, ◌<◌, ◌==◌, ◌&&◌, max, Bool, true, false, not, List, [], ◌∷◌, ◌++◌, length, map, replicate, sum, codes, Option, Some, None, is_some, Ok, string_bytes, if◌then◌else◌, filter}
+-- What the figures say of the notes of a run.
+use Rattle.std.specs.Prelude.{◌≡◌, ℕ, ◌+◌, ◌<◌, ◌==◌, ◌&&◌, max, Bool, true, false, not, List, [], ◌∷◌, ◌++◌, length, map, replicate, sum, Option, Some, None, is_some, Ok, string_bytes, if◌then◌else◌, filter}
 use Rattle.std.specs.List.{list_any}
 use Rattle.scx_sched_world.specs.declared.notes.Note.{Note}
 use Rattle.scx_sched_world.specs.declared.notes.What.{What}
@@ -35,17 +34,6 @@ use Rattle.scxsim_statistics.specs.declared.tally.CpuFigures.{CpuFigures}
 use Rattle.scxsim_statistics.specs.declared.bursts.BurstFigures.{BurstFigures}
 use Rattle.scxsim_statistics.specs.declared.gathering.Figures.{Figures}
 use Rattle.scxsim_statistics.specs.declared.gathering.Gathered.{Gathered}
-
--- what `stats` writes: the heads of columns above the tasks' figures, and then all the rest
-abbrev pub tables : List ℕ → List ℕ
-tables rows =
-    codes
-    "task                  run    waits        mean      99%  longest    since    wakes  stopped"
-    ++ rows
-
--- what `stats-csv` writes: the line that names the columns, and then the lines of values
-abbrev pub values : List ℕ → List ℕ
-values rows = codes "kind,name,figure,value\n" ++ rows
 
 -- ---- what a task does, and its pauses
 

@@ -8,7 +8,6 @@ ghost use Rattle.scxsim_statistics.specs.Figures.{AreOfRun, of_counts, of_figure
 
 use crate::bursts::BurstFigures;
 use crate::losses::Losses;
-use crate::numbers::percent;
 use crate::quotas::Quotas;
 use crate::shares::{Shares, WHOLE};
 use crate::tally::{CpuFigures, Tally, TaskFigures};
@@ -392,6 +391,14 @@ fn total_run(tasks: &[TaskFigures]) -> u64 {
         total = total.saturating_add(task.run);
     }
     total
+}
+
+/// A part of a whole in hundredths of a percent, rounded down; 0 of nothing.
+fn percent(part: u64, whole: u64) -> u64 {
+    if whole == 0 {
+        return 0;
+    }
+    part.saturating_mul(10_000) / whole
 }
 
 /// What was due of a total, in hundredths of a percent, rounded down; 0 of nothing.

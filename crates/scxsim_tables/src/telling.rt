@@ -4,34 +4,15 @@ ghost use Rattle.scxsim_output.specs.Output.{HasFailed};
 ghost use Rattle.scxsim_commands.specs.Outcome.{IfRefused, IsRefused};
 ghost use Rattle.scxsim_simulation.specs.Runs.{IsCause};
 ghost use Rattle.scxsim_simulation.specs.Replays.{IsReplayCause};
-ghost use Rattle.scxsim_statistics.specs.Figures.{tables, values, AreOfTexts, AreOfEvents};
+ghost use Rattle.scxsim_tables.specs.Tables.{tables, values};
 
-use crate::gathering::{Figures, gather, gather_events};
 use crate::listing::{COLUMNS, write_list};
 use crate::tables::{TASKS, write_tables};
 use scxsim_commands::{Fault, Refusal};
 use scxsim_output::{Failed, Out, write_all};
-use scxsim_simulation::{Listener, ReplayRun, prepare, prepare_replay};
-use scxsim_trace::Names;
+use scxsim_simulation::Listener;
+use scxsim_statistics::{Figures, figures, replay_figures};
 use std::alloc::{AllocError, Global};
-
-impl Figures {
-    /// The name of the task of that number; an empty one where there is none.
-    pub(crate) fn task_name(&self, number: usize) -> &str {
-        match u16::try_from(number) {
-            Ok(task) => self.workload.task(task),
-            Err(_) => "",
-        }
-    }
-
-    /// The name of the group of that number; an empty one where there is none.
-    pub(crate) fn group_name(&self, number: usize) -> &str {
-        match u32::try_from(number) {
-            Ok(group) => self.workload.group(group),
-            Err(_) => "",
-        }
-    }
-}
 
 /// Writes tables of the figures of the run that the texts of a policy file and of a workload file stand for.
 /// The answer is true.
@@ -177,46 +158,4 @@ fn value_rows(alloc: Global, figures: &Figures) -> Result<String, AllocError> {
     let mut rows = String::new(alloc);
     write_list(figures, &mut rows)?;
     Ok(rows)
-}
-
-/// The figures of the run that the texts of a policy file and of a workload file stand for.
-///
-/// # Errors
-///
-/// The texts are refused, or memory runs out.
-pub fn figures<L: Listener>(
-    alloc: Global,
-    policy: &str,
-    workload: &str,
-    listener: &mut L,
-) -> Result<Figures, Refusal>
-    ensures of_texts { IfOk result (AreOfTexts policy.now workload.now) }
-    ensures refused { IfErr result (IsCause policy.now workload.now) }
-{
-    let run = prepare(alloc, policy, workload)?;
-    Ok(gather(alloc, run, listener)?)
-}
-
-/// The figures of the run that the texts of a policy file and of a file of events stand for.
-///
-/// # Errors
-///
-/// The texts are refused, or memory runs out.
-pub fn replay_figures<L: Listener>(
-    alloc: Global,
-    policy: &str,
-    events: &str,
-    listener: &mut L,
-) -> Result<Figures, Refusal>
-    ensures of_events { IfOk result (AreOfEvents policy.now events.now) }
-    ensures refused { IfErr result (IsReplayCause policy.now events.now) }
-{
-    let run = prepare_replay(alloc, policy, events)?;
-    let ReplayRun {
-        policy_name,
-        workload,
-        replayer,
-        sim,
-    } = run;
-    Ok(gather_events(alloc, policy_name, workload, replayer, sim, listener)?)
 }

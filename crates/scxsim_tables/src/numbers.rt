@@ -14,11 +14,3 @@ pub(crate) fn decimal(number: usize) -> ArrayString<32> {
     let _ = write!(text, "{number}");
     text
 }
-
-/// A part of a whole in hundredths of a percent, rounded down; 0 of nothing.
-pub(crate) fn percent(part: u64, whole: u64) -> u64 {
-    if whole == 0 {
-        return 0;
-    }
-    part.saturating_mul(10_000) / whole
-}

@@ -1,5 +1,5 @@
 use Rattle.scxsim_statistics.proofs.Reading.{of_events, name_is}
-use Rattle.scxsim_statistics.proofs.telling.replay_figures.Goals as goal
+use Rattle.scxsim_statistics.proofs.runs.replay_figures.Goals as goal
 
 pub returns-clause-of_events : goal.returns-clause-of_events
 returns-clause-of_events g c =

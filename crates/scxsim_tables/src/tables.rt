@@ -1,8 +1,7 @@
-use crate::gathering::{Figures, GroupFigures};
+use crate::names::{group_name, task_name};
 use crate::numbers::hundredths;
-use crate::quotas::QuotaFigures;
-use crate::tally::{CpuFigures, TaskFigures};
 use scx_sched::Eject;
+use scxsim_statistics::{CpuFigures, Figures, GroupFigures, QuotaFigures, TaskFigures};
 use scxsim_views::fault_words;
 use std::alloc::AllocError;
 
@@ -41,7 +40,7 @@ fn write_policy(figures: &Figures, page: &mut String) -> Result<(), AllocError> 
     match ejected {
         None => page.push_str("in force\n"),
         Some(Eject::Stall(task, clock)) => {
-            let task = figures.task_name(task as usize);
+            let task = task_name(figures, task as usize);
             writeln!(page, "ejected at {clock} ms: stall {task}")
         }
         Some(Eject::Fault(fault, clock)) => {
@@ -60,7 +59,7 @@ fn write_tasks(figures: &Figures, page: &mut String) -> Result<(), AllocError> {
     }
     page.push_str("\n")?;
     for (number, task) in figures.tasks.iter().enumerate() {
-        write_task(figures.task_name(number), task, page)?;
+        write_task(task_name(figures, number), task, page)?;
         if are_parked {
             write_numbers(&[task.parked], page)?;
         }
@@ -102,7 +101,7 @@ fn write_cpus(cpus: &[CpuFigures], page: &mut String) -> Result<(), AllocError> 
 fn write_groups(figures: &Figures, page: &mut String) -> Result<(), AllocError> {
     page.push_str(GROUPS)?;
     for (number, group) in figures.groups.iter().enumerate() {
-        write_group(figures.group_name(number), group, page)?;
+        write_group(group_name(figures, number), group, page)?;
     }
     Ok(())
 }
@@ -122,7 +121,7 @@ fn write_quotas(figures: &Figures, page: &mut String) -> Result<(), AllocError> 
     page.push_str(QUOTAS)?;
     for (number, group) in figures.quotas.groups.iter().enumerate() {
         if let Some(quota_ms) = group.quota_ms {
-            write_quota(figures.group_name(number), quota_ms, group, page)?;
+            write_quota(group_name(figures, number), quota_ms, group, page)?;
         }
     }
     Ok(())

@@ -1,5 +1,5 @@
 use Rattle.scxsim_statistics.proofs.Reading.{of_texts, name_is}
-use Rattle.scxsim_statistics.proofs.telling.figures.Goals as goal
+use Rattle.scxsim_statistics.proofs.runs.figures.Goals as goal
 
 pub returns-clause-of_texts : goal.returns-clause-of_texts
 returns-clause-of_texts g c =

@@ -1,9 +1,7 @@
-use crate::bursts::BurstFigures;
-use crate::gathering::{Figures, GroupFigures};
+use crate::names::{group_name, task_name};
 use crate::numbers::{decimal, hundredths};
-use crate::quotas::QuotaFigures;
-use crate::tally::{CpuFigures, TaskFigures};
 use scx_sched::Eject;
+use scxsim_statistics::{BurstFigures, CpuFigures, Figures, GroupFigures, QuotaFigures, TaskFigures};
 use std::alloc::AllocError;
 
 /// What stands above the values.
@@ -24,7 +22,7 @@ pub(crate) fn write_list(figures: &Figures, page: &mut String) -> Result<(), All
 
 fn list_tasks(figures: &Figures, page: &mut String) -> Result<(), AllocError> {
     for (number, task) in figures.tasks.iter().enumerate() {
-        let name = figures.task_name(number);
+        let name = task_name(figures, number);
         list_task(name, task, page)?;
         if let Some(bursts) = figures.bursts.get(number) {
             list_bursts(name, bursts, page)?;
@@ -46,7 +44,7 @@ fn list_cpus(figures: &Figures, page: &mut String) -> Result<(), AllocError> {
 
 fn list_groups(figures: &Figures, page: &mut String) -> Result<(), AllocError> {
     for (number, group) in figures.groups.iter().enumerate() {
-        list_group(figures.group_name(number), group, page)?;
+        list_group(group_name(figures, number), group, page)?;
     }
     Ok(())
 }
@@ -54,7 +52,7 @@ fn list_groups(figures: &Figures, page: &mut String) -> Result<(), AllocError> {
 /// Writes for how long each task was parked.
 fn list_parked(figures: &Figures, page: &mut String) -> Result<(), AllocError> {
     for (number, task) in figures.tasks.iter().enumerate() {
-        let name = figures.task_name(number);
+        let name = task_name(figures, number);
         list(page, "task", name, "parked_ms", task.parked)?;
     }
     Ok(())
@@ -64,7 +62,7 @@ fn list_parked(figures: &Figures, page: &mut String) -> Result<(), AllocError> {
 fn list_quotas(figures: &Figures, page: &mut String) -> Result<(), AllocError> {
     for (number, group) in figures.quotas.groups.iter().enumerate() {
         if let Some(quota_ms) = group.quota_ms {
-            list_quota(figures.group_name(number), quota_ms, group, page)?;
+            list_quota(group_name(figures, number), quota_ms, group, page)?;
         }
     }
     Ok(())
@@ -157,7 +155,7 @@ fn list_policy(figures: &Figures, page: &mut String) -> Result<(), AllocError> {
     match ejected {
         None => writeln!(page, "policy,{name},ended,in force"),
         Some(Eject::Stall(task, clock)) => {
-            let task = figures.task_name(task as usize);
+            let task = task_name(figures, task as usize);
             writeln!(page, "policy,{name},ended,stall {task}")?;
             list(page, "policy", name, "ejected_at_ms", clock)
         }

@@ -1,0 +1,13 @@
+-- What `stats` and `stats-csv` write: a line that says what stands below it, and then the figures.
+use Rattle.std.specs.Prelude.{ℕ, List, ◌++◌, codes}
+
+-- what `stats` writes: the heads of columns above the tasks' figures, and then all the rest
+abbrev pub tables : List ℕ → List ℕ
+tables rows =
+    codes
+    "task                  run    waits        mean      99%  longest    since    wakes  stopped"
+    ++ rows
+
+-- what `stats-csv` writes: the line that names the columns, and then the lines of values
+abbrev pub values : List ℕ → List ℕ
+values rows = codes "kind,name,figure,value\n" ++ rows
