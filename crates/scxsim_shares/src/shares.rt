@@ -1,0 +1,164 @@
+use crate::paths::path_of;
+use scx_weights::Group;
+use std::alloc::{AllocError, Global};
+
+/// A share of all, in parts of this many.
+pub const WHOLE: u64 = 1_000_000_000;
+
+/// The share that is due to each group by its weight.
+///
+/// Of what its parent has, or of all, a group with a runnable task has as much as its weight is of the
+/// weights of those beside it that have one too.
+#[derive(Drop)]
+pub struct Shares {
+    groups: Vec<Group>,
+    /// How many tasks in each are runnable, also in groups within it.
+    active: Vec<u32>,
+    shares: Vec<u64>,
+    /// The sum of the weights of active groups at the top, and then of those in each group.
+    sums: Vec<u64>,
+    is_stale: bool,
+}
+
+impl Shares {
+    /// The shares of groups in which nobody is runnable.
+    ///
+    /// # Errors
+    ///
+    /// Memory runs out.
+    pub fn new(alloc: Global, groups: &[Group]) -> Result<Shares, AllocError> {
+        let count = groups.len();
+        let mut copied = Vec::with_capacity(alloc, count)?;
+        copied.extend_from_slice(groups)?;
+        Ok(Shares {
+            groups: copied,
+            active: vec![in alloc; 0; count]?,
+            shares: vec![in alloc; 0; count]?,
+            sums: vec![in alloc; 0; count.saturating_add(1)]?,
+            is_stale: false,
+        })
+    }
+
+    /// Another task of the group is runnable.
+    pub fn activate(&mut self, group: u32) {
+        self.change(group, 1, 0);
+    }
+
+    /// A task of the group is no longer runnable.
+    pub fn deactivate(&mut self, group: u32) {
+        self.change(group, 0, 1);
+    }
+
+    /// So many more and so many less are runnable in a group, and in those that it lies in.
+    fn change(&mut self, group: u32, more: u32, less: u32) {
+        self.is_stale = true;
+        for level in &path_of(self.groups.as_slice(), group) {
+            self.change_one(*level, more, less);
+        }
+    }
+
+    fn change_one(&mut self, group: Option<u32>, more: u32, less: u32) {
+        let Some(group) = group else {
+            return;
+        };
+        if let Some(active) = self.active.get_mut(group as usize) {
+            *active = active.saturating_add(more).saturating_sub(less);
+        }
+    }
+
+    /// The group has that weight from now on.
+    pub fn weigh(&mut self, group: u32, weight: u32) {
+        self.is_stale = true;
+        if let Some(group) = self.groups.get_mut(group as usize) {
+            group.weight = weight;
+        }
+    }
+
+    /// Whether somebody has come to be runnable, or is so no longer, or a weight has changed, since shares
+    /// were renewed last.
+    pub fn are_stale(&self) -> bool {
+        let is_stale = self.is_stale;
+        is_stale
+    }
+
+    /// The shares as of the last time that they were renewed, in parts of `WHOLE`.
+    pub fn as_slice(&self) -> &[u64] {
+        self.shares.as_slice()
+    }
+
+    /// Makes the shares those of the weights and runnable tasks as they are now, where they are stale.
+    pub fn renew(&mut self) {
+        if self.is_stale {
+            self.is_stale = false;
+            self.renew_sums();
+            self.renew_shares();
+        }
+    }
+
+    /// A group comes behind its parent, so the parent has its share by then.
+    fn renew_shares(&mut self) {
+        for group in 0..self.groups.len() {
+            let share = self.share_now(group);
+            if let Some(kept) = self.shares.get_mut(group) {
+                *kept = share;
+            }
+        }
+    }
+
+    fn renew_sums(&mut self) {
+        for sum in self.sums.iter_mut() {
+            *sum = 0;
+        }
+        for (group, active) in self.groups.iter().zip(&self.active) {
+            if 0 < *active {
+                if let Some(sum) = self.sums.get_mut(place(group.parent)) {
+                    *sum = sum.saturating_add(u64::from(group.weight));
+                }
+            }
+        }
+    }
+
+    /// The share of a group whose parent has its share.
+    fn share_now(&self, group: usize) -> u64 {
+        match (self.groups.get(group), self.active.get(group)) {
+            (Some(group), Some(active)) if 0 < *active => {
+                part(self.share_of(group.parent), group.weight, self.sum_at(group.parent))
+            }
+            _ => 0,
+        }
+    }
+
+    /// The share of a group, or of all of them.
+    fn share_of(&self, group: Option<u32>) -> u64 {
+        match group {
+            None => WHOLE,
+            Some(group) => match self.shares.get(group as usize) {
+                Some(share) => *share,
+                None => 0,
+            },
+        }
+    }
+
+    fn sum_at(&self, parent: Option<u32>) -> u64 {
+        match self.sums.get(place(parent)) {
+            Some(sum) => *sum,
+            None => 0,
+        }
+    }
+}
+
+/// Where the sum of the weights of those with this parent stands.
+fn place(parent: Option<u32>) -> usize {
+    match parent {
+        None => 0,
+        Some(group) => (group as usize).saturating_add(1),
+    }
+}
+
+/// The part of a whole that a weight has of a sum of weights.
+fn part(whole: u64, weight: u32, sum: u64) -> u64 {
+    if sum == 0 {
+        return 0;
+    }
+    whole.saturating_mul(u64::from(weight)) / sum
+}
