@@ -1,5 +1,5 @@
 -- What is counted of the bursts of one task is what the notes and the events say.
-use Rattle.std.proofs.Common.{◌≡◌, ℕ, suc, ◌+◌, ◌-◌, ◌<◌, ◌^◌, min, max, Bool, true, false, cond, eqb, List, [], ◌∷◌, ◌++◌, length, get_or, set, refl, sym, ap, subst, ◌∙◌, arith}
+use Rattle.std.proofs.Common.{◌≡◌, ℕ, suc, ◌+◌, ◌-◌, ◌<◌, ◌^◌, min, max, Bool, true, false, cond, eqb, List, [], ◌∷◌, ◌++◌, length, set, refl, sym, ap, subst, ◌∙◌, arith}
 use Rattle.std.specs.Prelude.{sum}
 use Rattle.std.proofs.lemmas.List.{length-set}
 use Rattle.std.proofs.lemmas.List.Sums.{sum_by-cons}
@@ -14,8 +14,8 @@ use Rattle.scx_load_driver.specs.Runs.{notes_of_all}
 use Rattle.scxsim_trace.specs.Report.{ran_ms}
 use Rattle.scxsim_views.specs.Watching.{noted_all, kept_of_all}
 use Rattle.scxsim_statistics.specs.declared.bursts.BurstFigures.{BurstFigures}
-use Rattle.scxsim_statistics.specs.Lengths.{Lengths, no_lengths, at_most_64_bits, with_length}
-use Rattle.scxsim_statistics.specs.Bursts.{no_bursts, bursts_at, burst_ms, with_woke, with_burst, with_ran, bursts_noted, slept_at}
+use Rattle.scxsim_statistics.specs.Lengths.{Lengths, at_most_64_bits, with_length}
+use Rattle.scxsim_statistics.specs.Bursts.{no_bursts, bursts_at, burst_ms, with_woke, with_burst, with_ran, bursts_noted}
 use Rattle.scxsim_statistics.specs.Counting.{Counts, counts_after_note, counts_after_event}
 use Rattle.scxsim_statistics.specs.Figures.{is_wake, is_sleep, burst_if, bursts_in, bursts_of, greatest, sends_to_sleep, ran_asleep_in, IsOfBursts}
 use Rattle.scxsim_statistics.proofs.Places.{at_changed, at_changed_by, part_stays}

@@ -1,5 +1,5 @@
 -- What processors lose, one processor further.
-use Rattle.std.proofs.Common.{◌≡◌, ℕ, ◌+◌, Bool, true, false, ◌||◌, List, refl, add-one}
+use Rattle.std.proofs.Common.{◌≡◌, ℕ, ◌+◌, true, false, ◌||◌, List, refl, add-one}
 use Rattle.scx_sched_world.specs.World.{WorldState}
 use Rattle.scxsim_statistics.specs.Losses.{runs_nobody, nobody_below, one_lost, lost_below}
 

@@ -8,11 +8,10 @@ use Rattle.scx_sched_world.specs.World.{WorldState, running}
 use Rattle.scx_sched_machine.specs.declared.events.Event.{Event}
 use Rattle.scx_sched_machine.specs.declared.events.Event.TheVariants as event
 use Rattle.scx_sched.specs.Sim.{SimState, after_event, notes_of}
-use Rattle.scxsim_views.specs.declared.pauses.Doing.{Doing}
 use Rattle.scxsim_views.specs.Pauses.{waits}
 use Rattle.scxsim_views.specs.Watching.{noted_all, kept_of_all}
 use Rattle.scxsim_statistics.specs.Lengths.{one_if, at_most_64_bits, up}
-use Rattle.scxsim_statistics.specs.Losses.{runs_nobody, nobody_below, lost_at, one_lost, lost_below, loses, lost_if, anywhere_if}
+use Rattle.scxsim_statistics.specs.Losses.{runs_nobody, nobody_below, lost_at, one_lost, lost_below, loses, lost_if}
 use Rattle.scxsim_statistics.specs.Counting.{Counts, counts_after_note, counts_after_event}
 use Rattle.scxsim_statistics.specs.Figures.{begins_ticks, doing_behind, lost_in, lost_anywhere_in}
 use Rattle.scxsim_statistics.proofs.Told.{more_if}

@@ -1,5 +1,5 @@
 -- The percentiles that are told of lengths are theirs.
-use Rattle.std.proofs.Common.{◌≡◌, ℕ, zero, suc, ◌+◌, ◌*◌, ◌^◌, ◌<◌, ◌≤◌, min, Bool, true, false, not, cond, ltb, eqb, List, [], ◌∷◌, length, Option, None, Less, nat_cmp, refl, sym, ap, subst, ◌∙◌, arith, ◌⊎◌, inl, inr}
+use Rattle.std.proofs.Common.{◌≡◌, ℕ, suc, ◌+◌, ◌*◌, ◌^◌, ◌<◌, ◌≤◌, Bool, true, false, cond, ltb, eqb, List, [], ◌∷◌, length, None, Less, nat_cmp, refl, sym, ap, subst, ◌∙◌, arith, ◌⊎◌, inl, inr}
 use Rattle.std.specs.Prelude.{⊤}
 use Rattle.std.specs.BTreeMap.{insert_entry, is_at}
 use Rattle.std.specs.List.Sorted.{IsStrictlySortedBy}
@@ -11,8 +11,8 @@ use Rattle.std.proofs.lemmas.Map.{lookup-none}
 use Rattle.std.proofs.lemmas.Map.Entries.{none_below_head}
 use Rattle.std.proofs.lemmas.Map.Keys.{sorted_tail}
 use Rattle.std.proofs.lemmas.Bool.{cases_eq, cases_lt, lt-ltb, le-ltb, eq-eqb, ne_eqb}
-use Rattle.scxsim_statistics.specs.Lengths.{Lengths, one_if, at_most_64_bits, up, up_by, one_more_of, first_reaching, percentile}
-use Rattle.scxsim_statistics.specs.Percentiles.{how_many, are_up_to, AreReached, IsPercentile, ArePercentiles}
+use Rattle.scxsim_statistics.specs.Lengths.{Lengths, one_if, at_most_64_bits, up, one_more_of, first_reaching, percentile}
+use Rattle.scxsim_statistics.specs.Percentiles.{how_many, are_up_to, IsPercentile, ArePercentiles}
 
 -- ---- how many of each length there were
 

@@ -28,7 +28,7 @@ use Rattle.scxsim_statistics.specs.Lengths.{no_lengths, at_most_64_bits, length_
 use Rattle.scxsim_statistics.specs.Bursts.{no_bursts, bursts_at}
 use Rattle.scxsim_statistics.specs.Losses.{lost_at}
 use Rattle.scxsim_statistics.specs.Counting.{Counts, counts_of, no_figures, unused_cpu, nothing, figures_at, cpu_at, with_run, with_pause, with_pause_of, after_pause, has_run, counts_after_note, counts_after_event, ended_below, counts_at_end}
-use Rattle.scxsim_statistics.specs.Figures.{does_after, to_list, pauses_in, pauses_of, waits_of, is_wait, longest_of, wakes_of, stops_in, busy_in, idle_in, lost_in, lost_anywhere_in, RunFigures, of_counts, of_gathered, all_asleep, IsOfTask, IsOfBursts, IsOfCpu, AreOfRun}
+use Rattle.scxsim_statistics.specs.Figures.{does_after, to_list, pauses_in, pauses_of, waits_of, is_wait, longest_of, wakes_of, stops_in, busy_in, idle_in, lost_in, lost_anywhere_in, of_counts, of_gathered, all_asleep, IsOfTask, IsOfBursts, IsOfCpu, AreOfRun}
 use Rattle.scxsim_statistics.proofs.Rows.{tasks_kept, with_option, pause_here, pause_there, of_pause, Row, row, row_all, IsThere, row_of_run}
 use Rattle.scxsim_statistics.proofs.Told.{wakes_told, stops_told, does_told, waits_told, waited_all, waited_append, pause_said, count_told, times_told, longest_told}
 use Rattle.scxsim_statistics.proofs.Processors.{cpu_told, cpus_stay}

@@ -7,24 +7,17 @@ ghost use Rattle.scxsim_statistics.specs.Counting.{counts_of, nothing, counts_af
 ghost use Rattle.scxsim_statistics.specs.Figures.{AreOfRun, of_counts, of_figures, of_gathered};
 
 use crate::bursts::BurstFigures;
+use crate::dues::Dues;
+use crate::groups::{GroupFigures, group_figures};
 use crate::losses::Losses;
 use crate::quotas::Quotas;
-use crate::shares::{Shares, WHOLE};
 use crate::tally::{CpuFigures, Tally, TaskFigures};
 use scx_load_workloads::Workload;
 use scx_sched::{Eject, Event, Sim, What};
-use scx_weights::MAX_DEPTH;
 use scxsim_simulation::{Heard, Listener, Run, give_back};
 use scxsim_trace::Events;
 use scxsim_views::{View, watch};
 use std::alloc::{AllocError, Global};
-
-/// What became of a group, in hundredths of a percent of all that ran.
-#[derive(Clone, Copy)]
-pub struct GroupFigures {
-    pub reached: u64,
-    pub due: u64,
-}
 
 /// The figures of a run.
 #[derive(Drop)]
@@ -150,48 +143,6 @@ fn gather_from<E: Events>(
     gathering.gathered(alloc, sim.ejected())
 }
 
-/// What is due to groups, and what they use of their quotas.
-#[derive(Drop)]
-struct Dues {
-    shares: Shares,
-    quotas: Quotas,
-    /// How many processors ran in the millisecond at hand, for which nothing is due yet.
-    busy: u64,
-}
-
-impl Dues {
-    fn new(alloc: Global, workload: &Workload) -> Result<Dues, AllocError> {
-        Ok(Dues {
-            shares: Shares::new(alloc, workload)?,
-            quotas: Quotas::new(alloc, workload)?,
-            busy: 0,
-        })
-    }
-
-    /// A processor is about to have run a task of that group for a millisecond.
-    fn charge(&mut self, group: Option<u32>) {
-        self.busy = self.busy.saturating_add(1);
-        if let Some(group) = group {
-            self.quotas.charge(group);
-        }
-    }
-
-    /// What is due for the processors that ran in this millisecond goes by who was runnable as they did, so
-    /// it is settled before anybody sleeps.
-    fn settle(&mut self) {
-        if 0 < self.busy {
-            self.shares.pass(self.busy);
-            self.busy = 0;
-        }
-    }
-
-    /// A millisecond has passed, and the clock comes to this.
-    fn pass(&mut self, clock: u64) {
-        self.settle();
-        self.quotas.pass(clock);
-    }
-}
-
 /// The figures of a run on their way.
 #[derive(Drop)]
 struct Gathering<'a> {
@@ -248,7 +199,7 @@ impl<'a> Gathering<'a> {
     {
         self.tally.result?;
         let tasks = self.tally.tasks.as_slice();
-        group_figures(alloc, self.workload, tasks, &self.dues.shares)
+        group_figures(alloc, self.workload, tasks, self.dues.due.as_slice())
     }
 
     /// The group of a task.
@@ -266,7 +217,7 @@ impl<'a> Gathering<'a> {
         self.tally.tick(cpu, running.is_some());
         if let Some(task) = running {
             let group = self.home(task);
-            self.dues.charge(group);
+            self.dues.charge(self.workload, group);
         }
     }
 
@@ -349,79 +300,5 @@ fn running_on(sim: &Sim, cpu: u32) -> Option<u16>
         sim.running(cpu)
     } else {
         None
-    }
-}
-
-/// The figures of all groups.
-fn group_figures(
-    alloc: Global,
-    workload: &Workload,
-    tasks: &[TaskFigures],
-    shares: &Shares,
-) -> Result<Vec<GroupFigures>, AllocError> {
-    let runs = group_runs(alloc, workload, tasks)?;
-    let total = total_run(tasks);
-    let mut groups = Vec::with_capacity(alloc, runs.len())?;
-    for (group, &run) in runs.iter().enumerate() {
-        groups.push(GroupFigures {
-            reached: percent(run, total),
-            due: due_percent(shares.due(group), total),
-        })?;
-    }
-    Ok(groups)
-}
-
-/// For how many milliseconds tasks of each group ran.
-fn group_runs(
-    alloc: Global,
-    workload: &Workload,
-    tasks: &[TaskFigures],
-) -> Result<Vec<u64>, AllocError> {
-    let mut runs = vec![in alloc; 0u64; workload.groups().len()]?;
-    for (task, group) in tasks.iter().zip(workload.tasks()) {
-        add_run(workload, runs.as_mut_slice(), *group, task.run);
-    }
-    Ok(runs)
-}
-
-/// For how many milliseconds all tasks ran.
-fn total_run(tasks: &[TaskFigures]) -> u64 {
-    let mut total = 0u64;
-    for task in tasks {
-        total = total.saturating_add(task.run);
-    }
-    total
-}
-
-/// A part of a whole in hundredths of a percent, rounded down; 0 of nothing.
-fn percent(part: u64, whole: u64) -> u64 {
-    if whole == 0 {
-        return 0;
-    }
-    part.saturating_mul(10_000) / whole
-}
-
-/// What was due of a total, in hundredths of a percent, rounded down; 0 of nothing.
-fn due_percent(due: u64, total: u64) -> u64 {
-    if total == 0 {
-        return 0;
-    }
-    due / total.saturating_mul(WHOLE / 10_000).max(1)
-}
-
-/// A task of the group ran for so long, so each group that it lies in did.
-fn add_run(workload: &Workload, runs: &mut [u64], group: u32, run: u64) {
-    let mut at = Some(group);
-    for _ in 0..MAX_DEPTH {
-        let Some(group) = at else {
-            return;
-        };
-        if let Some(sum) = runs.get_mut(group as usize) {
-            *sum = sum.saturating_add(run);
-        }
-        at = match workload.groups().get(group as usize) {
-            Some(group) => group.parent,
-            None => None,
-        };
     }
 }

@@ -4,16 +4,18 @@
 
 mod bursts;
 mod counting;
+mod dues;
 mod gathering;
+mod groups;
 mod losses;
 mod quotas;
 mod runs;
-mod shares;
 mod tally;
 
 pub use bursts::BurstFigures;
 pub use counting::LengthCounts;
-pub use gathering::{Figures, GroupFigures};
+pub use gathering::Figures;
+pub use groups::GroupFigures;
 pub use losses::Losses;
 pub use quotas::{QuotaFigures, Quotas};
 pub use runs::{figures, replay_figures};

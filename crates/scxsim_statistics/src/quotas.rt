@@ -1,11 +1,11 @@
 use scx_load_workloads::Workload;
-use scx_weights::MAX_DEPTH;
+use scx_weights::Group;
+use scxsim_shares::path_of;
 use std::alloc::{AllocError, Global};
 
 /// What became of the quota of a group, if it has one.
 #[derive(Clone, Copy)]
 pub struct QuotaFigures {
-    parent: Option<u32>,
     pub quota_ms: Option<u32>,
     pub period_ms: u32,
     /// For how many milliseconds tasks in it ran in the period at hand, also in groups within it.
@@ -72,7 +72,6 @@ impl Quotas {
         let mut groups = Vec::with_capacity(alloc, workload.groups().len())?;
         for group in workload.groups() {
             groups.push(QuotaFigures {
-                parent: group.parent,
                 quota_ms: group.quota_ms,
                 period_ms: group.period_ms,
                 used: 0,
@@ -92,22 +91,23 @@ impl Quotas {
         are_some
     }
 
-    /// A task of the group ran for a millisecond.
-    pub(crate) fn charge(&mut self, group: u32) {
+    /// A task of the group, which is one of these, ran for a millisecond.
+    pub(crate) fn charge(&mut self, groups: &[Group], group: u32) {
         if !self.are_some {
             return;
         }
-        let mut at = Some(group);
-        for _ in 0..MAX_DEPTH {
-            at = self.charge_one(at);
+        for level in &path_of(groups, group) {
+            self.charge_one(*level);
         }
     }
 
-    /// Charges a group. The answer is its parent.
-    fn charge_one(&mut self, group: Option<u32>) -> Option<u32> {
-        let group = self.groups.get_mut(group? as usize)?;
-        group.used = group.used.saturating_add(1);
-        group.parent
+    fn charge_one(&mut self, group: Option<u32>) {
+        let Some(group) = group else {
+            return;
+        };
+        if let Some(group) = self.groups.get_mut(group as usize) {
+            group.used = group.used.saturating_add(1);
+        }
     }
 
     /// A millisecond has passed, and the clock comes to this.

@@ -1,0 +1,83 @@
+use crate::tally::TaskFigures;
+use scx_load_workloads::Workload;
+use scxsim_shares::{WHOLE, path_of};
+use std::alloc::{AllocError, Global};
+
+/// What became of a group, in hundredths of a percent of all that ran.
+#[derive(Clone, Copy)]
+pub struct GroupFigures {
+    pub reached: u64,
+    pub due: u64,
+}
+
+/// The figures of all groups, by what was due to each: milliseconds times its share of them.
+pub(crate) fn group_figures(
+    alloc: Global,
+    workload: &Workload,
+    tasks: &[TaskFigures],
+    due: &[u64],
+) -> Result<Vec<GroupFigures>, AllocError> {
+    let runs = group_runs(alloc, workload, tasks)?;
+    let total = total_run(tasks);
+    let mut groups = Vec::with_capacity(alloc, runs.len())?;
+    for (run, due) in runs.iter().zip(due) {
+        groups.push(GroupFigures {
+            reached: percent(*run, total),
+            due: due_percent(*due, total),
+        })?;
+    }
+    Ok(groups)
+}
+
+/// For how many milliseconds tasks of each group ran.
+fn group_runs(
+    alloc: Global,
+    workload: &Workload,
+    tasks: &[TaskFigures],
+) -> Result<Vec<u64>, AllocError> {
+    let mut runs = vec![in alloc; 0u64; workload.groups().len()]?;
+    for (task, group) in tasks.iter().zip(workload.tasks()) {
+        add_run(workload, runs.as_mut_slice(), *group, task.run);
+    }
+    Ok(runs)
+}
+
+/// For how many milliseconds all tasks ran.
+fn total_run(tasks: &[TaskFigures]) -> u64 {
+    let mut total = 0u64;
+    for task in tasks {
+        total = total.saturating_add(task.run);
+    }
+    total
+}
+
+/// A part of a whole in hundredths of a percent, rounded down; 0 of nothing.
+fn percent(part: u64, whole: u64) -> u64 {
+    if whole == 0 {
+        return 0;
+    }
+    part.saturating_mul(10_000) / whole
+}
+
+/// What was due of a total, in hundredths of a percent, rounded down; 0 of nothing.
+fn due_percent(due: u64, total: u64) -> u64 {
+    if total == 0 {
+        return 0;
+    }
+    due / total.saturating_mul(WHOLE / 10_000).max(1)
+}
+
+/// A task of the group ran for so long, so each group that it lies in did.
+fn add_run(workload: &Workload, runs: &mut [u64], group: u32, run: u64) {
+    for level in &path_of(workload.groups(), group) {
+        if let Some(group) = *level {
+            add_at(runs, group, run);
+        }
+    }
+}
+
+fn add_at(runs: &mut [u64], group: u32, run: u64) {
+    if let Some(sum) = runs.get_mut(group as usize) {
+        *sum = sum.saturating_add(run);
+    }
+}
