@@ -7,4 +7,5 @@ mod numbers;
 mod tables;
 mod telling;
 
+pub use scxsim_statistics::figures;
 pub use telling::{replay_csv, stats, stats_csv};

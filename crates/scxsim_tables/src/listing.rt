@@ -1,7 +1,9 @@
 use crate::names::{group_name, task_name};
 use crate::numbers::{decimal, hundredths};
 use scx_sched::Eject;
-use scxsim_statistics::{BurstFigures, CpuFigures, Figures, GroupFigures, QuotaFigures, TaskFigures};
+use scxsim_statistics::{
+    BurstFigures, CpuFigures, Figures, GroupFigures, QuotaFigures, TaskFigures,
+};
 use std::alloc::AllocError;
 
 /// What stands above the values.

@@ -1,6 +1,7 @@
 use crate::names::{group_name, task_name};
 use crate::numbers::hundredths;
-use scx_sched::Eject;
+use scx_sched::{Eject, Fault};
+use scxsim_faults::{FaultPlace, write_call, write_reason};
 use scxsim_statistics::{CpuFigures, Figures, GroupFigures, QuotaFigures, TaskFigures};
 use scxsim_views::fault_words;
 use std::alloc::AllocError;
@@ -19,7 +20,11 @@ const GROUPS: &str = "group               share      due\n";
 const QUOTAS: &str = "group               quota   period     most  periods   throttled      for\n";
 
 /// Makes the figures tables for people, from the end of the first line on.
-pub(crate) fn write_tables(figures: &Figures, page: &mut String) -> Result<(), AllocError> {
+pub(crate) fn write_tables(
+    figures: &Figures,
+    place: Option<FaultPlace>,
+    page: &mut String,
+) -> Result<(), AllocError> {
     write_tasks(figures, page)?;
     page.push_str("\n")?;
     write_cpus(figures.cpus.as_slice(), page)?;
@@ -30,11 +35,15 @@ pub(crate) fn write_tables(figures: &Figures, page: &mut String) -> Result<(), A
         write_quotas(figures, page)?;
     }
     page.push_str("\n")?;
-    write_policy(figures, page)
+    write_policy(figures, place, page)
 }
 
 /// Writes whether the policy is in force at the end, or when and why it was ejected.
-fn write_policy(figures: &Figures, page: &mut String) -> Result<(), AllocError> {
+fn write_policy(
+    figures: &Figures,
+    place: Option<FaultPlace>,
+    page: &mut String,
+) -> Result<(), AllocError> {
     page.push_str("policy  ")?;
     let ejected = figures.ejected;
     match ejected {
@@ -45,11 +54,35 @@ fn write_policy(figures: &Figures, page: &mut String) -> Result<(), AllocError> 
         }
         Some(Eject::Fault(fault, clock)) => {
             let number = fault.number();
-            let words = fault_words(fault);
             write!(page, "ejected at {clock} ms: fault {number}")?;
-            writeln!(page, " ({words})")
+            match place {
+                Some(place) => write_fault(figures, place, page),
+                None => write_words(fault, page),
+            }
         }
     }
+}
+
+/// Writes in which callback and at which slot a fault came, and what it is: of a call in a few words, of an
+/// answer which one it was.
+fn write_fault(figures: &Figures, place: FaultPlace, page: &mut String) -> Result<(), AllocError> {
+    let callback = place.callback.name();
+    let slot = place.slot;
+    write!(page, " in {callback} at slot {slot}")?;
+    if place.call.is_some() {
+        return write_words(place.fault, page);
+    }
+    page.push_str(" (")?;
+    write_call(&place, &figures.workload, page)?;
+    page.push_str(": ")?;
+    write_reason(&place, &figures.workload, page)?;
+    page.push_str(")\n")
+}
+
+/// Writes what a fault is.
+fn write_words(fault: Fault, page: &mut String) -> Result<(), AllocError> {
+    let words = fault_words(fault);
+    writeln!(page, " ({words})")
 }
 
 fn write_tasks(figures: &Figures, page: &mut String) -> Result<(), AllocError> {

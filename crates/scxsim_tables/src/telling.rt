@@ -1,14 +1,16 @@
-ghost use Rattle.std.specs.Prelude.{◌≡◌, ◌++◌, ℕ, List, true, Err, IfOk, IfErr, OnOk, OnErr};
+ghost use Rattle.std.specs.Prelude.{◌≡◌, ◌++◌, ℕ, List, true, is_some, Err, IfOk, IfErr, OnOk, OnErr};
 ghost use Rattle.std.specs.Io.KnownBytes.{Appends};
 ghost use Rattle.scxsim_output.specs.Output.{HasFailed};
 ghost use Rattle.scxsim_commands.specs.Outcome.{IfRefused, IsRefused};
 ghost use Rattle.scxsim_simulation.specs.Runs.{IsCause};
 ghost use Rattle.scxsim_simulation.specs.Replays.{IsReplayCause};
-ghost use Rattle.scxsim_tables.specs.Tables.{tables, values};
+ghost use Rattle.scxsim_tables.specs.Tables.{tables, values, is_for_fault};
 
 use crate::listing::{COLUMNS, write_list};
 use crate::tables::{TASKS, write_tables};
+use scx_sched::Eject;
 use scxsim_commands::{Fault, Refusal};
+use scxsim_faults::{FaultPlace, find_fault};
 use scxsim_output::{Failed, Out, write_all};
 use scxsim_simulation::Listener;
 use scxsim_statistics::{Figures, figures, replay_figures};
@@ -132,13 +134,33 @@ fn tables_of<L: Listener>(
     ensures { IfErr result (IsCause policy.now workload.now) }
 {
     let all = figures(alloc, policy, workload, listener)?;
-    Ok(table_rows(alloc, &all)?)
+    Ok(table_rows(alloc, policy, &all)?)
 }
 
-fn table_rows(alloc: Global, figures: &Figures) -> Result<String, AllocError> {
+fn table_rows(alloc: Global, policy: &str, figures: &Figures) -> Result<String, AllocError> {
+    let place = place_of_fault(alloc, policy, figures)?;
     let mut rows = String::new(alloc);
-    write_tables(figures, &mut rows)?;
+    write_tables(figures, place, &mut rows)?;
     Ok(rows)
+}
+
+/// Where the fault came for which the policy was ejected, if it was ejected for one.
+fn place_of_fault(
+    alloc: Global,
+    policy: &str,
+    figures: &Figures,
+) -> Result<Option<FaultPlace>, AllocError>
+    ensures { IfOk result (λ place. is_some place ≡ true
+        → is_for_fault figures.now.ejected ≡ true) }
+{
+    let ejected = figures.ejected;
+    match ejected {
+        Some(Eject::Fault(_, clock)) => {
+            let place = find_fault(alloc, policy, &figures.workload, clock)?;
+            Ok(place)
+        }
+        Some(Eject::Stall(_, _)) | None => Ok(None),
+    }
 }
 
 /// The rows of the values.
