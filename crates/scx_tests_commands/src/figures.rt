@@ -2,7 +2,7 @@
 
 use crate::texts::{SHORT_SLICES, TWO_TASKS};
 use scxsim_simulation::Nobody;
-use scxsim_statistics::figures;
+use scxsim_tables::figures;
 
 /// Task a waits from 0 to 0 and from 1 to 3, task b from 0 to 1 and from 3 to the end at 4.
 #[test]
