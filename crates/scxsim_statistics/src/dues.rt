@@ -1,3 +1,4 @@
+use crate::groups::add_at;
 use crate::quotas::Quotas;
 use scx_load_workloads::Workload;
 use scxsim_shares::Shares;
@@ -37,7 +38,7 @@ impl Dues {
     pub(crate) fn settle(&mut self) {
         if 0 < self.busy {
             self.shares.renew();
-            add_shares(&mut self.due, self.shares.as_slice(), self.busy);
+            add_shares(self.due.as_mut_slice(), self.shares.as_slice(), self.busy);
             self.busy = 0;
         }
     }
@@ -50,8 +51,8 @@ impl Dues {
 }
 
 /// So many processors ran for a millisecond while shares were these.
-fn add_shares(due: &mut Vec<u64>, shares: &[u64], processors: u64) {
-    for (due, share) in due.iter_mut().zip(shares) {
-        *due = due.saturating_add(share.saturating_mul(processors));
+fn add_shares(due: &mut [u64], shares: &[u64], processors: u64) {
+    for (group, share) in shares.iter().enumerate() {
+        add_at(due, group, share.saturating_mul(processors));
     }
 }

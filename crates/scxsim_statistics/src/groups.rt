@@ -71,13 +71,14 @@ fn due_percent(due: u64, total: u64) -> u64 {
 fn add_run(workload: &Workload, runs: &mut [u64], group: u32, run: u64) {
     for level in &path_of(workload.groups(), group) {
         if let Some(group) = *level {
-            add_at(runs, group, run);
+            add_at(runs, group as usize, run);
         }
     }
 }
 
-fn add_at(runs: &mut [u64], group: u32, run: u64) {
-    if let Some(sum) = runs.get_mut(group as usize) {
-        *sum = sum.saturating_add(run);
+/// So much more for that group.
+pub(crate) fn add_at(sums: &mut [u64], group: usize, more: u64) {
+    if let Some(sum) = sums.get_mut(group) {
+        *sum = sum.saturating_add(more);
     }
 }
