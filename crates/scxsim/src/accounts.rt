@@ -9,6 +9,7 @@ use scxsim_page::{Paths, view};
 use scxsim_pictures::timeline;
 use scxsim_progress::Progress;
 use scxsim_simulation::{Listener, replay, report, simulate};
+use scxsim_steps::step;
 use scxsim_story::story;
 use scxsim_tables::{replay_csv, stats, stats_csv};
 use scxsim_why::why;
@@ -16,13 +17,13 @@ use scxsim_words::{Account, Course, Part, Replay, Summary};
 use std::alloc::Global;
 
 /// What names a run: the paths of its files, of which the second is a workload or a file of events, and the
-/// words of a part or of a task of it.
+/// words of a part, of a task or of a millisecond of it.
 #[derive(Clone, Copy)]
 pub(crate) struct RunWords<'a> {
     pub(crate) policy: &'a str,
     pub(crate) workload: &'a str,
     pub(crate) part: Option<Part<'a>>,
-    pub(crate) task: Option<&'a str>,
+    pub(crate) subject: Option<&'a str>,
 }
 
 /// The texts of the files of a run, and what names it.
@@ -154,6 +155,7 @@ fn write_summary<L: Listener, W: Out>(
         Summary::StatsCsv => stats_csv(alloc, policy, workload, listener, out),
         Summary::Why => why(alloc, policy, workload, listener, out),
         Summary::Story => write_story(alloc, texts, listener, out),
+        Summary::Step => write_steps(alloc, texts, listener, out),
         Summary::Picture => write_picture(alloc, texts, listener, out),
         Summary::Gantt => write_chart(alloc, texts, listener, out),
     }
@@ -170,8 +172,23 @@ fn write_story<L: Listener, W: Out>(
         workload,
         words,
     } = texts;
-    let task = words.task.unwrap_or("");
+    let task = words.subject.unwrap_or("");
     story(alloc, policy, workload, task, listener, out)
+}
+
+fn write_steps<L: Listener, W: Out>(
+    alloc: Global,
+    texts: RunTexts<'_>,
+    listener: &mut L,
+    out: &mut W,
+) -> Result<bool, Fault> {
+    let RunTexts {
+        policy,
+        workload,
+        words,
+    } = texts;
+    let ms = words.subject.unwrap_or("");
+    step(alloc, policy, workload, ms, listener, out)
 }
 
 /// Of a run of a file of events, which stands in the place of a workload.

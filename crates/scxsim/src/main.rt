@@ -37,6 +37,7 @@ pub use scxsim_explain::explain;
 pub use scxsim_page::view;
 pub use scxsim_pictures::timeline;
 pub use scxsim_simulation::{Listener, replay, report, simulate};
+pub use scxsim_steps::step;
 pub use scxsim_story::story;
 pub use scxsim_tables::{replay_csv, stats, stats_csv};
 pub use scxsim_why::why;

@@ -40,13 +40,13 @@ fn do_request<'a, R: AllocGlobal + Console, W: Out>(
             policy,
             workload,
             part,
-            task,
+            subject,
         } => {
             let words = RunWords {
                 policy,
                 workload,
                 part,
-                task,
+                subject,
             };
             tell(rt, account, words, out)
         }

@@ -10,6 +10,8 @@ pub(crate) enum Kind {
     Part(Account),
     /// Of one task in a run.
     Task(Account),
+    /// Of one millisecond of a run.
+    Moment(Account),
     /// Of a file of events.
     Replay(Account),
     Cases,
@@ -29,7 +31,7 @@ pub(crate) fn forms() -> &'static [Form] {
     &FORMS
 }
 
-const FORMS: [Form; 21] = [
+const FORMS: [Form; 22] = [
     Form {
         name: "verify",
         kind: Kind::Policy(PolicyCommand::Verify),
@@ -77,6 +79,12 @@ const FORMS: [Form; 21] = [
         kind: Kind::Task(Account::Summary(Summary::Story)),
         about: "Does the same for one task, and prints what happened to it, a line each with its reason",
         example: "Example: scxsim story examples/policies/short_slices.toml examples/workloads/two_tasks.toml b\nprints:  0 wakes, 0 of 1 processors idle\n         0 waits alone in queue 0\n         1 moves from queue 0 to local 0\n         1 runs on cpu 0 after waiting 1 ms, slice 2000000 ns\n         3 stops on cpu 0 after 2 ms: its slice is used up\n         3 waits alone in queue 0\ndocs/WHY.md says how to read it.",
+    },
+    Form {
+        name: "step",
+        kind: Kind::Moment(Account::Summary(Summary::Step)),
+        about: "Does the same for one millisecond, and prints its callbacks, instruction by instruction",
+        example: "Example: scxsim step examples/policies/short_slices.toml examples/workloads/two_tasks.toml 1\nprints:  who runs and who waits before that millisecond, each callback that is called in it\n         with each of its instructions and what that does, the lines of run, and who runs\n         and who waits after it\ndocs/WHY.md says how to read it.",
     },
     Form {
         name: "timeline",

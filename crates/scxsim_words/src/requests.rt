@@ -38,6 +38,7 @@ pub enum Summary {
     StatsCsv,
     Why,
     Story,
+    Step,
     Picture,
     Gantt,
 }
@@ -74,8 +75,8 @@ pub enum Request<'a> {
         workload: &'a str,
         /// None where it is of the whole run.
         part: Option<Part<'a>>,
-        /// The name of a task, where it is of one.
-        task: Option<&'a str>,
+        /// The name of a task, or a millisecond, where it is of one.
+        subject: Option<&'a str>,
     },
     /// Of the files that the words behind the command name.
     Cases,

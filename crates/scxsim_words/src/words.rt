@@ -27,6 +27,8 @@ const TO: &str =
 
 const TASK: &str = "The name of a task in the workload";
 
+const MS: &str = "A millisecond of the run, from 0 to the run's length";
+
 const CASES: &str = "Files of cases, as docs/CASES.md has them";
 
 /// What the words ask for. `clap` refuses words that name no command and no file, so there is a
@@ -66,6 +68,13 @@ fn request_of<'a>(name: &str, command: &ArgMatches<'a>) -> Option<Request<'a>> {
             None,
             Some(command.get_str("TASK")?),
         ),
+        Kind::Moment(account) => run_of(
+            account,
+            command,
+            "WORKLOAD",
+            None,
+            Some(command.get_str("MS")?),
+        ),
         Kind::Replay(account) => run_of(account, command, "EVENTS", None, None),
         Kind::Cases => Some(Request::Cases),
     }
@@ -77,14 +86,14 @@ fn run_of<'a>(
     command: &ArgMatches<'a>,
     name: &str,
     part: Option<Part<'a>>,
-    task: Option<&'a str>,
+    subject: Option<&'a str>,
 ) -> Option<Request<'a>> {
     Some(Request::Run {
         account,
         policy: command.get_str("POLICY")?,
         workload: command.get_str(name)?,
         part,
-        task,
+        subject,
     })
 }
 
@@ -142,6 +151,7 @@ fn command_of<'a>(alloc: Global, form: &Form) -> Result<Command<'a>, AllocError>
         Kind::Run(_) => with_run(alloc, command),
         Kind::Part(_) => with_part(alloc, command),
         Kind::Task(_) => with_task(alloc, command),
+        Kind::Moment(_) => with_moment(alloc, command),
         Kind::Replay(_) => with_replay(alloc, command),
         Kind::Cases => with_cases(alloc, command),
     }
@@ -172,6 +182,12 @@ fn with_part<'a>(alloc: Global, command: Command<'a>) -> Result<Command<'a>, All
 fn with_task<'a>(alloc: Global, command: Command<'a>) -> Result<Command<'a>, AllocError> {
     let command = with_run(alloc, command)?;
     with_word(alloc, command, "TASK", TASK)
+}
+
+/// The command, which reads the same, and a millisecond.
+fn with_moment<'a>(alloc: Global, command: Command<'a>) -> Result<Command<'a>, AllocError> {
+    let command = with_run(alloc, command)?;
+    with_word(alloc, command, "MS", MS)
 }
 
 /// The command, which reads a policy file and a file of events.

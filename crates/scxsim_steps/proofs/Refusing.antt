@@ -1,0 +1,34 @@
+-- What a run of two texts comes to.
+use Rattle.std.proofs.Common.{◌≡◌, arith, ℕ, ◌<◌, ◌≤◌, ◌^◌, List, [], subst, sym, ap, ◌∙◌}
+use Rattle.scx_sched_machine.specs.declared.events.Event.{Event}
+use Rattle.scx_load_workloads.specs.Workload.{WorkloadState}
+use Rattle.scx_load_driver.specs.Events.{workload_events}
+use Rattle.scx_sched.specs.Sim.{SimState}
+use Rattle.scxsim_trace.specs.Lines.{names_of}
+use Rattle.scxsim_simulation.specs.Runs.{IsRun}
+use Rattle.scxsim_steps.specs.Moments.{Says, IsMoment}
+use Rattle.scxsim_steps.specs.Stepping.{notes_within, HasLines, IsStepped, IsOutside}
+
+-- the word says no number
+pub unsaid : (all : ℕ) (word : List ℕ) → all < 2 ^ 32 → ((m : ℕ) → m < 2 ^ 32 → ¬ Says word m) → (ms : ℕ) → ¬ IsMoment all word ms
+unsaid all word l never ms p =
+    let inside = p.inside in
+    never ms (omega (arith, inside, l)) p.said
+
+-- the word says one that is past the end
+pub past : (all : ℕ) (word : List ℕ) (n : ℕ) → Says word n → all < n → (ms : ℕ) → ¬ IsMoment all word ms
+past all word n said l ms p =
+    let inside = p.inside in
+    let same : n ≡ ms = sym said.1 ∙ p.said.1 in
+    omega (arith, inside, same, l)
+
+-- the run is that of the texts, and its page was made
+pub stepped_of_run : (policy workload word text : List ℕ) (w : WorkloadState) (s : SimState) (ms : ℕ) (es : List Event) → IsRun policy workload w s → es ≡ workload_events w s → IsMoment w.ms word ms
+    → HasLines (names_of w) (notes_within ms s es) text → IsStepped policy workload word text
+stepped_of_run policy workload word text w s ms es run events named lines =
+    let P : List Event → Type 0 = λ l. HasLines (names_of w) (notes_within ms s l) text in
+    record { of_workload = w; first = s; run = run; ms = ms; named = named; has_lines = subst P events lines }
+
+-- the run is that of the texts, and the word names no millisecond of it
+pub outside_of_run : (policy workload word : List ℕ) (w : WorkloadState) (s : SimState) → IsRun policy workload w s → ((ms : ℕ) → ¬ IsMoment w.ms word ms) → IsOutside policy workload word
+outside_of_run policy workload word w s run none = record { of_workload = w; first = s; run = run; none = none }

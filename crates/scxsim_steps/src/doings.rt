@@ -1,0 +1,238 @@
+use crate::places::Place;
+use crate::words::{push_number, push_value};
+use scx_isa::{Helper, Insn, Operand, Pointer, Register, Value, Width};
+use scx_isa_arithmetic::immediate;
+use scx_sched::What;
+use scx_sched_world::World;
+use scx_vm_tagged::Core;
+use scxsim_faults::{HelperCall, write_helper_call};
+use scxsim_trace::Names;
+use scxsim_views::{QueueName, fault_words};
+use std::alloc::AllocError;
+use std::fmt::Write;
+
+/// An instruction that is about to be done, and what of the world has to be known before it.
+#[derive(Clone, Copy)]
+pub(crate) struct Before {
+    pub(crate) slot: usize,
+    pub(crate) insn: Insn,
+    /// From where it loads, if it does.
+    source: Option<Place>,
+    /// How many notes the callback has made.
+    notes: usize,
+    /// Whether it has had a fault.
+    is_faulty: bool,
+}
+
+impl Before {
+    pub(crate) fn new(slot: usize, insn: Insn, core: &Core, world: &World) -> Before {
+        Before {
+            slot,
+            insn,
+            source: source_of(insn, core),
+            notes: world.notes().len(),
+            is_faulty: world.first_fault().is_some(),
+        }
+    }
+}
+
+fn source_of(insn: Insn, core: &Core) -> Option<Place> {
+    match insn {
+        Insn::Load(access, _, register, offset) => {
+            Place::of(core, register, offset, access.size())
+        }
+        _ => None,
+    }
+}
+
+/// Appends what an instruction is about to do that isn't seen in registers: the call of a helper with its arguments,
+/// what is stored and where, and the answer.
+pub(crate) fn push_begun<N: Names>(
+    before: Before,
+    core: &Core,
+    names: &N,
+    words: &mut String,
+) -> Result<(), AllocError> {
+    match before.insn {
+        Insn::Call(number) => push_call(number, core, names, words),
+        Insn::Store(size, register, offset, operand) => {
+            match Place::of(core, register, offset, size) {
+                Some(place) => place.push(names, words)?,
+                None => words.push_str("nowhere")?,
+            }
+            words.push_str(" = ")?;
+            push_value(operand_value(operand, core), names, words)
+        }
+        _ => Ok(()),
+    }
+}
+
+/// The value of an operand that is stored.
+fn operand_value(operand: Operand, core: &Core) -> Value {
+    match operand {
+        Operand::Immediate(k) => Value::Number(immediate(Width::Bits64, k)),
+        Operand::Register(register) => core.read(register),
+    }
+}
+
+/// Appends a helper's call with its arguments.
+fn push_call<N: Names>(
+    number: i32,
+    core: &Core,
+    names: &N,
+    words: &mut String,
+) -> Result<(), AllocError> {
+    let Some(helper) = Helper::new(number) else {
+        return words.push_str("no helper");
+    };
+    if helper == Helper::MapLookupElem {
+        return push_lookup(core, names, words);
+    }
+    let call = HelperCall {
+        helper,
+        number,
+        arguments: [
+            core.read(Register::R1),
+            core.read(Register::R2),
+            core.read(Register::R3),
+            core.read(Register::R4),
+            core.read(Register::R5),
+        ],
+    };
+    write_helper_call(&call, names, words)
+}
+
+/// Appends the look-up of an element: in which map, and where the key stands.
+fn push_lookup<N: Names>(core: &Core, names: &N, words: &mut String) -> Result<(), AllocError> {
+    words.push_str("map_lookup_elem(")?;
+    push_value(core.read(Register::R1), names, words)?;
+    words.push_str(", key at ")?;
+    push_value(core.read(Register::R2), names, words)?;
+    words.push_str(")")
+}
+
+/// Appends what an instruction did: the register that it wrote, where control goes, and what its helper did.
+pub(crate) fn push_after<N: Names>(
+    before: Before,
+    next: Option<(usize, &Core)>,
+    world: &World,
+    names: &N,
+    words: &mut String,
+) -> Result<(), AllocError> {
+    if let Some((slot, core)) = next {
+        push_written(before, core, names, words)?;
+        push_way(before, slot, words)?;
+    }
+    push_effects(before, world, names, words)
+}
+
+/// Goes on behind what is said already, if anything is.
+fn separate(words: &mut String) -> Result<(), AllocError> {
+    if words.is_empty() {
+        Ok(())
+    } else {
+        words.push_str(", ")
+    }
+}
+
+/// Appends what is in the register that the instruction wrote, if it writes one.
+fn push_written<N: Names>(
+    before: Before,
+    core: &Core,
+    names: &N,
+    words: &mut String,
+) -> Result<(), AllocError> {
+    let Some(register) = destination_of(before.insn) else {
+        return Ok(());
+    };
+    separate(words)?;
+    let number = register.number();
+    write!(words, "r{number} = ")?;
+    push_value(core.read(register), names, words)?;
+    match before.source {
+        Some(place) => {
+            words.push_str(", from ")?;
+            place.push(names, words)
+        }
+        None => Ok(()),
+    }
+}
+
+/// The register that an instruction writes; of a call the one that holds its answer.
+fn destination_of(insn: Insn) -> Option<Register> {
+    match insn {
+        Insn::Binary(_, _, register, _) => Some(register),
+        Insn::Negate(_, register) => Some(register),
+        Insn::SignExtend(_, register, _) => Some(register),
+        Insn::ByteSwap(_, _, register) => Some(register),
+        Insn::LoadImmediate(register, _, _) => Some(register),
+        Insn::LoadMapReference(register, _) => Some(register),
+        Insn::Load(_, register, _, _) => Some(register),
+        Insn::Call(_) => Some(Register::R0),
+        Insn::Store(..) | Insn::JumpIf { .. } | Insn::Goto(_) | Insn::GotoLong(_) | Insn::Exit => {
+            None
+        }
+    }
+}
+
+/// Appends where control goes behind a jump.
+fn push_way(before: Before, slot: usize, words: &mut String) -> Result<(), AllocError> {
+    match before.insn {
+        Insn::JumpIf { .. } => {
+            if slot == before.slot.saturating_add(1) {
+                words.push_str("goes on")
+            } else {
+                write!(words, "jumps to {slot}")
+            }
+        }
+        Insn::Goto(_) | Insn::GotoLong(_) => write!(words, "jumps to {slot}"),
+        _ => Ok(()),
+    }
+}
+
+/// Appends what a helper did: tasks that it moved, and a fault.
+fn push_effects<N: Names>(
+    before: Before,
+    world: &World,
+    names: &N,
+    words: &mut String,
+) -> Result<(), AllocError> {
+    if let Some(notes) = world.notes().get(before.notes..) {
+        for note in notes {
+            push_effect(note.what, names, words)?;
+        }
+    }
+    match world.first_fault() {
+        Some(fault) if !before.is_faulty => {
+            separate(words)?;
+            let number = fault.number();
+            let reason = fault_words(fault);
+            write!(words, "fault {number}: {reason}")
+        }
+        _ => Ok(()),
+    }
+}
+
+/// Appends what becomes of a task.
+fn push_effect<N: Names>(what: What, names: &N, words: &mut String) -> Result<(), AllocError> {
+    match what {
+        What::Move(task, cpu) => {
+            separate(words)?;
+            let name = names.task(task);
+            write!(words, "{name} goes to local {cpu}")
+        }
+        What::Insert(task, queue) => {
+            separate(words)?;
+            let name = names.task(task);
+            let queue = QueueName(queue);
+            write!(words, "{name} goes into {queue}")
+        }
+        _ => Ok(()),
+    }
+}
+
+/// Appends the answer of a callback that answers.
+pub(crate) fn push_answer(answer: u64, words: &mut String) -> Result<(), AllocError> {
+    words.push_str("answers ")?;
+    push_number(answer, words)
+}

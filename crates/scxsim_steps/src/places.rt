@@ -1,0 +1,59 @@
+use crate::words::{field_name, push_element, push_stack};
+use scx_isa::{Field, Pointer, Register, Size, TaskId, Value};
+use scx_vm_tagged::Core;
+use scxsim_trace::Names;
+use std::alloc::AllocError;
+use std::fmt::Write;
+
+/// Where an instruction loads from or stores to.
+#[derive(Clone, Copy)]
+pub(crate) enum Place {
+    Field(TaskId, Field),
+    Element { map: u8, index: u32, at: u16 },
+    Stack(u16),
+}
+
+impl Place {
+    /// The place that far behind what the register points to.
+    pub(crate) fn of(core: &Core, register: Register, offset: i16, size: Size) -> Option<Place> {
+        match core.read(register) {
+            Value::Pointer(Pointer::Task(task)) => {
+                let field = Field::at(offset, size)?;
+                Some(Place::Field(task, field))
+            }
+            Value::Pointer(
+                Pointer::Element {
+                    map,
+                    index,
+                    offset: at,
+                },
+            ) => {
+                let at = moved(at, offset)?;
+                Some(Place::Element { map, index, at })
+            }
+            Value::Pointer(Pointer::Stack(at)) => {
+                let at = moved(at, offset)?;
+                Some(Place::Stack(at))
+            }
+            Value::Pointer(Pointer::Map(_)) | Value::Number(_) | Value::Unset => None,
+        }
+    }
+
+    /// Appends its words: `a.slice`, `element 3 of map 0`, `stack -8`.
+    pub(crate) fn push<N: Names>(self, names: &N, text: &mut String) -> Result<(), AllocError> {
+        match self {
+            Place::Field(task, field) => {
+                let name = names.task(task.0);
+                let field = field_name(field);
+                write!(text, "{name}.{field}")
+            }
+            Place::Element { map, index, at } => push_element(map, index, at, text),
+            Place::Stack(at) => push_stack(at, text),
+        }
+    }
+}
+
+/// The byte that far behind another.
+fn moved(at: u16, offset: i16) -> Option<u16> {
+    at.checked_add_signed(offset)
+}

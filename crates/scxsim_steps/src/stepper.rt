@@ -1,0 +1,150 @@
+ghost use Rattle.std.specs.Prelude.{◌≡◌, ℕ, List, [], ◌++◌, false, OnOk};
+ghost use Rattle.scxsim_trace.specs.Lines.{names_of, note_line};
+ghost use Rattle.scxsim_steps.specs.Stepping.{TakesNote};
+
+use crate::account::Account;
+use crate::page::Page;
+use scx_load_workloads::Workload;
+use scx_maps::Maps;
+use scx_sched::{Event, Note, Sim, Sink, Unseen};
+use scx_sched_world::World;
+use scx_verify::Verified;
+use scx_vm::Args;
+use scx_vm_run::Core;
+use scxsim_output::{Failed, write_all};
+use scxsim_trace::Trace;
+use std::alloc::{AllocError, Global};
+use std::marker::Model;
+
+/// A sink that runs the programs of one millisecond instruction by instruction, and writes each of them and each
+/// note of it on a page.
+///
+/// In a contract it is the page up to the last line of a note, and whether there was no memory for one.
+#[derive(Drop)]
+pub(crate) struct Stepper<'a> {
+    page: Page,
+    lost: bool,
+    /// What comes behind the page.
+    account: Account<'a>,
+}
+
+impl<'a> Model for Stepper<'a> {
+    ghost use Rattle.scxsim_trace.specs.Lines.{names_of};
+    ghost use Rattle.scxsim_steps.specs.Stepping.{Kept};
+
+    ghost Value = { Kept };
+
+    ghost view = { λ s. record {
+      ms = s.account.ms;
+      names = names_of s.account.names.now;
+      text = s.page.bytes.items;
+      lost = s.lost;
+    } };
+}
+
+impl<'a> Stepper<'a> {
+    /// Nothing is written yet but what comes first.
+    pub(crate) fn new(alloc: Global, names: &'a Workload, ms: u64, first: String) -> Stepper<'a>
+        ensures ms { result.ms ≡ ms }
+        ensures names { result.names ≡ names_of names.now }
+        ensures text { result.text ≡ [] }
+        ensures well { result.lost ≡ false }
+    {
+        Stepper {
+            page: Page::new(alloc),
+            lost: false,
+            account: Account::new(alloc, names, ms, first),
+        }
+    }
+
+    /// That event comes next.
+    pub(crate) fn expect(&mut self, sim: &Sim, event: Event)
+        ensures { self.new ≡ self.old }
+    {
+        self.account.expect(sim, event);
+    }
+
+    /// The run is over: what is left is written.
+    pub(crate) fn end(&mut self, sim: &Sim) -> Result<(), AllocError>
+        ensures names { self.new.names ≡ self.old.names }
+        ensures well { OnOk result (self.old.lost ≡ false) }
+        ensures text { OnOk result ((rest : List ℕ) × (self.new.text ≡ self.old.text ++ rest)) }
+    {
+        self.account.end(sim);
+        self.account.result?;
+        match write_all(&mut self.page, self.account.text.as_bytes()) {
+            Ok(()) if !self.lost => Ok(()),
+            _ => Err(AllocError),
+        }
+    }
+
+    /// What was written where there were no notes.
+    pub(crate) fn into_text(self) -> Result<String, AllocError> {
+        let Stepper { page, account, .. } = self;
+        drop(page);
+        account.into_text()
+    }
+
+    /// What stands on the page.
+    pub(crate) fn into_page(self) -> Vec<u8>
+        ensures { result.items ≡ self.entry.text }
+    {
+        let Stepper { page, account, .. } = self;
+        drop(account);
+        page.into_bytes()
+    }
+}
+
+impl Sink for Stepper<'_> {
+    ghost takes = { TakesNote };
+
+    ghost has_failed = { λ s. s.lost };
+
+    ghost failed_stays = { λ s t n failed takes. takes.0 failed };
+
+    fn take(&mut self, note: Note) {
+        if self.lost || note.clock != self.account.ms {
+            return;
+        }
+        self.account.begin();
+        let words = self.account.text.as_str();
+        if push_note(&mut self.page, self.account.names, words, note).is_err() {
+            self.lost = true;
+        }
+        self.account.text.clear();
+    }
+
+    fn failed(&self) -> bool {
+        let lost = self.lost;
+        lost
+    }
+
+    fn run(
+        &mut self,
+        core: &mut Core,
+        program: &Verified,
+        arguments: Args,
+        maps: &mut Maps,
+        world: &mut World,
+    ) -> u64 {
+        if world.clock() != self.account.ms {
+            return Unseen.run(core, program, arguments, maps, world);
+        }
+        self.account.run(program, arguments, maps, world)
+    }
+}
+
+/// Writes words, and then the line of a note.
+fn push_note(page: &mut Page, names: &Workload, words: &str, note: Note) -> Result<(), Failed>
+    ensures { OnOk result
+        (page.new.bytes.items
+        ≡ page.old.bytes.items ++ (words.now ++ note_line (names_of names.now) note)) }
+{
+    write_all(page, words.as_bytes())?;
+    let mut trace = Trace::new(names, page);
+    trace.take(note);
+    if trace.failed() {
+        return Err(Failed);
+    }
+    Ok(())
+}

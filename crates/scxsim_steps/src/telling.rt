@@ -1,0 +1,128 @@
+ghost use Rattle.std.specs.Prelude.{◌≡◌, ℕ, List, Err, IfOk, IfErr, OnOk, IfSome, IfNone};
+ghost use Rattle.std.specs.Io.KnownBytes.{Appends};
+ghost use Rattle.scx_load_driver.specs.Driver.{remaining};
+ghost use Rattle.scxsim_trace.specs.Lines.{names_of};
+ghost use Rattle.scxsim_output.specs.Output.{HasFailed};
+ghost use Rattle.scxsim_commands.specs.Outcome.{IfRefused, IsRefused};
+ghost use Rattle.scxsim_simulation.specs.Runs.{IsCause};
+ghost use Rattle.scxsim_steps.specs.Stepping.{notes_within, HasLines, IsStepped, IsOutside, IsAnswer};
+
+use crate::going::go_through;
+use crate::moments::moment_in;
+use crate::starting::text_of_start;
+use crate::stepper::Stepper;
+use scx_load_workloads::Workload;
+use scx_sched::Sim;
+use scxsim_commands::{Fault, Refusal};
+use scxsim_output::{Out, write_all};
+use scxsim_simulation::{Heard, Listener, Run, give_back, prepare};
+use scxsim_trace::Events;
+use std::alloc::{AllocError, Global};
+
+/// The line of a word that names no millisecond of the run.
+const PAST: &str = "refused: word MS: out of range\n";
+
+/// Writes what happens in that millisecond, by the clock of a trace, of the run that the texts of a policy file and
+/// of a workload file stand for: each callback that is called, instruction by instruction, and each note. The answer
+/// is true, or false where the word is refused.
+///
+/// # Errors
+///
+/// The texts are refused, or memory runs out, and then nothing is written, or writing fails.
+pub fn step<L: Listener, W: Out>(
+    alloc: Global,
+    policy: &str,
+    workload: &str,
+    ms: &str,
+    listener: &mut L,
+    out: &mut W,
+) -> Result<bool, Fault>
+    // The lines that a trace has of the millisecond stand on the page, or the word names none of the run.
+    ensures done { IfOk result (λ answer. (text : List ℕ)
+        × IsAnswer answer policy.now workload.now ms.now text
+        × Appends (W.contents out.old) (W.contents out.new) text) }
+    ensures unfailed { OnOk result (W.failure_count out.new ≡ W.failure_count out.old) }
+
+    // A refusal has its cause in the texts, and comes before any byte is written.
+    ensures refused { IfRefused result (IsCause policy.now workload.now) }
+    ensures quiet { IsRefused result → out.new ≡ out.old }
+    ensures counted { result ≡ Err Fault.WriteFailed
+        → HasFailed (W.failure_count out.old) (W.failure_count out.new) }
+{
+    match page_of(alloc, policy, workload, ms, listener)? {
+        Some(page) => {
+            write_all(out, page.as_slice())?;
+            Ok(true)
+        }
+        None => {
+            write_all(out, PAST.as_bytes())?;
+            Ok(false)
+        }
+    }
+}
+
+/// The page, if the word names a millisecond of the run. All memory is taken before the first byte is written.
+fn page_of<L: Listener>(
+    alloc: Global,
+    policy: &str,
+    workload: &str,
+    ms: &str,
+    listener: &mut L,
+) -> Result<Option<Vec<u8>>, Refusal>
+    ensures page { IfOk result
+        (λ page. IfSome page (λ page. IsStepped policy.now workload.now ms.now page.items)) }
+    ensures none { IfOk result (λ page. IfNone page (IsOutside policy.now workload.now ms.now)) }
+    ensures refused { IfErr result (IsCause policy.now workload.now) }
+{
+    let run = prepare(alloc, policy, workload)?;
+    match moment_in(ms, run.workload.ms()) {
+        Some(ms) => Ok(Some(page_at(alloc, policy, run, ms, listener)?)),
+        None => {
+            drop(run);
+            Ok(None)
+        }
+    }
+}
+
+/// The page of that millisecond of this run, whose policy's text that is.
+fn page_at<L: Listener>(
+    alloc: Global,
+    policy: &str,
+    run: Run,
+    ms: u64,
+    listener: &mut L,
+) -> Result<Vec<u8>, AllocError>
+    ensures { IfOk result (λ page. HasLines (names_of run.workload)
+        (notes_within ms run.sim (remaining run.driver run.sim)) page.items) }
+{
+    let Run {
+        workload,
+        driver,
+        mut sim,
+        ..
+    } = run;
+    let mut events = Heard::new(driver, workload.ms(), listener);
+    let page = page_from(alloc, policy, &workload, ms, &mut events, &mut sim);
+    give_back(events, sim);
+    drop(workload);
+    page
+}
+
+/// The same of a run that is lent.
+fn page_from<E: Events>(
+    alloc: Global,
+    policy: &str,
+    workload: &Workload,
+    ms: u64,
+    events: &mut E,
+    sim: &mut Sim,
+) -> Result<Vec<u8>, AllocError>
+    ensures { IfOk result (λ page. HasLines (names_of workload.now)
+        (notes_within ms sim.old (E.remaining events.old sim.old)) page.items) }
+{
+    let first = text_of_start(alloc, policy, workload, ms)?;
+    let mut stepper = Stepper::new(alloc, workload, ms, first);
+    go_through(sim, events, ms, &mut stepper);
+    stepper.end(sim)?;
+    Ok(stepper.into_page())
+}
