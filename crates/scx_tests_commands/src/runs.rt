@@ -7,6 +7,7 @@ use scxsim_output::Out;
 use scxsim_page::{Paths, view};
 use scxsim_pictures::timeline;
 use scxsim_simulation::{Listener, report, simulate};
+use scxsim_steps::step;
 use scxsim_story::story;
 use scxsim_tables::{stats, stats_csv};
 use scxsim_why::why;
@@ -34,6 +35,7 @@ pub(crate) enum Summary {
     StatsCsv,
     Why,
     Story,
+    Step,
     Picture,
     Gantt,
 }
@@ -43,13 +45,14 @@ const PATHS: Paths<'static> = Paths {
     workload: "b",
 };
 
-pub(crate) const ACCOUNTS: [Account; 10] = [
+pub(crate) const ACCOUNTS: [Account; 11] = [
     Account::Course(Course::Trace),
     Account::Summary(Summary::Report),
     Account::Summary(Summary::Stats),
     Account::Summary(Summary::StatsCsv),
     Account::Summary(Summary::Why),
     Account::Summary(Summary::Story),
+    Account::Summary(Summary::Step),
     Account::Summary(Summary::Gantt),
     Account::Course(Course::Timeline),
     Account::Course(Course::View),
@@ -99,6 +102,7 @@ fn write_summary<L: Listener, W: Out>(
         Summary::StatsCsv => stats_csv(alloc, policy, workload, listener, out),
         Summary::Why => why(alloc, policy, workload, listener, out),
         Summary::Story => story(alloc, policy, workload, "a", listener, out),
+        Summary::Step => step(alloc, policy, workload, "4", listener, out),
         Summary::Picture => picture(alloc, "a on b", policy, workload, None, listener, out),
         Summary::Gantt => gantt(alloc, "a on b", policy, workload, None, listener, out),
     }

@@ -53,7 +53,7 @@ impl<'a> Account<'a> {
     /// Nothing has happened yet, and that text stands first.
     pub(crate) fn new(alloc: Global, names: &'a Workload, ms: u64, text: String) -> Account<'a>
         ensures ms { result.ms ≡ ms }
-        ensures names { result.names ≡ names }
+        ensures names { result.names.now ≡ names.now }
     {
         Account {
             alloc,
@@ -69,7 +69,7 @@ impl<'a> Account<'a> {
     /// That event comes next.
     pub(crate) fn expect(&mut self, sim: &Sim, event: Event)
         ensures ms { self.new.ms ≡ self.old.ms }
-        ensures names { self.new.names ≡ self.old.names }
+        ensures names { self.new.names.now ≡ self.old.names.now }
     {
         if self.result.is_ok() {
             self.result = self.push_expected(sim, event);
@@ -78,7 +78,7 @@ impl<'a> Account<'a> {
 
     fn push_expected(&mut self, sim: &Sim, event: Event) -> Result<(), AllocError>
         ensures ms { self.new.ms ≡ self.old.ms }
-        ensures names { self.new.names ≡ self.old.names }
+        ensures names { self.new.names.now ≡ self.old.names.now }
     {
         let is_now = sim.clock() == self.ms;
         let is_clock = matches!(event, Event::Clock);
@@ -96,7 +96,7 @@ impl<'a> Account<'a> {
     /// Tells how the machine is as the millisecond begins, if it hasn't begun yet.
     fn push_begin(&mut self, sim: &Sim) -> Result<(), AllocError>
         ensures ms { self.new.ms ≡ self.old.ms }
-        ensures names { self.new.names ≡ self.old.names }
+        ensures names { self.new.names.now ≡ self.old.names.now }
     {
         if self.phase != Phase::Before {
             return Ok(());
@@ -114,7 +114,7 @@ impl<'a> Account<'a> {
     /// The run is over.
     pub(crate) fn end(&mut self, sim: &Sim)
         ensures ms { self.new.ms ≡ self.old.ms }
-        ensures names { self.new.names ≡ self.old.names }
+        ensures names { self.new.names.now ≡ self.old.names.now }
     {
         if self.result.is_ok() {
             self.result = self.push_end(sim);
@@ -124,7 +124,7 @@ impl<'a> Account<'a> {
     /// Tells how the machine is as the millisecond is over, if that isn't told yet.
     fn push_end(&mut self, sim: &Sim) -> Result<(), AllocError>
         ensures ms { self.new.ms ≡ self.old.ms }
-        ensures names { self.new.names ≡ self.old.names }
+        ensures names { self.new.names.now ≡ self.old.names.now }
     {
         if self.phase == Phase::Over {
             return Ok(());
@@ -153,7 +153,7 @@ impl<'a> Account<'a> {
     /// Something comes of the event: what that is stands first.
     pub(crate) fn begin(&mut self)
         ensures ms { self.new.ms ≡ self.old.ms }
-        ensures names { self.new.names ≡ self.old.names }
+        ensures names { self.new.names.now ≡ self.old.names.now }
     {
         if self.result.is_ok() {
             self.result = self.push_title();
@@ -162,7 +162,7 @@ impl<'a> Account<'a> {
 
     fn push_title(&mut self) -> Result<(), AllocError>
         ensures ms { self.new.ms ≡ self.old.ms }
-        ensures names { self.new.names ≡ self.old.names }
+        ensures names { self.new.names.now ≡ self.old.names.now }
     {
         let Some(event) = self.event else {
             return Ok(());
@@ -187,7 +187,7 @@ impl<'a> Account<'a> {
         requires quiet { world.old.notes ≡ [] }
         requires room { CanPush program_pushes world.old }
         ensures ms { self.new.ms ≡ self.old.ms }
-        ensures names { self.new.names ≡ self.old.names }
+        ensures names { self.new.names.now ≡ self.old.names.now }
         ensures ended { record { answer = Some result; maps = maps.new; outside = world.new }
             ≡ run_of (answer_to world_functions) (after_query world_functions)
             program.now.context.callback program.now.code (program_arguments arguments) maps.old
@@ -222,7 +222,7 @@ impl<'a> Account<'a> {
     /// Tells a callback, with what it is given.
     fn push_callback(&mut self, callback: Callback, arguments: Args) -> Result<(), AllocError>
         ensures ms { self.new.ms ≡ self.old.ms }
-        ensures names { self.new.names ≡ self.old.names }
+        ensures names { self.new.names.now ≡ self.old.names.now }
     {
         self.push_title()?;
         let mut words = String::new(self.alloc);

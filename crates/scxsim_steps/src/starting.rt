@@ -21,9 +21,17 @@ pub(crate) fn text_of_start(
         return Ok(String::new(alloc));
     }
     match policy_of(alloc, policy)? {
-        Some(policy) => start_of(alloc, policy, workload),
+        Some(policy) => titled(start_of(alloc, policy, workload)?),
         None => Ok(String::new(alloc)),
     }
+}
+
+/// The same text behind a title, unless it is empty.
+fn titled(mut text: String) -> Result<String, AllocError> {
+    if !text.is_empty() {
+        text.insert_str(0, "as the policy is loaded\n")?;
+    }
+    Ok(text)
 }
 
 fn policy_of(alloc: Global, text: &str) -> Result<Option<Policy>, AllocError> {
@@ -59,8 +67,7 @@ fn start_with(
     tree: Tree,
     workload: &Workload,
 ) -> Result<String, AllocError> {
-    let first = String::from_str(alloc, "as the policy is loaded\n")?;
-    let mut stepper = Stepper::new(alloc, workload, 0, first);
+    let mut stepper = Stepper::new(alloc, workload, 0, String::new(alloc));
     match Sim::new_seen(alloc, policy, tree, workload.cpus(), &mut stepper) {
         Ok(sim) => {
             drop(sim);

@@ -64,6 +64,23 @@ impl<'a> Stepper<'a> {
         self.account.expect(sim, event);
     }
 
+    /// A note of that millisecond comes.
+    fn hear(&mut self, note: Note)
+        ensures ms { self.new.ms ≡ self.old.ms }
+        ensures names { self.new.names ≡ self.old.names }
+        ensures well { self.new.lost ≡ false → self.old.lost ≡ false }
+        ensures text { self.new.lost ≡ false → (words : List ℕ)
+            × (self.new.text ≡ self.old.text ++ (words ++ note_line self.old.names note)) }
+    {
+        self.account.begin();
+        let words = self.account.text.as_str();
+        let pushed = push_note(&mut self.page, self.account.names, words, note);
+        self.account.text.clear();
+        if pushed.is_err() {
+            self.lost = true;
+        }
+    }
+
     /// The run is over: what is left is written.
     pub(crate) fn end(&mut self, sim: &Sim) -> Result<(), AllocError>
         ensures names { self.new.names ≡ self.old.names }
@@ -72,9 +89,12 @@ impl<'a> Stepper<'a> {
     {
         self.account.end(sim);
         self.account.result?;
+        if self.lost {
+            return Err(AllocError);
+        }
         match write_all(&mut self.page, self.account.text.as_bytes()) {
-            Ok(()) if !self.lost => Ok(()),
-            _ => Err(AllocError),
+            Ok(()) => Ok(()),
+            Err(_) => Err(AllocError),
         }
     }
 
@@ -103,15 +123,12 @@ impl Sink for Stepper<'_> {
     ghost failed_stays = { λ s t n failed takes. takes.0 failed };
 
     fn take(&mut self, note: Note) {
-        if self.lost || note.clock != self.account.ms {
+        if self.lost {
             return;
         }
-        self.account.begin();
-        let words = self.account.text.as_str();
-        if push_note(&mut self.page, self.account.names, words, note).is_err() {
-            self.lost = true;
+        if note.clock == self.account.ms {
+            self.hear(note);
         }
-        self.account.text.clear();
     }
 
     fn failed(&self) -> bool {
