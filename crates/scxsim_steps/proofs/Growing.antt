@@ -5,7 +5,7 @@ use Rattle.scx_sched_machine.specs.declared.events.Event.{Event}
 use Rattle.scx_sched_machine.specs.Notes.{Takes}
 use Rattle.scx_sched.specs.Sim.{SimState, after_event, notes_of}
 use Rattle.scxsim_trace.specs.Lines.{NameLists, note_line}
-use Rattle.scxsim_steps.specs.Stepping.{notes_within, Grows, Kept, Hears, TakesNote, GrowsBy}
+use Rattle.scxsim_steps.specs.Stepping.{notes_within, Grows, HasLines, Kept, Hears, TakesNote, GrowsBy}
 
 -- one note, and then others
 one_grows : (is : Bool) (names : NameLists) (n : Note) (ns rest : List Note) (a b new : List ℕ) → Hears is names n a b → Grows names (ns ++ rest) b new → Grows names (cond is (n ∷ ns) ns ++ rest) a new
@@ -42,9 +42,9 @@ takes_grow (n ∷ ns) rest a b new (u, (stays, ms, names, heard), more) well g =
 -- an event of that millisecond or before it, and then others
 within_next : (f : Bool) (ms : ℕ) (s : SimState) (e : Event) (es : List Event) (names : NameLists) (a new : List ℕ) → nat_lt ms s.state.world.clock ≡ f → f ≡ false
     → Grows names (filter (λ n. n.clock == ms) (notes_of s e) ++ notes_within ms (after_event s e) es) a new → Grows names (notes_within ms s (e ∷ es)) a new
-within_next f ms s e es names a new is no g =
+within_next f ms s e es names a new is before g =
     let P : Bool → Type 0 = λ c. Grows names (if c then [] else filter (λ n. n.clock == ms) (notes_of s e) ++ notes_within ms (after_event s e) es) a new in
-    subst P (sym (is ∙ no)) g
+    subst P (sym (is ∙ before)) g
 
 -- an event after it
 within_past : (ms : ℕ) (s : SimState) (e : Event) (es : List Event) → nat_lt ms s.state.world.clock ≡ true → notes_within ms s (e ∷ es) ≡ []
@@ -85,6 +85,16 @@ one_further s0 es0 a0 s t es rest e a b way next now state taken well =
       grows = text;
     }
 
+-- the same of a sink that expected the event, and of what a source has left then
+pub next_event : (s0 : SimState) (es0 : List Event) (a0 : Kept) (s t : SimState) (es : List Event) (rest : SimState → List Event) (e : Event) (a u b : Kept) (ms clock : ℕ)
+    → IsUnderWay s0 es0 a0 s es a → es ≡ e ∷ rest (after_event s e) → a0.ms ≡ ms → clock ≡ s.state.world.clock → nat_lt ms clock ≡ false → u ≡ a → t ≡ after_event s e → Takes TakesNote u (notes_of s e) b → b.lost ≡ false
+    → IsUnderWay s0 es0 a0 t (rest t) b
+next_event s0 es0 a0 s t es rest e a u b ms clock way next is_ms is_clock before same state taken well =
+    let P : Kept → Type 0 = λ k. Takes TakesNote k (notes_of s e) b in
+    let Q : SimState → Type 0 = λ x. IsUnderWay s0 es0 a0 x (rest x) b in
+    let now : nat_lt a0.ms s.state.world.clock ≡ false = ap (λ m. nat_lt m s.state.world.clock) is_ms ∙ sym (ap (λ c. nat_lt ms c) is_clock) ∙ before in
+    subst Q (sym state) (one_further s0 es0 a0 s (after_event s e) es (rest (after_event s e)) e a b way next now refl (subst P same taken) well)
+
 -- no event is left
 pub at_end : (s0 : SimState) (es0 : List Event) (a0 : Kept) (s : SimState) (es : List Event) (a : Kept) → IsUnderWay s0 es0 a0 s es a → es ≡ [] → GrowsBy (notes_within a0.ms s0 es0) a0 a
 at_end s0 es0 a0 s es a way none well =
@@ -98,3 +108,15 @@ at_past s0 es0 a0 s es rest e a way next past well =
     let P : List Event → Type 0 = λ l. Grows a0.names (notes_within a0.ms s l) a.text a.text in
     let Q : List Note → Type 0 = λ l. Grows a0.names l a.text a.text in
     (way.well well, way.grows a.text (subst P (sym next) (subst Q (sym (within_past a0.ms s e rest past)) refl)))
+
+-- ---- the whole page
+
+-- a page that grew from nothing by the lines of these notes, and then by what is left
+pub lines_of_end : (names : NameLists) (ms : ℕ) (s : SimState) (es : List Event) (a b : Kept) (rest page : List ℕ)
+    → GrowsBy (notes_within a.ms s es) a b → a.ms ≡ ms → a.names ≡ names → a.text ≡ [] → b.lost ≡ false → page ≡ b.text ++ rest
+    → HasLines names (notes_within ms s es) page
+lines_of_end names ms s es a b rest page grows is_ms is_names empty well whole =
+    let P : List ℕ → Type 0 = λ x. Grows a.names (notes_within a.ms s es) x b.text in
+    let Q : NameLists → Type 0 = λ x. Grows x (notes_within a.ms s es) [] b.text in
+    let R : ℕ → Type 0 = λ k. Grows names (notes_within k s es) [] b.text in
+    record { lines = b.text; rest = rest; grown = subst R is_ms (subst Q is_names (subst P empty (grows well).1)); whole = whole }

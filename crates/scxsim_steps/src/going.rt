@@ -1,3 +1,4 @@
+ghost use Rattle.std.specs.Prelude.{◌≡◌};
 ghost use Rattle.scxsim_steps.specs.Stepping.{notes_within, GrowsBy};
 
 use crate::stepper::Stepper;
@@ -5,6 +6,7 @@ use scx_sched::{Sim, Sink};
 use scxsim_trace::Events;
 
 /// Gives the events to the machine, one after another, until that millisecond is over.
+#[tactic(auto, using(crate::proofs::Growing::begun, crate::proofs::Growing::at_end, crate::proofs::Growing::at_past))]
 pub(crate) fn go_through<E: Events>(
     sim: &mut Sim,
     events: &mut E,

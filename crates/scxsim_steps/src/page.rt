@@ -21,7 +21,7 @@ impl Page {
     }
 
     pub(crate) fn into_bytes(self) -> Vec<u8>
-        ensures { result ≡ self.entry.bytes }
+        ensures { result ≡ self.bytes }
     {
         let Page { bytes, .. } = self;
         bytes

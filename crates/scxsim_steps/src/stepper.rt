@@ -1,4 +1,4 @@
-ghost use Rattle.std.specs.Prelude.{◌≡◌, ℕ, List, [], ◌++◌, false, OnOk};
+ghost use Rattle.std.specs.Prelude.{◌≡◌, ◌==◌, ℕ, List, [], ◌++◌, false, OnOk};
 ghost use Rattle.scxsim_trace.specs.Lines.{names_of, note_line};
 ghost use Rattle.scxsim_steps.specs.Stepping.{TakesNote};
 
@@ -73,12 +73,19 @@ impl<'a> Stepper<'a> {
             × (self.new.text ≡ self.old.text ++ (words ++ note_line self.old.names note)) }
     {
         self.account.begin();
+        let names = self.account.names;
         let words = self.account.text.as_str();
-        let pushed = push_note(&mut self.page, self.account.names, words, note);
-        self.account.text.clear();
-        if pushed.is_err() {
-            self.lost = true;
+        match push_note(&mut self.page, names, words, note) {
+            Ok(()) => self.account.text.clear(),
+            Err(_) => self.lost = true,
         }
+    }
+
+    /// Whether a note is of that millisecond.
+    fn is_now(&self, note: Note) -> bool
+        ensures { result ≡ (note.clock == self.now.ms) }
+    {
+        note.clock == self.account.ms
     }
 
     /// The run is over: what is left is written.
@@ -126,7 +133,7 @@ impl Sink for Stepper<'_> {
         if self.lost {
             return;
         }
-        if note.clock == self.account.ms {
+        if self.is_now(note) {
             self.hear(note);
         }
     }

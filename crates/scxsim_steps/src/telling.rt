@@ -62,6 +62,7 @@ pub fn step<L: Listener, W: Out>(
 }
 
 /// The page, if the word names a millisecond of the run. All memory is taken before the first byte is written.
+#[tactic(auto, using(crate::proofs::Refusing::stepped_of_run, crate::proofs::Refusing::outside_of_run))]
 fn page_of<L: Listener>(
     alloc: Global,
     policy: &str,
@@ -109,6 +110,7 @@ fn page_at<L: Listener>(
 }
 
 /// The same of a run that is lent.
+#[tactic(auto, using(crate::proofs::Growing::lines_of_end))]
 fn page_from<E: Events>(
     alloc: Global,
     policy: &str,
