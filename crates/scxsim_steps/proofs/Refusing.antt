@@ -1,5 +1,7 @@
 -- What a run of two texts comes to.
-use Rattle.std.proofs.Common.{◌≡◌, arith, ℕ, ◌<◌, ◌≤◌, ◌^◌, List, [], subst, sym, ap, ◌∙◌}
+use Rattle.std.proofs.Common.{◌≡◌, arith, ℕ, ◌<◌, ◌≤◌, ◌^◌, List, false, Option, None, subst, sym, ◌∙◌}
+use Rattle.std.specs.Prelude.{IfNone, codes}
+use Rattle.std.specs.Io.KnownBytes.{Appends}
 use Rattle.scx_sched_machine.specs.declared.events.Event.{Event}
 use Rattle.scx_load_workloads.specs.Workload.{WorkloadState}
 use Rattle.scx_load_driver.specs.Events.{workload_events}
@@ -7,7 +9,7 @@ use Rattle.scx_sched.specs.Sim.{SimState}
 use Rattle.scxsim_trace.specs.Lines.{names_of}
 use Rattle.scxsim_simulation.specs.Runs.{IsRun}
 use Rattle.scxsim_steps.specs.Moments.{Says, IsMoment}
-use Rattle.scxsim_steps.specs.Stepping.{notes_within, HasLines, IsStepped, IsOutside}
+use Rattle.scxsim_steps.specs.Stepping.{notes_within, HasLines, IsStepped, IsOutside, IsAnswer}
 
 -- the word says no number
 pub unsaid : (all : ℕ) (word : List ℕ) → all < 2 ^ 32 → ((m : ℕ) → m < 2 ^ 32 → ¬ Says word m) → (ms : ℕ) → ¬ IsMoment all word ms
@@ -32,3 +34,10 @@ stepped_of_run policy workload word text w s ms es run events named lines =
 -- the run is that of the texts, and the word names no millisecond of it
 pub outside_of_run : (policy workload word : List ℕ) (w : WorkloadState) (s : SimState) → IsRun policy workload w s → ((ms : ℕ) → ¬ IsMoment w.ms word ms) → IsOutside policy workload word
 outside_of_run policy workload word w s run none = record { of_workload = w; first = s; run = run; none = none }
+
+-- that it names none is said
+pub past_is_said : {A : Type 0} (policy workload word : List ℕ) (page : Option A) (old new : Option (List ℕ)) (bytes : List ℕ) → IfNone page (IsOutside policy workload word) → page ≡ None → bytes ≡ codes "refused: word MS: out of range\n" → Appends old new bytes
+    → (text : List ℕ) × IsAnswer false policy workload word text × Appends old new text
+past_is_said {A} policy workload word page old new bytes none is said grown =
+    let P : Option A → Type 0 = λ p. IfNone p (IsOutside policy workload word) in
+    (bytes, (subst P is none, said), grown)

@@ -19,9 +19,6 @@ use scxsim_simulation::{Heard, Listener, Run, give_back, prepare};
 use scxsim_trace::Events;
 use std::alloc::{AllocError, Global};
 
-/// The line of a word that names no millisecond of the run.
-const PAST: &str = "refused: word MS: out of range\n";
-
 /// Writes what happens in that millisecond, by the clock of a trace, of the run that the texts of a policy file and
 /// of a workload file stand for: each callback that is called, instruction by instruction, and each note. The answer
 /// is true, or false where the word is refused.
@@ -55,14 +52,14 @@ pub fn step<L: Listener, W: Out>(
             Ok(true)
         }
         None => {
-            write_all(out, PAST.as_bytes())?;
+            write_all(out, "refused: word MS: out of range\n".as_bytes())?;
             Ok(false)
         }
     }
 }
 
 /// The page, if the word names a millisecond of the run. All memory is taken before the first byte is written.
-#[tactic(auto, using(crate::proofs::Refusing::stepped_of_run, crate::proofs::Refusing::outside_of_run))]
+#[tactic(auto, using(crate::proofs::Refusing::stepped_of_run))]
 fn page_of<L: Listener>(
     alloc: Global,
     policy: &str,
