@@ -4,7 +4,7 @@ use Rattle.scx_sched_world.specs.declared.notes.Note.{Note}
 use Rattle.scx_sched_machine.specs.declared.events.Event.{Event}
 use Rattle.scx_sched_machine.specs.Notes.{Takes}
 use Rattle.scx_sched.specs.Sim.{SimState, after_event, notes_of}
-use Rattle.scxsim_trace.specs.Lines.{NameLists, note_line}
+use Rattle.scxsim_trace.specs.Lines.{NameLists}
 use Rattle.scxsim_steps.specs.Stepping.{notes_within, Grows, HasLines, Kept, Hears, TakesNote, GrowsBy}
 
 -- one note, and then others

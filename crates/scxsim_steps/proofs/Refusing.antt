@@ -1,5 +1,5 @@
 -- What a run of two texts comes to.
-use Rattle.std.proofs.Common.{◌≡◌, arith, ℕ, ◌<◌, ◌≤◌, ◌^◌, List, false, Option, None, subst, sym, ◌∙◌}
+use Rattle.std.proofs.Common.{◌≡◌, arith, ℕ, ◌<◌, ◌^◌, List, false, Option, None, subst, sym, ◌∙◌}
 use Rattle.std.specs.Prelude.{IfNone, codes}
 use Rattle.std.specs.Io.KnownBytes.{Appends}
 use Rattle.scx_sched_machine.specs.declared.events.Event.{Event}
