@@ -40,8 +40,8 @@ enum Phase {
 #[derive(Drop)]
 pub(crate) struct Account<'a> {
     alloc: Global,
-    pub(crate) names: &'a Workload,
-    pub(crate) ms: u64,
+    names: &'a Workload,
+    ms: u64,
     phase: Phase,
     /// The event that is under way, where nothing of it is written yet.
     event: Option<Event>,
@@ -51,10 +51,7 @@ pub(crate) struct Account<'a> {
 
 impl<'a> Account<'a> {
     /// Nothing has happened yet, and that text stands first.
-    pub(crate) fn new(alloc: Global, names: &'a Workload, ms: u64, text: String) -> Account<'a>
-        ensures ms { result.ms ≡ ms }
-        ensures names { result.names.now ≡ names.now }
-    {
+    pub(crate) fn new(alloc: Global, names: &'a Workload, ms: u64, text: String) -> Account<'a> {
         Account {
             alloc,
             names,
@@ -67,19 +64,13 @@ impl<'a> Account<'a> {
     }
 
     /// That event comes next.
-    pub(crate) fn expect(&mut self, sim: &Sim, event: Event)
-        ensures ms { self.new.ms ≡ self.old.ms }
-        ensures names { self.new.names.now ≡ self.old.names.now }
-    {
+    pub(crate) fn expect(&mut self, sim: &Sim, event: Event) {
         if self.result.is_ok() {
             self.result = self.push_expected(sim, event);
         }
     }
 
-    fn push_expected(&mut self, sim: &Sim, event: Event) -> Result<(), AllocError>
-        ensures ms { self.new.ms ≡ self.old.ms }
-        ensures names { self.new.names.now ≡ self.old.names.now }
-    {
+    fn push_expected(&mut self, sim: &Sim, event: Event) -> Result<(), AllocError> {
         let is_now = sim.clock() == self.ms;
         let is_clock = matches!(event, Event::Clock);
         if is_now && is_clock {
@@ -94,10 +85,7 @@ impl<'a> Account<'a> {
     }
 
     /// Tells how the machine is as the millisecond begins, if it hasn't begun yet.
-    fn push_begin(&mut self, sim: &Sim) -> Result<(), AllocError>
-        ensures ms { self.new.ms ≡ self.old.ms }
-        ensures names { self.new.names.now ≡ self.old.names.now }
-    {
+    fn push_begin(&mut self, sim: &Sim) -> Result<(), AllocError> {
         if self.phase != Phase::Before {
             return Ok(());
         }
@@ -112,20 +100,14 @@ impl<'a> Account<'a> {
     }
 
     /// The run is over.
-    pub(crate) fn end(&mut self, sim: &Sim)
-        ensures ms { self.new.ms ≡ self.old.ms }
-        ensures names { self.new.names.now ≡ self.old.names.now }
-    {
+    pub(crate) fn end(&mut self, sim: &Sim) {
         if self.result.is_ok() {
             self.result = self.push_end(sim);
         }
     }
 
     /// Tells how the machine is as the millisecond is over, if that isn't told yet.
-    fn push_end(&mut self, sim: &Sim) -> Result<(), AllocError>
-        ensures ms { self.new.ms ≡ self.old.ms }
-        ensures names { self.new.names.now ≡ self.old.names.now }
-    {
+    fn push_end(&mut self, sim: &Sim) -> Result<(), AllocError> {
         if self.phase == Phase::Over {
             return Ok(());
         }
@@ -151,19 +133,13 @@ impl<'a> Account<'a> {
     }
 
     /// Something comes of the event: what that is stands first.
-    pub(crate) fn begin(&mut self)
-        ensures ms { self.new.ms ≡ self.old.ms }
-        ensures names { self.new.names.now ≡ self.old.names.now }
-    {
+    pub(crate) fn begin(&mut self) {
         if self.result.is_ok() {
             self.result = self.push_title();
         }
     }
 
-    fn push_title(&mut self) -> Result<(), AllocError>
-        ensures ms { self.new.ms ≡ self.old.ms }
-        ensures names { self.new.names.now ≡ self.old.names.now }
-    {
+    fn push_title(&mut self) -> Result<(), AllocError> {
         let Some(event) = self.event else {
             return Ok(());
         };
@@ -186,8 +162,6 @@ impl<'a> Account<'a> {
         requires arguments { FitsCallback program.now.context.callback (program_arguments arguments) }
         requires quiet { world.old.notes ≡ [] }
         requires room { CanPush program_pushes world.old }
-        ensures ms { self.new.ms ≡ self.old.ms }
-        ensures names { self.new.names.now ≡ self.old.names.now }
         ensures ended { record { answer = Some result; maps = maps.new; outside = world.new }
             ≡ run_of (answer_to world_functions) (after_query world_functions)
             program.now.context.callback program.now.code (program_arguments arguments) maps.old
@@ -220,10 +194,7 @@ impl<'a> Account<'a> {
     }
 
     /// Tells a callback, with what it is given.
-    fn push_callback(&mut self, callback: Callback, arguments: Args) -> Result<(), AllocError>
-        ensures ms { self.new.ms ≡ self.old.ms }
-        ensures names { self.new.names.now ≡ self.old.names.now }
-    {
+    fn push_callback(&mut self, callback: Callback, arguments: Args) -> Result<(), AllocError> {
         self.push_title()?;
         let mut words = String::new(self.alloc);
         push_argument("r1", arguments.first, self.names, &mut words)?;

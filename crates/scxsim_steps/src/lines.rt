@@ -9,9 +9,6 @@ use scx_vm_tagged::{Core, Watch};
 use std::alloc::{AllocError, Global};
 use std::fmt::Write;
 
-/// How wide the column of instructions is at most.
-const WIDEST: usize = 40;
-
 /// Makes a line for each instruction of one run of a program.
 #[derive(Drop)]
 pub(crate) struct Lines<'a, 'b> {
@@ -125,7 +122,7 @@ pub(crate) fn end_row(
     text.push_str("\n")
 }
 
-/// How wide the longest instruction is, up to a bound.
+/// How wide the longest instruction is.
 fn width_of(program: &Program) -> usize {
     let mut width = 0;
     for slot in 0..program.slots() {
@@ -133,5 +130,5 @@ fn width_of(program: &Program) -> usize {
             width = Canonical(insn).line().len().max(width);
         }
     }
-    width.min(WIDEST)
+    width
 }

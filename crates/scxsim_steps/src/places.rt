@@ -28,11 +28,11 @@ impl Place {
                     offset: at,
                 },
             ) => {
-                let at = moved(at, offset)?;
+                let at = at.checked_add_signed(offset)?;
                 Some(Place::Element { map, index, at })
             }
             Value::Pointer(Pointer::Stack(at)) => {
-                let at = moved(at, offset)?;
+                let at = at.checked_add_signed(offset)?;
                 Some(Place::Stack(at))
             }
             Value::Pointer(Pointer::Map(_)) | Value::Number(_) | Value::Unset => None,
@@ -51,9 +51,4 @@ impl Place {
             Place::Stack(at) => push_stack(at, text),
         }
     }
-}
-
-/// The byte that far behind another.
-fn moved(at: u16, offset: i16) -> Option<u16> {
-    at.checked_add_signed(offset)
 }

@@ -22,6 +22,8 @@ use std::marker::Model;
 /// In a contract it is the page up to the last line of a note, and whether there was no memory for one.
 #[derive(Drop)]
 pub(crate) struct Stepper<'a> {
+    names: &'a Workload,
+    ms: u64,
     page: Page,
     lost: bool,
     /// What comes behind the page.
@@ -35,8 +37,8 @@ impl<'a> Model for Stepper<'a> {
     ghost Value = { Kept };
 
     ghost view = { λ s. record {
-      ms = s.account.ms;
-      names = names_of s.account.names.now;
+      ms = s.ms;
+      names = names_of s.names.now;
       text = s.page.bytes.items;
       lost = s.lost;
     } };
@@ -51,6 +53,8 @@ impl<'a> Stepper<'a> {
         ensures well { result.lost ≡ false }
     {
         Stepper {
+            names,
+            ms,
             page: Page::new(alloc),
             lost: false,
             account: Account::new(alloc, names, ms, first),
@@ -73,7 +77,7 @@ impl<'a> Stepper<'a> {
             × (self.new.text ≡ self.old.text ++ (words ++ note_line self.old.names note)) }
     {
         self.account.begin();
-        let names = self.account.names;
+        let names = self.names;
         let words = self.account.text.as_str();
         match push_note(&mut self.page, names, words, note) {
             Ok(()) => self.account.text.clear(),
@@ -85,7 +89,7 @@ impl<'a> Stepper<'a> {
     fn is_now(&self, note: Note) -> bool
         ensures { result ≡ (note.clock == self.now.ms) }
     {
-        note.clock == self.account.ms
+        note.clock == self.ms
     }
 
     /// The run is over: what is left is written.
@@ -151,7 +155,7 @@ impl Sink for Stepper<'_> {
         maps: &mut Maps,
         world: &mut World,
     ) -> u64 {
-        if world.clock() != self.account.ms {
+        if world.clock() != self.ms {
             return Unseen.run(core, program, arguments, maps, world);
         }
         self.account.run(program, arguments, maps, world)

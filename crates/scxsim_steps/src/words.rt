@@ -8,9 +8,6 @@ use std::fmt::Write;
 /// A millisecond in nanoseconds.
 const MS: u64 = 1_000_000;
 
-/// From here on a number is below 0 where it is read with its sign.
-const NEGATIVE: u64 = 1 << 63;
-
 /// A time in nanoseconds, in milliseconds where it is a whole number of them; the greatest has no end.
 #[derive(Clone, Copy)]
 pub(crate) struct Time(pub(crate) u64);
@@ -60,7 +57,7 @@ pub(crate) fn push_number(n: u64, text: &mut String) -> Result<(), AllocError> {
     } else if is_local(n) {
         let cpu = n % 0x1_0000_0000;
         write!(text, " (local {cpu})")
-    } else if NEGATIVE <= n {
+    } else if 1 << 63 <= n {
         let negative = n.wrapping_neg();
         write!(text, " (-{negative})")
     } else if MS <= n && n % MS == 0 {
