@@ -7,6 +7,9 @@ const WHY_RUN = ["the run was over", "it was stopped: its slice was used up and 
   "its group had used its quota, and it was parked", "", "", "", "this part of the run was over"];
 const WHY_WAIT = ["the run was over", "", "it went to sleep", "it was parked", "it ran", "it went to another queue",
   "its group had a new period", "this part of the run was over"];
+const FAULTS = ["the callback can't go on", "no such queue", "the task can't be inserted here, or not a second time",
+  "by virtual time and in order of arrival into one queue", "by virtual time into a queue of the machine", "no such processor",
+  "flags other than 0 and 1", "the queue can't be created"];
 const BEGAN = ["", "it woke", "it was stopped", "it was let go"];
 const element = (id) => document.getElementById(id);
 const text = (id) => element(id).textContent;
@@ -231,7 +234,7 @@ const waitedUntil = ({ someWaited, duration }, time) => gridUntil({ cell: 1, cel
 function queueName(run, queue) {
   if (queue < GLOBAL) return "queue " + (run.queues[queue] ?? queue);
   if (queue >= LOCAL && queue < LOCAL + 64) return "local queue of processor " + (queue - LOCAL);
-  return { [GLOBAL]: "the queue of all processors", [HELD]: "held by the policy", [BUILTIN]: "the built-in scheduler's queue",
+  return { [GLOBAL]: "the global queue", [HELD]: "held by the policy", [BUILTIN]: "the built-in scheduler's queue",
     [PARKED]: "parked: its group's quota is used up" }[queue] ?? "no queue";
 }
 
@@ -255,10 +258,10 @@ function whoRan(run, from, until) {
 /* ---------- colours and patterns ---------- */
 // Okabe and Ito's colours; vermillion is kept for what is wrong. Letters on a task's colour are white or black.
 const LIGHT = { paper: "#ffffff", ink: "#1b1f24", faint: "#6a7178", line: "#d9dde1", band: "#f3f5f7", wrong: "#d55e00", wrongPaper: "#ffffff",
-  wait: "#7d858d", waitPaper: "#e4e7ea", parked: "#8a6d00", parkedPaper: "#f6e9b2", several: "#4d5a68",
+  wait: "#7d858d", waitPaper: "#d9dee3", parked: "#8a6d00", parkedPaper: "#f6e9b2", several: "#4d5a68",
   tasks: ["#0072b2", "#e69f00", "#009e73", "#56b4e9", "#cc79a7", "#f0e442"], inks: "wbwbwb" };
 const DARK = { paper: "#14171b", ink: "#e8eaed", faint: "#9aa3ab", line: "#343a41", band: "#1c2025", wrong: "#ff7a1a", wrongPaper: "#14171b",
-  wait: "#98a2ac", waitPaper: "#2b3138", parked: "#e6c84a", parkedPaper: "#4a4013", several: "#a3b1c0",
+  wait: "#98a2ac", waitPaper: "#363e47", parked: "#e6c84a", parkedPaper: "#4a4013", several: "#a3b1c0",
   tasks: ["#3d97d8", "#e69f00", "#1fb58a", "#8fd0f5", "#dd94bd", "#f0e442"], inks: "wbbbbb" };
 const SHADES = 32;
 
@@ -479,7 +482,7 @@ function drawShare(g, y, tall) {
   fill(offset, offset + width, y + tall, y + tall + thick, palette.line);
 }
 
-// All processors together, where they are folded: how much of their time was used, hatched where some were idle and others waited.
+// All processors together, where they are folded: how much of their time was used, hatched where some were idle while somebody waited.
 function drawAllProcessors(y, tall) {
   const { sums, processors, duration } = run, offset = plotLeft(), width = plotWidth(), step = perPixel();
   clearBands();
@@ -582,13 +585,12 @@ const NAMES = {
     if (!row.folded) return;
     const idle = run.idle.reduce((sum, one) => sum + one, 0) / all;
     write("busy " + percent(run.cpuBefore[run.cpuFrom.length] / all), 18, y + 29, faint, 11);
-    if (idle > 0) write("idle, others wait " + percent(idle), 18, y + 44, wrong, 11, 400, left() - 22);
+    if (idle > 0) write("idle, somebody waits " + percent(idle), 18, y + 44, wrong, 11, 400, left() - 22);
   },
   cpu({ number, high }, y) {
     const { ink, wrong } = palette.names, idle = run.idle[number], told = high >= 28 && idle > 0, isThin = high < 12;
     if (!isThin || number % 4 === 0) write("cpu " + number, 12, y + high / 2 - (told ? 6 : 0), ink, isThin ? 10 : 12);
-    const words = (view.wide ? "idle while others wait: " : "idle: ") + timeText(idle);
-    if (told) write(words, 12, y + high / 2 + 8, wrong, 11, 400, left() - 16);
+    if (told) write((view.wide ? "idle, somebody waits: " : "idle: ") + timeText(idle), 12, y + high / 2 + 8, wrong, 11, 400, left() - 16);
   },
   group(row, y) {
     const group = run.groups[row.number], { ink, faint, wrong } = palette.names, x = indent(row), room = left() - 10 - x;
@@ -669,7 +671,7 @@ function drawAxis(offset, wide) {
 function endedWords() {
   const { how, at, task, code } = run.ended;
   if (at === undefined) return "in force to the end";
-  return "ejected at " + momentText(at) + ": " + (how === "stall" ? "stall of " + run.tasks[task].name : "fault " + code);
+  return "ejected at " + momentText(at) + ": " + (how === "stall" ? "stall of " + run.tasks[task].name : "fault " + code + " (" + FAULTS[code] + ")");
 }
 
 function drawEjection(offset, wide, high) {
@@ -863,7 +865,7 @@ function fillFigures() {
   fillTable(element("tasks"), ["task", "run ms", "waited ms", "longest"], tasks, (name) => find(name));
   const busy = run.idle.map((_, cpu) => total(run.cpuBefore, run.cpuStart, cpu));
   const cpus = busy.map((ran, cpu) => [String(cpu), ran, run.duration - ran, run.idle[cpu]]);
-  fillTable(element("cpus"), ["cpu", "busy ms", "idle ms", "of it others waited"], cpus);
+  fillTable(element("cpus"), ["cpu", "busy ms", "idle ms", "of it somebody waited"], cpus);
   for (const wait of run.worst.slice(0, 5)) {
     const words = wait.length + " ms " + run.tasks[wait.task].name + ", from " + momentText(wait.from);
     const button = node("button", words, node("li", "", element("waits")), { type: "button", class: wait.alarming ? "wrong" : "" });
@@ -959,8 +961,7 @@ const KEYS = {
   ArrowLeft: () => pan(-0.15), ArrowRight: () => pan(0.15), ArrowUp: () => moveRow(-1), ArrowDown: () => moveRow(1),
   PageUp: () => moveRow(-12), PageDown: () => moveRow(12), "+": () => zoom(0.6), "=": () => zoom(0.6), "-": () => zoom(1 / 0.6),
   Home: () => showFrom(0), End: () => showFrom(run.duration), 0: () => show(0, run.duration), ",": () => step(-1), ".": () => step(1),
-  Enter: enter,
-  "/": () => element("search").focus(), Escape: () => { view.chosen = null; redraw(); },
+  Enter: enter, "/": () => element("search").focus(), Escape: () => { view.chosen = null; redraw(); },
 };
 
 function enter() {
@@ -1022,7 +1023,7 @@ const paintBoxes = (brush, boxes) => boxes.forEach(([fillStyle, ...box]) => Obje
 
 // The triangle of a wake, a line a box.
 const WAKE = Array.from({ length: 10 }, (_, y) => [15 - (y >> 1), 2 + y, 2 * (y >> 1) + 1, 1]);
-const WAIT_WORDS = { [HELD]: "held by the policy", [GLOBAL]: "waits in the queue of all", [BUILTIN]: "waits for the built-in scheduler" };
+const WAIT_WORDS = { [HELD]: "held by the policy", [GLOBAL]: "waits in the global queue", [BUILTIN]: "waits for the built-in scheduler" };
 
 // What the legend says, each with what paints its swatch. A queue is in it where somebody waited there.
 function legendItems() {
@@ -1035,7 +1036,7 @@ function legendItems() {
   for (const queue of queues.slice(0, 8)) add(WAIT_WORDS[queue] ?? "waits in " + queueName(run, queue), tileOf(queue), "wait");
   if ([...used].some(isLocal)) add("waits in a processor's own queue", tileOf(LOCAL), "wait");
   if (used.has(PARKED)) add("parked: quota used up", tileOf(PARKED), "parked");
-  add("idle although somebody waits", WRONG_TILE, "wrong");
+  if (run.idle.some((ms) => ms > 0)) add("idle while somebody waits", WRONG_TILE, "wrong");
   items.push(["wakes", (brush) => paintBoxes(brush, WAKE.map((box) => [names.ink, ...box]))]);
   if (run.groups.length > 1) items.push([shareWords(), (brush) => {
     paintBoxes(brush, [[names.tasks[3], 0, 8, 30, 6], [names.ink, 0, 3, 30, 1]]);

@@ -55,7 +55,7 @@ fn expect_heard<R: AllocGlobal + Abort>(rt: &R, place: usize, account: Account) 
         (8, 8),
     ];
     let wanted = match account {
-        Account::Summary(Summary::Why) | Account::Course(Course::View) => twice.as_slice(),
+        Account::Summary(Summary::Why) => twice.as_slice(),
         Account::Course(_) | Account::Summary(_) => once.as_slice(),
     };
     expect_same(rt, record.heard.as_slice(), wanted, place);

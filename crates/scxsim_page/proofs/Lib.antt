@@ -1,1 +1,3 @@
-pub mod Refusing
+mod Drawn
+mod Refusing
+mod Summing

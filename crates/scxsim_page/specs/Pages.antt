@@ -1,20 +1,37 @@
 -- What `view` writes, and why it is refused.
 use Rattle.std.specs.Prelude.{◌≡◌, ℕ, ◌<◌, List, ◌++◌, Option, ◌⊎◌}
+use Rattle.scx_sched.specs.Sim.{SimState}
+use Rattle.scx_load_workloads.specs.Workload.{WorkloadState}
 use Rattle.scxsim_commands.specs.declared.refusal.TheConstants.{MOST_STRETCHES}
 use Rattle.scxsim_commands.specs.declared.refusal.Refusal.{Refusal}
 use Rattle.scxsim_commands.specs.declared.refusal.Refusal.TheVariants.{TooManyStretches}
+use Rattle.scxsim_simulation.specs.Runs.{IsRun}
 use Rattle.scxsim_charts.specs.declared.windows.Span.{Span}
+use Rattle.scxsim_charts.specs.declared.windows.Window.{Window}
+use Rattle.scxsim_charts.specs.Windows.{IsWindow}
 use Rattle.scxsim_charts.specs.Charts.{IsChartCause}
-use Rattle.scxsim_page.specs.declared.template.TheConstants.{TOP, CODE}
+use Rattle.scxsim_template.specs.declared.template.TheConstants.{TOP, CODE}
+use Rattle.scxsim_page.specs.Stretches.{stretches_in}
 
 -- a page with what is made of a run, from its first byte to its last
 abbrev pub page : List ℕ → List ℕ
 page made = TOP.now ++ made ++ CODE.now
 
--- a page would hold more stretches than it may
-abbrev pub IsTooLarge : Refusal → Type 0
-IsTooLarge r = (n : ℕ) × (r ≡ TooManyStretches n) × MOST_STRETCHES < n
+-- in that window the run has so many stretches, more than a page holds
+abbrev pub IsPast : Window → WorkloadState → SimState → Refusal → Type 0
+IsPast window w s r =
+    (r ≡ TooManyStretches (stretches_in window w s)) × MOST_STRETCHES < stretches_in window w s
+
+-- the part of the run that words name has so many
+abbrev pub HasTooMany : WorkloadState → SimState → Option Span → Refusal → Type 0
+HasTooMany w s span r = (window : Window) × IsWindow w.ms span window × IsPast window w s r
+
+-- the texts stand for a run of which that part has so many
+abbrev pub IsTooLarge : List ℕ → List ℕ → Option Span → Refusal → Type 0
+IsTooLarge policy workload span r =
+    (w : WorkloadState) × (s : SimState) × IsRun policy workload w s × HasTooMany w s span r
 
 -- the texts are refused, or the words are, or a page would be too large
 abbrev pub IsPageCause : List ℕ → List ℕ → Option Span → Refusal → Type 0
-IsPageCause policy workload span r = IsChartCause policy workload span r ⊎ IsTooLarge r
+IsPageCause policy workload span r =
+    IsChartCause policy workload span r ⊎ IsTooLarge policy workload span r

@@ -1,26 +1,24 @@
+use crate::lines::Lines;
 use crate::queues::{Queues, local_number};
-use crate::stretches::{End, Stretch};
+use crate::stretches::{End, NOWHERE, Stretch};
+use crate::tails::Ended;
 use crate::tasks::Tasks;
 use scx_sched::What;
 use scx_sched_world::PARKED;
 use scxsim_charts::Window;
 use std::alloc::{AllocError, Global};
 
-/// What tasks do in a part of a run, as it comes to an end.
+/// What tasks do in a part of a run, as it comes to an end, and the lines of what has ended.
 #[derive(Drop)]
 pub(crate) struct Course {
     window: Window,
     tasks: Tasks,
     queues: Queues,
-    /// Who left a processor last, until it is known whether it was parked.
-    stopped: Option<Stretch>,
-}
-
-/// The stretches that one note ends, in this order.
-#[derive(Clone, Copy)]
-pub(crate) struct Endings {
-    pub(crate) first: Option<Stretch>,
-    pub(crate) second: Option<Stretch>,
+    /// Who left a processor as the last note came, if the last stretch says so: it may turn out that it was parked.
+    stopped: Option<u16>,
+    /// How the policy ended, so far.
+    pub(crate) ended: Ended,
+    pub(crate) lines: Lines,
 }
 
 impl Course {
@@ -31,36 +29,50 @@ impl Course {
             tasks: Tasks::new(alloc, tasks)?,
             queues: Queues::new(),
             stopped: None,
+            ended: Ended::InForce,
+            lines: Lines::new(),
         })
     }
 
-    /// What ends with what happens.
-    pub(crate) fn show(&mut self, moment: u64, what: What) -> Endings {
-        let first = if self.stopped.is_some() {
-            self.end_stop(Some(what))
-        } else {
-            None
+    /// Adds the stretch that ends with what happens, if one does.
+    #[inline(always)]
+    pub(crate) fn show(&mut self, moment: u64, what: What) {
+        let stopped = self.stopped;
+        self.stopped = None;
+        let stretch = match what {
+            What::Wake(task) => {
+                self.tasks.wake(moment, task);
+                None
+            }
+            What::Sleep(task) => self.tasks.sleep(moment, task),
+            What::Insert(task, id) => {
+                if id == PARKED && stopped == Some(task) {
+                    self.lines.park_last();
+                }
+                let queue = self.queues.number(id);
+                self.tasks.enter(moment, task, queue)
+            }
+            What::Move(task, cpu) => self.tasks.enter(moment, task, local_number(cpu)),
+            What::Run(task, cpu) => self.tasks.run(moment, task, place_of(cpu)),
+            What::Stop(task, _) => self.tasks.stop(moment, task),
+            What::Stall(task) => {
+                self.ended = Ended::Stall { moment, task };
+                None
+            }
+            What::Fault(fault) => {
+                let number = fault.number();
+                self.ended = Ended::Fault { moment, number };
+                None
+            }
+            What::Idle(_) | What::Weight(_, _) => None,
         };
-        let second = self.ended_by(moment, what);
-        Endings {
-            first,
-            second: self.in_window(second),
-        }
+        self.add(stretch);
     }
 
-    /// The run of who left a processor last. It was parked if that is what happens now.
-    pub(crate) fn end_stop(&mut self, what: Option<What>) -> Option<Stretch> {
-        let mut stretch = self.stopped.take()?;
-        if is_parked(what, stretch.task) {
-            stretch.end = End::Parked;
-        }
-        self.in_window(Some(stretch))
-    }
-
-    /// What the task does as the run of the workload ends.
-    pub(crate) fn end_task(&mut self, moment: u64, task: u16) -> Option<Stretch> {
+    /// Adds what the task does as the run of the workload ends.
+    pub(crate) fn end_task(&mut self, moment: u64, task: u16) {
         let stretch = self.tasks.end(moment, task);
-        self.in_window(stretch)
+        self.add(stretch);
     }
 
     /// The ids of the policy's queues, in the order of their numbers.
@@ -68,36 +80,22 @@ impl Course {
         self.queues.ids()
     }
 
-    fn in_window(&self, stretch: Option<Stretch>) -> Option<Stretch> {
-        stretch?.within(self.window)
-    }
-
-    fn ended_by(&mut self, moment: u64, what: What) -> Option<Stretch> {
-        match what {
-            What::Wake(task) => {
-                self.tasks.wake(moment, task);
-                None
-            }
-            What::Sleep(task) => self.tasks.sleep(moment, task),
-            What::Insert(task, id) => {
-                let queue = self.queues.number(id);
-                self.tasks.enter(moment, task, queue)
-            }
-            What::Move(task, cpu) => self.tasks.enter(moment, task, local_number(cpu)),
-            What::Run(task, cpu) => self.tasks.run(moment, task, cpu),
-            What::Stop(task, _) => {
-                self.stopped = self.tasks.stop(moment, task);
-                None
-            }
-            What::Idle(_) | What::Weight(_, _) | What::Stall(_) | What::Fault(_) => None,
+    /// Adds what of the stretch lies in the window.
+    #[inline(always)]
+    fn add(&mut self, stretch: Option<Stretch>) {
+        let Some(stretch) = stretch else { return };
+        let Some(stretch) = stretch.within(self.window) else {
+            return;
+        };
+        if let End::Stopped = stretch.end {
+            self.stopped = Some(stretch.task);
         }
+        self.lines.add(stretch);
     }
 }
 
-/// Whether it happens that the task is parked.
-fn is_parked(what: Option<What>, stopped: u16) -> bool {
-    match what {
-        Some(What::Insert(task, queue)) => task == stopped && queue == PARKED,
-        _ => false,
-    }
+/// A processor, as a stretch has it.
+#[inline(always)]
+fn place_of(cpu: u32) -> u8 {
+    cpu.min(u32::from(NOWHERE)) as u8
 }

@@ -1,8 +1,14 @@
-use crate::drafts::Paths;
 use scx_load_workloads::Workload;
 use scxsim_charts::Window;
 use scxsim_trace::Names;
 use std::alloc::{AllocError, Global};
+
+/// The paths of the two files, of which a page has the names.
+#[derive(Clone, Copy)]
+pub struct Paths<'a> {
+    pub policy: &'a str,
+    pub workload: &'a str,
+}
 
 /// How many characters of a file's name a page has, at most.
 const MOST: usize = 40;

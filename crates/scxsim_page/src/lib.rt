@@ -1,12 +1,11 @@
 //! The page of a run, which a browser shows without a network: what the two files say, each stretch of time in
-//! which a task ran or waited, in the order in which they end, and the code that draws them. A first way through
-//! the run counts the stretches, and a second one writes them.
+//! which a task ran or waited, in the order in which they end, and the code that draws them. Where there could be
+//! too many stretches, a first way through the run counts them; then one writes them.
 #![tactic(auto)]
 
 mod counting;
 mod courses;
 mod drafts;
-mod halves;
 mod heads;
 mod lines;
 mod queues;
@@ -14,7 +13,7 @@ mod stretches;
 mod tails;
 mod tasks;
 mod telling;
-mod template;
+mod ways;
 
-pub use drafts::Paths;
+pub use heads::Paths;
 pub use telling::view;

@@ -1,56 +1,162 @@
-use crate::stretches::{STRETCH_BYTES, Stretch};
-use arrayvec::ArrayVec;
-use base64::engine::general_purpose::STANDARD;
-use scxsim_views::{Line, Part};
+use crate::stretches::{End, NOTHING, Stretch};
 
-/// How many bytes are a line of a page, and how many letters that line has.
-const LINE_BYTES: usize = 3 * STRETCH_BYTES;
+/// How many stretches stand in a line of a page.
+const STRETCHES: usize = 3;
 
-const LINE_LETTERS: usize = 64;
+/// How many letters are written at once: those of 16 lines.
+const BLOCK: usize = 1040;
 
-/// Stretches that aren't a whole line yet.
+/// The letters of base64, in the order of their numbers.
+const LETTERS: [u8; 64] = *b"ABCDEFGHIJKLMNOPQRSTUVWXYZabcdefghijklmnopqrstuvwxyz0123456789+/";
+
+/// Stretches that aren't a line yet, and lines that aren't written yet.
 #[derive(Drop)]
 pub(crate) struct Lines {
-    bytes: ArrayVec<u8, LINE_BYTES>,
+    stretches: [Stretch; STRETCHES],
+    count: usize,
+    letters: [u8; BLOCK],
+    length: usize,
 }
 
 impl Lines {
     pub(crate) fn new() -> Lines {
         Lines {
-            bytes: ArrayVec::new(),
+            stretches: [NOTHING; STRETCHES],
+            count: 0,
+            letters: [0; BLOCK],
+            length: 0,
         }
     }
 
-    /// Adds a stretch. The answer is a line, if that is whole now.
-    pub(crate) fn add(&mut self, stretch: Stretch) -> Option<Line> {
-        // There is room, since a whole line is taken out at once.
-        let _ = self.bytes.try_extend_from_slice(&stretch.bytes());
-        if self.bytes.len() < LINE_BYTES {
-            return None;
+    /// Adds a stretch. What stands in it can be changed until the next one comes.
+    #[inline(always)]
+    pub(crate) fn add(&mut self, stretch: Stretch) {
+        if self.count >= STRETCHES {
+            self.end_line();
         }
-        self.take()
+        if let Some(place) = self.stretches.get_mut(self.count) {
+            *place = stretch;
+        }
+        self.count = self.count.saturating_add(1);
     }
 
-    /// The line of the stretches that are left, if some are.
-    pub(crate) fn take(&mut self) -> Option<Line> {
-        if self.bytes.is_empty() {
-            return None;
+    /// The task of the last stretch was parked.
+    pub(crate) fn park_last(&mut self) {
+        if let Some(last) = self.stretches.get_mut(self.count.saturating_sub(1)) {
+            last.end = End::Parked;
         }
-        let line = line_of(self.bytes.as_slice());
-        self.bytes.clear();
-        Some(line)
+    }
+
+    /// Whether there is no room for another line.
+    #[inline(always)]
+    pub(crate) fn is_full(&self) -> bool {
+        self.length >= BLOCK
+    }
+
+    /// The lines that aren't written yet.
+    pub(crate) fn letters(&self) -> &[u8] {
+        match self.letters.get(..self.length) {
+            Some(letters) => letters,
+            None => &[],
+        }
+    }
+
+    /// All lines were written.
+    pub(crate) fn clear(&mut self) {
+        self.length = 0;
+    }
+
+    /// Makes the last line, of the stretches that are left. It is shorter where they are fewer than three.
+    pub(crate) fn end(&mut self) {
+        let start = self.length;
+        let count = self.count;
+        self.fill_line();
+        self.end_line();
+        self.length = start;
+        match count {
+            0 => {}
+            1 => self.cut_line(22, "==\n"),
+            2 => self.cut_line(43, "=\n"),
+            _ => self.cut_line(64, "\n"),
+        }
+    }
+
+    /// Nothing stands in place of the stretches that a line lacks.
+    fn fill_line(&mut self) {
+        if self.count < 1 {
+            self.stretches[0] = NOTHING;
+        }
+        if self.count < 2 {
+            self.stretches[1] = NOTHING;
+        }
+        if self.count < 3 {
+            self.stretches[2] = NOTHING;
+        }
+    }
+
+    /// The last line has so many letters, and this end.
+    fn cut_line(&mut self, letters: usize, end: &str) {
+        self.length = self.length.saturating_add(letters);
+        self.push(end.as_bytes());
+    }
+
+    /// Makes a line of three stretches.
+    fn end_line(&mut self) {
+        for bits in self.numbers() {
+            self.push(&eight_letters(bits));
+        }
+        self.push(b"\n");
+        self.count = 0;
+    }
+
+    /// The 48 bytes of three stretches, six in each number. What stands above these doesn't count.
+    fn numbers(&self) -> [u64; 8] {
+        let first = self.stretches[0];
+        let second = self.stretches[1];
+        let third = self.stretches[2];
+        let (a, b) = (first.times(), first.rest());
+        let (c, d) = (second.times(), second.rest());
+        let (e, f) = (third.times(), third.rest());
+        [
+            a >> 16,
+            (a << 32) | (b >> 32),
+            (b << 16) | (c >> 48),
+            c,
+            d >> 16,
+            (d << 32) | (e >> 32),
+            (e << 16) | (f >> 48),
+            f,
+        ]
+    }
+
+    /// Appends letters, for which there is room.
+    #[inline(always)]
+    fn push(&mut self, letters: &[u8]) {
+        let end = self.length.saturating_add(letters.len());
+        if let Some(place) = self.letters.get_mut(self.length..end) {
+            place.copy_from_slice(letters);
+            self.length = end;
+        }
     }
 }
 
-/// The letters of these bytes, which are no more than a line has, and the end of the line.
-fn line_of(bytes: &[u8]) -> Line {
-    let mut letters = [0u8; LINE_LETTERS];
-    let mut text = Part::new();
-    if let Ok(count) = STANDARD.encode_slice(bytes, &mut letters) {
-        if let Some(Ok(letters)) = letters.get(..count).map(str::from_utf8) {
-            let _ = text.try_push_str(letters);
-        }
-    }
-    let _ = text.try_push_str("\n");
-    Line::nameless(text)
+/// The letters of six bytes, which stand in a number with the first one highest.
+#[inline(always)]
+fn eight_letters(bits: u64) -> [u8; 8] {
+    [
+        letter(bits >> 42),
+        letter(bits >> 36),
+        letter(bits >> 30),
+        letter(bits >> 24),
+        letter(bits >> 18),
+        letter(bits >> 12),
+        letter(bits >> 6),
+        letter(bits),
+    ]
+}
+
+/// The letter of the last six bits.
+#[inline(always)]
+fn letter(bits: u64) -> u8 {
+    LETTERS[(bits % 64) as usize]
 }

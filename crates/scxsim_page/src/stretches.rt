@@ -1,10 +1,7 @@
 use scxsim_charts::Window;
 
 /// What stands in a stretch in place of a processor where it is no run.
-const NOWHERE: u8 = 255;
-
-/// How many bytes a stretch has.
-pub(crate) const STRETCH_BYTES: usize = 16;
+pub(crate) const NOWHERE: u8 = 255;
 
 /// How a stretch ended.
 #[derive(Clone, Copy)]
@@ -67,19 +64,31 @@ impl Beginning {
 /// From one moment to another a task ran on a processor, or waited.
 #[derive(Clone, Copy)]
 pub(crate) struct Stretch {
-    pub(crate) task: u16,
     pub(crate) since: u64,
     pub(crate) until: u64,
-    /// Where it ran; none where it waited.
-    pub(crate) cpu: Option<u32>,
-    pub(crate) beginning: Beginning,
-    pub(crate) end: End,
+    pub(crate) task: u16,
     /// The number of the queue in which it waited, or from which it came.
     pub(crate) queue: u16,
+    /// The processor on which it ran.
+    pub(crate) place: u8,
+    pub(crate) beginning: Beginning,
+    pub(crate) end: End,
 }
+
+/// A stretch of no time, in place of one that isn't there.
+pub(crate) const NOTHING: Stretch = Stretch {
+    since: 0,
+    until: 0,
+    task: 0,
+    queue: 0,
+    place: 0,
+    beginning: Beginning::GoesOn,
+    end: End::RunOver,
+};
 
 impl Stretch {
     /// What of it lies in the window, if some does.
+    #[inline(always)]
     pub(crate) fn within(self, window: Window) -> Option<Stretch> {
         let since = self.since.max(window.from);
         let until = self.until.min(window.to);
@@ -98,38 +107,24 @@ impl Stretch {
         Some(part)
     }
 
-    /// How a page has it, low byte first: when it began and its length, of 4 bytes each, the task, of 2, the
-    /// processor, how it ended and began, the queue, of 2, and two that are 0.
-    pub(crate) fn bytes(self) -> [u8; STRETCH_BYTES] {
-        let since = low(self.since).to_le_bytes();
-        let length = low(self.until.saturating_sub(self.since)).to_le_bytes();
-        let task = self.task.to_le_bytes();
-        let queue = self.queue.to_le_bytes();
-        [
-            since[0],
-            since[1],
-            since[2],
-            since[3],
-            length[0],
-            length[1],
-            length[2],
-            length[3],
-            task[0],
-            task[1],
-            self.place(),
-            self.end.code() | self.beginning.code(),
-            queue[0],
-            queue[1],
-            0,
-            0,
-        ]
+    /// When it began and its length, as a page has them: 4 bytes each, low byte first. The first byte is the
+    /// highest one of the number.
+    #[inline(always)]
+    pub(crate) fn times(self) -> u64 {
+        let since = low(self.since).swap_bytes();
+        let length = low(self.until.saturating_sub(self.since)).swap_bytes();
+        (u64::from(since) << 32) | u64::from(length)
     }
 
-    fn place(self) -> u8 {
-        match self.cpu {
-            Some(cpu) => cpu.min(u32::from(NOWHERE)) as u8,
-            None => NOWHERE,
-        }
+    /// The rest of it: the task, of 2 bytes, the processor, how it ended and began, the queue, of 2, and two that
+    /// are 0.
+    #[inline(always)]
+    pub(crate) fn rest(self) -> u64 {
+        let why = self.end.code() | self.beginning.code();
+        (u64::from(self.task.swap_bytes()) << 48)
+            | (u64::from(self.place) << 40)
+            | (u64::from(why) << 32)
+            | (u64::from(self.queue.swap_bytes()) << 16)
     }
 }
 

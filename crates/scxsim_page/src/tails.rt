@@ -1,8 +1,7 @@
-use scx_sched::What;
-use scxsim_views::{Line, Part};
+use scxsim_views::Part;
 use std::fmt::Write;
 
-/// How many ids stand in a line.
+/// How many ids are written at once.
 const IDS: usize = 8;
 
 /// How the policy ended.
@@ -14,27 +13,8 @@ pub(crate) enum Ended {
 }
 
 impl Ended {
-    /// How it ended with this, if it did.
-    pub(crate) fn by(moment: u64, what: What) -> Option<Ended> {
-        match what {
-            What::Stall(task) => Some(Ended::Stall { moment, task }),
-            What::Fault(fault) => {
-                let number = fault.number();
-                Some(Ended::Fault { moment, number })
-            }
-            What::Wake(_)
-            | What::Sleep(_)
-            | What::Insert(_, _)
-            | What::Move(_, _)
-            | What::Run(_, _)
-            | What::Stop(_, _)
-            | What::Idle(_)
-            | What::Weight(_, _) => None,
-        }
-    }
-
     /// The beginning of what only the end of the run says, as JSON.
-    pub(crate) fn line(self) -> Line {
+    pub(crate) fn text(self) -> Part {
         let mut text = Part::new();
         let _ = text.try_push_str(
             "</script>\n<script id=\"tail\" type=\"application/json\">{\"ended\":{",
@@ -49,12 +29,12 @@ impl Ended {
             }
         };
         let _ = text.try_push_str("},\"queues\":[");
-        Line::nameless(text)
+        text
     }
 }
 
 /// The first ids of queues, or those behind them.
-pub(crate) fn ids_line(ids: &[u64], are_first: bool) -> Line {
+pub(crate) fn ids_text(ids: &[u64], are_first: bool) -> Part {
     let mut text = Part::new();
     for (number, id) in ids.iter().enumerate() {
         if (number < IDS) == are_first {
@@ -65,5 +45,5 @@ pub(crate) fn ids_line(ids: &[u64], are_first: bool) -> Line {
     if !are_first {
         let _ = text.try_push_str("]}</script>\n");
     }
-    Line::nameless(text)
+    text
 }

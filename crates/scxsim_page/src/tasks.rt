@@ -1,35 +1,33 @@
 use crate::queues::{LOCAL_NUMBER, NO_QUEUE, PARKED_NUMBER};
-use crate::stretches::{Beginning, End, Stretch};
+use crate::stretches::{Beginning, End, NOWHERE, Stretch};
 use std::alloc::{AllocError, Global};
 
-/// What a task does that isn't asleep.
+/// What a task does.
 #[derive(Clone, Copy)]
 enum Doing {
+    /// It sleeps, or it left its processor and is in no queue yet.
+    Neither,
     Waits { queue: u16 },
-    Runs { cpu: u32 },
-}
-
-/// What a task does, and since when.
-#[derive(Clone, Copy)]
-struct Stay {
-    doing: Doing,
-    since: u64,
+    Runs { place: u8 },
 }
 
 #[derive(Clone, Copy)]
 struct Task {
-    stay: Option<Stay>,
-    is_asleep: bool,
-    beginning: Beginning,
+    doing: Doing,
     /// The queue from which it came last.
     queue: u16,
+    beginning: Beginning,
+    is_asleep: bool,
+    /// When it began to do what it does.
+    since: u64,
 }
 
 const ASLEEP: Task = Task {
-    stay: None,
-    is_asleep: true,
-    beginning: Beginning::GoesOn,
+    doing: Doing::Neither,
     queue: NO_QUEUE,
+    beginning: Beginning::GoesOn,
+    is_asleep: true,
+    since: 0,
 };
 
 /// What each task does.
@@ -50,49 +48,55 @@ impl Tasks {
         if let Some(task) = self.tasks.get_mut(number as usize) {
             task.is_asleep = false;
             task.beginning = Beginning::Woke;
-            task.wait(moment, NO_QUEUE);
+            task.begin(moment, Doing::Waits { queue: NO_QUEUE });
         }
     }
 
     /// The task sleeps from now on. Where it runs, that it stops is noted behind.
+    #[inline(always)]
     pub(crate) fn sleep(&mut self, moment: u64, number: u16) -> Option<Stretch> {
         let task = self.tasks.get_mut(number as usize)?;
         task.is_asleep = true;
-        task.end_wait(number, moment, End::Slept)
+        task.waits_in()?;
+        task.end(number, moment, End::Slept)
     }
 
     /// The task comes to a queue.
+    #[inline(always)]
     pub(crate) fn enter(&mut self, moment: u64, number: u16, queue: u16) -> Option<Stretch> {
         let task = self.tasks.get_mut(number as usize)?;
         let before = task.waits_in();
-        if queue < LOCAL_NUMBER || before.is_none() || before == Some(NO_QUEUE) {
+        let is_new = match before {
+            Some(before) => before == NO_QUEUE,
+            None => true,
+        };
+        let stretch = task.leave(number, moment, before, queue);
+        if is_new || queue < LOCAL_NUMBER {
             task.queue = queue;
         }
-        let stretch = task.end_wait(number, moment, end_of_wait(before, queue));
-        if before == Some(PARKED_NUMBER) {
-            task.beginning = Beginning::WasLetGo;
-        }
-        task.wait(moment, queue);
+        task.begin(moment, Doing::Waits { queue });
         stretch
     }
 
-    pub(crate) fn run(&mut self, moment: u64, number: u16, cpu: u32) -> Option<Stretch> {
+    #[inline(always)]
+    pub(crate) fn run(&mut self, moment: u64, number: u16, place: u8) -> Option<Stretch> {
         let task = self.tasks.get_mut(number as usize)?;
-        let stretch = task.end_wait(number, moment, End::Ran);
-        task.stay = Some(Stay {
-            doing: Doing::Runs { cpu },
-            since: moment,
-        });
+        let stretch = match task.waits_in() {
+            Some(_) => task.end(number, moment, End::Ran),
+            None => None,
+        };
+        task.begin(moment, Doing::Runs { place });
         stretch
     }
 
     /// The task leaves its processor. Whether it was parked isn't known yet.
+    #[inline(always)]
     pub(crate) fn stop(&mut self, moment: u64, number: u16) -> Option<Stretch> {
         let task = self.tasks.get_mut(number as usize)?;
         if task.is_asleep {
-            return task.end_stay(number, moment, End::Slept);
+            return task.end(number, moment, End::Slept);
         }
-        let stretch = task.end_stay(number, moment, End::Stopped);
+        let stretch = task.end(number, moment, End::Stopped);
         task.beginning = Beginning::WasStopped;
         stretch
     }
@@ -100,59 +104,72 @@ impl Tasks {
     /// The run of the workload ends.
     pub(crate) fn end(&mut self, moment: u64, number: u16) -> Option<Stretch> {
         let task = self.tasks.get_mut(number as usize)?;
-        task.end_stay(number, moment, End::RunOver)
+        task.end(number, moment, End::RunOver)
     }
 }
 
 impl Task {
-    fn wait(&mut self, moment: u64, queue: u16) {
-        self.stay = Some(Stay {
-            doing: Doing::Waits { queue },
-            since: moment,
-        });
+    #[inline(always)]
+    fn begin(&mut self, moment: u64, doing: Doing) {
+        self.doing = doing;
+        self.since = moment;
     }
 
     /// The queue in which it waits, if it waits.
+    #[inline(always)]
     fn waits_in(&self) -> Option<u16> {
-        let stay = self.stay?;
-        match stay.doing {
+        match self.doing {
             Doing::Waits { queue } => Some(queue),
-            Doing::Runs { .. } => None,
+            Doing::Neither | Doing::Runs { .. } => None,
         }
     }
 
-    fn end_wait(&mut self, number: u16, moment: u64, end: End) -> Option<Stretch> {
-        self.waits_in()?;
-        self.end_stay(number, moment, end)
+    /// Ends the wait in the queue in which it waited before, if it did, as it comes to another.
+    #[inline(always)]
+    fn leave(
+        &mut self,
+        number: u16,
+        moment: u64,
+        before: Option<u16>,
+        queue: u16,
+    ) -> Option<Stretch> {
+        let before = before?;
+        let stretch = self.end(number, moment, end_of_wait(before, queue));
+        if before == PARKED_NUMBER {
+            self.beginning = Beginning::WasLetGo;
+        }
+        stretch
     }
 
     /// Ends what it does. There is no stretch of no time.
-    fn end_stay(&mut self, number: u16, moment: u64, end: End) -> Option<Stretch> {
-        let Stay { doing, since } = self.stay.take()?;
-        if moment <= since {
+    #[inline(always)]
+    fn end(&mut self, number: u16, moment: u64, end: End) -> Option<Stretch> {
+        let (place, queue) = match self.doing {
+            Doing::Neither => return None,
+            Doing::Waits { queue } => (NOWHERE, queue),
+            Doing::Runs { place } => (place, self.queue),
+        };
+        self.doing = Doing::Neither;
+        if moment <= self.since {
             return None;
         }
-        let (cpu, queue) = match doing {
-            Doing::Waits { queue } => (None, queue),
-            Doing::Runs { cpu } => (Some(cpu), self.queue),
-        };
         let beginning = self.beginning;
         self.beginning = Beginning::GoesOn;
         Some(Stretch {
-            task: number,
-            since,
+            since: self.since,
             until: moment,
-            cpu,
+            task: number,
+            queue,
+            place,
             beginning,
             end,
-            queue,
         })
     }
 }
 
-/// How the wait of a task ends that comes to a queue.
-fn end_of_wait(before: Option<u16>, queue: u16) -> End {
-    if before == Some(PARKED_NUMBER) {
+/// How the wait of a task ends that comes to another queue.
+fn end_of_wait(before: u16, queue: u16) -> End {
+    if before == PARKED_NUMBER {
         End::LetGo
     } else if queue == PARKED_NUMBER {
         End::Parked

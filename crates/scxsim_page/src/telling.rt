@@ -3,18 +3,20 @@ ghost use Rattle.std.specs.Io.KnownBytes.{Appends};
 ghost use Rattle.scxsim_output.specs.Output.{HasFailed};
 ghost use Rattle.scxsim_commands.specs.Outcome.{IfRefused, IsRefused};
 ghost use Rattle.scxsim_commands.specs.declared.refusal.Refusal.TheVariants.{NoMemory};
+ghost use Rattle.scx_load_driver.specs.Driver.{remaining};
+ghost use Rattle.scx_load_driver.specs.Events.{workload_events};
 ghost use Rattle.scxsim_charts.specs.Windows.{IsBadSpan};
 ghost use Rattle.scxsim_simulation.specs.Runs.{IsCause};
-ghost use Rattle.scxsim_page.specs.Pages.{page, IsTooLarge, IsPageCause};
+ghost use Rattle.scxsim_page.specs.Pages.{page, IsPast, HasTooMany, IsPageCause};
 
 use crate::counting::count_stretches;
-use crate::drafts::{Draft, Paths};
-use crate::halves::Half;
-use crate::template::{CODE, TOP};
+use crate::drafts::{Draft, write_run};
+use crate::heads::Paths;
+use crate::ways::{OneWay, Way};
+use scx_load_workloads::Workload;
 use scxsim_charts::{Span, Window};
 use scxsim_commands::{Fault, MOST_STRETCHES, Refusal};
 use scxsim_output::Out;
-use scxsim_pictures::write_document;
 use scxsim_simulation::{Listener, Run, prepare};
 use std::alloc::Global;
 
@@ -48,7 +50,7 @@ pub fn view<L: Listener, W: Out>(
     write_page(alloc, paths, policy, workload, window, listener, out)
 }
 
-/// Goes through the run the second time, and writes the page of what lies in the window.
+/// Goes through the run, and writes the page of what lies in the window.
 fn write_page<L: Listener, W: Out>(
     alloc: Global,
     paths: Paths<'_>,
@@ -68,14 +70,12 @@ fn write_page<L: Listener, W: Out>(
 {
     let run = prepare(alloc, policy, workload)?;
     let draft = Draft::new(alloc, paths, &run.workload, window);
-    let mut half = Half {
-        listener,
-        is_second: true,
-    };
-    write_document(run, draft, TOP, CODE, &mut half, out)
+    let way = last_way(&run.workload, window);
+    let mut one_way = OneWay { listener, way };
+    write_run(run, draft, &mut one_way, out)
 }
 
-/// Goes through the run the first time, and answers the part of it that the page shows. It fits the page.
+/// The part of the run that the page shows. It fits the page.
 #[tactic(auto, using(crate::proofs::Refusing::cause_of_run))]
 fn window_of_texts<L: Listener>(
     alloc: Global,
@@ -91,14 +91,17 @@ fn window_of_texts<L: Listener>(
 }
 
 /// The same of this run.
+#[tactic(auto, using(crate::proofs::Refusing::too_many_of))]
 fn window_of_run<L: Listener>(
     alloc: Global,
     run: Run,
     span: Option<Span<'_>>,
     listener: &mut L,
 ) -> Result<Window, Refusal>
+    requires { remaining run.driver run.sim ≡ workload_events run.workload run.sim }
     ensures { IfErr result (λ refusal. (refusal ≡ NoMemory)
-        ⊎ IsBadSpan run.workload.ms span.entry refusal ⊎ IsTooLarge refusal) }
+        ⊎ IsBadSpan run.workload.ms span.entry refusal
+        ⊎ HasTooMany run.workload run.sim span.entry refusal) }
 {
     match Window::of(span, run.workload.ms()) {
         Ok(window) => fitting(alloc, run, window, listener),
@@ -109,23 +112,57 @@ fn window_of_run<L: Listener>(
     }
 }
 
-/// The window, if what lies in it of this run fits a page.
+/// The window, if what lies in it of this run fits a page. Where it may not, that is counted.
 fn fitting<L: Listener>(
     alloc: Global,
     run: Run,
     window: Window,
     listener: &mut L,
 ) -> Result<Window, Refusal>
-    ensures { IfErr result (λ refusal. (refusal ≡ NoMemory) ⊎ IsTooLarge refusal) }
+    requires { remaining run.driver run.sim ≡ workload_events run.workload run.sim }
+    ensures { IfErr result (λ refusal. (refusal ≡ NoMemory)
+        ⊎ IsPast window run.workload run.sim refusal) }
 {
-    let mut half = Half {
-        listener,
-        is_second: false,
-    };
-    let count = count_stretches(alloc, run, window, &mut half)?;
+    if surely_fits(&run.workload, window) {
+        drop(run);
+        Ok(window)
+    } else {
+        counted(alloc, run, window, listener)
+    }
+}
+
+/// The same, where it is counted.
+fn counted<L: Listener>(
+    alloc: Global,
+    run: Run,
+    window: Window,
+    listener: &mut L,
+) -> Result<Window, Refusal>
+    requires { remaining run.driver run.sim ≡ workload_events run.workload run.sim }
+    ensures { IfErr result (λ refusal. (refusal ≡ NoMemory)
+        ⊎ IsPast window run.workload run.sim refusal) }
+{
+    let way = Way::First;
+    let mut one_way = OneWay { listener, way };
+    let count = count_stretches(alloc, run, window, &mut one_way)?;
     if count > MOST_STRETCHES {
         Err(Refusal::TooManyStretches(count))
     } else {
         Ok(window)
     }
+}
+
+/// The way on which the page is written.
+fn last_way(workload: &Workload, window: Window) -> Way {
+    if surely_fits(workload, window) {
+        Way::Only
+    } else {
+        Way::Second
+    }
+}
+
+/// Whether a page holds whatever the tasks do: each of them has at most one stretch for each millisecond.
+fn surely_fits(workload: &Workload, window: Window) -> bool {
+    let length = window.to.saturating_sub(window.from);
+    length.saturating_mul(workload.tasks().len() as u64) <= MOST_STRETCHES
 }

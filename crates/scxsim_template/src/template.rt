@@ -99,6 +99,9 @@ const WHY_RUN = [\"the run was over\", \"it was stopped: its slice was used up a
 \"its group had used its quota, and it was parked\", \"\", \"\", \"\", \"this part of the run was over\"];\n\
 const WHY_WAIT = [\"the run was over\", \"\", \"it went to sleep\", \"it was parked\", \"it ran\", \"it went to another queue\",\n\
 \"its group had a new period\", \"this part of the run was over\"];\n\
+const FAULTS = [\"the callback can't go on\", \"no such queue\", \"the task can't be inserted here, or not a second time\",\n\
+\"by virtual time and in order of arrival into one queue\", \"by virtual time into a queue of the machine\", \"no such processor\",\n\
+\"flags other than 0 and 1\", \"the queue can't be created\"];\n\
 const BEGAN = [\"\", \"it woke\", \"it was stopped\", \"it was let go\"];\n\
 const element = (id) => document.getElementById(id);\n\
 const text = (id) => element(id).textContent;\n\
@@ -323,7 +326,7 @@ const waitedUntil = ({ someWaited, duration }, time) => gridUntil({ cell: 1, cel
 function queueName(run, queue) {\n\
 if (queue < GLOBAL) return \"queue \" + (run.queues[queue] ?? queue);\n\
 if (queue >= LOCAL && queue < LOCAL + 64) return \"local queue of processor \" + (queue - LOCAL);\n\
-return { [GLOBAL]: \"the queue of all processors\", [HELD]: \"held by the policy\", [BUILTIN]: \"the built-in scheduler's queue\",\n\
+return { [GLOBAL]: \"the global queue\", [HELD]: \"held by the policy\", [BUILTIN]: \"the built-in scheduler's queue\",\n\
 [PARKED]: \"parked: its group's quota is used up\" }[queue] ?? \"no queue\";\n\
 }\n\
 \n\
@@ -347,10 +350,10 @@ return found.sort((a, b) => b.ran - a.ran);\n\
 /* ---------- colours and patterns ---------- */\n\
 // Okabe and Ito's colours; vermillion is kept for what is wrong. Letters on a task's colour are white or black.\n\
 const LIGHT = { paper: \"#ffffff\", ink: \"#1b1f24\", faint: \"#6a7178\", line: \"#d9dde1\", band: \"#f3f5f7\", wrong: \"#d55e00\", wrongPaper: \"#ffffff\",\n\
-wait: \"#7d858d\", waitPaper: \"#e4e7ea\", parked: \"#8a6d00\", parkedPaper: \"#f6e9b2\", several: \"#4d5a68\",\n\
+wait: \"#7d858d\", waitPaper: \"#d9dee3\", parked: \"#8a6d00\", parkedPaper: \"#f6e9b2\", several: \"#4d5a68\",\n\
 tasks: [\"#0072b2\", \"#e69f00\", \"#009e73\", \"#56b4e9\", \"#cc79a7\", \"#f0e442\"], inks: \"wbwbwb\" };\n\
 const DARK = { paper: \"#14171b\", ink: \"#e8eaed\", faint: \"#9aa3ab\", line: \"#343a41\", band: \"#1c2025\", wrong: \"#ff7a1a\", wrongPaper: \"#14171b\",\n\
-wait: \"#98a2ac\", waitPaper: \"#2b3138\", parked: \"#e6c84a\", parkedPaper: \"#4a4013\", several: \"#a3b1c0\",\n\
+wait: \"#98a2ac\", waitPaper: \"#363e47\", parked: \"#e6c84a\", parkedPaper: \"#4a4013\", several: \"#a3b1c0\",\n\
 tasks: [\"#3d97d8\", \"#e69f00\", \"#1fb58a\", \"#8fd0f5\", \"#dd94bd\", \"#f0e442\"], inks: \"wbbbbb\" };\n\
 const SHADES = 32;\n\
 \n\
@@ -571,7 +574,7 @@ before = line;\n\
 fill(offset, offset + width, y + tall, y + tall + thick, palette.line);\n\
 }\n\
 \n\
-// All processors together, where they are folded: how much of their time was used, hatched where some were idle and others waited.\n\
+// All processors together, where they are folded: how much of their time was used, hatched where some were idle while somebody waited.\n\
 function drawAllProcessors(y, tall) {\n\
 const { sums, processors, duration } = run, offset = plotLeft(), width = plotWidth(), step = perPixel();\n\
 clearBands();\n\
@@ -674,13 +677,12 @@ write((row.key ? foldMark(row) : \"\") + row.name, 6, y + 13, ink, 12, 600);\n\
 if (!row.folded) return;\n\
 const idle = run.idle.reduce((sum, one) => sum + one, 0) / all;\n\
 write(\"busy \" + percent(run.cpuBefore[run.cpuFrom.length] / all), 18, y + 29, faint, 11);\n\
-if (idle > 0) write(\"idle, others wait \" + percent(idle), 18, y + 44, wrong, 11, 400, left() - 22);\n\
+if (idle > 0) write(\"idle, somebody waits \" + percent(idle), 18, y + 44, wrong, 11, 400, left() - 22);\n\
 },\n\
 cpu({ number, high }, y) {\n\
 const { ink, wrong } = palette.names, idle = run.idle[number], told = high >= 28 && idle > 0, isThin = high < 12;\n\
 if (!isThin || number % 4 === 0) write(\"cpu \" + number, 12, y + high / 2 - (told ? 6 : 0), ink, isThin ? 10 : 12);\n\
-const words = (view.wide ? \"idle while others wait: \" : \"idle: \") + timeText(idle);\n\
-if (told) write(words, 12, y + high / 2 + 8, wrong, 11, 400, left() - 16);\n\
+if (told) write((view.wide ? \"idle, somebody waits: \" : \"idle: \") + timeText(idle), 12, y + high / 2 + 8, wrong, 11, 400, left() - 16);\n\
 },\n\
 group(row, y) {\n\
 const group = run.groups[row.number], { ink, faint, wrong } = palette.names, x = indent(row), room = left() - 10 - x;\n\
@@ -761,7 +763,7 @@ write(\"Time\", 6, AXIS - 12, ink, 11, 600);\n\
 function endedWords() {\n\
 const { how, at, task, code } = run.ended;\n\
 if (at === undefined) return \"in force to the end\";\n\
-return \"ejected at \" + momentText(at) + \": \" + (how === \"stall\" ? \"stall of \" + run.tasks[task].name : \"fault \" + code);\n\
+return \"ejected at \" + momentText(at) + \": \" + (how === \"stall\" ? \"stall of \" + run.tasks[task].name : \"fault \" + code + \" (\" + FAULTS[code] + \")\");\n\
 }\n\
 \n\
 function drawEjection(offset, wide, high) {\n\
@@ -955,7 +957,7 @@ const tasks = run.tasks.map((task, number) =>\n\
 fillTable(element(\"tasks\"), [\"task\", \"run ms\", \"waited ms\", \"longest\"], tasks, (name) => find(name));\n\
 const busy = run.idle.map((_, cpu) => total(run.cpuBefore, run.cpuStart, cpu));\n\
 const cpus = busy.map((ran, cpu) => [String(cpu), ran, run.duration - ran, run.idle[cpu]]);\n\
-fillTable(element(\"cpus\"), [\"cpu\", \"busy ms\", \"idle ms\", \"of it others waited\"], cpus);\n\
+fillTable(element(\"cpus\"), [\"cpu\", \"busy ms\", \"idle ms\", \"of it somebody waited\"], cpus);\n\
 for (const wait of run.worst.slice(0, 5)) {\n\
 const words = wait.length + \" ms \" + run.tasks[wait.task].name + \", from \" + momentText(wait.from);\n\
 const button = node(\"button\", words, node(\"li\", \"\", element(\"waits\")), { type: \"button\", class: wait.alarming ? \"wrong\" : \"\" });\n\
@@ -1051,8 +1053,7 @@ const KEYS = {\n\
 ArrowLeft: () => pan(-0.15), ArrowRight: () => pan(0.15), ArrowUp: () => moveRow(-1), ArrowDown: () => moveRow(1),\n\
 PageUp: () => moveRow(-12), PageDown: () => moveRow(12), \"+\": () => zoom(0.6), \"=\": () => zoom(0.6), \"-\": () => zoom(1 / 0.6),\n\
 Home: () => showFrom(0), End: () => showFrom(run.duration), 0: () => show(0, run.duration), \",\": () => step(-1), \".\": () => step(1),\n\
-Enter: enter,\n\
-\"/\": () => element(\"search\").focus(), Escape: () => { view.chosen = null; redraw(); },\n\
+Enter: enter, \"/\": () => element(\"search\").focus(), Escape: () => { view.chosen = null; redraw(); },\n\
 };\n\
 \n\
 function enter() {\n\
@@ -1114,7 +1115,7 @@ const paintBoxes = (brush, boxes) => boxes.forEach(([fillStyle, ...box]) => Obje
 \n\
 // The triangle of a wake, a line a box.\n\
 const WAKE = Array.from({ length: 10 }, (_, y) => [15 - (y >> 1), 2 + y, 2 * (y >> 1) + 1, 1]);\n\
-const WAIT_WORDS = { [HELD]: \"held by the policy\", [GLOBAL]: \"waits in the queue of all\", [BUILTIN]: \"waits for the built-in scheduler\" };\n\
+const WAIT_WORDS = { [HELD]: \"held by the policy\", [GLOBAL]: \"waits in the global queue\", [BUILTIN]: \"waits for the built-in scheduler\" };\n\
 \n\
 // What the legend says, each with what paints its swatch. A queue is in it where somebody waited there.\n\
 function legendItems() {\n\
@@ -1127,7 +1128,7 @@ const queues = [...used].filter((queue) => queue < LOCAL && queue !== PARKED).so
 for (const queue of queues.slice(0, 8)) add(WAIT_WORDS[queue] ?? \"waits in \" + queueName(run, queue), tileOf(queue), \"wait\");\n\
 if ([...used].some(isLocal)) add(\"waits in a processor's own queue\", tileOf(LOCAL), \"wait\");\n\
 if (used.has(PARKED)) add(\"parked: quota used up\", tileOf(PARKED), \"parked\");\n\
-add(\"idle although somebody waits\", WRONG_TILE, \"wrong\");\n\
+if (run.idle.some((ms) => ms > 0)) add(\"idle while somebody waits\", WRONG_TILE, \"wrong\");\n\
 items.push([\"wakes\", (brush) => paintBoxes(brush, WAKE.map((box) => [names.ink, ...box]))]);\n\
 if (run.groups.length > 1) items.push([shareWords(), (brush) => {\n\
 paintBoxes(brush, [[names.tasks[3], 0, 8, 30, 6], [names.ink, 0, 3, 30, 1]]);\n\
