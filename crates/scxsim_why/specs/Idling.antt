@@ -1,6 +1,7 @@
 -- When processors are idle while somebody waits: what is kept of it as the events and notes of
 -- a run come.
-use Rattle.std.specs.Prelude.{ℕ, zero, suc, ◌≡◌, ◌==◌, ◌&&◌, ◌||◌, if◌then◌else◌, not, Bool, false, List, length, replicate, Option, Some, None, is_some, slice_index_or, slice_set}
+use Rattle.std.specs.Prelude.{ℕ, ◌≡◌, ◌==◌, ◌&&◌, if◌then◌else◌, not, Bool, false, List, length, replicate, Option, Some, None, is_some, slice_index_or, slice_set}
+use Rattle.std.specs.List.{list_any}
 use Rattle.scx_sched_world.specs.declared.notes.What.{What}
 use Rattle.scx_sched_world.specs.World.{running}
 use Rattle.scx_sched_machine.specs.declared.events.Event.{Event}
@@ -9,35 +10,22 @@ use Rattle.scx_sched.specs.Sim.{SimState}
 use Rattle.scx_load_driver.specs.Events.{workload_events}
 use Rattle.scx_load_workloads.specs.Workload.{WorkloadState}
 use Rattle.scxsim_simulation.specs.Runs.{IsRun}
-use Rattle.scxsim_statistics.specs.Figures.{is_wait}
 use Rattle.scxsim_statistics.specs.Lengths.{up}
 use Rattle.scxsim_views.specs.declared.pauses.Doing.{Doing}
 use Rattle.scxsim_views.specs.declared.pauses.Doing.TheVariants.{Sleeps}
-use Rattle.scxsim_views.specs.declared.pauses.Pause.{Pause}
-use Rattle.scxsim_views.specs.Pauses.{doing_after, open_pause}
+use Rattle.scxsim_views.specs.Pauses.{waits, doing_after}
 use Rattle.scxsim_views.specs.Watching.{kept_of_all}
 use Rattle.scxsim_why.specs.declared.finding.IdleFigures.{IdleFigures}
 
--- how many tasks there are and what each does, whether one waited as the ticks of the millisecond at
+-- what each task does, whether one waited as the ticks of the millisecond at
 -- hand began, since when each processor has been idle while one did, how often that began, and for
 -- how many milliseconds in all
 pub record Idle : Type 0 where
-  pub tasks : ℕ
   pub doing : List Doing
   pub waited : Bool
   pub since : List (Option ℕ)
   pub count : ℕ
   pub lost : ℕ
-
--- there is a pause, and it is a wait for a processor; a parked task doesn't wait
-abbrev pub is_a_wait : Option Pause → Bool
-is_a_wait None = false
-is_a_wait (Some p) = is_wait p
-
--- one of the first so many tasks waits
-abbrev pub some_waits : ℕ → List Doing → Bool
-some_waits zero ds = false
-some_waits (suc t) ds = some_waits t ds || is_a_wait (open_pause 0 ds t)
 
 -- since when that processor has been idle while somebody waited, if it has
 abbrev pub since_at : List (Option ℕ) → ℕ → Option ℕ
@@ -45,7 +33,7 @@ since_at xs c = slice_index_or xs c None
 
 -- the ticks of a millisecond begin with that of the first processor: who waits then waited in it
 abbrev pub ticks_begin : ℕ → Idle → Idle
-ticks_begin c k = if c == 0 then record k { waited = some_waits k.tasks k.doing } else k
+ticks_begin c k = if c == 0 then record k { waited = list_any waits k.doing } else k
 
 -- a processor is idle for a millisecond while somebody waits: a stretch goes on, or begins
 abbrev pub one_lost : ℕ → ℕ → Idle → Idle
@@ -78,7 +66,6 @@ idle_after_note clock what k = record k { doing = doing_after clock what k.doing
 -- what is kept before a run
 abbrev pub none_idle : ℕ → ℕ → Idle
 none_idle tasks cpus = record {
-  tasks = tasks;
   doing = replicate tasks Sleeps;
   waited = false;
   since = replicate cpus None;

@@ -8,14 +8,15 @@ use crate::ending::{Cause, Ejection};
 use crate::halves::Half;
 use crate::watching::Account;
 use crate::worst::worst_of;
+use scx_load_policies::{Programs, read_policy};
 use scx_load_workloads::Workload;
 use scx_sched::Sim;
+use scxsim_calls::watch_calls;
 use scxsim_commands::Refusal;
 use scxsim_faults::{FaultPlace, find_fault};
 use scxsim_simulation::{Heard, Listener, Run, give_back, prepare};
 use scxsim_statistics::{Figures, figures};
 use scxsim_trace::Events;
-use scxsim_views::watch;
 use std::alloc::{AllocError, Global};
 
 /// What was found out of a run.
@@ -27,6 +28,8 @@ pub struct Findings {
     pub(crate) account: Account,
     /// Where the fault came for which the policy was ejected.
     pub(crate) fault: Option<FaultPlace>,
+    /// The programs of the policy.
+    pub(crate) programs: Programs,
 }
 
 /// How processors were idle while a task waited for one.
@@ -58,12 +61,22 @@ pub fn examine<L: Listener>(
     let account = second_half(alloc, &figures, run, listener)?;
     let idle = account.idling.figures();
     let fault = fault_of(alloc, policy, &figures.workload, account.ejection)?;
+    let programs = programs_of(alloc, policy)?;
     Ok(Findings {
         figures,
         idle,
         account,
         fault,
+        programs,
     })
+}
+
+/// The programs of a policy file that was read before, so that only memory may run out.
+fn programs_of(alloc: Global, policy: &str) -> Result<Programs, AllocError> {
+    match read_policy(alloc, policy) {
+        Ok(text) => Ok(text.into_programs()),
+        Err(_) => Err(AllocError),
+    }
 }
 
 /// Where the fault came, if the policy was ejected for one.
@@ -154,7 +167,7 @@ fn account_from<E: Events>(
 {
     let worst = worst_of(alloc, figures)?;
     let mut account = Account::new(alloc, sim, worst.as_slice())?;
-    watch(sim, events, &mut account);
+    watch_calls(sim, events, &mut account);
     account.result?;
     account.end(sim);
     Ok(account)

@@ -1,9 +1,7 @@
 ghost use Rattle.std.specs.Prelude.{◌≡◌, is_some, is_none, slice_set, IfOk};
 ghost use Rattle.scx_sched_world.specs.World.{running};
-ghost use Rattle.scxsim_views.specs.Pauses.{open_pause};
 ghost use Rattle.scxsim_statistics.specs.Figures.{is_wait_kind};
-ghost use Rattle.scxsim_why.specs.Idling as idling;
-ghost use Rattle.scxsim_why.specs.Idling.{none_idle, is_a_wait, since_at, ticks_begin, one_lost, closed, ticked, idle_after_event, idle_after_note, figures_of};
+ghost use Rattle.scxsim_why.specs.Idling.{none_idle, since_at, ticks_begin, one_lost, closed, ticked, idle_after_event, idle_after_note, figures_of};
 
 use crate::finding::IdleFigures;
 use crate::worst::LongWait;
@@ -30,7 +28,6 @@ impl Stretch {
 #[derive(Drop)]
 pub(crate) struct Idling {
     pub(crate) pauses: Pauses,
-    tasks: u16,
     /// Whether somebody waited as the ticks of the millisecond at hand began.
     waited: bool,
     /// Since when each processor has been idle while somebody waited.
@@ -47,7 +44,6 @@ impl Model for Idling {
     ghost Value = { Idle };
 
     ghost view = { λ i. record {
-      tasks = i.tasks;
       doing = i.pauses;
       waited = i.waited;
       since = i.since.items;
@@ -63,7 +59,6 @@ impl Idling {
     {
         Ok(Idling {
             pauses: Pauses::new(alloc, tasks as usize)?,
-            tasks,
             waited: false,
             since: vec![in alloc; None; cpus as usize]?,
             count: 0,
@@ -113,7 +108,7 @@ impl Idling {
         ensures { self.new ≡ ticks_begin cpu self.old }
     {
         if cpu == 0 {
-            self.waited = some_waits(&self.pauses, self.tasks);
+            self.waited = self.pauses.somebody_waits();
         }
     }
 
@@ -153,21 +148,8 @@ fn set(since: &mut Vec<Option<u64>>, cpu: u32, value: Option<u64>)
     }
 }
 
-/// Whether one of so many tasks waits for a processor.
-fn some_waits(pauses: &Pauses, tasks: u16) -> bool
-    ensures { result ≡ idling.some_waits tasks pauses.now }
-{
-    let mut found = false;
-    for task in 0..tasks {
-        found = found || waits(pauses, task);
-    }
-    found
-}
-
 /// Whether the task waits for a processor. One that is parked doesn't.
-pub(crate) fn waits(pauses: &Pauses, task: u16) -> bool
-    ensures { result ≡ is_a_wait (open_pause 0 pauses.now task) }
-{
+pub(crate) fn waits(pauses: &Pauses, task: u16) -> bool {
     match pauses.open_pause(task, 0) {
         Some(pause) => is_wait(pause.kind),
         None => false,

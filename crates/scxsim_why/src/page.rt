@@ -1,16 +1,15 @@
 use crate::ending::{Cause, Ejection};
 use crate::finding::Findings;
-use crate::queues::QueueFigures;
-use crate::recent::Recent;
+use crate::parts::{write_calls, write_last_lines, write_queues, write_stretches, write_waits};
+use crate::runners::{runners, write_ran};
 use crate::stretches::Seen;
 use crate::waits::Meanwhile;
 use crate::watching::Account;
 use crate::words::Count;
 use scx_load_workloads::Workload;
-use scx_sched::{Event, Fault, Sink};
+use scx_sched::{Event, Fault};
 use scxsim_faults::{FaultPlace, write_call, write_policy_queues, write_reason};
-use scxsim_output::Counted;
-use scxsim_trace::{Names, Trace};
+use scxsim_trace::Names;
 use scxsim_views::{QueueName, fault_words};
 use std::alloc::{AllocError, Global};
 
@@ -23,14 +22,15 @@ pub(crate) fn write_page(
     let account = &found.account;
     let workload = &found.figures.workload;
     write_ending(workload, account.ejection, found.fault, page)?;
-    write_worst(found, page)?;
+    write_worst(alloc, found, page)?;
     write_idle(found, page)?;
     write_undrained(account, page)?;
     write_never(found, page)?;
     write_last_lines(alloc, workload, account, page)?;
-    write_waits(found, page)?;
+    write_waits(alloc, found, page)?;
     write_stretches(found, page)?;
-    write_queues(account, page)
+    write_calls(found, page)?;
+    write_queues(found, page)
 }
 
 // The lines at the top.
@@ -112,7 +112,7 @@ fn write_event(workload: &Workload, event: Event, page: &mut String) -> Result<(
 }
 
 /// Who waited longest, where, and who ran meanwhile.
-fn write_worst(found: &Findings, page: &mut String) -> Result<(), AllocError> {
+fn write_worst(alloc: Global, found: &Findings, page: &mut String) -> Result<(), AllocError> {
     let workload = &found.figures.workload;
     let Some(wait) = found.account.waits.waits.as_slice().first() else {
         return page.push_str("no task waited\n");
@@ -120,11 +120,15 @@ fn write_worst(found: &Findings, page: &mut String) -> Result<(), AllocError> {
     write_wait(workload, wait, page)?;
     write_places(wait, page)?;
     page.push_str("; meanwhile")?;
-    write_runners(workload, wait, page)?;
+    write_runners(alloc, workload, wait, page)?;
     page.push_str("\n")
 }
 
-fn write_wait(workload: &Workload, told: &Meanwhile, page: &mut String) -> Result<(), AllocError> {
+pub(crate) fn write_wait(
+    workload: &Workload,
+    told: &Meanwhile,
+    page: &mut String,
+) -> Result<(), AllocError> {
     let name = workload.task(told.wait.task);
     let length = told.wait.length;
     let since = told.wait.since;
@@ -145,19 +149,13 @@ fn write_places(wait: &Meanwhile, page: &mut String) -> Result<(), AllocError> {
 
 /// Writes for how long each task ran during a wait.
 fn write_runners(
+    alloc: Global,
     workload: &Workload,
     wait: &Meanwhile,
     page: &mut String,
 ) -> Result<(), AllocError> {
-    let mut before = " ";
-    for task in 0..tasks_of(workload) {
-        let ms = wait.ran(workload.cpus(), Some(task));
-        if 0 < ms {
-            let name = workload.task(task);
-            write!(page, "{before}{name} ran {ms} ms")?;
-            before = ", ";
-        }
-    }
+    let ran = runners(alloc, workload, wait, None)?;
+    let before = write_ran(workload, ran.as_slice(), page)?;
     let idle = wait.ran(workload.cpus(), None);
     if 0 < idle {
         write!(page, "{before}processors were idle for {idle} ms")?;
@@ -165,7 +163,7 @@ fn write_runners(
     Ok(())
 }
 
-fn tasks_of(workload: &Workload) -> u16 {
+pub(crate) fn tasks_of(workload: &Workload) -> u16 {
     u16::try_from(workload.tasks().len()).unwrap_or(u16::MAX)
 }
 
@@ -176,10 +174,15 @@ fn write_idle(found: &Findings, page: &mut String) -> Result<(), AllocError> {
     };
     let lost = found.idle.lost;
     write!(page, "idle while tasks waited: {lost} ms in all; ")?;
-    write_stretch(workload, longest, page)
+    write_stretch(workload, longest, page)?;
+    page.push_str("\n")
 }
 
-fn write_stretch(workload: &Workload, seen: &Seen, page: &mut String) -> Result<(), AllocError> {
+pub(crate) fn write_stretch(
+    workload: &Workload,
+    seen: &Seen,
+    page: &mut String,
+) -> Result<(), AllocError> {
     let stretch = seen.stretch;
     let length = stretch.length();
     write!(
@@ -187,7 +190,7 @@ fn write_stretch(workload: &Workload, seen: &Seen, page: &mut String) -> Result<
         "processor {} for {} ms from {} to {}",
         stretch.cpu, length, stretch.since, stretch.until
     )?;
-    if let Some(stander) = seen.stander {
+    if let Some(stander) = seen.beginning.stander {
         let name = workload.task(stander.task);
         write!(page, ", as {name} waited")?;
         if let Some(queue) = stander.queue {
@@ -195,7 +198,7 @@ fn write_stretch(workload: &Workload, seen: &Seen, page: &mut String) -> Result<
             write!(page, " in {queue}")?;
         }
     }
-    page.push_str("\n")
+    Ok(())
 }
 
 /// Writes the queues that tasks came into and nobody left.
@@ -215,7 +218,7 @@ fn write_undrained(account: &Account, page: &mut String) -> Result<(), AllocErro
     page.push_str("\n")
 }
 
-/// Writes who never ran, and who was held as the policy's time ended.
+/// Writes who never ran.
 fn write_never(found: &Findings, page: &mut String) -> Result<(), AllocError> {
     let workload = &found.figures.workload;
     let mut before = "never ran: ";
@@ -230,121 +233,4 @@ fn write_never(found: &Findings, page: &mut String) -> Result<(), AllocError> {
         page.push_str("each task ran")?;
     }
     page.push_str("\n")
-}
-
-// The parts below.
-
-fn write_last_lines(
-    alloc: Global,
-    workload: &Workload,
-    account: &Account,
-    page: &mut String,
-) -> Result<(), AllocError> {
-    let Some(ejection) = account.ejection else {
-        return Ok(());
-    };
-    page.push_str("\nthe last lines of the trace up to there")?;
-    if let Some(task) = ejection.task {
-        let name = workload.task(task);
-        write!(page, ", of {name}")?;
-    }
-    if let Some(cpu) = ejection.cpu {
-        write!(page, ", of processor {cpu}")?;
-    }
-    page.push_str("\n")?;
-    let recent = account.recent.of_ejection(alloc, ejection)?;
-    write_lines(alloc, workload, recent.as_slice(), page)
-}
-
-/// Writes the lines that a trace has for these notes.
-fn write_lines(
-    alloc: Global,
-    workload: &Workload,
-    notes: &[Recent],
-    page: &mut String,
-) -> Result<(), AllocError> {
-    let mut bytes = Vec::new(alloc);
-    let mut out = Counted::new(&mut bytes);
-    let mut trace = Trace::new(workload, &mut out);
-    for recent in notes {
-        trace.take(recent.note);
-    }
-    if trace.failed() {
-        return Err(AllocError);
-    }
-    match std::str::from_utf8(bytes.as_slice()) {
-        Ok(text) => page.push_str(text),
-        Err(_) => Ok(()),
-    }
-}
-
-fn write_waits(found: &Findings, page: &mut String) -> Result<(), AllocError> {
-    let workload = &found.figures.workload;
-    for wait in found.account.waits.waits.as_slice() {
-        page.push_str("\n")?;
-        write_wait(workload, wait, page)?;
-        page.push_str("\n")?;
-        for station in wait.stations.as_slice() {
-            let queue = QueueName(station.queue);
-            let clock = station.clock;
-            writeln!(page, "  at {clock} it came into {queue}")?;
-        }
-        for cpu in 0..workload.cpus() {
-            write_cpu(workload, wait, cpu, page)?;
-        }
-    }
-    Ok(())
-}
-
-/// Writes for how long each task ran on a processor during a wait.
-fn write_cpu(
-    workload: &Workload,
-    wait: &Meanwhile,
-    cpu: u32,
-    page: &mut String,
-) -> Result<(), AllocError> {
-    write!(page, "  processor {cpu}:")?;
-    let mut before = " ";
-    for task in 0..tasks_of(workload) {
-        let ms = wait.ran_on(cpu, Some(task));
-        if 0 < ms {
-            let name = workload.task(task);
-            write!(page, "{before}{name} ran {ms} ms")?;
-            before = ", ";
-        }
-    }
-    let idle = wait.ran_on(cpu, None);
-    if 0 < idle {
-        write!(page, "{before}idle for {idle} ms")?;
-    }
-    page.push_str("\n")
-}
-
-fn write_stretches(found: &Findings, page: &mut String) -> Result<(), AllocError> {
-    let longest = found.account.stretches.longest.as_slice();
-    if longest.is_empty() {
-        return Ok(());
-    }
-    let count = Count(found.idle.count, "time");
-    writeln!(page, "\nidle while tasks waited, {count}; the longest are")?;
-    for seen in longest {
-        page.push_str("  ")?;
-        write_stretch(&found.figures.workload, seen, page)?;
-    }
-    Ok(())
-}
-
-fn write_queues(account: &Account, page: &mut String) -> Result<(), AllocError> {
-    page.push_str("\n     came     left    there  of those who came into\n")?;
-    for figures in account.queues.figures.as_slice() {
-        write_queue(*figures, page)?;
-    }
-    Ok(())
-}
-
-fn write_queue(figures: QueueFigures, page: &mut String) -> Result<(), AllocError> {
-    let QueueFigures { queue, came, left } = figures;
-    let there = figures.there();
-    let queue = QueueName(queue);
-    writeln!(page, "{came:>9}{left:>9}{there:>9}  {queue}")
 }

@@ -1,6 +1,7 @@
 use crate::idling::{Idling, Stretch, waits};
 use crate::queues::Queues;
 use arrayvec::ArrayVec;
+use scxsim_calls::CpuCalls;
 use std::alloc::{AllocError, Global};
 
 /// How many stretches are shown.
@@ -13,18 +14,34 @@ pub(crate) struct Stander {
     pub(crate) queue: Option<u64>,
 }
 
-/// A stretch, and somebody who waited as it began.
+/// How a stretch of a processor began: somebody who waited then, and how dispatch had been called for the
+/// processor.
+#[derive(Clone, Copy, Default)]
+pub(crate) struct Beginning {
+    pub(crate) stander: Option<Stander>,
+    pub(crate) calls: CpuCalls,
+}
+
+/// A stretch, how it began, and how dispatch had been called for the processor when it ended.
 #[derive(Clone, Copy, Default)]
 pub(crate) struct Seen {
     pub(crate) stretch: Stretch,
-    pub(crate) stander: Option<Stander>,
+    pub(crate) beginning: Beginning,
+    pub(crate) calls: CpuCalls,
+}
+
+impl Seen {
+    /// How many calls of dispatch for the processor took nobody meanwhile.
+    pub(crate) fn vain(self) -> u64 {
+        self.calls.vain.saturating_sub(self.beginning.calls.vain)
+    }
 }
 
 /// The longest stretches in which a processor was idle while somebody waited.
 #[derive(Drop)]
 pub(crate) struct Stretches {
-    /// Who waited as the stretch of each processor began.
-    standers: Vec<Option<Stander>>,
+    /// How the stretch of each processor began.
+    beginnings: Vec<Beginning>,
     /// The longest first, and of equal ones that which ended first.
     pub(crate) longest: ArrayVec<Seen, SHOWN>,
 }
@@ -32,20 +49,21 @@ pub(crate) struct Stretches {
 impl Stretches {
     pub(crate) fn new(alloc: Global, cpus: u32) -> Result<Self, AllocError> {
         Ok(Stretches {
-            standers: vec![in alloc; None; cpus as usize]?,
+            beginnings: vec![in alloc; Beginning::default(); cpus as usize]?,
             longest: ArrayVec::new(),
         })
     }
 
     /// A stretch of the processor has begun.
-    pub(crate) fn begin(&mut self, cpu: u32, stander: Option<Stander>) {
-        if let Some(place) = self.standers.get_mut(cpu as usize) {
-            *place = stander;
+    pub(crate) fn begin(&mut self, cpu: u32, beginning: Beginning) {
+        if let Some(place) = self.beginnings.get_mut(cpu as usize) {
+            *place = beginning;
         }
     }
 
-    /// A stretch is over. It is kept if it is among the longest.
-    pub(crate) fn end(&mut self, stretch: Stretch) {
+    /// A stretch is over, and dispatch has been called so for its processor. It is kept if it is among the
+    /// longest.
+    pub(crate) fn end(&mut self, stretch: Stretch, calls: CpuCalls) {
         let place = place_for(self.longest.as_slice(), stretch.length());
         if place == SHOWN {
             return;
@@ -54,12 +72,19 @@ impl Stretches {
             self.longest.pop();
         }
         let place = place.min(self.longest.len());
-        let stander = self.stander(stretch.cpu);
-        let _ = self.longest.try_insert(place, Seen { stretch, stander });
+        let seen = Seen {
+            stretch,
+            beginning: self.beginning(stretch.cpu),
+            calls,
+        };
+        let _ = self.longest.try_insert(place, seen);
     }
 
-    fn stander(&self, cpu: u32) -> Option<Stander> {
-        *self.standers.get(cpu as usize)?
+    fn beginning(&self, cpu: u32) -> Beginning {
+        match self.beginnings.get(cpu as usize) {
+            Some(beginning) => *beginning,
+            None => Beginning::default(),
+        }
     }
 }
 
@@ -79,7 +104,7 @@ pub(crate) fn first_stander(idling: &Idling, queues: &Queues, tasks: u16) -> Opt
         if waits(&idling.pauses, task) {
             return Some(Stander {
                 task,
-                queue: queues.place(task),
+                queue: queues.places.at(task),
             });
         }
     }

@@ -7,10 +7,14 @@ use crate::ending::{Ejection, Moment, ejection_of};
 use crate::idling::{Idling, Stretch, running_on};
 use crate::queues::Queues;
 use crate::recent::RecentNotes;
-use crate::stretches::{Stretches, first_stander};
-use crate::waits::ToldWaits;
+use crate::stretches::{Beginning, Stretches, first_stander};
+use crate::waits::{Occurrence, Scene, ToldWaits};
 use crate::worst::LongWait;
+use scx_isa::Callback;
 use scx_sched::{Event, Note, Sim, What};
+use scx_sched_world::World;
+use scx_vm::Args;
+use scxsim_calls::{Calls, Heeds};
 use scxsim_views::View;
 use std::alloc::{AllocError, Global};
 
@@ -21,6 +25,7 @@ pub(crate) struct Account {
     pub(crate) stretches: Stretches,
     pub(crate) waits: ToldWaits,
     pub(crate) queues: Queues,
+    pub(crate) calls: Calls,
     pub(crate) recent: RecentNotes,
     pub(crate) ejection: Option<Ejection>,
     moment: Moment,
@@ -42,7 +47,8 @@ impl Account {
             idling: Idling::new(alloc, tasks, cpus)?,
             stretches: Stretches::new(alloc, cpus)?,
             waits: ToldWaits::new(alloc, worst, tasks as usize, cpus)?,
-            queues: Queues::new(alloc, tasks as usize)?,
+            queues: Queues::new(alloc, tasks as usize, cpus)?,
+            calls: Calls::new(alloc, tasks as usize, cpus)?,
             recent: RecentNotes::new(alloc, tasks as usize, cpus)?,
             ejection: None,
             moment: Moment {
@@ -73,16 +79,27 @@ impl Account {
     {
         match (before, self.idling.since(cpu)) {
             (None, Some(_)) => {
-                let stander = first_stander(&self.idling, &self.queues, self.tasks);
-                self.stretches.begin(cpu, stander);
+                let beginning = Beginning {
+                    stander: first_stander(&self.idling, &self.queues, self.tasks),
+                    calls: self.calls.for_cpu(cpu),
+                };
+                self.stretches.begin(cpu, beginning);
             }
-            (Some(since), None) => self.stretches.end(Stretch {
+            (Some(since), None) => self.end_stretch(Stretch {
                 cpu,
                 since,
                 until: clock,
             }),
             (None, None) | (Some(_), Some(_)) => {}
         }
+    }
+
+    fn end_stretch(&mut self, stretch: Stretch)
+        ensures idling { self.new.idling ≡ self.old.idling }
+        ensures result { self.new.result ≡ self.old.result }
+    {
+        let calls = self.calls.for_cpu(stretch.cpu);
+        self.stretches.end(stretch, calls);
     }
 
     /// Keeps what happens up to the ejection for its last lines.
@@ -110,7 +127,7 @@ impl Account {
     {
         for cpu in 0..sim.cpus() {
             if let Some(since) = self.idling.since(cpu) {
-                self.stretches.end(Stretch {
+                self.end_stretch(Stretch {
                     cpu,
                     since,
                     until: sim.clock(),
@@ -140,12 +157,32 @@ impl View for Account {
 
     fn show(&mut self, moment: u64, clock: u64, what: What) {
         self.remember(clock, what);
+        let occurrence = Occurrence {
+            moment,
+            clock,
+            what,
+            taken: self.queues.places.taken(what),
+        };
         self.queues.show(what, self.ejection.is_none());
         self.idling.show(clock, what);
-        self.result = self.waits.show(moment, clock, what, &self.idling.pauses);
+        let scene = Scene {
+            pauses: &self.idling.pauses,
+            places: &self.queues.places,
+            calls: &self.calls,
+        };
+        self.result = self.waits.show(occurrence, scene);
     }
 
     fn failed(&self) -> bool {
         self.result.is_err()
+    }
+}
+
+impl Heeds for Account {
+    fn heed(&mut self, callback: Callback, arguments: Args, world: &World) {
+        self.calls.heed(callback, arguments, world);
+        if callback == Callback::Dispatch {
+            self.waits.heed(world.notes(), &self.queues.places);
+        }
     }
 }

@@ -8,6 +8,6 @@ use Rattle.scxsim_why.proofs.finding.account_from.Goals as goal
 pub returns : goal.returns
 returns g c =
     let events = g.E.Events.remaining c.args.events.now c.args.sim.now in
-    let well : is_err c.watch.new.view.result ≡ false = ap (λ r. is_err r) c.in_ok-account-2.was in
-    let kept = run_is_kept (λ a. is_err a.result) (λ a. a.idling) idle_after_event idle_after_note events c.args.sim.now c.watch.new.sim c.in_ok-account.account c.watch.new.view c.watch.ensures well in
+    let well : is_err c.watch_calls.new.view.result ≡ false = ap (λ r. is_err r) c.in_ok-account-2.was in
+    let kept = run_is_kept (λ a. is_err a.result) (λ a. a.idling) idle_after_event idle_after_note events c.args.sim.now c.watch_calls.new.sim c.in_ok-account.account c.watch_calls.new.view c.watch_calls.ensures well in
     c.end.ensures.idling ∙ kept.1 ∙ ap (λ k. kept_of_all idle_after_event idle_after_note c.args.sim.now events k) c.in_ok-account.ensures.idling
