@@ -1,0 +1,191 @@
+ghost use Rattle.std.specs.Prelude.{◌≡◌, ◌+◌, ◌<◌, ◌≤◌, ◌++◌, true, length, IfOk, vec_capacity};
+ghost use Rattle.scx_explore_states.specs.Seen.{IsEntered, IsPlace, state_at, way_at, no_states};
+
+use scx_sched::Event;
+use std::alloc::{AllocError, Global};
+use std::marker::Model;
+
+/// In how many places a state is looked for.
+const PROBES: usize = 64;
+
+/// How a state was come to: from which one, and by which event.
+#[derive(Clone, Copy)]
+pub struct Way {
+    pub from: usize,
+    pub event: Event,
+}
+
+/// What became of a state that was met.
+#[derive(Clone, Copy)]
+pub enum Entered {
+    /// It was met before, under that number.
+    Was(usize),
+    /// It is kept from now on, under that number.
+    New(usize),
+    /// There is no room for it.
+    Full,
+}
+
+/// Where a state is kept, or may be.
+#[derive(Clone, Copy)]
+pub(crate) enum Place {
+    Of(usize),
+    Free(usize),
+    Nowhere,
+}
+
+/// States that were met, by number, and how each was come to.
+#[derive(Drop)]
+pub struct Seen {
+    width: usize,
+    room: usize,
+    count: usize,
+    words: Vec<u64>,
+    ways: Vec<Way>,
+    /// At a place, one more than the number of a state, or 0.
+    slots: Vec<usize>,
+}
+
+impl Model for Seen {
+    ghost use Rattle.scx_explore_states.specs.Seen.{Kept, view_of, IsFilled};
+
+    ghost Value = { Kept };
+
+    ghost view = { view_of };
+
+    ghost invariant = { IsFilled };
+}
+
+impl Seen {
+    /// Room for so many states of so many words each. All memory is taken here.
+    ///
+    /// # Errors
+    ///
+    /// Memory runs out, or the states would have no words or more than can be counted.
+    pub fn new(alloc: Global, width: usize, room: usize) -> Result<Seen, AllocError>
+        ensures { IfOk result (λ seen. seen ≡ no_states width) }
+    {
+        let Some(words) = room.checked_mul(width) else {
+            return Err(AllocError);
+        };
+        if width == 0 {
+            return Err(AllocError);
+        }
+        Ok(Seen {
+            width,
+            room,
+            count: 0,
+            words: Vec::with_capacity(alloc, words)?,
+            ways: Vec::with_capacity(alloc, room)?,
+            slots: vec![in alloc; 0; (room / 4).saturating_mul(5).saturating_add(1)]?,
+        })
+    }
+
+    /// How many states are kept.
+    pub fn len(&self) -> usize
+        ensures { result ≡ self.now.count }
+    {
+        let count = self.count;
+        count
+    }
+
+    /// The state of that number.
+    pub fn state(&self, number: usize) -> &[u64]
+        requires { number < self.now.count }
+        ensures { result.now ≡ state_at self.now number }
+    {
+        let from = number * self.width;
+        &self.words[from..from + self.width]
+    }
+
+    /// How the state of that number was come to; none where there is no such state.
+    pub fn way(&self, number: usize) -> Option<Way>
+        ensures { result ≡ way_at self.now number }
+    {
+        match self.ways.get(number) {
+            Some(way) => Some(*way),
+            None => None,
+        }
+    }
+
+    /// Enters a state, if it wasn't met before. The hash only says where to look.
+    pub fn enter(&mut self, state: &[u64], way: Way) -> Entered
+        requires { length state.now ≡ self.old.width }
+        ensures { IsEntered self.old state.now way result self.new }
+    {
+        match self.look(state) {
+            Place::Of(number) => Entered::Was(number),
+            Place::Free(at) => self.push(at, state, way),
+            Place::Nowhere => Entered::Full,
+        }
+    }
+
+    /// Where the state is kept, or may be.
+    fn look(&self, state: &[u64]) -> Place
+        requires { length state.now ≡ self.now.width }
+        ensures { IsPlace self.now state.now result }
+    {
+        let start = hash(state);
+        for probe in 0..PROBES {
+            let at = start.wrapping_add(probe) % self.slots.len();
+            let mark = self.slots[at];
+            if mark == 0 {
+                return Place::Free(at);
+            }
+            if self.is_at(mark - 1, state) {
+                return Place::Of(mark - 1);
+            }
+        }
+        Place::Nowhere
+    }
+
+    /// Whether that is the state of that number.
+    fn is_at(&self, number: usize, state: &[u64]) -> bool
+        requires { length state.now ≡ self.now.width }
+        ensures known { result ≡ true → number < self.now.count }
+        ensures same { result ≡ true → state_at self.now number ≡ state.now }
+    {
+        if number >= self.count {
+            return false;
+        }
+        let from = number * self.width;
+        &self.words[from..from + self.width] == state
+    }
+
+    fn push(&mut self, at: usize, state: &[u64], way: Way) -> Entered
+        requires state { length state.now ≡ self.old.width }
+        ensures { IsEntered self.old state.now way result self.new }
+    {
+        if self.count >= self.room {
+            return Entered::Full;
+        }
+        append(&mut self.words, state);
+        self.ways.push_reserved(way);
+        self.count += 1;
+        if at < self.slots.len() {
+            self.slots[at] = self.count;
+        }
+        Entered::New(self.count - 1)
+    }
+}
+
+/// The numbers stand behind those that are there, for which there is room.
+fn append(words: &mut Vec<u64>, state: &[u64])
+    requires { length words.old.items + length state.now ≤ vec_capacity words.old }
+    ensures items { words.new.items ≡ words.old.items ++ state.now }
+    ensures room { vec_capacity words.new ≡ vec_capacity words.old }
+{
+    for word in state {
+        words.push_reserved(*word);
+    }
+}
+
+/// Any number serves.
+fn hash(state: &[u64]) -> usize {
+    let mut sum: u64 = 0;
+    for word in state {
+        sum = (sum ^ *word).wrapping_mul(0x9e37_79b9_7f4a_7c15);
+        sum ^= sum >> 29;
+    }
+    sum as usize
+}
