@@ -1,0 +1,38 @@
+use scx_load_workloads::Workload;
+
+/// How many colours there are for tasks.
+pub(crate) const COLOURS: usize = 6;
+
+/// What decides the colour of a task.
+#[derive(Clone, Copy)]
+pub(crate) enum Colouring {
+    ByTask,
+    ByGroup,
+}
+
+impl Colouring {
+    /// Each task has a colour of its own where there are few, or all are in one group.
+    pub(crate) fn of(workload: &Workload) -> Colouring {
+        if workload.tasks().len() <= COLOURS || is_one_group(workload.tasks()) {
+            Colouring::ByTask
+        } else {
+            Colouring::ByGroup
+        }
+    }
+
+    /// The colour of a task, in the group with tasks that so many stand before.
+    pub(crate) fn colour(self, task: usize, group: usize) -> usize {
+        match self {
+            Colouring::ByTask => task % COLOURS,
+            Colouring::ByGroup => group % COLOURS,
+        }
+    }
+}
+
+/// Whether all tasks are in one group.
+fn is_one_group(homes: &[u32]) -> bool {
+    match homes.first() {
+        Some(first) => homes.iter().all(|home| home == first),
+        None => true,
+    }
+}

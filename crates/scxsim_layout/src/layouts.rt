@@ -1,0 +1,350 @@
+ghost use Rattle.std.specs.Prelude.{IfOk};
+ghost use Rattle.scxsim_layout.specs.Columns.{Covers};
+
+use crate::colours::Colouring;
+use crate::groups::{depth, next_group, tasks_in};
+use crate::rows::{Folding, Kind, MOST_ROWS, Row, place};
+use crate::scales::Scale;
+use scx_load_workloads::Workload;
+use std::alloc::{AllocError, Global};
+
+/// How many columns all rows have together, at most.
+const MOST_CELLS: u64 = 48_000;
+
+/// How many columns a row has, at most.
+const MOST_COLUMNS: u64 = 1300;
+
+/// How wide a bar of its own is at least, for each row and at all, in hundredths of a pixel.
+const LEAST_A_ROW: u64 = 16;
+
+const LEAST: u64 = 200;
+
+/// How wide a step of a strip is at least, in hundredths of a pixel.
+const STEP_WIDTH: u64 = 500;
+
+/// How many steps all strips have together, at most.
+const MOST_STEPS: u64 = 7000;
+
+/// Where a task is shown.
+#[derive(Clone, Copy)]
+pub struct TaskPlace {
+    /// Its row, or that of its group.
+    pub row: usize,
+    /// Its group.
+    pub home: u32,
+    pub colour: usize,
+}
+
+/// Which rows there are, what is shown in which, and where which moment is.
+#[derive(Drop)]
+pub struct Layout {
+    pub scale: Scale,
+    pub rows: Vec<Row>,
+    /// The strip of each group's share, if it is shown by itself.
+    groups: Vec<Option<usize>>,
+    tasks: Vec<TaskPlace>,
+    pub folding: Folding,
+    pub strips: usize,
+    /// How high all rows are together, in pixels.
+    pub high: u64,
+    /// How many milliseconds a bar of its own has, at least.
+    pub least: u64,
+}
+
+/// How many milliseconds a bar of its own has, at least, where there are so many rows.
+fn least_of(scale: Scale, rows: u64) -> u64 {
+    let width = rows.saturating_mul(LEAST_A_ROW).max(LEAST);
+    width.saturating_mul(scale.step).div_ceil(scale.wide.max(1))
+}
+
+impl Layout {
+    /// The layout of the picture of a run, from one moment to a later one.
+    ///
+    /// # Errors
+    ///
+    /// Memory ran out.
+    pub fn new(alloc: Global, workload: &Workload, from: u64, to: u64) -> Result<Layout, AllocError>
+        ensures { IfOk result (λ layout. Covers from to layout.scale) }
+    {
+        let mut plan = Plan::new(alloc, workload)?;
+        plan.push_cpus(workload.cpus())?;
+        plan.push_groups(workload)?;
+        Ok(plan.layout(from, to))
+    }
+
+    /// The row of a processor.
+    #[inline(always)]
+    pub fn cpu_row(&self, cpu: usize) -> usize {
+        self.folding.cpu_row(cpu)
+    }
+
+    /// Where a task is shown, if there is such a task.
+    #[inline(always)]
+    pub fn task(&self, task: u16) -> Option<TaskPlace> {
+        self.tasks.get(task as usize).copied()
+    }
+
+    /// The row in that place, if there is one.
+    pub fn row(&self, row: usize) -> Option<Row> {
+        self.rows.get(row).copied()
+    }
+
+    /// How many columns a step of a strip has.
+    pub fn strip_columns(&self) -> u64 {
+        let least = self.scale.columns.saturating_mul(self.strips as u64) / MOST_STEPS;
+        let wide = STEP_WIDTH.div_ceil(self.scale.wide.max(1));
+        wide.max(least.saturating_add(1))
+    }
+
+    /// The scale of strips, whose columns are their steps.
+    pub fn strip_scale(&self) -> Scale {
+        let columns = self.strip_columns();
+        let scale = self.scale;
+        Scale {
+            step: scale.step.saturating_mul(columns),
+            columns: scale.columns.div_ceil(columns.max(1)),
+            wide: scale.wide.saturating_mul(columns),
+            ..scale
+        }
+    }
+
+    /// Whether runs and waits in that row may be bars of their own.
+    pub fn has_bars(&self, row: usize) -> bool {
+        match self.row(row) {
+            Some(row) => row.has_bars(),
+            None => false,
+        }
+    }
+
+    /// The strip of a group's share, if it is shown by itself.
+    pub fn strip(&self, group: u32) -> Option<usize> {
+        self.groups.get(group as usize).copied()?
+    }
+}
+
+/// A layout on its way.
+#[derive(Drop)]
+struct Plan {
+    rows: Vec<Row>,
+    groups: Vec<Option<usize>>,
+    tasks: Vec<TaskPlace>,
+    folding: Folding,
+    colouring: Colouring,
+    /// Whether there are several groups, so that their shares say something.
+    has_shares: bool,
+    /// How many strips, groups at the top and groups with tasks there are so far.
+    strips: usize,
+    tops: usize,
+    leaves: usize,
+}
+
+impl Plan {
+    fn new(alloc: Global, workload: &Workload) -> Result<Plan, AllocError> {
+        let unknown = TaskPlace {
+            row: 0,
+            home: 0,
+            colour: 0,
+        };
+        let rows = Vec::with_capacity(alloc, MOST_ROWS)?;
+        let groups = vec![in alloc; None; workload.groups().len()]?;
+        let tasks = vec![in alloc; unknown; workload.tasks().len()]?;
+        Ok(Plan {
+            rows,
+            groups,
+            tasks,
+            folding: Folding::of(workload),
+            colouring: Colouring::of(workload),
+            has_shares: workload.groups().len() > 1,
+            strips: 0,
+            tops: 0,
+            leaves: 0,
+        })
+    }
+
+    fn layout(mut self, from: u64, to: u64) -> Layout
+        ensures { Covers from to result.scale }
+    {
+        let high = place(self.rows.as_mut_slice());
+        let rows_count = (self.rows.len() as u64).max(1);
+        let most = (MOST_CELLS / rows_count).min(MOST_COLUMNS);
+        let Plan {
+            rows,
+            groups,
+            tasks,
+            folding,
+            strips,
+            ..
+        } = self;
+        let scale = Scale::new(from, to, most);
+        Layout {
+            scale,
+            least: least_of(scale, rows_count),
+            rows,
+            groups,
+            tasks,
+            folding,
+            strips,
+            high,
+        }
+    }
+
+    fn push_cpus(&mut self, cpus: u32) -> Result<(), AllocError> {
+        let a_row = self.folding.cpus_a_row();
+        for row in 0..cpus.div_ceil(a_row.max(1)) {
+            let first = row.saturating_mul(a_row);
+            let last = first.saturating_add(a_row).min(cpus).saturating_sub(1);
+            self.rows.push(Row {
+                kind: Kind::Cpus { first, last },
+                members: u64::from(last.saturating_sub(first)).saturating_add(1),
+                depth: 0,
+                colour: 0,
+                strip: None,
+                top: 0,
+                strip_tall: 0,
+                tall: 0,
+            })?;
+        }
+        Ok(())
+    }
+
+    /// Adds the rows of all groups, and of their tasks.
+    fn push_groups(&mut self, workload: &Workload) -> Result<(), AllocError> {
+        let mut after = 0u64;
+        for _ in workload.groups() {
+            if let Some(next) = next_group(workload.groups(), after) {
+                after = next.key;
+                self.push_group(workload, next.group)?;
+            }
+        }
+        Ok(())
+    }
+
+    fn push_group(&mut self, workload: &Workload, group: u32) -> Result<(), AllocError> {
+        let depth = depth(workload.groups(), group);
+        let tasks = tasks_in(workload, group);
+        let colour = self.leaves;
+        if tasks > 0 {
+            self.leaves = self.leaves.saturating_add(1);
+        }
+        if self.has_shares || self.folding.by_group() {
+            self.push_group_row(group, depth, tasks, colour)?;
+        }
+        self.place_group(group, depth);
+        self.push_tasks(workload, group, depth, colour)
+    }
+
+    /// Adds the row of a group, or adds the group to the last row.
+    fn push_group_row(
+        &mut self,
+        group: u32,
+        depth: u64,
+        tasks: u64,
+        colour: usize,
+    ) -> Result<(), AllocError> {
+        let members = if self.folding.by_group() { tasks } else { 0 };
+        if self.folding.has_row(depth, self.tops) {
+            let strip = self.next_strip();
+            self.rows.push(Row {
+                kind: Kind::Groups {
+                    first: group,
+                    last: group,
+                },
+                members,
+                depth,
+                colour: self.colouring.colour(colour, colour),
+                strip,
+                top: 0,
+                strip_tall: 0,
+                tall: 0,
+            })?;
+            if self.has_shares {
+                self.strips = self.strips.saturating_add(1);
+            }
+        } else {
+            self.extend(group, depth, members);
+        }
+        if depth == 0 {
+            self.tops = self.tops.saturating_add(1);
+        }
+        Ok(())
+    }
+
+    /// The strip of the next group, if shares are shown.
+    fn next_strip(&self) -> Option<usize> {
+        if self.has_shares {
+            Some(self.strips)
+        } else {
+            None
+        }
+    }
+
+    /// Adds a group to the last row.
+    fn extend(&mut self, group: u32, depth: u64, members: u64) {
+        let Some(row) = self.rows.last_mut() else {
+            return;
+        };
+        row.members = row.members.saturating_add(members);
+        if depth > 0 {
+            return;
+        }
+        if let Kind::Groups { first, .. } = row.kind {
+            row.kind = Kind::Groups { first, last: group };
+        }
+    }
+
+    /// Keeps which strip shows the share of a group: that of the last row that has one.
+    fn place_group(&mut self, group: u32, depth: u64) {
+        if !self.folding.has_strip(depth) || self.strips == 0 {
+            return;
+        }
+        if let Some(place) = self.groups.get_mut(group as usize) {
+            *place = Some(self.strips.saturating_sub(1));
+        }
+    }
+
+    /// Adds the rows of the tasks of a group, or keeps that they are shown in its row.
+    fn push_tasks(
+        &mut self,
+        workload: &Workload,
+        group: u32,
+        depth: u64,
+        colour: usize,
+    ) -> Result<(), AllocError> {
+        let mut task = 0u16;
+        for home in workload.tasks() {
+            if *home == group {
+                self.push_task(task, group, depth, colour)?;
+            }
+            task = task.saturating_add(1);
+        }
+        Ok(())
+    }
+
+    /// Adds the row of a task of a group, before which stand so many that have tasks, or keeps its row alone.
+    fn push_task(
+        &mut self,
+        task: u16,
+        home: u32,
+        depth: u64,
+        group: usize,
+    ) -> Result<(), AllocError> {
+        let colour = self.colouring.colour(task as usize, group);
+        if !self.folding.by_group() {
+            self.rows.push(Row {
+                kind: Kind::Task(task),
+                members: 1,
+                depth: depth.saturating_add(1),
+                colour,
+                strip: None,
+                top: 0,
+                strip_tall: 0,
+                tall: 0,
+            })?;
+        }
+        let row = self.rows.len().saturating_sub(1);
+        if let Some(place) = self.tasks.get_mut(task as usize) {
+            *place = TaskPlace { row, home, colour };
+        }
+        Ok(())
+    }
+}
