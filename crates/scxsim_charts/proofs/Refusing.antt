@@ -5,8 +5,8 @@ use Rattle.scx_sched.specs.Sim.{SimState}
 use Rattle.scxsim_commands.specs.declared.refusal.Refusal.{Refusal}
 use Rattle.scxsim_commands.specs.declared.refusal.Refusal.TheVariants.{NoMemory}
 use Rattle.scxsim_simulation.specs.Runs.{IsRun, IsCause}
-use Rattle.scxsim_charts.specs.declared.windows.Span.{Span}
-use Rattle.scxsim_charts.specs.Windows.{IsBadSpan}
+use Rattle.scxsim_windows.specs.declared.windows.Span.{Span}
+use Rattle.scxsim_windows.specs.Windows.{IsBadSpan}
 use Rattle.scxsim_charts.specs.Charts.{IsChartCause}
 
 -- the run is that of the texts, and memory ran out, or the words name no part of it

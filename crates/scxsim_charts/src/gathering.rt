@@ -1,4 +1,3 @@
-use crate::ejections::Ejection;
 use crate::grids::Grid;
 use crate::places::{Doing, Places, Stretch};
 use crate::rows::Rows;
@@ -8,6 +7,7 @@ use scx_sched::{Event, Sim, What};
 use scxsim_simulation::{Heard, Listener, Run, give_back};
 use scxsim_trace::Events;
 use scxsim_views::{View, watch};
+use scxsim_windows::Ejection;
 use std::alloc::{AllocError, Global};
 
 /// How long tasks did what, by row and character.

@@ -3,7 +3,6 @@
 //! is over.
 #![tactic(auto)]
 
-mod ejections;
 mod gathering;
 mod grids;
 mod marks;
@@ -12,9 +11,8 @@ mod rows;
 mod scales;
 mod telling;
 mod titles;
-mod windows;
 mod writing;
 
+pub use scxsim_windows::{Span, Window};
 pub use telling::gantt;
 pub use titles::title;
-pub use windows::{Span, Window};

@@ -1,4 +1,4 @@
-use crate::windows::Window;
+use scxsim_windows::Window;
 
 /// How many characters of a line stand for time.
 pub(crate) const CELLS: usize = 81;

@@ -3,16 +3,16 @@ ghost use Rattle.std.specs.Io.KnownBytes.{Appends};
 ghost use Rattle.scxsim_output.specs.Output.{HasFailed};
 ghost use Rattle.scxsim_commands.specs.Outcome.{IfRefused, IsRefused};
 ghost use Rattle.scxsim_commands.specs.declared.refusal.Refusal.TheVariants.{NoMemory};
-ghost use Rattle.scxsim_charts.specs.Windows.{IsBadSpan};
+ghost use Rattle.scxsim_windows.specs.Windows.{IsBadSpan};
 ghost use Rattle.scxsim_charts.specs.Charts.{chart, IsChartCause};
 
 use crate::gathering::{Chart, gather};
 use crate::scales::Scale;
-use crate::windows::{Span, Window};
 use crate::writing::write_chart;
 use scxsim_commands::{Fault, Refusal};
 use scxsim_output::{Failed, Out, write_all};
 use scxsim_simulation::{Listener, Run, prepare};
+use scxsim_windows::{Span, Window};
 use std::alloc::{AllocError, Global};
 
 /// Writes the chart of the run that the texts of a policy file and of a workload file stand for, or of a part of

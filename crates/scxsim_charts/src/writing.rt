@@ -1,8 +1,8 @@
-use crate::ejections::Ejection;
 use crate::gathering::Chart;
 use crate::marks::letter;
 use crate::scales::CELLS;
 use scxsim_trace::Names;
+use scxsim_windows::Ejection;
 use std::alloc::AllocError;
 
 /// How many characters stand before those of time: the name of a row, and a bar.

@@ -5,9 +5,10 @@ use Rattle.scx_sched.specs.Sim.{SimState}
 use Rattle.scxsim_commands.specs.declared.refusal.Refusal.{Refusal}
 use Rattle.scxsim_commands.specs.declared.refusal.Refusal.TheVariants.{NoMemory}
 use Rattle.scxsim_simulation.specs.Runs.{IsRun}
-use Rattle.scxsim_charts.specs.declared.windows.Span.{Span}
 use Rattle.scxsim_charts.specs.declared.windows.Window.{Window}
 use Rattle.scxsim_charts.specs.Windows.{IsBadSpan, IsWindow}
+use Rattle.scxsim_windows.specs.declared.windows.Span.{Span}
+use Rattle.scxsim_windows.specs.Windows.{IsBadSpan}
 use Rattle.scxsim_charts.proofs.Refusing as charts
 use Rattle.scxsim_page.specs.Pages.{IsPast, HasTooMany, IsPageCause}
 

@@ -6,9 +6,9 @@ use Rattle.scxsim_commands.specs.declared.refusal.TheConstants.{MOST_STRETCHES}
 use Rattle.scxsim_commands.specs.declared.refusal.Refusal.{Refusal}
 use Rattle.scxsim_commands.specs.declared.refusal.Refusal.TheVariants.{TooManyStretches}
 use Rattle.scxsim_simulation.specs.Runs.{IsRun}
-use Rattle.scxsim_charts.specs.declared.windows.Span.{Span}
 use Rattle.scxsim_charts.specs.declared.windows.Window.{Window}
 use Rattle.scxsim_charts.specs.Windows.{IsWindow}
+use Rattle.scxsim_windows.specs.declared.windows.Span.{Span}
 use Rattle.scxsim_charts.specs.Charts.{IsChartCause}
 use Rattle.scxsim_template.specs.declared.template.TheConstants.{TOP, CODE}
 use Rattle.scxsim_page.specs.Stretches.{stretches_in}

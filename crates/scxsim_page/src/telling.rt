@@ -5,7 +5,7 @@ ghost use Rattle.scxsim_commands.specs.Outcome.{IfRefused, IsRefused};
 ghost use Rattle.scxsim_commands.specs.declared.refusal.Refusal.TheVariants.{NoMemory};
 ghost use Rattle.scx_load_driver.specs.Driver.{remaining};
 ghost use Rattle.scx_load_driver.specs.Events.{workload_events};
-ghost use Rattle.scxsim_charts.specs.Windows.{IsBadSpan};
+ghost use Rattle.scxsim_windows.specs.Windows.{IsBadSpan};
 ghost use Rattle.scxsim_simulation.specs.Runs.{IsCause};
 ghost use Rattle.scxsim_page.specs.Pages.{page, IsPast, HasTooMany, IsPageCause};
 

@@ -2,14 +2,14 @@ use scx_sched::What;
 
 /// When and why the policy was ejected.
 #[derive(Clone, Copy)]
-pub(crate) enum Ejection {
+pub enum Ejection {
     Stall { moment: u64, task: u16 },
     Fault { moment: u64, number: u8 },
 }
 
 impl Ejection {
     /// The ejection that this is, if it is one.
-    pub(crate) fn of(moment: u64, what: What) -> Option<Ejection> {
+    pub fn of(moment: u64, what: What) -> Option<Ejection> {
         match what {
             What::Stall(task) => Some(Ejection::Stall { moment, task }),
             What::Fault(fault) => {
@@ -27,7 +27,8 @@ impl Ejection {
         }
     }
 
-    pub(crate) fn moment(self) -> u64 {
+    /// In milliseconds from the start.
+    pub fn moment(self) -> u64 {
         match self {
             Ejection::Stall { moment, .. } => moment,
             Ejection::Fault { moment, .. } => moment,

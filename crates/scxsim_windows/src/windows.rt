@@ -1,5 +1,5 @@
 ghost use Rattle.std.specs.Prelude.{◌≡◌, ℕ, ◌<◌, ◌^◌, IfOk, IfErr, IfSome, IfNone};
-ghost use Rattle.scxsim_charts.specs.Windows.{Says, IsPart, IsWindow, IsSpanRefusal, IsBadSpan};
+ghost use Rattle.scxsim_windows.specs.Windows.{Says, IsPart, IsWindow, IsSpanRefusal, IsBadSpan};
 
 use scxsim_commands::{Refusal, Word};
 
