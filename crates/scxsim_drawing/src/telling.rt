@@ -3,16 +3,16 @@ ghost use Rattle.std.specs.Io.KnownBytes.{Appends};
 ghost use Rattle.scxsim_output.specs.Output.{HasFailed};
 ghost use Rattle.scxsim_commands.specs.Outcome.{IfRefused, IsRefused};
 ghost use Rattle.scxsim_commands.specs.declared.refusal.Refusal.TheVariants.{NoMemory};
-ghost use Rattle.scxsim_charts.specs.Windows.{IsBadSpan};
-ghost use Rattle.scxsim_charts.specs.Charts.{IsChartCause};
+ghost use Rattle.scxsim_simulation.specs.Runs.{IsCause};
+ghost use Rattle.scxsim_windows.specs.Windows.{IsBadSpan, HasBadSpan};
 ghost use Rattle.scxsim_drawing.specs.Pictures.{svg};
 
-use crate::drawing::draw;
 use crate::gathering::gather;
-use scxsim_charts::{Span, Window};
 use scxsim_commands::{Fault, Refusal};
 use scxsim_output::{Failed, Out, write_named};
+use scxsim_shapes::draw;
 use scxsim_simulation::{Listener, Run, prepare};
+use scxsim_windows::{Span, Window};
 use std::alloc::Global;
 
 /// Writes the picture of the run that the texts of a policy file and of a workload file stand for, or of a part of
@@ -36,7 +36,8 @@ pub fn picture<L: Listener, W: Out>(
     ensures unfailed { OnOk result (W.failure_count out.new ≡ W.failure_count out.old) }
 
     // A refusal has its cause in the texts or in the words, and comes before any byte is written.
-    ensures refused { IfRefused result (IsChartCause policy.now workload.now span.entry) }
+    ensures refused { IfRefused result (λ refusal.
+        IsCause policy.now workload.now refusal ⊎ HasBadSpan workload.now span.entry refusal) }
     ensures quiet { IsRefused result → out.new ≡ out.old }
     ensures counted { result ≡ Err Fault.WriteFailed
         → HasFailed (W.failure_count out.old) (W.failure_count out.new) }
@@ -63,7 +64,7 @@ fn write_picture<W: Out>(drawn: &str, out: &mut W) -> Result<(), Failed>
 }
 
 /// What is drawn of a run. All memory is taken before the first byte is written.
-#[tactic(auto, using(scxsim_charts::proofs::Refusing::cause_of_run))]
+#[tactic(auto, using(crate::proofs::Refusing::cause_of_run))]
 fn drawn_of<L: Listener>(
     alloc: Global,
     title: &str,
@@ -72,7 +73,8 @@ fn drawn_of<L: Listener>(
     span: Option<Span<'_>>,
     listener: &mut L,
 ) -> Result<String, Refusal>
-    ensures { IfErr result (IsChartCause policy.now workload.now span.entry) }
+    ensures { IfErr result (λ refusal.
+        IsCause policy.now workload.now refusal ⊎ HasBadSpan workload.now span.entry refusal) }
 {
     let run = prepare(alloc, policy, workload)?;
     drawn_of_run(alloc, title, run, span, listener)

@@ -1,25 +1,19 @@
-use crate::grids::Grid;
-use crate::layouts::Layout;
-use crate::scales::Scale;
+use crate::bars::{Bar, Bars};
+use crate::places::Doing;
 use scx_load_workloads::Workload;
 use scx_weights::MAX_DEPTH;
+use scxsim_layout::{Grid, Kind, Layout, Row, Scale};
 use std::alloc::{AllocError, Global};
 
 /// A share of all, in parts of this many.
 pub(crate) const WHOLE: u64 = 1_000_000_000;
-
-/// How wide a step of a strip is at least, in hundredths of a pixel.
-const STEP_WIDTH: u64 = 500;
-
-/// How many steps all strips have together, at most.
-const MOST_STEPS: u64 = 7000;
 
 /// A group, and which share is due to it.
 #[derive(Clone, Copy)]
 struct GroupShare {
     parent: Option<u32>,
     weight: u32,
-    /// How many tasks in it are runnable, also in groups within it.
+    /// How many of its own tasks are runnable, and of the groups right within it active.
     active: u32,
     /// Its share of all by weight, now.
     share: u64,
@@ -31,7 +25,7 @@ struct GroupShare {
 /// Of what its parent has, or of all, a group with a runnable task is due as much as its weight is of the weights
 /// of those beside it that have one too.
 #[derive(Drop)]
-pub(crate) struct Shares {
+pub struct Shares {
     groups: Vec<GroupShare>,
     /// The sum of the weights of active groups at the top, and then of those in each group.
     sums: Vec<u64>,
@@ -41,28 +35,17 @@ pub(crate) struct Shares {
     busy: u64,
     /// How many milliseconds of processors are behind for which nothing is due yet.
     unpaid: u64,
-    /// Up to which millisecond of the window this is known.
+    /// Up to which millisecond of the window this is known, and where the step ends in which that lies.
     now: u64,
-    pub(crate) scale: Scale,
+    end: u64,
+    pub scale: Scale,
+    /// How many columns of the picture a step has.
+    columns: u64,
     /// What ran, by strip and step, and last what ran of all groups.
     ran: Grid,
     strips: usize,
     /// What was due, by strip and step.
     due: Vec<u64>,
-}
-
-/// The scale of strips: a step has some columns.
-fn scale_of(layout: &Layout) -> Scale {
-    let least = layout.scale.columns.saturating_mul(layout.strips as u64) / MOST_STEPS;
-    let wide = STEP_WIDTH.div_ceil(layout.scale.wide.max(1));
-    let columns = wide.max(least.saturating_add(1));
-    let scale = layout.scale;
-    Scale {
-        step: scale.step.saturating_mul(columns),
-        columns: scale.columns.div_ceil(columns.max(1)),
-        wide: scale.wide.saturating_mul(columns),
-        ..scale
-    }
 }
 
 impl Shares {
@@ -72,7 +55,8 @@ impl Shares {
         workload: &Workload,
         layout: &Layout,
     ) -> Result<Shares, AllocError> {
-        let scale = scale_of(layout);
+        let columns = layout.strip_columns();
+        let scale = layout.strip_scale();
         let steps = scale.columns as usize;
         let groups = groups_of(alloc, workload, layout)?;
         let sums = vec![in alloc; 0; workload.groups().len().saturating_add(1)]?;
@@ -84,7 +68,9 @@ impl Shares {
             busy: 0,
             unpaid: 0,
             now: 0,
+            end: scale.step,
             scale,
+            columns,
             ran,
             strips: layout.strips,
             due: vec![in alloc; 0; layout.strips.saturating_mul(steps)]?,
@@ -92,28 +78,45 @@ impl Shares {
     }
 
     /// Another task of the group is runnable.
+    #[inline(always)]
     pub(crate) fn activate(&mut self, group: u32) {
-        self.change(group, 1, 0);
-    }
-
-    /// A task of the group is no longer runnable.
-    pub(crate) fn deactivate(&mut self, group: u32) {
-        self.change(group, 0, 1);
-    }
-
-    /// So many more and so many less are runnable in a group, and in those that it lies in.
-    fn change(&mut self, group: u32, more: u32, less: u32) {
-        self.is_stale = true;
         let mut at = Some(group);
         for _ in 0..MAX_DEPTH {
-            at = self.change_one(at, more, less);
+            at = self.activate_one(at);
         }
     }
 
-    /// The same of one group. The answer is its parent.
-    fn change_one(&mut self, group: Option<u32>, more: u32, less: u32) -> Option<u32> {
+    /// Something more in a group is active. The answer is its parent, if the group became active so.
+    #[inline(always)]
+    fn activate_one(&mut self, group: Option<u32>) -> Option<u32> {
         let group = self.groups.get_mut(group? as usize)?;
-        group.active = group.active.saturating_add(more).saturating_sub(less);
+        group.active = group.active.saturating_add(1);
+        if group.active != 1 {
+            return None;
+        }
+        self.is_stale = true;
+        group.parent
+    }
+
+    /// A task of the group is no longer runnable.
+    #[inline(always)]
+    pub(crate) fn deactivate(&mut self, group: u32) {
+        let mut at = Some(group);
+        for _ in 0..MAX_DEPTH {
+            at = self.deactivate_one(at);
+        }
+    }
+
+    /// Something less in a group is active. The answer is its parent, if the group is no longer active.
+    #[inline(always)]
+    fn deactivate_one(&mut self, group: Option<u32>) -> Option<u32> {
+        let group = self.groups.get_mut(group? as usize)?;
+        let was = group.active;
+        group.active = was.saturating_sub(1);
+        if was != 1 {
+            return None;
+        }
+        self.is_stale = true;
         group.parent
     }
 
@@ -134,41 +137,34 @@ impl Shares {
         self.busy = self.busy.saturating_sub(1);
     }
 
-    /// A task of the group ran.
-    pub(crate) fn run(&mut self, group: u32, since: u64, until: u64) {
-        if self.strips == 0 {
-            return;
-        }
-        self.ran.add(self.strips, self.scale, since, until);
-        let mut at = Some(group);
-        for _ in 0..MAX_DEPTH {
-            at = self.run_one(at, since, until);
-        }
-    }
-
-    /// The same of one group. The answer is its parent.
-    fn run_one(&mut self, group: Option<u32>, since: u64, until: u64) -> Option<u32> {
-        let group = self.groups.get(group? as usize)?;
-        let parent = group.parent;
-        if let Some(strip) = group.strip {
-            self.ran.add(strip, self.scale, since, until);
-        }
-        parent
-    }
-
     /// Time passes up to that moment.
+    #[inline(always)]
     pub(crate) fn pass(&mut self, moment: u64) {
         let until = self.scale.before(moment);
         if until <= self.now || self.strips == 0 {
             return;
         }
+        if self.is_stale || until >= self.end {
+            self.pass_steps(until);
+        } else {
+            let passed = until.saturating_sub(self.now);
+            self.unpaid = self.unpaid.saturating_add(self.busy.saturating_mul(passed));
+            self.now = until;
+        }
+    }
+
+    /// The same, where what is due changes, or a step ends.
+    fn pass_steps(&mut self, until: u64) {
+        let first = self.now / self.scale.step.max(1);
         if self.is_stale {
-            self.pay(self.now / self.scale.step.max(1));
+            self.pay(first);
             self.renew();
         }
-        for step in self.now / self.scale.step.max(1)..until.div_ceil(self.scale.step.max(1)) {
+        for step in first..until.div_ceil(self.scale.step.max(1)) {
             self.pass_step(step, until);
         }
+        let step = until / self.scale.step.max(1);
+        self.end = step.saturating_add(1).saturating_mul(self.scale.step);
     }
 
     /// The run ends at that moment.
@@ -204,18 +200,83 @@ impl Shares {
         self.unpaid = 0;
     }
 
+    /// Takes what all tasks ran, from the columns of rows and from bars.
+    pub(crate) fn take(&mut self, layout: &Layout, homes: &[u32], ran: &Grid, bars: &Bars) {
+        if self.strips == 0 {
+            return;
+        }
+        let mut place = 0usize;
+        for row in &layout.rows {
+            if let Some(group) = group_of(*row, homes) {
+                self.take_row(ran, place, group);
+            }
+            place = place.saturating_add(1);
+        }
+        for bar in &bars.bars {
+            if let Some(row) = layout.row(bar.row) {
+                self.take_bar(*bar, group_of(row, homes));
+            }
+        }
+    }
+
+    /// Takes what ran in a row that shows tasks of a group.
+    fn take_row(&mut self, ran: &Grid, row: usize, group: u32) {
+        for step in 0..self.scale.columns {
+            let first = step.saturating_mul(self.columns);
+            let ms = ran.sum_of(row, first, first.saturating_add(self.columns));
+            if ms > 0 {
+                self.add_ran(group, step, ms);
+            }
+        }
+    }
+
+    /// Takes a bar in the row of a task of that group, if it is a run.
+    fn take_bar(&mut self, bar: Bar, group: Option<u32>) {
+        let Some(group) = group else {
+            return;
+        };
+        if !bar.stretch.doing.runs() {
+            return;
+        }
+        let since = self.scale.mark(bar.stretch.since);
+        let until = self.scale.mark(bar.stretch.until);
+        for step in since.column..until.column.saturating_add(1) {
+            let ms = self.scale.overlap(step, since.moment, until.moment);
+            self.add_ran(group, step, ms);
+        }
+    }
+
+    /// Adds what ran in a step to a group, to those that it lies in, and to all.
+    fn add_ran(&mut self, group: u32, step: u64, ms: u64) {
+        self.ran.add_at(self.strips, step, ms);
+        let mut at = Some(group);
+        for _ in 0..MAX_DEPTH {
+            at = self.add_ran_one(at, step, ms);
+        }
+    }
+
+    /// The same of one group. The answer is its parent.
+    fn add_ran_one(&mut self, group: Option<u32>, step: u64, ms: u64) -> Option<u32> {
+        let group = self.groups.get(group? as usize)?;
+        let parent = group.parent;
+        if let Some(strip) = group.strip {
+            self.ran.add_at(strip, step, ms);
+        }
+        parent
+    }
+
     /// What ran in a step, of a strip, in milliseconds.
-    pub(crate) fn ran(&self, strip: usize, step: u64) -> u64 {
+    pub fn ran(&self, strip: usize, step: u64) -> u64 {
         self.ran.sum(strip, step)
     }
 
     /// What ran of all groups in a step, in milliseconds.
-    pub(crate) fn all(&self, step: u64) -> u64 {
+    pub fn all(&self, step: u64) -> u64 {
         self.ran.sum(self.strips, step)
     }
 
     /// What was due in a step, in parts of a millisecond.
-    pub(crate) fn due(&self, strip: usize, step: u64) -> u64 {
+    pub fn due(&self, strip: usize, step: u64) -> u64 {
         match self.due.get(place_of(self.scale, strip, step)) {
             Some(due) => *due,
             None => 0,
@@ -290,15 +351,20 @@ fn groups_of(
             weight: group.weight,
             active: 0,
             share: 0,
-            strip: strip_of(layout, number),
+            strip: layout.strip(number),
         })?;
         number = number.saturating_add(1);
     }
     Ok(groups)
 }
 
-fn strip_of(layout: &Layout, group: u32) -> Option<usize> {
-    layout.group(group)?.strip
+/// The group whose tasks a row shows, or the first of these, if it shows tasks.
+fn group_of(row: Row, homes: &[u32]) -> Option<u32> {
+    match row.kind {
+        Kind::Cpus { .. } => None,
+        Kind::Groups { first, .. } => Some(first),
+        Kind::Task(task) => homes.get(task as usize).copied(),
+    }
 }
 
 /// Where what is due to a strip in a step stands.

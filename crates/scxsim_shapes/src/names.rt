@@ -1,8 +1,6 @@
-use crate::gathering::Picture;
-use crate::queues::Queue;
-use crate::rows::{Kind, Row};
-use crate::sheets::Sheet;
-use scxsim_trace::Names;
+use crate::drawing::Picture;
+use scxsim_layout::{Kind, Row, Sheet};
+use scxsim_sums::Queue;
 
 /// The letters of the first tasks; those of the others are two and three.
 const LETTERS: &[u8; 26] = b"ABCDEFGHIJKLMNOPQRSTUVWXYZ";
@@ -36,9 +34,24 @@ fn put_letter(sheet: &mut Sheet, place: usize) {
 }
 
 impl Picture {
-    /// The name of a task.
+    /// The name of a task, if there is such a task.
     pub(crate) fn task_name(&self, task: u16) -> &str {
-        self.workload.task(task)
+        self.workload.is_whole();
+        if (task as usize) < self.workload.tasks().len() {
+            self.workload.task_name(task)
+        } else {
+            ""
+        }
+    }
+
+    /// The name of a group, if there is such a group.
+    fn group_name(&self, group: u32) -> &str {
+        self.workload.is_whole();
+        if (group as usize) < self.workload.groups().len() {
+            self.workload.group_name(group)
+        } else {
+            ""
+        }
     }
 
     /// Adds the name of a row.
@@ -51,10 +64,10 @@ impl Picture {
                 }
             }
             Kind::Groups { first, last } => {
-                sheet.put(self.workload.group(first));
+                sheet.put(self.group_name(first));
                 if first != last {
                     sheet.put(" to ");
-                    sheet.put(self.workload.group(last));
+                    sheet.put(self.group_name(last));
                 }
             }
             Kind::Task(task) => sheet.put(self.task_name(task)),

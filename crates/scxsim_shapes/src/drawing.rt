@@ -1,10 +1,15 @@
-use crate::cells::{Cells, Coat};
-use crate::gathering::Picture;
-use crate::rows::Row;
-use crate::shades::Shade;
-use crate::sheets::Sheet;
-use crate::styles::{DARK, LIGHT, OTHERS, QUEUES};
+use crate::cells::Coat;
+use scx_load_workloads::Workload;
+use scxsim_layout::{DARK, LIGHT, Levels, OTHERS, QUEUES, Row, Shade, Sheet};
+use scxsim_sums::Gathered;
 use std::alloc::{AllocError, Global};
+
+/// A picture, with the workload whose run it shows.
+#[derive(Drop)]
+pub struct Picture {
+    pub workload: Workload,
+    pub gathered: Gathered,
+}
 
 /// How far the first row is below the legend, in pixels: the notes and the axis are there.
 const AXIS: u64 = 58;
@@ -19,18 +24,22 @@ fn stroke(colour: usize) -> &'static str {
     STROKES.get(colour).copied().unwrap_or("c6")
 }
 
-/// Makes the text of a picture, but for its first words and its end.
-pub(crate) fn draw(alloc: Global, picture: &Picture, title: &str) -> Result<String, AllocError> {
+/// The text of a picture, but for its first words and its end.
+///
+/// # Errors
+///
+/// Memory ran out.
+pub fn draw(alloc: Global, picture: &Picture, title: &str) -> Result<String, AllocError> {
     let columns = picture.gathered.layout.scale.columns as usize;
-    let mut cells = Cells::new(alloc, columns)?;
+    let mut levels = Levels::new(alloc, columns)?;
     let mut sheet = Sheet::new(alloc);
-    picture.draw_all(&mut sheet, &mut cells, title);
-    drop(cells);
+    picture.draw_all(&mut sheet, &mut levels, title);
+    drop(levels);
     sheet.text()
 }
 
 impl Picture {
-    fn draw_all(&self, sheet: &mut Sheet, cells: &mut Cells, title: &str) {
+    fn draw_all(&self, sheet: &mut Sheet, levels: &mut Levels, title: &str) {
         self.draw_head(sheet, title);
         self.draw_heading(sheet, title);
         let top = self.legend_end().saturating_add(AXIS);
@@ -40,7 +49,7 @@ impl Picture {
         self.draw_axis(sheet);
         self.draw_names(sheet);
         self.draw_strips(sheet);
-        self.draw_sums(sheet, cells);
+        self.draw_sums(sheet, levels);
         self.draw_bars(sheet);
         self.draw_wakes(sheet);
         self.draw_waits(sheet);
@@ -105,21 +114,21 @@ impl Picture {
     }
 
     /// Draws what is added up in columns, of all rows.
-    fn draw_sums(&self, sheet: &mut Sheet, cells: &mut Cells) {
+    fn draw_sums(&self, sheet: &mut Sheet, levels: &mut Levels) {
         let mut place = 0usize;
         for row in &self.gathered.layout.rows {
             if row.has_runs() {
-                self.draw_row(sheet, cells, place, *row);
+                self.draw_row(sheet, levels, place, *row);
             }
             place = place.saturating_add(1);
         }
     }
 
-    fn draw_row(&self, sheet: &mut Sheet, cells: &mut Cells, place: usize, row: Row) {
+    fn draw_row(&self, sheet: &mut Sheet, levels: &mut Levels, place: usize, row: Row) {
         let step = self.gathered.layout.scale.step;
         let most = row.members.min(u64::from(self.workload.cpus()));
         let unit = step.saturating_mul(row.members);
-        cells.take(&self.gathered.sums.ran, place, step.saturating_mul(most));
+        levels.take(&self.gathered.sums.ran, place, step.saturating_mul(most));
         let coat = Coat {
             class: "c6",
             words: " ran",
@@ -127,44 +136,44 @@ impl Picture {
             shade: None,
         };
         if row.is_cpu() {
-            self.draw_cpu(sheet, cells, place, coat);
-            cells.take(&self.gathered.sums.waited, place, unit);
-            self.draw_idle(sheet, cells, row);
+            self.draw_cpu(sheet, levels, place, coat);
+            levels.take(&self.gathered.sums.waited, place, unit);
+            self.draw_idle(sheet, levels, row);
             return;
         }
         let class = stroke(row.colour);
-        self.draw_cells(sheet, cells, place, Coat { class, ..coat });
-        cells.take(&self.gathered.sums.waited, place, unit);
+        self.draw_cells(sheet, levels, place, Coat { class, ..coat });
+        levels.take(&self.gathered.sums.waited, place, unit);
         let waited = Coat {
             class: "cw",
             words: " waited",
             band: row.waits(),
             shade: None,
         };
-        self.draw_cells(sheet, cells, place, waited);
-        cells.take(&self.gathered.sums.parked, place, unit);
+        self.draw_cells(sheet, levels, place, waited);
+        levels.take(&self.gathered.sums.parked, place, unit);
         let parked = Coat {
             class: "cp",
             words: " was parked",
             ..waited
         };
-        self.draw_cells(sheet, cells, place, parked);
+        self.draw_cells(sheet, levels, place, parked);
     }
 
     /// Draws who ran on a processor: columns of tasks of one colour have that.
-    fn draw_cpu(&self, sheet: &mut Sheet, cells: &Cells, place: usize, coat: Coat) {
+    fn draw_cpu(&self, sheet: &mut Sheet, levels: &Levels, place: usize, coat: Coat) {
         for colour in 0..STROKES.len() {
             let one = Coat {
                 class: stroke(colour),
                 shade: Some(Shade::One(colour)),
                 ..coat
             };
-            self.draw_cells(sheet, cells, place, one);
+            self.draw_cells(sheet, levels, place, one);
         }
         let several = Coat {
             shade: Some(Shade::Several),
             ..coat
         };
-        self.draw_cells(sheet, cells, place, several);
+        self.draw_cells(sheet, levels, place, several);
     }
 }

@@ -1,5 +1,5 @@
-use crate::places::Stretch;
-use crate::scales::Scale;
+use crate::places::Doing;
+use scxsim_layout::Scale;
 use std::alloc::{AllocError, Global};
 
 /// How many bars of their own a picture has, at most: as many as are wide enough.
@@ -13,26 +13,35 @@ const WAKES_A_ROW: usize = 170;
 
 const APART: u64 = 800;
 
+/// A task did something from one moment to another.
+#[derive(Clone, Copy)]
+pub struct Stretch {
+    pub task: u16,
+    pub doing: Doing,
+    pub since: u64,
+    pub until: u64,
+}
+
 /// What a task did, in a row, as a bar of its own.
 #[derive(Clone, Copy)]
-pub(crate) struct Bar {
-    pub(crate) row: usize,
-    pub(crate) stretch: Stretch,
-    pub(crate) colour: usize,
+pub struct Bar {
+    pub row: usize,
+    pub stretch: Stretch,
+    pub colour: usize,
 }
 
 /// A task woke: its row, and where that is.
 #[derive(Clone, Copy)]
-pub(crate) struct Woken {
-    pub(crate) row: usize,
-    pub(crate) x: u64,
+pub struct Woken {
+    pub row: usize,
+    pub x: u64,
 }
 
 /// The bars of a picture, in the order of their ends, and the wakes.
 #[derive(Drop)]
-pub(crate) struct Bars {
-    pub(crate) bars: Vec<Bar>,
-    pub(crate) wakes: Vec<Woken>,
+pub struct Bars {
+    pub bars: Vec<Bar>,
+    pub wakes: Vec<Woken>,
     most_wakes: usize,
     /// Where the next wake of each row may be.
     next: Vec<u64>,
@@ -63,7 +72,7 @@ impl Bars {
 
     /// A task woke in that row. It is kept where there is room for it.
     pub(crate) fn wake(&mut self, row: usize, scale: Scale, moment: u64) {
-        if !scale.has(moment) || self.wakes.len() >= self.most_wakes {
+        if self.wakes.len() >= self.most_wakes || !scale.has(moment) {
             return;
         }
         let x = scale.x(moment);

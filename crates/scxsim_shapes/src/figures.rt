@@ -1,10 +1,9 @@
 use crate::axes::is_long;
-use crate::gathering::{Picture, Total};
-use crate::moments::put_seconds;
+use crate::drawing::Picture;
 use crate::names::{letters, put_letters};
-use crate::rows::{Kind, Row};
-use crate::sheets::Sheet;
 use crate::strips::fill;
+use scxsim_layout::{Kind, Row, Sheet, put_seconds};
+use scxsim_sums::Total;
 
 /// The classes of letters on colours.
 const INKS: [&str; 6] = ["m0", "m1", "m2", "m3", "m4", "m5"];

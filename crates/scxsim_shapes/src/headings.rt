@@ -1,8 +1,6 @@
-use crate::ejections::Ejection;
-use crate::gathering::Picture;
-use crate::moments::put_time;
-use crate::rows::Folding;
-use crate::sheets::Sheet;
+use crate::drawing::Picture;
+use scxsim_layout::{Folding, Sheet, put_time};
+use scxsim_windows::Ejection;
 
 /// Where the first line of a legend is, how far its lines are from each other, and how wide they are, in pixels.
 const TOP: u64 = 56;

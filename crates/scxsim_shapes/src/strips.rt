@@ -1,14 +1,6 @@
-use crate::gathering::Picture;
-use crate::rows::{Band, Row};
-use crate::scales::LEFT;
-use crate::shares::{Shares, WHOLE};
-use crate::sheets::Sheet;
-
-/// Shares are in parts of this many.
-const PARTS: u64 = 10_000;
-
-/// How many parts of what is due, as it is counted, are one part of a millisecond's share.
-const DUE_PARTS: u64 = WHOLE / PARTS;
+use crate::drawing::Picture;
+use scxsim_layout::{Band, LEFT, Row, Sheet};
+use scxsim_sums::{PARTS, Portions, Share, Shares};
 
 /// What is due and isn't reached is hatched from this on: 3 %.
 const LACKS: u64 = 300;
@@ -28,58 +20,6 @@ pub(crate) fn fill(colour: usize) -> &'static str {
         Some(class) => class,
         None => "several",
     }
-}
-
-/// A group's share, and what is due to it.
-#[derive(Clone, Copy)]
-struct Share {
-    has: u64,
-    due: u64,
-}
-
-/// Which part of what ran some time is.
-fn part_of(ms: u64, all: u64) -> u64 {
-    ms.saturating_mul(PARTS) / all.max(1)
-}
-
-/// Sums of some steps.
-#[derive(Clone, Copy)]
-struct Sums {
-    ran: u64,
-    due: u64,
-    all: u64,
-}
-
-impl Sums {
-    /// The sums of the steps from one to another.
-    fn of(shares: &Shares, strip: usize, first: u64, end: u64) -> Sums {
-        let mut sums = Sums {
-            ran: 0,
-            due: 0,
-            all: 0,
-        };
-        for step in first..end {
-            sums.ran = sums.ran.saturating_add(shares.ran(strip, step));
-            sums.due = sums.due.saturating_add(shares.due(strip, step));
-            sums.all = sums.all.saturating_add(shares.all(step));
-        }
-        sums
-    }
-
-    fn share(self) -> Share {
-        Share {
-            has: part_of(self.ran, self.all),
-            due: self.due / DUE_PARTS / self.all.max(1),
-        }
-    }
-}
-
-/// The share in a step: over a fortieth of the picture, so that one slice doesn't fill it.
-fn share_at(shares: &Shares, strip: usize, step: u64) -> Share {
-    let around = shares.scale.columns / 40;
-    let end = step.saturating_add(around).saturating_add(1);
-    let first = step.saturating_sub(around);
-    Sums::of(shares, strip, first, end.min(shares.scale.columns)).share()
 }
 
 /// A strip on its way: where it is, and which share its top is.
@@ -113,7 +53,7 @@ impl Picture {
         let shares = &self.gathered.shares;
         let mut most = 0u64;
         for strip in 0..self.gathered.layout.strips {
-            let share = Sums::of(shares, strip, 0, shares.scale.columns).share();
+            let share = shares.whole(strip);
             most = most.max(share.has).max(share.due);
         }
         if most > MOST_OF_SOME {
@@ -148,7 +88,7 @@ impl Picture {
         sheet.put("<path class=\"edge\" d=\"");
         put_outline(sheet, shares, strip, false);
         sheet.put("\"/>\n");
-        let all = Sums::of(shares, strip.strip, 0, shares.scale.columns).share();
+        let all = shares.whole(strip.strip);
         let is_short = all.has.saturating_add(SHORT) < all.due;
         let y = strip.band.middle().saturating_add(4);
         put_class(sheet, is_short);
@@ -170,15 +110,16 @@ fn put_class(sheet: &mut Sheet, is_wrong: bool) {
 
 /// Adds the shape of a group's share, or the line of what is due to it.
 fn put_outline(sheet: &mut Sheet, shares: &Shares, strip: Strip, is_filled: bool) {
+    let mut portions = Portions::new(shares, strip.strip);
     sheet.put_hundredths("M", LEFT);
     sheet.put(" ");
     if is_filled {
         sheet.number(strip.base());
     } else {
-        strip.put_y(sheet, share_at(shares, strip.strip, 0).due);
+        strip.put_y(sheet, portions.at(shares, 0).due);
     }
     for step in 0..shares.scale.columns {
-        let share = share_at(shares, strip.strip, step);
+        let share = portions.at(shares, step);
         sheet.put("V");
         strip.put_y(sheet, if is_filled { share.has } else { share.due });
         sheet.put_hundredths("H", step_end(shares, step));
@@ -197,15 +138,16 @@ fn step_end(shares: &Shares, step: u64) -> u64 {
 
 /// Hatches what a group lacks of what is due to it.
 fn put_lacks(sheet: &mut Sheet, shares: &Shares, strip: Strip) {
+    let mut portions = Portions::new(shares, strip.strip);
     let mut is_begun = false;
     for step in 0..shares.scale.columns {
-        let share = share_at(shares, strip.strip, step);
+        let share = portions.at(shares, step);
         if share.has.saturating_add(LACKS) < share.due {
             if !is_begun {
                 sheet.put("<path class=\"qi\" d=\"");
                 is_begun = true;
             }
-            put_lack(sheet, shares, strip, step);
+            put_lack(sheet, shares, strip, step, share);
         }
     }
     if is_begun {
@@ -213,8 +155,7 @@ fn put_lacks(sheet: &mut Sheet, shares: &Shares, strip: Strip) {
     }
 }
 
-fn put_lack(sheet: &mut Sheet, shares: &Shares, strip: Strip, step: u64) {
-    let share = share_at(shares, strip.strip, step);
+fn put_lack(sheet: &mut Sheet, shares: &Shares, strip: Strip, step: u64, share: Share) {
     let x = shares.scale.column_x(step);
     sheet.put_hundredths("M", x);
     sheet.put(" ");

@@ -5,24 +5,27 @@ const MOST: usize = 16;
 
 /// A task waited from one moment to another, whatever queues it was in.
 #[derive(Clone, Copy)]
-pub(crate) struct Wait {
-    pub(crate) task: u16,
-    pub(crate) since: u64,
-    pub(crate) until: u64,
+pub struct Wait {
+    pub task: u16,
+    pub since: u64,
+    pub until: u64,
 }
 
 impl Wait {
-    pub(crate) fn length(self) -> u64 {
+    /// For how many milliseconds it waited.
+    pub fn length(self) -> u64 {
         self.until.saturating_sub(self.since)
     }
 }
 
 /// The longest waits, and how many there were and for how long in all.
 #[derive(Drop)]
-pub(crate) struct Longest {
-    pub(crate) waits: Vec<Wait>,
+pub struct Longest {
+    pub waits: Vec<Wait>,
     count: u64,
     total: u64,
+    /// The length of the shortest of those that are kept, once there is no room for more.
+    least: u64,
 }
 
 impl Longest {
@@ -31,19 +34,28 @@ impl Longest {
             waits: Vec::with_capacity(alloc, MOST)?,
             count: 0,
             total: 0,
+            least: 0,
         })
     }
 
-    pub(crate) fn add(&mut self, wait: Wait) {
-        if wait.length() == 0 {
+    /// A task waits no more from that moment on, if it has waited since another one.
+    #[inline(always)]
+    pub(crate) fn end(&mut self, task: u16, since: Option<u64>, until: u64) {
+        let Some(since) = since else {
             return;
+        };
+        if since < until {
+            self.add(Wait { task, since, until });
         }
+    }
+
+    fn add(&mut self, wait: Wait) {
         self.count = self.count.saturating_add(1);
         self.total = self.total.saturating_add(wait.length());
         if self.waits.len() < MOST {
             // There is room for it.
             let _ = self.waits.push(wait);
-        } else {
+        } else if self.least < wait.length() {
             self.replace(wait);
         }
     }
@@ -51,16 +63,17 @@ impl Longest {
     /// Keeps the wait in the place of the shortest one, if it is longer.
     fn replace(&mut self, wait: Wait) {
         let place = shortest(&self.waits);
-        if let Some(least) = self.waits.get_mut(place) {
-            if least.length() < wait.length() {
-                *least = wait;
+        if let Some(shortest) = self.waits.get_mut(place) {
+            self.least = shortest.length();
+            if self.least < wait.length() {
+                *shortest = wait;
             }
         }
     }
 
     /// Whether a wait stands out: it is four times as long as the others on the average, and a twentieth of that
     /// time.
-    pub(crate) fn stands_out(&self, wait: Wait, length: u64) -> bool {
+    pub fn stands_out(&self, wait: Wait, length: u64) -> bool {
         let others = self.total.saturating_sub(wait.length());
         let count = self.count.saturating_sub(1);
         count >= 4

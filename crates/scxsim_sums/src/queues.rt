@@ -6,7 +6,7 @@ const MOST: usize = 16;
 
 /// Where a task is that doesn't run and doesn't sleep.
 #[derive(Clone, Copy)]
-pub(crate) enum Queue {
+pub enum Queue {
     /// A queue of the policy: of those it has used, the one in this place.
     Policy(usize),
     /// The queue of all processors.
@@ -34,22 +34,22 @@ impl Queue {
 
 /// A queue of the policy, and whether a wait in it is drawn.
 #[derive(Clone, Copy)]
-pub(crate) struct Used {
-    pub(crate) id: u64,
-    pub(crate) is_drawn: bool,
+pub struct Used {
+    pub id: u64,
+    pub is_drawn: bool,
 }
 
 /// The queues that a policy has used, in the order of their first use, and which queues are drawn.
 #[derive(Drop)]
-pub(crate) struct Queues {
-    pub(crate) policy: Vec<Used>,
-    pub(crate) global: bool,
-    pub(crate) held: bool,
-    pub(crate) built_in: bool,
-    pub(crate) local: bool,
-    pub(crate) parked: bool,
+pub struct Queues {
+    pub policy: Vec<Used>,
+    pub global: bool,
+    pub held: bool,
+    pub built_in: bool,
+    pub local: bool,
+    pub parked: bool,
     /// Whether some waits are too short to be drawn by themselves.
-    pub(crate) short: bool,
+    pub short: bool,
 }
 
 impl Queues {
@@ -114,7 +114,7 @@ impl Queues {
     }
 
     /// The id of the queue of the policy in a place.
-    pub(crate) fn id(&self, place: usize) -> u64 {
+    pub fn id(&self, place: usize) -> u64 {
         match self.policy.get(place) {
             Some(used) => used.id,
             None => 0,

@@ -1,37 +1,5 @@
-use crate::gathering::Picture;
-use crate::grids::Grid;
-use crate::rows::{Band, Row};
-use crate::scales::{LEFT, Scale};
-use crate::shades::Shade;
-use crate::sheets::Sheet;
-use std::alloc::{AllocError, Global};
-
-/// How many shades there are.
-pub(crate) const LEVELS: u64 = 16;
-
-/// The columns of a row, as shades: how many sixteenths of a column are full.
-///
-/// What rounding leaves goes on to the next column, and what is left at the end into a line behind the last one. So
-/// widths times shades are what is added up.
-#[derive(Drop)]
-pub(crate) struct Cells {
-    levels: Vec<Level>,
-    /// The milliseconds of a full column, and all milliseconds.
-    unit: u64,
-    sum: u64,
-    /// The last column with some time, and what rounding leaves there, in sixteenths of a millisecond.
-    last: u64,
-    rest: u64,
-}
-
-/// How full a column is.
-#[derive(Clone, Copy)]
-enum Level {
-    Empty,
-    /// Less than any shade says.
-    Tiny,
-    Full(u64),
-}
+use crate::drawing::Picture;
+use scxsim_layout::{Band, LEFT, LEVELS, Level, Levels, Row, Scale, Shade, Sheet};
 
 /// What is drawn of the columns of a row.
 #[derive(Clone, Copy)]
@@ -44,72 +12,46 @@ pub(crate) struct Coat {
     pub(crate) shade: Option<Shade>,
 }
 
-impl Cells {
-    pub(crate) fn new(alloc: Global, columns: usize) -> Result<Cells, AllocError> {
-        Ok(Cells {
-            levels: vec![in alloc; Level::Empty; columns]?,
-            unit: 1,
-            sum: 0,
-            last: 0,
-            rest: 0,
-        })
-    }
+/// How many shades there are, with what is fainter than any.
+const SHADES: usize = 17;
 
-    /// Takes the columns of a row, of which one holds so many milliseconds.
-    pub(crate) fn take(&mut self, grid: &Grid, row: usize, unit: u64) {
-        self.unit = unit.max(1);
-        self.sum = 0;
-        self.rest = 0;
-        self.last = 0;
-        let mut column = 0u64;
-        let mut carry = 0u64;
-        let mut sum = 0u64;
-        let mut last = 0u64;
-        for level in self.levels.iter_mut() {
-            let ms = grid.sum(row, column);
-            let have = ms.saturating_mul(LEVELS).saturating_add(carry);
-            let full = (have / unit.max(1)).min(LEVELS);
-            carry = have.saturating_sub(full.saturating_mul(unit.max(1)));
-            *level = level_of(ms, full);
-            sum = sum.saturating_add(ms);
-            last = if ms > 0 { column } else { last };
-            column = column.saturating_add(1);
-        }
-        self.sum = sum;
-        self.last = last;
-        self.rest = carry;
-    }
+/// Which shades there are, by their numbers.
+type Worn = [bool; SHADES];
 
-    pub(crate) fn is_empty(&self) -> bool {
-        self.sum == 0
-    }
-}
-
-fn level_of(ms: u64, full: u64) -> Level {
-    if full > 0 {
-        Level::Full(full)
-    } else if ms > 0 {
-        Level::Tiny
-    } else {
-        Level::Empty
-    }
-}
-
-/// Which columns a path has: those of a shade, or those that are too faint for any.
-fn is_of(level: Level, wanted: u64) -> bool {
-    match level {
-        Level::Empty => false,
-        Level::Tiny => wanted == 0,
-        Level::Full(full) => full == wanted,
-    }
+fn is_worn(worn: &Worn, shade: u64) -> bool {
+    worn.get(shade as usize).copied().unwrap_or(false)
 }
 
 impl Picture {
     /// Draws the columns of a row that were taken.
-    pub(crate) fn draw_cells(&self, sheet: &mut Sheet, cells: &Cells, row: usize, coat: Coat) {
-        if !self.has_some(cells, row, coat) {
+    pub(crate) fn draw_cells(&self, sheet: &mut Sheet, levels: &Levels, row: usize, coat: Coat) {
+        if levels.is_empty() {
             return;
         }
+        let worn = self.worn(levels, row, coat);
+        if worn.iter().any(|is_worn| *is_worn) {
+            self.draw_coat(sheet, levels, row, coat, &worn);
+        }
+    }
+
+    /// Which shades the columns of a coat have.
+    fn worn(&self, levels: &Levels, row: usize, coat: Coat) -> Worn {
+        let mut worn = [false; SHADES];
+        let mut column = 0u64;
+        for level in &levels.levels {
+            if let Some(shade) = level.shade() {
+                if self.is_in(column, row, coat) {
+                    if let Some(place) = worn.get_mut(shade as usize) {
+                        *place = true;
+                    }
+                }
+            }
+            column = column.saturating_add(1);
+        }
+        worn
+    }
+
+    fn draw_coat(&self, sheet: &mut Sheet, levels: &Levels, row: usize, coat: Coat, worn: &Worn) {
         let scale = self.gathered.layout.scale;
         sheet.put("<g class=\"");
         sheet.put(coat.class);
@@ -117,60 +59,64 @@ impl Picture {
         sheet.put_hundredths("\" transform=\"translate(", LEFT);
         put_middle(sheet, coat.band);
         sheet.put_hundredths(")scale(", scale.wide);
-        sheet.put_number(" 1)\" data-unit=\"", cells.unit);
+        sheet.put_number(" 1)\" data-unit=\"", levels.unit);
         sheet.put("\"><title>");
-        self.put_cells_title(sheet, cells, row, coat);
+        self.put_cells_title(sheet, levels, row, coat);
         sheet.put("</title>");
         for level in 1..LEVELS.saturating_add(1) {
-            self.draw_level(sheet, cells, row, coat, level);
+            if is_worn(worn, level) || level == 1 {
+                self.draw_level(sheet, levels, row, coat, level);
+            }
         }
-        self.draw_tiny(sheet, cells, row, coat);
+        if is_worn(worn, 0) {
+            self.draw_tiny(sheet, levels, row, coat);
+        }
         sheet.put("</g>\n");
     }
 
-    fn put_cells_title(&self, sheet: &mut Sheet, cells: &Cells, row: usize, coat: Coat) {
+    fn put_cells_title(&self, sheet: &mut Sheet, levels: &Levels, row: usize, coat: Coat) {
         if let Some(row) = self.gathered.layout.row(row) {
             self.put_name(sheet, row);
         }
         sheet.put(coat.words);
-        sheet.put_number(" ", cells.sum);
+        sheet.put_number(" ", levels.sum);
         sheet.put_number(" ms in columns of ", self.gathered.layout.scale.step);
         sheet.put(" ms");
     }
 
     /// Draws the columns of a shade, as one path.
-    fn draw_level(&self, sheet: &mut Sheet, cells: &Cells, row: usize, coat: Coat, level: u64) {
-        let has_rest = level == 1 && cells.rest > 0 && self.is_in(cells.last, row, coat);
+    fn draw_level(&self, sheet: &mut Sheet, levels: &Levels, row: usize, coat: Coat, level: u64) {
+        let has_rest = level == 1 && levels.rest > 0 && self.is_in(levels.last, row, coat);
         let mut path = Path::new(level);
-        self.push_columns(sheet, cells, row, coat, &mut path);
+        self.push_columns(sheet, levels, row, coat, &mut path);
         if has_rest {
             path.begin(sheet);
-            sheet.put_number("M", cells.last);
+            sheet.put_number("M", levels.last);
             sheet.put(" 0h");
-            put_part(sheet, cells.rest, cells.unit);
+            put_part(sheet, levels.rest, levels.unit);
         }
         path.end(sheet);
     }
 
     /// Draws the columns that are too faint for any shade, as a line below.
-    fn draw_tiny(&self, sheet: &mut Sheet, cells: &Cells, row: usize, coat: Coat) {
+    fn draw_tiny(&self, sheet: &mut Sheet, levels: &Levels, row: usize, coat: Coat) {
         let mut path = Path::new(0);
         path.shift = (coat.band.tall / 2).saturating_sub(1);
-        self.push_columns(sheet, cells, row, coat, &mut path);
+        self.push_columns(sheet, levels, row, coat, &mut path);
         path.end(sheet);
     }
 
     fn push_columns(
         &self,
         sheet: &mut Sheet,
-        cells: &Cells,
+        levels: &Levels,
         row: usize,
         coat: Coat,
         path: &mut Path,
     ) {
         let mut column = 0u64;
-        for level in &cells.levels {
-            if is_of(*level, path.level) && self.is_in(column, row, coat) {
+        for level in &levels.levels {
+            if level.shade() == Some(path.level) && self.is_in(column, row, coat) {
                 path.push(sheet, column);
             }
             column = column.saturating_add(1);
@@ -182,23 +128,8 @@ impl Picture {
     fn is_in(&self, column: u64, row: usize, coat: Coat) -> bool {
         match coat.shade {
             None => true,
-            Some(wanted) => same(wanted, self.gathered.sums.shades.shade(row, column)),
+            Some(wanted) => wanted.is_same(self.gathered.sums.shades.shade(row, column)),
         }
-    }
-
-    /// Whether some column is drawn.
-    fn has_some(&self, cells: &Cells, row: usize, coat: Coat) -> bool {
-        if cells.is_empty() {
-            return false;
-        }
-        let mut column = 0u64;
-        for level in &cells.levels {
-            if !is_empty(*level) && self.is_in(column, row, coat) {
-                return true;
-            }
-            column = column.saturating_add(1);
-        }
-        false
     }
 }
 
@@ -207,19 +138,19 @@ const IDLE: [&str; 3] = ["qi i1", "qi i2", "qi"];
 
 impl Picture {
     /// Hatches the columns that were taken, by how much of them a processor was idle while somebody waited.
-    pub(crate) fn draw_idle(&self, sheet: &mut Sheet, cells: &Cells, row: Row) {
+    pub(crate) fn draw_idle(&self, sheet: &mut Sheet, levels: &Levels, row: Row) {
         let mut third = 0u64;
         for class in IDLE {
-            self.draw_third(sheet, cells, row, class, third);
+            self.draw_third(sheet, levels, row, class, third);
             third = third.saturating_add(1);
         }
     }
 
-    fn draw_third(&self, sheet: &mut Sheet, cells: &Cells, row: Row, class: &str, third: u64) {
+    fn draw_third(&self, sheet: &mut Sheet, levels: &Levels, row: Row, class: &str, third: u64) {
         let mut strokes = Hatches::new(self.gathered.layout.scale, row.runs());
         let mut column = 0u64;
-        for level in &cells.levels {
-            if third_of(*level) == Some(third) {
+        for level in &levels.levels {
+            if level.third() == Some(third) {
                 strokes.push(sheet, class, column);
             }
             column = column.saturating_add(1);
@@ -230,7 +161,7 @@ impl Picture {
         }
         sheet.put("\"><title>");
         self.put_name(sheet, row);
-        sheet.put_number(" was idle while somebody waited, ", cells.sum);
+        sheet.put_number(" was idle while somebody waited, ", levels.sum);
         sheet.put(" ms in all</title></path>\n");
     }
 }
@@ -283,45 +214,6 @@ impl Hatches {
         sheet.put_hundredths("H", x);
         sheet.put("z");
         self.first = self.end;
-    }
-}
-
-/// In which third of a full column a level is, if there is some time in it.
-fn third_of(level: Level) -> Option<u64> {
-    match level {
-        Level::Empty => None,
-        Level::Tiny => Some(0),
-        Level::Full(full) => Some(full.saturating_sub(1).saturating_mul(3) / LEVELS),
-    }
-}
-
-fn is_empty(level: Level) -> bool {
-    match level {
-        Level::Empty => true,
-        Level::Tiny | Level::Full(_) => false,
-    }
-}
-
-/// Whether the same ran.
-fn same(one: Shade, other: Shade) -> bool {
-    match one {
-        Shade::Nobody => false,
-        Shade::Several => is_several(other),
-        Shade::One(colour) => is_one(other, colour),
-    }
-}
-
-fn is_several(shade: Shade) -> bool {
-    match shade {
-        Shade::Several => true,
-        Shade::Nobody | Shade::One(_) => false,
-    }
-}
-
-fn is_one(shade: Shade, colour: usize) -> bool {
-    match shade {
-        Shade::One(other) => other == colour,
-        Shade::Nobody | Shade::Several => false,
     }
 }
 

@@ -1,7 +1,5 @@
-use crate::gathering::Picture;
-use crate::moments::put_seconds;
-use crate::scales::{LEFT, Scale};
-use crate::sheets::Sheet;
+use crate::drawing::Picture;
+use scxsim_layout::{LEFT, Scale, Sheet, put_seconds};
 
 /// How far two numbers of the axis are from each other, at least, in hundredths of a pixel.
 const APART: u64 = 9000;

@@ -1,14 +1,9 @@
-use crate::bars::Bar;
+use crate::drawing::Picture;
 use crate::figures::ink;
-use crate::gathering::Picture;
-use crate::longest::Wait;
-use crate::moments::put_time;
 use crate::names::{letters, put_letters};
-use crate::places::Doing;
-use crate::queues::Queue;
-use crate::rows::{Band, Row};
-use crate::sheets::Sheet;
 use crate::strips::fill;
+use scxsim_layout::{Band, Row, Sheet, put_time};
+use scxsim_sums::{Bar, Doing, Queue, Wait};
 
 /// How wide a bar is from which on there is a gap behind it, and how wide that is, in hundredths of a pixel.
 const WIDE: u64 = 400;
@@ -124,14 +119,17 @@ impl Picture {
                 .longest
                 .stands_out(*wait, layout.scale.length())
             {
-                if let Some(row) = layout.row(layout.task_row(wait.task)) {
-                    self.draw_wait(sheet, *wait, row);
+                if let Some(place) = layout.task(wait.task) {
+                    self.draw_wait(sheet, *wait, place.row);
                 }
             }
         }
     }
 
-    fn draw_wait(&self, sheet: &mut Sheet, wait: Wait, row: Row) {
+    fn draw_wait(&self, sheet: &mut Sheet, wait: Wait, place: usize) {
+        let Some(row) = self.gathered.layout.row(place) else {
+            return;
+        };
         let scale = self.gathered.layout.scale;
         let width = scale.width(wait.since, wait.until);
         if !row.has_bars() || width < WIDE {

@@ -1,0 +1,203 @@
+use crate::bars::{Bar, Bars, Stretch};
+use crate::idles::Idles;
+use crate::longest::Longest;
+use crate::places::{Doing, Stay};
+use crate::queues::{Queue, Queues};
+use crate::shares::Shares;
+use crate::sums::Sums;
+use scx_load_workloads::Workload;
+use scx_sched::What;
+use scxsim_layout::{Layout, Mark, TaskPlace};
+use scxsim_windows::Ejection;
+use std::alloc::{AllocError, Global};
+
+/// What a picture keeps of a run.
+#[derive(Drop)]
+pub struct Gathered {
+    pub layout: Layout,
+    pub sums: Sums,
+    pub bars: Bars,
+    pub queues: Queues,
+    pub shares: Shares,
+    pub longest: Longest,
+    pub ejection: Option<Ejection>,
+}
+
+/// From when to when a task did something, for how many milliseconds that are in the picture, and where the task is
+/// shown.
+#[derive(Clone, Copy)]
+struct Piece {
+    task: u16,
+    since: Mark,
+    until: Mark,
+    ms: u64,
+    place: TaskPlace,
+}
+
+impl Gathered {
+    /// Nothing, in that layout.
+    pub(crate) fn new(
+        alloc: Global,
+        workload: &Workload,
+        layout: Layout,
+    ) -> Result<Gathered, AllocError> {
+        let rows = layout.rows.len();
+        let columns = layout.scale.columns as usize;
+        let cpus = layout.cpu_row(workload.cpus() as usize).saturating_add(1);
+        let sums = Sums::new(alloc, rows, cpus, columns)?;
+        let bars = Bars::new(alloc, rows)?;
+        let queues = Queues::new(alloc)?;
+        let shares = Shares::new(alloc, workload, &layout)?;
+        Ok(Gathered {
+            layout,
+            sums,
+            bars,
+            queues,
+            shares,
+            longest: Longest::new(alloc)?,
+            ejection: None,
+        })
+    }
+
+    /// Keeps what a task did up to now.
+    #[inline(always)]
+    pub(crate) fn add(&mut self, task: u16, stay: Stay, until: Mark) {
+        let since = stay.since;
+        let ms = self.layout.scale.within(since.moment, until.moment);
+        let Some(place) = self.layout.task(task) else {
+            return;
+        };
+        let piece = Piece {
+            task,
+            since,
+            until,
+            ms,
+            place,
+        };
+        if ms > 0 {
+            self.add_piece(piece, stay.doing);
+        }
+    }
+
+    #[inline(always)]
+    fn add_piece(&mut self, piece: Piece, doing: Doing) {
+        match doing {
+            Doing::Runs(cpu) => {
+                self.add_cpu_run(piece, cpu);
+                self.add_run(piece, doing);
+            }
+            Doing::Waits(queue) => self.add_wait(piece, queue),
+        }
+    }
+
+    /// Keeps a run in the row of its processor, as a bar or in columns.
+    #[inline(always)]
+    fn add_cpu_run(&mut self, piece: Piece, cpu: u32) {
+        let row = self.layout.cpu_row(cpu as usize);
+        self.sums.add_run(row, piece.ms);
+        if piece.ms >= self.layout.least && self.keep_bar(row, piece, Doing::Runs(cpu)) {
+            return;
+        }
+        let Piece { since, until, .. } = piece;
+        let scale = self.layout.scale;
+        self.sums.ran.add(row, scale, since, until);
+        self.sums
+            .shades
+            .add(row, scale, since, until, piece.place.colour);
+    }
+
+    /// Keeps a run in the row of its task, as a bar or in columns.
+    #[inline(always)]
+    fn add_run(&mut self, piece: Piece, doing: Doing) {
+        let row = piece.place.row;
+        self.sums.add_run(row, piece.ms);
+        if piece.ms >= self.layout.least && self.keep_bar(row, piece, doing) {
+            return;
+        }
+        let scale = self.layout.scale;
+        self.sums.ran.add(row, scale, piece.since, piece.until);
+    }
+
+    /// Keeps a wait in the row of its task, as a bar or in columns.
+    #[inline(always)]
+    fn add_wait(&mut self, piece: Piece, queue: Queue) {
+        let row = piece.place.row;
+        if !queue.is_parked() {
+            self.sums.add_wait(row, piece.ms);
+        }
+        if piece.ms >= self.layout.least && self.keep_bar(row, piece, Doing::Waits(queue)) {
+            self.queues.draw(queue);
+        } else {
+            self.add_short_wait(piece, queue);
+        }
+    }
+
+    /// Keeps a wait that is no bar.
+    fn add_short_wait(&mut self, piece: Piece, queue: Queue) {
+        let Piece { since, until, .. } = piece;
+        let row = piece.place.row;
+        let scale = self.layout.scale;
+        if queue.is_parked() {
+            self.queues.parked = true;
+            self.sums.parked.add(row, scale, since, until);
+        } else {
+            self.queues.short = true;
+            self.sums.waited.add(row, scale, since, until);
+        }
+    }
+
+    /// Keeps something as a bar of its own, if its row has bars and there is room. The answer is whether it did.
+    fn keep_bar(&mut self, row: usize, piece: Piece, doing: Doing) -> bool {
+        let colour = match doing {
+            Doing::Runs(_) => piece.place.colour,
+            Doing::Waits(_) => 0,
+        };
+        self.layout.has_bars(row)
+            && self.bars.push(Bar {
+                row,
+                stretch: Stretch {
+                    task: piece.task,
+                    doing,
+                    since: piece.since.moment,
+                    until: piece.until.moment,
+                },
+                colour,
+            })
+    }
+
+    /// A task is runnable from now on.
+    pub(crate) fn wake(&mut self, task: u16, moment: u64) {
+        let Some(place) = self.layout.task(task) else {
+            return;
+        };
+        self.shares.activate(place.home);
+        if !self.layout.folding.by_group() {
+            self.bars.wake(place.row, self.layout.scale, moment);
+        }
+    }
+
+    /// A task is no longer runnable.
+    pub(crate) fn sleep(&mut self, task: u16) {
+        if let Some(place) = self.layout.task(task) {
+            self.shares.deactivate(place.home);
+        }
+    }
+
+    /// Keeps a new weight, or an ejection.
+    pub(crate) fn note(&mut self, moment: u64, what: What) {
+        if let What::Weight(group, weight) = what {
+            self.shares.weigh(group, weight);
+        }
+        if let Some(ejection) = Ejection::of(moment, what) {
+            self.ejection = Some(ejection);
+        }
+    }
+
+    /// The run is over, at that moment.
+    pub(crate) fn end(&mut self, idles: &Idles, moment: u64, homes: &[u32]) {
+        self.shares.end(moment);
+        self.shares
+            .take(&self.layout, homes, &self.sums.ran, &self.bars);
+        idles.end(&self.layout, &mut self.sums.waited);
+    }
+}
