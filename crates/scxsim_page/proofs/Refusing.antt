@@ -1,21 +1,19 @@
 -- Of a run of which no page is made.
-use Rattle.std.proofs.Common.{◌≡◌, ℕ, List, Option, ◌⊎◌, inl, inr}
+use Rattle.std.proofs.Common.{◌≡◌, ℕ, List, Option, ◌⊎◌, inl, inr, subst, sym}
 use Rattle.scx_load_workloads.specs.Workload.{WorkloadState}
 use Rattle.scx_sched.specs.Sim.{SimState}
 use Rattle.scxsim_commands.specs.declared.refusal.Refusal.{Refusal}
 use Rattle.scxsim_commands.specs.declared.refusal.Refusal.TheVariants.{NoMemory}
-use Rattle.scxsim_simulation.specs.Runs.{IsRun}
-use Rattle.scxsim_charts.specs.declared.windows.Window.{Window}
-use Rattle.scxsim_charts.specs.Windows.{IsBadSpan, IsWindow}
+use Rattle.scxsim_simulation.specs.Runs.{IsRun, IsCause}
+use Rattle.scxsim_windows.specs.declared.windows.Window.{Window}
+use Rattle.scxsim_windows.specs.Windows.{IsBadSpan, IsWindow}
 use Rattle.scxsim_windows.specs.declared.windows.Span.{Span}
-use Rattle.scxsim_windows.specs.Windows.{IsBadSpan}
-use Rattle.scxsim_charts.proofs.Refusing as charts
 use Rattle.scxsim_page.specs.Pages.{IsPast, HasTooMany, IsPageCause}
 
 -- the run is that of the texts, and memory ran out, or the words name no part of it, or that part has too many stretches
 pub cause_of_run : (policy workload : List ℕ) (w : WorkloadState) (s : SimState) (span : Option Span) (r : Refusal) → IsRun policy workload w s → (r ≡ NoMemory) ⊎ (IsBadSpan w.ms span r ⊎ HasTooMany w s span r) → IsPageCause policy workload span r
-cause_of_run policy workload w s span r x (inl e) = inl (charts.cause_of_run policy workload w s span r x (inl e))
-cause_of_run policy workload w s span r x (inr (inl bad)) = inl (charts.cause_of_run policy workload w s span r x (inr bad))
+cause_of_run policy workload w s span r x (inl e) = inl (inl (subst (λ q. IsCause policy workload q) (sym e) tt))
+cause_of_run policy workload w s span r x (inr (inl bad)) = inl (inr (w, x.workload_read, bad))
 cause_of_run policy workload w s span r x (inr (inr many)) = inr (w, s, x, many)
 
 -- the window is that of the words, and memory ran out, or it has too many stretches

@@ -5,11 +5,10 @@ use Rattle.scx_load_workloads.specs.Workload.{WorkloadState}
 use Rattle.scxsim_commands.specs.declared.refusal.TheConstants.{MOST_STRETCHES}
 use Rattle.scxsim_commands.specs.declared.refusal.Refusal.{Refusal}
 use Rattle.scxsim_commands.specs.declared.refusal.Refusal.TheVariants.{TooManyStretches}
-use Rattle.scxsim_simulation.specs.Runs.{IsRun}
-use Rattle.scxsim_charts.specs.declared.windows.Window.{Window}
-use Rattle.scxsim_charts.specs.Windows.{IsWindow}
+use Rattle.scxsim_simulation.specs.Runs.{IsRun, IsCause}
+use Rattle.scxsim_windows.specs.declared.windows.Window.{Window}
+use Rattle.scxsim_windows.specs.Windows.{IsWindow, HasBadSpan}
 use Rattle.scxsim_windows.specs.declared.windows.Span.{Span}
-use Rattle.scxsim_charts.specs.Charts.{IsChartCause}
 use Rattle.scxsim_template.specs.declared.template.TheConstants.{TOP, CODE}
 use Rattle.scxsim_page.specs.Stretches.{stretches_in}
 
@@ -34,4 +33,5 @@ IsTooLarge policy workload span r =
 -- the texts are refused, or the words are, or a page would be too large
 abbrev pub IsPageCause : List ℕ → List ℕ → Option Span → Refusal → Type 0
 IsPageCause policy workload span r =
-    IsChartCause policy workload span r ⊎ IsTooLarge policy workload span r
+    (IsCause policy workload r ⊎ HasBadSpan workload span r)
+    ⊎ IsTooLarge policy workload span r

@@ -8,7 +8,7 @@ use Rattle.scx_sched.specs.Sim.{SimState, after_event, notes_of}
 use Rattle.scx_load_workloads.specs.Workload.{WorkloadState}
 use Rattle.scx_load_driver.specs.Events.{workload_events}
 use Rattle.scx_load_driver.specs.Runs.{stepped_all}
-use Rattle.scxsim_charts.specs.declared.windows.Window.{Window}
+use Rattle.scxsim_windows.specs.declared.windows.Window.{Window}
 use Rattle.scxsim_views.specs.Watching.{is_at_end, moment}
 
 -- what is counted: since when each task has waited or run, if it does, and how many stretches have

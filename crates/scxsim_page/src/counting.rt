@@ -4,10 +4,10 @@ ghost use Rattle.scx_load_driver.specs.Events.{workload_events};
 ghost use Rattle.scxsim_page.specs.Stretches.{within, has_lasted, with_one, none_yet, turned, all_counted, stretches_of, stretches_in};
 
 use scx_sched::{Event, Sim, What};
-use scxsim_charts::Window;
 use scxsim_simulation::{Heard, Listener, Run, give_back};
 use scxsim_trace::Events;
 use scxsim_views::{View, watch};
+use scxsim_windows::Window;
 use std::alloc::{AllocError, Global};
 use std::marker::Model;
 

@@ -5,7 +5,7 @@ use crate::tails::Ended;
 use crate::tasks::Tasks;
 use scx_sched::What;
 use scx_sched_world::PARKED;
-use scxsim_charts::Window;
+use scxsim_windows::Window;
 use std::alloc::{AllocError, Global};
 
 /// What tasks do in a part of a run, as it comes to an end, and the lines of what has ended.

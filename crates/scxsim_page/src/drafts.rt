@@ -11,13 +11,13 @@ use crate::heads::{Paths, head};
 use crate::tails::ids_text;
 use scx_load_workloads::Workload;
 use scx_sched::{Event, Sim, What};
-use scxsim_charts::Window;
 use scxsim_commands::{Fault, Refusal};
 use scxsim_output::{Failed, Out, write_all};
 use scxsim_simulation::{Heard, Listener, Run, give_back};
 use scxsim_template::{CODE, TOP};
 use scxsim_trace::Events;
 use scxsim_views::{View, watch};
+use scxsim_windows::Window;
 use std::alloc::{AllocError, Global};
 
 /// What is made of a run for its page.

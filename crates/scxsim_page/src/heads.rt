@@ -1,6 +1,6 @@
 use scx_load_workloads::Workload;
-use scxsim_charts::Window;
 use scxsim_trace::Names;
+use scxsim_windows::Window;
 use std::alloc::{AllocError, Global};
 
 /// The paths of the two files, of which a page has the names.

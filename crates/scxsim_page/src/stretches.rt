@@ -1,4 +1,4 @@
-use scxsim_charts::Window;
+use scxsim_windows::Window;
 
 /// What stands in a stretch in place of a processor where it is no run.
 pub(crate) const NOWHERE: u8 = 255;

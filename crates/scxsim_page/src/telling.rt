@@ -14,10 +14,10 @@ use crate::drafts::{Draft, write_run};
 use crate::heads::Paths;
 use crate::ways::{OneWay, Way};
 use scx_load_workloads::Workload;
-use scxsim_charts::{Span, Window};
 use scxsim_commands::{Fault, MOST_STRETCHES, Refusal};
 use scxsim_output::Out;
 use scxsim_simulation::{Listener, Run, prepare};
+use scxsim_windows::{Span, Window};
 use std::alloc::Global;
 
 /// Writes the page of the run that the texts of a policy file and of a workload file stand for, or of a part of

@@ -122,7 +122,11 @@ impl Shares {
     fn share_now(&self, group: usize) -> u64 {
         match (self.groups.get(group), self.active.get(group)) {
             (Some(group), Some(active)) if 0 < *active => {
-                part(self.share_of(group.parent), group.weight, self.sum_at(group.parent))
+                part(
+                    self.share_of(group.parent),
+                    group.weight,
+                    self.sum_at(group.parent),
+                )
             }
             _ => 0,
         }
