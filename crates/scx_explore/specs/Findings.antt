@@ -82,8 +82,8 @@ IsFaultAtEnd (outcome.Ejected at (cause.Stall t clock)) count f = ⊥
 IsFaultAtEnd outcome.InForce count f = ⊥
 IsFaultAtEnd (outcome.Refused at r) count f = ⊥
 
--- the list is accepted and the policy in force, and in its notes the second task of the pair began to
--- run twice since the first one waits
+-- the list is accepted and the policy in force, and in its notes the second task of the pair began
+-- to run twice since the first one waits
 abbrev pub IsTwice : SimState → List Event → Pair → Type 0
 IsTwice s events p =
     IsInForceFor s events (length events) × (begun_over p None (notes_of_all s events) ≡ Some 2)
