@@ -181,6 +181,8 @@ function sumDue({ groups, changes }, { cell, cells, row, ran, waited, due, busy 
   });
 }
 
+// Whether the next stretch of a task follows at once; one that was let go in between begins anew.
+const goesOn = ({ from, length, why }, i) => from[i] + length[i] === from[i + 1] && (why[i + 1] & 48) !== 48;
 // A wait is the stretches of waiting one behind another. The longest ones are kept.
 function findWaits(run) {
   const worst = [];
@@ -191,9 +193,8 @@ function findWaits(run) {
       if (run.cpu[i] !== NOWHERE || run.queue[i] === PARKED) { since = -1; continue; }
       const until = run.from[i] + run.length[i], last = i + 1 === run.taskStart[task + 1];
       if (since < 0) since = run.from[i];
-      if (!last && run.cpu[i + 1] === NOWHERE && run.queue[i + 1] !== PARKED && run.from[i + 1] === until) continue;
-      const wait = until - since;
-      total += wait; number++;
+      if (!last && run.cpu[i + 1] === NOWHERE && run.queue[i + 1] !== PARKED && goesOn(run, i)) continue;
+      const wait = until - since; total += wait; number++;
       run.longest[task] = Math.max(run.longest[task], wait);
       if (worst.length < 20 || wait > worst[19].length)
         worst.push({ task, from: since, until, length: wait }) && worst.sort((one, other) => other.length - one.length).splice(20);
@@ -258,11 +259,11 @@ function whoRan(run, from, until) {
 /* ---------- colours and patterns ---------- */
 // Okabe and Ito's colours; vermillion is kept for what is wrong. Letters on a task's colour are white or black.
 const LIGHT = { paper: "#ffffff", ink: "#1b1f24", faint: "#6a7178", line: "#d9dde1", band: "#f3f5f7", wrong: "#d55e00", wrongPaper: "#ffffff",
-  wait: "#7d858d", waitPaper: "#d9dee3", parked: "#8a6d00", parkedPaper: "#f6e9b2", several: "#4d5a68",
-  tasks: ["#0072b2", "#e69f00", "#009e73", "#56b4e9", "#cc79a7", "#f0e442"], inks: "wbwbwb" };
+  wait: "#7d858d", waitPaper: "#ccd2d8", parked: "#8a6d00", parkedPaper: "#f6e9b2", several: "#4d5a68",
+  tasks: ["#0072b2", "#e69f00", "#009e73", "#56b4e9", "#cc79a7", "#f0e442"], inks: "wbbbbb" };
 const DARK = { paper: "#14171b", ink: "#e8eaed", faint: "#9aa3ab", line: "#343a41", band: "#1c2025", wrong: "#ff7a1a", wrongPaper: "#14171b",
-  wait: "#98a2ac", waitPaper: "#363e47", parked: "#e6c84a", parkedPaper: "#4a4013", several: "#a3b1c0",
-  tasks: ["#3d97d8", "#e69f00", "#1fb58a", "#8fd0f5", "#dd94bd", "#f0e442"], inks: "wbbbbb" };
+  wait: "#98a2ac", waitPaper: "#454d56", parked: "#e6c84a", parkedPaper: "#4a4013", several: "#a3b1c0",
+  tasks: ["#3d97d8", "#e69f00", "#1fb58a", "#8fd0f5", "#dd94bd", "#f0e442"], inks: "bbbbbb" };
 const SHADES = 32;
 
 function packed(hex) {
@@ -373,7 +374,7 @@ function drawProcessor(cpu, y, tall) {
   clearBands();
   let i = firstAfter(cpuFrom, cpuLength, run.cpuStart[cpu], last, view.from), x = 0;
   while (x < width) {
-    const start = i < last ? (cpuFrom[i] - view.from) / step : width, end = i < last ? start + cpuLength[i] / step : width;
+    const start = i < last ? (cpuFrom[i] - view.from) / step : width, end = i < last ? (cpuFrom[i] + cpuLength[i] - view.from) / step : width;
     if (start >= x + 1) {
       const until = Math.min(width, Math.floor(start));
       drawIdle(i > run.cpuStart[cpu] ? cpuFrom[i - 1] + cpuLength[i - 1] : 0, x, until, offset);
@@ -419,7 +420,7 @@ function drawTask(task, y, tall) {
   clearBands();
   let i = firstAfter(from, length, run.taskStart[task], last, view.from), x = 0;
   while (x < width && i < last) {
-    const start = (from[i] - view.from) / step, end = start + length[i] / step;
+    const start = (from[i] - view.from) / step, end = (from[i] + length[i] - view.from) / step;
     if (start >= x + 1) { x = Math.min(width, Math.floor(start)); continue; }
     if (end - start >= 2) {
       const x0 = offset + Math.max(x, Math.round(start)), x1 = offset + Math.min(width, Math.max(x + 1, Math.round(end)));
@@ -581,7 +582,7 @@ const indent = (row) => 6 + 10 * row.depth;
 const NAMES = {
   section(row, y) {
     const { ink, faint, wrong } = palette.names, all = run.duration * run.processors;
-    write((row.key ? foldMark(row) : "") + row.name, 6, y + 13, ink, 12, 600);
+    write((row.key ? foldMark(row) : "") + row.name, 6, y + 13, ink, 12, 600, left() - 10);
     if (!row.folded) return;
     const idle = run.idle.reduce((sum, one) => sum + one, 0) / all;
     write("busy " + percent(run.cpuBefore[run.cpuFrom.length] / all), 18, y + 29, faint, 11);
@@ -821,10 +822,9 @@ function node(name, words, parent, attributes = {}) {
 // A wait's whole length counts, also where it went on in another queue.
 function wholeWait({ index, task }) {
   const isOwn = (i) => i >= run.taskStart[task] && i < run.taskStart[task + 1], waits = (i) => isOwn(i) && kindOf(i) === kindOf(index);
-  const meets = (i) => run.from[i] + run.length[i] === run.from[i + 1];
   let first = index, last = index;
-  while (waits(first - 1) && meets(first - 1)) first--;
-  while (waits(last + 1) && meets(last)) last++;
+  while (waits(first - 1) && goesOn(run, first - 1)) first--;
+  while (waits(last + 1) && goesOn(run, last)) last++;
   return [run.from[first], run.from[last] + run.length[last]];
 }
 
@@ -1042,7 +1042,7 @@ function legendItems() {
     paintBoxes(brush, [[names.tasks[3], 0, 8, 30, 6], [names.ink, 0, 3, 30, 1]]);
     paintTile(brush, TILES[WRONG_TILE], names.wrong, names.paper, 4, 8);
   }]);
-  items.push(["less than a pixel: the darker, the more of it ran", ({ canvas }) => {
+  items.push(["less than a pixel: the fuller its colour, the more of it ran", ({ canvas }) => {
     canvas.style.background = `linear-gradient(90deg, transparent, ${names.several})`;
   }]);
   return items;

@@ -2,7 +2,7 @@ ghost use Rattle.std.specs.Prelude.{IfOk};
 ghost use Rattle.scxsim_layout.specs.Columns.{Covers};
 
 use crate::colours::Colouring;
-use crate::groups::{depth, next_group, tasks_in};
+use crate::groups::{depth, first_task_in, next_group, tasks_in};
 use crate::rows::{Folding, Kind, MOST_ROWS, Row, place};
 use crate::scales::Scale;
 use scx_load_workloads::Workload;
@@ -227,13 +227,15 @@ impl Plan {
             self.leaves = self.leaves.saturating_add(1);
         }
         if self.has_shares || self.folding.by_group() {
-            self.push_group_row(group, depth, tasks, colour)?;
+            let first = first_task_in(workload, group).unwrap_or(colour);
+            let strip = self.colouring.colour(first, colour);
+            self.push_group_row(group, depth, tasks, strip)?;
         }
         self.place_group(group, depth);
         self.push_tasks(workload, group, depth, colour)
     }
 
-    /// Adds the row of a group, or adds the group to the last row.
+    /// Adds the row of a group, whose strip has that colour, or adds the group to the last row.
     fn push_group_row(
         &mut self,
         group: u32,
@@ -251,7 +253,7 @@ impl Plan {
                 },
                 members,
                 depth,
-                colour: self.colouring.colour(colour, colour),
+                colour,
                 strip,
                 top: 0,
                 strip_tall: 0,

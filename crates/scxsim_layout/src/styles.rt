@@ -10,7 +10,7 @@ text{fill:#1b1f24}\n\
 .c0{stroke:#0072b2}.c1{stroke:#e69f00}.c2{stroke:#009e73}.c3{stroke:#56b4e9}.c4{stroke:#cc79a7}.c5{stroke:#f0e442}\n\
 .several{fill:#4d5a68}.c6{stroke:#4d5a68}.cw{stroke:#7d858d}.cp{stroke:#8a6d00}\n\
 .wp{fill:#e4e7ea}.wl{stroke:#7d858d;fill:none}.pp{fill:#f6e9b2}.pl{stroke:#8a6d00;fill:none}.il{stroke:#d55e00;fill:none}\n\
-.m0,.m2{fill:#fff}.m1,.m3,.m4,.m5{fill:#101418}\n\
+.m0{fill:#fff}.m1,.m2,.m3,.m4,.m5{fill:#101418}\n\
 .m0,.m1,.m2,.m3,.m4,.m5{font-size:11px;font-weight:600;text-anchor:middle}\n\
 .qg{fill:#ccd2d8}.ql{fill:#7d858d}\n\
 .q0{fill:url(#q0)}.q1{fill:url(#q1)}.q2{fill:url(#q2)}.q3{fill:url(#q3)}\n\
@@ -28,7 +28,7 @@ text{fill:#e8eaed}\n\
 .c0{stroke:#3d97d8}.c2{stroke:#1fb58a}.c3{stroke:#8fd0f5}.c4{stroke:#dd94bd}\n\
 .several{fill:#a3b1c0}.c6{stroke:#a3b1c0}.cw{stroke:#98a2ac}.cp{stroke:#e6c84a}\n\
 .wp{fill:#2b3138}.wl{stroke:#98a2ac}.pp{fill:#4a4013}.pl{stroke:#e6c84a}.il{stroke:#ff7a1a}\n\
-.m0,.m2{fill:#101418}.qg{fill:#454d56}.ql{fill:#98a2ac}\n\
+.m0{fill:#101418}.qg{fill:#454d56}.ql{fill:#98a2ac}\n\
 }\n";
 
 /// The patterns of waits in the queues of a policy.

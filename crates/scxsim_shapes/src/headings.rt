@@ -202,7 +202,7 @@ impl Picture {
         let y = self.legend_end().saturating_add(12);
         sheet.put_number("<text class=\"faint\" x=\"16\" y=\"", y);
         sheet.put_number("\">A column is ", layout.scale.step);
-        sheet.put(" ms: the darker it is, the more of it ran or waited.");
+        sheet.put(" ms: the fuller its colour, the more of it ran or waited.");
         sheet.put(notes);
         sheet.put("</text>\n");
     }
@@ -243,7 +243,8 @@ impl Picture {
 <path class=\"qi\" d=\"M0 2h30v5h-30z\"/><path class=\"edge\" d=\"M0 1.5h30\"/>",
                 "a group's share; line: what is due by weight; hatched: it lacks",
             ),
-            _ => Entry::new(
+            _ => entry_if(
+                self.is_some_idle(),
                 "<path class=\"qi\" d=\"M0 0h30v12h-30z\"/>",
                 "idle while somebody waits",
             ),
@@ -296,6 +297,27 @@ impl Picture {
         } else {
             "runs (letter and colour: the task)"
         }
+    }
+
+    /// Whether a processor was idle while somebody waited.
+    fn is_some_idle(&self) -> bool {
+        let layout = &self.gathered.layout;
+        let mut place = 0usize;
+        for row in &layout.rows {
+            if !row.is_cpu() {
+                return false;
+            }
+            let idle = self
+                .gathered
+                .sums
+                .waited
+                .sum_of(place, 0, layout.scale.columns);
+            if 0 < idle {
+                return true;
+            }
+            place = place.saturating_add(1);
+        }
+        false
     }
 
     /// Whether columns of processors are there.

@@ -273,6 +273,8 @@ group.due = sum / (busy[cells] || 1);\n\
 });\n\
 }\n\
 \n\
+// Whether the next stretch of a task follows at once; one that was let go in between begins anew.\n\
+const goesOn = ({ from, length, why }, i) => from[i] + length[i] === from[i + 1] && (why[i + 1] & 48) !== 48;\n\
 // A wait is the stretches of waiting one behind another. The longest ones are kept.\n\
 function findWaits(run) {\n\
 const worst = [];\n\
@@ -283,9 +285,8 @@ for (let i = run.taskStart[task], since = -1; i < run.taskStart[task + 1]; i++) 
 if (run.cpu[i] !== NOWHERE || run.queue[i] === PARKED) { since = -1; continue; }\n\
 const until = run.from[i] + run.length[i], last = i + 1 === run.taskStart[task + 1];\n\
 if (since < 0) since = run.from[i];\n\
-if (!last && run.cpu[i + 1] === NOWHERE && run.queue[i + 1] !== PARKED && run.from[i + 1] === until) continue;\n\
-const wait = until - since;\n\
-total += wait; number++;\n\
+if (!last && run.cpu[i + 1] === NOWHERE && run.queue[i + 1] !== PARKED && goesOn(run, i)) continue;\n\
+const wait = until - since; total += wait; number++;\n\
 run.longest[task] = Math.max(run.longest[task], wait);\n\
 if (worst.length < 20 || wait > worst[19].length)\n\
 worst.push({ task, from: since, until, length: wait }) && worst.sort((one, other) => other.length - one.length).splice(20);\n\
@@ -350,11 +351,11 @@ return found.sort((a, b) => b.ran - a.ran);\n\
 /* ---------- colours and patterns ---------- */\n\
 // Okabe and Ito's colours; vermillion is kept for what is wrong. Letters on a task's colour are white or black.\n\
 const LIGHT = { paper: \"#ffffff\", ink: \"#1b1f24\", faint: \"#6a7178\", line: \"#d9dde1\", band: \"#f3f5f7\", wrong: \"#d55e00\", wrongPaper: \"#ffffff\",\n\
-wait: \"#7d858d\", waitPaper: \"#d9dee3\", parked: \"#8a6d00\", parkedPaper: \"#f6e9b2\", several: \"#4d5a68\",\n\
-tasks: [\"#0072b2\", \"#e69f00\", \"#009e73\", \"#56b4e9\", \"#cc79a7\", \"#f0e442\"], inks: \"wbwbwb\" };\n\
+wait: \"#7d858d\", waitPaper: \"#ccd2d8\", parked: \"#8a6d00\", parkedPaper: \"#f6e9b2\", several: \"#4d5a68\",\n\
+tasks: [\"#0072b2\", \"#e69f00\", \"#009e73\", \"#56b4e9\", \"#cc79a7\", \"#f0e442\"], inks: \"wbbbbb\" };\n\
 const DARK = { paper: \"#14171b\", ink: \"#e8eaed\", faint: \"#9aa3ab\", line: \"#343a41\", band: \"#1c2025\", wrong: \"#ff7a1a\", wrongPaper: \"#14171b\",\n\
-wait: \"#98a2ac\", waitPaper: \"#363e47\", parked: \"#e6c84a\", parkedPaper: \"#4a4013\", several: \"#a3b1c0\",\n\
-tasks: [\"#3d97d8\", \"#e69f00\", \"#1fb58a\", \"#8fd0f5\", \"#dd94bd\", \"#f0e442\"], inks: \"wbbbbb\" };\n\
+wait: \"#98a2ac\", waitPaper: \"#454d56\", parked: \"#e6c84a\", parkedPaper: \"#4a4013\", several: \"#a3b1c0\",\n\
+tasks: [\"#3d97d8\", \"#e69f00\", \"#1fb58a\", \"#8fd0f5\", \"#dd94bd\", \"#f0e442\"], inks: \"bbbbbb\" };\n\
 const SHADES = 32;\n\
 \n\
 function packed(hex) {\n\
@@ -465,7 +466,7 @@ const offset = plotLeft(), width = plotWidth(), step = perPixel();\n\
 clearBands();\n\
 let i = firstAfter(cpuFrom, cpuLength, run.cpuStart[cpu], last, view.from), x = 0;\n\
 while (x < width) {\n\
-const start = i < last ? (cpuFrom[i] - view.from) / step : width, end = i < last ? start + cpuLength[i] / step : width;\n\
+const start = i < last ? (cpuFrom[i] - view.from) / step : width, end = i < last ? (cpuFrom[i] + cpuLength[i] - view.from) / step : width;\n\
 if (start >= x + 1) {\n\
 const until = Math.min(width, Math.floor(start));\n\
 drawIdle(i > run.cpuStart[cpu] ? cpuFrom[i - 1] + cpuLength[i - 1] : 0, x, until, offset);\n\
@@ -511,7 +512,7 @@ const offset = plotLeft(), width = plotWidth(), step = perPixel(), shades = pale
 clearBands();\n\
 let i = firstAfter(from, length, run.taskStart[task], last, view.from), x = 0;\n\
 while (x < width && i < last) {\n\
-const start = (from[i] - view.from) / step, end = start + length[i] / step;\n\
+const start = (from[i] - view.from) / step, end = (from[i] + length[i] - view.from) / step;\n\
 if (start >= x + 1) { x = Math.min(width, Math.floor(start)); continue; }\n\
 if (end - start >= 2) {\n\
 const x0 = offset + Math.max(x, Math.round(start)), x1 = offset + Math.min(width, Math.max(x + 1, Math.round(end)));\n\
@@ -673,7 +674,7 @@ const indent = (row) => 6 + 10 * row.depth;\n\
 const NAMES = {\n\
 section(row, y) {\n\
 const { ink, faint, wrong } = palette.names, all = run.duration * run.processors;\n\
-write((row.key ? foldMark(row) : \"\") + row.name, 6, y + 13, ink, 12, 600);\n\
+write((row.key ? foldMark(row) : \"\") + row.name, 6, y + 13, ink, 12, 600, left() - 10);\n\
 if (!row.folded) return;\n\
 const idle = run.idle.reduce((sum, one) => sum + one, 0) / all;\n\
 write(\"busy \" + percent(run.cpuBefore[run.cpuFrom.length] / all), 18, y + 29, faint, 11);\n\
@@ -913,10 +914,9 @@ return made;\n\
 // A wait's whole length counts, also where it went on in another queue.\n\
 function wholeWait({ index, task }) {\n\
 const isOwn = (i) => i >= run.taskStart[task] && i < run.taskStart[task + 1], waits = (i) => isOwn(i) && kindOf(i) === kindOf(index);\n\
-const meets = (i) => run.from[i] + run.length[i] === run.from[i + 1];\n\
 let first = index, last = index;\n\
-while (waits(first - 1) && meets(first - 1)) first--;\n\
-while (waits(last + 1) && meets(last)) last++;\n\
+while (waits(first - 1) && goesOn(run, first - 1)) first--;\n\
+while (waits(last + 1) && goesOn(run, last)) last++;\n\
 return [run.from[first], run.from[last] + run.length[last]];\n\
 }\n\
 \n\
@@ -1134,7 +1134,7 @@ if (run.groups.length > 1) items.push([shareWords(), (brush) => {\n\
 paintBoxes(brush, [[names.tasks[3], 0, 8, 30, 6], [names.ink, 0, 3, 30, 1]]);\n\
 paintTile(brush, TILES[WRONG_TILE], names.wrong, names.paper, 4, 8);\n\
 }]);\n\
-items.push([\"less than a pixel: the darker, the more of it ran\", ({ canvas }) => {\n\
+items.push([\"less than a pixel: the fuller its colour, the more of it ran\", ({ canvas }) => {\n\
 canvas.style.background = `linear-gradient(90deg, transparent, ${names.several})`;\n\
 }]);\n\
 return items;\n\
