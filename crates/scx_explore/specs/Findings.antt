@@ -1,6 +1,7 @@
 -- What is found in a list of events.
 use Rattle.std.specs.Prelude.{◌≡◌, ℕ, ◌+◌, ◌-◌, ◌≤◌, ◌==◌, ◌||◌, Bool, true, false, List, [], ◌∷◌, length, nat_lt, ◌<◌, slice_index, slice_index_or, Option, Some, None, option_map, unwrap_or, if◌then◌else◌}
 use Rattle.scx_dsq.specs.Queues.{queue_of}
+use Rattle.scx_sched_world.specs.Faults.{fault_number}
 use Rattle.scx_sched_world.specs.Ids.{policy_end, held_queue}
 use Rattle.scx_sched_world.specs.World.{running}
 use Rattle.scx_sched_world.specs.declared.eject.Eject.TheVariants as cause
@@ -16,8 +17,22 @@ use Rattle.scx_explore_path.specs.declared.outcome.Outcome.{Outcome}
 use Rattle.scx_explore_path.specs.declared.outcome.Outcome.TheVariants as outcome
 use Rattle.scx_explore_path.specs.Outcomes.{IsInForceFor, IsEjectedAt}
 use Rattle.scx_explore_states.specs.declared.watch.Pair.{Pair}
+use Rattle.scx_explore.specs.declared.finding.Sort.{Sort}
+use Rattle.scx_explore.specs.declared.finding.Sort.TheVariants as sort
 use Rattle.scx_explore.specs.declared.finding.Finding.{Finding}
 use Rattle.scx_explore.specs.declared.finding.Finding.TheVariants as finding
+
+-- the place of a sort among those that are told: faults by their numbers, and two behind them
+abbrev pub sort_number : Sort → ℕ
+sort_number (sort.Fault f) = fault_number f
+sort_number sort.Idle = 8
+sort_number sort.Overtaken = 9
+
+-- of which sort a finding is
+abbrev pub sort_of : Finding → Sort
+sort_of (finding.Fault f) = sort.Fault f
+sort_of (finding.Idle c t) = sort.Idle
+sort_of (finding.Overtaken p) = sort.Overtaken
 
 -- the list ends with that event
 abbrev pub IsLast : List Event → Event → Type 0

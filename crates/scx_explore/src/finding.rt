@@ -1,7 +1,7 @@
 ghost use Rattle.std.specs.Prelude.{◌≡◌, true, None};
 ghost use Rattle.scx_dsq.specs.Queues.{queue_of};
 ghost use Rattle.scx_explore_path.specs.declared.outcome.Outcome.TheVariants.{InForce};
-ghost use Rattle.scx_explore.specs.Findings.{Shows, EndsInFault, EndsIdle, IsTwice, IsFaultAtEnd, AreTogether, IsLast, is_left};
+ghost use Rattle.scx_explore.specs.Findings.{sort_number, sort_of, Shows, EndsInFault, EndsIdle, IsTwice, IsFaultAtEnd, AreTogether, IsLast, is_left};
 
 use crate::count::Count;
 use scx_explore_path::{Outcome, replay};
@@ -47,7 +47,9 @@ pub enum Finding {
 
 impl Sort {
     /// Its place in `SORTS`.
-    pub fn number(self) -> u8 {
+    pub fn number(self) -> u8
+        ensures { result ≡ sort_number self }
+    {
         match self {
             Sort::Fault(fault) => fault.number(),
             Sort::Idle => 8,
@@ -58,7 +60,9 @@ impl Sort {
 
 impl Finding {
     /// Of which sort it is.
-    pub fn sort(self) -> Sort {
+    pub fn sort(self) -> Sort
+        ensures { result ≡ sort_of self }
+    {
         match self {
             Finding::Fault(fault) => Sort::Fault(fault),
             Finding::Idle { .. } => Sort::Idle,

@@ -1,4 +1,4 @@
-ghost use Rattle.std.specs.Prelude.{◌≡◌, ◌<◌, ◌≤◌, length};
+ghost use Rattle.std.specs.Prelude.{◌≡◌, ◌<◌, ◌≤◌, false, length, nat_lt};
 
 use crate::words::Words;
 use scx_isa::{Insn, Program};
@@ -39,7 +39,14 @@ impl Form {
     ///
     /// - Waits are left out where no list is long enough that one could end in an ejection.
     /// - Pushes are left out: they are only compared within a queue, and there places say who came first.
-    pub fn without_programs(timeout_ms: u32, depth: usize) -> Form {
+    pub fn without_programs(timeout_ms: u32, depth: usize) -> Form
+        ensures clock { result.clock ≡ false }
+        ensures pushes { result.pushes ≡ false }
+        ensures waits { result.waits ≡ nat_lt timeout_ms depth }
+        ensures run_ns { result.run_ns ≡ false }
+        ensures vtime { result.vtime ≡ false }
+        ensures keys { result.keys ≡ false }
+    {
         Form {
             clock: false,
             pushes: false,
