@@ -1,15 +1,14 @@
 //! What the callbacks of a policy do while a run goes on: how often each was called, which calls of dispatch
-//! took nobody, and what became of those who stood in a queue beside a task that waited.
-//!
-//! A view is told of each callback as it has run. Nothing of the run depends on it.
+//! took nobody, in which queue each task stands, how many came into each, and what became of those who stood in
+//! a queue beside a task that waited.
 #![tactic(auto)]
 
 mod calls;
-mod heeding;
 mod places;
+mod queues;
 mod spells;
 
 pub use calls::{Calls, CpuCalls, LastCall};
-pub use heeding::{Heeds, watch_calls};
 pub use places::{Places, Taken};
+pub use queues::{QueueFigures, Queues};
 pub use spells::{Numbers, Share, Spell};

@@ -1,2 +1,2 @@
-pub mod Idling
+pub mod Idle
 pub mod Pages

@@ -1,22 +1,20 @@
-ghost use Rattle.std.specs.Prelude.{◌≡◌, length, IfOk, IfErr};
+ghost use Rattle.std.specs.Prelude.{◌≡◌, IfOk, IfErr};
 ghost use Rattle.scx_load_driver.specs.Driver.{remaining};
 ghost use Rattle.scxsim_simulation.specs.Runs.{IsCause};
 ghost use Rattle.scxsim_statistics.specs.Figures.{AreOfTexts};
-ghost use Rattle.scxsim_why.specs.Idling.{idle_of, IsIdleOfTexts};
+ghost use Rattle.scxsim_account.specs.Idling.{idle_of};
+ghost use Rattle.scxsim_why.specs.Idle.{IsIdleOfTexts};
 
-use crate::ending::{Cause, Ejection};
 use crate::halves::Half;
-use crate::watching::Account;
 use crate::worst::worst_of;
 use scx_load_policies::{Programs, read_policy};
 use scx_load_workloads::Workload;
-use scx_sched::Sim;
-use scxsim_calls::watch_calls;
+use scxsim_account::{Account, Cause, Ejection, IdleFigures, account_of};
 use scxsim_commands::Refusal;
 use scxsim_faults::{FaultPlace, find_fault};
 use scxsim_simulation::{Heard, Listener, Run, give_back, prepare};
 use scxsim_statistics::{Figures, figures};
-use scxsim_trace::Events;
+use scxsim_waits::LongWait;
 use std::alloc::{AllocError, Global};
 
 /// What was found out of a run.
@@ -30,15 +28,6 @@ pub struct Findings {
     pub(crate) fault: Option<FaultPlace>,
     /// The programs of the policy.
     pub(crate) programs: Programs,
-}
-
-/// How processors were idle while a task waited for one.
-#[derive(Clone, Copy)]
-pub struct IdleFigures {
-    /// How often that began on a processor.
-    pub count: u64,
-    /// For how many milliseconds it was so, of all processors together.
-    pub lost: u64,
 }
 
 /// What is found out of the run that the texts of a policy file and of a workload file stand for.
@@ -57,8 +46,15 @@ pub fn examine<L: Listener>(
     ensures refused { IfErr result (IsCause policy.now workload.now) }
 {
     let figures = first_half(alloc, policy, workload, listener)?;
+    let worst = worst_of(alloc, &figures)?;
     let run = prepare(alloc, policy, workload)?;
-    let account = second_half(alloc, &figures, run, listener)?;
+    let account = second_half(
+        alloc,
+        worst.as_slice(),
+        figures.ejected.is_some(),
+        run,
+        listener,
+    )?;
     let idle = account.idling.figures();
     let fault = fault_of(alloc, policy, &figures.workload, account.ejection)?;
     let programs = programs_of(alloc, policy)?;
@@ -115,10 +111,11 @@ fn first_half<L: Listener>(
     figures(alloc, policy, workload, &mut half)
 }
 
-/// Goes through the run the second time.
+/// Goes through the run the second time, and watches what becomes of these waits.
 fn second_half<L: Listener>(
     alloc: Global,
-    figures: &Figures,
+    waits: &[LongWait],
+    is_ejected: bool,
     run: Run,
     listener: &mut L,
 ) -> Result<Account, AllocError>
@@ -129,13 +126,14 @@ fn second_half<L: Listener>(
         listener,
         is_second: true,
     };
-    go_through(alloc, figures, run, &mut half)
+    go_through(alloc, waits, is_ejected, run, &mut half)
 }
 
-/// Goes through the run, and watches what becomes of the longest waits.
+/// The same, and tells a listener of it.
 fn go_through<L: Listener>(
     alloc: Global,
-    figures: &Figures,
+    waits: &[LongWait],
+    is_ejected: bool,
     run: Run,
     listener: &mut L,
 ) -> Result<Account, AllocError>
@@ -149,26 +147,8 @@ fn go_through<L: Listener>(
         ..
     } = run;
     let mut events = Heard::new(driver, workload.ms(), listener);
-    let account = account_from(alloc, figures, &mut events, &mut sim);
+    let account = account_of(alloc, waits, is_ejected, &mut events, &mut sim);
     give_back(events, sim);
     drop(workload);
     account
-}
-
-/// The same of a run that is lent.
-fn account_from<E: Events>(
-    alloc: Global,
-    figures: &Figures,
-    events: &mut E,
-    sim: &mut Sim,
-) -> Result<Account, AllocError>
-    ensures { IfOk result (λ account. account.idling
-        ≡ idle_of sim.old (E.remaining events.old sim.old)) }
-{
-    let worst = worst_of(alloc, figures)?;
-    let mut account = Account::new(alloc, sim, worst.as_slice())?;
-    watch_calls(sim, events, &mut account);
-    account.result?;
-    account.end(sim);
-    Ok(account)
 }

@@ -5,22 +5,11 @@
 //! second time. So memory doesn't grow with the length of a run.
 #![tactic(auto)]
 
-mod ending;
 mod finding;
 mod halves;
-mod idling;
 mod page;
-mod parts;
-mod queues;
-mod recent;
-mod runners;
-mod spells;
-mod stretches;
 mod telling;
-mod waits;
-mod watching;
-mod words;
 mod worst;
 
-pub use finding::{Findings, IdleFigures, examine};
+pub use finding::{Findings, examine};
 pub use telling::why;

@@ -1,16 +1,14 @@
-use crate::ending::{Cause, Ejection};
 use crate::finding::Findings;
-use crate::parts::{write_calls, write_last_lines, write_queues, write_stretches, write_waits};
-use crate::runners::{runners, write_ran};
-use crate::stretches::Seen;
-use crate::waits::Meanwhile;
-use crate::watching::Account;
-use crate::words::Count;
+use scx_isa::Callback;
 use scx_load_workloads::Workload;
-use scx_sched::{Event, Fault};
+use scx_sched::Event;
+use scxsim_account::{Account, Cause, Ejection};
+use scxsim_account_text::{
+    Ejected, write_calls, write_event, write_idle, write_last_lines, write_never, write_queues,
+    write_stall, write_stretches, write_undrained, write_unplaced, write_waits, write_worst,
+};
 use scxsim_faults::{FaultPlace, write_call, write_policy_queues, write_reason};
-use scxsim_trace::Names;
-use scxsim_views::{QueueName, fault_words};
+use scxsim_statistics::Figures;
 use std::alloc::{AllocError, Global};
 
 /// Makes the page, behind its first word.
@@ -21,19 +19,24 @@ pub(crate) fn write_page(
 ) -> Result<(), AllocError> {
     let account = &found.account;
     let workload = &found.figures.workload;
+    let has_dispatch = found.programs.get(Callback::Dispatch).is_some();
     write_ending(workload, account.ejection, found.fault, page)?;
-    write_worst(alloc, found, page)?;
-    write_idle(found, page)?;
-    write_undrained(account, page)?;
-    write_never(found, page)?;
-    write_last_lines(alloc, workload, account, page)?;
-    write_waits(alloc, found, page)?;
-    write_stretches(found, page)?;
-    write_calls(found, page)?;
-    write_queues(found, page)
+    write_worst(alloc, workload, &account.waits, page)?;
+    write_idle(workload, found.idle.lost, &account.stretches, page)?;
+    write_undrained(&account.queues, page)?;
+    write_who_never_ran(alloc, &found.figures, page)?;
+    write_up_to_ejection(alloc, workload, account, page)?;
+    write_waits(alloc, workload, &account.waits, page)?;
+    write_stretches(
+        workload,
+        found.idle.count,
+        &account.stretches,
+        has_dispatch,
+        page,
+    )?;
+    write_calls(&found.programs, &account.calls, page)?;
+    write_queues(workload, &account.queues, page)
 }
-
-// The lines at the top.
 
 fn write_ending(
     workload: &Workload,
@@ -48,10 +51,7 @@ fn write_ending(
     let clock = ejection.clock;
     write!(page, "ejected at {clock} ms: ")?;
     match ejection.cause {
-        Cause::Stall(task) => {
-            let name = workload.task(task);
-            writeln!(page, "{name} had waited too long (stall)")
-        }
+        Cause::Stall(task) => write_stall(workload, task, page),
         Cause::Fault(fault, event) => {
             let number = fault.number();
             write!(page, "fault {number}")?;
@@ -82,155 +82,39 @@ fn write_fault(
     page.push_str("\n")
 }
 
-/// Writes a fault of which no more is known.
-fn write_unplaced(
-    workload: &Workload,
-    fault: Fault,
-    event: Event,
+/// Writes who never ran.
+fn write_who_never_ran(
+    alloc: Global,
+    figures: &Figures,
     page: &mut String,
 ) -> Result<(), AllocError> {
-    let words = fault_words(fault);
-    write!(page, ", {words}, ")?;
-    write_event(workload, event, page)?;
-    page.push_str("\n")
-}
-
-fn write_event(workload: &Workload, event: Event, page: &mut String) -> Result<(), AllocError> {
-    match event {
-        Event::Wake(task) => {
-            let name = workload.task(task);
-            write!(page, "as {name} woke")
+    let mut never_ran = Vec::new(alloc);
+    for (number, task) in figures.tasks.iter().enumerate() {
+        if task.run == 0 {
+            never_ran.push(u16::try_from(number).unwrap_or(u16::MAX))?;
         }
-        Event::Sleep(task) => {
-            let name = workload.task(task);
-            write!(page, "as {name} went to sleep")
-        }
-        Event::Tick(cpu) => write!(page, "at a tick of processor {cpu}"),
-        Event::Clock => write!(page, "as the clock grew"),
-        Event::SetWeight(_, _) => write!(page, "as a weight changed"),
     }
+    write_never(&figures.workload, never_ran.as_slice(), page)
 }
 
-/// Who waited longest, where, and who ran meanwhile.
-fn write_worst(alloc: Global, found: &Findings, page: &mut String) -> Result<(), AllocError> {
-    let workload = &found.figures.workload;
-    let Some(wait) = found.account.waits.waits.as_slice().first() else {
-        return page.push_str("no task waited\n");
-    };
-    write_wait(workload, wait, page)?;
-    write_places(wait, page)?;
-    page.push_str("; meanwhile")?;
-    write_runners(alloc, workload, wait, page)?;
-    page.push_str("\n")
-}
-
-pub(crate) fn write_wait(
-    workload: &Workload,
-    told: &Meanwhile,
-    page: &mut String,
-) -> Result<(), AllocError> {
-    let name = workload.task(told.wait.task);
-    let length = told.wait.length;
-    let since = told.wait.since;
-    let until = since.saturating_add(length);
-    write!(page, "{name} waited {length} ms, from {since} to {until}")
-}
-
-/// Writes the queues in which a task stood, without one that it left at once.
-fn write_places(wait: &Meanwhile, page: &mut String) -> Result<(), AllocError> {
-    let mut before = ", in";
-    for station in wait.stations.as_slice() {
-        let queue = QueueName(station.queue);
-        write!(page, "{before} {queue}")?;
-        before = ", then";
-    }
-    Ok(())
-}
-
-/// Writes for how long each task ran during a wait.
-fn write_runners(
+/// Writes the last lines of the trace up to the ejection, if there is one.
+fn write_up_to_ejection(
     alloc: Global,
     workload: &Workload,
-    wait: &Meanwhile,
+    account: &Account,
     page: &mut String,
 ) -> Result<(), AllocError> {
-    let ran = runners(alloc, workload, wait, None)?;
-    let before = write_ran(workload, ran.as_slice(), page)?;
-    let idle = wait.ran(workload.cpus(), None);
-    if 0 < idle {
-        write!(page, "{before}processors were idle for {idle} ms")?;
-    }
-    Ok(())
-}
-
-pub(crate) fn tasks_of(workload: &Workload) -> u16 {
-    u16::try_from(workload.tasks().len()).unwrap_or(u16::MAX)
-}
-
-fn write_idle(found: &Findings, page: &mut String) -> Result<(), AllocError> {
-    let workload = &found.figures.workload;
-    let Some(longest) = found.account.stretches.longest.as_slice().first() else {
-        return page.push_str("no processor was idle while a task waited\n");
+    let Some(ejection) = account.ejection else {
+        return Ok(());
     };
-    let lost = found.idle.lost;
-    write!(page, "idle while tasks waited: {lost} ms in all; ")?;
-    write_stretch(workload, longest, page)?;
-    page.push_str("\n")
-}
-
-pub(crate) fn write_stretch(
-    workload: &Workload,
-    seen: &Seen,
-    page: &mut String,
-) -> Result<(), AllocError> {
-    let stretch = seen.stretch;
-    let length = stretch.length();
-    write!(
-        page,
-        "processor {} for {} ms from {} to {}",
-        stretch.cpu, length, stretch.since, stretch.until
-    )?;
-    if let Some(stander) = seen.beginning.stander {
-        let name = workload.task(stander.task);
-        write!(page, ", as {name} waited")?;
-        if let Some(queue) = stander.queue {
-            let queue = QueueName(queue);
-            write!(page, " in {queue}")?;
-        }
-    }
-    Ok(())
-}
-
-/// Writes the queues that tasks came into and nobody left.
-fn write_undrained(account: &Account, page: &mut String) -> Result<(), AllocError> {
-    let mut before = "nobody left ";
-    for figures in account.queues.figures.as_slice() {
-        if figures.left == 0 {
-            let queue = QueueName(figures.queue);
-            let came = Count(figures.came, "task");
-            write!(page, "{before}{queue}, into which came {came}")?;
-            before = "; ";
-        }
-    }
-    if before == "nobody left " {
-        page.push_str("of each queue that tasks came into somebody left")?;
-    }
-    page.push_str("\n")
-}
-
-/// Writes who never ran.
-fn write_never(found: &Findings, page: &mut String) -> Result<(), AllocError> {
-    let workload = &found.figures.workload;
-    let mut before = "never ran: ";
-    for (number, task) in found.figures.tasks.iter().enumerate() {
-        if task.run == 0 {
-            let name = workload.task(u16::try_from(number).unwrap_or(u16::MAX));
-            write!(page, "{before}{name}")?;
-            before = ", ";
-        }
-    }
-    if before == "never ran: " {
-        page.push_str("each task ran")?;
-    }
-    page.push_str("\n")
+    let Some(recent) = &account.recent else {
+        return Ok(());
+    };
+    let notes = recent.of_ejection(alloc, ejection)?;
+    let of = Ejected {
+        task: ejection.task,
+        cpu: ejection.cpu,
+        notes: notes.as_slice(),
+    };
+    write_last_lines(alloc, workload, of, page)
 }

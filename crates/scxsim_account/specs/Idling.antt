@@ -1,0 +1,101 @@
+-- When processors are idle while somebody waits: what is kept of it as the events and notes of
+-- a run come.
+use Rattle.std.specs.Prelude.{ℕ, ◌≡◌, ◌+◌, ◌-◌, ◌^◌, min, ◌==◌, ◌&&◌, if◌then◌else◌, not, Bool, false, List, length, replicate, Option, Some, None, is_some, slice_index_or, slice_set}
+use Rattle.std.specs.List.{list_any}
+use Rattle.scx_sched_world.specs.declared.notes.What.{What}
+use Rattle.scx_sched_world.specs.World.{running}
+use Rattle.scx_sched_machine.specs.declared.events.Event.{Event}
+use Rattle.scx_sched_machine.specs.declared.events.Event.TheVariants as event
+use Rattle.scx_sched.specs.Sim.{SimState}
+use Rattle.scxsim_views.specs.declared.pauses.Doing.{Doing}
+use Rattle.scxsim_views.specs.declared.pauses.Doing.TheVariants.{Sleeps}
+use Rattle.scxsim_views.specs.declared.pauses.Pause.{Pause}
+use Rattle.scxsim_views.specs.declared.pauses.PauseKind.{PauseKind}
+use Rattle.scxsim_views.specs.declared.pauses.PauseKind.TheVariants as kind
+use Rattle.scxsim_views.specs.Pauses.{waits, doing_after, open_pause}
+use Rattle.scxsim_views.specs.Watching.{kept_of_all}
+use Rattle.scxsim_account.specs.declared.idling.IdleFigures.{IdleFigures}
+
+-- a number with one more, up to the greatest of 64 bits
+abbrev pub one_more : ℕ → ℕ
+one_more n = min (n + 1) (2 ^ 64 - 1)
+
+-- since when its task waits for a processor, of a pause that began then; a parked task doesn't wait
+abbrev pub since_of : PauseKind → ℕ → Option ℕ
+since_of kind.Wait since = Some since
+since_of kind.Parked since = None
+
+-- the same of a pause, if there is one
+abbrev pub wait_since : Option Pause → Option ℕ
+wait_since None = None
+wait_since (Some p) = since_of p.kind p.since
+
+-- since when that task waits for a processor, if it does
+abbrev pub waits_since : List Doing → ℕ → Option ℕ
+waits_since ds t = wait_since (open_pause 0 ds t)
+
+-- what each task does, whether one waited as the ticks of the millisecond at
+-- hand began, since when each processor has been idle while one did, how often that began, and for
+-- how many milliseconds in all
+pub record Idle : Type 0 where
+  pub doing : List Doing
+  pub waited : Bool
+  pub since : List (Option ℕ)
+  pub count : ℕ
+  pub lost : ℕ
+
+-- since when that processor has been idle while somebody waited, if it has
+abbrev pub since_at : List (Option ℕ) → ℕ → Option ℕ
+since_at xs c = slice_index_or xs c None
+
+-- the ticks of a millisecond begin with that of the first processor: who waits then waited in it
+abbrev pub ticks_begin : ℕ → Idle → Idle
+ticks_begin c k = if c == 0 then record k { waited = list_any waits k.doing } else k
+
+-- a processor is idle for a millisecond while somebody waits: a stretch goes on, or begins
+abbrev pub one_lost : ℕ → ℕ → Idle → Idle
+one_lost clock c k =
+    if is_some (since_at k.since c) then record k { lost = one_more k.lost }
+    else record k { lost = one_more k.lost; count = one_more k.count; since = slice_set k.since c (Some clock) }
+
+-- no stretch of that processor goes on
+abbrev pub closed : ℕ → Idle → Idle
+closed c k = record k { since = slice_set k.since c None }
+
+-- a processor's tick: a millisecond is lost, or no stretch of it goes on
+abbrev pub ticked : ℕ → ℕ → Bool → Idle → Idle
+ticked clock c is_idle k =
+    if k.waited && is_idle then one_lost clock c k else closed c k
+
+-- what is kept behind an event, before its notes: a tick is of a processor that runs a task or none
+abbrev pub idle_after_event : SimState → Event → Idle → Idle
+idle_after_event s (event.Tick c) k =
+    ticked s.state.world.clock c (not (is_some (running s.state.world c))) (ticks_begin c k)
+idle_after_event s (event.Wake t) k = k
+idle_after_event s (event.Sleep t) k = k
+idle_after_event s event.Clock k = k
+idle_after_event s (event.SetWeight g x) k = k
+
+-- what is kept behind a note
+abbrev pub idle_after_note : ℕ → What → Idle → Idle
+idle_after_note clock what k = record k { doing = doing_after clock what k.doing }
+
+-- what is kept before a run
+abbrev pub none_idle : ℕ → ℕ → Idle
+none_idle tasks cpus = record {
+  doing = replicate tasks Sleeps;
+  waited = false;
+  since = replicate cpus None;
+  count = 0;
+  lost = 0;
+}
+
+-- what is kept of a whole run of these events from that state on
+abbrev pub idle_of : SimState → List Event → Idle
+idle_of s es =
+    kept_of_all idle_after_event idle_after_note s es
+    (none_idle (length s.state.world.tasks) (length s.state.world.cpus))
+
+-- what is told of it
+abbrev pub figures_of : Idle → IdleFigures
+figures_of k = record { count = k.count; lost = k.lost }

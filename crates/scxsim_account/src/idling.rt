@@ -1,0 +1,171 @@
+ghost use Rattle.std.specs.Prelude.{◌≡◌, is_some, is_none, slice_set, IfOk};
+ghost use Rattle.scx_sched_world.specs.World.{running};
+ghost use Rattle.scxsim_account.specs.Idling.{none_idle, since_at, ticks_begin, one_lost, closed, ticked, idle_after_event, idle_after_note, figures_of, since_of, waits_since};
+
+use scx_sched::{Event, Sim, What};
+use scxsim_views::{PauseKind, Pauses};
+use std::alloc::{AllocError, Global};
+use std::marker::Model;
+
+/// How processors were idle while a task waited for one.
+#[derive(Clone, Copy)]
+pub struct IdleFigures {
+    /// How often that began on a processor.
+    pub count: u64,
+    /// For how many milliseconds it was so, of all processors together.
+    pub lost: u64,
+}
+
+/// Which processors are idle while somebody waits.
+///
+/// In a contract it is what is kept of that, with what each task does.
+#[derive(Drop)]
+pub struct Idling {
+    pub(crate) pauses: Pauses,
+    /// Whether somebody waited as the ticks of the millisecond at hand began.
+    waited: bool,
+    /// Since when each processor has been idle while somebody waited.
+    since: Vec<Option<u64>>,
+    /// How many stretches have begun.
+    count: u64,
+    /// For how many milliseconds processors were idle so, in all.
+    lost: u64,
+}
+
+impl Model for Idling {
+    ghost use Rattle.scxsim_account.specs.Idling.{Idle};
+
+    ghost Value = { Idle };
+
+    ghost view = { λ i. record {
+      doing = i.pauses;
+      waited = i.waited;
+      since = i.since.items;
+      count = i.count;
+      lost = i.lost;
+    } };
+}
+
+impl Idling {
+    /// Before a run of so many tasks on so many processors.
+    pub(crate) fn new(alloc: Global, tasks: u16, cpus: u32) -> Result<Idling, AllocError>
+        ensures { IfOk result (λ idling. idling ≡ none_idle tasks cpus) }
+    {
+        Ok(Idling {
+            pauses: Pauses::new(alloc, tasks as usize)?,
+            waited: false,
+            since: vec![in alloc; None; cpus as usize]?,
+            count: 0,
+            lost: 0,
+        })
+    }
+
+    /// That event comes next.
+    pub(crate) fn expect(&mut self, sim: &Sim, event: Event)
+        ensures { self.new ≡ idle_after_event sim.now event self.old }
+    {
+        match event {
+            Event::Tick(cpu) => {
+                self.begin_ticks(cpu);
+                self.tick(sim.clock(), cpu, running_on(sim, cpu).is_none());
+            }
+            Event::Wake(_) | Event::Sleep(_) | Event::Clock | Event::SetWeight(_, _) => {}
+        }
+    }
+
+    /// Something happens.
+    pub(crate) fn show(&mut self, clock: u64, what: What)
+        ensures { self.new ≡ idle_after_note clock what self.old }
+    {
+        let _ = self.pauses.show(clock, what);
+    }
+
+    /// Since when the processor has been idle while somebody waited, if it has.
+    pub(crate) fn since(&self, cpu: u32) -> Option<u64>
+        ensures { result ≡ since_at self.now.since cpu }
+    {
+        *self.since.get(cpu as usize)?
+    }
+
+    /// How often and for how long processors were idle while somebody waited.
+    pub fn figures(&self) -> IdleFigures
+        ensures { result ≡ figures_of self.now }
+    {
+        IdleFigures {
+            count: self.count,
+            lost: self.lost,
+        }
+    }
+
+    /// Who waits is settled before the first processor's tick, since ticks may stop tasks.
+    fn begin_ticks(&mut self, cpu: u32)
+        ensures { self.new ≡ ticks_begin cpu self.old }
+    {
+        if cpu == 0 {
+            self.waited = self.pauses.somebody_waits();
+        }
+    }
+
+    fn tick(&mut self, clock: u64, cpu: u32, is_idle: bool)
+        ensures { self.new ≡ ticked clock cpu is_idle self.old }
+    {
+        if self.waited && is_idle {
+            self.lose(clock, cpu);
+        } else {
+            self.close(cpu);
+        }
+    }
+
+    /// The processor is idle for a millisecond while somebody waits.
+    fn lose(&mut self, clock: u64, cpu: u32)
+        ensures { self.new ≡ one_lost clock cpu self.old }
+    {
+        self.lost = self.lost.saturating_add(1);
+        if self.since(cpu).is_none() {
+            self.count = self.count.saturating_add(1);
+            set(&mut self.since, cpu, Some(clock));
+        }
+    }
+
+    fn close(&mut self, cpu: u32)
+        ensures { self.new ≡ closed cpu self.old }
+    {
+        set(&mut self.since, cpu, None);
+    }
+}
+
+fn set(since: &mut Vec<Option<u64>>, cpu: u32, value: Option<u64>)
+    ensures { since.new.items ≡ slice_set since.old.items cpu value }
+{
+    if let Some(place) = since.get_mut(cpu as usize) {
+        *place = value;
+    }
+}
+
+/// Since when the task has waited for a processor, if it does. One that is parked doesn't.
+pub(crate) fn waits_since(pauses: &Pauses, task: u16) -> Option<u64>
+    ensures { result ≡ waits_since pauses.now task }
+{
+    let pause = pauses.open_pause(task, 0)?;
+    since_of(pause.kind, pause.since)
+}
+
+fn since_of(kind: PauseKind, since: u64) -> Option<u64>
+    ensures { result ≡ since_of kind since }
+{
+    match kind {
+        PauseKind::Wait => Some(since),
+        PauseKind::Parked => None,
+    }
+}
+
+/// Who runs on the processor.
+pub(crate) fn running_on(sim: &Sim, cpu: u32) -> Option<u16>
+    ensures { result ≡ running sim.now.state.world cpu }
+{
+    if cpu < sim.cpus() {
+        sim.running(cpu)
+    } else {
+        None
+    }
+}

@@ -1,0 +1,75 @@
+use crate::words::Count;
+use scx_load_workloads::Workload;
+use scxsim_trace::Names;
+use std::alloc::{AllocError, Global};
+
+/// How many of those who ran are named.
+const NAMED: usize = 10;
+
+/// For how many milliseconds a task ran.
+#[derive(Clone, Copy)]
+pub(crate) struct Runner {
+    task: u16,
+    ms: u64,
+}
+
+/// Who of so many tasks ran for how long, if each did for so long: in their order, and the longest first where they are
+/// many.
+pub(crate) fn runners(alloc: Global, tasks: u16, each: &[u64]) -> Result<Vec<Runner>, AllocError> {
+    let mut ran = Vec::new(alloc);
+    for task in 0..tasks {
+        let ms = ms_at(each, task);
+        if 0 < ms {
+            ran.push(Runner { task, ms })?;
+        }
+    }
+    if NAMED < ran.len() {
+        ran.sort_by_key(|runner| u64::MAX - runner.ms)?;
+    }
+    Ok(ran)
+}
+
+/// Writes who ran for how long, and of those who aren't named how many they are and for how long they ran together. The
+/// answer is what stands before more.
+pub(crate) fn write_ran(
+    workload: &Workload,
+    ran: &[Runner],
+    page: &mut String,
+) -> Result<&'static str, AllocError> {
+    for (place, runner) in ran.iter().enumerate() {
+        if place < NAMED {
+            let before = before_place(place);
+            let name = workload.task(runner.task);
+            let ms = runner.ms;
+            write!(page, "{before}{name} ran {ms} ms")?;
+        }
+    }
+    if NAMED < ran.len() {
+        let others = Count(ran.len().saturating_sub(NAMED) as u64, "other");
+        let ms = sum(ran, NAMED);
+        write!(page, ", {others} ran {ms} ms")?;
+    }
+    Ok(before_place(ran.len()))
+}
+
+/// For how many milliseconds the task ran, or nobody, which stands behind all tasks.
+pub(crate) fn ms_at(each: &[u64], task: u16) -> u64 {
+    match each.get(task as usize) {
+        Some(ms) => *ms,
+        None => 0,
+    }
+}
+
+/// What stands before the runner at that place.
+fn before_place(place: usize) -> &'static str {
+    if place == 0 { " " } else { ", " }
+}
+
+/// For how long they ran together, but for the first so many.
+fn sum(ran: &[Runner], first: usize) -> u64 {
+    let mut sum = 0u64;
+    for runner in ran.iter().skip(first) {
+        sum = sum.saturating_add(runner.ms);
+    }
+    sum
+}
