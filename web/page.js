@@ -257,11 +257,12 @@ function whoRan(run, from, until) {
 }
 
 /* ---------- colours and patterns ---------- */
-// Okabe and Ito's colours; vermillion is kept for what is wrong. Letters on a task's colour are white or black.
-const LIGHT = { paper: "#ffffff", ink: "#1b1f24", faint: "#6a7178", line: "#d9dde1", band: "#f3f5f7", wrong: "#d55e00", wrongPaper: "#ffffff",
+// Okabe and Ito's colours; vermillion is kept for what is wrong, and words in it are darker on light paper. Letters on a
+// task's colour are white or black.
+const LIGHT = { paper: "#ffffff", ink: "#1b1f24", faint: "#6a7178", line: "#d9dde1", band: "#f3f5f7", wrong: "#d55e00", wrongInk: "#b84a00", wrongPaper: "#ffffff",
   wait: "#7d858d", waitPaper: "#ccd2d8", parked: "#8a6d00", parkedPaper: "#f6e9b2", several: "#4d5a68",
   tasks: ["#0072b2", "#e69f00", "#009e73", "#56b4e9", "#cc79a7", "#f0e442"], inks: "wbbbbb" };
-const DARK = { paper: "#14171b", ink: "#e8eaed", faint: "#9aa3ab", line: "#343a41", band: "#1c2025", wrong: "#ff7a1a", wrongPaper: "#14171b",
+const DARK = { paper: "#14171b", ink: "#e8eaed", faint: "#9aa3ab", line: "#343a41", band: "#1c2025", wrong: "#ff7a1a", wrongInk: "#ff7a1a", wrongPaper: "#14171b",
   wait: "#98a2ac", waitPaper: "#454d56", parked: "#e6c84a", parkedPaper: "#4a4013", several: "#a3b1c0",
   tasks: ["#3d97d8", "#e69f00", "#1fb58a", "#8fd0f5", "#dd94bd", "#f0e442"], inks: "bbbbbb" };
 const SHADES = 32;
@@ -581,23 +582,23 @@ const indent = (row) => 6 + 10 * row.depth;
 // What stands beside a row, by its kind.
 const NAMES = {
   section(row, y) {
-    const { ink, faint, wrong } = palette.names, all = run.duration * run.processors;
+    const { ink, faint, wrongInk } = palette.names, all = run.duration * run.processors;
     write((row.key ? foldMark(row) : "") + row.name, 6, y + 13, ink, 12, 600, left() - 10);
     if (!row.folded) return;
     const idle = run.idle.reduce((sum, one) => sum + one, 0) / all;
     write("busy " + percent(run.cpuBefore[run.cpuFrom.length] / all), 18, y + 29, faint, 11);
-    if (idle > 0) write("idle, somebody waits " + percent(idle), 18, y + 44, wrong, 11, 400, left() - 22);
+    if (idle > 0) write("idle, somebody waits " + percent(idle), 18, y + 44, wrongInk, 11, 400, left() - 22);
   },
   cpu({ number, high }, y) {
-    const { ink, wrong } = palette.names, idle = run.idle[number], told = high >= 28 && idle > 0, isThin = high < 12;
+    const { ink, wrongInk } = palette.names, idle = run.idle[number], told = high >= 28 && idle > 0, isThin = high < 12;
     if (!isThin || number % 4 === 0) write("cpu " + number, 12, y + high / 2 - (told ? 6 : 0), ink, isThin ? 10 : 12);
-    if (told) write((view.wide ? "idle, somebody waits: " : "idle: ") + timeText(idle), 12, y + high / 2 + 8, wrong, 11, 400, left() - 16);
+    if (told) write((view.wide ? "idle, somebody waits: " : "idle: ") + timeText(idle), 12, y + high / 2 + 8, wrongInk, 11, 400, left() - 16);
   },
   group(row, y) {
-    const group = run.groups[row.number], { ink, faint, wrong } = palette.names, x = indent(row), room = left() - 10 - x;
+    const group = run.groups[row.number], { ink, faint, wrongInk } = palette.names, x = indent(row), room = left() - 10 - x;
     write(foldMark(row) + group.name, x, y + 11, ink, 12, 600, room);
     const share = percent(group.share) + " of " + percent(group.due), isShort = group.due - group.share > 0.05;
-    if (run.groups.length > 1) write(view.wide ? "has " + share + " due" : share, x, y + 25, isShort ? wrong : faint, 11, 400, room);
+    if (run.groups.length > 1) write(view.wide ? "has " + share + " due" : share, x, y + 25, isShort ? wrongInk : faint, 11, 400, room);
     if (row.folded) write(group.all + (group.all === 1 ? " task" : " tasks"), x, y + 40, faint, 11, 400, room);
   },
   task(row, y) {
@@ -660,10 +661,11 @@ function tickText(time, step) {
 
 function drawAxis(offset, wide) {
   const { line, faint, ink } = palette.names, step = Math.max(1, roundStep((view.until - view.from) / (wide - offset) * 80));
+  const struck = isEjectionShown() ? ejectionAt(offset) : -1;  // where the line of an ejection crosses the numbers
   for (let time = Math.ceil((run.begin + view.from) / step) * step - run.begin; time <= view.until; time += step) {
-    const x = Math.round(offset + toPixel(time) / ratio), words = tickText(time, step);
+    const x = Math.round(offset + toPixel(time) / ratio), words = tickText(time, step), end = x + 3 + 7 * words.length;
     box(x, AXIS - 7, 1, 7, faint);
-    if (x + 7 * words.length < wide) write(words, x + 3, AXIS - 12, faint, 11);
+    if (end < wide + 3 && !(x + 2 < struck && struck < end + 2)) write(words, x + 3, AXIS - 12, faint, 11);
   }
   box(0, AXIS - 1, wide, 1, line);
   write("Time", 6, AXIS - 12, ink, 11, 600);
@@ -675,12 +677,14 @@ function endedWords() {
   return "ejected at " + momentText(at) + ": " + (how === "stall" ? "stall of " + run.tasks[task].name : "fault " + code + " (" + FAULTS[code] + ")");
 }
 
+const ejectionAt = (offset) => Math.round(offset + toPixel(run.ended.at ?? -1) / ratio);
+
 function drawEjection(offset, wide, high) {
-  const x = Math.round(offset + toPixel(run.ended.at ?? -1) / ratio);
+  const x = ejectionAt(offset);
   if (!isEjectionShown() || x < offset || x > wide) return;
   const words = endedWords(), room = 7 * words.length + 6, at = Math.max(0, x + room > wide ? x - room : x);
   box(x - 1, 0, 2, high, palette.names.wrong);
-  box(at, 0, room, 16, palette.names.wrong);
+  box(at, 0, room, 16, palette.names.wrongInk);
   write(words, at + 5, 8.5, palette.dark ? "#101418" : "#ffffff", 11, 600);
 }
 
@@ -688,12 +692,12 @@ function drawEjection(offset, wide, high) {
 function drawLongWait({ task, from, until, length }, offset) {
   const row = view.rows[rowOf("task", task)];
   if (!row) return;
-  const x0 = Math.max(offset - 4, offset + toPixel(from) / ratio), x1 = offset + toPixel(until) / ratio, { wrong } = palette.names;
+  const x0 = Math.max(offset - 4, offset + toPixel(from) / ratio), x1 = offset + toPixel(until) / ratio, { wrong, wrongInk } = palette.names;
   const y = AXIS + row.y - view.scroll, top = y + 3 + (row.high - 6) * 0.6;
   const isCut = from === 0 && run.begin > 0 || until === run.duration && run.begin + until < run.ms;
   const words = (isCut ? "waited at least " : "waited ") + timeText(length) + (run.begin + until === run.ms ? ", to the end" : "");
   frame(x0 + 0.5, top - 0.5, x1 - x0 - 1, y + row.high - 2.5 - top, wrong);
-  if (x1 - x0 > 7 * words.length && row.high >= 18) write(words, Math.max(x0, offset) + 4, y + 3 + (row.high - 6) * 0.3, wrong, 11, 600);
+  if (x1 - x0 > 7 * words.length && row.high >= 18) write(words, Math.max(x0, offset) + 4, y + 3 + (row.high - 6) * 0.3, wrongInk, 11, 600);
 }
 
 function drawChanges(offset) {

@@ -96,7 +96,7 @@ impl Picture {
         sheet.put("z\"/>\n");
     }
 
-    /// Draws the line of an ejection, if it is in the picture.
+    /// Draws the line of an ejection, if it is in the picture, from below the numbers of the axis on.
     fn draw_ejection(&self, sheet: &mut Sheet) {
         let layout = &self.gathered.layout;
         let Some(ejection) = self.gathered.ejection else {
@@ -108,7 +108,7 @@ impl Picture {
         }
         let x = layout.scale.x(moment);
         sheet.put_hundredths("<path class=\"frame\" stroke-width=\"2\" d=\"M", x);
-        sheet.put_number(" -26V", layout.high);
+        sheet.put_number(" -9V", layout.high);
         sheet.put_hundredths("\"/><text class=\"wrong h\" x=\"", x.saturating_add(500));
         sheet.put("\" y=\"-26\">ejected</text>\n");
     }

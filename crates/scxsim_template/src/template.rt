@@ -349,11 +349,12 @@ return found.sort((a, b) => b.ran - a.ran);\n\
 }\n\
 \n\
 /* ---------- colours and patterns ---------- */\n\
-// Okabe and Ito's colours; vermillion is kept for what is wrong. Letters on a task's colour are white or black.\n\
-const LIGHT = { paper: \"#ffffff\", ink: \"#1b1f24\", faint: \"#6a7178\", line: \"#d9dde1\", band: \"#f3f5f7\", wrong: \"#d55e00\", wrongPaper: \"#ffffff\",\n\
+// Okabe and Ito's colours; vermillion is kept for what is wrong, and words in it are darker on light paper. Letters on a\n\
+// task's colour are white or black.\n\
+const LIGHT = { paper: \"#ffffff\", ink: \"#1b1f24\", faint: \"#6a7178\", line: \"#d9dde1\", band: \"#f3f5f7\", wrong: \"#d55e00\", wrongInk: \"#b84a00\", wrongPaper: \"#ffffff\",\n\
 wait: \"#7d858d\", waitPaper: \"#ccd2d8\", parked: \"#8a6d00\", parkedPaper: \"#f6e9b2\", several: \"#4d5a68\",\n\
 tasks: [\"#0072b2\", \"#e69f00\", \"#009e73\", \"#56b4e9\", \"#cc79a7\", \"#f0e442\"], inks: \"wbbbbb\" };\n\
-const DARK = { paper: \"#14171b\", ink: \"#e8eaed\", faint: \"#9aa3ab\", line: \"#343a41\", band: \"#1c2025\", wrong: \"#ff7a1a\", wrongPaper: \"#14171b\",\n\
+const DARK = { paper: \"#14171b\", ink: \"#e8eaed\", faint: \"#9aa3ab\", line: \"#343a41\", band: \"#1c2025\", wrong: \"#ff7a1a\", wrongInk: \"#ff7a1a\", wrongPaper: \"#14171b\",\n\
 wait: \"#98a2ac\", waitPaper: \"#454d56\", parked: \"#e6c84a\", parkedPaper: \"#4a4013\", several: \"#a3b1c0\",\n\
 tasks: [\"#3d97d8\", \"#e69f00\", \"#1fb58a\", \"#8fd0f5\", \"#dd94bd\", \"#f0e442\"], inks: \"bbbbbb\" };\n\
 const SHADES = 32;\n\
@@ -673,23 +674,23 @@ const indent = (row) => 6 + 10 * row.depth;\n\
 // What stands beside a row, by its kind.\n\
 const NAMES = {\n\
 section(row, y) {\n\
-const { ink, faint, wrong } = palette.names, all = run.duration * run.processors;\n\
+const { ink, faint, wrongInk } = palette.names, all = run.duration * run.processors;\n\
 write((row.key ? foldMark(row) : \"\") + row.name, 6, y + 13, ink, 12, 600, left() - 10);\n\
 if (!row.folded) return;\n\
 const idle = run.idle.reduce((sum, one) => sum + one, 0) / all;\n\
 write(\"busy \" + percent(run.cpuBefore[run.cpuFrom.length] / all), 18, y + 29, faint, 11);\n\
-if (idle > 0) write(\"idle, somebody waits \" + percent(idle), 18, y + 44, wrong, 11, 400, left() - 22);\n\
+if (idle > 0) write(\"idle, somebody waits \" + percent(idle), 18, y + 44, wrongInk, 11, 400, left() - 22);\n\
 },\n\
 cpu({ number, high }, y) {\n\
-const { ink, wrong } = palette.names, idle = run.idle[number], told = high >= 28 && idle > 0, isThin = high < 12;\n\
+const { ink, wrongInk } = palette.names, idle = run.idle[number], told = high >= 28 && idle > 0, isThin = high < 12;\n\
 if (!isThin || number % 4 === 0) write(\"cpu \" + number, 12, y + high / 2 - (told ? 6 : 0), ink, isThin ? 10 : 12);\n\
-if (told) write((view.wide ? \"idle, somebody waits: \" : \"idle: \") + timeText(idle), 12, y + high / 2 + 8, wrong, 11, 400, left() - 16);\n\
+if (told) write((view.wide ? \"idle, somebody waits: \" : \"idle: \") + timeText(idle), 12, y + high / 2 + 8, wrongInk, 11, 400, left() - 16);\n\
 },\n\
 group(row, y) {\n\
-const group = run.groups[row.number], { ink, faint, wrong } = palette.names, x = indent(row), room = left() - 10 - x;\n\
+const group = run.groups[row.number], { ink, faint, wrongInk } = palette.names, x = indent(row), room = left() - 10 - x;\n\
 write(foldMark(row) + group.name, x, y + 11, ink, 12, 600, room);\n\
 const share = percent(group.share) + \" of \" + percent(group.due), isShort = group.due - group.share > 0.05;\n\
-if (run.groups.length > 1) write(view.wide ? \"has \" + share + \" due\" : share, x, y + 25, isShort ? wrong : faint, 11, 400, room);\n\
+if (run.groups.length > 1) write(view.wide ? \"has \" + share + \" due\" : share, x, y + 25, isShort ? wrongInk : faint, 11, 400, room);\n\
 if (row.folded) write(group.all + (group.all === 1 ? \" task\" : \" tasks\"), x, y + 40, faint, 11, 400, room);\n\
 },\n\
 task(row, y) {\n\
@@ -752,10 +753,11 @@ return run.begin + view.until > 5000 && step >= 10 ? +(moment / 1000).toFixed(di
 \n\
 function drawAxis(offset, wide) {\n\
 const { line, faint, ink } = palette.names, step = Math.max(1, roundStep((view.until - view.from) / (wide - offset) * 80));\n\
+const struck = isEjectionShown() ? ejectionAt(offset) : -1;  // where the line of an ejection crosses the numbers\n\
 for (let time = Math.ceil((run.begin + view.from) / step) * step - run.begin; time <= view.until; time += step) {\n\
-const x = Math.round(offset + toPixel(time) / ratio), words = tickText(time, step);\n\
+const x = Math.round(offset + toPixel(time) / ratio), words = tickText(time, step), end = x + 3 + 7 * words.length;\n\
 box(x, AXIS - 7, 1, 7, faint);\n\
-if (x + 7 * words.length < wide) write(words, x + 3, AXIS - 12, faint, 11);\n\
+if (end < wide + 3 && !(x + 2 < struck && struck < end + 2)) write(words, x + 3, AXIS - 12, faint, 11);\n\
 }\n\
 box(0, AXIS - 1, wide, 1, line);\n\
 write(\"Time\", 6, AXIS - 12, ink, 11, 600);\n\
@@ -767,12 +769,14 @@ if (at === undefined) return \"in force to the end\";\n\
 return \"ejected at \" + momentText(at) + \": \" + (how === \"stall\" ? \"stall of \" + run.tasks[task].name : \"fault \" + code + \" (\" + FAULTS[code] + \")\");\n\
 }\n\
 \n\
+const ejectionAt = (offset) => Math.round(offset + toPixel(run.ended.at ?? -1) / ratio);\n\
+\n\
 function drawEjection(offset, wide, high) {\n\
-const x = Math.round(offset + toPixel(run.ended.at ?? -1) / ratio);\n\
+const x = ejectionAt(offset);\n\
 if (!isEjectionShown() || x < offset || x > wide) return;\n\
 const words = endedWords(), room = 7 * words.length + 6, at = Math.max(0, x + room > wide ? x - room : x);\n\
 box(x - 1, 0, 2, high, palette.names.wrong);\n\
-box(at, 0, room, 16, palette.names.wrong);\n\
+box(at, 0, room, 16, palette.names.wrongInk);\n\
 write(words, at + 5, 8.5, palette.dark ? \"#101418\" : \"#ffffff\", 11, 600);\n\
 }\n\
 \n\
@@ -780,12 +784,12 @@ write(words, at + 5, 8.5, palette.dark ? \"#101418\" : \"#ffffff\", 11, 600);\n\
 function drawLongWait({ task, from, until, length }, offset) {\n\
 const row = view.rows[rowOf(\"task\", task)];\n\
 if (!row) return;\n\
-const x0 = Math.max(offset - 4, offset + toPixel(from) / ratio), x1 = offset + toPixel(until) / ratio, { wrong } = palette.names;\n\
+const x0 = Math.max(offset - 4, offset + toPixel(from) / ratio), x1 = offset + toPixel(until) / ratio, { wrong, wrongInk } = palette.names;\n\
 const y = AXIS + row.y - view.scroll, top = y + 3 + (row.high - 6) * 0.6;\n\
 const isCut = from === 0 && run.begin > 0 || until === run.duration && run.begin + until < run.ms;\n\
 const words = (isCut ? \"waited at least \" : \"waited \") + timeText(length) + (run.begin + until === run.ms ? \", to the end\" : \"\");\n\
 frame(x0 + 0.5, top - 0.5, x1 - x0 - 1, y + row.high - 2.5 - top, wrong);\n\
-if (x1 - x0 > 7 * words.length && row.high >= 18) write(words, Math.max(x0, offset) + 4, y + 3 + (row.high - 6) * 0.3, wrong, 11, 600);\n\
+if (x1 - x0 > 7 * words.length && row.high >= 18) write(words, Math.max(x0, offset) + 4, y + 3 + (row.high - 6) * 0.3, wrongInk, 11, 600);\n\
 }\n\
 \n\
 function drawChanges(offset) {\n\
