@@ -6,7 +6,7 @@ use scx_asm::AsmFault;
 use scx_isa::{Callback, DecodeFault, Exclusion, FlowFault};
 use scx_load_files::Cause;
 use scx_verify as verifier;
-use scxsim_commands::{Fault, Refusal, Word, finish};
+use scxsim_commands::{Fault, Refusal, finish};
 use scxsim_output::Counted;
 use std::alloc::AllocError;
 use std::process::Abort;
@@ -76,27 +76,6 @@ fn faults_of_programs_are_named(rt: HostRuntime) {
     refuse_inputs(&rt);
     refuse_spellings(&rt);
     refuse_unsafe(&rt);
-}
-
-#[test]
-fn answers_of_init_are_named(rt: HostRuntime) {
-    refuses(&rt, Refusal::Init(-22), "refused: init -22\n");
-    refuses(&rt, Refusal::Init(1), "refused: init 1\n");
-    let least = "refused: init -9223372036854775808\n";
-    refuses(&rt, Refusal::Init(i64::MIN), least);
-}
-
-#[test]
-fn words_are_named(rt: HostRuntime) {
-    let from = Refusal::OutOfRange(Word::From);
-    refuses(&rt, from, "refused: word FROM: out of range\n");
-    let to = Refusal::OutOfRange(Word::To);
-    refuses(&rt, to, "refused: word TO: out of range\n");
-    refuses(
-        &rt,
-        Refusal::NoSuchTask,
-        "refused: word TASK: no such task\n",
-    );
 }
 
 const CAUSES: [(Cause, &str); 14] = [

@@ -1,23 +1,18 @@
-//! Tests of the machine: events, and the notes that they give; and of files of policies and workloads, and
-//! the events of a workload.
+//! Tests of the machine that are no console sessions: calls that are refused, sinks that fail, machines as large as
+//! there may be, and generated workloads; and of what files of policies and workloads say of themselves, and the
+//! events of a workload. What else a machine does stands in files of cases.
 #![tactic(auto)]
 
-#[cfg(test)]
-mod bounds;
-#[cfg(test)]
-mod cases;
 #[cfg(test)]
 mod crowds;
 #[cfg(test)]
 mod driving;
 #[cfg(test)]
-mod ejecting;
-#[cfg(test)]
 mod faults;
 #[cfg(test)]
 mod files;
 #[cfg(test)]
-mod parking;
+mod largest;
 #[cfg(test)]
 mod policies;
 #[cfg(test)]
@@ -27,12 +22,10 @@ mod recorder;
 #[cfg(test)]
 mod refusals;
 #[cfg(test)]
-mod rows;
-#[cfg(test)]
 mod same;
-#[cfg(test)]
-mod selecting;
 #[cfg(test)]
 mod session;
 #[cfg(test)]
-mod waiting;
+mod steps;
+#[cfg(test)]
+mod turns;

@@ -57,12 +57,7 @@ pub(crate) const TWO_MILLISECONDS: &[(Callback, &str)] = &[
     (Callback::Dispatch, DISPATCH),
 ];
 
-/// So many tasks in that group.
-pub(crate) fn tree_of<R: AllocGlobal + Abort>(rt: &R, group: Group, tasks: &[u32]) -> Tree {
-    Tree::new(rt.alloc(), &[group], tasks).expect(rt, "the tasks are in the group")
-}
-
 /// So many tasks in one group.
 pub(crate) fn tree<R: AllocGlobal + Abort>(rt: &R, tasks: &[u32]) -> Tree {
-    tree_of(rt, Group::new(None, 100), tasks)
+    Tree::new(rt.alloc(), &[Group::new(None, 100)], tasks).expect(rt, "the tasks are in the group")
 }

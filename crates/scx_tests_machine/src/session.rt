@@ -1,6 +1,6 @@
 //! A machine that is given events, and what it notes.
 
-use crate::policies::{policy, policy_within, tree};
+use crate::policies::{TWO_MILLISECONDS, policy, policy_within, tree};
 use crate::recorder::Recorder;
 use crate::same::expect_same;
 use scx_isa::Callback;
@@ -35,25 +35,16 @@ impl Session {
         }
     }
 
-    /// A machine of the policy with these texts, with a task in each group of the list.
-    pub(crate) fn new<R: AllocGlobal + Abort>(
-        rt: &R,
-        texts: &[(Callback, &str)],
-        tasks: &[u32],
-        cpus: u32,
-    ) -> Session {
-        Session::of(rt, policy(rt, texts), tree(rt, tasks), cpus, 100)
+    /// Two tasks that take turns of 2 ms on one processor, and room for so many notes.
+    pub(crate) fn taking_turns<R: AllocGlobal + Abort>(rt: &R, room: usize) -> Session {
+        Session::of(rt, policy(rt, TWO_MILLISECONDS), tree(rt, &[0, 0]), 1, room)
     }
 
-    /// A machine of one processor, under whose policy a task may wait so many milliseconds.
-    pub(crate) fn within<R: AllocGlobal + Abort>(
-        rt: &R,
-        timeout_ms: u32,
-        texts: &[(Callback, &str)],
-        tasks: &[u32],
-    ) -> Session {
-        let policy = policy_within(rt, timeout_ms, texts);
-        Session::of(rt, policy, tree(rt, tasks), 1, 100)
+    /// So many tasks on one processor, of which nobody is put anywhere, and each may wait five milliseconds.
+    pub(crate) fn holding<R: AllocGlobal + Abort>(rt: &R, tasks: usize) -> Session {
+        let homes = vec![in rt.alloc(); 0_u32; tasks].expect(rt, "memory is ample");
+        let policy = policy_within(rt, 5, &[(Callback::Enqueue, "exit")]);
+        Session::of(rt, policy, tree(rt, &homes), 1, 4000)
     }
 
     /// Each event is accepted.
@@ -93,17 +84,10 @@ impl Session {
         }
     }
 
-    pub(crate) fn place(&self, rt: &impl Abort, task: u16) -> Place {
+    fn place(&self, rt: &impl Abort, task: u16) -> Place {
         let known = task < self.sim.tasks();
         assert!(rt; known);
         self.sim.place(task)
-    }
-
-    /// The task has run so long, in nanoseconds.
-    pub(crate) fn has_run(&self, rt: &impl Abort, task: u16, wanted: u64) {
-        let known = task < self.sim.tasks();
-        assert!(rt; known);
-        expect_same(rt, self.sim.run_ns(task), wanted, task);
     }
 
     pub(crate) fn has_vtime(&self, rt: &impl Abort, task: u16, wanted: u64) {
@@ -117,19 +101,6 @@ impl Session {
         let known = task < self.sim.tasks();
         assert!(rt; known);
         expect_same(rt, self.sim.wait(task), wanted, task);
-    }
-
-    /// The group has used so many milliseconds of its period.
-    pub(crate) fn has_used(&self, rt: &impl Abort, group: u32, wanted: u64) {
-        let known = group < self.sim.groups();
-        assert!(rt; known);
-        expect_same(rt, self.sim.usage(group), wanted, group);
-    }
-
-    pub(crate) fn has_slice(&self, rt: &impl Abort, task: u16, wanted: u64) {
-        let known = task < self.sim.tasks();
-        assert!(rt; known);
-        expect_same(rt, self.sim.slice(task), wanted, task);
     }
 
     /// What the machine says of itself and of a task.
