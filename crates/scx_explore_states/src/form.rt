@@ -1,13 +1,17 @@
-ghost use Rattle.std.specs.Prelude.{◌≡◌, ◌<◌, ◌≤◌, false, length, nat_lt};
+ghost use Rattle.std.specs.Prelude.{◌≡◌, ◌≤◌, true, length, nat_lt};
+ghost use Rattle.scx_explore_states.specs.Forms.{form_of, without_names};
 
+use crate::order::Order;
+use crate::rows::{Row, kept_tasks, rows_of};
+use crate::uses::Uses;
 use crate::words::Words;
-use scx_isa::{Insn, Program};
-use scx_sched::{Entry, Place, Rank, Sim};
+use scx_sched::Sim;
 
 /// The most tasks of a machine that is searched.
 pub const MOST_TASKS: usize = 8;
 
-/// What is kept of a state beside where tasks are, slices, what groups with quotas used and maps.
+/// What is kept of a state beside where tasks are, the slices of those that run or wait, what groups with quotas used,
+/// and maps.
 #[derive(Clone, Copy)]
 pub struct Form {
     /// The clock.
@@ -16,12 +20,19 @@ pub struct Form {
     pub pushes: bool,
     /// How long tasks wait.
     pub waits: bool,
-    /// How long tasks have run.
-    pub run_ns: bool,
-    /// The virtual times of tasks.
-    pub vtime: bool,
+    /// The slices of tasks that sleep or are held.
+    pub idle_slices: bool,
     /// The virtual times by which tasks wait in queues.
     pub keys: bool,
+    /// The virtual times of tasks.
+    pub vtime: bool,
+    /// How long tasks have run.
+    pub run_ns: bool,
+    /// Which task of a group is which.
+    pub names: bool,
+    /// The weights of groups. A machine doesn't tell them: who sets weights in lists keeps those that were set last, in
+    /// words behind those of the state.
+    pub weights: bool,
 }
 
 impl Form {
@@ -30,124 +41,152 @@ impl Form {
         clock: true,
         pushes: true,
         waits: true,
-        run_ns: true,
-        vtime: true,
+        idle_slices: true,
         keys: true,
+        vtime: true,
+        run_ns: true,
+        names: true,
+        weights: true,
     };
 
-    /// Without what no program can read, for lists of so many events under a policy that lets tasks wait so long.
+    /// For lists of so many events, under a policy whose programs do that and which lets tasks wait so long.
     ///
-    /// - Waits are left out where no list is long enough that one could end in an ejection.
-    /// - Pushes are left out: they are only compared within a queue, and there places say who came first.
-    pub fn without_programs(timeout_ms: u32, depth: usize) -> Form
-        ensures clock { result.clock ≡ false }
-        ensures pushes { result.pushes ≡ false }
-        ensures waits { result.waits ≡ nat_lt timeout_ms depth }
-        ensures run_ns { result.run_ns ≡ false }
-        ensures vtime { result.vtime ≡ false }
-        ensures keys { result.keys ≡ false }
+    /// What no program can read is left out: the clock, where none asks for it; virtual times, how long tasks have run
+    /// and weights, where none loads them; and virtual times in queues, where none inserts by one. Waits are left out
+    /// where no list is long enough that one could end in an ejection. Pushes are left out: they are only compared
+    /// within a queue, and there places say who came first.
+    pub fn of_events(uses: Uses, timeout_ms: u32, depth: usize) -> Form
+        ensures { result ≡ form_of uses (nat_lt timeout_ms depth) }
+    {
+        Form::of(uses, (timeout_ms as usize) < depth)
+    }
+
+    /// For lists of milliseconds, under a policy whose programs do that. The same is left out, but waits are kept.
+    pub fn of_milliseconds(uses: Uses) -> Form
+        ensures { result ≡ form_of uses true }
+    {
+        Form::of(uses, true)
+    }
+
+    fn of(uses: Uses, waits: bool) -> Form
+        ensures { result ≡ form_of uses waits }
     {
         Form {
-            clock: false,
+            clock: uses.clock,
             pushes: false,
-            waits: (timeout_ms as usize) < depth,
-            run_ns: false,
-            vtime: false,
-            keys: false,
+            waits,
+            idle_slices: uses.tells_idle_slices(),
+            keys: uses.vtime_inserts,
+            vtime: uses.vtime,
+            run_ns: uses.run_ns,
+            names: true,
+            weights: uses.weight,
         }
     }
 
-    /// And what that program may read.
+    /// The same, where tasks of a group may change places: for lists of events, under a policy whose programs do that.
     ///
-    /// - The clock is kept where a program asks for it (helper 5).
-    /// - How long tasks have run is kept where a program loads at that field's offset (32), and virtual times
-    ///   likewise (16): the machine only writes them.
-    /// - The virtual times in queues are kept where a program inserts by one (helper 1003).
-    pub fn with(self, program: &Program) -> Form {
-        let mut form = self;
-        for slot in 0..program.slots() {
-            form = form.with_insn(program.at(slot));
+    /// Tasks are told apart where a program loads the number of one or asks for one by its number. Else the machine
+    /// alone orders them, by their numbers as a policy is ejected, and in a state that is kept it is in force. So what
+    /// follows where two of a group have changed places is the same with these two changed.
+    pub fn without_names(self, uses: Uses) -> Form
+        ensures { result ≡ without_names self uses }
+    {
+        Form {
+            names: uses.pid || uses.task_by_pid,
+            ..self
         }
-        form
-    }
-
-    fn with_insn(self, insn: Option<Insn>) -> Form {
-        let mut form = self;
-        match insn {
-            Some(Insn::Load(_, _, _, 32)) => form.run_ns = true,
-            Some(Insn::Load(_, _, _, 16)) => form.vtime = true,
-            Some(Insn::Call(5)) => form.clock = true,
-            Some(Insn::Call(1003)) => form.keys = true,
-            _ => {}
-        }
-        form
     }
 
     /// How many words the state of such a machine has.
     pub fn width(self, sim: &Sim) -> usize {
-        let maps = sim.maps().bytes().len().div_ceil(8);
-        let groups = if sim.world().is_limited() {
-            sim.groups() as usize + 1
-        } else {
-            0
-        };
-        usize::from(sim.tasks()) * self.task_words()
+        let tasks = kept_tasks(sim);
+        1 + tasks.div_ceil(2)
+            + tasks * self.task_words()
             + usize::from(self.clock)
             + usize::from(self.pushes)
-            + groups
-            + maps
-            + 1
+            + usage_words(sim)
+            + sim.maps().bytes().len().div_ceil(8)
     }
 
-    /// How many words each task has.
+    /// How many words each task has beside half a one.
     fn task_words(self) -> usize
-        ensures { result ≤ 7 }
+        ensures { result ≤ 4 }
     {
-        3 + usize::from(self.keys)
-            + usize::from(self.waits)
-            + usize::from(self.vtime)
-            + usize::from(self.run_ns)
+        1 + usize::from(self.keys) + usize::from(self.vtime) + usize::from(self.run_ns)
     }
 
     /// Writes the state, and who began to run while another waits, in the order of the words.
     pub fn write(self, sim: &Sim, began: u64, words: &mut Words)
         ensures { length words.new ≡ length words.old }
     {
+        let rows = rows_of(self, sim, &mut words.numbers);
         words.begin();
-        words.put(began);
-        for task in 0..sim.tasks() {
-            self.write_task(sim, task, words);
+        if self.names {
+            words.put(began);
+            self.write_rows(&rows, Order::OWN, kept_tasks(sim), words);
+        } else {
+            let order = Order::of(sim, &rows);
+            words.put(order.by_places(began));
+            self.write_rows(&rows, order, kept_tasks(sim), words);
         }
+        self.write_times(sim, words);
+        write_usages(sim, words);
+        words.put_bytes(sim.maps().bytes());
+    }
+
+    /// Who began to run while another waits, in a state that was written as those words. The machine is in that state,
+    /// with tasks of a group in any places, and `words` are those by which the state was written.
+    pub fn began(self, sim: &Sim, state: &[u64], words: &mut Words) -> u64
+        ensures { words.new ≡ words.old }
+    {
+        let began = match state.first() {
+            Some(began) => *began,
+            None => 0,
+        };
+        if self.names {
+            return began;
+        }
+        let rows = rows_of(self, sim, &mut words.numbers);
+        Order::of(sim, &rows).by_tasks(began)
+    }
+
+    fn write_rows(self, rows: &[Row; MOST_TASKS], order: Order, tasks: usize, words: &mut Words)
+        requires { tasks ≤ 8 }
+        ensures { length words.new ≡ length words.old }
+    {
+        for pair in 0..tasks.div_ceil(2) {
+            let (first, second) = (order.row(rows, 2 * pair), order.row(rows, 2 * pair + 1));
+            words.put(first.spot << 32 | second.spot);
+        }
+        for place in 0..tasks {
+            self.write_row(order.row(rows, place), words);
+        }
+    }
+
+    fn write_row(self, row: Row, words: &mut Words)
+        ensures { length words.new ≡ length words.old }
+    {
+        words.put(row.slice);
+        if self.keys {
+            words.put(row.key);
+        }
+        if self.vtime {
+            words.put(row.vtime);
+        }
+        if self.run_ns {
+            words.put(row.run_ns);
+        }
+    }
+
+    fn write_times(self, sim: &Sim, words: &mut Words)
+        ensures { length words.new ≡ length words.old }
+    {
         if self.clock {
             words.put(sim.clock());
         }
         if self.pushes {
             words.put(sim.world().pushes());
-        }
-        write_usages(sim, words);
-        words.put_bytes(sim.maps().bytes());
-    }
-
-    fn write_task(self, sim: &Sim, task: u16, words: &mut Words)
-        requires { task < length sim.now.state.world.tasks }
-        ensures { length words.new ≡ length words.old }
-    {
-        let facts = sim.world().task(task);
-        let entry = sim.entry(task);
-        words.put(place_word(sim, task) << 32 | u64::from(facts.prev_cpu));
-        words.put(queue_of(entry));
-        words.put(facts.slice);
-        if self.keys {
-            words.put(key_of(entry));
-        }
-        if self.waits {
-            words.put(sim.world().wait(task));
-        }
-        if self.vtime {
-            words.put(facts.vtime);
-        }
-        if self.run_ns {
-            words.put(facts.run_ns);
         }
     }
 }
@@ -165,64 +204,13 @@ fn write_usages(sim: &Sim, words: &mut Words)
     }
 }
 
-/// Where the task is: asleep, on which processor, or behind how many in its queue and by which rank.
-fn place_word(sim: &Sim, task: u16) -> u64
-    requires { task < length sim.now.state.world.tasks }
+/// How many words `write_usages` writes.
+fn usage_words(sim: &Sim) -> usize
+    ensures { result ≤ 4294967296 }
 {
-    match (sim.place(task), sim.entry(task)) {
-        (Place::Cpu(cpu), _) => 1 + u64::from(cpu),
-        (_, Some(entry)) => queue_word(ahead_of(sim, entry), entry.rank),
-        (_, None) => 0,
-    }
-}
-
-fn queue_word(ahead: u32, rank: Rank) -> u64 {
-    match rank {
-        Rank::Fifo => 1000 + 2 * u64::from(ahead),
-        Rank::Vtime(_) => 1001 + 2 * u64::from(ahead),
-    }
-}
-
-/// How many tasks leave the queue before that one.
-fn ahead_of(sim: &Sim, entry: Entry) -> u32 {
-    let mut count: u32 = 0;
-    for task in 0..sim.tasks() {
-        if is_ahead(sim.entry(task), entry) {
-            count = count.saturating_add(1);
-        }
-    }
-    count
-}
-
-fn is_ahead(other: Option<Entry>, entry: Entry) -> bool {
-    match other {
-        Some(other) => other.queue == entry.queue && is_before(other, entry),
-        None => false,
-    }
-}
-
-fn is_before(one: Entry, other: Entry) -> bool {
-    let (key, other_key) = (rank_key(one.rank), rank_key(other.rank));
-    key < other_key || key == other_key && one.stamp < other.stamp
-}
-
-fn rank_key(rank: Rank) -> u64 {
-    match rank {
-        Rank::Fifo => 0,
-        Rank::Vtime(key) => key,
-    }
-}
-
-fn key_of(entry: Option<Entry>) -> u64 {
-    match entry {
-        Some(entry) => rank_key(entry.rank),
-        None => 0,
-    }
-}
-
-fn queue_of(entry: Option<Entry>) -> u64 {
-    match entry {
-        Some(entry) => entry.queue,
-        None => 0,
+    if sim.world().is_limited() {
+        sim.groups() as usize + 1
+    } else {
+        0
     }
 }

@@ -1,18 +1,18 @@
 ghost use Rattle.std.specs.Prelude.{◌≡◌, ◌+◌, ◌<◌, ◌≤◌, ◌++◌, true, length, IfOk, vec_capacity};
 ghost use Rattle.scx_explore_states.specs.Seen.{IsEntered, IsPlace, state_at, way_at, no_states};
 
-use scx_sched::Event;
+use crate::step::Step;
 use std::alloc::{AllocError, Global};
 use std::marker::Model;
 
 /// In how many places a state is looked for.
-const PROBES: usize = 64;
+const PROBES: usize = 256;
 
-/// How a state was come to: from which one, and by which event.
+/// How a state was come to: from which one, and by which step.
 #[derive(Clone, Copy)]
 pub struct Way {
     pub from: usize,
-    pub event: Event,
+    pub step: Step,
 }
 
 /// What became of a state that was met.

@@ -1,6 +1,7 @@
 ghost use Rattle.std.specs.Prelude.{◌≡◌, false};
 
 use crate::form::MOST_TASKS;
+use crate::step::Tasks;
 use scx_sched::{Note, Sim, Sink, What};
 use std::marker::Model;
 
@@ -14,14 +15,22 @@ pub struct Pair {
     pub runs: u16,
 }
 
+/// What is known of tasks between two events.
+#[derive(Clone, Copy)]
+pub struct Watched {
+    pub waiting: Tasks,
+    /// Bit 8 t + u is set where task u began to run since task t waits.
+    pub began: u64,
+}
+
 /// Which tasks began to run while another waits, of the same group.
 ///
-/// Bit 8 t + u of `began` is set where task u began to run since task t waits. In a contract it is nothing: whatever
-/// it keeps, events do the same.
+/// In a contract it is nothing: whatever it keeps, events do the same.
 #[derive(Drop)]
 pub struct Watch {
-    homes: [u32; MOST_TASKS],
-    waiting: [bool; MOST_TASKS],
+    /// For each task the tasks of its group.
+    together: [Tasks; MOST_TASKS],
+    waiting: Tasks,
     began: u64,
     overtaken: Option<Pair>,
 }
@@ -35,9 +44,15 @@ impl Model for Watch {
 impl Watch {
     /// Nobody waits. The tasks' groups are those of the list; tasks past the eighth aren't watched.
     pub fn new(homes: &[u32]) -> Watch {
+        let mut together = [Tasks::NONE; MOST_TASKS];
+        for task in 0..MOST_TASKS {
+            if let Some(place) = together.get_mut(task) {
+                *place = tasks_of(homes, task);
+            }
+        }
         Watch {
-            homes: first_of(homes),
-            waiting: [false; MOST_TASKS],
+            together,
+            waiting: Tasks::NONE,
             began: 0,
             overtaken: None,
         }
@@ -45,48 +60,71 @@ impl Watch {
 
     /// Goes on from a state in which these began.
     pub fn begin(&mut self, sim: &Sim, began: u64) {
+        let mut waiting = Tasks::NONE;
         for task in 0..WATCHED {
-            self.set(task, sim.entry(task).is_some());
+            if sim.entry(task).is_some() {
+                waiting = waiting.with(task);
+            }
         }
-        self.began = began;
+        self.go_on(Watched { waiting, began });
+    }
+
+    /// Goes on from where that was known.
+    #[inline(always)]
+    pub fn go_on(&mut self, watched: Watched) {
+        self.waiting = watched.waiting;
+        self.began = watched.began;
         self.overtaken = None;
     }
 
-    /// A task that waits while another of its group began to run twice, if there is one.
-    pub fn overtaken(&self) -> Option<Pair> {
-        self.overtaken
-    }
-
-    /// Which tasks began to run while another waits.
-    pub fn began(&self) -> u64 {
-        let began = self.began;
-        began
-    }
-
-    fn set(&mut self, task: u16, waits: bool) {
-        if let Some(place) = self.waiting.get_mut(usize::from(task)) {
-            *place = waits;
+    /// What is known.
+    #[inline(always)]
+    pub fn watched(&self) -> Watched {
+        Watched {
+            waiting: self.waiting,
+            began: self.began,
         }
     }
 
-    fn waits(&self, task: u16) -> bool {
-        match self.waiting.get(usize::from(task)) {
-            Some(waits) => *waits,
-            None => false,
-        }
+    /// A task that waits while another of its group began to run twice, if there is one, since this was asked last
+    /// or it went on from elsewhere.
+    pub fn overtaken(&mut self) -> Option<Pair> {
+        let overtaken = self.overtaken;
+        self.overtaken = None;
+        overtaken
+    }
+
+    /// Whether the task waits.
+    #[inline(always)]
+    pub fn waits(&self, task: u16) -> bool {
+        self.waiting.has(task)
+    }
+
+    /// Whether some task waits.
+    #[inline(always)]
+    pub fn is_someone_waiting(&self) -> bool {
+        !self.waiting.is_empty()
+    }
+
+    fn come(&mut self, task: u16) {
+        self.waiting = self.waiting.with(task);
     }
 
     /// The task waits no more.
     fn leave(&mut self, task: u16) {
-        self.set(task, false);
+        self.waiting = self.waiting.without(task);
         self.began &= !row(task);
     }
 
     /// The task begins to run.
     fn run(&mut self, task: u16) {
         self.leave(task);
+        let passed = self.waiting.among(self.together_with(task));
+        if passed.is_empty() {
+            return;
+        }
         for other in 0..WATCHED {
-            if self.waits(other) && self.are_together(task, other) {
+            if passed.has(other) {
                 self.overtake(Pair {
                     waits: other,
                     runs: task,
@@ -95,13 +133,10 @@ impl Watch {
         }
     }
 
-    fn are_together(&self, task: u16, other: u16) -> bool {
-        match (
-            self.homes.get(usize::from(task)),
-            self.homes.get(usize::from(other)),
-        ) {
-            (Some(home), Some(other)) => *home == *other,
-            _ => false,
+    fn together_with(&self, task: u16) -> Tasks {
+        match self.together.get(usize::from(task)) {
+            Some(tasks) => *tasks,
+            None => Tasks::NONE,
         }
     }
 
@@ -114,15 +149,22 @@ impl Watch {
     }
 }
 
-/// The first numbers of the list; 0 behind its end.
-fn first_of(homes: &[u32]) -> [u32; MOST_TASKS] {
-    let mut first = [0; MOST_TASKS];
-    for task in 0..MOST_TASKS {
-        if let (Some(place), Some(home)) = (first.get_mut(task), homes.get(task)) {
-            *place = *home;
+/// The tasks that are of the group of that one, as the list says.
+fn tasks_of(homes: &[u32], task: usize) -> Tasks {
+    let mut tasks = Tasks::NONE;
+    for other in 0..WATCHED {
+        if are_together(homes, task, usize::from(other)) {
+            tasks = tasks.with(other);
         }
     }
-    first
+    tasks
+}
+
+fn are_together(homes: &[u32], task: usize, other: usize) -> bool {
+    match (homes.get(task), homes.get(other)) {
+        (Some(home), Some(other)) => *home == *other,
+        _ => false,
+    }
 }
 
 /// The bits of a task that waits.
@@ -143,7 +185,7 @@ impl Sink for Watch {
 
     fn take(&mut self, note: Note) {
         match note.what {
-            What::Insert(task, _) => self.set(task, true),
+            What::Insert(task, _) => self.come(task),
             What::Sleep(task) => self.leave(task),
             What::Run(task, _) => self.run(task),
             What::Wake(_)

@@ -1,5 +1,6 @@
 ghost use Rattle.std.specs.Prelude.{◌≡◌, length, IfOk};
 
+use crate::queue_numbers::QueueNumbers;
 use std::alloc::{AllocError, Global};
 use std::marker::Model;
 
@@ -10,6 +11,8 @@ use std::marker::Model;
 pub struct Words {
     words: Vec<u64>,
     at: usize,
+    /// Those by which the words name queues.
+    pub(crate) numbers: QueueNumbers,
 }
 
 impl Model for Words {
@@ -28,6 +31,7 @@ impl Words {
         Ok(Words {
             words: vec![in alloc; 0; width]?,
             at: 0,
+            numbers: QueueNumbers::new(alloc)?,
         })
     }
 
@@ -45,7 +49,8 @@ impl Words {
         self.at = 0;
     }
 
-    pub(crate) fn put(&mut self, word: u64)
+    /// Puts a word behind those that are written.
+    pub fn put(&mut self, word: u64)
         ensures { length self.new ≡ length self.old }
     {
         let at = self.at;
