@@ -6,3 +6,4 @@ pub mod Along
 pub mod Replaying
 pub mod Going
 pub mod Keeping
+pub mod Handing
