@@ -1,0 +1,199 @@
+-- What is found in a list of events.
+use Rattle.std.specs.Prelude.{◌≡◌, ℕ, ◌+◌, ◌-◌, ◌≤◌, ◌==◌, ◌||◌, Bool, true, false, List, [], ◌∷◌, ◌++◌, length, nat_lt, ◌<◌, slice_index, slice_index_or, Option, Some, None, option_map, unwrap_or, if◌then◌else◌}
+use Rattle.scx_isa_semantics.specs.declared.callbacks.Callback.{Callback}
+use Rattle.scx_dsq.specs.Queues.{queue_of}
+use Rattle.scx_sched_world.specs.Faults.{fault_number}
+use Rattle.scx_sched_world.specs.Ids.{policy_end, held_queue}
+use Rattle.scx_sched_world.specs.World.{WorldState, running, waits, wait}
+use Rattle.scx_sched_world.specs.declared.eject.Eject.{Eject}
+use Rattle.scx_sched_world.specs.declared.eject.Eject.TheVariants as cause
+use Rattle.scx_sched_world.specs.declared.faults.Fault as faults
+use Rattle.scx_sched_world.specs.declared.notes.Note.{Note}
+use Rattle.scx_sched_world.specs.declared.notes.What.{What}
+use Rattle.scx_sched_world.specs.declared.notes.What.TheVariants.{Wake, Sleep, Insert, Move, Run, Stop, Idle, Weight, Stall, Fault}
+use Rattle.scx_sched_machine.specs.declared.events.Event.{Event}
+use Rattle.scx_sched_machine.specs.declared.events.Event.TheVariants.{Tick}
+use Rattle.scx_sched.specs.Sim.{SimState, refusal}
+use Rattle.scx_load_driver.specs.Runs.{stepped_all, notes_of_all}
+use Rattle.scx_explore_path.specs.declared.outcome.Outcome.{Outcome}
+use Rattle.scx_explore_path.specs.declared.outcome.Outcome.TheVariants as outcome
+use Rattle.scx_explore_path.specs.Outcomes.{IsInForceFor, IsEjectedAt}
+use Rattle.scx_explore_states.specs.declared.watch.Pair.{Pair}
+use Rattle.scx_explore_findings.specs.Running.{IsRun}
+use Rattle.scx_explore_findings.specs.declared.finding.Sort.{Sort}
+use Rattle.scx_explore_findings.specs.declared.finding.Sort.TheVariants as sort
+use Rattle.scx_explore_findings.specs.declared.finding.Finding.{Finding}
+use Rattle.scx_explore_findings.specs.declared.finding.Finding.TheVariants as finding
+
+-- the place of a sort among those that are told: faults by their numbers, and three behind them
+abbrev pub sort_number : Sort → ℕ
+sort_number (sort.Fault f) = fault_number f
+sort_number sort.Stall = 8
+sort_number sort.Idle = 9
+sort_number sort.Overtaken = 10
+
+-- of which sort a finding is, if it is of one
+abbrev pub sort_of : Finding → Option Sort
+sort_of (finding.Fault f) = Some (sort.Fault f)
+sort_of (finding.Stall t) = Some sort.Stall
+sort_of (finding.Idle c t) = Some sort.Idle
+sort_of (finding.Overtaken p) = Some sort.Overtaken
+sort_of (finding.Waits t ms) = None
+sort_of (finding.Takes b n) = None
+
+-- the fault for which a policy is ejected
+abbrev pub fault_in : Option Eject → Option faults.Fault
+fault_in None = None
+fault_in (Some (cause.Fault f clock)) = Some f
+fault_in (Some (cause.Stall t clock)) = None
+
+-- the task that waited too long for a policy that is ejected for that
+abbrev pub stall_in : Option Eject → Option ℕ
+stall_in None = None
+stall_in (Some (cause.Fault f clock)) = None
+stall_in (Some (cause.Stall t clock)) = Some t
+
+-- the list ends with that event
+abbrev pub IsLast : List Event → Event → Type 0
+IsLast events e = (d : Event) → slice_index_or events (length events - 1) d ≡ e
+
+-- in a queue of the policy, or in none that the policy chose
+abbrev pub is_left : Option ℕ → Bool
+is_left None = false
+is_left (Some q) = nat_lt q policy_end || q == held_queue
+
+-- the task waits for the policy
+abbrev pub waits_left : WorldState → ℕ → Bool
+waits_left w t = is_left (queue_of w.queues t)
+
+-- the first task that waits for the policy, or none does
+abbrev pub IsFirstLeft : WorldState → Option ℕ → Type 0
+IsFirstLeft w None = (u : ℕ) → u < length w.tasks → waits_left w u ≡ false
+IsFirstLeft w (Some t) = (t < length w.tasks) × (waits_left w t ≡ true)
+    × ((u : ℕ) → u < t → waits_left w u ≡ false)
+
+-- behind a tick that leaves its processor idle the first task that waits for the policy is told;
+-- behind any other event, or where no task waits so, nothing is
+abbrev pub IsIdleBehind : SimState → Event → Option Finding → Type 0
+IsIdleBehind s e None =
+    (c : ℕ) → e ≡ Tick c → running s.state.world c ≡ None → IsFirstLeft s.state.world None
+IsIdleBehind s e (Some (finding.Idle c t)) = (e ≡ Tick c) × (running s.state.world c ≡ None)
+    × IsFirstLeft s.state.world (Some t)
+IsIdleBehind s e (Some (finding.Fault f)) = ⊥
+IsIdleBehind s e (Some (finding.Stall t)) = ⊥
+IsIdleBehind s e (Some (finding.Overtaken p)) = ⊥
+IsIdleBehind s e (Some (finding.Waits t ms)) = ⊥
+IsIdleBehind s e (Some (finding.Takes b n)) = ⊥
+
+-- one more, up to two
+abbrev pub once_more : ℕ → ℕ
+once_more n = if nat_lt n 2 then n + 1 else n
+
+-- the count behind an insert: it begins at 0 where the first task of the pair comes to wait
+abbrev pub begun_after_insert : Pair → Option ℕ → ℕ → Option ℕ
+begun_after_insert p b t = if t == p.waits then Some (unwrap_or b 0) else b
+
+-- the count behind a run: there is none where the first task runs
+abbrev pub begun_after_run : Pair → Option ℕ → ℕ → Option ℕ
+begun_after_run p b t =
+    if t == p.waits then None else if t == p.runs then option_map once_more b else b
+
+-- how often the second task of a pair began to run, up to two, since the first one waits, behind
+-- what happens: none while it doesn't wait
+abbrev pub begun_after : Pair → Option ℕ → What → Option ℕ
+begun_after p b (Insert t q) = begun_after_insert p b t
+begun_after p b (Sleep t) = if t == p.waits then None else b
+begun_after p b (Run t c) = begun_after_run p b t
+begun_after p b (Wake t) = b
+begun_after p b (Move t c) = b
+begun_after p b (Stop t c) = b
+begun_after p b (Idle c) = b
+begun_after p b (Weight g x) = b
+begun_after p b (Stall t) = b
+begun_after p b (Fault f) = b
+
+-- the same behind notes
+abbrev pub begun_over : Pair → Option ℕ → List Note → Option ℕ
+begun_over p b [] = b
+begun_over p b (n ∷ ns) = begun_over p (begun_after p b n.what) ns
+
+-- the policy is ejected for that fault by the last event of the list, and is in force before it
+pub record EndsInFault (s : SimState) (events : List Event) (f : faults.Fault) : Type 0 where
+  pub at : ℕ
+  pub clock : ℕ
+  pub ejected : IsEjectedAt s events at (cause.Fault f clock)
+  pub last : at + 1 ≡ length events
+
+-- the policy is ejected by the last event of the list because that task waited too long, and is in
+-- force before it
+pub record EndsInStall (s : SimState) (events : List Event) (t : ℕ) : Type 0 where
+  pub at : ℕ
+  pub clock : ℕ
+  pub ejected : IsEjectedAt s events at (cause.Stall t clock)
+  pub last : at + 1 ≡ length events
+
+-- the last event is a tick that leaves its processor idle, while the task waits for the policy; the
+-- policy is in force
+pub record EndsIdle (s : SimState) (events : List Event) (c t : ℕ) : Type 0 where
+  pub force : IsInForceFor s events (length events)
+  pub last : IsLast events (Tick c)
+  pub idle : running (stepped_all s events).state.world c ≡ None
+  pub left : is_left (queue_of (stepped_all s events).state.world.queues t) ≡ true
+
+-- what comes of the list is an ejection for that fault by its last event, where it has so many
+abbrev pub IsFaultAtEnd : Outcome → ℕ → faults.Fault → Type 0
+IsFaultAtEnd (outcome.Ejected at (cause.Fault g clock)) count f = (g ≡ f) × (at + 1 ≡ count)
+IsFaultAtEnd (outcome.Ejected at (cause.Stall t clock)) count f = ⊥
+IsFaultAtEnd outcome.InForce count f = ⊥
+IsFaultAtEnd (outcome.Refused at r) count f = ⊥
+
+-- the same of an ejection because that task waited too long
+abbrev pub IsStallAtEnd : Outcome → ℕ → ℕ → Type 0
+IsStallAtEnd (outcome.Ejected at (cause.Stall u clock)) count t = (u ≡ t) × (at + 1 ≡ count)
+IsStallAtEnd (outcome.Ejected at (cause.Fault f clock)) count t = ⊥
+IsStallAtEnd outcome.InForce count t = ⊥
+IsStallAtEnd (outcome.Refused at r) count t = ⊥
+
+-- the list is accepted and the policy in force, and in its notes the second task of the pair began
+-- to run twice since the first one waits
+abbrev pub IsTwice : SimState → List Event → Pair → Type 0
+IsTwice s events p =
+    IsInForceFor s events (length events) × (begun_over p None (notes_of_all s events) ≡ Some 2)
+
+-- both tasks of the pair are of the same group
+pub record AreTogether (homes : List ℕ) (p : Pair) : Type 0 where
+  pub waits : p.waits < length homes
+  pub runs : p.runs < length homes
+  pub same : slice_index homes p.waits ≡ slice_index homes p.runs
+
+-- after the list the first task of the pair waits, while the second one, of the same group, began
+-- to run twice; the policy is in force
+pub record EndsOvertaken (homes : List ℕ) (s : SimState) (events : List Event) (p : Pair) : Type 0
+  where
+    pub together : AreTogether homes p
+    pub twice : IsTwice s events p
+
+-- after the list the task waits, and has waited so many milliseconds; the policy is in force
+pub record EndsWaiting (s : SimState) (events : List Event) (t ms : ℕ) : Type 0 where
+  pub force : IsInForceFor s events (length events)
+  pub waits : waits (stepped_all s events).state.world t ≡ true
+  pub long : wait (stepped_all s events).state.world t ≡ ms
+
+-- the list is accepted, and the policy in force up to its last event; and a program takes so many
+-- instructions when it runs as that callback
+pub record EndsTaking (s : SimState) (events : List Event) (b : Callback) (n : ℕ) : Type 0 where
+  pub before : List Event
+  pub event : Event
+  pub list : events ≡ before ++ event ∷ []
+  pub force : IsInForceFor s before (length before)
+  pub accepted : refusal (stepped_all s before) event ≡ None
+  pub run : IsRun b n
+
+-- given to that machine, whose tasks are of these groups, the list is accepted and ends so
+abbrev pub Shows : List ℕ → SimState → List Event → Finding → Type 0
+Shows homes s events (finding.Fault f) = EndsInFault s events f
+Shows homes s events (finding.Stall t) = EndsInStall s events t
+Shows homes s events (finding.Idle c t) = EndsIdle s events c t
+Shows homes s events (finding.Overtaken p) = EndsOvertaken homes s events p
+Shows homes s events (finding.Waits t ms) = EndsWaiting s events t ms
+Shows homes s events (finding.Takes b n) = EndsTaking s events b n

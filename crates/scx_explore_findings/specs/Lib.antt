@@ -1,0 +1,4 @@
+pub mod Counting
+pub mod Running
+pub mod Tallies
+pub mod Findings

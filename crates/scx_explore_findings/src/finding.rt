@@ -1,0 +1,89 @@
+ghost use Rattle.std.specs.Prelude.{◌≡◌};
+ghost use Rattle.scx_explore_findings.specs.Findings.{sort_number, sort_of};
+
+use scx_explore_states::Pair;
+use scx_isa::Callback;
+use scx_sched::Fault;
+
+/// What a search looks for.
+#[derive(Clone, Copy)]
+pub enum Sort {
+    /// The policy is ejected for that fault of a callback.
+    Fault(Fault),
+    /// The policy is ejected because a task waited too long.
+    Stall,
+    /// A processor is idle after its own tick, while a task waits in a queue of the policy or is held.
+    Idle,
+    /// A task waits while another of its group began to run twice.
+    Overtaken,
+}
+
+/// All sorts, in the order in which they are told.
+pub const SORTS: [Sort; 11] = [
+    Sort::Fault(Fault::Stuck),
+    Sort::Fault(Fault::NoSuchQueue),
+    Sort::Fault(Fault::CannotInsert),
+    Sort::Fault(Fault::Mixed),
+    Sort::Fault(Fault::BuiltinVtime),
+    Sort::Fault(Fault::NoSuchCpu),
+    Sort::Fault(Fault::UnknownFlag),
+    Sort::Fault(Fault::CannotCreate),
+    Sort::Stall,
+    Sort::Idle,
+    Sort::Overtaken,
+];
+
+/// What was found: at the last event of a list.
+#[derive(Clone, Copy)]
+pub enum Finding {
+    /// The policy is ejected for that fault.
+    Fault(Fault),
+    /// The policy is ejected because that task waited too long.
+    Stall(u16),
+    /// That processor is left idle by its own tick, while that task waits.
+    Idle {
+        cpu: u32,
+        task: u16,
+    },
+    /// That task waits while the other one, of the same group, began to run twice.
+    Overtaken(Pair),
+    /// After the list that task waits and has waited so many milliseconds, with the policy in force.
+    Waits {
+        task: u16,
+        ms: u64,
+    },
+    /// In the last event a run of that callback takes so many instructions.
+    Takes {
+        callback: Callback,
+        instructions: u64,
+    },
+}
+
+impl Sort {
+    /// Its place in `SORTS`.
+    pub fn number(self) -> u8
+        ensures { result ≡ sort_number self }
+    {
+        match self {
+            Sort::Fault(fault) => fault.number(),
+            Sort::Stall => 8,
+            Sort::Idle => 9,
+            Sort::Overtaken => 10,
+        }
+    }
+}
+
+impl Finding {
+    /// Of which sort it is; a wait and a count of instructions are of none.
+    pub fn sort(self) -> Option<Sort>
+        ensures { result ≡ sort_of self }
+    {
+        match self {
+            Finding::Fault(fault) => Some(Sort::Fault(fault)),
+            Finding::Stall(_) => Some(Sort::Stall),
+            Finding::Idle { .. } => Some(Sort::Idle),
+            Finding::Overtaken(_) => Some(Sort::Overtaken),
+            Finding::Waits { .. } | Finding::Takes { .. } => None,
+        }
+    }
+}
