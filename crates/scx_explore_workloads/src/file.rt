@@ -1,0 +1,81 @@
+ghost use Rattle.std.specs.Prelude.{◌≡◌, true, IfOk, IfSome};
+ghost use Rattle.std.specs.String.{string_bytes};
+ghost use Rattle.scx_explore_workloads.specs.Files.{IsFileOf, IsRunOf};
+
+use crate::drafts::times_in;
+use crate::following::follows;
+use crate::likeness::has_same_parts;
+use crate::writing::text_of;
+use scx_load_files::LoadError;
+use scx_load_workloads::{Workload, read_workload};
+use scx_sched::{Event, Sim};
+use std::alloc::{AllocError, Global};
+
+/// The text of a workload file with the groups, tasks and processors of that workload, whose events begin with the
+/// list; none where the list is of no such file. Two machines go through the list, one behind the other: the first to
+/// see how long tasks run, the second to see that the file is one of the list.
+///
+/// # Errors
+///
+/// Memory runs out.
+pub fn workload_file(
+    alloc: Global,
+    workload: &Workload,
+    first: &mut Sim,
+    second: &mut Sim,
+    events: &[Event],
+) -> Result<Option<String>, AllocError>
+    ensures { IfOk result (λ file. IfSome file
+        (λ text. IsFileOf workload.now second.old events.now (string_bytes text))) }
+{
+    let drafts = times_in(alloc, first, events)?;
+    let text = text_of(alloc, workload, &drafts)?;
+    if begins_with(alloc, text.as_str(), workload, second, events)? {
+        Ok(Some(text))
+    } else {
+        Ok(None)
+    }
+}
+
+/// Whether the text is a workload file with the groups, tasks and processors of that workload, whose events, for that
+/// machine, begin with the list. The machine goes through them.
+///
+/// # Errors
+///
+/// Memory runs out.
+#[tactic(auto, using(crate::proofs::Filing::file_of))]
+pub fn begins_with(
+    alloc: Global,
+    text: &str,
+    workload: &Workload,
+    sim: &mut Sim,
+    events: &[Event],
+) -> Result<bool, AllocError>
+    ensures { IfOk result
+        (λ answer. answer ≡ true → IsFileOf workload.now sim.old events.now text.now) }
+{
+    match read_workload(alloc, text) {
+        Ok(file) => is_file_of(alloc, &file, workload, sim, events),
+        Err(LoadError::NoMemory) => Err(AllocError),
+        Err(LoadError::At { .. }) => Ok(false),
+    }
+}
+
+/// Whether the file has the parts of that workload, and its events begin with the list.
+#[tactic(auto, using(crate::proofs::Filing::run_of))]
+fn is_file_of(
+    alloc: Global,
+    file: &Workload,
+    workload: &Workload,
+    sim: &mut Sim,
+    events: &[Event],
+) -> Result<bool, AllocError>
+    ensures { IfOk result (λ answer. answer ≡ true →
+        IsRunOf file.now workload.now sim.old events.now) }
+{
+    if has_same_parts(file, workload) {
+        follows(alloc, file, sim, events)
+    } else {
+        Ok(false)
+    }
+}

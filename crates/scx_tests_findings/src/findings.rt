@@ -1,0 +1,242 @@
+//! Lists of events, and what they end in.
+
+use crate::machines::{KEEPS, MISSES, PREFERS, TWO_GROUPS, TWO_TASKS, machine, workload};
+use scx_explore_findings::{Finding, Pair, SORTS, Sort, shows};
+use scx_isa::Callback;
+use scx_sched::{Event, Fault};
+use std::process::Abort;
+
+const A: Event = Event::Wake(0);
+
+const B: Event = Event::Wake(1);
+
+const TICK: Event = Event::Tick(0);
+
+const MS: Event = Event::Clock;
+
+/// Whether the list, under the policy, ends in the finding.
+fn ends_so<R: AllocGlobal + Abort>(
+    rt: &R,
+    files: (&str, &str),
+    events: &[Event],
+    finding: Finding,
+) -> bool {
+    let (policy, about) = files;
+    let workload = workload(rt, about);
+    let mut sim = machine(rt, policy, &workload);
+    let answer = shows(&mut sim, workload.tasks(), events, finding);
+    drop(sim);
+    drop(workload);
+    answer
+}
+
+/// Of these findings the list ends in the first alone.
+fn expect_first<R: AllocGlobal + Abort>(
+    rt: &R,
+    files: (&str, &str),
+    events: &[Event],
+    findings: &[Finding],
+) {
+    for place in 0..findings.len() {
+        let found = ends_so(rt, files, events, findings[place]);
+        assert_eq!(rt; found, place == 0, "{events:?}, {place}");
+    }
+}
+
+const KEPT: (&str, &str) = (KEEPS, TWO_TASKS);
+
+const PREFERRED: (&str, &str) = (PREFERS, TWO_TASKS);
+
+const IDLE: Finding = Finding::Idle { cpu: 0, task: 0 };
+
+const OVERTAKEN: Finding = Finding::Overtaken(Pair { waits: 0, runs: 1 });
+
+fn waits(task: u16, ms: u64) -> Finding {
+    Finding::Waits { task, ms }
+}
+
+fn takes(callback: Callback, instructions: u64) -> Finding {
+    Finding::Takes {
+        callback,
+        instructions,
+    }
+}
+
+#[test]
+fn a_fault_ejects(rt: HostRuntime) {
+    let fault = Finding::Fault(Fault::NoSuchQueue);
+    let others = [
+        fault,
+        Finding::Fault(Fault::CannotInsert),
+        Finding::Stall(0),
+        IDLE,
+    ];
+    expect_first(&rt, (MISSES, TWO_TASKS), &[A], &others);
+    expect_first(&rt, (MISSES, TWO_TASKS), &[MS, A], &others);
+    assert!(rt;
+        !ends_so(&rt, (MISSES, TWO_TASKS), &[A, MS], fault),
+        "it ends before"
+    );
+    assert!(rt; !ends_so(&rt, KEPT, &[A], fault), "there is a queue 0");
+}
+
+#[test]
+fn a_task_waits_for_too_long(rt: HostRuntime) {
+    let stall = Finding::Stall(0);
+    let others = [
+        stall,
+        Finding::Stall(1),
+        waits(0, 3),
+        waits(0, 0),
+        Finding::Fault(Fault::Stuck),
+    ];
+    expect_first(&rt, KEPT, &[A, MS, MS, MS], &others);
+    expect_first(&rt, KEPT, &[A, MS, B, MS, MS], &others);
+    assert!(rt;
+        !ends_so(&rt, KEPT, &[A, MS, MS], stall),
+        "2 ms are not too long"
+    );
+    assert!(rt;
+        !ends_so(&rt, KEPT, &[A, MS, MS, MS, MS], stall),
+        "it ends before"
+    );
+}
+
+#[test]
+fn a_task_has_waited(rt: HostRuntime) {
+    let others = [
+        waits(0, 2),
+        waits(0, 1),
+        waits(0, 3),
+        waits(1, 2),
+        waits(1, 0),
+    ];
+    expect_first(&rt, KEPT, &[A, MS, MS], &others);
+    expect_first(&rt, KEPT, &[A, MS, B, MS], &[waits(1, 1), waits(1, 2)]);
+    expect_first(&rt, KEPT, &[A], &[waits(0, 0), waits(1, 0)]);
+    assert!(rt;
+        !ends_so(&rt, PREFERRED, &[B, MS], waits(1, 0)),
+        "a task that runs doesn't wait"
+    );
+    assert!(rt;
+        !ends_so(&rt, KEPT, &[A, A], waits(0, 0)),
+        "the list is refused"
+    );
+}
+
+#[test]
+fn a_processor_is_left_idle(rt: HostRuntime) {
+    let others = [
+        IDLE,
+        Finding::Idle { cpu: 0, task: 1 },
+        Finding::Idle { cpu: 1, task: 0 },
+    ];
+    expect_first(&rt, KEPT, &[A, TICK], &others);
+    assert!(rt;
+        !ends_so(&rt, KEPT, &[A, TICK, MS], IDLE),
+        "the last event is no tick"
+    );
+    assert!(rt; !ends_so(&rt, KEPT, &[TICK], IDLE), "nobody waits");
+    assert!(rt;
+        !ends_so(&rt, PREFERRED, &[A, B, TICK], IDLE),
+        "the second task runs"
+    );
+}
+
+#[test]
+fn a_task_is_overtaken_twice(rt: HostRuntime) {
+    let twice = [A, B, Event::Sleep(1), B];
+    let others = [
+        OVERTAKEN,
+        Finding::Overtaken(Pair { waits: 1, runs: 0 }),
+        IDLE,
+    ];
+    expect_first(&rt, PREFERRED, &twice, &others);
+    assert!(rt;
+        !ends_so(&rt, PREFERRED, &[A, B, Event::Sleep(1)], OVERTAKEN),
+        "once"
+    );
+    assert!(rt;
+        !ends_so(&rt, PREFERRED, &[B, Event::Sleep(1), A, B], OVERTAKEN),
+        "once since it waits"
+    );
+    assert!(rt;
+        !ends_so(&rt, (PREFERS, TWO_GROUPS), &twice, OVERTAKEN),
+        "another group"
+    );
+}
+
+#[test]
+fn a_callback_takes_instructions(rt: HostRuntime) {
+    let five = [
+        takes(Callback::Enqueue, 5),
+        takes(Callback::Enqueue, 4),
+        takes(Callback::Enqueue, 6),
+        takes(Callback::Dispatch, 5),
+    ];
+    expect_first(&rt, KEPT, &[A], &five);
+    expect_first(
+        &rt,
+        PREFERRED,
+        &[B, A],
+        &[takes(Callback::Enqueue, 7), takes(Callback::Enqueue, 8)],
+    );
+    expect_first(
+        &rt,
+        PREFERRED,
+        &[A, B],
+        &[takes(Callback::Enqueue, 8), takes(Callback::Enqueue, 7)],
+    );
+    let enqueue = takes(Callback::Enqueue, 5);
+    assert!(rt;
+        !ends_so(&rt, KEPT, &[A, MS], enqueue),
+        "the last event calls nothing"
+    );
+    assert!(rt;
+        !ends_so(&rt, KEPT, &[A, MS, MS, MS, B], enqueue),
+        "the policy is out of force"
+    );
+    assert!(rt;
+        ends_so(&rt, (MISSES, TWO_TASKS), &[A], enqueue),
+        "it ejects the policy"
+    );
+    assert!(rt; !ends_so(&rt, KEPT, &[], enqueue), "there is no event");
+}
+
+#[test]
+fn sorts_stand_by_their_numbers(rt: HostRuntime) {
+    for place in 0..SORTS.len() {
+        assert_eq!(rt; usize::from(SORTS[place].number()), place, "place");
+    }
+    assert_eq!(rt; SORTS.len(), 11, "eight faults and three more");
+}
+
+/// The number of a finding's sort.
+fn number_of(finding: Finding) -> Option<u8> {
+    match finding.sort() {
+        Some(sort) => Some(sort.number()),
+        None => None,
+    }
+}
+
+#[test]
+fn findings_are_of_sorts(rt: HostRuntime) {
+    assert_eq!(rt;
+        number_of(Finding::Fault(Fault::NoSuchQueue)),
+        Some(1),
+        "a fault"
+    );
+    assert_eq!(rt; number_of(Finding::Stall(7)), Some(8), "a stall");
+    assert_eq!(rt; number_of(IDLE), Some(9), "an idle processor");
+    assert_eq!(rt;
+        number_of(OVERTAKEN),
+        Some(Sort::Overtaken.number()),
+        "a task that is overtaken"
+    );
+    assert_eq!(rt; number_of(waits(0, 1)), None, "a wait");
+    assert_eq!(rt;
+        number_of(takes(Callback::Enqueue, 5)),
+        None,
+        "instructions"
+    );
+}
