@@ -5,10 +5,16 @@
 //! whether a list that is run from the beginning ends in it.
 #![tactic(auto)]
 
-mod count;
-mod finding;
+mod along;
+mod events;
+mod finds;
+mod looking;
+mod milliseconds;
+mod progress;
 mod search;
 
-pub use finding::{Finding, SORTS, Sort, shows};
-pub use scx_explore_states::{Form, MOST_TASKS, Pair};
-pub use search::{Found, Level, MOST_EVENTS, Progress, Search};
+pub use progress::{Found, Level, Progress};
+pub use scx_explore_findings::{Finding, SORTS, Sort, shows};
+pub use scx_explore_machines::{Bounds, MOST_CHANGES, Mode};
+pub use scx_explore_states::{Form, MOST_TASKS, Pair, Step, Tasks, Way};
+pub use search::Search;

@@ -1,41 +1,26 @@
-use crate::finding::{Finding, SORTS, Sort, fault_of, idle_in};
-use scx_explore_path::Path;
-use scx_explore_states::{Entered, Form, Seen, Watch, Way, Words};
-use scx_sched::Event;
+ghost use Rattle.std.specs.Prelude.{◌≡◌, length, All, IfOk};
+ghost use Rattle.scx_explore_path.specs.Path.{IsAs};
+
+use crate::finds::Finds;
+use crate::progress::{Found, Level, Progress};
+use scx_explore_findings::Sort;
+use scx_explore_machines::{
+    Bounds, Changes, Look, Machines, Memory, Mode, Most, count_of, event_at, most_events, places,
+    push,
+};
+use scx_explore_path::Pool;
+use scx_explore_states::{Entered, Form, Seen, Step, Watch, Way, Words};
+use scx_isa::Callback;
+use scx_load_workloads::Workload;
+use scx_sched::{Event, Sim};
 use std::alloc::{AllocError, Global};
 use std::marker::Model;
 
-/// The most events of a list.
-pub const MOST_EVENTS: usize = 64;
-
-/// How far a search has come: lists of so many events, the states met and the events tried so far.
+/// A step and the state that it leads to.
 #[derive(Clone, Copy)]
-pub struct Level {
-    pub depth: usize,
-    pub states: usize,
-    pub events: u64,
-    /// No state of that depth is new, so there is none beyond it.
-    pub ended: bool,
-}
-
-/// What was found first of a sort, by that event in the state of that number.
-#[derive(Clone, Copy)]
-pub struct Found {
-    pub finding: Finding,
-    pub way: Way,
-    /// How many events the list has.
-    pub depth: usize,
-}
-
-/// What a search has done at last.
-#[derive(Clone, Copy)]
-pub enum Progress {
-    /// It went through one state.
-    Going,
-    /// It went through all lists of so many events.
-    Level(Level),
-    /// The states that were met are more than there is room for.
-    Full,
+pub(crate) struct Stop {
+    pub(crate) state: usize,
+    pub(crate) step: Step,
 }
 
 /// A search by the length of lists.
@@ -43,22 +28,28 @@ pub enum Progress {
 /// In a contract it is nothing: what it finds is shown by a machine that goes through the list again.
 #[derive(Drop)]
 pub struct Search {
-    form: Form,
-    path: Path,
-    seen: Seen,
-    watch: Watch,
-    /// The state at hand.
-    words: Words,
-    found: [Option<Found>; 10],
-    /// How many sorts were found.
-    count: usize,
-    depth: usize,
+    pub(crate) form: Form,
+    pub(crate) bounds: Bounds,
+    pub(crate) machines: Machines,
+    pub(crate) changes: Changes,
+    pub(crate) seen: Seen,
+    pub(crate) look: Look,
+    pub(crate) words: Words,
+    pub(crate) finds: Finds,
+    /// Machines that are tried on.
+    pub(crate) hand: usize,
+    pub(crate) other_hand: usize,
+    /// The way to a state, backwards.
+    pub(crate) stops: Vec<Stop>,
+    pub(crate) depth: usize,
     /// The state that is gone through next.
     next: usize,
     /// The first state of the next depth.
     end: usize,
-    events: u64,
+    pub(crate) events: u64,
     full: bool,
+    /// Whether some states of the last depth weren't kept.
+    lost: bool,
 }
 
 impl Model for Search {
@@ -71,9 +62,85 @@ impl Model for Search {
     ghost invariant = { IsReady };
 }
 
+/// What a search keeps beside its machines.
+#[derive(Drop)]
+struct Tables {
+    watch: Watch,
+    changes: Changes,
+    seen: Seen,
+    words: Words,
+    stops: Vec<Stop>,
+}
+
+impl Tables {
+    fn new(
+        alloc: Global,
+        form: Form,
+        bounds: Bounds,
+        root: &Sim,
+        workload: &Workload,
+        bytes: usize,
+    ) -> Result<Tables, AllocError>
+        ensures { IfOk result (λ tables. length tables.words ≡ tables.seen.width) }
+    {
+        let changes = Changes::new(alloc, bounds, workload)?;
+        let beside = Memory::width(bounds, root.tasks(), changes.are_some());
+        let width = form.width(root).saturating_add(beside);
+        let room = bytes / width.saturating_mul(8).saturating_add(34);
+        Ok(Tables {
+            watch: Watch::new(workload.tasks()),
+            changes,
+            seen: Seen::new(alloc, width, room)?,
+            words: Words::new(alloc, width)?,
+            stops: Vec::with_capacity(alloc, bounds.depth)?,
+        })
+    }
+}
+
+/// A search whose first state was entered.
+fn begun(form: Form, bounds: Bounds, tables: Tables, machines: Machines) -> Search
+    requires { length tables.words ≡ tables.seen.width }
+{
+    let Tables {
+        watch,
+        changes,
+        seen,
+        words,
+        stops,
+    } = tables;
+    let mut machines = machines;
+    let hand = machines.take_or_0();
+    let other_hand = machines.take_or_0();
+    let mut search = Search {
+        form,
+        bounds,
+        machines,
+        changes,
+        seen,
+        look: Look {
+            watch,
+            most: Most::NONE,
+        },
+        words,
+        finds: Finds::NONE,
+        hand,
+        other_hand,
+        stops,
+        depth: 0,
+        next: 0,
+        end: 0,
+        events: 0,
+        full: hand == other_hand,
+        lost: false,
+    };
+    search.enter_first();
+    search
+}
+
 impl Search {
-    /// A search from the first state of the machines, which are the same, in so many bytes. The tasks' groups are
-    /// those of the list. All memory is taken here.
+    /// A search from the first state of that machine, in so many bytes and with these machines. Of these there have
+    /// to be four at least; the more there are, the fewer events are done again. The machine is the workload's. All
+    /// memory is taken here.
     ///
     /// # Errors
     ///
@@ -81,54 +148,94 @@ impl Search {
     pub fn new(
         alloc: Global,
         form: Form,
-        path: Path,
-        homes: &[u32],
+        bounds: Bounds,
+        root: Sim,
+        sims: Vec<Sim>,
+        workload: &Workload,
         bytes: usize,
-    ) -> Result<Search, AllocError> {
-        let width = form.width(path.sim());
-        let room = bytes / width.saturating_mul(8).saturating_add(34);
-        let mut search = Search {
-            form,
-            path,
-            seen: Seen::new(alloc, width, room)?,
-            watch: Watch::new(homes),
-            words: Words::new(alloc, width)?,
-            found: [None; 10],
-            count: 0,
-            depth: 0,
-            next: 0,
-            end: 0,
-            events: 0,
-            full: false,
+    ) -> Result<Search, AllocError>
+        requires { All (IsAs root) sims.items }
+    {
+        match Tables::new(alloc, form, bounds, &root, workload, bytes) {
+            Ok(tables) => Search::of_tables(alloc, form, bounds, tables, Pool::new(root, sims)),
+            Err(error) => {
+                drop(root);
+                drop(sims);
+                Err(error)
+            }
+        }
+    }
+
+    fn of_tables(
+        alloc: Global,
+        form: Form,
+        bounds: Bounds,
+        tables: Tables,
+        pool: Pool,
+    ) -> Result<Search, AllocError>
+        requires { length tables.words ≡ tables.seen.width }
+    {
+        let first = Memory::new(tables.changes.first());
+        match Machines::new(alloc, pool, first) {
+            Ok(machines) => Ok(begun(form, bounds, tables, machines)),
+            Err(error) => {
+                drop(tables);
+                Err(error)
+            }
+        }
+    }
+
+    /// The most events of a list within the bounds, for such a machine.
+    pub fn most_events(bounds: Bounds, sim: &Sim) -> usize {
+        most_events(bounds, sim)
+    }
+
+    fn enter_first(&mut self) {
+        let hand = self.hand;
+        self.machines.begin(hand);
+        let memory = self.machines.memory(hand);
+        let way = Way {
+            from: 0,
+            step: Step::Event(Event::Clock),
         };
-        search.enter(
-            Way {
-                from: 0,
-                event: Event::Clock,
-            },
-            0,
-        );
-        search.end = search.seen.len();
-        Ok(search)
+        self.hand = self.enter(hand, memory, way);
+        self.machines.deepen();
+        self.end = self.seen.len();
+    }
+
+    /// How many states were met so far.
+    pub fn states(&self) -> usize {
+        self.seen.len()
+    }
+
+    /// How many bytes they take, with the ways to them and the places where they are looked for.
+    pub fn bytes(&self) -> usize {
+        let words = self.words.as_slice().len();
+        words
+            .saturating_mul(8)
+            .saturating_add(34)
+            .saturating_mul(self.seen.len())
     }
 
     /// What was found as the first, the second or a further one; none where so much wasn't found yet.
     pub fn found(&self, place: usize) -> Option<Found> {
-        if place < self.found.len() {
-            self.found[place]
-        } else {
-            None
-        }
+        self.finds.found(place)
     }
 
     /// Whether something of that sort was found.
     pub fn has_found(&self, sort: Sort) -> bool {
-        for found in &self.found {
-            if is_of(*found, sort) {
-                return true;
-            }
-        }
-        false
+        self.finds.has_found(sort)
+    }
+
+    /// The longest wait of a task behind the clock of some millisecond, where milliseconds are gone through and some
+    /// task waits.
+    pub fn longest_wait(&self) -> Option<Found> {
+        self.finds.wait()
+    }
+
+    /// The most instructions that the callback took in some event, if it was called.
+    pub fn most_instructions(&self, callback: Callback) -> Option<Found> {
+        self.finds.most(callback)
     }
 
     /// Goes through one more state, or on to the next depth.
@@ -142,9 +249,10 @@ impl Search {
             self.next = state + 1;
             return Progress::Going;
         }
-        let ended = self.seen.len() == self.end;
+        let ended = self.seen.len() == self.end && !self.lost;
         self.end = self.seen.len();
         self.depth = self.depth.saturating_add(1);
+        self.machines.deepen();
         Progress::Level(Level {
             depth: self.depth,
             states: self.end,
@@ -153,147 +261,90 @@ impl Search {
         })
     }
 
-    /// The events that lead to what was found, in a list of which no more than the first `depth` count.
-    pub fn list_of(&self, found: Found) -> [Event; MOST_EVENTS] {
-        let mut events = [found.way.event; MOST_EVENTS];
-        self.write_list(found.way.from, found.depth.saturating_sub(1), &mut events);
-        events
-    }
-
-    /// The events that lead to a state, which are so many.
-    fn write_list(&self, state: usize, depth: usize, events: &mut [Event]) {
-        let mut at = state;
-        for behind in 0..depth {
-            at = self.step_back(at, depth - 1 - behind, events);
-        }
-    }
-
-    /// The state before that one. The event between them goes to that place of the list.
-    fn step_back(&self, state: usize, place: usize, events: &mut [Event]) -> usize {
-        match (self.seen.way(state), events.get_mut(place)) {
-            (Some(way), Some(event)) => {
-                *event = way.event;
-                way.from
-            }
-            _ => 0,
-        }
-    }
-
-    /// The path comes to that state; false where it can't, which doesn't happen.
-    fn go_to(&mut self, state: usize) -> bool {
-        let mut events = [Event::Clock; MOST_EVENTS];
-        self.write_list(state, self.depth, &mut events);
-        match events.get(..self.depth) {
-            Some(list) => list.len() <= self.path.room() && self.path.go_to(list).is_ok(),
-            None => false,
-        }
-    }
-
-    /// Tries each event that the machine accepts in that state.
     fn go_through(&mut self, state: usize) {
-        if !self.go_to(state) {
-            return;
-        }
-        let began = self.began_in(state);
-        for task in 0..self.path.sim().tasks() {
-            let event = if self.path.sim().is_runnable(task) {
-                Event::Sleep(task)
-            } else {
-                Event::Wake(task)
-            };
-            self.try_event(Way { from: state, event }, began);
-        }
-        for cpu in 0..self.path.sim().cpus() {
-            self.try_event(
-                Way {
-                    from: state,
-                    event: Event::Tick(cpu),
-                },
-                began,
-            );
-        }
-        self.try_event(
-            Way {
-                from: state,
-                event: Event::Clock,
-            },
-            began,
-        );
-    }
-
-    /// Who began to run while another waits, in that state.
-    fn began_in(&self, state: usize) -> u64 {
-        if state >= self.seen.len() {
-            return 0;
-        }
-        match self.seen.state(state).first() {
-            Some(began) => *began,
-            None => 0,
-        }
-    }
-
-    /// Tries an event, and enters the state that it leads to.
-    fn try_event(&mut self, way: Way, began: u64) {
-        let depth = self.path.events().len();
-        if depth >= self.path.room() {
-            return;
-        }
-        self.events = self.events.saturating_add(1);
-        self.watch.begin(self.path.sim(), began);
-        if self.path.go_on(way.event, &mut self.watch).is_ok() {
-            self.look(way);
-            self.path.go_back(depth);
-        }
-    }
-
-    /// Looks at the state that the event has led to.
-    fn look(&mut self, way: Way) {
-        if self.path.sim().ejected().is_some() {
-            if let Some(fault) = fault_of(self.path.sim()) {
-                self.find(Finding::Fault(fault), way);
-            }
-            return;
-        }
-        if let Some(idle) = idle_in(self.path.sim(), way.event) {
-            self.find(idle, way);
-        }
-        if let Some(pair) = self.watch.overtaken() {
-            self.find(Finding::Overtaken(pair), way);
-        }
-        let began = if self.has_found(Sort::Overtaken) {
-            0
+        if let Some(machine) = self.machines.of(state) {
+            let left = self.go_from(state, machine, true);
+            self.machines.free(left);
+        } else if let Some(machine) = self.come_along(state) {
+            self.go_from(state, machine, false);
         } else {
-            self.watch.began()
-        };
-        self.enter(way, began);
+            self.full = true;
+        }
     }
 
-    /// Enters the state of the machine at hand.
-    fn enter(&mut self, way: Way, began: u64) {
-        self.form.write(self.path.sim(), began, &mut self.words);
+    /// Goes on from the state of that machine. One that is used up isn't needed any more; it, or another one in its
+    /// place, is answered.
+    fn go_from(&mut self, state: usize, machine: usize, is_used_up: bool) -> usize {
+        match self.bounds.mode {
+            Mode::Events => self.try_events(state, machine, is_used_up),
+            Mode::Milliseconds | Mode::Workloads => {
+                self.try_milliseconds(state, machine, is_used_up)
+            }
+        }
+    }
+
+    /// Whether states that are met now are gone through.
+    fn is_last(&self) -> bool {
+        self.depth.saturating_add(1) >= self.bounds.depth
+    }
+
+    /// Enters the state of that machine. Answers the machine, or another one in its place.
+    pub(crate) fn enter(&mut self, machine: usize, memory: Memory, way: Way) -> usize {
+        self.form
+            .write(self.machines.sim(machine), memory.began, &mut self.words);
+        let tasks = self.machines.sim(machine).tasks();
+        memory.write(self.bounds, tasks, self.changes.are_some(), &mut self.words);
         match self.seen.enter(self.words.as_slice(), way) {
-            Entered::Was(_) | Entered::New(_) => {}
-            Entered::Full => self.full = true,
+            Entered::Was(_) => machine,
+            Entered::New(state) => self.keep(state, machine, memory),
+            Entered::Full => {
+                if self.is_last() {
+                    self.lost = true;
+                } else {
+                    self.full = true;
+                }
+                machine
+            }
         }
     }
 
-    /// Keeps the first of a sort.
-    fn find(&mut self, finding: Finding, way: Way) {
-        if self.has_found(finding.sort()) || self.count >= SORTS.len() {
-            return;
+    fn keep(&mut self, state: usize, machine: usize, memory: Memory) -> usize {
+        if self.is_last() && state > 0 {
+            return machine;
         }
-        self.found[self.count] = Some(Found {
-            finding,
-            way,
-            depth: self.depth.saturating_add(1),
-        });
-        self.count += 1;
+        self.machines.set_memory(machine, memory);
+        self.machines.keep(state, machine)
     }
-}
 
-fn is_of(found: Option<Found>, sort: Sort) -> bool {
-    match found {
-        Some(found) => found.finding.sort().number() == sort.number(),
-        None => false,
+    /// Writes the events that lead to what was found, and nothing else, into the list.
+    pub fn list_of(&self, found: Found, events: &mut Vec<Event>) {
+        events.clear();
+        self.write_back(found.way.step, found.part, events);
+        let mut at = found.way.from;
+        for _ in 1..found.depth {
+            let Some(way) = self.seen.way(at) else {
+                return;
+            };
+            self.write_back(way.step, usize::MAX, events);
+            at = way.from;
+        }
+        events.as_mut_slice().reverse();
+    }
+
+    /// Writes so many of the events of a step, the last one first.
+    fn write_back(&self, step: Step, most: usize, events: &mut Vec<Event>) {
+        let cpus = self.machines.sim(0).cpus();
+        let mut skip = count_of(step, cpus).saturating_sub(most);
+        let count = places(step, cpus);
+        for behind in 0..count {
+            let Some(event) = event_at(step, cpus, count - 1 - behind) else {
+                continue;
+            };
+            if skip > 0 {
+                skip -= 1;
+            } else {
+                push(events, event);
+            }
+        }
     }
 }

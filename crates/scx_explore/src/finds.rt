@@ -1,0 +1,122 @@
+use crate::progress::Found;
+use scx_explore_findings::{Finding, Sort};
+use scx_isa::{CALLBACKS, Callback};
+
+/// How many sorts there are.
+const SORT_COUNT: usize = 11;
+
+/// How many callbacks of a policy there are.
+const CALLBACK_COUNT: usize = 7;
+
+/// What was found up to now.
+#[derive(Clone, Copy)]
+pub(crate) struct Finds {
+    found: [Option<Found>; SORT_COUNT],
+    /// How many sorts were found.
+    count: usize,
+    /// The longest wait.
+    wait: Option<Found>,
+    wait_ms: u64,
+    /// The most instructions of each callback.
+    most: [Option<Found>; CALLBACK_COUNT],
+    is_overtaken: bool,
+}
+
+impl Finds {
+    pub(crate) const NONE: Finds = Finds {
+        found: [None; SORT_COUNT],
+        count: 0,
+        wait: None,
+        wait_ms: 0,
+        most: [None; CALLBACK_COUNT],
+        is_overtaken: false,
+    };
+
+    pub(crate) fn found(&self, place: usize) -> Option<Found> {
+        match self.found.get(place) {
+            Some(found) => *found,
+            None => None,
+        }
+    }
+
+    pub(crate) fn has_found(&self, sort: Sort) -> bool {
+        for found in &self.found {
+            if is_of(*found, sort) {
+                return true;
+            }
+        }
+        false
+    }
+
+    /// Whether a task was overtaken twice.
+    #[inline(always)]
+    pub(crate) fn is_overtaken(&self) -> bool {
+        self.is_overtaken
+    }
+
+    /// Keeps the first of a sort.
+    pub(crate) fn find(&mut self, found: Found) {
+        let Some(sort) = found.finding.sort() else {
+            return;
+        };
+        if self.has_found(sort) {
+            return;
+        }
+        if let Some(place) = self.found.get_mut(self.count) {
+            *place = Some(found);
+            self.count = self.count.saturating_add(1);
+        }
+        if let Finding::Overtaken(_) = found.finding {
+            self.is_overtaken = true;
+        }
+    }
+
+    pub(crate) fn wait(&self) -> Option<Found> {
+        self.wait
+    }
+
+    /// How long the longest wait is.
+    #[inline(always)]
+    pub(crate) fn wait_ms(&self) -> u64 {
+        let ms = self.wait_ms;
+        ms
+    }
+
+    pub(crate) fn set_wait(&mut self, found: Found, ms: u64) {
+        self.wait = Some(found);
+        self.wait_ms = ms;
+    }
+
+    pub(crate) fn most(&self, callback: Callback) -> Option<Found> {
+        for place in 0..CALLBACK_COUNT {
+            if CALLBACKS[place] == callback {
+                return self.most_at(place);
+            }
+        }
+        None
+    }
+
+    fn most_at(&self, place: usize) -> Option<Found> {
+        match self.most.get(place) {
+            Some(most) => *most,
+            None => None,
+        }
+    }
+
+    /// The callback at that place of `CALLBACKS` took more than before.
+    pub(crate) fn set_most(&mut self, place: usize, found: Found) {
+        if let Some(most) = self.most.get_mut(place) {
+            *most = Some(found);
+        }
+    }
+}
+
+fn is_of(found: Option<Found>, sort: Sort) -> bool {
+    match found {
+        Some(found) => match found.finding.sort() {
+            Some(other) => other.number() == sort.number(),
+            None => false,
+        },
+        None => false,
+    }
+}

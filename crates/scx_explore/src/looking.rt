@@ -1,0 +1,126 @@
+use crate::progress::Found;
+use crate::search::Search;
+use scx_explore_findings::{Finding, fault_of, idle_in, stall_of};
+use scx_explore_machines::Mode;
+use scx_explore_states::Way;
+use scx_isa::{CALLBACKS, Callback};
+use scx_sched::{Event, Sim};
+
+impl Search {
+    /// Tries an event on that machine, which is the event of that number of a step. Answers whether the list goes on.
+    pub(crate) fn try_event(
+        &mut self,
+        machine: usize,
+        event: Event,
+        way: Way,
+        part: usize,
+    ) -> bool {
+        self.events = self.events.saturating_add(1);
+        if !self.machines.step(machine, event, &mut self.look) {
+            return false;
+        }
+        if self.look.most.has_grown() {
+            self.keep_most(way, part);
+        }
+        if self.machines.sim(machine).ejected().is_some() {
+            self.look_at_end(machine, way, part);
+            return false;
+        }
+        self.look_behind(machine, event, way, part);
+        if let Some(pair) = self.look.watch.overtaken() {
+            self.find(Finding::Overtaken(pair), way, part);
+        }
+        true
+    }
+
+    /// What is so behind an event with which the list goes on.
+    fn look_behind(&mut self, machine: usize, event: Event, way: Way, part: usize) {
+        if !self.look.watch.is_someone_waiting() {
+            return;
+        }
+        match event {
+            Event::Tick(_) => {
+                if let Some(idle) = idle_in(self.machines.sim(machine), event) {
+                    self.find(idle, way, part);
+                }
+            }
+            Event::Clock => {
+                if self.bounds.mode != Mode::Events {
+                    self.look_at_waits(machine, way, part);
+                }
+            }
+            Event::Wake(_) | Event::Sleep(_) | Event::SetWeight(_, _) => {}
+        }
+    }
+
+    /// What ended the list.
+    fn look_at_end(&mut self, machine: usize, way: Way, part: usize) {
+        if let Some(fault) = fault_of(self.machines.sim(machine)) {
+            self.find(Finding::Fault(fault), way, part);
+        }
+        if self.bounds.mode == Mode::Events {
+            return;
+        }
+        if let Some(task) = stall_of(self.machines.sim(machine)) {
+            self.find(Finding::Stall(task), way, part);
+        }
+    }
+
+    /// Keeps the longest wait.
+    fn look_at_waits(&mut self, machine: usize, way: Way, part: usize) {
+        for task in 0..self.machines.sim(machine).tasks() {
+            let ms = wait_of(self.machines.sim(machine), task);
+            if ms > self.finds.wait_ms() {
+                self.keep_wait(Finding::Waits { task, ms }, ms, way, part);
+            }
+        }
+    }
+
+    fn keep_wait(&mut self, finding: Finding, ms: u64, way: Way, part: usize) {
+        let found = self.found_by(finding, way, part);
+        self.finds.set_wait(found, ms);
+    }
+
+    /// Keeps what took more instructions than before.
+    fn keep_most(&mut self, way: Way, part: usize) {
+        for place in 0..CALLBACKS.len() {
+            self.keep_most_of(place, CALLBACKS[place], way, part);
+        }
+        self.look.most.settle();
+    }
+
+    fn keep_most_of(&mut self, place: usize, callback: Callback, way: Way, part: usize) {
+        let Some(instructions) = self.look.most.grown(callback) else {
+            return;
+        };
+        let finding = Finding::Takes {
+            callback,
+            instructions,
+        };
+        let found = self.found_by(finding, way, part);
+        self.finds.set_most(place, found);
+    }
+
+    fn find(&mut self, finding: Finding, way: Way, part: usize) {
+        let found = self.found_by(finding, way, part);
+        self.finds.find(found);
+    }
+
+    fn found_by(&self, finding: Finding, way: Way, part: usize) -> Found {
+        Found {
+            finding,
+            way,
+            depth: self.depth.saturating_add(1),
+            part,
+        }
+    }
+}
+
+/// How long the task has waited; 0 where there is no such task.
+fn wait_of(sim: &Sim, task: u16) -> u64 {
+    if task < sim.tasks() {
+        sim.wait(task)
+    } else {
+        0
+    }
+}

@@ -1,0 +1,95 @@
+use crate::bounds::{Bounds, Mode};
+use scx_load_workloads::{Change, Workload};
+use scx_sched::Event;
+use std::alloc::{AllocError, Global};
+
+/// The most different changes of weights that a search tries.
+pub const MOST_CHANGES: usize = 64;
+
+/// The weights that groups may come to have, each once.
+#[derive(Drop)]
+pub struct Changes {
+    changes: Vec<Change>,
+    /// Bit i is set where the workload's group has the weight of change i.
+    first: u64,
+}
+
+impl Changes {
+    /// Those of the workload where events are gone through, else none.
+    pub fn new(alloc: Global, bounds: Bounds, workload: &Workload) -> Result<Changes, AllocError> {
+        let mut changes = Changes {
+            changes: Vec::with_capacity(alloc, MOST_CHANGES)?,
+            first: 0,
+        };
+        if bounds.mode == Mode::Events {
+            for change in workload.changes() {
+                changes.add(*change, workload);
+            }
+        }
+        Ok(changes)
+    }
+
+    fn add(&mut self, change: Change, workload: &Workload) {
+        if self.has(change) || self.changes.len() >= self.changes.capacity() {
+            return;
+        }
+        if let Some(group) = workload.groups().get(change.group as usize) {
+            if group.weight == change.weight {
+                self.first |= bit(self.changes.len());
+            }
+        }
+        self.changes.push_reserved(change);
+    }
+
+    fn has(&self, change: Change) -> bool {
+        for other in &self.changes {
+            if other.group == change.group && other.weight == change.weight {
+                return true;
+            }
+        }
+        false
+    }
+
+    /// Whether there are any.
+    pub fn are_some(&self) -> bool {
+        !self.changes.is_empty()
+    }
+
+    /// How many there are.
+    pub fn len(&self) -> usize {
+        self.changes.len()
+    }
+
+    /// Which groups have such a weight before the first event.
+    pub fn first(&self) -> u64 {
+        let first = self.first;
+        first
+    }
+
+    /// The event of that change.
+    pub fn event(&self, at: usize) -> Option<Event> {
+        let change = self.changes.get(at)?;
+        Some(Event::SetWeight(change.group, change.weight))
+    }
+
+    /// Which groups have such a weight, once that one has this weight.
+    pub fn after(&self, before: u64, group: u32, weight: u32) -> u64 {
+        let mut after = before;
+        for at in 0..self.changes.len() {
+            let change = self.changes[at];
+            if change.group != group {
+                continue;
+            }
+            if change.weight == weight {
+                after |= bit(at);
+            } else {
+                after &= !bit(at);
+            }
+        }
+        after
+    }
+}
+
+fn bit(at: usize) -> u64 {
+    1u64.wrapping_shl((at % 64) as u32)
+}

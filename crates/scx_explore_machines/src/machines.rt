@@ -1,0 +1,257 @@
+use crate::memory::Memory;
+use scx_explore_path::Pool;
+use scx_sched::{Event, Sim, Sink};
+use std::alloc::{AllocError, Global};
+use std::marker::Model;
+
+/// How many states of a list keep their machines, from its end backwards.
+const TRAIL: usize = 64;
+
+/// A state and the number of its machine.
+#[derive(Clone, Copy)]
+struct Held {
+    state: usize,
+    machine: usize,
+}
+
+/// Machines for the states that are gone through, and for those on the way to one of them.
+///
+/// In a contract it is nothing.
+#[derive(Drop)]
+pub struct Machines {
+    pool: Pool,
+    /// What is known beside each machine.
+    memories: Vec<Memory>,
+    first: Memory,
+    free: Vec<usize>,
+    /// Machines for the trail.
+    spare: Vec<usize>,
+    /// States of the depth at hand that have a machine, by number; those before `at` are done with.
+    here: Vec<Held>,
+    at: usize,
+    /// States of the next depth that have one.
+    next: Vec<Held>,
+    /// The end of a list: the state at that depth, and those behind it.
+    trail: Vec<Held>,
+    trail_depth: usize,
+}
+
+impl Model for Machines {
+    ghost Value = { Unit {0} };
+
+    ghost view = { λ m. tt };
+}
+
+impl Machines {
+    /// All of them are free.
+    pub fn new(alloc: Global, pool: Pool, first: Memory) -> Result<Machines, AllocError> {
+        match Lists::new(alloc, pool.len(), first) {
+            Ok(lists) => Ok(of_lists(pool, first, lists)),
+            Err(error) => {
+                drop(pool);
+                Err(error)
+            }
+        }
+    }
+
+    /// A machine that nobody has; the first one where there is none.
+    pub fn take_or_0(&mut self) -> usize {
+        match self.free.pop() {
+            Some(machine) => machine,
+            None => 0,
+        }
+    }
+
+    /// Nobody has that machine any more.
+    pub fn free(&mut self, machine: usize) {
+        push(&mut self.free, machine);
+    }
+
+    /// The machine of that number; the one in which lists begin where there is none.
+    pub fn sim(&self, machine: usize) -> &Sim {
+        if machine < self.pool.len() {
+            self.pool.sim(machine)
+        } else {
+            self.pool.root()
+        }
+    }
+
+    /// What is known beside it.
+    pub fn memory(&self, machine: usize) -> Memory {
+        match self.memories.get(machine) {
+            Some(memory) => *memory,
+            None => self.first,
+        }
+    }
+
+    /// That is known beside it from now on.
+    pub fn set_memory(&mut self, machine: usize, memory: Memory) {
+        if let Some(place) = self.memories.get_mut(machine) {
+            *place = memory;
+        }
+    }
+
+    /// The second machine becomes what the first one is.
+    pub fn copy(&mut self, from: usize, to: usize) {
+        if from < self.pool.len() && to < self.pool.len() {
+            self.pool.copy(from, to);
+        }
+    }
+
+    /// The machine comes to where lists begin.
+    pub fn begin(&mut self, machine: usize) {
+        if machine < self.pool.len() {
+            self.pool.begin(machine);
+        }
+        self.set_memory(machine, self.first);
+    }
+
+    /// The machine has the event; false where it can't.
+    #[inline(always)]
+    pub fn step<S: Sink>(&mut self, machine: usize, event: Event, sink: &mut S) -> bool {
+        machine < self.pool.len() && self.pool.step(machine, event, sink).is_ok()
+    }
+
+    /// A state of the next depth has that machine, if there is another one in its place, which is answered. Else the
+    /// machine itself is.
+    pub fn keep(&mut self, state: usize, machine: usize) -> usize {
+        let Some(other) = self.free.pop() else {
+            return machine;
+        };
+        push(&mut self.next, Held { state, machine });
+        other
+    }
+
+    /// The machine of that state of the depth at hand, if it has one. It is in nobody's hands then.
+    pub fn of(&mut self, state: usize) -> Option<usize> {
+        let held = *self.here.get(self.at)?;
+        if held.state != state {
+            return None;
+        }
+        self.at = self.at.saturating_add(1);
+        Some(held.machine)
+    }
+
+    /// The next depth is at hand.
+    pub fn deepen(&mut self) {
+        self.here.clear();
+        for held in &self.next {
+            push(&mut self.here, *held);
+        }
+        self.next.clear();
+        self.at = 0;
+    }
+
+    /// The machine of that state of that depth, if it is on the trail, of which what is behind it is cut off.
+    pub fn cut_trail(&mut self, state: usize, depth: usize) -> Option<usize> {
+        let at = depth.checked_sub(self.trail_depth)?;
+        let held = *self.trail.get(at)?;
+        if held.state != state {
+            return None;
+        }
+        self.shorten_trail(at.saturating_add(1));
+        Some(held.machine)
+    }
+
+    /// Nothing is on the trail, which goes on at that depth.
+    pub fn begin_trail(&mut self, depth: usize) {
+        self.shorten_trail(0);
+        self.trail_depth = depth;
+    }
+
+    fn shorten_trail(&mut self, keep: usize) {
+        for _ in 0..TRAIL {
+            if self.trail.len() <= keep {
+                return;
+            }
+            if let Some(held) = self.trail.pop() {
+                push(&mut self.spare, held.machine);
+            }
+        }
+    }
+
+    /// A machine for the next state of the trail; its first one where there is none left.
+    pub fn trail_machine(&mut self) -> Option<usize> {
+        if let Some(machine) = self.spare.pop() {
+            return Some(machine);
+        }
+        if self.trail.len() < 2 {
+            return None;
+        }
+        self.trail_depth = self.trail_depth.saturating_add(1);
+        Some(self.trail.remove(0).machine)
+    }
+
+    /// The state comes behind the trail.
+    pub fn lengthen_trail(&mut self, state: usize, machine: usize) {
+        push(&mut self.trail, Held { state, machine });
+    }
+}
+
+/// All lists of so many machines, whose memory is taken at once.
+#[derive(Drop)]
+struct Lists {
+    memories: Vec<Memory>,
+    free: Vec<usize>,
+    spare: Vec<usize>,
+    here: Vec<Held>,
+    next: Vec<Held>,
+    trail: Vec<Held>,
+}
+
+impl Lists {
+    fn new(alloc: Global, count: usize, first: Memory) -> Result<Lists, AllocError> {
+        Ok(Lists {
+            memories: vec![in alloc; first; count]?,
+            free: numbers(alloc, spare_of(count), count)?,
+            spare: numbers(alloc, 0, spare_of(count))?,
+            here: Vec::with_capacity(alloc, count)?,
+            next: Vec::with_capacity(alloc, count)?,
+            trail: Vec::with_capacity(alloc, TRAIL)?,
+        })
+    }
+}
+
+/// How many of so many machines are for the trail: the first ones.
+fn spare_of(count: usize) -> usize {
+    TRAIL.min(count / 2)
+}
+
+/// The numbers from the first one up to the end, in a list with room for all machines up to the end.
+fn numbers(alloc: Global, start: usize, end: usize) -> Result<Vec<usize>, AllocError> {
+    let mut numbers = Vec::with_capacity(alloc, end)?;
+    for number in start..end {
+        push(&mut numbers, number);
+    }
+    Ok(numbers)
+}
+
+fn of_lists(pool: Pool, first: Memory, lists: Lists) -> Machines {
+    let Lists {
+        memories,
+        free,
+        spare,
+        here,
+        next,
+        trail,
+    } = lists;
+    Machines {
+        pool,
+        memories,
+        first,
+        free,
+        spare,
+        here,
+        at: 0,
+        next,
+        trail,
+        trail_depth: 0,
+    }
+}
+
+/// Puts it behind, where there is room.
+pub fn push<T: Drop>(items: &mut Vec<T>, item: T) {
+    if items.len() < items.capacity() {
+        items.push_reserved(item);
+    }
+}

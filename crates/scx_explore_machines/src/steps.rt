@@ -1,0 +1,63 @@
+use crate::bounds::{Bounds, Mode};
+use scx_explore_states::{MOST_TASKS, Step, Tasks};
+use scx_sched::{Event, Sim};
+
+/// In how many places a step of a machine with so many processors may have an event.
+pub fn places(step: Step, cpus: u32) -> usize {
+    match step {
+        Step::Event(_) => 1,
+        Step::Millisecond { .. } => MOST_TASKS + cpus as usize + MOST_TASKS + 1,
+    }
+}
+
+/// The event in that place of a step of a machine with so many processors, if there is one there.
+pub fn event_at(step: Step, cpus: u32, place: usize) -> Option<Event> {
+    match step {
+        Step::Event(event) => Some(event),
+        Step::Millisecond { wakes, sleeps } => event_in(wakes, sleeps, cpus as usize, place),
+    }
+}
+
+fn event_in(wakes: Tasks, sleeps: Tasks, cpus: usize, place: usize) -> Option<Event> {
+    let behind = MOST_TASKS.saturating_add(cpus);
+    if place < MOST_TASKS {
+        let task = place as u16;
+        wakes.has(task).then_some(Event::Wake(task))
+    } else if place < behind {
+        tick_of(place - MOST_TASKS)
+    } else if place - behind < MOST_TASKS {
+        let task = (place - behind) as u16;
+        sleeps.has(task).then_some(Event::Sleep(task))
+    } else {
+        Some(Event::Clock)
+    }
+}
+
+/// The tick of that processor.
+fn tick_of(cpu: usize) -> Option<Event> {
+    match u32::try_from(cpu) {
+        Ok(cpu) => Some(Event::Tick(cpu)),
+        Err(_) => None,
+    }
+}
+
+/// The most events of a list within the bounds, for such a machine.
+pub fn most_events(bounds: Bounds, sim: &Sim) -> usize {
+    let each = match bounds.mode {
+        Mode::Events => 1,
+        Mode::Milliseconds | Mode::Workloads => {
+            2 * usize::from(sim.tasks()) + sim.cpus() as usize + 1
+        }
+    };
+    bounds.depth.saturating_mul(each)
+}
+
+/// How many events a step of a machine with so many processors has.
+pub fn count_of(step: Step, cpus: u32) -> usize {
+    match step {
+        Step::Event(_) => 1,
+        Step::Millisecond { wakes, sleeps } => {
+            wakes.count() as usize + sleeps.count() as usize + cpus as usize + 1
+        }
+    }
+}
