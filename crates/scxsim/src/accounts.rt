@@ -62,7 +62,7 @@ pub(crate) fn tell<'a, R: AllocGlobal + Console, W: Out>(
 }
 
 /// What may help where the run was refused.
-fn hint_of_outcome(outcome: &Result<bool, Fault>, files: &RunFiles) -> Option<Hint> {
+pub(crate) fn hint_of_outcome(outcome: &Result<bool, Fault>, files: &RunFiles) -> Option<Hint> {
     match outcome {
         Err(Fault::Refused(refusal)) => match hint_of_refusal(refusal) {
             Some(hint) => Some(hint),

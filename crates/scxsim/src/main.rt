@@ -23,10 +23,11 @@ mod files;
 mod process;
 mod remarks;
 mod requests;
+mod searches;
 mod usage;
 
 use crate::ending::{end_without_memory, say};
-use crate::process::run;
+use crate::process::{run, words_of};
 pub use scxsim_charts::gantt;
 use scxsim_commands::FAILED;
 pub use scxsim_commands::{
@@ -34,6 +35,7 @@ pub use scxsim_commands::{
 };
 pub use scxsim_drawing::picture;
 pub use scxsim_explain::explain;
+pub use scxsim_explore::explore;
 pub use scxsim_page::view;
 pub use scxsim_pictures::timeline;
 pub use scxsim_simulation::{Listener, replay, report, simulate};
@@ -44,12 +46,17 @@ pub use scxsim_why::why;
 use std::io;
 use std::io::BufWriter;
 use std::process::ExitCode;
+use std::rt::Env;
 
 /// How many bytes standard output is handed at once, but for the last ones.
 const BLOCK: usize = 65_536;
 
+/// The same of a search, which may be ended long after it has found something.
+const SEARCH_BLOCK: usize = 1;
+
 fn main(rt: HostRuntime) -> ExitCode {
-    match BufWriter::with_capacity(rt.alloc(), BLOCK, io::writer(&rt)) {
+    let block = if is_search(&rt) { SEARCH_BLOCK } else { BLOCK };
+    match BufWriter::with_capacity(rt.alloc(), block, io::writer(&rt)) {
         Ok(writer) => {
             let mut out = Counted::new(writer);
             let ending = run(&rt, &mut out);
@@ -62,5 +69,16 @@ fn main(rt: HostRuntime) -> ExitCode {
             })
         }
         Err(_) => ExitCode::from(end_without_memory(&mut Counted::new(io::writer(&rt)))),
+    }
+}
+
+/// Whether the process's words ask for a search.
+fn is_search<R: AllocGlobal + Env>(rt: &R) -> bool {
+    match words_of(rt) {
+        Ok(words) => match words.get(1) {
+            Some(word) => word.as_str() == "explore" || word.as_str() == "explore-few",
+            None => false,
+        },
+        Err(_) => false,
     }
 }

@@ -26,7 +26,7 @@ pub(crate) fn run<R: AllocGlobal + Env + Console + Print, W: Out>(rt: &R, out: &
     }
 }
 
-fn words_of<R: AllocGlobal + Env>(rt: &R) -> io::Result<Vec<String>> {
+pub(crate) fn words_of<R: AllocGlobal + Env>(rt: &R) -> io::Result<Vec<String>> {
     Ok(env::args(rt)?.collect(rt.alloc())?)
 }
 

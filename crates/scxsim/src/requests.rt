@@ -3,11 +3,13 @@ use crate::console::Console;
 use crate::ending::{Ending, end, end_without_memory, in_silence};
 use crate::files::{Unread, bytes_of};
 use crate::remarks::{named, remark_of_policy, remark_of_program};
+use crate::searches::{SearchWords, search};
 use crate::usage::write_usage;
 use scxsim_commands::{
     FAILED, Fault, Out, asm, check, dis, exec, hint_of_slots, hint_of_text, write_unread,
 };
 use scxsim_explain::explain;
+use scxsim_explore::Lists;
 use scxsim_words::{PolicyCommand, ProgramCommand, Request};
 use std::alloc::Global;
 
@@ -49,6 +51,20 @@ fn do_request<'a, R: AllocGlobal + Console, W: Out>(
                 subject,
             };
             tell(rt, account, words, out)
+        }
+        Request::Explore {
+            policy,
+            workload,
+            mode,
+            depth,
+            few,
+        } => {
+            let words = SearchWords {
+                policy,
+                workload,
+                lists: Lists { mode, depth, few },
+            };
+            search(rt, words, out)
         }
         Request::Cases => Ok(in_silence(write_usage(
             "error: a file of cases can't run files of cases\n",

@@ -1,20 +1,8 @@
 use crate::estimate::Estimate;
+use crate::line::Line;
 use scx_sched::Eject;
 use scxsim_simulation::Listener;
 use std::rt::Clock;
-use std::time::{Duration, Instant};
-
-/// How many milliseconds a run may take before anything is said of it.
-const PATIENCE: u64 = 2000;
-
-/// How many milliseconds a line stands before it is written again.
-const PAUSE: u64 = 250;
-
-/// Goes to the beginning of the terminal's line.
-const START: &str = "\r";
-
-/// Empties the terminal's line from here on.
-const CLEAR: &str = "\x1b[K";
 
 /// Says on standard error how far a run is. Whether that can be written doesn't matter.
 #[derive(Drop)]
@@ -23,15 +11,6 @@ pub struct Progress<'a, R> {
     /// None where nothing is said.
     line: Option<Line>,
     ejected: Option<Eject>,
-}
-
-/// The line that says how far a run is.
-#[derive(Clone, Copy)]
-struct Line {
-    began: Instant,
-    /// How long after that it is written next.
-    due: Duration,
-    is_there: bool,
 }
 
 impl<'a, R: Clock + Eprint> Progress<'a, R> {
@@ -61,49 +40,17 @@ impl<'a, R: Clock + Eprint> Progress<'a, R> {
 
 impl<R: Clock + Eprint> Listener for Progress<'_, R> {
     fn hear(&mut self, over: u64, total: u32) {
-        if let Some(line) = &mut self.line {
-            line.hear(self.rt, over, total);
+        let Some(line) = &mut self.line else {
+            return;
+        };
+        if over >= u64::from(total) {
+            line.take_back(self.rt);
+        } else if let Some(took) = line.took_if_due(self.rt) {
+            line.write(self.rt, &Estimate::new(over, total, took));
         }
     }
 
     fn hear_end(&mut self, ejected: Option<Eject>) {
         self.ejected = ejected;
-    }
-}
-
-impl Line {
-    fn new<R: Clock>(rt: &R) -> Option<Line> {
-        Some(Line {
-            began: Instant::now(rt).ok()?,
-            due: Duration::from_millis(PATIENCE),
-            is_there: false,
-        })
-    }
-
-    /// Writes the line if it is time to, and takes it back at the run's end.
-    fn hear<R: Clock + Eprint>(&mut self, rt: &R, over: u64, total: u32) {
-        if over >= u64::from(total) {
-            self.take_back(rt);
-            return;
-        }
-        let Ok(took) = self.began.elapsed(rt) else {
-            return;
-        };
-        if took >= self.due {
-            self.write(rt, Estimate::new(over, total, took));
-            self.due = took.saturating_add(Duration::from_millis(PAUSE));
-        }
-    }
-
-    fn write<R: Eprint>(&mut self, rt: &R, estimate: Estimate) {
-        let _ = eprint!(rt; "{START}{estimate}{CLEAR}");
-        self.is_there = true;
-    }
-
-    fn take_back<R: Eprint>(&mut self, rt: &R) {
-        if self.is_there {
-            let _ = eprint!(rt; "{START}{CLEAR}");
-            self.is_there = false;
-        }
     }
 }

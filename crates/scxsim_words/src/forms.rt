@@ -14,6 +14,10 @@ pub(crate) enum Kind {
     Moment(Account),
     /// Of a file of events.
     Replay(Account),
+    /// Of all lists of events.
+    Explore,
+    /// Of those with few wakes and sleeps.
+    ExploreFew,
     Cases,
 }
 
@@ -31,7 +35,7 @@ pub(crate) fn forms() -> &'static [Form] {
     &FORMS
 }
 
-const FORMS: [Form; 22] = [
+const FORMS: [Form; 24] = [
     Form {
         name: "verify",
         kind: Kind::Policy(PolicyCommand::Verify),
@@ -139,6 +143,18 @@ const FORMS: [Form; 22] = [
         kind: Kind::Replay(Account::Replay(Replay::StatsCsv)),
         about: "Reads and runs the same as replay, and prints what stats-csv does",
         example: "Example: scxsim replay-csv examples/policies/short_slices.toml examples/events/two_bursts.toml\nprints:  kind,name,figure,value\n         task,a,run_ms,6\nand a line for each other figure.",
+    },
+    Form {
+        name: "explore",
+        kind: Kind::Explore,
+        about: "Goes through all lists of events under a policy, and prints the shortest ones in which it goes wrong",
+        example: "Example: scxsim explore examples/policies/central.toml examples/workloads/three_tasks.toml events 4\nprints:  found idle cpu 1 while b waits after 3 events\n         wake a\n         wake b\n         tick 1\nand the trace of that list, and so on, then the longest wait and the most instructions,\nand last how far it came and what is in no list.\ndocs/EXPLORE.md says how to read it.",
+    },
+    Form {
+        name: "explore-few",
+        kind: Kind::ExploreFew,
+        about: "Does the same of the lists that have no more than so many wakes and sleeps",
+        example: "Example: scxsim explore-few examples/policies/simple_vtime.toml examples/workloads/three_tasks.toml ms 64 4\nprints:  at its end, among other things,\n         stall none up to 64 ms with 4 wakes and sleeps\ndocs/EXPLORE.md says how to read it.",
     },
     Form {
         name: "exec",

@@ -78,6 +78,15 @@ pub enum Request<'a> {
         /// The name of a task, or a millisecond, where it is of one.
         subject: Option<&'a str>,
     },
+    /// Of all lists of events that the words name.
+    Explore {
+        policy: &'a str,
+        workload: &'a str,
+        mode: &'a str,
+        depth: &'a str,
+        /// How many wakes and sleeps a list has at most, where that is bounded.
+        few: Option<&'a str>,
+    },
     /// Of the files that the words behind the command name.
     Cases,
 }

@@ -5,7 +5,7 @@ use std::alloc::{AllocError, Global};
 use std::convert::AsStr;
 
 /// The version, which nothing else says: scripts ask the program for it.
-const VERSION: &str = "0.4.0";
+const VERSION: &str = "0.5.0";
 
 const SLOTS: &str = "A file of BPF instructions, in slots of 8 bytes, low byte first";
 
@@ -28,6 +28,14 @@ const TO: &str =
 const TASK: &str = "The name of a task in the workload";
 
 const MS: &str = "A millisecond of the run, from 0 to the run's length";
+
+const MODE: &str =
+    "Which lists: events for all that are accepted, ms for those in which each processor ticks in each millisecond, workloads for those of workloads [possible values: events, ms, workloads]";
+
+const DEPTH: &str =
+    "How many events a list has at most, from 1 to 64, or how many milliseconds, up to 65535";
+
+const K: &str = "How many wakes and sleeps a list has at most, up to 64";
 
 const CASES: &str = "Files of cases, as docs/CASES.md has them";
 
@@ -76,6 +84,8 @@ fn request_of<'a>(name: &str, command: &ArgMatches<'a>) -> Option<Request<'a>> {
             Some(command.get_str("MS")?),
         ),
         Kind::Replay(account) => run_of(account, command, "EVENTS", None, None),
+        Kind::Explore => explore_of(command, None),
+        Kind::ExploreFew => explore_of(command, Some(command.get_str("K")?)),
         Kind::Cases => Some(Request::Cases),
     }
 }
@@ -94,6 +104,17 @@ fn run_of<'a>(
         workload: command.get_str(name)?,
         part,
         subject,
+    })
+}
+
+/// A search through lists of events, with so many wakes and sleeps where that is bounded.
+fn explore_of<'a>(command: &ArgMatches<'a>, few: Option<&'a str>) -> Option<Request<'a>> {
+    Some(Request::Explore {
+        policy: command.get_str("POLICY")?,
+        workload: command.get_str("WORKLOAD")?,
+        mode: command.get_str("MODE")?,
+        depth: command.get_str("DEPTH")?,
+        few,
     })
 }
 
@@ -153,6 +174,8 @@ fn command_of<'a>(alloc: Global, form: &Form) -> Result<Command<'a>, AllocError>
         Kind::Task(_) => with_task(alloc, command),
         Kind::Moment(_) => with_moment(alloc, command),
         Kind::Replay(_) => with_replay(alloc, command),
+        Kind::Explore => with_explore(alloc, command),
+        Kind::ExploreFew => with_few(alloc, command),
         Kind::Cases => with_cases(alloc, command),
     }
 }
@@ -194,6 +217,19 @@ fn with_moment<'a>(alloc: Global, command: Command<'a>) -> Result<Command<'a>, A
 fn with_replay<'a>(alloc: Global, command: Command<'a>) -> Result<Command<'a>, AllocError> {
     let command = with_word(alloc, command, "POLICY", POLICY)?;
     with_word(alloc, command, "EVENTS", EVENTS)
+}
+
+/// The command, which reads a policy file and a workload file, and which lists of events it is about.
+fn with_explore<'a>(alloc: Global, command: Command<'a>) -> Result<Command<'a>, AllocError> {
+    let command = with_run(alloc, command)?;
+    let command = with_word(alloc, command, "MODE", MODE)?;
+    with_word(alloc, command, "DEPTH", DEPTH)
+}
+
+/// The command, which reads the same, and how many wakes and sleeps a list has at most.
+fn with_few<'a>(alloc: Global, command: Command<'a>) -> Result<Command<'a>, AllocError> {
+    let command = with_explore(alloc, command)?;
+    with_word(alloc, command, "K", K)
 }
 
 /// The command, which reads files of cases, one or more.

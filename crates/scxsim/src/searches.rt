@@ -1,0 +1,51 @@
+use crate::accounts::hint_of_outcome;
+use crate::console::Console;
+use crate::ending::{Ending, end};
+use crate::files::{RunFiles, Unread, files_of};
+use crate::remarks::{named, remark_of_run};
+use scxsim_commands::{Fault, Out, text};
+use scxsim_explore::{Lists, Watcher, explore};
+use scxsim_progress::SearchProgress;
+use std::alloc::Global;
+
+/// What names a search: the paths of its files, and which lists of events it goes through.
+#[derive(Clone, Copy)]
+pub(crate) struct SearchWords<'a> {
+    pub(crate) policy: &'a str,
+    pub(crate) workload: &'a str,
+    pub(crate) lists: Lists<'a>,
+}
+
+/// Writes what is found in lists of events under the policy of these files, and says meanwhile on standard error how
+/// far it is. What is found is written when nothing is said.
+pub(crate) fn search<'a, R: AllocGlobal + Console, W: Out>(
+    rt: &R,
+    words: SearchWords<'a>,
+    out: &mut W,
+) -> Result<Ending, Unread<'a>> {
+    let files = files_of(rt, words.policy, words.workload)?;
+    let mut progress = SearchProgress::new(rt, rt.shows_errors());
+    let outcome = write_search(rt.alloc(), &files, words.lists, &mut progress, out);
+    progress.pause();
+    let remark = remark_of_run(
+        rt.alloc(),
+        &outcome,
+        None,
+        named(words.policy, &files.policy),
+        named(words.workload, &files.workload),
+    );
+    let hint = hint_of_outcome(&outcome, &files);
+    Ok(end(outcome, hint, remark, out))
+}
+
+fn write_search<V: Watcher, W: Out>(
+    alloc: Global,
+    files: &RunFiles,
+    lists: Lists<'_>,
+    watcher: &mut V,
+    out: &mut W,
+) -> Result<bool, Fault> {
+    let policy = text(files.policy.as_slice())?;
+    let workload = text(files.workload.as_slice())?;
+    explore(alloc, policy, workload, lists, watcher, out)
+}

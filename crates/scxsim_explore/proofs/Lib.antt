@@ -1,0 +1,4 @@
+mod Rest
+mod Same
+mod Told
+mod Written

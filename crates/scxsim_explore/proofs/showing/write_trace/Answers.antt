@@ -1,0 +1,7 @@
+use Rattle.scxsim_explore.proofs.Written.{two_on}
+use Rattle.scxsim_explore.proofs.showing.write_trace.Goals as goal
+
+pub returns : goal.returns
+returns g c =
+    let trace = rw c.new.ensures at c.write_run.ensures.ok in
+    two_on c.write_run.result _ _ _ _ _ c.in_ok-write_text.ensures.text trace

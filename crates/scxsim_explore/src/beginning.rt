@@ -1,0 +1,211 @@
+ghost use Rattle.std.specs.Prelude.{◌≡◌, ◌≤◌, Ok, All, IfOk, IfErr};
+ghost use Rattle.scx_explore_path.specs.Path.{IsAs};
+ghost use Rattle.scx_load_workloads.specs.Reading.{workload_of};
+ghost use Rattle.scxsim_commands.specs.declared.refusal.Refusal.TheVariants.{NoMemory};
+ghost use Rattle.scxsim_simulation.specs.Runs.{IsCause};
+ghost use Rattle.scxsim_explore.specs.Machines.{IsFresh};
+
+use crate::machines::{Machines, fresh, make_machines};
+use scx_explore::{Bounds, Form, Mode, SORTS, Search};
+use scx_explore_states::Uses;
+use scx_isa::{CALLBACKS, Callback};
+use scx_load_policies::{PolicyText, read_policy};
+use scx_load_workloads::{Workload, read_workload};
+use scx_sched::{Event, Sim};
+use scxsim_commands::Refusal;
+use std::alloc::{AllocError, Global};
+
+/// How much memory a search takes, in bytes.
+const ROOM: usize = 268_435_456;
+
+/// How many machines a search has for its states, for each event or millisecond of a list; each is made of the texts,
+/// which takes a third of a millisecond.
+const HANDS: usize = 16;
+
+/// How many it has at most.
+const MOST_HANDS: usize = 1024;
+
+/// How much is written of a search: what was found of each sort, the longest wait, and the most instructions of each
+/// callback.
+const MOST_TOLD: usize = SORTS.len() + 1 + CALLBACKS.len();
+
+/// A search that is about to begin, and machines to show what it finds.
+#[derive(Drop)]
+pub(crate) struct Begun {
+    pub(crate) search: Search,
+    /// Some for each list.
+    pub(crate) machines: Machines,
+    /// The list at hand.
+    pub(crate) events: Vec<Event>,
+}
+
+/// The workload of a text that was read before.
+///
+/// # Errors
+///
+/// Memory runs out.
+pub(crate) fn workload_in(alloc: Global, text: &str) -> Result<Workload, Refusal>
+    ensures read { IfOk result (λ workload. workload_of text.now ≡ Ok workload) }
+    ensures refused { IfErr result (λ refusal. refusal ≡ NoMemory) }
+{
+    match read_workload(alloc, text) {
+        Ok(workload) => Ok(workload),
+        Err(error) => {
+            drop(error);
+            Err(Refusal::NoMemory)
+        }
+    }
+}
+
+/// The search through lists within the bounds of the machine of the texts, which were read before. All of its memory
+/// is taken here.
+///
+/// # Errors
+///
+/// Memory runs out.
+pub(crate) fn begin(
+    alloc: Global,
+    policy: &str,
+    workload: &str,
+    about: &Workload,
+    bounds: Bounds,
+) -> Result<Begun, Refusal>
+    ensures fresh { IfOk result (λ begun. IsFresh policy.now workload.now begun.machines) }
+    ensures refused { IfErr result (IsCause policy.now workload.now) }
+{
+    let machines = Machines::new(alloc, policy, workload, told_by(bounds.mode) * MOST_TOLD)?;
+    match search_in(alloc, policy, workload, about, bounds, machines.first()) {
+        Ok((search, events)) => Ok(Begun {
+            search,
+            machines,
+            events,
+        }),
+        Err(refusal) => {
+            drop(machines);
+            Err(refusal)
+        }
+    }
+}
+
+/// The search, and room for a list of such a machine.
+fn search_in(
+    alloc: Global,
+    policy: &str,
+    workload: &str,
+    about: &Workload,
+    bounds: Bounds,
+    sim: &Sim,
+) -> Result<(Search, Vec<Event>), Refusal>
+    ensures { IfErr result (IsCause policy.now workload.now) }
+{
+    let events = Vec::with_capacity(alloc, Search::most_events(bounds, sim))?;
+    match search_of(alloc, policy, workload, about, bounds) {
+        Ok(search) => Ok((search, events)),
+        Err(refusal) => {
+            drop(events);
+            Err(refusal)
+        }
+    }
+}
+
+fn search_of(
+    alloc: Global,
+    policy: &str,
+    workload: &str,
+    about: &Workload,
+    bounds: Bounds,
+) -> Result<Search, Refusal>
+    ensures { IfErr result (IsCause policy.now workload.now) }
+{
+    let form = form_of(alloc, policy, bounds)?;
+    let sims = make_machines(alloc, policy, workload, hands(bounds.depth))?;
+    match fresh(alloc, policy, workload) {
+        Ok(root) => search_from(alloc, form, bounds, root, sims, about),
+        Err(refusal) => {
+            drop(sims);
+            Err(refusal)
+        }
+    }
+}
+
+/// How many machines a list takes: one to look at it once more from the beginning and one to write its trace, and of
+/// milliseconds two more to see whether it is that of a workload file.
+fn told_by(mode: Mode) -> usize
+    ensures { result ≤ 4 }
+{
+    match mode {
+        Mode::Events => 2,
+        Mode::Milliseconds | Mode::Workloads => 4,
+    }
+}
+
+/// How many machines a search of that depth has.
+fn hands(depth: usize) -> usize {
+    depth.saturating_mul(HANDS).min(MOST_HANDS)
+}
+
+/// The search from these machines, which are the same.
+fn search_from(
+    alloc: Global,
+    form: Form,
+    bounds: Bounds,
+    root: Sim,
+    sims: Vec<Sim>,
+    about: &Workload,
+) -> Result<Search, Refusal>
+    requires { All (IsAs root) sims.items }
+    ensures { IfErr result (λ refusal. refusal ≡ NoMemory) }
+{
+    match Search::new(alloc, form, bounds, root, sims, about, ROOM) {
+        Ok(search) => Ok(search),
+        Err(AllocError) => Err(Refusal::NoMemory),
+    }
+}
+
+/// What is kept of a state under the policy, whose text was read before.
+fn form_of(alloc: Global, policy: &str, bounds: Bounds) -> Result<Form, AllocError> {
+    match read_policy(alloc, policy) {
+        Ok(mut text) => {
+            let uses = uses_of(alloc, &mut text);
+            let timeout_ms = text.timeout_ms();
+            drop(text);
+            Ok(form_by(uses?, timeout_ms, bounds))
+        }
+        Err(error) => {
+            drop(error);
+            Err(AllocError)
+        }
+    }
+}
+
+/// What the policy's programs do.
+fn uses_of(alloc: Global, text: &mut PolicyText) -> Result<Uses, AllocError> {
+    let mut uses = Uses::NONE;
+    for callback in CALLBACKS {
+        uses = with_callback(alloc, uses, text, callback)?;
+    }
+    Ok(uses)
+}
+
+fn with_callback(
+    alloc: Global,
+    uses: Uses,
+    text: &mut PolicyText,
+    callback: Callback,
+) -> Result<Uses, AllocError> {
+    match text.take(callback) {
+        Some(program) => {
+            let next = uses.with(alloc, &program, callback, text.defs());
+            drop(program);
+            next
+        }
+        None => Ok(uses),
+    }
+}
+
+fn form_by(uses: Uses, timeout_ms: u32, bounds: Bounds) -> Form {
+    match bounds.mode {
+        Mode::Events => Form::of_events(uses, timeout_ms, bounds.depth),
+        Mode::Milliseconds | Mode::Workloads => Form::of_milliseconds(uses),
+    }
+}

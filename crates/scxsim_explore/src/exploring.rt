@@ -1,0 +1,155 @@
+ghost use Rattle.std.specs.Prelude.{◌≡◌, true, false, Ok, IfOk, IfErr};
+ghost use Rattle.scx_load_workloads.specs.Reading.{workload_of};
+ghost use Rattle.scxsim_commands.specs.Outcome.{IfRefused, IsRefused};
+ghost use Rattle.scxsim_simulation.specs.Runs.{IsCause};
+ghost use Rattle.scxsim_explore.specs.Telling.{IsExplored, IsLimited, IsAnswer};
+
+use crate::beginning::{begin, workload_in};
+use crate::limits::{Limit, Lists, bounds_of, is_past_changes, limit_of};
+use crate::lines::write_text;
+use crate::machines::fresh;
+use crate::telling::tell;
+use crate::watcher::Watcher;
+use scx_explore::Bounds;
+use scx_load_workloads::Workload;
+use scxsim_commands::{Fault, Refusal};
+use scxsim_output::{Failed, Out};
+use std::alloc::Global;
+
+/// Goes through all lists of events that the words name and that the machine of a policy file and of a workload file
+/// accepts, and writes what it finds. The answer is true; it is false where the words ask for what isn't
+/// explored, and then their refusal is written.
+///
+/// # Errors
+///
+/// The texts are refused, or memory runs out, and then nothing is written, or writing fails.
+pub fn explore<V: Watcher, W: Out>(
+    alloc: Global,
+    policy: &str,
+    workload: &str,
+    lists: Lists<'_>,
+    watcher: &mut V,
+    out: &mut W,
+) -> Result<bool, Fault>
+    // Lists are written that the machine of the texts shows, each with its trace, and then some text.
+    ensures done { IfOk result (λ answer. IsAnswer answer policy.now workload.now
+        (W.contents out.old) (W.contents out.new)) }
+
+    // A refusal has its cause in the texts, and comes before any byte is written.
+    ensures refused { IfRefused result (IsCause policy.now workload.now) }
+    ensures quiet { IsRefused result → out.new ≡ out.old }
+{
+    match bounds_of(lists) {
+        Ok(bounds) => explore_to(alloc, policy, workload, bounds, watcher, out),
+        Err(limit) => refuse(limit, out),
+    }
+}
+
+fn refuse<W: Out>(limit: Limit, out: &mut W) -> Result<bool, Fault>
+    ensures done { IfOk result (λ answer. (answer ≡ false)
+        × IsLimited (W.contents out.old) (W.contents out.new)) }
+    ensures refused { ¬ IsRefused result }
+{
+    match write_text(out, limit.line()) {
+        Ok(()) => Ok(false),
+        Err(Failed) => Err(Fault::WriteFailed),
+    }
+}
+
+/// The same, to that depth.
+fn explore_to<V: Watcher, W: Out>(
+    alloc: Global,
+    policy: &str,
+    workload: &str,
+    bounds: Bounds,
+    watcher: &mut V,
+    out: &mut W,
+) -> Result<bool, Fault>
+    ensures done { IfOk result (λ answer. IsAnswer answer policy.now workload.now
+        (W.contents out.old) (W.contents out.new)) }
+    ensures refused { IfRefused result (IsCause policy.now workload.now) }
+    ensures quiet { IsRefused result → out.new ≡ out.old }
+{
+    let limit = limit_in(alloc, policy, workload)?;
+    match limit {
+        Some(limit) => refuse(limit, out),
+        None => explore_from(alloc, policy, workload, bounds, watcher, out),
+    }
+}
+
+/// Which limit the machine of the texts is past, if it is past one.
+fn limit_in(alloc: Global, policy: &str, workload: &str) -> Result<Option<Limit>, Refusal>
+    ensures { IfErr result (IsCause policy.now workload.now) }
+{
+    let sim = fresh(alloc, policy, workload)?;
+    let limit = limit_of(&sim);
+    drop(sim);
+    Ok(limit)
+}
+
+/// The same, of texts that were read before.
+fn explore_from<V: Watcher, W: Out>(
+    alloc: Global,
+    policy: &str,
+    workload: &str,
+    bounds: Bounds,
+    watcher: &mut V,
+    out: &mut W,
+) -> Result<bool, Fault>
+    ensures done { IfOk result (λ answer. IsAnswer answer policy.now workload.now
+        (W.contents out.old) (W.contents out.new)) }
+    ensures refused { IfRefused result (IsCause policy.now workload.now) }
+    ensures quiet { IsRefused result → out.new ≡ out.old }
+{
+    let about = workload_in(alloc, workload)?;
+    let explored = explore_within(alloc, policy, workload, &about, bounds, watcher, out);
+    drop(about);
+    explored
+}
+
+/// The same, of a workload that was read.
+fn explore_within<V: Watcher, W: Out>(
+    alloc: Global,
+    policy: &str,
+    workload: &str,
+    about: &Workload,
+    bounds: Bounds,
+    watcher: &mut V,
+    out: &mut W,
+) -> Result<bool, Fault>
+    requires { workload_of workload.now ≡ Ok about.now }
+    ensures done { IfOk result (λ answer. IsAnswer answer policy.now workload.now
+        (W.contents out.old) (W.contents out.new)) }
+    ensures refused { IfRefused result (IsCause policy.now workload.now) }
+    ensures quiet { IsRefused result → out.new ≡ out.old }
+{
+    if is_past_changes(about, bounds.mode) {
+        refuse(Limit::Changes, out)
+    } else {
+        explore_about(alloc, policy, workload, about, bounds, watcher, out)
+    }
+}
+
+fn explore_about<V: Watcher, W: Out>(
+    alloc: Global,
+    policy: &str,
+    workload: &str,
+    about: &Workload,
+    bounds: Bounds,
+    watcher: &mut V,
+    out: &mut W,
+) -> Result<bool, Fault>
+    requires { workload_of workload.now ≡ Ok about.now }
+    ensures done { IfOk result (λ answer. (answer ≡ true) × IsExplored policy.now workload.now
+        (W.contents out.old) (W.contents out.new)) }
+    ensures refused { IfRefused result (IsCause policy.now workload.now) }
+    ensures quiet { IsRefused result → out.new ≡ out.old }
+{
+    let mut begun = begin(alloc, policy, workload, about, bounds)?;
+    let told = tell(&mut begun, about, bounds, watcher, out);
+    drop(begun);
+    match told {
+        Ok(()) => Ok(true),
+        Err(Failed) => Err(Fault::WriteFailed),
+    }
+}

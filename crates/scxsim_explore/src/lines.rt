@@ -1,0 +1,281 @@
+ghost use Rattle.std.specs.Prelude.{◌≡◌, ◌++◌, OnOk, decimal};
+ghost use Rattle.std.specs.Io.KnownBytes.{Appends};
+ghost use Rattle.scxsim_trace.specs.Lines.{task_name, group_name, names_of};
+ghost use Rattle.scxsim_explore.specs.Lists.{event_line, event_lines, found_line, finding_words, idle_words, most_words, overtaken_words, wait_words, weight_line, unit};
+ghost use Rattle.scxsim_explore.specs.Telling.{Grows};
+
+use itoa::Buffer;
+use scx_explore::{Bounds, Finding, Level, Mode, Sort};
+use scx_isa::Callback;
+use scx_load_workloads::Workload;
+use scx_sched::Event;
+use scxsim_output::{Failed, Out, write_all, write_named};
+use scxsim_trace::Names;
+
+/// How a search has ended.
+#[derive(Clone, Copy)]
+pub(crate) enum End {
+    /// No state is new.
+    Ended,
+    /// Lists of so many steps were gone through.
+    At(usize),
+    /// The same, and the states behind them don't fit.
+    Full(usize),
+}
+
+/// What a depth counts, at the end of a line.
+fn unit(mode: Mode) -> &'static str
+    ensures { result.now ≡ unit mode }
+{
+    match mode {
+        Mode::Events => " events\n",
+        Mode::Milliseconds | Mode::Workloads => " ms\n",
+    }
+}
+
+/// A line `found fault 2 after 4 events`, `found idle cpu 1 while c waits after 5 events` or
+/// `found overtaken c by a after 7 events`.
+pub(crate) fn write_found<W: Out>(
+    about: &Workload,
+    finding: Finding,
+    mode: Mode,
+    depth: usize,
+    out: &mut W,
+) -> Result<(), Failed>
+    ensures { OnOk result (Appends (W.contents out.old) (W.contents out.new)
+        (found_line (names_of about.now) finding mode depth)) }
+{
+    write_finding(about, finding, out)?;
+    write_number(out, " after ", depth as u64, unit(mode))
+}
+
+fn write_finding<W: Out>(about: &Workload, finding: Finding, out: &mut W) -> Result<(), Failed>
+    ensures { OnOk result (Appends (W.contents out.old) (W.contents out.new)
+        (finding_words (names_of about.now) finding)) }
+{
+    match finding {
+        Finding::Fault(fault) => write_number(out, "found fault ", u64::from(fault.number()), ""),
+        Finding::Stall(task) => write_task(about, "found stall of ", task, "", out),
+        Finding::Idle { cpu, task } => write_idle(about, cpu, task, out),
+        Finding::Overtaken(pair) => write_overtaken(about, pair.waits, pair.runs, out),
+        Finding::Waits { task, ms } => write_wait(about, task, ms, out),
+        Finding::Takes {
+            callback,
+            instructions,
+        } => write_most(callback, instructions, out),
+    }
+}
+
+fn write_idle<W: Out>(about: &Workload, cpu: u32, task: u16, out: &mut W) -> Result<(), Failed>
+    ensures { OnOk result (Appends (W.contents out.old) (W.contents out.new)
+        (idle_words (names_of about.now) cpu task)) }
+{
+    write_number(out, "found idle cpu ", u64::from(cpu), " while ")?;
+    write_task(about, "", task, " waits", out)
+}
+
+fn write_overtaken<W: Out>(
+    about: &Workload,
+    waits: u16,
+    runs: u16,
+    out: &mut W,
+) -> Result<(), Failed>
+    ensures { OnOk result (Appends (W.contents out.old) (W.contents out.new)
+        (overtaken_words (names_of about.now) waits runs)) }
+{
+    write_task(about, "found overtaken ", waits, " by ", out)?;
+    write_task(about, "", runs, "", out)
+}
+
+fn write_wait<W: Out>(about: &Workload, task: u16, ms: u64, out: &mut W) -> Result<(), Failed>
+    ensures { OnOk result (Appends (W.contents out.old) (W.contents out.new)
+        (wait_words (names_of about.now) task ms)) }
+{
+    write_number(out, "longest wait ", ms, " ms of ")?;
+    write_task(about, "", task, "", out)
+}
+
+fn write_most<W: Out>(callback: Callback, instructions: u64, out: &mut W) -> Result<(), Failed>
+    ensures { OnOk result (Appends (W.contents out.old) (W.contents out.new)
+        (most_words callback instructions)) }
+{
+    write_number(out, "most instructions ", instructions, " of ")?;
+    write_text(out, callback.name())
+}
+
+/// A line for each event.
+pub(crate) fn write_events<W: Out>(
+    about: &Workload,
+    events: &[Event],
+    out: &mut W,
+) -> Result<(), Failed>
+    ensures { OnOk result (Appends (W.contents out.old) (W.contents out.new)
+        (event_lines (names_of about.now) events.now)) }
+{
+    for event in events {
+        write_event(about, *event, out)?;
+    }
+    Ok(())
+}
+
+fn write_event<W: Out>(about: &Workload, event: Event, out: &mut W) -> Result<(), Failed>
+    ensures { OnOk result (Appends (W.contents out.old) (W.contents out.new)
+        (event_line (names_of about.now) event)) }
+{
+    match event {
+        Event::Wake(task) => write_task(about, "wake ", task, "\n", out),
+        Event::Sleep(task) => write_task(about, "sleep ", task, "\n", out),
+        Event::Tick(cpu) => write_number(out, "tick ", u64::from(cpu), "\n"),
+        Event::Clock => write_text(out, "clock\n"),
+        Event::SetWeight(group, weight) => write_weight(about, group, weight, out),
+    }
+}
+
+fn write_weight<W: Out>(
+    about: &Workload,
+    group: u32,
+    weight: u32,
+    out: &mut W,
+) -> Result<(), Failed>
+    ensures { OnOk result (Appends (W.contents out.old) (W.contents out.new)
+        (weight_line (names_of about.now) group weight)) }
+{
+    write_group(about, "weight ", group, " ", out)?;
+    write_number(out, "", u64::from(weight), "\n")
+}
+
+/// How many states were met and events tried up to a depth.
+pub(crate) fn write_level<W: Out>(mode: Mode, level: Level, out: &mut W) -> Result<(), Failed>
+    ensures { OnOk result (Grows (W.contents out.old) (W.contents out.new)) }
+{
+    write_number(out, "depth ", level.depth as u64, depth_unit(mode))?;
+    write_number(out, " states ", level.states as u64, "")?;
+    write_number(out, " events ", level.events, "\n")
+}
+
+/// What a depth counts, behind its number.
+fn depth_unit(mode: Mode) -> &'static str {
+    match mode {
+        Mode::Events => "",
+        Mode::Milliseconds | Mode::Workloads => " ms",
+    }
+}
+
+/// Where states didn't fit, if they didn't.
+#[tactic(auto, using(crate::proofs::Written::grown_none))]
+pub(crate) fn write_full<W: Out>(mode: Mode, end: End, out: &mut W) -> Result<(), Failed>
+    ensures { OnOk result (Grows (W.contents out.old) (W.contents out.new)) }
+{
+    match end {
+        End::Ended | End::At(_) => Ok(()),
+        End::Full(depth) => write_misfit(mode, (depth as u64).saturating_add(1), out),
+    }
+}
+
+fn write_misfit<W: Out>(mode: Mode, depth: u64, out: &mut W) -> Result<(), Failed>
+    ensures { OnOk result (Grows (W.contents out.old) (W.contents out.new)) }
+{
+    write_number(out, "depth ", depth, depth_unit(mode))?;
+    write_text(out, " does not fit\n")
+}
+
+/// In which lists a sort isn't there that wasn't found.
+pub(crate) fn write_none<W: Out>(
+    sort: Sort,
+    bounds: Bounds,
+    end: End,
+    out: &mut W,
+) -> Result<(), Failed>
+    ensures { OnOk result (Grows (W.contents out.old) (W.contents out.new)) }
+{
+    write_sort(sort, out)?;
+    write_lists(bounds.mode, end, out)?;
+    write_few(bounds.few, out)
+}
+
+fn write_sort<W: Out>(sort: Sort, out: &mut W) -> Result<(), Failed>
+    ensures { OnOk result (Grows (W.contents out.old) (W.contents out.new)) }
+{
+    match sort {
+        Sort::Fault(fault) => write_number(out, "fault ", u64::from(fault.number()), ""),
+        Sort::Stall => write_text(out, "stall"),
+        Sort::Idle => write_text(out, "idle"),
+        Sort::Overtaken => write_text(out, "overtaken"),
+    }
+}
+
+fn write_lists<W: Out>(mode: Mode, end: End, out: &mut W) -> Result<(), Failed>
+    ensures { OnOk result (Grows (W.contents out.old) (W.contents out.new)) }
+{
+    match end {
+        End::Ended => write_text(out, " none in any list"),
+        End::At(depth) => write_reached(mode, depth, out),
+        End::Full(depth) => write_reached(mode, depth, out),
+    }
+}
+
+fn write_reached<W: Out>(mode: Mode, depth: usize, out: &mut W) -> Result<(), Failed>
+    ensures { OnOk result (Grows (W.contents out.old) (W.contents out.new)) }
+{
+    match mode {
+        Mode::Events => write_number(out, " none up to depth ", depth as u64, ""),
+        Mode::Milliseconds | Mode::Workloads => {
+            write_number(out, " none up to ", depth as u64, " ms")
+        }
+    }
+}
+
+fn write_few<W: Out>(few: Option<u8>, out: &mut W) -> Result<(), Failed>
+    ensures { OnOk result (Grows (W.contents out.old) (W.contents out.new)) }
+{
+    match few {
+        Some(few) => write_number(out, " with ", u64::from(few), " wakes and sleeps\n"),
+        None => write_text(out, "\n"),
+    }
+}
+
+/// A task's name between two texts.
+fn write_task<W: Out>(
+    about: &Workload,
+    start: &str,
+    task: u16,
+    end: &str,
+    out: &mut W,
+) -> Result<(), Failed>
+    ensures { OnOk result (Appends (W.contents out.old) (W.contents out.new)
+        (start.now ++ task_name (names_of about.now) task ++ end.now)) }
+{
+    write_named(out, start, Names::task(about, task), end)
+}
+
+/// A group's name between two texts.
+fn write_group<W: Out>(
+    about: &Workload,
+    start: &str,
+    group: u32,
+    end: &str,
+    out: &mut W,
+) -> Result<(), Failed>
+    ensures { OnOk result (Appends (W.contents out.old) (W.contents out.new)
+        (start.now ++ group_name (names_of about.now) group ++ end.now)) }
+{
+    write_named(out, start, Names::group(about, group), end)
+}
+
+/// A number between two texts.
+fn write_number<W: Out>(out: &mut W, start: &str, number: u64, end: &str) -> Result<(), Failed>
+    ensures text { OnOk result (Appends (W.contents out.old) (W.contents out.new)
+        (start.now ++ decimal number ++ end.now)) }
+    ensures grows { OnOk result (Grows (W.contents out.old) (W.contents out.new)) }
+{
+    let mut digits = Buffer::new();
+    write_named(out, start, digits.format(number), end)
+}
+
+/// A text.
+pub(crate) fn write_text<W: Out>(out: &mut W, text: &str) -> Result<(), Failed>
+    ensures text { OnOk result (Appends (W.contents out.old) (W.contents out.new) text.now) }
+    ensures grows { OnOk result (Grows (W.contents out.old) (W.contents out.new)) }
+{
+    write_all(out, text.as_bytes())
+}

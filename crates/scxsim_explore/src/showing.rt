@@ -1,0 +1,136 @@
+ghost use Rattle.std.specs.Prelude.{◌≡◌, ◌++◌, true, OnOk, codes};
+ghost use Rattle.std.specs.Io.KnownBytes.{Appends};
+ghost use Rattle.scx_load_driver.specs.Runs.{notes_of_all};
+ghost use Rattle.scxsim_trace.specs.Lines.{note_lines, names_of};
+ghost use Rattle.scx_explore_findings.specs.Findings.{Shows};
+ghost use Rattle.scxsim_explore.specs.Lists.{told_text};
+ghost use Rattle.scxsim_explore.specs.Telling.{Grows, HasTold};
+
+use crate::lines::{write_events, write_found, write_text};
+use crate::listed::Listed;
+use scx_explore::{Finding, Mode, shows};
+use scx_load_workloads::Workload;
+use scx_sched::{Event, Sim};
+use scxsim_output::{Failed, Out};
+use scxsim_trace::write_run;
+
+/// What is said to be found at the end of a list, after so many events or milliseconds.
+#[derive(Clone, Copy)]
+pub(crate) struct Told<'a> {
+    pub(crate) finding: Finding,
+    pub(crate) mode: Mode,
+    pub(crate) depth: usize,
+    pub(crate) events: &'a [Event],
+    /// The workload file whose events begin with the list, if there is one.
+    pub(crate) file: Option<&'a str>,
+}
+
+/// Writes what was found, its list and the list's trace, if the first machine shows that the list ends so; else
+/// nothing. The second machine is the first one's twin.
+pub(crate) fn write_if_shown<W: Out>(
+    first: Sim,
+    second: Sim,
+    about: &Workload,
+    told: Told<'_>,
+    out: &mut W,
+) -> Result<(), Failed>
+    requires { first ≡ second }
+    ensures { OnOk result
+        (HasTold about.now second (W.contents out.old) (W.contents out.new)) }
+{
+    let mut first = first;
+    let mut second = second;
+    let is_shown = does_show(&mut first, about.tasks(), told.events, told.finding);
+    drop(first);
+    let written = write_where(is_shown, &mut second, about, told, out);
+    drop(second);
+    written
+}
+
+/// Whether the policy is in force and the list ends so.
+fn does_show(sim: &mut Sim, homes: &[u32], events: &[Event], finding: Finding) -> bool
+    ensures { result ≡ true → Shows homes.now sim.old events.now finding }
+{
+    sim.ejected().is_none() && shows(sim, homes, events, finding)
+}
+
+/// Writes it where it is shown; else nothing.
+fn write_where<W: Out>(
+    is_shown: bool,
+    sim: &mut Sim,
+    about: &Workload,
+    told: Told<'_>,
+    out: &mut W,
+) -> Result<(), Failed>
+    requires { is_shown ≡ true → Shows about.now.homes sim.old told.events.now told.finding }
+    ensures { OnOk result
+        (HasTold about.now sim.old (W.contents out.old) (W.contents out.new)) }
+{
+    if is_shown {
+        write_shown(sim, about, told, out)
+    } else {
+        Ok(())
+    }
+}
+
+fn write_shown<W: Out>(
+    sim: &mut Sim,
+    about: &Workload,
+    told: Told<'_>,
+    out: &mut W,
+) -> Result<(), Failed>
+    requires { Shows about.now.homes sim.old told.events.now told.finding }
+    ensures { OnOk result
+        (HasTold about.now sim.old (W.contents out.old) (W.contents out.new)) }
+{
+    write_list(sim, about, told, out)?;
+    write_behind(told.file, out)
+}
+
+/// Writes the workload file, if there is one, and an empty line.
+fn write_behind<W: Out>(file: Option<&str>, out: &mut W) -> Result<(), Failed>
+    ensures { OnOk result (Grows (W.contents out.old) (W.contents out.new)) }
+{
+    match file {
+        Some(text) => write_file(text, out),
+        None => write_text(out, "\n"),
+    }
+}
+
+fn write_file<W: Out>(text: &str, out: &mut W) -> Result<(), Failed>
+    ensures { OnOk result (Grows (W.contents out.old) (W.contents out.new)) }
+{
+    write_text(out, "workload\n")?;
+    write_text(out, text)?;
+    write_text(out, "\n")
+}
+
+/// Writes what was found, a line for each event, and the trace of these.
+fn write_list<W: Out>(
+    sim: &mut Sim,
+    about: &Workload,
+    told: Told<'_>,
+    out: &mut W,
+) -> Result<(), Failed>
+    ensures { OnOk result (Appends (W.contents out.old) (W.contents out.new)
+        (told_text (names_of about.now) sim.old told.entry.finding told.entry.mode
+        told.entry.depth told.entry.events.now)) }
+{
+    write_found(about, told.finding, told.mode, told.depth, out)?;
+    write_events(about, told.events, out)?;
+    write_trace(sim, about, told.events, out)
+}
+
+/// Writes the trace of a list behind a line that says so.
+fn write_trace<W: Out>(
+    sim: &mut Sim,
+    about: &Workload,
+    events: &[Event],
+    out: &mut W,
+) -> Result<(), Failed>
+    ensures { OnOk result (Appends (W.contents out.old) (W.contents out.new)
+        (codes "trace\n" ++ note_lines (names_of about.now) (notes_of_all sim.old events.now))) }
+{
+    write_text(out, "trace\n")?;
+    write_run(sim, &mut Listed::new(events), about, out)
+}

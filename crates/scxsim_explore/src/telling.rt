@@ -1,0 +1,303 @@
+ghost use Rattle.std.specs.Prelude.{◌≡◌, OnOk};
+ghost use Rattle.scxsim_explore.specs.Telling.{Grows, HasTold, IsTold};
+
+use crate::beginning::Begun;
+use crate::course::Course;
+use crate::lines::{End, write_full, write_level, write_none};
+use crate::machines::Machines;
+use crate::showing::{Told, write_if_shown};
+use crate::watcher::Watcher;
+use scx_explore::{Bounds, Found, Level, Mode, SORTS, Search, Sort};
+use scx_explore_workloads::workload_file;
+use scx_isa::CALLBACKS;
+use scx_load_workloads::Workload;
+use scx_sched::Event;
+use scxsim_output::{Failed, Out};
+use std::alloc::AllocError;
+
+/// After how many states a watcher is told of them.
+const PACE: u64 = 1024;
+
+/// Writes what the search finds, as it does, and at its end how far it came.
+pub(crate) fn tell<V: Watcher, W: Out>(
+    begun: &mut Begun,
+    about: &Workload,
+    bounds: Bounds,
+    watcher: &mut V,
+    out: &mut W,
+) -> Result<(), Failed>
+    ensures { OnOk result (IsTold about.now begun.old.machines
+        (W.contents out.old) (W.contents out.new)) }
+{
+    let mut course = Course::new(bounds);
+    let end = search(begun, about, &mut course, watcher, out)?;
+    watcher.pause();
+    write_most(begun, about, bounds.mode, out)?;
+    write_end(&begun.search, &course, end, out)
+}
+
+/// Goes through the lists, and writes what is found.
+fn search<V: Watcher, W: Out>(
+    begun: &mut Begun,
+    about: &Workload,
+    course: &mut Course,
+    watcher: &mut V,
+    out: &mut W,
+) -> Result<End, Failed>
+    ensures same { begun.new.machines ≡ begun.old.machines }
+    ensures told { OnOk result (HasTold about.now begun.old.machines
+        (W.contents out.old) (W.contents out.new)) }
+{
+    let mut shown = 0;
+    for count in 0..u64::MAX {
+        tell_watcher(count, &begun.search, course, watcher);
+        let progress = begun.search.go_on();
+        let more = write_new(begun, about, shown, course.bounds.mode, watcher, out)?;
+        shown = more;
+        if let Some(end) = course.end_after(progress) {
+            return Ok(end);
+        }
+    }
+    Ok(End::Full(course.done()))
+}
+
+/// Tells the watcher how far the search is, if that is due before the state of that number.
+fn tell_watcher<V: Watcher>(count: u64, search: &Search, course: &Course, watcher: &mut V) {
+    if count % PACE == 0 {
+        watcher.watch(course.done(), search.states(), search.bytes());
+    }
+}
+
+/// Writes what was found behind the first so many, and answers how many that makes.
+fn write_new<V: Watcher, W: Out>(
+    begun: &mut Begun,
+    about: &Workload,
+    shown: usize,
+    mode: Mode,
+    watcher: &mut V,
+    out: &mut W,
+) -> Result<usize, Failed>
+    ensures same { begun.new.machines ≡ begun.old.machines }
+    ensures told { OnOk result (HasTold about.now begun.old.machines
+        (W.contents out.old) (W.contents out.new)) }
+{
+    for place in shown..SORTS.len() {
+        let Some(found) = begun.search.found(place) else {
+            return Ok(place);
+        };
+        watcher.pause();
+        write_one(begun, about, mode, found, out)?;
+    }
+    Ok(SORTS.len())
+}
+
+/// Writes the longest wait, if there is one, and the most instructions of each callback that was called.
+fn write_most<W: Out>(
+    begun: &mut Begun,
+    about: &Workload,
+    mode: Mode,
+    out: &mut W,
+) -> Result<(), Failed>
+    ensures same { begun.new.machines ≡ begun.old.machines }
+    ensures told { OnOk result (HasTold about.now begun.old.machines
+        (W.contents out.old) (W.contents out.new)) }
+{
+    let wait = begun.search.longest_wait();
+    write_if_found(begun, about, mode, wait, out)?;
+    write_instructions(begun, about, mode, out)
+}
+
+fn write_instructions<W: Out>(
+    begun: &mut Begun,
+    about: &Workload,
+    mode: Mode,
+    out: &mut W,
+) -> Result<(), Failed>
+    ensures same { begun.new.machines ≡ begun.old.machines }
+    ensures told { OnOk result (HasTold about.now begun.old.machines
+        (W.contents out.old) (W.contents out.new)) }
+{
+    for callback in CALLBACKS {
+        let most = begun.search.most_instructions(callback);
+        write_if_found(begun, about, mode, most, out)?;
+    }
+    Ok(())
+}
+
+#[tactic(auto, using(crate::proofs::Told::told_nothing))]
+fn write_if_found<W: Out>(
+    begun: &mut Begun,
+    about: &Workload,
+    mode: Mode,
+    found: Option<Found>,
+    out: &mut W,
+) -> Result<(), Failed>
+    ensures same { begun.new.machines ≡ begun.old.machines }
+    ensures told { OnOk result (HasTold about.now begun.old.machines
+        (W.contents out.old) (W.contents out.new)) }
+{
+    match found {
+        Some(found) => write_one(begun, about, mode, found, out),
+        None => Ok(()),
+    }
+}
+
+/// Writes what was found, with its list and the trace of that, if machines that weren't searched show it too.
+fn write_one<W: Out>(
+    begun: &mut Begun,
+    about: &Workload,
+    mode: Mode,
+    found: Found,
+    out: &mut W,
+) -> Result<(), Failed>
+    ensures same { begun.new.machines ≡ begun.old.machines }
+    ensures told { OnOk result (HasTold about.now begun.old.machines
+        (W.contents out.old) (W.contents out.new)) }
+{
+    begun.search.list_of(found, &mut begun.events);
+    let events = begun.events.as_slice();
+    let file = file_in(mode, &mut begun.machines, about, events);
+    let told = Told {
+        finding: found.finding,
+        mode,
+        depth: found.depth,
+        events,
+        file: text_of(&file),
+    };
+    let written = write_with(&mut begun.machines, about, told, out);
+    drop(file);
+    written
+}
+
+fn text_of(file: &Option<String>) -> Option<&str> {
+    match file {
+        Some(text) => Some(text.as_str()),
+        None => None,
+    }
+}
+
+/// The workload file whose events begin with the list, where lists are of milliseconds and there is one.
+fn file_in(
+    mode: Mode,
+    machines: &mut Machines,
+    about: &Workload,
+    events: &[Event],
+) -> Option<String>
+    ensures { machines.new ≡ machines.old }
+{
+    match mode {
+        Mode::Events => None,
+        Mode::Milliseconds | Mode::Workloads => file_of(machines, about, events),
+    }
+}
+
+/// The workload file whose events begin with the list, where there is one. There is none where memory runs out.
+fn file_of(machines: &mut Machines, about: &Workload, events: &[Event]) -> Option<String>
+    ensures { machines.new ≡ machines.old }
+{
+    let mut first = machines.take()?;
+    let Some(mut second) = machines.take() else {
+        drop(first);
+        return None;
+    };
+    let file = workload_file(machines.alloc(), about, &mut first, &mut second, events);
+    drop(first);
+    drop(second);
+    match file {
+        Ok(file) => file,
+        Err(AllocError) => None,
+    }
+}
+
+/// The same, with two machines of which there are enough.
+#[tactic(auto, using(crate::proofs::Told::told_nothing))]
+fn write_with<W: Out>(
+    machines: &mut Machines,
+    about: &Workload,
+    told: Told<'_>,
+    out: &mut W,
+) -> Result<(), Failed>
+    ensures same { machines.new ≡ machines.old }
+    ensures told { OnOk result (HasTold about.now machines.old
+        (W.contents out.old) (W.contents out.new)) }
+{
+    let Some(first) = machines.take() else {
+        return Ok(());
+    };
+    match machines.take() {
+        Some(second) => write_if_shown(first, second, about, told, out),
+        None => {
+            drop(first);
+            Ok(())
+        }
+    }
+}
+
+/// Writes how far the search came, and what it found in none of the lists.
+fn write_end<W: Out>(search: &Search, course: &Course, end: End, out: &mut W) -> Result<(), Failed>
+    ensures { OnOk result (Grows (W.contents out.old) (W.contents out.new)) }
+{
+    write_depths(course, out)?;
+    write_full(course.bounds.mode, end, out)?;
+    write_nones(search, course.bounds, end, out)
+}
+
+fn write_depths<W: Out>(course: &Course, out: &mut W) -> Result<(), Failed>
+    ensures { OnOk result (Grows (W.contents out.old) (W.contents out.new)) }
+{
+    write_levels(course.bounds.mode, course.levels(), out)?;
+    write_kept(course.bounds.mode, course.last(), out)
+}
+
+fn write_levels<W: Out>(mode: Mode, levels: &[Option<Level>], out: &mut W) -> Result<(), Failed>
+    ensures { OnOk result (Grows (W.contents out.old) (W.contents out.new)) }
+{
+    for level in levels {
+        write_kept(mode, *level, out)?;
+    }
+    Ok(())
+}
+
+#[tactic(auto, using(crate::proofs::Written::grown_none))]
+fn write_kept<W: Out>(mode: Mode, level: Option<Level>, out: &mut W) -> Result<(), Failed>
+    ensures { OnOk result (Grows (W.contents out.old) (W.contents out.new)) }
+{
+    match level {
+        Some(level) => write_level(mode, level, out),
+        None => Ok(()),
+    }
+}
+
+fn write_nones<W: Out>(search: &Search, bounds: Bounds, end: End, out: &mut W) -> Result<(), Failed>
+    ensures { OnOk result (Grows (W.contents out.old) (W.contents out.new)) }
+{
+    for sort in SORTS {
+        write_unfound(search, sort, bounds, end, out)?;
+    }
+    Ok(())
+}
+
+#[tactic(auto, using(crate::proofs::Written::grown_none))]
+fn write_unfound<W: Out>(
+    search: &Search,
+    sort: Sort,
+    bounds: Bounds,
+    end: End,
+    out: &mut W,
+) -> Result<(), Failed>
+    ensures { OnOk result (Grows (W.contents out.old) (W.contents out.new)) }
+{
+    if is_told(sort, bounds.mode) && !search.has_found(sort) {
+        write_none(sort, bounds, end, out)
+    } else {
+        Ok(())
+    }
+}
+
+/// Whether it is looked for in such lists: where clocks are free, each policy has stalls.
+fn is_told(sort: Sort, mode: Mode) -> bool {
+    match sort {
+        Sort::Stall => mode != Mode::Events,
+        Sort::Fault(_) | Sort::Idle | Sort::Overtaken => true,
+    }
+}
