@@ -65,7 +65,7 @@ fn programs(policy: &Policy) -> Result<[Vec<Op>; 7], String> {
 
 impl<N: Notes> Machine<N> {
     /// After init, and after enable of each task.
-    fn new(notes: N, policy: &Policy, workload: &Workload) -> Result<Machine<N>, String> {
+    pub fn new(notes: N, policy: &Policy, workload: &Workload) -> Result<Machine<N>, String> {
         let world = World::new(notes, policy, workload);
         let mut machine = Machine { programs: programs(policy)?, world };
         let answer = machine.begin_with(Init, 0);
@@ -79,6 +79,12 @@ impl<N: Notes> Machine<N> {
             }
         }
         Ok(machine)
+    }
+
+    /// The operations of all programs.
+    pub fn ops(&self) -> impl Iterator<Item = (Callback, &Op)> {
+        let callbacks = CALLBACKS.iter().map(|(callback, _)| *callback);
+        callbacks.zip(&self.programs).flat_map(|(callback, program)| program.iter().map(move |op| (callback, op)))
     }
 
     /// What a callback answers before the policy is in force; -22 where it has a fault.

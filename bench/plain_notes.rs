@@ -2,6 +2,7 @@
 //! is kept until the clock grows, a word, a name, and what stands behind it, each of which is kept as a text of a
 //! fixed size and copied whole.
 
+use crate::plain_core::Callback;
 use std::fs::File;
 use std::io::{self, Write};
 use std::os::fd::AsFd;
@@ -22,6 +23,10 @@ pub trait Notes {
     fn clock(&mut self, ms: u64);
     /// A queue of the policy has that id.
     fn queue(&mut self, queue: usize, id: u64);
+    /// A program of that callback came to its end after so many instructions.
+    fn ran(&mut self, _callback: Callback, _instructions: u64) {}
+    /// A task waits with the slice that it has.
+    fn keeps_slice(&mut self, _task: u16) {}
 }
 
 /// Takes no notes.

@@ -118,6 +118,22 @@ impl Queue {
         if task == self.last { NOBODY } else { tasks.of(task).next }
     }
 
+    /// Who waits, from the front on, each with the virtual time by which it does.
+    pub fn in_order(&self, tasks: &Tasks) -> Vec<(u16, Option<u64>)> {
+        if self.is_by_vtime {
+            let mut heap = self.heap.clone();
+            heap.sort_unstable();
+            return heap.into_iter().map(|entry| (entry as u16, Some((entry >> 64) as u64))).collect();
+        }
+        let mut waiting = Vec::new();
+        let mut task = self.first;
+        for _ in 0..self.length {
+            waiting.push((task, None));
+            task = tasks.of(task).next;
+        }
+        waiting
+    }
+
     /// The front leaves a queue that isn't empty.
     #[inline(always)]
     pub fn pop(&mut self, tasks: &mut Tasks) -> u16 {

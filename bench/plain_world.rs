@@ -3,8 +3,8 @@
 
 use crate::plain_core::{Callback, Registers, STACK};
 use crate::plain_files::{self, Policy, Workload};
-use crate::plain_notes::{BUILTIN, GLOBAL, HELD, LOCAL, Notes};
-use crate::plain_tasks::{DEFAULT_SLICE, NEVER, NOBODY, NOWHERE, Queue, Tasks};
+use crate::plain_notes::{BUILTIN, GLOBAL, HELD, LOCAL, Notes, PARKED};
+use crate::plain_tasks::{DEFAULT_SLICE, NEVER, NOBODY, NOWHERE, Queue, Task, Tasks};
 
 pub const NO_QUEUE: u8 = 1;
 pub const CANNOT_INSERT: u8 = 2;
@@ -52,6 +52,7 @@ pub struct Call {
 }
 
 /// A group, with how many tasks are runnable in it or below it.
+#[derive(Clone)]
 struct Group {
     weight: u64,
     parent: Option<usize>,
@@ -110,6 +111,22 @@ pub struct World<N> {
     /// Nobody waits since before that clock.
     oldest: u64,
     timeout_ms: u64,
+}
+
+/// All that events change of a world with a policy in force.
+#[derive(Clone)]
+pub struct Saved<N> {
+    notes: N,
+    clock: u64,
+    maps: Vec<u8>,
+    tasks: Vec<Task>,
+    running: Vec<u16>,
+    busy: u64,
+    queues: Vec<Queue>,
+    pushes: u64,
+    groups: Vec<Group>,
+    sums: Vec<u64>,
+    oldest: u64,
 }
 
 /// Queues with room for so many tasks.
@@ -194,6 +211,8 @@ impl<N: Notes> World<N> {
         let record = self.tasks.at(task);
         if insert.slice != 0 {
             record.slice = insert.slice;
+        } else if insert.queue != HELD {
+            self.notes.keeps_slice(task);
         }
         match insert.vtime {
             Some(vtime) => {
@@ -359,6 +378,64 @@ impl<N: Notes> World<N> {
         self.busy |= 1 << (cpu & 63);
         self.notes.run(task, cpu);
         task
+    }
+
+    // ---- saved states
+
+    /// The places of queues in which tasks may wait.
+    pub fn places(&self) -> impl Iterator<Item = usize> + use<N> {
+        (0..self.own).chain(GLOBAL..=PARKED).chain(LOCAL..LOCAL + self.cpus as usize)
+    }
+
+    pub fn weights(&self) -> impl Iterator<Item = u64> + use<'_, N> {
+        self.groups.iter().map(|group| group.weight)
+    }
+
+    /// What each group used of its quota.
+    pub fn usages(&self) -> impl Iterator<Item = u64> + use<'_, N> {
+        self.groups.iter().map(|group| group.used)
+    }
+
+    pub fn save(&self) -> Saved<N>
+    where
+        N: Clone,
+    {
+        Saved {
+            notes: self.notes.clone(),
+            clock: self.clock,
+            maps: self.memory[STACK..].to_vec(),
+            tasks: (0..self.count).map(|task| *self.tasks.of(task)).collect(),
+            running: self.running[..self.cpus as usize].to_vec(),
+            busy: self.busy,
+            queues: self.places().map(|place| self.queues[place].clone()).collect(),
+            pushes: self.pushes,
+            groups: self.groups.clone(),
+            sums: self.sums.clone(),
+            oldest: self.oldest,
+        }
+    }
+
+    /// The world is as it was, and the policy is in force.
+    pub fn restore(&mut self, saved: &Saved<N>)
+    where
+        N: Clone,
+    {
+        self.notes.clone_from(&saved.notes);
+        self.clock = saved.clock;
+        self.memory[STACK..].copy_from_slice(&saved.maps);
+        for (number, task) in saved.tasks.iter().enumerate() {
+            *self.tasks.at(number as u16) = *task;
+        }
+        self.running[..self.cpus as usize].copy_from_slice(&saved.running);
+        self.busy = saved.busy;
+        for (place, queue) in self.places().zip(&saved.queues) {
+            self.queues[place].clone_from(queue);
+        }
+        self.pushes = saved.pushes;
+        self.groups.clone_from(&saved.groups);
+        self.sums.clone_from(&saved.sums);
+        self.oldest = saved.oldest;
+        (self.ejected, self.builtin_clock) = (None, 0);
     }
 
     // ---- helper calls
