@@ -21,11 +21,11 @@ _scxsim() {
     local current=${COMP_WORDS[COMP_CWORD]}
     COMPREPLY=()
     if [ "$COMP_CWORD" -eq 1 ]; then
-        _scxsim_words "verify explain run report stats stats-csv why story step timeline picture picture-part view view-part gantt gantt-part replay replay-csv exec asm dis cases help --help --version"
+        _scxsim_words "verify explain run report stats stats-csv why story step timeline picture picture-part view view-part gantt gantt-part replay replay-csv explore explore-few exec asm dis cases help --help --version"
         return
     fi
     case ${COMP_WORDS[1]},$COMP_CWORD in
-        help,2) _scxsim_words "verify explain run report stats stats-csv why story step timeline picture picture-part view view-part gantt gantt-part replay replay-csv exec asm dis cases" ;;
+        help,2) _scxsim_words "verify explain run report stats stats-csv why story step timeline picture picture-part view view-part gantt gantt-part replay replay-csv explore explore-few exec asm dis cases" ;;
         verify,2) _scxsim_files toml ;;
         explain,2) _scxsim_files toml ;;
         run,2) _scxsim_files toml ;;
@@ -61,6 +61,12 @@ _scxsim() {
         replay,3) _scxsim_files toml ;;
         replay-csv,2) _scxsim_files toml ;;
         replay-csv,3) _scxsim_files toml ;;
+        explore,2) _scxsim_files toml ;;
+        explore,3) _scxsim_files toml ;;
+        explore,4) _scxsim_words "events ms workloads" ;;
+        explore-few,2) _scxsim_files toml ;;
+        explore-few,3) _scxsim_files toml ;;
+        explore-few,4) _scxsim_words "events ms workloads" ;;
         exec,2) _scxsim_files bin ;;
         asm,2) _scxsim_files asm ;;
         dis,2) _scxsim_files bin ;;
