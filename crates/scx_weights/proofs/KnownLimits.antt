@@ -3,8 +3,9 @@ use Rattle.std.specs.Int.{◌∣◌}
 use Rattle.std.specs.List.{list_any}
 use Rattle.std.proofs.lemmas.Bool.{cases_eq, cases_lt}
 use Rattle.std.proofs.lemmas.Nat.Gcd.{dvd_trans, dvd_of_mod-eq-zero, mod-eq-zero_of_dvd}
+use Rattle.std.proofs.lemmas.Nat.{div-add-mod', mod-mul-add}
 use Rattle.std.proofs.lemmas.List.{get_or_read, get_or_past}
-use Rattle.std.proofs.Common.{◌≡◌, ℕ, zero, suc, ◌+◌, max, ◌⊎◌, inl, inr, ◌<◌, ◌≤◌, ◌%◌, false, List, [], ◌∷◌, length, get_or, set, Bool, Option, None, Some, is_some, ⊎_elim, refl, ap, ◌∙◌, sym, subst, arith}
+use Rattle.std.proofs.Common.{◌≡◌, ℕ, zero, suc, ◌+◌, ◌-◌, ◌*◌, ◌/◌, ◌^◌, min, max, ◌⊎◌, inl, inr, ◌<◌, ◌≤◌, ◌%◌, false, List, [], ◌∷◌, length, get_or, set, Bool, Option, None, Some, is_some, ⊎_elim, refl, ap, ◌∙◌, sym, subst, arith}
 use Rattle.scx_weights.specs.declared.group.Group.{Group}
 use Rattle.scx_weights.specs.Hierarchy.{Hierarchy, path, home_of, parent_of, quota_at, period_at, group_at}
 use Rattle.scx_weights.specs.Limits.{is_used_up, has_quota, is_throttled}
@@ -19,6 +20,16 @@ no_group = record { parent = None; weight = 0; quota_ms = None; period_ms = 0 }
 pub none_begins : (beat p clock : ℕ) → beat ∣ p → (clock % beat ≡ 0 → ⊥) → (clock % p ≡ 0 → ⊥)
 none_begins beat p clock d off on = off (mod-eq-zero_of_dvd beat (dvd_trans beat d (dvd_of_mod-eq-zero p on)))
 
+-- after a multiple of the beat there is no other up to the next
+pub quiet_after : (beat since next : ℕ) → since % beat ≡ 0 → next ≡ min (since + beat) (2 ^ 64 - 1) → (clock : ℕ) → since < clock → clock < next → clock % beat ≡ 0 → ⊥
+quiet_after beat since next on is clock gt lt whole =
+    let more : clock - since < beat = omega (arith, is, gt, lt) in
+    let times : since / beat * beat + since % beat ≡ since = div-add-mod' since beat in
+    let sum : since / beat * beat + (clock - since) ≡ clock = omega (arith, times, on, gt) in
+    let rest : (since / beat * beat + (clock - since)) % beat ≡ clock - since = mod-mul-add (since / beat) beat (clock - since) more in
+    let left : clock % beat ≡ clock - since = sym (ap (λ n. n % beat) sum) ∙ rest in
+    omega (arith, left, whole, gt)
+
 -- a test of a list asks the same where what is written passes as what was there
 any_set : {X : Type 0} (test : X → Bool) (xs : List X) (g : ℕ) (y d : X) → g < length xs → test y ≡ test (get_or xs g d) → list_any test (set xs g y) ≡ list_any test xs
 any_set test [] g y d lt e = absurd (omega (arith, lt))
@@ -26,14 +37,15 @@ any_set test (x ∷ xs) zero y d lt e = rw e refl
 any_set test (x ∷ xs) (suc g) y d lt e = rw (any_set test xs g y d (omega (arith, lt)) e) refl
 
 -- a weight that is written leaves all that as it is
-pub limits_stay : (groups : List Group) (g w beat : ℕ) (limited : Bool) (had : Group) → g < length groups → had ≡ get_or groups g had → KnowsLimits groups beat limited
-    → KnowsLimits (set groups g (record { parent = had.parent; weight = w; quota_ms = had.quota_ms; period_ms = had.period_ms })) beat limited
-limits_stay groups g w beat limited had lt read is =
+pub limits_stay : (groups : List Group) (g w beat since next : ℕ) (limited : Bool) (had : Group) → g < length groups → had ≡ get_or groups g had → KnowsLimits groups beat since next limited
+    → KnowsLimits (set groups g (record { parent = had.parent; weight = w; quota_ms = had.quota_ms; period_ms = had.period_ms })) beat since next limited
+limits_stay groups g w beat since next limited had lt read is =
     let had_is : had ≡ group_at groups g = get_or_read groups g had lt read no_group in
-    subst (λ (x : Group). KnowsLimits (set groups g (record { parent = x.parent; weight = w; quota_ms = x.quota_ms; period_ms = x.period_ms })) beat limited) (sym had_is)
+    subst (λ (x : Group). KnowsLimits (set groups g (record { parent = x.parent; weight = w; quota_ms = x.quota_ms; period_ms = x.period_ms })) beat since next limited) (sym had_is)
     (record {
       some = is.some;
       divides = λ k k_lt. subst (λ n. beat ∣ n) (sym (period_reweighed groups g w k lt)) (is.divides k (omega (arith, length-reweighed groups g w, k_lt)));
+      quiet = is.quiet;
       quotas = is.quotas ∙ sym (any_set (λ (x : Group). is_some x.quota_ms) groups g (record { parent = parent_of groups g; weight = w; quota_ms = quota_at groups g; period_ms = period_at groups g }) no_group lt refl);
     })
 

@@ -1,13 +1,14 @@
 -- What groups use, number by number and as a list.
-use Rattle.std.proofs.Common.{ℕ, ◌+◌, ◌-◌, ◌%◌, ◌<◌, ◌≤◌, ◌≡◌, ◌||◌, Bool, true, false, cond, eqb, List, ◌∷◌, [], length, get_or, set, Option, None, Some, refl, sym, ap, ◌∙◌, subst, arith}
+use Rattle.std.proofs.Common.{ℕ, ◌+◌, ◌-◌, ◌%◌, ◌<◌, ◌≡◌, ◌||◌, Bool, true, false, cond, eqb, List, length, get_or, Option, None, Some, sym, ap, ◌∙◌, subst, arith}
 use Rattle.std.specs.List.{list_any}
+use Rattle.std.proofs.lemmas.Bool.{ne_eqb}
 use Rattle.std.proofs.lemmas.List.{ext_get_or, get_or_read}
 use Rattle.std.proofs.lemmas.List.FromFn.{get_or-map-range_with_len, length-map-range_with_len}
 use Rattle.scx_weights.specs.declared.group.Group.{Group}
 use Rattle.scx_weights.specs.Hierarchy.{Hierarchy, parent_of, quota_at, period_at, upward, lies_in, home_of}
 use Rattle.scx_weights.specs.Limits.{is_used_up, for_each_group, usage_of, with_use, with_turn}
 use Rattle.scx_weights.specs.RunningSums.{HasRunningSums}
-use Rattle.scx_weights.proofs.Paths.{among, touch, upward-none, upward_step, count_more}
+use Rattle.scx_weights.proofs.Paths.{upward-none, upward_step}
 
 -- a list that holds those numbers is that list
 pub numbers_are : (t : Hierarchy) (f : ℕ → ℕ) (us : List ℕ) → length us ≡ length t.groups
@@ -34,22 +35,6 @@ kept_used t counts weights us kept same = record {
   usages_length = same;
   periods = kept.periods;
 }
-
--- a group that counts is among them
-pub among_of_touch : (g : ℕ) (gs : List ℕ) → 1 ≤ touch g gs → among g gs ≡ true
-among_of_touch g gs some = which (among g gs) some
-  where
-    which : (b : Bool) → 1 ≤ cond {A = ℕ} b 1 0 → b ≡ true
-    which true le = refl
-    which false le = absurd (omega (arith, le))
-
--- a list that is only written to where one more is counted doesn't lose
-pub grown_step : (now next start : List ℕ) (x : ℕ) → x < length now → next ≡ set now x (get_or now x 0 + 1)
-    → ((g : ℕ) → get_or start g 0 ≤ get_or now g 0) → (g : ℕ) → get_or start g 0 ≤ get_or next g 0
-grown_step now next start x lt written grown g =
-    let more : get_or (set now x (get_or now x 0 + 1)) g 0 ≡ get_or now g 0 + touch g (x ∷ []) = count_more now x g lt in
-    let is : get_or next g 0 ≡ get_or (set now x (get_or now x 0 + 1)) g 0 = ap (λ us. get_or us g 0) written in
-    omega (arith, more, is, grown g)
 
 -- a test of the way splits at the group at hand
 pub any_step : (groups : List Group) (test : ℕ → Bool) (i x : ℕ) (at : Option ℕ) → i < 3 → at ≡ Some x
@@ -115,3 +100,11 @@ pub way_ended : (groups : List Group) (test : ℕ → Bool) (i : ℕ) (at at' : 
 way_ended groups test i at at' none same =
     ap (λ a. list_any test (upward groups (3 - i) a)) none ∙ ap (λ gs. list_any test gs) (upward-none groups (3 - i))
     ∙ sym (ap (λ a. list_any test (upward groups (3 - (i + 1)) a)) (same ∙ none) ∙ ap (λ gs. list_any test gs) (upward-none groups (3 - (i + 1))))
+
+-- the group at hand isn't the one that is looked for
+pub way_passed : (groups : List Group) (g i x : ℕ) (at at' : Option ℕ) (total : Bool) → i < 3 → at ≡ Some x → at' ≡ parent_of groups x → (x ≡ g → ⊥)
+    → total ≡ list_any (λ y. eqb y g) (upward groups (3 - i) at) → total ≡ list_any (λ y. eqb y g) (upward groups (3 - (i + 1)) at')
+way_passed groups g i x at at' total lt is parent other left =
+    left ∙ any_step groups (λ y. eqb y g) i x at lt is
+    ∙ ap (λ b. b || list_any (λ y. eqb y g) (upward groups (3 - (i + 1)) (parent_of groups x))) (ne_eqb x g other)
+    ∙ ap (λ a. list_any (λ y. eqb y g) (upward groups (3 - (i + 1)) a)) (sym parent)

@@ -2,8 +2,8 @@
 //!
 //! A `Tree` holds groups with weights, the group of each task, and which tasks are active. `weight_of`
 //! answers a task's share, computed exactly from the whole tree as it is now. Sums that are kept up
-//! along the way to the top make every call but `new` cost at most three levels, however many groups
-//! and tasks there are.
+//! along the way to the top make these calls cost at most three levels, however many groups and tasks
+//! there are. `usage`, and `turn` where a period may begin, go over all groups.
 //!
 //! A tree is made, in `crates/scx_tests_host/src/weights.rt`:
 //!

@@ -24,16 +24,19 @@ pub struct Tree {
 
 impl Model for Tree {
     ghost use Rattle.scx_weights.specs.Hierarchy.{Hierarchy};
+    ghost use Rattle.scx_weights.specs.Pending.{usages_in, AreUsages};
     ghost use Rattle.scx_weights.specs.RunningSums.{HasRunningSums, KnowsLimits};
 
     ghost Value = { Hierarchy };
 
-    ghost view = { λ t. record { groups = t.groups.items; homes = t.homes.items; active = t.active.items; usages = t.usages.used.items } };
+    ghost view = { λ t. record { groups = t.groups.items; homes = t.homes.items; active = t.active.items; usages = usages_in t.groups.items t.usages.used.items t.usages.pending.items } };
 
     ghost invariant = { λ t.
         HasRunningSums
-        (record { groups = t.groups.items; homes = t.homes.items; active = t.active.items; usages = t.usages.used.items })
-        t.sums.tasks.items t.sums.weights.items × KnowsLimits t.groups.items t.usages.beat t.usages.limited };
+        (record { groups = t.groups.items; homes = t.homes.items; active = t.active.items; usages = usages_in t.groups.items t.usages.used.items t.usages.pending.items })
+        t.sums.tasks.items t.sums.weights.items
+        × KnowsLimits t.groups.items t.usages.beat t.usages.since t.usages.next t.usages.limited
+        × AreUsages t.groups.items t.usages.used.items t.usages.pending.items t.usages.limited };
 }
 
 impl Tree {
@@ -181,6 +184,7 @@ impl Tree {
 
     /// The clock shows so many ms: a group whose period begins has used nothing. Answers whether one of them had
     /// used up its quota.
+    #[inline(always)]
     pub fn turn(&mut self, clock: u64) -> bool
         ensures turned { self.new ≡ with_turn self.old clock }
         ensures freed { result ≡ false → (g : ℕ) → g < length self.old.groups
@@ -194,7 +198,7 @@ impl Tree {
         requires { group < length self.now.groups }
         ensures { result ≡ usage_of self.now group }
     {
-        self.usages.of(group)
+        self.usages.of(&self.groups, group)
     }
 
     /// Becomes what the other one is, which has as many groups and tasks. No memory is taken.
