@@ -1,5 +1,5 @@
 -- What a call on a queue costs, by the queue's array before and after.
-use Rattle.std.proofs.Common.{◌≡◌, ◌≢◌, ℕ, zero, suc, ◌<◌, ◌≤◌, true, ◌==◌, ◌⊎◌, inl, inr, List, [], ◌∷◌, length, get_or, set, IfSome, refl, sym, ap, ◌∙◌, subst, arith}
+use Rattle.std.proofs.Common.{◌≡◌, ◌≢◌, ℕ, zero, suc, ◌<◌, ◌≤◌, true, ◌==◌, ◌⊎◌, inl, inr, List, [], ◌∷◌, length, get_or, set, refl, sym, ap, ◌∙◌, subst, arith}
 use Rattle.std.specs.List.{position_or_len}
 use Rattle.std.proofs.lemmas.Bool.{eq-eqb, eqb-true, ne_eqb, cases_lt}
 use Rattle.std.proofs.lemmas.List.{get_or-set_same, get_or-set_other, length-map, get_or_past, get_or_default}
@@ -11,7 +11,7 @@ use Rattle.scx_dsq.specs.declared.heap.Item.{Item}
 use Rattle.scx_dsq.specs.declared.queue.Queue.{Queue}
 use Rattle.scx_dsq.specs.declared.queues.Queues.TheInside.{Inside}
 use Rattle.scx_dsq.specs.Entries.{same_sort}
-use Rattle.scx_dsq.specs.Queues.{Waits, IsFront, queue_of}
+use Rattle.scx_dsq.specs.Queues.{Waits}
 use Rattle.scx_dsq.specs.Heaps.{IsCheap}
 use Rattle.scx_dsq.specs.Arrays.{QueuesValue, array_of, IsPaid}
 use Rattle.scx_dsq.specs.Holdings.{Holds, HasArrays}
@@ -109,13 +109,13 @@ module _ (i j : Inside) (k : ℕ) (q new : Queue) (h : IsKept i) (inside : k < l
     others = array_beside;
   }
 
--- ---- the queue of a task
+-- ---- the sort of a task
 
 -- what is of one sort with FIFO is FIFO
 pub is_fifo : (r : Rank) → same_sort r Fifo ≡ true → r ≡ Fifo
 is_fifo Fifo e = refl
 is_fifo (Vtime k) e = absurd (cc)
 
--- what the removal of a queue's front costs there
-pub paid_front : (old new : QueuesValue) (id t steps : ℕ) → IsFront old.state id t → IfSome (queue_of old.state t) (λ q. IsPaid old new q steps) → IsPaid old new id steps
-paid_front old new id t steps f paid = subst (λ q. IsPaid old new q steps) f.waits.1 (rw f.waits.0 at paid)
+-- what a call costs on a queue, by another name of its id
+pub paid_by : {old new : QueuesValue} {steps : ℕ} (id other : ℕ) → id ≡ other → IsPaid old new id steps → IsPaid old new other steps
+paid_by {old} {new} {steps} id other same paid = subst (λ q. IsPaid old new q steps) same paid

@@ -1,15 +1,15 @@
 -- What a call leaves as it was, for crates above too, and in how many queues
 -- a task waits.
-use Rattle.std.proofs.Common.{◌≡◌, ℕ, ◌+◌, ◌<◌, ◌≤◌, Bool, true, false, ◌==◌, ◌⊎◌, inl, inr, not, if◌then◌else◌, is_none, length, set, Option, Some, None, is_some, IfSome, refl, sym, ap, arith}
+use Rattle.std.proofs.Common.{◌≡◌, ℕ, ◌+◌, ◌<◌, ◌≤◌, ◌∙◌, [], ◌∷◌, ◌++◌, Bool, true, false, ◌==◌, ◌⊎◌, inl, inr, not, if◌then◌else◌, is_none, length, set, Option, Some, None, is_some, IfSome, refl, sym, ap, arith}
 use Rattle.std.specs.List.{list_any}
 use Rattle.std.proofs.lemmas.Bool.{cases_eq, cases_lt, eq-eqb, ne_eqb}
-use Rattle.std.proofs.lemmas.List.{length-set, get_or-set_same, get_or-set_other, get_or_past, set_past}
+use Rattle.std.proofs.lemmas.List.{get_or_append_left, get_or_push, length_push, length-set, get_or-set_same, get_or-set_other, get_or_past, set_past}
 use Rattle.std.proofs.lemmas.List.Quantifiers.{position-Some}
 use Rattle.scx_dsq.specs.declared.entries.Rank.{Rank}
 use Rattle.scx_dsq.specs.declared.entries.Entry.{Entry}
 use Rattle.scx_dsq.specs.declared.errors.QueueError.{QueueError}
 use Rattle.scx_dsq.specs.declared.errors.QueueError.TheVariants.{NoSuchQueue, AlreadyThere, Mixed}
-use Rattle.scx_dsq.specs.Queues.{Entries, QueueState, exists, task_count, entry_at, entry_of, is_first, front_of}
+use Rattle.scx_dsq.specs.Queues.{Entries, QueueState, IsQueueAt, exists, task_count, entry_at, entry_of, is_first, front_of}
 use Rattle.scx_dsq.specs.Calls.{clashes, create_refusal, with_queue, after_create, push_refusal, after_push, with_task, without, without_task, after_remove, next_entry}
 use Rattle.scx_dsq.specs.Laws.{one_if, standing, PushAddsOne, PopTakesOne, RemovalTakesOne, OthersChangeNone}
 
@@ -93,6 +93,27 @@ pushes_removed s t = go (is_some (entry_of s t))
     go : (b : Bool) → (if b then without_task s t else s).pushes ≡ s.pushes
     go true = refl
     go false = refl
+
+-- ---- where the queues stand
+
+-- a queue stands where it stood, if there are the same queues
+pub stands_still : (s t : QueueState) (k id : ℕ) → t.ids ≡ s.ids → IsQueueAt s k id → IsQueueAt t k id
+stands_still s t k id same at = rw same at
+
+-- and after another one is created
+pub stands_created : (s : QueueState) (id k other : ℕ) → IsQueueAt s k other → IsQueueAt (after_create s id) k other
+stands_created s id k other at = go (is_none (create_refusal s id))
+  where
+    behind : k < length (s.ids ++ id ∷ [])
+    behind = let within = at.0 in omega (arith, within, length_push s.ids id)
+
+    go : (b : Bool) → IsQueueAt (if b then with_queue s id else s) k other
+    go true = (behind, λ d. get_or_append_left s.ids (id ∷ []) d k at.0 ∙ at.1 d)
+    go false = at
+
+-- the new one stands last
+pub stands_last : (s : QueueState) (id : ℕ) → create_refusal s id ≡ None → IsQueueAt (after_create s id) (length s.ids) id
+stands_last s id accepted = rw accepted (omega (arith, length_push s.ids id), λ d. get_or_push s.ids id d (length s.ids) refl)
 
 -- ---- who waits
 

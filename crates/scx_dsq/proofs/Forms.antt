@@ -1,5 +1,5 @@
 -- A queue in either form: what it answers, and that it keeps its tasks after a change there or elsewhere.
-use Rattle.std.proofs.Common.{◌≡◌, ◌≢◌, ℕ, ◌<◌, ◌≤◌, true, false, ◌==◌, not, List, [], ◌∷◌, length, get_or, Option, Some, None, is_some, IfSome, IfNone, MatchOption, refl, sym, arith, if◌then◌else◌}
+use Rattle.std.proofs.Common.{◌≡◌, ◌≢◌, ℕ, ◌<◌, ◌≤◌, true, false, ◌==◌, not, List, [], ◌∷◌, length, get_or, Option, Some, None, is_some, IfSome, IfNone, MatchOption, refl, sym, subst, arith, if◌then◌else◌}
 use Rattle.std.specs.List.{list_any}
 use Rattle.std.proofs.lemmas.Bool.{both_ways, eq-eqb, eqb-true, and_parts, not-true, false_from_ne_true}
 use Rattle.std.proofs.lemmas.List.{get_or_default}
@@ -16,9 +16,10 @@ use Rattle.scx_dsq.specs.Calls.{clashes}
 use Rattle.scx_dsq.specs.Laws.{HasOwnStamps}
 use Rattle.scx_dsq.specs.Heaps.{IsHeap, first_item}
 use Rattle.scx_dsq.specs.Holdings.{Holds, entry_for}
-use Rattle.scx_dsq.specs.Links.{no_ends, or_else, In, NobodyIsIn, HasLeastStamp, IsThreaded}
-use Rattle.scx_dsq.specs.Kept.{IsOfOneSort, by_links, by_heap, front_in, len_in, mixes}
+use Rattle.scx_dsq.specs.Links.{no_ends, link_at, or_else, In, NobodyIsIn, HasLeastStamp, IsNext, IsThreaded}
+use Rattle.scx_dsq.specs.Kept.{IsOfOneSort, by_links, by_heap, front_in, len_in, sort_of, sort_in, mixes}
 use Rattle.scx_dsq.proofs.Standing.{waits_below}
+use Rattle.scx_dsq.proofs.Threads.{one_stamp}
 use Rattle.scx_dsq.proofs.Orders.{before_from}
 use Rattle.scx_dsq.proofs.Fronts.{NobodyIn, nobody_counts, nobody_clashes, front_is, no_front}
 use Rattle.scx_dsq.proofs.Holdings.{holds_front, holds_vtime}
@@ -35,6 +36,11 @@ threaded_empty s links id nobody = record {
   count = sym (nobody_counts s id nobody);
   sort = λ t p w. absurd (nobody t p w);
 }
+
+-- who waits by virtual time may wait with others who do
+by_vtime : (r : Rank) (k : ℕ) → same_sort r Fifo ≡ false → same_sort r (Vtime k) ≡ true
+by_vtime Fifo k unlike = absurd (cc)
+by_vtime (Vtime l) k unlike = refl
 
 -- ---- the front
 
@@ -75,6 +81,37 @@ pub front_none : (s : QueueState) (id : ℕ) (o : Option ℕ) → MatchOption o 
 front_none s id None nobody = nobody
 front_none s id (Some t) f = tt
 
+-- ---- who the front is
+
+-- its rank is of the sort that the queue tells
+pub front_alike : (s : QueueState) (links : List Link) (q : Queue) (t : ℕ) (p : Entry) → In s.entries q.id t p → front_in q ≡ Some t → IsOfOneSort s.entries links q → same_sort p.rank (sort_in q) ≡ true
+front_alike s links q t p waits front (by_links h empty) = rw (h.sort t p waits) (go q.ends.first q.heap.items empty front)
+  where
+    go : (o : Option ℕ) (items : List Item) → items ≡ [] → or_else o (first_item items) ≡ Some t → same_sort Fifo (sort_of o) ≡ true
+    go None items e f = let none : None ≡ Some t = rw e at f in absurd (cc)
+    go (Some u) items e f = refl
+front_alike s links q t p waits front (by_heap h none) = rw none (by_vtime p.rank 0 (holds_vtime s.entries q.id q.heap.items h t p waits))
+
+-- no task is ahead of it in order of arrival
+pub front_ahead : (s : QueueState) (links : List Link) (q : Queue) (t : ℕ) (p : Entry) → In s.entries q.id t p → front_in q ≡ Some t → sort_in q ≡ Fifo → IsOfOneSort s.entries links q → (link_at links t).ahead ≡ None
+front_ahead s links q t p waits front fifo (by_links h empty) = alone (link_at links t).ahead (h.ahead t p waits)
+  where
+    go : (o : Option ℕ) (items : List Item) → items ≡ [] → MatchOption o (NobodyIsIn s.entries q.id) (HasLeastStamp s.entries q.id) → or_else o (first_item items) ≡ Some t → HasLeastStamp s.entries q.id t
+    go None items e nobody f = let none : None ≡ Some t = rw e at f in absurd (cc)
+    go (Some u) items e least f = let same : u ≡ t = cc in subst (HasLeastStamp s.entries q.id) same least
+
+    least : HasLeastStamp s.entries q.id t
+    least = go q.ends.first q.heap.items empty h.first front
+
+    alone : (o : Option ℕ) → MatchOption o (HasLeastStamp s.entries q.id t) (λ u. IsNext s.entries q.id u t) → o ≡ None
+    alone None nobody = refl
+    alone (Some u) next =
+        let here = one_stamp s.entries q.id t least.entry next.entry_behind least.waits next.waits_behind in
+        let first = least.first u next.entry next.waits in
+        let before = next.before in
+        absurd (omega arith)
+front_ahead s links q t p waits front fifo (by_heap h none) = let bad : Vtime 0 ≡ Fifo = rw none at fifo in absurd (cc)
+
 -- ---- how many
 
 -- the length that a queue answers is how many wait there
@@ -101,11 +138,6 @@ clash_at : (s : QueueState) (id t : ℕ) (p : Entry) (rank : Rank) → Waits s i
 clash_at s id t p rank w unlike =
     let clash : clashes id rank (entry_at s.entries t) ≡ true = rw (w.0, eq-eqb p.queue id w.1, unlike) refl in
     list_any_at (clashes id rank) s.entries t None (waits_below s.entries t p w.0) clash
-
--- who waits by virtual time may wait with others who do
-by_vtime : (r : Rank) (k : ℕ) → same_sort r Fifo ≡ false → same_sort r (Vtime k) ≡ true
-by_vtime Fifo k unlike = absurd (cc)
-by_vtime (Vtime l) k unlike = refl
 
 -- an array mixes with FIFO tasks if it isn't empty
 array_mixes : (s : QueueState) (id : ℕ) (items : List Item) → Holds s.entries id items → is_some (first_item items) ≡ list_any (clashes id Fifo) s.entries

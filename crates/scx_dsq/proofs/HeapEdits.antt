@@ -1,16 +1,16 @@
 -- An item put into a heap, or taken out.
-use Rattle.std.proofs.Common.{◌≡◌, ◌≢◌, ℕ, ◌+◌, ◌-◌, ◌*◌, ◌^◌, ◌<◌, ◌≤◌, ◌==◌, false, List, [], ◌∷◌, ◌++◌, length, set, take, drop, slice_index_or, refl, sym, ap, ◌∙◌, subst, arith, ◌⊎◌, inl, inr}
+use Rattle.std.proofs.Common.{◌≡◌, ◌≢◌, ℕ, ◌+◌, ◌-◌, ◌^◌, ◌<◌, ◌≤◌, ◌==◌, true, false, List, [], ◌∷◌, ◌++◌, length, set, take, drop, slice_index_or, refl, sym, ap, ◌∙◌, subst, arith, ◌⊎◌, inl, inr}
 use Rattle.std.specs.List.{list_any, swap_remove}
 use Rattle.std.specs.List.Sorted.{IsPermutation}
 use Rattle.std.proofs.Math.Pow.{pow_mono}
 use Rattle.std.proofs.Math.Seq.{take-append_seam}
-use Rattle.std.proofs.lemmas.Bool.{both_ways, eq-eqb, ne_eqb, or_parts, false_from_ne_true, cases_eq, cases_lt}
+use Rattle.std.proofs.lemmas.Bool.{both_ways, eq-eqb, ne_eqb, or_parts, cases_eq, cases_lt}
 use Rattle.std.proofs.lemmas.List.{get_or_default, get_or_past, get_or_push, get_or_append_left, get_or-take, length-take-le, get_or-set_same, get_or-set_other, length-set, length_push}
 use Rattle.std.proofs.lemmas.List.Folds.{list_any_at, list_any_none}
 use Rattle.std.proofs.lemmas.List.Sorted.{list_any-IsPermutation, IsPermutation-swap_remove}
 use Rattle.scx_dsq.specs.declared.heap.Item.{Item}
-use Rattle.scx_dsq.specs.Heaps.{comes_before, parent, IsBehind, Leads, IsHeap, IsHeapBut, IsHeapAbove, IsHeapAround, Rose, Sank, Settled, IsCheap, HasSpots, IsAbsent, IsIn, KeepsOthers}
-use Rattle.scx_dsq.proofs.Heaps.{trans, not-trans, not_there}
+use Rattle.scx_dsq.specs.Heaps.{comes_before, parent, IsHeap, IsHeapBut, IsHeapAround, Rose, Settled, IsCheap, HasSpots, IsAbsent, IsIn, KeepsOthers}
+use Rattle.scx_dsq.proofs.Heaps.{not-trans, not_there}
 
 fewer : (levels digits n : ℕ) → 2 ^ levels ≤ n → n < 2 ^ digits → levels < digits
 fewer levels digits n deep lt = go (cases_lt levels digits)
@@ -27,56 +27,10 @@ absent_is_apart items t k d lt out e = both_ways _ out (list_any_at (λ (x : Ite
 pub written_back : (n : ℕ) (ys zs : List Item) → length ys ≡ n → take n (ys ++ drop (length ys) zs) ≡ ys
 written_back n ys zs e = subst (λ m. take m (ys ++ drop (length ys) zs) ≡ ys) e (take-append_seam ys (drop (length ys) zs))
 
--- ---- up or down
-
--- where the item leaves before its parent it alone may be in the wrong order
-pub heap_to_rise : (items : List Item) (at : ℕ) → IsHeapAround items at → Leads items at (parent at) → 0 < at → IsHeapBut items at
-heap_to_rise items at h leads up = record {
-  others = λ k some lt n d e. go k some lt n d e (cases_eq (parent k) at);
-  behind = h.above;
-}
-  where
-    go : (k : ℕ) → 0 < k → k < length items → k ≢ at → (d e : Item) → (parent k ≡ at) ⊎ (parent k ≡ at → ⊥) → comes_before (slice_index_or items k d).priority (slice_index_or items (parent k) e).priority ≡ false
-    go k some lt n d e (inl is) =
-        rw is (false_from_ne_true _ (λ t. both_ways _ (h.above k some lt is up d e)
-        (trans (slice_index_or items k d).priority (slice_index_or items at e).priority (slice_index_or items (parent at) e).priority t (leads e e))))
-    go k some lt n d e (inr m) = h.others k some lt n m d e
-
--- where it doesn't, only those right behind it may be
-pub heap_to_sink : (items : List Item) (at : ℕ) → IsHeapAround items at → (0 < at → IsBehind items at (parent at)) → IsHeapAbove items at
-heap_to_sink items at h behind = record {
-  others = λ k some lt m. go k some lt m (cases_eq k at);
-  above = h.above;
-}
-  where
-    go : (k : ℕ) → 0 < k → k < length items → parent k ≢ at → (k ≡ at) ⊎ (k ≡ at → ⊥) → IsBehind items k (parent k)
-    go k some lt m (inl same) = subst (λ j. IsBehind items j (parent j)) (sym same) (behind (subst (λ j. 0 < j) same some))
-    go k some lt m (inr n) = h.others k some lt n m
-
--- a way up, after at most one comparison more, is a way that was settled
-pub settled_up : (old new : List Item) (at n m : ℕ) → at < length old → Rose old new at n → m ≤ n + 1 → Settled old new m
-settled_up old new at n m within h few = record {
-  levels = h.levels;
-  depth = let depth = h.depth in omega arith;
-  cost = let cost = h.cost in omega arith;
-  positions = h.positions;
-  few = h.few;
-  differs = h.differs;
-}
-
--- and so is a way down
-pub settled_down : (old new : List Item) (at n m : ℕ) → Sank old new at (length old) n → m ≤ n + 1 → Settled old new m
-settled_down old new at n m h few = record {
-  levels = h.levels;
-  depth = let depth = h.depth in let more = at_least (2 ^ h.levels) at in omega (arith, more, depth);
-  cost = let cost = h.cost in omega arith;
-  positions = h.positions;
-  few = h.few;
-  differs = h.differs;
-}
-  where
-    at_least : (x k : ℕ) → x ≤ x * (k + 1)
-    at_least x k = omega arith
+-- what is put last again is there already
+pub put_last : (items : List Item) (x : Item) → set (items ++ x ∷ []) (length items) x ≡ items ++ x ∷ []
+put_last [] x = refl
+put_last (y ∷ items) x = ap (λ ys. y ∷ ys) (put_last items x)
 
 -- ---- an item put in
 
@@ -126,7 +80,7 @@ module _ (items : List Item) (x : Item) where
     changes = λ digits lt. record {
       positions = length items ∷ h.positions;
       few = let below = fewer h.levels digits (length items + 1) h.depth lt in let few = h.few in omega arith;
-      differs = λ k d out. let apart = not_there k (length items) h.positions out in h.differs k d apart.1 ∙ kept_but_last k d apart.0;
+      differs = λ k d out. let apart = not_there k (length items) h.positions out in h.differs k apart.0 apart.1 d ∙ kept_but_last k d apart.0;
     };
   }
 
@@ -262,22 +216,20 @@ module _ (items now : List Item) (at : ℕ) (taken : Taken items now at) where
       go (inr le) = get_or_past now k d (omega (arith, le, long)) ∙ sym (get_or_past items k d (omega (arith, le, m)))
 
   -- a way that was settled after one was taken out is cheap
-  pub cheap_settled : (new : List Item) (n : ℕ) → at < length now → Settled now new n → IsCheap items new n
+  pub cheap_settled : (new : List Item) (n : ℕ) → at < length now → Settled now new at n → IsCheap items new n
   cheap_settled new n within h = record {
-    comparisons = λ digits lt. let below = fewer h.levels digits (length items + 1) (let depth = h.depth in omega (arith, depth, long)) lt in let cost = h.cost in omega arith;
+    comparisons = λ digits lt. let a = below digits lt h.down h.deep in let b = below digits lt h.up h.high in let cost = h.cost in omega arith;
     changes = λ digits lt. record {
-      positions = at ∷ (length items - 1) ∷ h.positions;
-      few =
-          let below = fewer h.levels digits (length items + 1) (let depth = h.depth in omega (arith, depth, long)) lt in
-          let some : 1 < digits = fewer 1 digits (length items + 1) (omega (arith, within, long)) lt in
-          let few = h.few in
-          omega arith;
+      positions = (length items - 1) ∷ h.positions;
+      few = let a = below digits lt h.down h.deep in let b = below digits lt h.up h.high in let few = h.few in omega arith;
       differs = λ k d out.
-          let first = not_there k at ((length items - 1) ∷ h.positions) out in
-          let second = not_there k (length items - 1) h.positions first.1 in
-          h.differs k d second.1 ∙ kept_but_two k d first.0 second.0;
+          let last = not_there k (length items - 1) h.positions out in
+          h.differs k d last.1 ∙ kept_but_two k d (λ e. both_ways _ last.1 (subst (λ j. list_any (λ p. p == j) h.positions ≡ true) (sym e) h.top)) last.0;
     };
   }
+    where
+      below : (digits : ℕ) → length items + 1 < 2 ^ digits → (levels : ℕ) → 2 ^ levels ≤ length now → levels < digits
+      below digits lt levels deep = fewer levels digits (length items + 1) (omega (arith, deep, long)) lt
 
   -- the last one is taken out without a comparison, which is cheap
   pub cheap_taken : (n : ℕ) → n ≡ 0 → length now ≤ at → IsCheap items now n

@@ -1,15 +1,16 @@
--- Rising in a heap: each exchange leaves one position less where the order may fail, and halves the way up.
-use Rattle.std.proofs.Common.{◌≡◌, ◌≢◌, ℕ, suc, ◌+◌, ◌*◌, ◌^◌, ◌<◌, ◌≤◌, Bool, true, false, ◌==◌, List, [], ◌∷◌, length, slice_index_or, refl, sym, ap, ◌∙◌, subst, arith, ◌⊎◌, inl, inr}
+-- Rising and falling in a heap: each exchange leaves one position less where the order may fail, and halves the way up
+-- or doubles that down.
+use Rattle.std.proofs.Common.{◌≡◌, ◌≢◌, ℕ, suc, ◌+◌, ◌*◌, ◌^◌, ◌<◌, ◌≤◌, Bool, true, false, ◌==◌, List, [], ◌∷◌, ◌++◌, length, slice_index_or, refl, sym, ap, ◌∙◌, subst, arith, ◌⊎◌, inl, inr}
 use Rattle.std.proofs.Math.Nat.{mul_assoc, mul-le-mul_left, pow-succ'}
 use Rattle.std.specs.List.{SwappedAt, list_any}
-use Rattle.std.proofs.lemmas.List.Folds.{list_any_at}
-use Rattle.std.proofs.lemmas.Bool.{both_ways, eq-eqb, or_parts, false_from_ne_true, cases_eq, cases_lt}
-use Rattle.std.proofs.lemmas.List.{get_or_default}
+use Rattle.std.proofs.lemmas.List.Folds.{list_any_at, list_any-append}
+use Rattle.std.proofs.lemmas.Bool.{both_ways, eq-eqb, or_parts, or_left, or_right, false_from_ne_true, cases_eq, cases_lt}
+use Rattle.std.proofs.lemmas.List.{get_or_default, length-append}
 use Rattle.scx_dsq.specs.declared.entries.Rank.TheVariants.{Vtime}
 use Rattle.scx_dsq.specs.declared.entries.Entry.{Entry}
 use Rattle.scx_dsq.specs.declared.priority.Priority.{Priority}
 use Rattle.scx_dsq.specs.declared.heap.Item.{Item}
-use Rattle.scx_dsq.specs.Heaps.{comes_before, parent, IsBehind, IsHeap, IsHeapBut, IsHeapAbove, IsFirstChild, DiffersAt, Rose, Sank}
+use Rattle.scx_dsq.specs.Heaps.{comes_before, parent, IsBehind, IsHeap, IsHeapBut, IsHeapAround, IsFirstChild, Fell, Rose, Settled}
 use Rattle.scx_dsq.proofs.Orders.{Below, before_from, before-asym, before-trans}
 
 -- ---- the order
@@ -90,7 +91,7 @@ not_there k t ts out =
     let parts = or_parts (t == k) (list_any (λ p. p == k) ts) out in
     ((λ e. both_ways (t == k) parts.0 (eq-eqb t k (sym e))), parts.1)
 
--- one level further down, by two steps at most
+-- one level further down
 deeper : (n start at child : ℕ) → 2 ^ n * (start + 1) ≤ at + 1 → 2 * (at + 1) ≤ child → 2 ^ suc n * (start + 1) ≤ child
 deeper n start at child h twice =
     let same : 2 ^ suc n * (start + 1) ≡ 2 * (2 ^ n * (start + 1)) = ap (λ x. x * (start + 1)) (pow-succ' 2 n) ∙ mul_assoc 2 (2 ^ n) (start + 1) in
@@ -109,19 +110,19 @@ whole n start at h = let more = mul-le-mul_left (2 ^ n) (one_at at) in omega (ar
     one_at : (k : ℕ) → 1 ≤ k + 1
     one_at k = omega arith
 
--- how far the item has come up, and that its position is among those that have changed
+-- how far the item has come up, and that its position is among those that have changed, or where it began
 pub record Rises (old now : List Item) (start at steps : ℕ) : Type 0 where
   pub levels : ℕ
   pub depth : 2 ^ levels * (at + 1) ≤ start + 1
   pub cost : steps ≤ levels
   pub positions : List ℕ
-  pub few : length positions ≤ levels + 1
-  pub differs : DiffersAt positions old now
-  pub here : list_any (λ p. p == at) positions ≡ true
+  pub few : length positions ≤ levels
+  pub differs : (k : ℕ) → k ≢ start → list_any (λ p. p == k) positions ≡ false → (d : Item) → slice_index_or now k d ≡ slice_index_or old k d
+  pub here : at ≢ start → list_any (λ p. p == at) positions ≡ true
 
 -- at the start the item has come up no level, by no step
 pub rises_none : (old : List Item) (start : ℕ) → Rises old old start start 0
-rises_none old start = record { levels = 0; depth = omega arith; cost = omega arith; positions = start ∷ []; few = omega arith; differs = λ k d out. refl; here = list_any_here start [] }
+rises_none old start = record { levels = 0; depth = omega arith; cost = omega arith; positions = []; few = omega arith; differs = λ k n out d. refl; here = λ n. absurd (n refl) }
 
 -- after an exchange with its parent it is at the parent's position, by one step more
 pub rises_more : (old now new : List Item) (start at n m : ℕ) → Rises old now start at n → m ≤ n + 1 → 0 < at → SwappedAt now new at (parent at) → Rises old new start (parent at) m
@@ -131,9 +132,9 @@ rises_more old now new start at n m h few up swapped = record {
   cost = let cost = h.cost in omega arith;
   positions = parent at ∷ h.positions;
   few = let few = h.few in omega arith;
-  differs = λ k d out. let apart = not_there k (parent at) h.positions out in
-      swapped.2 k d (λ e. both_ways _ apart.1 (subst (λ j. list_any (λ p. p == j) h.positions ≡ true) (sym e) h.here)) apart.0 ∙ h.differs k d apart.1;
-  here = list_any_here (parent at) h.positions;
+  differs = λ k n out d. let apart = not_there k (parent at) h.positions out in
+      swapped.2 k d (λ e. both_ways _ apart.1 (subst (λ j. list_any (λ p. p == j) h.positions ≡ true) (sym e) (h.here (λ s. n (e ∙ s))))) apart.0 ∙ h.differs k n apart.1 d;
+  here = λ n. list_any_here (parent at) h.positions;
 }
 
 -- where it stays below its parent the way up is done, by one step more
@@ -151,54 +152,42 @@ rose old now start at n m h few up = record {
 pub rose_here : (old now : List Item) (start at n : ℕ) → Rises old now start at n → Rose old now start n
 rose_here old now start at n h = record { levels = h.levels; depth = whole h.levels start at h.depth; cost = h.cost; positions = h.positions; few = h.few; differs = h.differs }
 
--- how far the item has come, and that its position is among those that have changed
-pub record Sinks (old now : List Item) (start at steps : ℕ) : Type 0 where
-  pub path : Sank old now start (at + 1) steps
-  pub here : list_any (λ p. p == at) path.positions ≡ true
+-- at the start the item has fallen no level, by no step
+pub fell_none : (old : List Item) (start : ℕ) → Fell old old start start 0
+fell_none old start = record { levels = 0; depth = omega arith; cost = omega arith; positions = start ∷ []; few = omega arith; differs = λ k d out. refl; top = list_any_here start []; here = list_any_here start [] }
 
--- at the start the item has sunk no level, by no step
-pub sinks_none : (old : List Item) (start : ℕ) → Sinks old old start start 0
-sinks_none old start = record {
-  path = record { levels = 0; depth = omega arith; cost = omega arith; positions = start ∷ []; few = omega arith; differs = λ k d out. refl };
-  here = list_any_here start [];
+-- after an exchange with a child it is at the child's position, by one step more
+pub fell_more : (old now new : List Item) (start at child n m : ℕ) → Fell old now start at n → m ≤ n + 1 → 2 * (at + 1) ≤ child + 1 → SwappedAt now new child at → Fell old new start child m
+fell_more old now new start at child n m h few twice swapped = record {
+  levels = suc h.levels;
+  depth = deeper h.levels start at (child + 1) h.depth twice;
+  cost = let cost = h.cost in omega arith;
+  positions = child ∷ h.positions;
+  few = let few = h.few in omega arith;
+  differs = λ k d out. let apart = not_there k child h.positions out in
+      swapped.2 k d apart.0 (λ e. both_ways _ apart.1 (subst (λ j. list_any (λ p. p == j) h.positions ≡ true) (sym e) h.here)) ∙ h.differs k d apart.1;
+  top = or_right (child == start) (list_any (λ p. p == start) h.positions) h.top;
+  here = list_any_here child h.positions;
 }
 
--- after an exchange with a child it is at the child's position, by two steps more
-pub sinks_more : (old now new : List Item) (start at child n m : ℕ) → Sinks old now start at n → m ≤ n + 2 → 2 * (at + 1) ≤ child + 1 → SwappedAt now new child at → Sinks old new start child m
-sinks_more old now new start at child n m h few twice swapped = record {
-  path = record {
-    levels = suc h.path.levels;
-    depth = deeper h.path.levels start at (child + 1) h.path.depth twice;
-    cost = let cost = h.path.cost in omega arith;
-    positions = child ∷ h.path.positions;
-    few = let few = h.path.few in omega arith;
-    differs = λ k d out. let apart = not_there k child h.path.positions out in
-        swapped.2 k d apart.0 (λ e. both_ways _ apart.1 (subst (λ j. list_any (λ p. p == j) h.path.positions ≡ true) (sym e) h.here)) ∙ h.path.differs k d apart.1;
-  };
-  here = list_any_here child h.path.positions;
+-- a way down and a way up from its end are all of it
+pub settled : (old now new : List Item) (start at n m steps : ℕ) → at < length old → Fell old now start at n → Rose now new at m → steps ≤ n + m → Settled old new start steps
+settled old now new start at n m steps within f r few = record {
+  down = f.levels;
+  up = r.levels;
+  deep = let depth = f.depth in let least = at_least (2 ^ f.levels) start in omega arith;
+  high = let depth = r.depth in omega arith;
+  cost = let a = f.cost in let b = r.cost in omega arith;
+  positions = f.positions ++ r.positions;
+  few = let a = f.few in let b = r.few in omega (arith, a, b, length-append f.positions r.positions);
+  top = list_any-append (λ p. p == start) f.positions r.positions ∙ or_left (list_any (λ p. p == start) f.positions) (list_any (λ p. p == start) r.positions) f.top;
+  differs = λ k d out.
+      let parts = or_parts (list_any (λ p. p == k) f.positions) (list_any (λ p. p == k) r.positions) (sym (list_any-append (λ p. p == k) f.positions r.positions) ∙ out) in
+      r.differs k (λ e. both_ways _ parts.0 (subst (λ j. list_any (λ p. p == j) f.positions ≡ true) (sym e) f.here)) parts.1 d ∙ f.differs k d parts.0;
 }
-
--- where it stays above its children the way down is done, by two steps more
-pub sank : (old now : List Item) (start at child n m : ℕ) → Sinks old now start at n → m ≤ n + 2 → 2 * (at + 1) ≤ child → Sank old now start child m
-sank old now start at child n m h few twice = record {
-  levels = suc h.path.levels;
-  depth = deeper h.path.levels start at child h.path.depth twice;
-  cost = let cost = h.path.cost in omega arith;
-  positions = h.path.positions;
-  few = let few = h.path.few in omega arith;
-  differs = h.path.differs;
-}
-
--- and it is done where there are no children, by no step more
-pub sank_here : (old now : List Item) (start at within n : ℕ) → Sinks old now start at n → at < within → Sank old now start within n
-sank_here old now start at within n h lt = record {
-  levels = h.path.levels;
-  depth = let depth = h.path.depth in omega arith;
-  cost = h.path.cost;
-  positions = h.path.positions;
-  few = h.path.few;
-  differs = h.path.differs;
-}
+  where
+    at_least : (x k : ℕ) → x ≤ x * (k + 1)
+    at_least x k = omega arith
 
 -- ---- the heap
 
@@ -274,10 +263,9 @@ heap_here items at h late k some lt = go (cases_eq k at)
     go (inl same) = subst (λ j. IsBehind items j (parent j)) (sym same) late
     go (inr n) = h.others k some lt n
 
--- ---- sinking
+-- ---- falling
 
-module _ (items new : List Item) (at c : ℕ) (h : IsHeapAbove items at) (child : IsFirstChild items at c) (long : length new ≡ length items) (swapped : SwappedAt items new c at)
-    (early : (d e : Item) → comes_before (slice_index_or items c d).priority (slice_index_or items at e).priority ≡ true) where
+module _ (items new : List Item) (at c : ℕ) (h : IsHeapAround items at) (child : IsFirstChild items at c) (long : length new ≡ length items) (swapped : SwappedAt items new c at) where
   under : at < c
   under = let is = child.of in let some = child.positive in omega arith
 
@@ -290,43 +278,33 @@ module _ (items new : List Item) (at c : ℕ) (h : IsHeapAbove items at) (child 
   kept : (k : ℕ) (d : Item) → k ≢ c → k ≢ at → slice_index_or new k d ≡ slice_index_or items k d
   kept = swapped.2
 
-  sunk_others : (k : ℕ) → 0 < k → k < length new → parent k ≢ c → IsBehind new k (parent k)
-  sunk_others k some lt n d e = go (cases_eq k at) (cases_eq k c)
+  fallen_others : (k : ℕ) → 0 < k → k < length new → k ≢ c → parent k ≢ c → IsBehind new k (parent k)
+  fallen_others k some lt o n d e = go (cases_eq k at) (cases_eq (parent k) at)
     where
       inside : k < length items
       inside = omega (arith, lt, long)
 
-      go : (k ≡ at) ⊎ (k ≡ at → ⊥) → (k ≡ c) ⊎ (k ≡ c → ⊥) → comes_before (slice_index_or new k d).priority (slice_index_or new (parent k) e).priority ≡ false
+      go : (k ≡ at) ⊎ (k ≡ at → ⊥) → (parent k ≡ at) ⊎ (parent k ≡ at → ⊥) → comes_before (slice_index_or new k d).priority (slice_index_or new (parent k) e).priority ≡ false
       go (inl same) t =
           let far = kept (parent at) e (λ x. absurd (let y = under in omega arith)) (λ x. absurd (omega arith)) in
           rw (same, parent_of d, far) (h.above c child.positive child.inside child.of (omega arith) d e)
-      go (inr m) (inl same) =
-          rw (same, child.of, child_of d, parent_of e) (asym (slice_index_or items c e).priority (slice_index_or items at d).priority (early e d))
-      go (inr m) (inr o) = by (cases_eq (parent k) at)
-        where
-          by : (parent k ≡ at) ⊎ (parent k ≡ at → ⊥) → comes_before (slice_index_or new k d).priority (slice_index_or new (parent k) e).priority ≡ false
-          by (inl is) = rw (kept k d o m, is, parent_of e) (child.first k some inside is d e)
-          by (inr isnt) = rw (kept k d o m, kept (parent k) e n isnt) (h.others k some inside isnt d e)
+      go (inr m) (inl is) = rw (kept k d o m, is, parent_of e) (child.first k some inside is d e)
+      go (inr m) (inr isnt) = rw (kept k d o m, kept (parent k) e n isnt) (h.others k some inside m isnt d e)
 
-  sunk_above : (k : ℕ) → 0 < k → k < length new → parent k ≡ c → 0 < c → IsBehind new k (parent c)
-  sunk_above k some lt is pos d e =
+  fallen_above : (k : ℕ) → 0 < k → k < length new → parent k ≡ c → 0 < c → IsBehind new k (parent c)
+  fallen_above k some lt is pos d e =
       let x = under in
-      let old = h.others k some (omega (arith, lt, long)) (λ y. absurd (omega arith)) d e in
+      let old = h.others k some (omega (arith, lt, long)) (λ y. absurd (omega arith)) (λ y. absurd (omega arith)) d e in
       let to_child : comes_before (slice_index_or items k d).priority (slice_index_or items c e).priority ≡ false = subst (λ j. comes_before (slice_index_or items k d).priority (slice_index_or items j e).priority ≡ false) is old in
       rw (child.of, kept k d (λ y. absurd (omega arith)) (λ y. absurd (omega arith)), parent_of e) to_child
 
-  -- after an exchange with the first child only those right behind that position may leave before it
-  pub sunk : IsHeapAbove new c
-  sunk = record { others = sunk_others; above = sunk_above }
+  -- after an exchange with the first child the heap is one around that position
+  pub fallen : IsHeapAround new c
+  fallen = record { others = fallen_others; above = fallen_above }
 
--- a heap but for those behind one position, behind which none are, is one
-pub heap_at_leaf : (items : List Item) (at : ℕ) → IsHeapAbove items at → length items ≤ 2 * at + 1 → IsHeap items
-heap_at_leaf items at h past k some lt = h.others k some lt (λ e. absurd (omega arith))
-
--- and so is one whose first child doesn't leave before it
-pub heap_above : (items : List Item) (at c : ℕ) → IsHeapAbove items at → IsFirstChild items at c → ((d e : Item) → comes_before (slice_index_or items c d).priority (slice_index_or items at e).priority ≡ false) → IsHeap items
-heap_above items at c h child late k some lt d e = go (cases_eq (parent k) at)
-  where
-    go : (parent k ≡ at) ⊎ (parent k ≡ at → ⊥) → comes_before (slice_index_or items k d).priority (slice_index_or items (parent k) e).priority ≡ false
-    go (inl is) = rw is (not-trans (slice_index_or items k d).priority (slice_index_or items c d).priority (slice_index_or items at e).priority (child.first k some lt is d d) (late d e))
-    go (inr isnt) = h.others k some lt isnt d e
+-- a heap around one position, behind which none are, is one but for it
+pub heap_at_end : (items : List Item) (at : ℕ) → IsHeapAround items at → length items ≤ 2 * at + 1 → IsHeapBut items at
+heap_at_end items at h past = record {
+  others = λ k some lt n. h.others k some lt n (λ e. absurd (omega arith));
+  behind = λ k some lt is up. absurd (omega arith);
+}

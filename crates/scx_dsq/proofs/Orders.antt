@@ -1,6 +1,6 @@
 -- The order of entries: by key, then by stamp.
-use Rattle.std.proofs.Common.{◌≡◌, ℕ, ◌<◌, ◌≤◌, Bool, true, false, inl, inr, nat_lt, ◌==◌, ◌&&◌, ◌||◌, arith, refl, sym}
-use Rattle.std.proofs.lemmas.Bool.{ltb-true, eqb-true, lt-ltb, eq-eqb, or_cases, and_parts, and_from, or_left, false_from_ne_true, cases_eq}
+use Rattle.std.proofs.Common.{◌≡◌, ℕ, ◌+◌, ◌*◌, ◌^◌, ◌<◌, ◌≤◌, Bool, true, false, ◌⊎◌, inl, inr, nat_lt, ◌==◌, ◌&&◌, ◌||◌, arith, refl, sym}
+use Rattle.std.proofs.lemmas.Bool.{ltb-true, eqb-true, lt-ltb, le-ltb, eq-eqb, ne_eqb, cases_lt, cases_order, or_cases, and_parts, and_from, or_left, false_from_ne_true, cases_eq}
 use Rattle.scx_dsq.specs.declared.entries.Entry.{Entry}
 use Rattle.scx_dsq.specs.Entries.{key_of, is_before}
 
@@ -55,3 +55,22 @@ before-asym p q h =
         let early : s < t = a.stamps same in
         let late : t < s = b.stamps (sym same) in
         omega arith
+
+-- ---- keys and stamps as numbers
+
+-- the same number in front changes nothing
+in_front : (m s t : ℕ) → nat_lt (m + s) (m + t) ≡ nat_lt s t
+in_front m s t = go (cases_lt s t)
+  where
+    go : (s < t) ⊎ (t ≤ s) → nat_lt (m + s) (m + t) ≡ nat_lt s t
+    go (inl lt) = rw (lt-ltb (m + s) (m + t) (omega (arith, lt)), lt-ltb s t lt) refl
+    go (inr le) = rw (le-ltb (m + s) (m + t) (omega (arith, le)), le-ltb s t le) refl
+
+-- keys with stamps behind them compare by key, then by stamp
+pub wholes_compare : (k s l t : ℕ) → s < 2 ^ 64 → t < 2 ^ 64 → nat_lt (k * 2 ^ 64 + s) (l * 2 ^ 64 + t) ≡ (nat_lt k l || (k == l && nat_lt s t))
+wholes_compare k s l t low lower = go (cases_order k l)
+  where
+    go : (k ≡ l) ⊎ ((k < l) ⊎ (l < k)) → nat_lt (k * 2 ^ 64 + s) (l * 2 ^ 64 + t) ≡ (nat_lt k l || (k == l && nat_lt s t))
+    go (inl e) = rw (e, in_front (l * 2 ^ 64) s t, le-ltb l l (omega arith), eq-eqb l l refl) refl
+    go (inr (inl lt)) = rw (lt-ltb (k * 2 ^ 64 + s) (l * 2 ^ 64 + t) (omega (arith, lt, low)), lt-ltb k l lt) refl
+    go (inr (inr gt)) = rw (le-ltb (k * 2 ^ 64 + s) (l * 2 ^ 64 + t) (omega (arith, gt, lower)), le-ltb k l (omega (arith, gt)), ne_eqb k l (λ e. absurd (omega (arith, e, gt)))) refl

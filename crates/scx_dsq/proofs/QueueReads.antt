@@ -1,18 +1,19 @@
 -- What was read of the queues, and whether a task may go into one.
-use Rattle.std.proofs.Common.{◌≡◌, ℕ, ◌<◌, true, false, List, [], length, get_or, Option, Some, None, is_some, MatchOption, sym, ap, ◌∙◌, subst, refl, arith}
+use Rattle.std.proofs.Common.{◌≡◌, ℕ, ◌<◌, true, false, List, [], length, get_or, Option, Some, None, is_some, IfSome, IfNone, MatchOption, ◌==◌, sym, ap, ◌∙◌, subst, refl, arith}
 use Rattle.std.specs.List.{list_any}
-use Rattle.std.proofs.lemmas.Bool.{both_ways}
+use Rattle.std.proofs.lemmas.Bool.{both_ways, eq-eqb}
 use Rattle.std.proofs.lemmas.List.{get_or_default, get_or_read, length-map}
+use Rattle.std.proofs.lemmas.List.Folds.{list_any_at}
 use Rattle.scx_dsq.specs.declared.entries.Rank.{Rank}
 use Rattle.scx_dsq.specs.declared.entries.Entry.{Entry}
 use Rattle.scx_dsq.specs.declared.queue.Queue.{Queue}
 use Rattle.scx_dsq.specs.declared.queues.Queues.TheInside.{Inside}
 use Rattle.scx_dsq.specs.declared.errors.QueueError.{QueueError}
 use Rattle.scx_dsq.specs.declared.errors.QueueError.TheVariants.{NoSuchQueue, AlreadyThere, Mixed, TooManyQueues}
-use Rattle.scx_dsq.specs.Queues.{QueueState, exists, entry_at, entry_of, task_count, IsFront, len_of}
+use Rattle.scx_dsq.specs.Queues.{QueueState, IsQueueAt, exists, entry_at, entry_of, task_count, IsFront, len_of}
 use Rattle.scx_dsq.specs.Laws.{IsSound}
 use Rattle.scx_dsq.specs.Calls.{clashes, push_refusal}
-use Rattle.scx_dsq.specs.Kept.{ids_of, IsQueueAt, Keeps, front_in, len_in, mixes, IsAdmitted, IsRefused, state_of, IsKept}
+use Rattle.scx_dsq.specs.Kept.{ids_of, Keeps, front_in, len_in, mixes, IsAdmitted, IsRefused, state_of, IsKept}
 use Rattle.scx_dsq.specs.Links.{no_ends}
 use Rattle.scx_dsq.proofs.Fronts.{NobodyIn}
 use Rattle.scx_dsq.proofs.Forms.{form_front, form_len, form_clash}
@@ -55,6 +56,24 @@ stands_at i live k id e at =
     let within : k < length (ids_of i.live.items) = omega (arith, there, length-map i.live.items (λ (x : Queue). x.id)) in
     let here : (get_or i.live.items k any).id ≡ id = subst (λ qs. (get_or qs k any).id ≡ id) e (at.1 any) in
     (within, λ d. get_or_default (ids_of i.live.items) k d any.id within ∙ id_at i.live.items k any ∙ here)
+
+-- and the other way round
+pub found_at : (i : Inside) (k id : ℕ) → IsQueueAt (state_of i) k id → (k < length i.live.items) × ((d : Queue) → (get_or i.live.items k d).id ≡ id)
+found_at i k id at = let within = at.0 in (omega (arith, within, length-map i.live.items (λ (x : Queue). x.id)), λ d. sym (id_at i.live.items k d) ∙ at.1 d.id)
+
+-- where a queue was found it stands
+pub found_stands : (i : Inside) (live : List Queue) (id : ℕ) (o : Option ℕ) → live ≡ i.live.items → IfSome o (λ k. (k < length live) × ((d : Queue) → (get_or live k d).id ≡ id)) → IfSome o (λ k. IsQueueAt (state_of i) k id)
+found_stands i live id None e h = tt
+found_stands i live id (Some k) e h = stands_at i live k id e h
+
+-- where none was found nobody waits
+pub found_nobody : (s : QueueState) (id : ℕ) (o : Option ℕ) → IsSound s → is_some o ≡ exists s id → IfNone o (NobodyIn s id)
+found_nobody s id None sound found = nobody_elsewhere s id sound (sym found)
+found_nobody s id (Some k) sound found = tt
+
+-- a queue that stands somewhere is there
+pub is_there : (s : QueueState) (k id : ℕ) → IsQueueAt s k id → exists s id ≡ true
+is_there s k id at = list_any_at (λ other. other == id) s.ids k id at.0 (eq-eqb (get_or s.ids k id) id (at.1 id))
 
 -- what is known of the queue that was found and read
 pub front_at : (i : Inside) (live : List Queue) (k id : ℕ) (q : Queue) → IsKept i → live ≡ i.live.items → (k < length live) × ((d : Queue) → (get_or live k d).id ≡ id) → q ≡ get_or i.live.items k q

@@ -2,7 +2,7 @@
 use Rattle.std.proofs.Common.{◌≡◌, ◌≢◌, ℕ, true, ◌<◌, List, length, get_or, set, Option, Some, None, refl, sym, ap, ◌∙◌, subst, arith}
 use Rattle.std.specs.Vec.{with_item, with_items}
 use Rattle.std.proofs.lemmas.Bool.{ne_eqb}
-use Rattle.std.proofs.lemmas.List.{with_items_is, length-set, length-map}
+use Rattle.std.proofs.lemmas.List.{with_items_is, length-set, length-map, get_or_default}
 use Rattle.scx_dsq.specs.declared.entries.Rank.{Rank}
 use Rattle.scx_dsq.specs.declared.entries.Rank.TheVariants.{Fifo, Vtime}
 use Rattle.scx_dsq.specs.declared.entries.Entry.{Entry}
@@ -10,17 +10,19 @@ use Rattle.scx_dsq.specs.declared.links.Link.{Link}
 use Rattle.scx_dsq.specs.declared.queue.Queue.{Queue}
 use Rattle.scx_dsq.specs.declared.queues.Queues.TheInside.{Inside}
 use Rattle.scx_dsq.specs.Entries.{same_sort}
-use Rattle.scx_dsq.specs.Queues.{QueueState, Waits, entry_at, entry_of}
+use Rattle.scx_dsq.specs.Queues.{QueueState, IsQueueAt, Waits, IsFront, entry_at, entry_of}
 use Rattle.scx_dsq.specs.Calls.{without_task}
 use Rattle.scx_dsq.specs.Links.{link_at, with_ahead, links_unlinked}
 use Rattle.scx_dsq.specs.Heaps.{HasSpots, KeepsOthers, IsCheap}
 use Rattle.scx_dsq.specs.Arrays.{IsPaid}
 use Rattle.scx_dsq.specs.Holdings.{Holds}
-use Rattle.scx_dsq.specs.Kept.{IsQueueAt, IsOfOneSort, by_links, by_heap, Keeps, CanLeave, Left, state_of, value_of, IsKept}
+use Rattle.scx_dsq.specs.Kept.{IsOfOneSort, by_links, by_heap, Keeps, CanLeave, Left, front_in, sort_in, state_of, value_of, IsKept}
 use Rattle.scx_dsq.proofs.Standing.{waits_below}
 use Rattle.scx_dsq.proofs.LinkReads.{length-with_ahead, length-with_behind}
 use Rattle.scx_dsq.proofs.Holdings.{spots_elsewhere, holds_apart}
 use Rattle.scx_dsq.proofs.FormChanges.{can_leave, left_held, form_unlinked, unlinked_agree, form_taken_out}
+use Rattle.scx_dsq.proofs.Fronts.{front_is}
+use Rattle.scx_dsq.proofs.Forms.{form_front, front_answer, front_alike, front_ahead}
 use Rattle.scx_dsq.proofs.Sound.{sound_without_task}
 use Rattle.scx_dsq.proofs.QueueReads.{row_at}
 use Rattle.scx_dsq.proofs.Keeping.{id_at, IsChanged, changed_state, changed_arrays, changed_keeps}
@@ -150,3 +152,67 @@ module _ (i : Inside) (k t : ℕ) (p : Entry) (q : Queue) (h : IsKept i) (w : Is
           pushes = refl;
         },
       )
+
+-- ---- the front leaves
+
+like_leave : (r s : Rank) (links : List Link) (spots : List ℕ) (q : Queue) (t : ℕ) → same_sort r s ≡ true → CanLeave r links spots q t → CanLeave s links spots q t
+like_leave Fifo Fifo links spots q t alike can = can
+like_leave Fifo (Vtime k) links spots q t alike can = absurd (cc)
+like_leave (Vtime l) Fifo links spots q t alike can = absurd (cc)
+like_leave (Vtime l) (Vtime k) links spots q t alike can = can
+
+-- what has left by a rank has left by another one of its sort
+pub like_left : (r s : Rank) (links linked : List Link) (spots stood : List ℕ) (q new : Queue) (t : ℕ) → same_sort r s ≡ true → Left s links spots q t linked stood new → Left r links spots q t linked stood new
+like_left Fifo Fifo links linked spots stood q new t alike left = left
+like_left Fifo (Vtime k) links linked spots stood q new t alike left = absurd (cc)
+like_left (Vtime l) Fifo links linked spots stood q new t alike left = absurd (cc)
+like_left (Vtime l) (Vtime k) links linked spots stood q new t alike left = left
+
+like_fifo : (r s : Rank) → same_sort r s ≡ true → r ≡ Fifo → s ≡ Fifo
+like_fifo Fifo Fifo alike e = refl
+like_fifo Fifo (Vtime k) alike e = absurd (cc)
+like_fifo (Vtime l) s alike e = absurd (cc)
+
+-- the front of a queue, and a rank of its sort
+pub record IsLeaving (i : Inside) (k t : ℕ) (p : Entry) (q : Queue) (rank : Rank) : Type 0 where
+  pub waiting : IsWaiting i k t p q
+  pub alike : same_sort p.rank rank ≡ true
+  pub fifo : p.rank ≡ Fifo → rank ≡ Fifo
+  pub ahead : rank ≡ Fifo → (link_at i.links.items t).ahead ≡ None
+  pub can : CanLeave rank i.links.items i.spots.items q t
+
+-- the front of the queue that was read, by the rank that the queue tells
+pub leaving : (i : Inside) (k id t : ℕ) (q r : Queue) (rank : Rank) → IsKept i → IsQueueAt (state_of i) k id → (f : IsFront (state_of i) id t) → q ≡ get_or i.live.items k q → r ≡ get_or i.live.items k r → rank ≡ sort_in r → IsLeaving i k t f.entry q rank
+leaving i k id t q r rank h at f read again told = record {
+  waiting = w;
+  alike = alike;
+  fifo = like_fifo f.entry.rank rank alike;
+  ahead = λ e. front_ahead (state_of i) i.links.items q t f.entry here front (sym same ∙ e) row.tasks;
+  can = like_leave f.entry.rank rank i.links.items i.spots.items q t alike (can_remove i k t f.entry q h w);
+}
+  where
+    w : IsWaiting i k t f.entry q
+    w = waiting i k t f.entry q (subst (λ v. IsQueueAt (state_of i) k v) (sym f.waits.1) at) f.waits.0 read
+
+    row : Keeps i.entries.items i.links.items i.spots.items q
+    row = row_at i k q h w.inside read
+
+    one : r ≡ q
+    one = again ∙ get_or_default i.live.items k r q w.inside ∙ sym read
+
+    same : rank ≡ sort_in q
+    same = told ∙ ap (λ (x : Queue). sort_in x) one
+
+    is : q.id ≡ id
+    is = w.is ∙ f.waits.1
+
+    here : (entry_at i.entries.items t ≡ Some f.entry) × (f.entry.queue ≡ q.id)
+    here = (f.waits.0, sym w.is)
+
+    front : front_in q ≡ Some t
+    front =
+        front_answer (state_of i) q.id (front_in q) (form_front (state_of i) i.links.items q h.sound.stamps row.heap row.tasks)
+        ∙ front_is (state_of i) q.id t (subst (λ v. IsFront (state_of i) v t) (sym is) f)
+
+    alike : same_sort f.entry.rank rank ≡ true
+    alike = rw same (front_alike (state_of i) i.links.items q t f.entry here front row.tasks)

@@ -135,11 +135,6 @@ pub held_before : (items : List Item) (x f : Item) (at k : ℕ) (b : Bool) → k
     → (d e : Item) → comes_before (get_or (with_item items x at) at d).priority (get_or (with_item items x at) k e).priority ≡ b
 held_before items x f at k b n within lt h d e = rw (get_or-set_same items at x d within, get_or-set_other items at k x e n, get_or_default items k e f lt) h
 
--- and whether another one leaves before it
-pub before_held : (items : List Item) (x f : Item) (at k : ℕ) (b : Bool) → k ≢ at → at < length items → k < length items → comes_before (get_or items k f).priority x.priority ≡ b
-    → (d e : Item) → comes_before (get_or (with_item items x at) k d).priority (get_or (with_item items x at) at e).priority ≡ b
-before_held items x f at k b n within lt h d e = rw (get_or-set_same items at x e within, get_or-set_other items at k x d n, get_or_default items k d f lt) h
-
 -- the first child is the same one
 pub first_held : (items : List Item) (x : Item) (at c : ℕ) → IsFirstChild items at c → IsFirstChild (with_item items x at) at c
 first_held items x at c h = record {

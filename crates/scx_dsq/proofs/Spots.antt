@@ -102,3 +102,10 @@ keeps_more items now first second third moved h more = record {
   long = more.long ∙ h.long;
   same = λ t e out. more.same t e (sym (list_any-IsPermutation (λ (x : Item). x.task == t) items now moved) ∙ out) ∙ h.same t e out;
 }
+
+-- so do two changes while the items stay
+pub keeps_both : (items : List Item) (first second third : List ℕ) → KeepsOthers items first second → KeepsOthers items second third → KeepsOthers items first third
+keeps_both items first second third h more = record {
+  long = more.long ∙ h.long;
+  same = λ t e out. more.same t e out ∙ h.same t e out;
+}

@@ -29,12 +29,6 @@ IsBehind items k j =
     (d e : Item)
     → comes_before (slice_index_or items k d).priority (slice_index_or items j e).priority ≡ false
 
--- and here it does
-abbrev pub Leads : List Item → ℕ → ℕ → Type 0
-Leads items k j =
-    (d e : Item)
-    → comes_before (slice_index_or items k d).priority (slice_index_or items j e).priority ≡ true
-
 -- no item but the first leaves before the one at its parent's position
 abbrev pub IsHeap : List Item → Type 0
 IsHeap items = (k : ℕ) → 0 < k → k < length items → IsBehind items k (parent k)
@@ -43,13 +37,6 @@ IsHeap items = (k : ℕ) → 0 < k → k < length items → IsBehind items k (pa
 pub record IsHeapBut (items : List Item) (at : ℕ) : Type 0 where
   pub others : (k : ℕ) → 0 < k → k < length items → k ≢ at → IsBehind items k (parent k)
   pub behind : (k : ℕ)
-      → 0 < k → k < length items → parent k ≡ at → 0 < at → IsBehind items k (parent at)
-
--- a heap but for those right behind one position, which may leave before it, but not
--- before its parent
-pub record IsHeapAbove (items : List Item) (at : ℕ) : Type 0 where
-  pub others : (k : ℕ) → 0 < k → k < length items → parent k ≢ at → IsBehind items k (parent k)
-  pub above : (k : ℕ)
       → 0 < k → k < length items → parent k ≡ at → 0 < at → IsBehind items k (parent at)
 
 -- a heap but for one position, which may leave before its parent, or after those right behind it;
@@ -106,33 +93,40 @@ DiffersAt positions old new =
     (k : ℕ) (d : Item)
     → list_any (λ p. p == k) positions ≡ false → slice_index_or new k d ≡ slice_index_or old k d
 
--- down so many levels from a position to one within the array: two comparisons a level at most, and
--- one position more than levels has changed
-pub record Sank (old new : List Item) (start within steps : ℕ) : Type 0 where
+-- down so many levels from a position, one comparison a level at most, to a position without any
+-- behind it; the levels, and both of these, are among the positions that have changed
+pub record Fell (old new : List Item) (start at steps : ℕ) : Type 0 where
   pub levels : ℕ
-  pub depth : 2 ^ levels * (start + 1) ≤ within
-  pub cost : steps ≤ 2 * levels
+  pub depth : 2 ^ levels * (start + 1) ≤ at + 1
+  pub cost : steps ≤ levels
   pub positions : List ℕ
   pub few : length positions ≤ levels + 1
   pub differs : DiffersAt positions old new
+  pub top : list_any (λ p. p == start) positions ≡ true
+  pub here : list_any (λ p. p == at) positions ≡ true
 
--- up so many levels from a position: one comparison a level at most, and one position more
--- than levels has changed
+-- up so many levels from a position: one comparison a level at most, and beside that position one a
+-- level has changed
 pub record Rose (old new : List Item) (start steps : ℕ) : Type 0 where
   pub levels : ℕ
   pub depth : 2 ^ levels ≤ start + 1
   pub cost : steps ≤ levels
   pub positions : List ℕ
-  pub few : length positions ≤ levels + 1
-  pub differs : DiffersAt positions old new
+  pub few : length positions ≤ levels
+  pub differs : (k : ℕ) → k ≢ start → list_any (λ p. p == k) positions ≡ false
+      → (d : Item) → slice_index_or new k d ≡ slice_index_or old k d
 
--- up or down so many levels, after one comparison that tells which
-pub record Settled (old new : List Item) (steps : ℕ) : Type 0 where
-  pub levels : ℕ
-  pub depth : 2 ^ levels ≤ length old
-  pub cost : steps ≤ 2 * levels + 1
+-- down so many levels and then up so many: one comparison a level at most, and one position more
+-- than levels has changed, from where it began among them
+pub record Settled (old new : List Item) (start steps : ℕ) : Type 0 where
+  pub down : ℕ
+  pub up : ℕ
+  pub deep : 2 ^ down ≤ length old
+  pub high : 2 ^ up ≤ length old
+  pub cost : steps ≤ down + up
   pub positions : List ℕ
-  pub few : length positions ≤ levels + 1
+  pub few : length positions ≤ down + up + 1
+  pub top : list_any (λ p. p == start) positions ≡ true
   pub differs : DiffersAt positions old new
 
 -- all but so many positions hold the same; one that only one of the arrays has counts

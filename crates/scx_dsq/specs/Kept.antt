@@ -1,6 +1,6 @@
 -- How the queues are kept: a queue in FIFO order by links from task to task, one by virtual time as
 -- a heap; and empty heaps for queues to come. No public clause cites it.
-use Rattle.std.specs.Prelude.{◌≡◌, ℕ, ◌+◌, ◌<◌, ◌≤◌, List, [], ◌∷◌, ◌++◌, map, length, slice_index_or, Option, None, is_some, MatchOption, All, HoldsAt, vec_capacity, if◌then◌else◌, Bool, true, false, ◌==◌}
+use Rattle.std.specs.Prelude.{◌≡◌, ℕ, ◌+◌, ◌<◌, ◌≤◌, List, [], ◌∷◌, ◌++◌, map, length, slice_index_or, Option, Some, None, is_some, MatchOption, All, HoldsAt, vec_capacity, if◌then◌else◌, Bool, true, false, ◌==◌}
 use Rattle.std.specs.List.{list_any}
 use Rattle.std.specs.List.Sorted.{IsPermutation}
 use Rattle.scx_dsq.specs.declared.entries.Rank.{Rank}
@@ -27,10 +27,6 @@ ids_of live = map (λ q. q.id) live
 abbrev pub arrays_of : List Queue → List (List Item)
 arrays_of live = map (λ q. q.heap.items) live
 
--- a queue with that id stands at the position
-abbrev pub IsQueueAt : QueueState → ℕ → ℕ → Type 0
-IsQueueAt s k id = (k < length s.ids) × HoldsAt (λ other. other ≡ id) s.ids k
-
 -- a queue has its tasks between its ends, or in its heap; an empty one may be either
 pub data IsOfOneSort (entries : Entries) (links : List Link) (q : Queue) : Type 0 where
   by_links : IsThreaded entries links q.id q.ends → q.heap.items ≡ [] → IsOfOneSort entries links q
@@ -52,6 +48,15 @@ front_in q = or_else q.ends.first (first_item q.heap.items)
 -- how many tasks a kept queue has: those of its links, or else those of its heap
 abbrev pub len_in : Queue → ℕ
 len_in q = if is_some q.ends.first then q.ends.count else length q.heap.items
+
+-- a rank of the sort of those who wait, by who is first in order of arrival; the key says nothing
+abbrev pub sort_of : Option ℕ → Rank
+sort_of None = Vtime 0
+sort_of (Some t) = Fifo
+
+-- a rank of the sort of those who wait in a kept queue
+abbrev pub sort_in : Queue → Rank
+sort_in q = sort_of q.ends.first
 
 -- whether a kept queue has tasks of the other sort than this rank
 abbrev pub mixes : Rank → Queue → Bool

@@ -1,7 +1,7 @@
 -- Dispatch queues as sets (sched-ext.rst, "Dispatch Queues"). They are described by where each task
 -- waits: a task has one entry or none, so it is in at most one queue. A queue is the set of the
 -- tasks that wait in it, and its front is the one whose entry comes before every other there.
-use Rattle.std.specs.Prelude.{◌≡◌, ◌≢◌, ℕ, Bool, false, ◌==◌, ◌&&◌, not, List, length, slice_index_or, Option, Some, None, IsTrue, count_by, position, option_map}
+use Rattle.std.specs.Prelude.{◌≡◌, ◌≢◌, ℕ, ◌<◌, Bool, false, ◌==◌, ◌&&◌, not, List, length, slice_index_or, Option, Some, None, IsTrue, HoldsAt, count_by, position, option_map}
 use Rattle.std.specs.List.{list_any, list_all}
 use Rattle.scx_dsq.specs.declared.entries.Rank.{Rank}
 use Rattle.scx_dsq.specs.declared.entries.Rank.TheVariants.{Fifo, Vtime}
@@ -26,6 +26,10 @@ task_count s = length s.entries
 -- whether a queue of that id was created
 abbrev pub exists : QueueState → ℕ → Bool
 exists s id = list_any (λ other. other == id) s.ids
+
+-- the queue of that id stands at that place, in the order in which they were created
+abbrev pub IsQueueAt : QueueState → ℕ → ℕ → Type 0
+IsQueueAt s k id = (k < length s.ids) × HoldsAt (λ other. other ≡ id) s.ids k
 
 -- where a task waits
 abbrev pub entry_at : Entries → ℕ → Option Entry

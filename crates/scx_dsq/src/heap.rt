@@ -1,6 +1,6 @@
 ghost use Rattle.std.specs.Prelude.{◌≡◌, ◌+◌, ◌-◌, ◌*◌, ◌<◌, ◌≤◌, [], ◌∷◌, ◌++◌, length, true, false, IfSome, IfNone, IfOk};
 ghost use Rattle.std.specs.List.Sorted.{IsPermutation};
-ghost use Rattle.scx_dsq.specs.Heaps.{parent, IsBehind, Leads, IsHeap, IsHeapBut, IsHeapAbove, IsHeapAround, IsFirstChild, Rose, Sank, Settled, IsCheap, HasSpots, IsAbsent, IsIn, KeepsOthers, first_item, with_item, with_spot};
+ghost use Rattle.scx_dsq.specs.Heaps.{IsHeap, IsHeapBut, IsHeapAround, IsFirstChild, Fell, Rose, Settled, IsCheap, HasSpots, IsAbsent, IsIn, KeepsOthers, first_item, with_item, with_spot};
 
 use crate::priority::Priority;
 use crate::steps::Steps;
@@ -83,9 +83,8 @@ impl Heap {
         ensures more { steps.old ≤ steps.new }
     {
         let last = self.items.len();
-        spots[item.task as usize] = last;
         self.items.push_reserved(item);
-        rise(&mut self.items, spots, last, steps);
+        rise_with(&mut self.items, spots, item, last, steps);
     }
 
     /// Takes out a task that is there, and answers its item.
@@ -118,7 +117,7 @@ impl Heap {
     }
 }
 
-/// Lets the item at a position go where it belongs, up or down.
+/// Lets the item at a position go where it belongs: down to the end without being asked, and then up.
 fn settle<L: Ledger>(items: &mut [Item], spots: &mut [usize], at: usize, steps: &mut Steps<L>)
     requires within { at < length items.old }
     requires spots { HasSpots items.old spots.old }
@@ -127,46 +126,34 @@ fn settle<L: Ledger>(items: &mut [Item], spots: &mut [usize], at: usize, steps: 
     ensures spots { HasSpots items.new spots.new }
     ensures others { KeepsOthers items.old spots.old spots.new }
     ensures same { IsPermutation items.old items.new }
-    ensures cost { Settled items.old items.new (steps.new - steps.old) }
+    ensures cost { Settled items.old items.new at (steps.new - steps.old) }
     ensures more { steps.old ≤ steps.new }
 {
-    if leads(items, at, steps) {
-        rise(items, spots, at, steps);
-    } else {
-        sink(items, spots, at, steps);
-    }
+    let item = items[at];
+    let hole = make_way_to_end(items, spots, item, at, steps);
+    rise_with(items, spots, item, hole, steps);
 }
 
-/// Whether the item at a position leaves before its parent.
-fn leads<L: Ledger>(items: &[Item], at: usize, steps: &mut Steps<L>) -> bool
-    requires within { at < length items.now }
-    ensures parent { result ≡ true → 0 < at }
-    ensures leads { result ≡ true → Leads items.now at (parent at) }
-    ensures behind { result ≡ false → 0 < at → IsBehind items.now at (parent at) }
-    ensures cost { steps.new ≤ steps.old + 1 }
-    ensures more { steps.old ≤ steps.new }
-{
-    at > 0
-        && items[at]
-            .priority
-            .is_before(items[(at - 1) / 2].priority, steps)
-}
-
-/// Lets the item at a position rise until no item leaves before its parent.
-pub fn rise<L: Ledger>(items: &mut [Item], spots: &mut [usize], start: usize, steps: &mut Steps<L>)
+/// Lets an item that belongs at a position rise from there until none leaves before its parent.
+#[inline(always)]
+fn rise_with<L: Ledger>(
+    items: &mut [Item],
+    spots: &mut [usize],
+    item: Item,
+    start: usize,
+    steps: &mut Steps<L>,
+)
     requires within { start < length items.old }
-    requires spots { HasSpots items.old spots.old }
-    requires heap { IsHeapBut items.old start }
+    requires spots { HasSpots (with_item items.old item start) (with_spot spots.old item start) }
+    requires heap { IsHeapBut (with_item items.old item start) start }
     ensures heap { IsHeap items.new }
     ensures spots { HasSpots items.new spots.new }
-    ensures others { KeepsOthers items.old spots.old spots.new }
-    ensures same { IsPermutation items.old items.new }
-    ensures cost { Rose items.old items.new start (steps.new - steps.old) }
+    ensures others { KeepsOthers (with_item items.old item start) (with_spot spots.old item start)
+        spots.new }
+    ensures same { IsPermutation (with_item items.old item start) items.new }
+    ensures cost { Rose (with_item items.old item start) items.new start (steps.new - steps.old) }
     ensures more { steps.old ≤ steps.new }
 {
-    // Field by field, as it was just written: one wide load would wait for the writes.
-    let Item { task, priority } = items[start];
-    let item = Item { task, priority };
     let at = make_way_up(items, spots, item, start, steps);
     put(items, spots, item, at);
 }
@@ -206,25 +193,9 @@ fn make_way_up<L: Ledger>(
     at
 }
 
-/// Lets the item at a position sink until none behind it leaves before it.
-pub fn sink<L: Ledger>(items: &mut [Item], spots: &mut [usize], start: usize, steps: &mut Steps<L>)
-    requires within { start < length items.old }
-    requires spots { HasSpots items.old spots.old }
-    requires heap { IsHeapAbove items.old start }
-    ensures heap { IsHeap items.new }
-    ensures spots { HasSpots items.new spots.new }
-    ensures others { KeepsOthers items.old spots.old spots.new }
-    ensures same { IsPermutation items.old items.new }
-    ensures cost { Sank items.old items.new start (length items.old) (steps.new - steps.old) }
-    ensures more { steps.old ≤ steps.new }
-{
-    let item = items[start];
-    let at = make_way_down(items, spots, item, start, steps);
-    put(items, spots, item, at);
-}
-
-/// Moves those below a position up that leave before the item, and answers the position left for it.
-fn make_way_down<L: Ledger>(
+/// Moves the first of those behind a position up, as long as there are any, and answers the position
+/// left for the item.
+fn make_way_to_end<L: Ledger>(
     items: &mut [Item],
     spots: &mut [usize],
     item: Item,
@@ -233,24 +204,21 @@ fn make_way_down<L: Ledger>(
 ) -> usize
     requires within { start < length items.old }
     requires spots { HasSpots (with_item items.old item start) (with_spot spots.old item start) }
-    requires heap { IsHeapAbove (with_item items.old item start) start }
+    requires heap { IsHeapAround (with_item items.old item start) start }
     ensures within { result < length items.new }
-    ensures heap { IsHeap (with_item items.new item result) }
+    ensures heap { IsHeapBut (with_item items.new item result) result }
     ensures spots { HasSpots (with_item items.new item result) (with_spot spots.new item result) }
     ensures others { KeepsOthers (with_item items.old item start) (with_spot spots.old item start)
         (with_spot spots.new item result) }
     ensures same { IsPermutation (with_item items.old item start)
         (with_item items.new item result) }
-    ensures cost { Sank (with_item items.old item start) (with_item items.new item result) start
-        (length items.old) (steps.new - steps.old) }
+    ensures cost { Fell (with_item items.old item start) (with_item items.new item result) start
+        result (steps.new - steps.old) }
     ensures more { steps.old ≤ steps.new }
 {
     let mut at = start;
     while let Some(child) = first_child(items, at, steps) {
         let other = items[child];
-        if !other.priority.is_before(item.priority, steps) {
-            break;
-        }
         put(items, spots, other, at);
         at = child;
     }

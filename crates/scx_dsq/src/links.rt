@@ -76,6 +76,23 @@ pub fn unlink(links: &mut [Link], ends: &mut Ends, task: u32)
     ends.count -= 1;
 }
 
+/// Takes out the task that waits first in a queue.
+#[inline(always)]
+pub fn unlink_first(links: &mut [Link], ends: &mut Ends, task: u32)
+    requires task { task < length links.old }
+    requires ahead { (link_at links.old task).ahead ≡ None }
+    requires behind { MatchOption (link_at links.old task).behind (Unit {0})
+        (λ t. t < length links.old) }
+    requires count { 0 < ends.old.count }
+    ensures links { links.new ≡ links_unlinked links.old task }
+    ensures ends { ends.new ≡ ends_unlinked links.old ends.old task }
+{
+    let behind = links[task as usize].behind;
+    lead_back(links, behind, &mut ends.last, OptionalTask::none());
+    ends.first = behind;
+    ends.count -= 1;
+}
+
 /// Says whom a task waits right behind; if there is no such task, who waits last.
 fn lead_back(links: &mut [Link], task: OptionalTask, last: &mut OptionalTask, ahead: OptionalTask)
     requires { MatchOption task (Unit {0}) (λ t. t < length links.old) }

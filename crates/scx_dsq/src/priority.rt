@@ -1,8 +1,11 @@
-ghost use Rattle.std.specs.Prelude.{◌≡◌, ◌+◌};
+ghost use Rattle.std.specs.Prelude.{◌≡◌, ◌+◌, ◌*◌, ◌^◌};
 ghost use Rattle.scx_dsq.specs.Heaps.{comes_before};
 
 use crate::steps::Steps;
 use std::sync::ledger::Ledger;
+
+/// How many stamps there are.
+const STAMPS: u128 = 1 << 64;
 
 /// When a task leaves a queue by virtual time: by its key, and among equal keys by how many pushes were
 /// accepted before it. Two of them can only be compared, which is counted.
@@ -22,11 +25,20 @@ impl Priority {
     }
 
     /// Whether its task leaves before that of the other.
+    #[inline(always)]
     pub fn is_before<L: Ledger>(self, other: Priority, steps: &mut Steps<L>) -> bool
         ensures answer { result ≡ comes_before self other }
         ensures counted { steps.new ≡ steps.old + 1 }
     {
         steps.count();
-        (self.key, self.stamp) < (other.key, other.stamp)
+        self.whole() < other.whole()
+    }
+
+    /// The key with the stamp behind it, as one number.
+    #[inline(always)]
+    fn whole(self) -> u128
+        ensures { result ≡ self.key * 2 ^ 64 + self.stamp }
+    {
+        u128::from(self.key) * STAMPS + u128::from(self.stamp)
     }
 }

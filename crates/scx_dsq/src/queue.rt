@@ -1,12 +1,12 @@
-ghost use Rattle.std.specs.Prelude.{◌≡◌, ◌-◌, ◌≤◌, length};
+ghost use Rattle.std.specs.Prelude.{◌≡◌, ◌-◌, ◌≤◌, length, None};
 ghost use Rattle.scx_dsq.specs.declared.entries.Rank.TheVariants.{Fifo};
 ghost use Rattle.scx_dsq.specs.Heaps.{IsCheap};
-ghost use Rattle.scx_dsq.specs.Kept.{front_in, len_in, mixes, CanAppend, with_last, CanInsert, Inserted, CanTakeOut, TakenOut, CanLeave, Left, IsCopy};
-ghost use Rattle.scx_dsq.specs.Links.{links_appended};
+ghost use Rattle.scx_dsq.specs.Kept.{front_in, len_in, sort_in, mixes, CanAppend, with_last, CanInsert, Inserted, CanTakeOut, TakenOut, CanLeave, Left, IsCopy};
+ghost use Rattle.scx_dsq.specs.Links.{link_at, links_appended};
 
 use crate::entries::Rank;
 use crate::heap::{Heap, Item};
-use crate::links::{Ends, Link, append, unlink};
+use crate::links::{Ends, Link, append, unlink, unlink_first};
 use crate::steps::Steps;
 use std::sync::ledger::Ledger;
 
@@ -45,6 +45,17 @@ impl Queue {
         match self.ends.first.get() {
             Some(_) => self.ends.count,
             None => self.heap.len(),
+        }
+    }
+
+    /// How its front was put into it.
+    #[inline(always)]
+    pub fn sort(&self) -> Rank
+        ensures { result ≡ sort_in self.now }
+    {
+        match self.ends.first.get() {
+            Some(_) => Rank::Fifo,
+            None => Rank::Vtime(0),
         }
     }
 
@@ -100,6 +111,29 @@ pub fn leave<L: Ledger>(
 {
     match rank {
         Rank::Fifo => unlink(links, &mut queue.ends, task),
+        Rank::Vtime(_) => leave_heap(spots, queue, task, steps),
+    }
+}
+
+/// The same, where no task of the queue is ahead of it.
+#[inline(always)]
+pub fn leave_first<L: Ledger>(
+    links: &mut [Link],
+    spots: &mut [usize],
+    queue: &mut Queue,
+    task: u32,
+    rank: Rank,
+    steps: &mut Steps<L>,
+)
+    requires leave { CanLeave rank links.old spots.old queue.old task }
+    requires ahead { rank ≡ Fifo → (link_at links.old task).ahead ≡ None }
+    ensures left { Left rank links.old spots.old queue.old task links.new spots.new queue.new }
+    ensures cost { IsCheap queue.old.heap.items queue.new.heap.items (steps.new - steps.old) }
+    ensures fifo { rank ≡ Fifo → steps.new ≡ steps.old }
+    ensures more { steps.old ≤ steps.new }
+{
+    match rank {
+        Rank::Fifo => unlink_first(links, &mut queue.ends, task),
         Rank::Vtime(_) => leave_heap(spots, queue, task, steps),
     }
 }

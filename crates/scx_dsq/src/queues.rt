@@ -1,21 +1,21 @@
-ghost use Rattle.std.specs.Prelude.{◌≡◌, ◌≢◌, ℕ, ◌+◌, ◌-◌, ◌^◌, ◌<◌, ◌≤◌, ◌==◌, [], ◌∷◌, ◌++◌, map, length, true, false, is_some, is_ok, slice_index_or, All, HoldsAt, Some, option_map, IsSome, IfSome, IfNone, IfOk, IfErr, OnOk, OnErr};
+ghost use Rattle.std.specs.Prelude.{◌≡◌, ◌≢◌, ℕ, ◌+◌, ◌-◌, ◌^◌, ◌<◌, ◌≤◌, ◌==◌, [], ◌∷◌, ◌++◌, map, length, true, false, is_some, is_ok, slice_index_or, All, HoldsAt, Some, IsSome, IfSome, IfNone, IfOk, IfErr, OnOk, OnErr};
 ghost use Rattle.std.specs.List.{list_any};
 ghost use Rattle.scx_dsq.specs.declared.entries.Entry.{Entry};
 ghost use Rattle.scx_dsq.specs.declared.entries.Rank.TheVariants.{Fifo, Vtime};
-ghost use Rattle.scx_dsq.specs.Queues.{Waits, IsFront, exists, task_count, entry_of, queue_of, len_of, front_of, behind_of};
+ghost use Rattle.scx_dsq.specs.Queues.{IsQueueAt, Waits, IsFront, exists, task_count, entry_of, queue_of, len_of, front_of, behind_of};
 ghost use Rattle.scx_dsq.specs.Calls.{refused_or_done, create_refusal, after_create, clashes, push_refusal, after_push, without_task, after_remove, after_pop, empty};
 ghost use Rattle.scx_dsq.specs.Laws.{HasOneOfEach, WaitsInAQueue, HasOneSort, IsStamped, HasOwnStamps, StandsInSoMany};
 ghost use Rattle.scx_dsq.specs.Arrays.{IsPaid};
 ghost use Rattle.scx_dsq.specs.Holdings.{HasArrays};
 ghost use Rattle.scx_dsq.specs.Order.{IsOrder, IsGap};
-ghost use Rattle.scx_dsq.specs.Kept.{ids_of, IsQueueAt, IsAdmitted, IsRefused, AreCopies, HaveRoomFor};
+ghost use Rattle.scx_dsq.specs.Kept.{ids_of, IsAdmitted, IsRefused, AreCopies, HaveRoomFor};
 
 use crate::entries::{Entry, Rank};
 use crate::errors::QueueError;
 use crate::heap::{Heap, Item};
 use crate::links::{Ends, Link};
 use crate::priority::Priority;
-use crate::queue::{Queue, append_to, insert_into, leave};
+use crate::queue::{Queue, append_to, insert_into, leave, leave_first};
 use crate::steps::Steps;
 use std::alloc::{AllocError, Global};
 use std::marker::Model;
@@ -23,13 +23,6 @@ use std::sync::ledger::Ledger;
 
 /// How many hashes of ids there are.
 const HASHES: usize = 256;
-
-/// The task that leaves a queue next, and where the queue stands.
-#[derive(Clone, Copy)]
-struct Front {
-    index: usize,
-    task: u32,
-}
 
 /// Dispatch queues, and where each task waits.
 ///
@@ -125,16 +118,67 @@ impl Queues {
         ensures tasks { task_count self.new.state ≡ task_count self.old.state }
         ensures pushes { self.new.state.pushes ≤ self.old.state.pushes + 1 }
     {
-        let index = admit(
-            &self.live,
-            &self.order,
-            &self.guesses,
-            &self.entries,
-            id,
-            task,
-            Rank::Fifo,
-        )?;
-        append_to(&mut self.links, &mut self.live[index], task);
+        match self.place(id) {
+            Some(place) => self.push_fifo_at(place, id, task),
+            None => Err(QueueError::NoSuchQueue),
+        }
+    }
+
+    /// Where the queue of that id stands among all, in the order in which they were created. It stays there.
+    #[inline(always)]
+    pub fn place(&self, id: u64) -> Option<usize>
+        ensures found { is_some result ≡ exists self.now.state id }
+        ensures at { IfSome result (λ k. IsQueueAt self.now.state k id) }
+        ensures nobody { IfNone result ((t : ℕ) (p : Entry) → ¬ Waits self.now.state id t p) }
+    {
+        find(&self.live, &self.order, &self.guesses, id)
+    }
+
+    /// `front` of the queue of that id, which stands at that place.
+    #[inline(always)]
+    pub fn front_at(&self, place: usize, id: u64) -> Option<u32>
+        requires { IsQueueAt self.now.state place id }
+        ensures answer { result ≡ front_of self.now.state id }
+        ensures known { IfSome result (λ t. t < task_count self.now.state) }
+        ensures first { IfSome result (IsFront self.now.state id) }
+        ensures empty { IfNone result ((t : ℕ) (p : Entry) → ¬ Waits self.now.state id t p) }
+    {
+        self.live[place].front()
+    }
+
+    /// `len` of the queue of that id, which stands at that place.
+    #[inline(always)]
+    pub fn len_at(&self, place: usize, id: u64) -> usize
+        requires { IsQueueAt self.now.state place id }
+        ensures { result ≡ len_of self.now.state id }
+    {
+        self.live[place].len()
+    }
+
+    /// `would_mix` of the queue of that id, which stands at that place.
+    #[inline(always)]
+    pub fn clashes_at(&self, place: usize, id: u64, rank: Rank) -> bool
+        requires { IsQueueAt self.now.state place id }
+        ensures { result ≡ list_any (clashes id rank) self.now.state.entries }
+    {
+        self.live[place].clashes(rank)
+    }
+
+    /// `push_fifo` of the queue of that id, which stands at that place.
+    #[inline(always)]
+    pub fn push_fifo_at(&mut self, place: usize, id: u64, task: u32) -> Result<(), QueueError>
+        requires place { IsQueueAt self.old.state place id }
+        requires task { task < task_count self.old.state }
+        requires few { self.old.state.pushes < 2 ^ 63 }
+        ensures answer { result ≡ refused_or_done (push_refusal self.old.state id task Fifo) }
+        ensures state { self.new.state ≡ after_push self.old.state id task Fifo }
+        ensures arrays { self.new.arrays ≡ self.old.arrays }
+        ensures unchanged { OnErr result (self.new ≡ self.old) }
+        ensures tasks { task_count self.new.state ≡ task_count self.old.state }
+        ensures pushes { self.new.state.pushes ≤ self.old.state.pushes + 1 }
+    {
+        admit_at(&self.live, &self.entries, place, id, task, Rank::Fifo)?;
+        append_to(&mut self.links, &mut self.live[place], task);
         self.entries[task as usize] = Some(Entry {
             queue: id,
             rank: Rank::Fifo,
@@ -142,6 +186,26 @@ impl Queues {
         });
         self.pushes += 1;
         Ok(())
+    }
+
+    /// `pop` of the queue of that id, which stands at that place.
+    #[inline(always)]
+    pub fn pop_at<L: Ledger>(&mut self, place: usize, id: u64, steps: &mut Steps<L>) -> Option<u32>
+        requires { IsQueueAt self.old.state place id }
+        ensures answer { result ≡ front_of self.old.state id }
+        ensures known { IfSome result (λ t. t < task_count self.old.state) }
+        ensures first { IfSome result (IsFront self.old.state id) }
+        ensures state { self.new.state ≡ after_pop self.old.state id }
+        ensures cost { IsPaid self.old self.new id (steps.new - steps.old) }
+        ensures more { steps.old ≤ steps.new }
+        ensures tasks { task_count self.new.state ≡ task_count self.old.state }
+        ensures pushes { self.new.state.pushes ≡ self.old.state.pushes }
+    {
+        let Some(task) = self.front_at(place, id) else {
+            return None;
+        };
+        self.take_front(place, id, task, steps);
+        Some(task)
     }
 
     /// Puts a task into a queue by virtual time, behind those of the same key. Keys compare as unsigned
@@ -194,15 +258,15 @@ impl Queues {
     pub fn has(&self, id: u64) -> bool
         ensures { result ≡ exists self.now.state id }
     {
-        find(&self.live, &self.order, &self.guesses, id).is_some()
+        self.place(id).is_some()
     }
 
     /// Whether tasks wait in the queue that were put there in the other way.
     pub fn would_mix(&self, id: u64, rank: Rank) -> bool
         ensures { result ≡ list_any (clashes id rank) self.now.state.entries }
     {
-        match find(&self.live, &self.order, &self.guesses, id) {
-            Some(index) => self.live[index].clashes(rank),
+        match self.place(id) {
+            Some(place) => self.clashes_at(place, id, rank),
             None => false,
         }
     }
@@ -214,25 +278,8 @@ impl Queues {
         ensures first { IfSome result (IsFront self.now.state id) }
         ensures empty { IfNone result ((t : ℕ) (p : Entry) → ¬ Waits self.now.state id t p) }
     {
-        match self.first(id) {
-            Some(front) => Some(front.task),
-            None => None,
-        }
-    }
-
-    /// The same, and where the queue stands in `live`.
-    fn first(&self, id: u64) -> Option<Front>
-        ensures answer { option_map (λ f. f.task) result ≡ front_of self.now.state id }
-        ensures known { IfSome result (λ f. f.task < task_count self.now.state) }
-        ensures first { IfSome result (λ f. IsFront self.now.state id f.task) }
-        ensures stands { IfSome result (λ f. IsQueueAt self.now.state f.index id) }
-        ensures empty { IfNone result ((t : ℕ) (p : Entry) → ¬ Waits self.now.state id t p) }
-    {
-        let Some(index) = find(&self.live, &self.order, &self.guesses, id) else {
-            return None;
-        };
-        match self.live[index].front() {
-            Some(task) => Some(Front { index, task }),
+        match self.place(id) {
+            Some(place) => self.front_at(place, id),
             None => None,
         }
     }
@@ -249,14 +296,10 @@ impl Queues {
         ensures tasks { task_count self.new.state ≡ task_count self.old.state }
         ensures pushes { self.new.state.pushes ≡ self.old.state.pushes }
     {
-        let Some(Front { index, task }) = self.first(id) else {
-            return None;
-        };
-        let Some(entry) = self.entries[task as usize] else {
-            unreachable!()
-        };
-        self.take_out(index, task, entry, steps);
-        Some(task)
+        match self.place(id) {
+            Some(place) => self.pop_at(place, id, steps),
+            None => None,
+        }
     }
 
     /// Takes the task out of the queue in which it waits, and tells whether it waited in any.
@@ -303,12 +346,33 @@ impl Queues {
         self.entries[task as usize] = None;
     }
 
+    /// Takes out the front of the queue of that id, which stands at that place.
+    #[inline(always)]
+    fn take_front<L: Ledger>(&mut self, place: usize, id: u64, task: u32, steps: &mut Steps<L>)
+        requires place { IsQueueAt self.old.state place id }
+        requires front { IsFront self.old.state id task }
+        ensures state { self.new.state ≡ without_task self.old.state task }
+        ensures cost { IsPaid self.old self.new id (steps.new - steps.old) }
+        ensures more { steps.old ≤ steps.new }
+    {
+        let rank = self.live[place].sort();
+        leave_first(
+            &mut self.links,
+            &mut self.spots,
+            &mut self.live[place],
+            task,
+            rank,
+            steps,
+        );
+        self.entries[task as usize] = None;
+    }
+
     /// How many tasks wait in the queue; 0 if it isn't there.
     pub fn len(&self, id: u64) -> usize
         ensures { result ≡ len_of self.now.state id }
     {
-        match find(&self.live, &self.order, &self.guesses, id) {
-            Some(index) => self.live[index].len(),
+        match self.place(id) {
+            Some(place) => self.len_at(place, id),
             None => 0,
         }
     }
@@ -445,16 +509,38 @@ fn admit(
     let Some(index) = find(live, order, guesses, id) else {
         return Err(QueueError::NoSuchQueue);
     };
-    if entries[task as usize].is_some() {
-        return Err(QueueError::AlreadyThere);
-    }
-    if live[index].clashes(rank) {
-        return Err(QueueError::Mixed);
-    }
+    admit_at(live, entries, index, id, task, rank)?;
     Ok(index)
 }
 
+/// Whether the task may go by that rank into the queue of that id that stands there, or the first refusal.
+#[inline(always)]
+fn admit_at(
+    live: &[Queue],
+    entries: &[Option<Entry>],
+    place: usize,
+    id: u64,
+    task: u32,
+    rank: Rank,
+) -> Result<(), QueueError>
+    requires task { task < length entries.now }
+    requires place { place < length live.now }
+    requires is { HoldsAt (λ q. q.id ≡ id) live.now place }
+    requires there { list_any (λ other. other == id) (ids_of live.now) ≡ true }
+    ensures admitted { IfOk result (λ _. IsAdmitted live.now entries.now place id task rank) }
+    ensures refused { IfErr result (IsRefused live.now entries.now id task rank) }
+{
+    if entries[task as usize].is_some() {
+        return Err(QueueError::AlreadyThere);
+    }
+    if live[place].clashes(rank) {
+        return Err(QueueError::Mixed);
+    }
+    Ok(())
+}
+
 /// Where the queue of that id stands.
+#[inline(always)]
 fn find(live: &[Queue], order: &[usize], guesses: &[usize; HASHES], id: u64) -> Option<usize>
     requires { IsOrder (ids_of live.now) order.now }
     ensures found { is_some result ≡ list_any (λ other. other == id) (ids_of live.now) }
@@ -463,6 +549,16 @@ fn find(live: &[Queue], order: &[usize], guesses: &[usize; HASHES], id: u64) -> 
     if let Some(index) = guess(live, guesses, id) {
         return Some(index);
     }
+    find_slowly(live, order, id)
+}
+
+/// The same, without a guess.
+#[inline(never)]
+fn find_slowly(live: &[Queue], order: &[usize], id: u64) -> Option<usize>
+    requires { IsOrder (ids_of live.now) order.now }
+    ensures found { is_some result ≡ list_any (λ other. other == id) (ids_of live.now) }
+    ensures at { IfSome result (λ i. (i < length live.now) × HoldsAt (λ q. q.id ≡ id) live.now i) }
+{
     match search(live, order, id) {
         Ok(at) => Some(order[at]),
         Err(_) => None,
@@ -470,6 +566,7 @@ fn find(live: &[Queue], order: &[usize], guesses: &[usize; HASHES], id: u64) -> 
 }
 
 /// Where the queue of that id stands, if it is the last one of its hash that was created.
+#[inline(always)]
 fn guess(live: &[Queue], guesses: &[usize; HASHES], id: u64) -> Option<usize>
     ensures { IfSome result (λ i. (i < length live.now) × HoldsAt (λ q. q.id ≡ id) live.now i) }
 {

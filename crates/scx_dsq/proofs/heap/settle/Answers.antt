@@ -1,36 +1,31 @@
-use Rattle.std.proofs.Common.{arith}
-use Rattle.scx_dsq.proofs.HeapEdits.{heap_to_rise, settled_up, settled_down}
+use Rattle.std.proofs.Common.{◌-◌, ◌<◌, length, slice_index_or, arith}
+use Rattle.std.proofs.lemmas.List.{length-set}
+use Rattle.std.specs.List.Sorted.{IsPermutation}
+use Rattle.std.proofs.lemmas.List.Sorted.{IsPermutation-trans}
+use Rattle.scx_dsq.specs.Heaps.{IsHeapAround, Settled, HasSpots, KeepsOthers, with_item}
+use Rattle.scx_dsq.proofs.Heaps.{settled}
+use Rattle.scx_dsq.proofs.Spots.{keeps_more}
+use Rattle.scx_dsq.proofs.Shifts.{holds_here, held_here, no_item}
 use Rattle.scx_dsq.proofs.heap.settle.Goals as goal
 
-pub rise-requires-clause-heap : goal.rise-requires-clause-heap
-rise-requires-clause-heap g c = heap_to_rise c.args.items.now c.args.at c.requires.heap (c.leads.ensures.leads c.if-leads.true) (c.leads.ensures.parent c.if-leads.true)
+pub make_way_to_end-hole-requires-clause-spots : goal.make_way_to_end-hole-requires-clause-spots
+make_way_to_end-hole-requires-clause-spots g c = holds_here c.args.items.now c.args.spots.now c.args.at no_item HasSpots c.requires.within c.requires.spots c.requires.spots
 
-pub returns-then-leads-clause-heap : goal.returns-then-leads-clause-heap
-returns-then-leads-clause-heap g c = c.rise.ensures.heap
+pub make_way_to_end-hole-requires-clause-heap : goal.make_way_to_end-hole-requires-clause-heap
+make_way_to_end-hole-requires-clause-heap g c = holds_here c.args.items.now c.args.spots.now c.args.at no_item (λ items spots. IsHeapAround items c.args.at) c.requires.within c.requires.spots c.requires.heap
 
-pub returns-then-leads-clause-spots : goal.returns-then-leads-clause-spots
-returns-then-leads-clause-spots g c = c.rise.ensures.spots
+pub returns-clause-others : goal.returns-clause-others
+returns-clause-others g c =
+    held_here c.args.items.now c.args.spots.now c.args.at no_item (λ items spots. KeepsOthers items spots c.rise_with.new.spots) c.requires.within c.requires.spots
+    (keeps_more _ (with_item c.make_way_to_end-hole.new.items (slice_index_or c.args.items.now c.args.at no_item) c.make_way_to_end-hole.result) _ _ c.rise_with.new.spots c.make_way_to_end-hole.ensures.same c.make_way_to_end-hole.ensures.others c.rise_with.ensures.others)
 
-pub returns-then-leads-clause-others : goal.returns-then-leads-clause-others
-returns-then-leads-clause-others g c = c.rise.ensures.others
+pub returns-clause-same : goal.returns-clause-same
+returns-clause-same g c =
+    held_here c.args.items.now c.args.spots.now c.args.at no_item (λ items spots. IsPermutation items c.rise_with.new.items) c.requires.within c.requires.spots
+    (IsPermutation-trans _ _ _ c.make_way_to_end-hole.ensures.same c.rise_with.ensures.same)
 
-pub returns-then-leads-clause-same : goal.returns-then-leads-clause-same
-returns-then-leads-clause-same g c = c.rise.ensures.same
-
-pub returns-then-leads-clause-cost : goal.returns-then-leads-clause-cost
-returns-then-leads-clause-cost g c = settled_up c.args.items.now c.rise.new.items c.args.at _ _ c.requires.within c.rise.ensures.cost (omega (arith, c.leads.ensures.cost, c.leads.ensures.more, c.rise.ensures.more))
-
-pub returns-else-leads-clause-heap : goal.returns-else-leads-clause-heap
-returns-else-leads-clause-heap g c = c.sink.ensures.heap
-
-pub returns-else-leads-clause-spots : goal.returns-else-leads-clause-spots
-returns-else-leads-clause-spots g c = c.sink.ensures.spots
-
-pub returns-else-leads-clause-others : goal.returns-else-leads-clause-others
-returns-else-leads-clause-others g c = c.sink.ensures.others
-
-pub returns-else-leads-clause-same : goal.returns-else-leads-clause-same
-returns-else-leads-clause-same g c = c.sink.ensures.same
-
-pub returns-else-leads-clause-cost : goal.returns-else-leads-clause-cost
-returns-else-leads-clause-cost g c = settled_down c.args.items.now c.sink.new.items c.args.at _ _ c.sink.ensures.cost (omega (arith, c.leads.ensures.cost, c.leads.ensures.more, c.sink.ensures.more))
+pub returns-clause-cost : goal.returns-clause-cost
+returns-clause-cost g c =
+    let within : c.make_way_to_end-hole.result < length (with_item c.args.items.now (slice_index_or c.args.items.now c.args.at no_item) c.args.at) = let inside = c.make_way_to_end-hole.ensures.within in omega (arith, inside, c.make_way_to_end-hole.auto.items, length-set c.args.items.now c.args.at (slice_index_or c.args.items.now c.args.at no_item)) in
+    held_here c.args.items.now c.args.spots.now c.args.at no_item (λ items spots. Settled items c.rise_with.new.items c.args.at (c.rise_with.new.steps - c.args.steps.now)) c.requires.within c.requires.spots
+    (settled _ _ c.rise_with.new.items c.args.at c.make_way_to_end-hole.result _ _ _ within c.make_way_to_end-hole.ensures.cost c.rise_with.ensures.cost (omega (arith, c.make_way_to_end-hole.ensures.more, c.rise_with.ensures.more)))

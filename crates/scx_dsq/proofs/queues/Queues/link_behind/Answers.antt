@@ -2,9 +2,9 @@ use Rattle.std.proofs.Common.{◌≡◌, ◌<◌, Some, false, sym, ap, ◌∙�
 use Rattle.std.proofs.lemmas.Bool.{both_ways}
 use Rattle.std.proofs.lemmas.List.{get_or_read}
 use Rattle.scx_dsq.specs.declared.links.Link.{Link}
-use Rattle.scx_dsq.specs.Queues.{exists, task_count, entry_of}
+use Rattle.scx_dsq.specs.Queues.{IsQueueAt, exists, task_count, entry_of}
 use Rattle.scx_dsq.specs.Links.{no_link, link_at}
-use Rattle.scx_dsq.specs.Kept.{IsQueueAt, state_of}
+use Rattle.scx_dsq.specs.Kept.{state_of}
 use Rattle.scx_dsq.proofs.QueueReads.{stands_at}
 use Rattle.scx_dsq.proofs.Removals.{waiting}
 use Rattle.scx_dsq.proofs.Behind.{behind_at}

@@ -1,6 +1,6 @@
 use Rattle.std.proofs.Common.{◌≡◌, ◌-◌, Some, arith}
-use Rattle.scx_dsq.specs.Queues.{entry_of}
-use Rattle.scx_dsq.specs.Kept.{IsQueueAt, state_of}
+use Rattle.scx_dsq.specs.Queues.{IsQueueAt, entry_of}
+use Rattle.scx_dsq.specs.Kept.{state_of}
 use Rattle.scx_dsq.proofs.Removals.{waiting, can_remove, left, removed_keeps, removed_state, removed_paid}
 use Rattle.scx_dsq.proofs.queues.Queues.take_out.Goals as goal
 
