@@ -3,13 +3,13 @@ use Rattle.std.proofs.Common.{◌≡◌, ℕ, ◌+◌, ◌-◌, ◌*◌, ◌/◌
 use Rattle.std.specs.List.{position}
 use Rattle.std.proofs.lemmas.Bool.{cases_eq, cases_lt}
 use Rattle.std.proofs.lemmas.Bool.Decides.{nat_tests}
-use Rattle.std.proofs.lemmas.List.{get_or-set_same, get_or-set_other, set_past, get_or-replicate, get_or-take, get_or-drop, get_or_past, length-set, length-replicate}
+use Rattle.std.proofs.lemmas.List.{get_or-set_same, get_or-set_other, set-get_or, set_past, get_or-replicate, get_or-take, get_or-drop, get_or_past, length-set, length-replicate}
 use Rattle.std.proofs.lemmas.List.Quantifiers.{position-Some}
 use Rattle.scx_sched_tasks.specs.declared.task.Task.{Task}
 use Rattle.scx_sched_tasks.specs.declared.watch.Watch.{Watch}
 use Rattle.scx_sched_tasks.specs.Tasks.{no_task, new_task}
 use Rattle.scx_sched_tasks.specs.Waits.{is_late, is_overdue}
-use Rattle.scx_sched_tasks.specs.Kept.{WaitNoLonger, AreWatched, with_earlier}
+use Rattle.scx_sched_tasks.specs.Kept.{AreWatched, with_earlier}
 
 -- ---- the first watch
 
@@ -96,6 +96,21 @@ watched_same w tasks t x same h = record {
   least = h.least;
   each = λ b u n of is. in_set (λ y. y.since ≡ Some n → get_or w.blocks b 0 ≤ n) tasks t u x (λ here e. h.each b t n (subst (λ k. k / 32 ≡ b) here of) (sym same ∙ e)) (λ e. h.each b u n of e) is;
 }
+
+-- a task waits from a clock on
+pub watched_begun : (w : Watch) (tasks : List Task) (t n : ℕ) (x : Task) → x.since ≡ Some n → AreWatched w tasks → AreWatched (with_earlier w t (Some n)) (set tasks t x)
+watched_begun w tasks t n x e h = watched_since w tasks t x (Some n) e h
+
+-- a task waits no more
+pub watched_ended : (w : Watch) (tasks : List Task) (t : ℕ) (x : Task) → x.since ≡ None → AreWatched w tasks → AreWatched w (set tasks t x)
+watched_ended w tasks t x e h = watched_since w tasks t x None e h
+
+-- who begins to wait no earlier than the clock of the block changes no clock
+pub as_before : (w : Watch) (t n : ℕ) → w.oldest ≤ get_or w.blocks (t / 32) 0 → get_or w.blocks (t / 32) 0 ≤ n → with_earlier w t (Some n) ≡ w
+as_before w t n least late =
+    let oldest : min w.oldest n ≡ w.oldest = omega (arith, least, late) in
+    let here : min (get_or w.blocks (t / 32) 0) n ≡ get_or w.blocks (t / 32) 0 = omega (arith, late) in
+    rw (oldest, here, set-get_or w.blocks (t / 32) 0) refl
 
 -- ---- nobody
 

@@ -1,11 +1,14 @@
-ghost use Rattle.std.specs.Prelude.{◌≡◌, ◌<◌, ◌≤◌, length, replicate, slice_index_or, slice_set, position, IfSome, IfOk};
-ghost use Rattle.scx_sched_tasks.specs.Tasks.{no_task, new_task};
+ghost use Rattle.std.specs.Prelude.{◌≡◌, ◌<◌, ◌≤◌, ◌^◌, Some, None, length, replicate, slice_index_or, slice_set, position, IfSome, IfOk};
+ghost use Rattle.scx_sched_tasks.specs.Tasks.{no_task, new_task, after_ms};
 ghost use Rattle.scx_sched_tasks.specs.Waits.{is_overdue};
 
 use crate::task::Task;
 use crate::watch::{Watch, is_over};
 use std::alloc::{AllocError, Global};
 use std::marker::Model;
+
+/// A millisecond, in nanoseconds.
+const MS_NS: u64 = 1_000_000;
 
 /// The records of tasks, by number.
 #[derive(Drop)]
@@ -93,6 +96,67 @@ impl Tasks {
             facts.slice = slice;
             facts.run_ns = run_ns;
         }
+    }
+
+    /// The task waits from that clock on. Where there is no such task nothing is changed.
+    #[inline(always)]
+    #[tactic(auto, using(crate::proofs::Watching::watched_begun))]
+    pub fn begin_wait(&mut self, task: u16, clock: u64)
+        ensures { self.new
+            ≡ slice_set self.old task
+            (record (slice_index_or self.old task no_task) { since = Some clock }) }
+    {
+        if (task as usize) < self.records.len() {
+            self.watch.begin_wait(task, clock);
+            self.records[task as usize].since = Some(clock);
+        }
+    }
+
+    /// The task waits no more, and has come to that processor. Where there is no such task nothing is
+    /// changed.
+    #[inline(always)]
+    #[tactic(auto, using(crate::proofs::Watching::watched_ended))]
+    pub fn end_wait(&mut self, task: u16, cpu: u32)
+        ensures { self.new
+            ≡ slice_set self.old task
+            (record (slice_index_or self.old task no_task) { since = None; prev_cpu = cpu }) }
+    {
+        if (task as usize) < self.records.len() {
+            let facts = &mut self.records[task as usize];
+            facts.since = None;
+            facts.prev_cpu = cpu;
+        }
+    }
+
+    /// Sets what is left of the task's slice. Where there is no such task nothing is changed.
+    #[inline(always)]
+    #[tactic(auto, using(crate::proofs::Watching::watched_same))]
+    pub fn set_slice(&mut self, task: u16, slice: u64)
+        ensures { self.new
+            ≡ slice_set self.old task
+            (record (slice_index_or self.old task no_task) { slice = slice }) }
+    {
+        if (task as usize) < self.records.len() {
+            self.records[task as usize].slice = slice;
+        }
+    }
+
+    /// The task has run for a millisecond. Answers what is left of its slice; one of 2^64 - 1 never ends.
+    #[inline(always)]
+    #[tactic(auto, using(crate::proofs::Watching::watched_same))]
+    pub fn run_ms(&mut self, task: u16) -> u64
+        requires known { task < length self.old }
+        requires early { (slice_index_or self.old task no_task).run_ns < 2 ^ 63 }
+        ensures answer { result ≡ (after_ms (slice_index_or self.old task no_task)).slice }
+        ensures tasks { self.new
+            ≡ slice_set self.old task (after_ms (slice_index_or self.old task no_task)) }
+    {
+        let facts = &mut self.records[task as usize];
+        if facts.slice != u64::MAX {
+            facts.slice = facts.slice.saturating_sub(MS_NS);
+        }
+        facts.run_ns += MS_NS;
+        facts.slice
     }
 
     /// Sets the task's virtual time. Where there is no such task nothing is changed.

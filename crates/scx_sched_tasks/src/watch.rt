@@ -1,4 +1,4 @@
-ghost use Rattle.std.specs.Prelude.{◌≡◌, ℕ, ◌-◌, ◌≤◌, ◌<◌, nat_lt, length, slice_index_or, replicate, Some};
+ghost use Rattle.std.specs.Prelude.{◌≡◌, ℕ, ◌-◌, ◌/◌, ◌≤◌, ◌<◌, nat_lt, length, slice_index_or, replicate, Some};
 ghost use Rattle.scx_sched_tasks.specs.Tasks.{no_task, new_task};
 ghost use Rattle.scx_sched_tasks.specs.Kept.{AreWatched, WaitNoLonger, with_earlier};
 
@@ -45,6 +45,22 @@ impl Watch {
             let block = task as usize / BLOCK;
             self.blocks[block] = cmp::min(self.blocks[block], since);
             self.oldest = cmp::min(self.oldest, since);
+        }
+    }
+
+    /// The task waits from that clock on.
+    #[inline(always)]
+    #[tactic(auto, using(crate::proofs::Watching::as_before))]
+    pub(crate) fn begin_wait(&mut self, task: u16, clock: u64)
+        requires count { length self.old.blocks ≡ 32 }
+        requires few { task < 1024 }
+        requires least { self.old.oldest ≤ slice_index_or self.old.blocks (task / 32) 0 }
+        ensures { self.new ≡ with_earlier self.old task (Some clock) }
+    {
+        let block = task as usize / BLOCK;
+        if clock < self.blocks[block] {
+            self.blocks[block] = clock;
+            self.oldest = cmp::min(self.oldest, clock);
         }
     }
 

@@ -1,13 +1,13 @@
 -- What the fields of a world mean, and what always holds of them.
-use Rattle.std.specs.Prelude.{◌≡◌, ℕ, true, ◌^◌, ◌<◌, ◌≤◌, not, List, length, Option, Some, None, is_some, slice_index_or, vec_capacity}
-use Rattle.std.specs.Int.{bit_at}
+use Rattle.std.specs.Prelude.{◌≡◌, ℕ, zero, suc, true, ◌+◌, ◌^◌, ◌<◌, ◌≤◌, not, ◌==◌, if◌then◌else◌, List, [], ◌∷◌, ◌++◌, take, length, Option, Some, None, is_some, slice_index_or, vec_capacity}
+use Rattle.std.specs.Int.{w64, bit_at, trailing_zeros}
 use Rattle.scx_dsq.specs.Laws.{one_if}
 use Rattle.scx_dsq.specs.Queues.{QueueState, task_count, queue_of}
 use Rattle.scx_weights.specs.Hierarchy.{Hierarchy}
 use Rattle.scx_weights.specs.Limits as limits
-use Rattle.scx_sched_world.specs.Ids.{parked_queue}
+use Rattle.scx_sched_world.specs.Ids.{global, held_queue, builtin_queue, parked_queue, local_on}
 use Rattle.scx_sched_world.specs.declared.world.World.TheInside.{Inside}
-use Rattle.scx_sched_world.specs.World.{WorldState, is_idle, is_throttled}
+use Rattle.scx_sched_world.specs.World.{WorldState, is_this, is_idle, is_throttled}
 
 -- the state for which a world's fields stand, without what is kept beside to find answers sooner
 abbrev pub state_of : Inside → WorldState
@@ -29,6 +29,16 @@ abbrev pub AreBusy : ℕ → List (Option ℕ) → Type 0
 AreBusy bits cpus =
     (c : ℕ) → c < length cpus → bit_at bits c ≡ one_if (is_some (slice_index_or cpus c None))
 
+-- at the number of each task these bits are set where it runs, one bit a processor
+abbrev pub AreOn : List ℕ → List (Option ℕ) → Type 0
+AreOn bits cpus =
+    (t c : ℕ) → t < length bits → c < 64
+    → bit_at (slice_index_or bits t 0) c ≡ one_if (is_this t (slice_index_or cpus c None))
+
+-- the position of the lowest bit that is set, from 0; none where none is
+abbrev pub lowest_bit : ℕ → Option ℕ
+lowest_bit bits = if bits == 0 then None else Some (trailing_zeros w64 bits)
+
 -- these bits are set where a processor isn't idle
 abbrev pub AreTaken : ℕ → WorldState → Type 0
 AreTaken bits w = (c : ℕ) → c < length w.cpus → bit_at bits c ≡ one_if (not (is_idle w c))
@@ -46,8 +56,18 @@ StaysParked w t = queue_of w.queues t ≡ Some parked_queue → is_throttled w t
 abbrev pub NobodyIsFree : WorldState → Type 0
 NobodyIsFree w = (t : ℕ) → StaysParked w t
 
+-- the ids of the machine's own queues with so many local ones, as they are created
+abbrev pub own_ids : ℕ → List ℕ
+own_ids zero = global ∷ held_queue ∷ builtin_queue ∷ parked_queue ∷ []
+own_ids (suc n) = own_ids n ++ local_on n ∷ []
+
+-- the machine's own queues stand first, in that order
+abbrev pub StandFirst : QueueState → ℕ → Type 0
+StandFirst s cpus = take (4 + cpus) s.ids ≡ own_ids cpus
+
 -- there is room for the notes of a callback, each part knows of as many tasks, the clock in
--- nanoseconds is a number of 64 bits, and who is parked is throttled where that is known
+-- nanoseconds is a number of 64 bits, own queues are found by their places, and who is parked is
+-- throttled where that is known
 pub record IsKept (w : Inside) : Type 0 where
   pub notes : 4096 ≤ vec_capacity w.notes
   pub few_notes : length w.notes.items ≤ 4096
@@ -56,5 +76,8 @@ pub record IsKept (w : Inside) : Type 0 where
   pub few_tasks : length w.tasks ≤ 1024
   pub few_cpus : length w.cpus.items ≤ 64
   pub busy : AreBusy w.busy w.cpus.items
+  pub running : AreOn w.running_on.items w.cpus.items
+  pub known_running : length w.running_on.items ≡ length w.tasks
+  pub places : StandFirst w.queues.state (length w.cpus.items)
   pub early : w.clock ≤ 2 ^ 32
   pub parked : w.parked_throttled ≡ true → AreThrottled w.queues.state w.tree

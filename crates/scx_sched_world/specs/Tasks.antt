@@ -11,7 +11,7 @@ use Rattle.scx_sched_world.specs.declared.call.Insert.{Insert}
 use Rattle.scx_sched_tasks.specs.declared.task.Task.{Task}
 use Rattle.scx_sched_tasks.specs.Tasks.{default_slice}
 use Rattle.scx_sched_world.specs.Ids.{global, local, held_queue, parked_queue, local_on}
-use Rattle.scx_sched_world.specs.World.{WorldState, with_queues, with_tree, task_at, with_task, with_cpu}
+use Rattle.scx_sched_world.specs.World.{WorldState, with_queues, with_tree, task_at, with_task, is_throttled, with_cpu}
 
 -- ---- one field of a task changed
 
@@ -182,6 +182,10 @@ later w = record w { clock = w.clock + 1 }
 -- the task's groups have used a millisecond more
 abbrev pub used_ms : WorldState → ℕ → WorldState
 used_ms w t = if nat_lt t (length w.tasks) then with_tree w (limits.with_use w.tree t) else w
+
+-- what is left of the slice of a task; none where it may not run
+abbrev pub slice_left : WorldState → ℕ → Option ℕ
+slice_left w t = if is_throttled w t then None else Some (task_at w t).slice
 
 -- periods of groups begin at this clock
 abbrev pub begun_periods : WorldState → WorldState

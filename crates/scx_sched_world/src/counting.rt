@@ -1,5 +1,5 @@
 ghost use Rattle.std.specs.Prelude.{◌≡◌, ◌+◌, ◌^◌, ◌<◌, ◌≤◌, is_some, IfSome};
-ghost use Rattle.scx_dsq.specs.Queues.{task_count, entry_of, front_of};
+ghost use Rattle.scx_dsq.specs.Queues.{IsQueueAt, task_count, entry_of, front_of};
 ghost use Rattle.scx_dsq.specs.declared.entries.Rank.TheVariants.{Vtime};
 ghost use Rattle.scx_dsq.specs.Calls.{after_push, after_pop, after_remove};
 
@@ -8,6 +8,7 @@ use std::marker::Brand;
 use std::sync::ledger::{Blank, Ledger};
 
 /// Puts a task into a queue, if it takes the task so. Nobody asks for the comparisons.
+#[inline(always)]
 pub fn push(queues: &mut Queues, id: u64, task: u32, rank: Rank)
     requires task { task < task_count queues.old.state }
     requires few { queues.old.state.pushes < 2 ^ 63 }
@@ -61,6 +62,43 @@ fn pop_counted<L: Ledger>(queues: &mut Queues, id: u64, blank: Blank) -> Option<
 {
     let mut steps = Steps::<L>::new(blank);
     let front = queues.pop(id, &mut steps);
+    drop(steps);
+    front
+}
+
+/// Takes the front out of the queue of that id, which stands at that place, and answers it. Nobody asks for the
+/// comparisons.
+#[inline(always)]
+pub fn pop_at(queues: &mut Queues, place: usize, id: u64) -> Option<u32>
+    requires { IsQueueAt queues.old.state place id }
+    ensures answer { result ≡ front_of queues.old.state id }
+    ensures known { IfSome result (λ t. t < task_count queues.old.state) }
+    ensures state { queues.new.state ≡ after_pop queues.old.state id }
+    ensures tasks { task_count queues.new.state ≡ task_count queues.old.state }
+    ensures pushes { queues.new.state.pushes ≡ queues.old.state.pushes }
+{
+    pop_at_counted::<Brand>(queues, place, id, Blank::new(1))
+}
+
+#[inline(always)]
+fn pop_at_counted<L: Ledger>(
+    queues: &mut Queues,
+    place: usize,
+    id: u64,
+    blank: Blank,
+) -> Option<u32>
+    requires place { IsQueueAt queues.old.state place id }
+    requires name { blank.name ≡ L.name }
+    requires parts { blank.parts ≡ L.parts }
+    requires some { 0 < blank.parts }
+    ensures answer { result ≡ front_of queues.old.state id }
+    ensures known { IfSome result (λ t. t < task_count queues.old.state) }
+    ensures state { queues.new.state ≡ after_pop queues.old.state id }
+    ensures tasks { task_count queues.new.state ≡ task_count queues.old.state }
+    ensures pushes { queues.new.state.pushes ≡ queues.old.state.pushes }
+{
+    let mut steps = Steps::<L>::new(blank);
+    let front = queues.pop_at(place, id, &mut steps);
     drop(steps);
     front
 }

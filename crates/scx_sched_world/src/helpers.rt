@@ -1,6 +1,8 @@
-ghost use Rattle.std.specs.Prelude.{◌≡◌, ◌+◌, ◌*◌, ◌^◌, ◌<◌, ◌≤◌, length};
+ghost use Rattle.std.specs.Prelude.{◌≡◌, ◌+◌, ◌*◌, ◌^◌, ◌<◌, ◌≤◌, length, is_some, IfSome};
+ghost use Rattle.scx_dsq.specs.Queues.{IsQueueAt};
+ghost use Rattle.scx_sched_world.specs.Ids.{policy_end};
 ghost use Rattle.scx_isa_semantics.specs.HostTables.{field_width};
-ghost use Rattle.scx_sched_world.specs.Helpers.{invalid, with_fault, is_there, create_answer, after_create_dsq, queued_answer, after_queued, is_held, may_insert, queue_fault, rank_fault, insert_fault, insert_answer, after_insert, after_release, choice_answer, idle_answer, after_idle, pid_answer, move_answer, after_move, weight_at, group_at, field_of};
+ghost use Rattle.scx_sched_world.specs.Helpers.{invalid, with_fault, is_there, create_answer, after_create_dsq, queued_answer, after_queued, is_held, may_insert, queue_fault, rank_fault, or_fault, insert_fault, insert_answer, after_insert, after_release, choice_answer, idle_answer, after_idle, pid_answer, move_answer, after_move, weight_at, group_at, field_of};
 
 use crate::call::Insert;
 use crate::faults::Fault;
@@ -24,14 +26,20 @@ impl World {
         INVALID
     }
 
-    /// Whether the policy has that queue.
-    fn is_there(&self, queue: u64) -> bool
-        ensures { result ≡ is_there self.now queue }
+    /// Where the policy's queue of that id stands.
+    #[inline(always)]
+    fn place(&self, queue: u64) -> Option<usize>
+        ensures there { is_some result ≡ is_there self.now queue }
+        ensures at { IfSome result (λ place. IsQueueAt self.now.queues place queue) }
     {
-        queue < POLICY_END && self.queues.has(queue)
+        if queue < POLICY_END {
+            self.queues.place(queue)
+        } else {
+            None
+        }
     }
 
-    #[tactic(auto, using(crate::proofs::Parked::known_created))]
+    #[tactic(auto, using(crate::proofs::Parked::known_created, crate::proofs::Places::created))]
     pub(crate) fn create(&mut self, queue: u64) -> u64
         ensures answer { result ≡ create_answer self.old queue }
         ensures world { self.new ≡ after_create_dsq self.old queue }
@@ -51,10 +59,9 @@ impl World {
         ensures world { self.new ≡ after_queued self.old queue }
         ensures few { self.new.queues.pushes ≡ self.old.queues.pushes }
     {
-        if self.is_there(queue) {
-            self.queues.len(queue) as u64
-        } else {
-            self.fault(Fault::NoSuchQueue)
+        match self.place(queue) {
+            Some(place) => self.queues.len_at(place, queue) as u64,
+            None => self.fault(Fault::NoSuchQueue),
         }
     }
 
@@ -119,6 +126,20 @@ impl World {
         }
     }
 
+    /// Why no task may be put into a queue of the policy by that rank.
+    #[inline(always)]
+    #[tactic(auto, using(crate::proofs::Places::of_policy))]
+    fn policy_fault(&self, queue: u64, rank: Rank) -> Option<Fault>
+        requires { queue < policy_end }
+        ensures { result ≡ or_fault (queue_fault self.now queue) (rank_fault self.now queue rank) }
+    {
+        match self.queues.place(queue) {
+            Some(place) if self.queues.clashes_at(place, queue, rank) => Some(Fault::Mixed),
+            Some(_) => None,
+            None => Some(Fault::NoSuchQueue),
+        }
+    }
+
     fn insert_fault(&self, task: Option<u16>, insert: Insert, flags: u64) -> Option<Fault>
         ensures { result ≡ insert_fault self.now task insert flags }
     {
@@ -127,6 +148,9 @@ impl World {
         }
         if flags > 1 {
             return Some(Fault::UnknownFlag);
+        }
+        if insert.queue < POLICY_END {
+            return self.policy_fault(insert.queue, insert.rank);
         }
         match self.queue_fault(insert.queue) {
             Some(fault) => Some(fault),
@@ -182,14 +206,17 @@ impl World {
         ensures notes { length self.new.notes ≤ length self.old.notes + 1 }
         ensures few { self.new.queues.pushes ≤ self.old.queues.pushes + 1 }
     {
-        if self.call.callback != Callback::Dispatch || !self.is_there(queue) {
+        if self.call.callback != Callback::Dispatch {
             return self.fault(Fault::NoSuchQueue);
         }
-        let Some(task) = self.pop(queue) else {
+        let Some(place) = self.place(queue) else {
+            return self.fault(Fault::NoSuchQueue);
+        };
+        let Some(task) = self.pop_at(place, queue) else {
             return 0;
         };
         let cpu = self.call.cpu;
-        self.push(LOCAL_ON + u64::from(cpu), task, Rank::Fifo);
+        self.push_local(cpu, task);
         self.call.has_moved = true;
         self.notes.push_reserved(Note {
             clock: self.clock,

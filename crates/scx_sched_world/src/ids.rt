@@ -27,3 +27,12 @@ pub(crate) const LOCAL_IDS: u64 = 0x1_0000_0000;
 
 /// What a helper answers that was given something wrong: -22, Linux's EINVAL.
 pub(crate) const INVALID: u64 = 0xffff_ffff_ffff_ffea;
+
+/// Where the queue of all processors stands among the queues, as it is created first.
+pub(crate) const GLOBAL_PLACE: usize = 0;
+
+/// Where the queue of the tasks that are throttled stands.
+pub(crate) const PARKED_PLACE: usize = 3;
+
+/// Where the local queue of processor 0 stands; those of the others follow.
+pub(crate) const LOCAL_PLACES: usize = 4;

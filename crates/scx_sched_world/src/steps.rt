@@ -1,17 +1,18 @@
-ghost use Rattle.std.specs.Prelude.{◌≡◌, ℕ, ◌+◌, ◌^◌, ◌<◌, ◌≤◌, length, IfSome};
+ghost use Rattle.std.specs.Prelude.{◌≡◌, ℕ, ◌+◌, ◌^◌, ◌<◌, ◌≤◌, length, is_some, IfSome};
+ghost use Rattle.scx_dsq.specs.declared.entries.Rank.TheVariants.{Fifo};
 ghost use Rattle.scx_dsq.specs.Calls.{after_push};
-ghost use Rattle.scx_dsq.specs.Queues.{front_of, len_of, behind_of};
-ghost use Rattle.scx_weights.specs.Limits.{usage_of};
-ghost use Rattle.scx_sched_world.specs.Ids.{local_on};
-ghost use Rattle.scx_sched_world.specs.World.{task_at, with_queues};
-ghost use Rattle.scx_sched_world.specs.Tasks.{after_wake, after_sleep, after_leave, task_after_insert, after_enter, local_len, fill_front, after_fill, after_stop, after_start, after_keep, put_parked, after_take, let_go, after_tick, later, used_ms, begun_periods, after_reweigh};
+ghost use Rattle.scx_dsq.specs.Queues.{IsQueueAt, front_of, len_of, behind_of};
+ghost use Rattle.scx_weights.specs.Limits.{usage_of, with_use};
+ghost use Rattle.scx_sched_world.specs.Ids.{global, parked_queue, local_on};
+ghost use Rattle.scx_sched_world.specs.World.{task_at, with_task, with_queues, with_tree};
+ghost use Rattle.scx_sched_world.specs.Tasks.{after_wake, after_sleep, after_leave, given_slice, task_after_insert, after_enter, local_len, fill_front, after_fill, after_stop, after_start, after_keep, put_parked, after_take, let_go, ran_a_tick, after_tick, later, used_ms, slice_left, begun_periods, after_reweigh};
 
 use crate::call::Insert;
 use crate::counting;
-use crate::ids::{LOCAL_ON, PARKED};
+use crate::ids::{GLOBAL, GLOBAL_PLACE, LOCAL_ON, LOCAL_PLACES, PARKED, PARKED_PLACE};
 use crate::world::World;
 use scx_dsq::Rank;
-use scx_sched_tasks::{DEFAULT_SLICE, Task};
+use scx_sched_tasks::DEFAULT_SLICE;
 
 /// What an event does to the world, one step at a time.
 impl World {
@@ -22,9 +23,7 @@ impl World {
         ensures world { self.new ≡ after_wake self.old task }
         ensures few { self.new.queues.pushes ≡ self.old.queues.pushes }
     {
-        let mut facts = self.task(task);
-        facts.since = Some(self.clock);
-        self.set_task(task, facts);
+        self.tasks.begin_wait(task, self.clock);
         self.tree.activate(u32::from(task));
     }
 
@@ -44,7 +43,7 @@ impl World {
 
     /// The task comes into a queue, if that takes it so.
     #[inline(always)]
-    #[tactic(auto, using(crate::proofs::Parked::known_pushed))]
+    #[tactic(auto, using(crate::proofs::Parked::known_pushed, crate::proofs::Places::pushed))]
     pub(crate) fn push(&mut self, queue: u64, task: u16, rank: Rank)
         requires task { task < length self.old.tasks }
         requires few { self.old.queues.pushes < 2 ^ 63 }
@@ -59,7 +58,7 @@ impl World {
 
     /// The front of the queue leaves it, and is answered.
     #[inline(always)]
-    #[tactic(auto, using(crate::proofs::Parked::known_popped))]
+    #[tactic(auto, using(crate::proofs::Parked::known_popped, crate::proofs::Places::popped))]
     pub(crate) fn pop(&mut self, queue: u64) -> Option<u16>
         ensures answer { result ≡ front_of self.old.queues queue }
         ensures known { IfSome result (λ t. t < length self.old.tasks) }
@@ -70,8 +69,71 @@ impl World {
         Some(task as u16)
     }
 
+    /// The front of the queue of that id, which stands at that place, leaves it, and is answered.
+    #[inline(always)]
+    #[tactic(auto, using(crate::proofs::Parked::known_popped, crate::proofs::Places::popped))]
+    pub(crate) fn pop_at(&mut self, place: usize, queue: u64) -> Option<u16>
+        requires { IsQueueAt self.old.queues place queue }
+        ensures answer { result ≡ front_of self.old.queues queue }
+        ensures known { IfSome result (λ t. t < length self.old.tasks) }
+        ensures world { self.new ≡ after_take self.old queue }
+        ensures few { self.new.queues.pushes ≡ self.old.queues.pushes }
+    {
+        let task = counting::pop_at(&mut self.queues, place, queue)?;
+        Some(task as u16)
+    }
+
+    /// The front of the queue of all processors leaves it, and is answered.
+    #[inline(always)]
+    #[tactic(auto, using(crate::proofs::Parked::known_popped, crate::proofs::Places::popped))]
+    fn pop_global(&mut self) -> Option<u16>
+        ensures answer { result ≡ front_of self.old.queues global }
+        ensures known { IfSome result (λ t. t < length self.old.tasks) }
+        ensures world { self.new ≡ after_take self.old global }
+        ensures few { self.new.queues.pushes ≡ self.old.queues.pushes }
+    {
+        let task = counting::pop_at(&mut self.queues, GLOBAL_PLACE, GLOBAL)?;
+        Some(task as u16)
+    }
+
+    /// The front of the local queue of the processor leaves it, and is answered.
+    #[inline(always)]
+    #[tactic(auto, using(crate::proofs::Places::local_stands))]
+    fn pop_local(&mut self, cpu: u32) -> Option<u16>
+        ensures answer { result ≡ front_of self.old.queues (local_on cpu) }
+        ensures known { IfSome result (λ t. t < length self.old.tasks) }
+        ensures world { self.new ≡ after_take self.old (local_on cpu) }
+        ensures few { self.new.queues.pushes ≡ self.old.queues.pushes }
+    {
+        let queue = LOCAL_ON + u64::from(cpu);
+        if (cpu as usize) < self.cpus.len() {
+            self.pop_at(LOCAL_PLACES + cpu as usize, queue)
+        } else {
+            self.pop(queue)
+        }
+    }
+
+    /// The task comes to the end of the local queue of the processor.
+    #[inline(always)]
+    #[tactic(auto, using(crate::proofs::Parked::known_pushed, crate::proofs::Places::pushed, crate::proofs::Places::local_stands))]
+    pub(crate) fn push_local(&mut self, cpu: u32, task: u16)
+        requires task { task < length self.old.tasks }
+        requires few { self.old.queues.pushes < 2 ^ 63 }
+        ensures world { self.new
+            ≡ with_queues self.old (after_push self.old.queues (local_on cpu) task Fifo) }
+        ensures few { self.new.queues.pushes ≤ self.old.queues.pushes + 1 }
+    {
+        let queue = LOCAL_ON + u64::from(cpu);
+        if (cpu as usize) < self.cpus.len() {
+            let place = LOCAL_PLACES + cpu as usize;
+            let _refused = self.queues.push_fifo_at(place, queue, u32::from(task));
+        } else {
+            self.push(queue, task, Rank::Fifo);
+        }
+    }
+
     /// The task leaves the queue in which it waits.
-    #[tactic(auto, using(crate::proofs::Parked::known_removed))]
+    #[tactic(auto, using(crate::proofs::Parked::known_removed, crate::proofs::Places::removed))]
     pub fn leave_queue(&mut self, task: u16)
         ensures world { self.new ≡ after_leave self.old task }
         ensures few { self.new.queues.pushes ≡ self.old.queues.pushes }
@@ -89,17 +151,65 @@ impl World {
         ensures few { self.new.queues.pushes ≤ self.old.queues.pushes + 1 }
     {
         if (task as usize) < self.tasks.len() {
-            let facts = given(self.task(task), insert);
-            self.set_task(task, facts);
+            self.set_given(task, insert);
             self.push(insert.queue, task, insert.rank);
         }
     }
 
+    /// What an insert makes of the record of its task.
+    #[inline(always)]
+    #[tactic(auto, using(crate::proofs::Records::both_set))]
+    fn set_given(&mut self, task: u16, insert: Insert)
+        requires { task < length self.old.tasks }
+        ensures { self.new
+            ≡ with_task self.old task (task_after_insert (task_at self.old task) insert) }
+    {
+        self.set_slice(task, insert.slice);
+        if let Rank::Vtime(key) = insert.rank {
+            self.tasks.set_vtime(task, key);
+        }
+    }
+
+    /// The task has that slice; 0 keeps the one that it has.
+    #[inline(always)]
+    #[tactic(auto, using(crate::proofs::Records::as_before))]
+    fn set_slice(&mut self, task: u16, slice: u64)
+        ensures { self.new ≡ with_task self.old task (given_slice (task_at self.old task) slice) }
+    {
+        if slice != 0 {
+            self.tasks.set_slice(task, slice);
+        }
+    }
+
     /// How many tasks wait in the local queue of the processor.
+    #[inline(always)]
+    #[tactic(auto, using(crate::proofs::Places::local_stands))]
     pub fn local_len(&self, cpu: u32) -> usize
         ensures { result ≡ local_len self.now cpu }
     {
-        self.queues.len(LOCAL_ON + u64::from(cpu))
+        let queue = LOCAL_ON + u64::from(cpu);
+        if (cpu as usize) < self.cpus.len() {
+            self.queues.len_at(LOCAL_PLACES + cpu as usize, queue)
+        } else {
+            self.queues.len(queue)
+        }
+    }
+
+    /// Whether a task waits in the queue of all processors.
+    #[inline(always)]
+    pub fn has_global(&self) -> bool
+        ensures { result ≡ is_some (front_of self.now.queues global) }
+    {
+        self.queues.front_at(GLOBAL_PLACE, GLOBAL).is_some()
+    }
+
+    /// Who was parked first.
+    #[inline(always)]
+    pub fn first_parked(&self) -> Option<u16>
+        ensures { result ≡ front_of self.now.queues parked_queue }
+    {
+        let task = self.queues.front_at(PARKED_PLACE, PARKED)?;
+        Some(task as u16)
     }
 
     /// Where the local queue is empty the front of another comes to it, and is answered.
@@ -118,7 +228,27 @@ impl World {
             return None;
         }
         let task = self.pop(queue)?;
-        self.push(LOCAL_ON + u64::from(cpu), task, Rank::Fifo);
+        self.push_local(cpu, task);
+        Some(task)
+    }
+
+    /// Where the local queue is empty the front of the queue of all processors comes to it, and is answered.
+    #[inline(always)]
+    #[tactic(auto, using(crate::proofs::Fronts::nobody_comes, crate::proofs::Fronts::none_either))]
+    pub fn fill_global(&mut self, cpu: u32) -> Option<u16>
+        requires few { self.old.queues.pushes < 2 ^ 63 }
+        ensures answer { result ≡ fill_front self.old global cpu }
+        ensures world { self.new ≡ after_fill self.old global cpu }
+        ensures few { self.new.queues.pushes ≤ self.old.queues.pushes + 1 }
+    {
+        if !self.has_global() {
+            return None;
+        }
+        if self.local_len(cpu) > 0 {
+            return None;
+        }
+        let task = self.pop_global()?;
+        self.push_local(cpu, task);
         Some(task)
     }
 
@@ -128,9 +258,7 @@ impl World {
         ensures world { self.new ≡ after_stop self.old cpu task }
         ensures few { self.new.queues.pushes ≡ self.old.queues.pushes }
     {
-        let mut facts = self.task(task);
-        facts.since = Some(self.clock);
-        self.set_task(task, facts);
+        self.tasks.begin_wait(task, self.clock);
         self.set_cpu(cpu, None);
     }
 
@@ -141,32 +269,28 @@ impl World {
         ensures world { self.new ≡ after_start self.old cpu }
         ensures few { self.new.queues.pushes ≡ self.old.queues.pushes }
     {
-        let task = self.pop(LOCAL_ON + u64::from(cpu))?;
-        let mut facts = self.task(task);
-        facts.prev_cpu = cpu;
-        facts.since = None;
-        self.set_task(task, facts);
+        let task = self.pop_local(cpu)?;
+        self.tasks.end_wait(task, cpu);
         self.set_cpu(cpu, Some(task));
         Some(task)
     }
 
     /// The task before, if there is one, keeps the processor, and where it has no slice gets one.
     #[inline(always)]
+    #[tactic(auto, using(crate::proofs::Records::as_before))]
     pub fn keep(&mut self, before: Option<u16>)
         ensures world { self.new ≡ after_keep self.old before }
         ensures few { self.new.queues.pushes ≡ self.old.queues.pushes }
     {
         if let Some(task) = before {
-            let mut facts = self.task(task);
-            if facts.slice == 0 {
-                facts.slice = DEFAULT_SLICE;
+            if self.task(task).slice == 0 {
+                self.tasks.set_slice(task, DEFAULT_SLICE);
             }
-            self.tasks.set_times(task, facts.slice, facts.run_ns);
         }
     }
 
     /// The task at hand is parked, and waits no more.
-    #[tactic(auto, using(crate::proofs::Parked::known_parked))]
+    #[tactic(auto, using(crate::proofs::Parked::known_parked, crate::proofs::Places::pushed))]
     pub fn park(&mut self, task: u16)
         requires few { self.old.queues.pushes < 2 ^ 63 }
         ensures world { self.new ≡ put_parked self.old task }
@@ -228,9 +352,7 @@ impl World {
         ensures world { self.new ≡ let_go self.old task }
         ensures few { self.new.queues.pushes ≡ self.old.queues.pushes }
     {
-        let mut facts = self.task(task);
-        facts.since = Some(self.clock);
-        self.set_task(task, facts);
+        self.tasks.begin_wait(task, self.clock);
         self.leave_queue(task);
     }
 
@@ -249,18 +371,63 @@ impl World {
     }
 
     /// The task's groups have used a millisecond more.
-    #[tactic(auto, using(crate::proofs::Parked::known_used))]
     pub fn use_ms(&mut self, task: u16)
         requires { (g : ℕ) → usage_of self.old.tree g < 2 ^ 63 }
         ensures world { self.new ≡ used_ms self.old task }
         ensures few { self.new.queues.pushes ≡ self.old.queues.pushes }
     {
         if (task as usize) < self.tasks.len() {
-            self.tree.charge(u32::from(task));
+            self.charge_ms(task);
+        }
+    }
+
+    /// A millisecond of a task that there is is charged to its groups.
+    #[inline(always)]
+    #[tactic(auto, using(crate::proofs::Parked::known_used))]
+    fn charge_ms(&mut self, task: u16)
+        requires known { task < length self.old.tasks }
+        requires used { (g : ℕ) → usage_of self.old.tree g < 2 ^ 63 }
+        ensures { self.new ≡ with_tree self.old (with_use self.old.tree task) }
+    {
+        self.tree.charge(u32::from(task));
+    }
+
+    /// A task that there is has run for a millisecond. Answers what is left of its slice.
+    #[inline(always)]
+    fn run_ms(&mut self, task: u16) -> u64
+        requires known { task < length self.old.tasks }
+        requires early { (task_at self.old task).run_ns < 2 ^ 63 }
+        ensures answer { result ≡ (ran_a_tick (task_at self.old task)).slice }
+        ensures world { self.new ≡ after_tick self.old task }
+    {
+        self.tasks.run_ms(task)
+    }
+
+    /// The task has run for a millisecond, which its groups have used. Answers what is left of its slice; none where
+    /// it may not run any more.
+    #[inline(always)]
+    #[tactic(auto, using(crate::proofs::Records::slice_written))]
+    pub fn run_and_use_ms(&mut self, task: u16) -> Option<u64>
+        requires early { (task_at self.old task).run_ns < 2 ^ 63 }
+        requires used { (g : ℕ) → usage_of self.old.tree g < 2 ^ 63 }
+        ensures answer { result ≡ slice_left self.new task }
+        ensures world { self.new ≡ used_ms (after_tick self.old task) task }
+        ensures few { self.new.queues.pushes ≡ self.old.queues.pushes }
+    {
+        if (task as usize) >= self.tasks.len() {
+            return Some(0);
+        }
+        let left = self.run_ms(task);
+        self.charge_ms(task);
+        if self.tree.throttled(u32::from(task)) {
+            None
+        } else {
+            Some(left)
         }
     }
 
     /// Periods of groups begin at this clock.
+    #[inline(always)]
     #[tactic(auto, using(crate::proofs::Parked::known_turned))]
     pub fn begin_periods(&mut self)
         ensures world { self.new ≡ begun_periods self.old }
@@ -286,18 +453,4 @@ impl World {
         self.parked_throttled = false;
         let _refused = self.tree.set_weight(group, weight);
     }
-}
-
-/// What an insert makes of the record of its task.
-fn given(task: Task, insert: Insert) -> Task
-    ensures { result ≡ task_after_insert task insert }
-{
-    let mut given = task;
-    if insert.slice != 0 {
-        given.slice = insert.slice;
-    }
-    if let Rank::Vtime(key) = insert.rank {
-        given.vtime = key;
-    }
-    given
 }

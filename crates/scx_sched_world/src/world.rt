@@ -1,11 +1,11 @@
-ghost use Rattle.std.specs.Prelude.{◌≡◌, ◌≢◌, ℕ, true, ◌+◌, ◌≤◌, ◌<◌, nat_lt, length, position, vec_capacity, IfSome, IfOk, OnOk};
+ghost use Rattle.std.specs.Prelude.{◌≡◌, ◌≢◌, ℕ, true, ◌+◌, ◌≤◌, ◌<◌, nat_lt, length, position, slice_index_or, vec_capacity, Some, IfSome, IfOk, OnOk};
 ghost use Rattle.std.specs.Int.{bit_at};
 ghost use Rattle.scx_dsq.specs.Laws.{one_if};
 ghost use Rattle.scx_dsq.specs.Queues.{entry_of, queue_of, task_count};
 ghost use Rattle.scx_weights.specs.Limits.{has_quota};
 ghost use Rattle.scx_sched_world.specs.First.{with_locals, first_queues, first_world};
 ghost use Rattle.scx_sched_world.specs.Helpers.{task_argument};
-ghost use Rattle.scx_sched_world.specs.Kept.{AreTaken, StaysParked, NobodyIsFree};
+ghost use Rattle.scx_sched_world.specs.Kept.{AreTaken, lowest_bit, StaysParked, NobodyIsFree};
 ghost use Rattle.scx_sched_world.specs.Waits.{first_overdue};
 ghost use Rattle.scx_weights.specs.Limits.{usage_of};
 ghost use Rattle.scx_sched_world.specs.World.{task_at, wait, with_task, is_runnable, is_throttled, waits, running, with_cpu, with_cycling, is_this, cpu_of, is_idle, first_idle, default_choice, at_callback, quiet, note_now, IsLike};
@@ -34,6 +34,8 @@ pub struct World {
     pub(crate) cpus: Vec<Option<u16>>,
     /// The processors on which a task runs, one bit each.
     pub(crate) busy: u64,
+    /// For each task the processors on which it runs, one bit each.
+    pub(crate) running_on: Vec<u64>,
     /// The processor on which a scheduling cycle is under way.
     pub(crate) cycling: Option<u32>,
     pub(crate) queues: Queues,
@@ -71,14 +73,16 @@ impl World {
         let count = tree.tasks() as usize;
         let tasks = Tasks::new(alloc, count);
         let running = vec![in alloc; None; cpus];
+        let running_on = vec![in alloc; 0; count];
         let queues = own_queues(alloc, cpus, count);
         let notes = Vec::with_capacity(alloc, 4096);
-        match (tasks, running, queues, notes) {
-            (Ok(tasks), Ok(cpus), Ok(queues), Ok(notes)) => Ok(World {
+        match (tasks, running, running_on, queues, notes) {
+            (Ok(tasks), Ok(cpus), Ok(running_on), Ok(queues), Ok(notes)) => Ok(World {
                 clock: 0,
                 tasks,
                 cpus,
                 busy: 0,
+                running_on,
                 cycling: None,
                 queues,
                 tree,
@@ -88,9 +92,10 @@ impl World {
                 notes,
                 parked_throttled: false,
             }),
-            (tasks, cpus, queues, notes) => {
+            (tasks, cpus, running_on, queues, notes) => {
                 drop(tasks);
                 drop(cpus);
+                drop(running_on);
                 drop(queues);
                 drop(notes);
                 drop(tree);
@@ -108,6 +113,7 @@ impl World {
         self.tasks.copy_from(&other.tasks);
         self.cpus.copy_from_slice(&other.cpus);
         self.busy = other.busy;
+        self.running_on.copy_from_slice(&other.running_on);
         self.cycling = other.cycling;
         self.queues.copy_from(&other.queues);
         self.tree.copy_from(&other.tree);
@@ -250,11 +256,14 @@ impl World {
         }
     }
 
-    #[tactic(auto, using(crate::proofs::Busy::busy_set))]
+    #[inline(always)]
+    #[tactic(auto, using(crate::proofs::Busy::busy_set, crate::proofs::Places::cpu_set, crate::proofs::Running::on_set))]
     pub(crate) fn set_cpu(&mut self, cpu: u32, task: Option<u16>)
         ensures { self.new ≡ with_cpu self.old cpu task }
     {
         if (cpu as usize) < self.cpus.len() {
+            let before = self.cpus[cpu as usize];
+            change_running(&mut self.running_on, before, task, cpu);
             self.cpus[cpu as usize] = task;
             self.busy = with_bit(self.busy, cpu, task.is_some());
         }
@@ -264,6 +273,9 @@ impl World {
     pub fn cpu_of(&self, task: u16) -> Option<u32>
         ensures { result ≡ cpu_of self.now task }
     {
+        if (task as usize) < self.running_on.len() {
+            return lowest_bit(self.running_on[task as usize]);
+        }
         match cpu_of(&self.cpus, task) {
             Some(cpu) => Some(cpu as u32),
             None => None,
@@ -357,9 +369,10 @@ impl World {
         ensures world { self.new ≡ self.old }
         ensures few { self.new.queues.pushes ≡ self.old.queues.pushes }
     {
-        if !self.parked_throttled {
-            self.parked_throttled = self.is_nobody_free();
+        if self.parked_throttled {
+            return true;
         }
+        self.parked_throttled = self.is_nobody_free();
         self.parked_throttled
     }
 
@@ -513,6 +526,7 @@ fn add_locals(queues: &mut Queues, cpus: usize)
 }
 
 /// The bits with that one set or cleared.
+#[inline(always)]
 #[tactic(auto, using(crate::proofs::Busy::set_here, crate::proofs::Busy::set_others, crate::proofs::Busy::cleared_here, crate::proofs::Busy::cleared_others))]
 fn with_bit(bits: u64, at: u32, set: bool) -> u64
     requires { at < 64 }
@@ -523,6 +537,51 @@ fn with_bit(bits: u64, at: u32, set: bool) -> u64
         bits | 1 << at
     } else {
         bits & !(1 << at)
+    }
+}
+
+/// The lowest bit that is set.
+#[inline(always)]
+fn lowest_bit(bits: u64) -> Option<u32>
+    ensures { result ≡ lowest_bit bits }
+{
+    if bits == 0 {
+        None
+    } else {
+        Some(bits.trailing_zeros())
+    }
+}
+
+/// On the processor runs another task than before, or none.
+#[inline(always)]
+fn change_running(running: &mut [u64], before: Option<u16>, after: Option<u16>, cpu: u32)
+    requires { cpu < 64 }
+    ensures count { length running.new ≡ length running.old }
+    ensures here { (t : ℕ) → t < length running.old
+        → bit_at (slice_index_or running.old t 0) cpu ≡ one_if (is_this t before)
+        → bit_at (slice_index_or running.new t 0) cpu ≡ one_if (is_this t after) }
+    ensures others { (t c : ℕ) → c < 64 → c ≢ cpu
+        → bit_at (slice_index_or running.new t 0) c ≡ bit_at (slice_index_or running.old t 0) c }
+{
+    set_running(running, before, cpu, false);
+    set_running(running, after, cpu, true);
+}
+
+/// The task runs on the processor, or doesn't any more.
+#[inline(always)]
+#[tactic(auto, using(crate::proofs::Running::set_one, crate::proofs::Running::set_another))]
+fn set_running(running: &mut [u64], task: Option<u16>, cpu: u32, runs: bool)
+    requires { cpu < 64 }
+    ensures count { length running.new ≡ length running.old }
+    ensures here { (t : ℕ) → t < length running.old → task ≡ Some t
+        → bit_at (slice_index_or running.new t 0) cpu ≡ one_if runs }
+    ensures others { (t c : ℕ) → c < 64 → (c ≡ cpu → task ≢ Some t)
+        → bit_at (slice_index_or running.new t 0) c ≡ bit_at (slice_index_or running.old t 0) c }
+{
+    if let Some(task) = task {
+        if (task as usize) < running.len() {
+            running[task as usize] = with_bit(running[task as usize], cpu, runs);
+        }
     }
 }
 

@@ -1,6 +1,4 @@
-use Rattle.std.proofs.Common.{◌≡◌, length, sym, ap, ◌∙◌, arith}
-use Rattle.scx_sched_world.specs.World.{WorldState, IsLike}
-use Rattle.scx_sched_world.specs.Kept.{state_of}
+use Rattle.std.proofs.Common.{length, sym, ap, ◌∙◌, arith}
 use Rattle.scx_sched_world.proofs.Likes.{fields_alike}
 use Rattle.scx_sched_world.proofs.world.World.copy_from.Goals as goal
 
@@ -10,6 +8,10 @@ copy_from-requires c = (fields_alike c.self.inside c.other.inside _ _ c.self.vie
 pub copy_from_slice-requires : goal.copy_from_slice-requires
 copy_from_slice-requires c =
     omega (arith, c.self.inside.cpus.ok.0, (fields_alike c.self.inside c.other.inside _ _ c.self.view_is c.other.view_is c.requires).cpus, ap (λ xs. length xs) c.deref.ensures.value)
+
+pub copy_from_slice-requires-2 : goal.copy_from_slice-requires-2
+copy_from_slice-requires-2 c =
+    omega (arith, c.self.inside.running_on.ok.0, (fields_alike c.self.inside c.other.inside _ _ c.self.view_is c.other.view_is c.requires).tasks, c.self.invariant.known_running, c.other.invariant.known_running, ap (λ xs. length xs) c.deref-2.ensures.value)
 
 pub copy_from-requires-2 : goal.copy_from-requires-2
 copy_from-requires-2 c =

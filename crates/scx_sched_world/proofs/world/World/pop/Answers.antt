@@ -1,0 +1,20 @@
+use Rattle.std.proofs.Common.{◌∙◌}
+use Rattle.scx_sched_world.proofs.Parked.{known_popped}
+use Rattle.scx_sched_world.proofs.Places.{popped}
+use Rattle.scx_sched_world.proofs.world.World.pop.Goals as goal
+
+pub invariant_of-self-2 : goal.invariant_of-self-2
+invariant_of-self-2 c = record {
+  notes = c.self.invariant.notes;
+  few_notes = c.self.invariant.few_notes;
+  queued = c.pop.ensures.tasks ∙ c.self.invariant.queued;
+  weighed = c.self.invariant.weighed;
+  few_tasks = c.self.invariant.few_tasks;
+  few_cpus = c.self.invariant.few_cpus;
+  busy = c.self.invariant.busy;
+  running = c.self.invariant.running;
+  known_running = c.self.invariant.known_running;
+  places = rw c.pop.ensures.state (popped c.self.inside.queues.state _ c.args.queue ∙ c.self.invariant.places);
+  early = c.self.invariant.early;
+  parked = rw c.pop.ensures.state (known_popped _ c.self.inside.queues.state c.self.inside.tree c.args.queue c.self.invariant.parked);
+}
