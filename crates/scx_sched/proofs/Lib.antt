@@ -35,3 +35,4 @@ pub mod Following
 pub mod Unstuck
 pub mod Valid
 pub mod Idle
+pub mod Counted

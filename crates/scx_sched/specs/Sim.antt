@@ -1,5 +1,5 @@
 -- The machine between two events, with the number of those that it accepted.
-use Rattle.std.specs.Prelude.{◌≡◌, ℕ, ◌==◌, ◌+◌, ◌*◌, ◌≤◌, ◌^◌, List, [], length, Option, Some, None, Result, Ok, Err, if◌then◌else◌}
+use Rattle.std.specs.Prelude.{◌≡◌, ℕ, ◌==◌, ◌+◌, ◌-◌, ◌*◌, ◌≤◌, ◌^◌, List, [], length, Option, Some, None, Result, Ok, Err, if◌then◌else◌}
 use Rattle.scx_sched_world.specs.declared.eject.Eject.TheVariants as cause
 use Rattle.scx_sched_world.specs.declared.faults.Fault.TheVariants.{Stuck}
 use Rattle.scx_sched_world.specs.declared.notes.Note.{Note}
@@ -24,6 +24,10 @@ pub record SimState : Type 0 where
 -- how many events are accepted at most
 abbrev pub max_events : ℕ
 max_events = 2 ^ 32
+
+-- how many events were accepted, where so many are accepted still
+abbrev pub accepted : ℕ → ℕ
+accepted left = max_events - left
 
 -- why an event is refused, if it is: after 2^32 accepted ones each is, before any other cause
 abbrev pub refusal : SimState → Event → Option Refused
@@ -76,3 +80,8 @@ pub record IsValid (state : State) (events : ℕ) : Type 0 where
   pub unstuck : (n : ℕ) → state.world.ejected ≡ Some (cause.Fault Stuck n) → ⊥
   pub there : AreInQueues state.world
   pub fine : IsFine (length state.world.tasks) events events None state.world.cpus state.world
+
+-- what holds of a machine that accepts so many events still
+pub record IsCounted (state : State) (left : ℕ) : Type 0 where
+  pub few : left ≤ max_events
+  pub valid : IsValid state (accepted left)

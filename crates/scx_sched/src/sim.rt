@@ -33,17 +33,18 @@ pub const MAX_EVENTS: u64 = 1 << 32;
 #[derive(Drop)]
 pub struct Sim {
     machine: Machine,
-    events: u64,
+    /// How many events are accepted still.
+    left: u64,
 }
 
 impl Model for Sim {
-    ghost use Rattle.scx_sched.specs.Sim.{SimState, IsValid};
+    ghost use Rattle.scx_sched.specs.Sim.{SimState, IsCounted, accepted};
 
     ghost Value = { SimState };
 
-    ghost view = { λ s. record { state = s.machine; events = s.events } };
+    ghost view = { λ s. record { state = s.machine; events = accepted s.left } };
 
-    ghost invariant = { λ s. IsValid s.machine s.events };
+    ghost invariant = { λ s. IsCounted s.machine s.left };
 }
 
 impl Sim {
@@ -82,15 +83,20 @@ impl Sim {
         ensures answered_before { IfErr result (AreAnsweredBefore policy tree cpus) }
     {
         let machine = Machine::new(alloc, policy, tree, cpus as usize, sink)?;
-        Ok(Sim { machine, events: 0 })
+        Ok(Sim {
+            machine,
+            left: MAX_EVENTS,
+        })
     }
 
     /// Why the event isn't accepted.
     #[inline(always)]
+    #[tactic(auto, using(crate::proofs::Counted::counts))]
     fn refusal(&self, event: Event) -> Option<Refused>
-        ensures { result ≡ refusal self.now event }
+        ensures cause { result ≡ refusal self.now event }
+        ensures early { result ≡ None → self.now.events < max_events }
     {
-        if self.events == MAX_EVENTS {
+        if self.left == 0 {
             return Some(Refused::RunOver);
         }
         self.machine.refusal(event)
@@ -98,6 +104,7 @@ impl Sim {
 
     /// One event, with all that it causes. One that isn't accepted changes nothing, and has no notes.
     #[inline(always)]
+    #[tactic(auto, using(crate::proofs::Counted::counts))]
     pub fn step<S: Sink>(&mut self, event: Event, sink: &mut S) -> Result<(), Refused>
         ensures answer { result ≡ answer_of (refusal self.old event) }
         ensures state { self.new ≡ after_event self.old event }
@@ -117,7 +124,7 @@ impl Sim {
             return Err(refused);
         }
         self.machine.event(event, sink);
-        self.events += 1;
+        self.left -= 1;
         Ok(())
     }
 
@@ -129,7 +136,7 @@ impl Sim {
         ensures { self.new ≡ other.now }
     {
         self.machine.copy_from(&other.machine);
-        self.events = other.events;
+        self.left = other.left;
     }
 
     /// What holds between two events: each runnable task is in one place, and no other task anywhere; a task
@@ -153,7 +160,7 @@ impl Sim {
         ensures timeout { IsTimeout self.now.state.policy.timeout_ms }
         ensures programs { AreAs self.now.state.policy.callbacks }
     {
-        let _events = self.events;
+        let _left = self.left;
     }
 
     /// The clock, tasks, processors, queues and weights.
@@ -175,7 +182,7 @@ impl Sim {
         ensures events { result ≡ self.now.events }
         ensures most { result ≤ MAX_EVENTS }
     {
-        let events = self.events;
+        let events = MAX_EVENTS - self.left;
         events
     }
 
@@ -240,6 +247,14 @@ impl Sim {
     /// How long the task has run, in nanoseconds.
     pub fn run_ns(&self, task: u16) -> u64
         requires { task < length self.now.state.world.tasks }
+        ensures { result ≡ (task_at self.now.state.world task).run_ns }
+    {
+        self.run_ns_of(task)
+    }
+
+    /// The same; 0 where there is no such task.
+    #[inline(always)]
+    pub fn run_ns_of(&self, task: u16) -> u64
         ensures { result ≡ (task_at self.now.state.world task).run_ns }
     {
         self.machine.world().task(task).run_ns

@@ -9,3 +9,5 @@ pub mod Free
 pub mod Idling
 pub mod Choices
 pub mod HelperCalls
+pub mod Silent
+pub mod Counting

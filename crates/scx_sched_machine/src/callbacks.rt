@@ -23,7 +23,7 @@ use scx_maps::Maps;
 use scx_sched_world::{Eject, Fault, World};
 use scx_verify::Verified;
 use scx_vm::{Arg, Args};
-use scx_vm_run::{Core, run_on};
+use scx_vm_run::{Core, answer_on};
 
 /// The program of a callback, while the policy is in force.
 #[inline(always)]
@@ -103,10 +103,11 @@ pub(crate) fn run_program(
     ensures few { world.new.queues.pushes ≤ world.old.queues.pushes + program_pushes }
 {
     let _short = program.instructions();
-    run_on(core, program, arguments, maps, world).r0
+    answer_on(core, program, arguments, maps, world)
 }
 
 /// Hands the notes that wait to the sink.
+#[inline(never)]
 #[tactic(auto, using(crate::proofs::Taking::takings))]
 fn flush<S: Sink>(world: &mut World, sink: &mut S)
     ensures world { world.new ≡ quiet world.old }
@@ -116,6 +117,18 @@ fn flush<S: Sink>(world: &mut World, sink: &mut S)
         sink.take(*note);
     }
     world.quiet();
+}
+
+/// The same, by a call only where there are some.
+#[inline(always)]
+#[tactic(auto, using(crate::proofs::Silent::quiet_already))]
+fn flush_any<S: Sink>(world: &mut World, sink: &mut S)
+    ensures world { world.new ≡ quiet world.old }
+    ensures notes { Takes S.takes sink.old world.old.notes sink.new }
+{
+    if !world.notes().is_empty() {
+        flush(world, sink);
+    }
 }
 
 /// A task, for a callback that takes no more.
@@ -234,7 +247,7 @@ impl Machine {
             &mut self.world,
             sink,
         );
-        flush(&mut self.world, sink);
+        flush_any(&mut self.world, sink);
         let fault = self.fault(callback, answer);
         self.eject_for(fault, sink);
         answer

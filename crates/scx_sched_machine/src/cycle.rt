@@ -1,4 +1,5 @@
 ghost use Rattle.std.specs.Prelude.{◌≡◌, ◌*◌, false, None};
+ghost use Rattle.scx_sched_world.specs.Ids.{global};
 ghost use Rattle.scx_sched_machine.specs.Budgets.{HasRoom, ask_pushes, builtin_ask_pushes, builtin_cycle_pushes, builtin_dispatch_pushes, callback_pushes, cycle_pushes, dispatch_pushes, fill_pushes, leave_pushes, pick_pushes, swap_pushes};
 ghost use Rattle.scx_sched_machine.specs.Does.{Does};
 ghost use Rattle.scx_sched_machine.specs.Filling.{fill};
@@ -8,7 +9,7 @@ use crate::callbacks::{cpu_and_task, one_task, task_and_number};
 use crate::machine::Machine;
 use crate::sink::Sink;
 use scx_isa::Callback;
-use scx_sched_world::{BUILTIN, GLOBAL, What};
+use scx_sched_world::{BUILTIN, What};
 
 impl Machine {
     /// Where the local queue is empty, the front of another comes to it.
@@ -20,6 +21,19 @@ impl Machine {
             self.old sink.old self.new sink.new }
     {
         if let Some(task) = self.world.fill(queue, cpu) {
+            sink.take(self.world.note(What::Move(task, cpu)));
+        }
+    }
+
+    /// Where the local queue is empty, the front of that of all processors comes to it.
+    #[inline(always)]
+    #[tactic(auto, unfolding(crate::specs::Filling::fill), using(crate::proofs::Taking::takings))]
+    pub(crate) fn fill_global<S: Sink>(&mut self, cpu: u32, sink: &mut S)
+        requires { HasRoom fill_pushes self.old }
+        ensures { Does S.takes fill_pushes (fill self.old global cpu)
+            self.old sink.old self.new sink.new }
+    {
+        if let Some(task) = self.world.fill_global(cpu) {
             sink.take(self.world.note(What::Move(task, cpu)));
         }
     }
@@ -53,6 +67,7 @@ impl Machine {
     }
 
     /// A task has left its processor. The number says whether it stays runnable.
+    #[inline(always)]
     #[tactic(auto, unfolding(crate::specs::Cycle::after_stopping), using(crate::proofs::Taking::takings))]
     pub(crate) fn call_stopping<S: Sink>(
         &mut self,
@@ -309,7 +324,7 @@ impl Machine {
             && !self.is_ejected()
             && !self.world.is_limited()
             && self.world.local_len(cpu) == 0
-            && self.world.front(GLOBAL).is_none()
+            && !self.world.has_global()
     }
 
     /// A cycle that comes to nothing.

@@ -230,21 +230,23 @@ impl Machine {
         self.cycle(cpu, None, true, sink);
     }
 
-    /// A task whose slice has run out may be replaced.
+    /// A task that has so much left of its slice may be replaced where that is nothing.
+    #[inline(always)]
     #[tactic(auto, unfolding(crate::specs::Events::expire), using(crate::proofs::Taking::takings))]
-    fn expire<S: Sink>(&mut self, cpu: u32, task: u16, sink: &mut S)
-        requires { HasRoom cycle_pushes self.old }
+    fn expire<S: Sink>(&mut self, cpu: u32, task: u16, left: u64, sink: &mut S)
+        requires left { left ≡ (task_at self.old.world task).slice }
+        requires room { HasRoom cycle_pushes self.old }
         ensures { Does S.takes cycle_pushes (expire self.old cpu task)
             self.old sink.old self.new sink.new }
     {
-        if self.world.task(task).slice == 0 {
+        if left == 0 {
             self.cycle(cpu, Some(task), true, sink);
         }
     }
 
     /// A task has run for a millisecond, which its groups have used.
     #[inline(always)]
-    #[tactic(auto, unfolding(crate::specs::Events::count_down), using(crate::proofs::Taking::takings))]
+    #[tactic(auto, using(crate::proofs::Taking::takings, crate::proofs::Counting::counts))]
     fn count_down<S: Sink>(&mut self, cpu: u32, task: u16, sink: &mut S)
         requires early { (task_at self.old.world task).run_ns < 2 ^ 63 }
         requires used { (g : ℕ) → usage_of self.old.world.tree g < 2 ^ 63 }
@@ -252,12 +254,9 @@ impl Machine {
         ensures { Does S.takes throttle_pushes (count_down self.old cpu task)
             self.old sink.old self.new sink.new }
     {
-        self.world.run_tick(task);
-        self.world.use_ms(task);
-        if self.world.is_throttled(task) {
-            self.throttle(cpu, task, sink);
-        } else {
-            self.expire(cpu, task, sink);
+        match self.world.run_and_use_ms(task) {
+            Some(left) => self.expire(cpu, task, left, sink),
+            None => self.throttle(cpu, task, sink),
         }
     }
 

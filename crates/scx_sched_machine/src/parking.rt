@@ -70,7 +70,7 @@ impl Machine {
         if left == 0 {
             return;
         }
-        self.fill(GLOBAL, cpu, sink);
+        self.fill_global(cpu, sink);
         let local = LOCAL_ON + u64::from(cpu);
         if let Some(task) = self.throttled_front(local) {
             self.park_front(local, task, sink);
@@ -101,7 +101,7 @@ impl Machine {
         if self.world.is_limited() {
             self.supply_limited(cpu, sink);
         } else {
-            self.fill(GLOBAL, cpu, sink);
+            self.fill_global(cpu, sink);
         }
     }
 
@@ -150,7 +150,7 @@ impl Machine {
         ensures { Does S.takes let_go_pushes (let_all_go self.old)
             self.old sink.old self.new sink.new }
     {
-        let Some(first) = self.world.front(PARKED) else {
+        let Some(first) = self.world.first_parked() else {
             return;
         };
         if self.world.are_parked_throttled() {

@@ -11,6 +11,7 @@ use scx_sched_world::{BUILTIN, Insert, What};
 
 impl Machine {
     /// The task comes to wait as the insert wants it to.
+    #[inline(always)]
     #[tactic(auto, unfolding(crate::specs::Put::enters), using(crate::proofs::Taking::takings))]
     pub(crate) fn enter<S: Sink>(&mut self, task: u16, insert: Insert, sink: &mut S)
         requires { HasRoom enter_pushes self.old }
@@ -22,6 +23,7 @@ impl Machine {
     }
 
     /// Where enqueue wanted the task at hand to wait, for that processor.
+    #[inline(always)]
     fn enqueue_choice(&self, cpu: u32) -> Insert
         ensures { result ≡ enqueue_choice self.now.policy.callbacks.enqueue cpu self.now.world.call.insert }
     {
@@ -35,6 +37,7 @@ impl Machine {
     }
 
     /// The task comes to wait for the built-in scheduler.
+    #[inline(never)]
     #[tactic(auto, unfolding(crate::specs::Put::enters_builtin), using(crate::proofs::Taking::takings))]
     fn enter_builtin<S: Sink>(&mut self, task: u16, sink: &mut S)
         requires { HasRoom enter_pushes self.old }
@@ -46,6 +49,7 @@ impl Machine {
     }
 
     /// The task comes to wait where enqueue wanted it to, or for the built-in scheduler.
+    #[inline(always)]
     #[tactic(auto, unfolding(crate::specs::Put::comes_in), using(crate::proofs::Taking::takings))]
     fn come_in<S: Sink>(&mut self, task: u16, cpu: u32, sink: &mut S)
         requires { HasRoom enter_pushes self.old }
@@ -60,6 +64,7 @@ impl Machine {
     }
 
     /// Asks enqueue where the task is to wait, and puts it there.
+    #[inline(always)]
     #[tactic(auto, unfolding(crate::specs::Put::put), using(crate::proofs::Taking::takings))]
     pub(crate) fn put<S: Sink>(&mut self, task: u16, cpu: u32, flags: u64, sink: &mut S)
         requires { HasRoom put_pushes self.old }

@@ -1,7 +1,7 @@
 use Rattle.std.proofs.Common.{◌≡◌, sym, ap, ◌∙◌, subst}
 use Rattle.scx_sched_world.specs.World.{IsLike}
 use Rattle.scx_sched_machine.specs.Steps.{State}
-use Rattle.scx_sched.specs.Sim.{SimState, IsValid}
+use Rattle.scx_sched.specs.Sim.{SimState, IsCounted, accepted}
 use Rattle.scx_sched.proofs.sim.Sim.copy_from.Goals as goal
 
 pub copy_from-requires : goal.copy_from-requires
@@ -15,9 +15,10 @@ copy_from-requires c =
 
 pub returns : goal.returns
 returns c =
-    let all : ◌≡◌ {A = SimState} (record { state = c.copy_from.new.self; events = c.other.inside.events }) (record { state = c.other.inside.machine; events = c.other.inside.events }) =
-    λ i. record { state = c.copy_from.ensures i; events = c.other.inside.events } in
+    let n = accepted c.other.inside.left in
+    let all : ◌≡◌ {A = SimState} (record { state = c.copy_from.new.self; events = n }) (record { state = c.other.inside.machine; events = n }) =
+    λ i. record { state = c.copy_from.ensures i; events = n } in
     all ∙ c.other.view_is
 
 pub invariant_of-self : goal.invariant_of-self
-invariant_of-self c = subst (λ (s : State). IsValid s c.other.inside.events) (sym c.copy_from.ensures) c.other.invariant
+invariant_of-self c = subst (λ (s : State). IsCounted s c.other.inside.left) (sym c.copy_from.ensures) c.other.invariant
