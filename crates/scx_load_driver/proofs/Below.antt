@@ -1,7 +1,7 @@
 -- Lists by a test, one number further, and lists by tests that answer alike.
 use Rattle.std.proofs.Common.{◌≡◌, ℕ, zero, suc, ◌+◌, ◌<◌, ◌≤◌, ◌⊎◌, inl, inr, Bool, true, false, List, [], ◌∷◌, ◌++◌, length, set, get_or, cond, refl, sym, ap, ◌∙◌, add-one, arith}
 use Rattle.std.proofs.lemmas.Bool.{cases_eq}
-use Rattle.std.proofs.lemmas.List.{append-nil, length-set, get_or-set_other, set-get_or}
+use Rattle.std.proofs.lemmas.List.{append-nil, length-set, get_or-set_same, get_or-set_other, set-get_or}
 use Rattle.scx_sched_machine.specs.declared.events.Event.{Event}
 use Rattle.scx_load_driver.specs.Blocks.{events_below, set_below}
 
@@ -99,3 +99,29 @@ module _ {A : Type 0} where
       go : get_or (set_below n test value xs) k d ≡ get_or xs k d → (b : Bool) → test n ≡ b → get_or (cond b (set (set_below n test value xs) n (value n)) (set_below n test value xs)) k d ≡ get_or xs k d
       go before true x = get_or-set_other (set_below n test value xs) n k (value n) d (λ (s : k ≡ n). let y = sym e ∙ ap test s ∙ x in absurd (cc)) ∙ before
       go before false x = before
+
+  -- one that passes has its new one
+  pub set_here : (n k : ℕ) (test : ℕ → Bool) (value : ℕ → A) (xs : List A) (d : A) → k < n → k < length xs → test k ≡ true → get_or (set_below n test value xs) k d ≡ value k
+  set_here zero k test value xs d l within e = absurd (omega (arith, l))
+  set_here (suc n) k test value xs d l within e = go (cases_eq k n) (test n) refl (λ m. set_here n k test value xs d m within e)
+    where
+      go : (k ≡ n) ⊎ (k ≡ n → ⊥) → (b : Bool) → test n ≡ b → (k < n → get_or (set_below n test value xs) k d ≡ value k) → get_or (cond b (set (set_below n test value xs) n (value n)) (set_below n test value xs)) k d ≡ value k
+      go (inl same) true x before = rw same (get_or-set_same (set_below n test value xs) n (value n) d (omega (arith, length_set_below n test value xs, within, same)))
+      go (inl same) false x before = let y = sym e ∙ ap test same ∙ x in absurd (cc)
+      go (inr other) true x before = get_or-set_other (set_below n test value xs) n k (value n) d other ∙ before (omega (arith, l, other))
+      go (inr other) false x before = before (omega (arith, l, other))
+
+  -- between two numbers between which each one that passes has its value already nothing changes
+  pub sets_kept : (a b : ℕ) (test : ℕ → Bool) (value : ℕ → A) (xs : List A) (d : A) → a ≤ b → ((t : ℕ) → a ≤ t → t < b → get_or xs t d ≡ value t) → set_below b test value xs ≡ set_below a test value xs
+  sets_kept a zero test value xs d up h = let same : zero ≡ a = omega (arith, up) in ap (λ k. set_below k test value xs) same
+  sets_kept a (suc b) test value xs d up h = go (cases_eq a (suc b)) (λ l. sets_kept a b test value xs d l (λ t from below. h t from (omega (arith, below))))
+    where
+      stays : get_or (set_below b test value xs) b d ≡ value b → (x : Bool) → cond x (set (set_below b test value xs) b (value b)) (set_below b test value xs) ≡ set_below b test value xs
+      stays e true = ap (λ v. set (set_below b test value xs) b v) (sym e) ∙ set-get_or (set_below b test value xs) b d
+      stays e false = refl
+
+      go : (a ≡ suc b) ⊎ (a ≡ suc b → ⊥) → (a ≤ b → set_below b test value xs ≡ set_below a test value xs) → set_below (suc b) test value xs ≡ set_below a test value xs
+      go (inl e) before = ap (λ k. set_below k test value xs) (sym e)
+      go (inr n) before =
+          stays (kept_above b b test value xs d (omega arith) ∙ h b (omega (arith, up, n)) (omega arith)) (test b)
+          ∙ before (omega (arith, up, n))

@@ -1,8 +1,14 @@
 pub mod Below
+pub mod LastTicks
 pub mod Alike
 pub mod Happening
 pub mod Accepting
 pub mod Law
 pub mod Watching
+pub mod Sets
+pub mod Days
+pub mod Waking
 pub mod Quiet
+pub mod Sleeping
 pub mod Remaining
+pub mod Calm

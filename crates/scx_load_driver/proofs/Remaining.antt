@@ -11,7 +11,7 @@ use Rattle.scx_load_driver.specs.declared.driver.Phase.{Phase}
 use Rattle.scx_load_driver.specs.declared.driver.Phase.TheVariants as phase
 use Rattle.scx_load_driver.specs.Runs.{stepped_all}
 use Rattle.scx_load_driver.specs.Blocks.{Block, Changes, Wakes, Ticks, Sleeps, Clock, changes_at, wakes_at, ticks_of, ran_after}
-use Rattle.scx_load_driver.specs.Watch.{sleeps_seen, due_seen, watched_still, events_seen, watched_after_all}
+use Rattle.scx_load_driver.specs.Watch.{last_ticks_of, sleeps_seen, due_seen, watched_still, events_seen, watched_after_all}
 use Rattle.scx_load_driver.specs.Driver.{DriverState, remaining, is_empty, after_answer, at_first_block, at_next_block, blocks_left, phase_number, next_number}
 
 -- there are blocks where milliseconds are left
@@ -101,7 +101,7 @@ begun_clock d m (suc n) s es some blocks events = let e : suc n - 1 ≡ n = omeg
 pub remaining_begun : (d : DriverState) (s : SimState) → is_empty d.pending ≡ true → remaining (at_next_block d s) s ≡ remaining d s
 remaining_begun d s none = go d.pending d.blocks refl refl none
   where
-    go : (es : List Event) (bs : List Block) → d.pending ≡ es → d.blocks ≡ bs → is_empty es ≡ true → remaining (at_first_block bs d s) s ≡ es ++ events_seen d.plan bs d.memory (watched_after_all d.plan.timings d.memory.ran s es d.watched) (stepped_all s es)
+    go : (es : List Event) (bs : List Block) → d.pending ≡ es → d.blocks ≡ bs → is_empty es ≡ true → remaining (at_first_block bs d s) s ≡ es ++ events_seen d.plan bs d.memory (watched_after_all (last_ticks_of d.plan.timings d.memory.ran) s es d.watched) (stepped_all s es)
     go [] [] p q e = rw (p, q) refl
     go [] (b ∷ bs) p q e = refl
     go (x ∷ es) bs p q e = absurd (cc)
@@ -117,7 +117,7 @@ remaining_taken d after e s first is = go after.pending first ∙ ap (λ x. e �
 pub remaining_end : (d : DriverState) (s : SimState) → is_empty d.pending ≡ true → is_empty d.blocks ≡ true → remaining d s ≡ []
 remaining_end d s none over = go d.pending d.blocks none over
   where
-    go : (es : List Event) (bs : List Block) → is_empty es ≡ true → is_empty bs ≡ true → es ++ events_seen d.plan bs d.memory (watched_after_all d.plan.timings d.memory.ran s es d.watched) (stepped_all s es) ≡ []
+    go : (es : List Event) (bs : List Block) → is_empty es ≡ true → is_empty bs ≡ true → es ++ events_seen d.plan bs d.memory (watched_after_all (last_ticks_of d.plan.timings d.memory.ran) s es d.watched) (stepped_all s es) ≡ []
     go [] [] e f = refl
     go [] (b ∷ bs) e f = absurd (cc)
     go (x ∷ es) bs e f = absurd (cc)

@@ -1,9 +1,9 @@
 -- A driver that watches whoever may have run enough gives all events of a workload: a task that has run enough was
 -- watched as it ran so far.
-use Rattle.std.proofs.Common.{◌≡◌, ℕ, ◌+◌, ◌-◌, ◌*◌, ◌<◌, ◌≤◌, ◌⊎◌, inl, inr, Bool, true, false, not, ◌&&◌, nat_lt, nat_le, ◌==◌, is_none, if◌then◌else◌, List, [], ◌∷◌, ◌++◌, length, set, get_or, map, replicate, Option, Some, None, refl, sym, ap, ◌∙◌, subst, arith}
+use Rattle.std.proofs.Common.{◌≡◌, ℕ, zero, suc, ◌+◌, ◌-◌, ◌*◌, ◌<◌, ◌≤◌, ◌⊎◌, inl, inr, Bool, true, false, not, ◌&&◌, nat_lt, nat_le, ◌==◌, is_none, if◌then◌else◌, List, [], ◌∷◌, ◌++◌, length, set, get_or, map, replicate, Option, Some, None, refl, sym, ap, ◌∙◌, subst, arith}
 use Rattle.std.proofs.lemmas.Bool.{cases_eq, cases_lt, eq-eqb, ne_eqb}
 use Rattle.std.proofs.lemmas.Bool.Decides.{nat_tests}
-use Rattle.std.proofs.lemmas.List.{length-set, length-replicate, get_or-replicate, get_or-set_same, get_or-set_other, set_past}
+use Rattle.std.proofs.lemmas.List.{length-map, length-set, length-replicate, get_or-replicate, get_or-set_same, get_or-set_other, set_past}
 use Rattle.scx_weights.specs.Hierarchy.{Hierarchy, is_active_task, with_weight}
 use Rattle.scx_weights.specs.Hierarchy as tree
 use Rattle.scx_weights.specs.Refusals.{weight_fault}
@@ -21,22 +21,24 @@ use Rattle.scx_sched.proofs.Deciding.{accepted}
 use Rattle.scx_sched.proofs.Events.{IsTaken, Wakes, Sleeps, Ticks, Clocks, Weighs, is_taken}
 use Rattle.scx_load_workloads.specs.declared.workload.Timing.{Timing}
 use Rattle.scx_load_workloads.specs.declared.workload.Change.{Change}
-use Rattle.scx_load_workloads.specs.Workload.{WorkloadState, timing_at}
+use Rattle.scx_load_workloads.specs.Workload.{WorkloadState, timing_at, change_at}
 use Rattle.scx_load_driver.specs.Runs.{stepped_all}
 use Rattle.scx_load_driver.specs.Blocks as block
-use Rattle.scx_load_driver.specs.Blocks.{Plan, Memory, Block, is_due, has_run_enough, block_events, memory_after}
-use Rattle.scx_load_driver.specs.Watch.{is_watched, lacks_at_most, watched_if, watched_at_tick, watched_after, watched_after_all, is_seen, block_seen, memory_seen, watched_in, events_seen}
+use Rattle.scx_load_driver.specs.Blocks.{Plan, Memory, Block, is_due, has_run_enough, block_events, memory_after, events_below, is_at, ran_after}
+use Rattle.scx_load_driver.specs.Watch.{is_watched, last_ticks_of, watched_if, watched_at_tick, watched_after, watched_after_all, is_seen, block_seen, memory_seen, watched_in, events_seen}
 use Rattle.scx_load_driver.specs.Events.{blocks_from, events_from, plan_of, first_memory, workload_events}
 use Rattle.scx_load_driver.specs.Driver.{remaining}
-use Rattle.scx_load_driver.proofs.Below.{events_alike, sets_alike, kept_out, length_set_below}
+use Rattle.scx_load_driver.proofs.Below.{events_alike, sets_alike, kept_out, set_here, length_set_below}
+use Rattle.scx_load_driver.proofs.LastTicks.{last_at, lacking}
+use Rattle.scx_load_driver.proofs.Accepting.{stepped_behind}
 use Rattle.scx_load_driver.proofs.Alike.{IsLike, times_of}
 use Rattle.scx_load_driver.proofs.Happening.{like_clock, like_tick, like_wake, like_sleep, others_stay}
 
 -- ---- lists
 
 -- nobody is watched less
-pub watched_more : (timings : List Timing) (ran : List ℕ) (w : WorldState) (n t u : ℕ) (xs : List Bool) → is_watched xs u ≡ true → is_watched (watched_if n timings ran w t xs) u ≡ true
-watched_more timings ran w n t u xs h = go (lacks_at_most n timings ran w t) (cases_eq u t) (cases_lt t (length xs))
+pub watched_more : (last : List ℕ) (w : WorldState) (t u : ℕ) (xs : List Bool) → is_watched xs u ≡ true → is_watched (watched_if last w t xs) u ≡ true
+watched_more last w t u xs h = go (nat_le (get_or last t 0) (task_at w t).run_ns) (cases_eq u t) (cases_lt t (length xs))
   where
     go : (b : Bool) → (u ≡ t) ⊎ (u ≡ t → ⊥) → (t < length xs) ⊎ (length xs ≤ t) → get_or (if b then set xs t true else xs) u false ≡ true
     go false e l = h
@@ -44,12 +46,12 @@ watched_more timings ran w n t u xs h = go (lacks_at_most n timings ran w t) (ca
     go true (inl e) (inr past) = rw (set_past xs t true past) h
     go true (inr d) l = rw (get_or-set_other xs t u true false d) h
 
--- whoever lacks no more is watched
-watched_here : (timings : List Timing) (ran : List ℕ) (w : WorldState) (n t : ℕ) (xs : List Bool) → t < length xs → lacks_at_most n timings ran w t ≡ true → is_watched (watched_if n timings ran w t xs) t ≡ true
-watched_here timings ran w n t xs l e = rw (e, get_or-set_same xs t true false l) refl
+-- whoever has run for so long is watched
+pub watched_here : (last : List ℕ) (w : WorldState) (t : ℕ) (xs : List Bool) → t < length xs → nat_le (get_or last t 0) (task_at w t).run_ns ≡ true → is_watched (watched_if last w t xs) t ≡ true
+watched_here last w t xs l e = rw (e, get_or-set_same xs t true false l) refl
 
-length_if : (timings : List Timing) (ran : List ℕ) (w : WorldState) (n t : ℕ) (xs : List Bool) → length (watched_if n timings ran w t xs) ≡ length xs
-length_if timings ran w n t xs = keeps_if (λ (ys : List Bool). length ys ≡ length xs) (lacks_at_most n timings ran w t) (set xs t true) xs (length-set xs t true) refl
+length_if : (last : List ℕ) (w : WorldState) (t : ℕ) (xs : List Bool) → length (watched_if last w t xs) ≡ length xs
+length_if last w t xs = keeps_if (λ (ys : List Bool). length ys ≡ length xs) (nat_le (get_or last t 0) (task_at w t).run_ns) (set xs t true) xs (length-set xs t true) refl
 
 -- ---- who has run enough
 
@@ -74,15 +76,72 @@ has_enough timings ran w t h =
     let long : nat_le (tick_ns * (timing_at timings t).run) ((task_at w t).run_ns - get_or ran t 0) ≡ true = grind (arith, nat_tests, h.long) in
     rw (h.runs, some, long) refl
 
--- whoever has run enough after so many ticks more lacks no more than these
-lacking : (run long before after n : ℕ) → 0 < run → tick_ns * run ≤ after - long → after ≤ before + tick_ns * n → (nat_lt 0 run && nat_le (tick_ns * (run - n)) (before - long)) ≡ true
-lacking run long before after n some much grown =
-    let a : nat_lt 0 run ≡ true = grind (arith, nat_tests, some) in
-    let l : tick_ns * (run - n) ≤ before - long = omega (arith, much, grown) in
-    let b : nat_le (tick_ns * (run - n)) (before - long) ≡ true = grind (arith, nat_tests, l) in
-    rw (a, b) refl
+-- ---- who wakes
+
+-- a task that wakes hasn't run since it was remembered how long
+abbrev pub IsFresh : List ℕ → WorldState → Event → Type 0
+IsFresh ran w (Wake t) = (task_at w t).run_ns ≤ get_or ran t 0
+IsFresh ran w e = Unit {0}
+
+-- so of all events, each as its turn comes
+abbrev pub AreFresh : List ℕ → SimState → List Event → Type 0
+AreFresh ran s [] = Unit {0}
+AreFresh ran s (e ∷ es) = IsFresh ran s.state.world e × AreFresh ran (after_event s e) es
+
+module _ (ran : List ℕ) where
+  fresh_behind : (xs ys : List Event) (s : SimState) → AreFresh ran s xs → AreFresh ran (stepped_all s xs) ys → AreFresh ran s (xs ++ ys)
+  fresh_behind [] ys s a b = b
+  fresh_behind (x ∷ xs) ys s a b = (a.0, fresh_behind xs ys (after_event s x) a.1 b)
+
+  -- events by which nobody wakes
+  fresh_others : (n : ℕ) (test : ℕ → Bool) (event : ℕ → Event) (s : SimState) → ((k : ℕ) (w : WorldState) → IsFresh ran w (event k)) → AreFresh ran s (events_below n test event)
+  fresh_others zero test event s h = tt
+  fresh_others (suc n) test event s h = go (test n) (fresh_others n test event s h)
+    where
+      xs : List Event
+      xs = events_below n test event
+
+      go : (b : Bool) → AreFresh ran s xs → AreFresh ran s (xs ++ (if b then event n ∷ [] else []))
+      go true before = fresh_behind xs (event n ∷ []) s before (h n (stepped_all s xs).state.world, tt)
+      go false before = fresh_behind xs [] s before tt
+
+  -- nobody runs as another task wakes
+  woken_since : (s : SimState) (t u : ℕ) → (task_at (after_event s (Wake t)).state.world u).run_ns ≤ (task_at s.state.world u).run_ns
+  woken_since s t u = go (refusal s (Wake t))
+    where
+      n : ℕ
+      n = length s.state.world.tasks
+
+      c : ℕ
+      c = length s.state.world.cpus
+
+      go : (o : Option Refused) → (task_at (stepped_if o s (Wake t)).state.world u).run_ns ≤ (task_at s.state.world u).run_ns
+      go None = (like_wake s.state.world.tree (times_of n s.state.world) c s.state t ((refl, refl, refl), (refl, λ u. omega arith), refl)).1.1 u
+      go (Some r) = omega arith
+
+  -- tasks of which it was just remembered
+  fresh_wakes : (n : ℕ) (test : ℕ → Bool) (s : SimState) → ((k : ℕ) → k < n → test k ≡ true → (task_at s.state.world k).run_ns ≤ get_or ran k 0)
+      → AreFresh ran s (events_below n test Wake) × ((u : ℕ) → (task_at (stepped_all s (events_below n test Wake)).state.world u).run_ns ≤ (task_at s.state.world u).run_ns)
+  fresh_wakes zero test s h = (tt, λ u. omega arith)
+  fresh_wakes (suc n) test s h = go (test n) refl (fresh_wakes n test s (λ k l. h k (omega (arith, l))))
+    where
+      xs : List Event
+      xs = events_below n test Wake
+
+      v : SimState
+      v = stepped_all s xs
+
+      go : (b : Bool) → test n ≡ b → AreFresh ran s xs × ((u : ℕ) → (task_at v.state.world u).run_ns ≤ (task_at s.state.world u).run_ns)
+          → AreFresh ran s (xs ++ (if b then Wake n ∷ [] else [])) × ((u : ℕ) → (task_at (stepped_all s (xs ++ (if b then Wake n ∷ [] else []))).state.world u).run_ns ≤ (task_at s.state.world u).run_ns)
+      go true e before =
+          let here : (task_at v.state.world n).run_ns ≤ get_or ran n 0 = omega (arith, before.1 n, h n (omega arith) e) in
+          (fresh_behind xs (Wake n ∷ []) s before.0 (here, tt), λ u. rw (stepped_behind xs (Wake n ∷ []) s) (omega (arith, before.1 u, woken_since v n u)))
+      go false e before = (fresh_behind xs [] s before.0 tt, λ u. rw (stepped_behind xs [] s) (before.1 u))
 
 module _ (timings : List Timing) (ran : List ℕ) where
+  abbrev last : List ℕ
+  last = last_ticks_of timings ran
+
   -- whoever has run enough is watched
   pub record AreAllWatched (xs : List Bool) (w : WorldState) : Type 0 where
     pub many : length xs ≡ length timings
@@ -102,37 +161,38 @@ module _ (timings : List Timing) (ran : List ℕ) where
   -- ---- an event
 
   -- a task that wakes
-  woken : (xs : List Bool) (w v : WorldState) (t : ℕ) → ((u : ℕ) → (u ≡ t → ⊥) → is_runnable v u ≡ is_runnable w u) → ((u : ℕ) → (task_at v u).run_ns ≤ (task_at w u).run_ns) → AreAllWatched xs w → AreAllWatched (watched_if 0 timings ran w t xs) v
-  woken xs w v t runs grown h = record { many = length_if timings ran w 0 t xs ∙ h.many; all = λ u l e. go u l (enough timings ran v u e) (cases_eq u t) }
+  woken : (xs : List Bool) (w v : WorldState) (t : ℕ) → ((u : ℕ) → (u ≡ t → ⊥) → is_runnable v u ≡ is_runnable w u) → ((u : ℕ) → (task_at v u).run_ns ≤ (task_at w u).run_ns) → (task_at w t).run_ns ≤ get_or ran t 0 → AreAllWatched xs w → AreAllWatched xs v
+  woken xs w v t runs grown fresh h = record { many = h.many; all = λ u l e. go u l (enough timings ran v u e) (cases_eq u t) }
     where
-      go : (u : ℕ) → u < length timings → Enough timings ran v u → (u ≡ t) ⊎ (u ≡ t → ⊥) → is_watched (watched_if 0 timings ran w t xs) u ≡ true
+      go : (u : ℕ) → u < length timings → Enough timings ran v u → (u ≡ t) ⊎ (u ≡ t → ⊥) → is_watched xs u ≡ true
       go u l x (inl e) =
-          subst (λ k. is_watched (watched_if 0 timings ran w t xs) k ≡ true) (sym e)
-          (watched_here timings ran w 0 t xs (omega (arith, l, e, h.many)) (subst (λ k. lacks_at_most 0 timings ran w k ≡ true) e (lacking (timing_at timings u).run (get_or ran u 0) (task_at w u).run_ns (task_at v u).run_ns 0 x.some x.long (omega (arith, grown u)))))
-      go u l x (inr d) = watched_more timings ran w 0 t u xs (h.all u l (has_enough timings ran w u (earlier w v u (λ y. sym (runs u d) ∙ y) (grown u) x)))
+          let here : (task_at w u).run_ns ≤ get_or ran u 0 = subst (λ k. (task_at w k).run_ns ≤ get_or ran k 0) (sym e) fresh in
+          absurd (omega (arith, x.some, x.long, grown u, here))
+      go u l x (inr d) = h.all u l (has_enough timings ran w u (earlier w v u (λ y. sym (runs u d) ∙ y) (grown u) x))
 
   -- a processor that ticks
-  ticked : (xs : List Bool) (w v : WorldState) (o : Option ℕ) → ((u : ℕ) → is_runnable v u ≡ is_runnable w u) → ((u : ℕ) → (task_at v u).run_ns ≤ (task_at w u).run_ns + (if is_this u o then tick_ns else 0)) → AreAllWatched xs w → AreAllWatched (watched_at_tick timings ran w o xs) v
+  ticked : (xs : List Bool) (w v : WorldState) (o : Option ℕ) → ((u : ℕ) → is_runnable v u ≡ is_runnable w u) → ((u : ℕ) → (task_at v u).run_ns ≤ (task_at w u).run_ns + (if is_this u o then tick_ns else 0)) → AreAllWatched xs w → AreAllWatched (watched_at_tick last w o xs) v
   ticked xs w v None runs grown h = quietly xs w v (λ t y. sym (runs t) ∙ y) (λ t. omega (arith, grown t)) h
-  ticked xs w v (Some t) runs grown h = record { many = length_if timings ran w 1 t xs ∙ h.many; all = λ u l e. go u l (enough timings ran v u e) (cases_eq u t) (grown u) }
+  ticked xs w v (Some t) runs grown h = record { many = length_if last w t xs ∙ h.many; all = λ u l e. go u l (enough timings ran v u e) (cases_eq u t) (grown u) }
     where
-      go : (u : ℕ) → u < length timings → Enough timings ran v u → (u ≡ t) ⊎ (u ≡ t → ⊥) → (task_at v u).run_ns ≤ (task_at w u).run_ns + (if u == t then tick_ns else 0) → is_watched (watched_if 1 timings ran w t xs) u ≡ true
+      go : (u : ℕ) → u < length timings → Enough timings ran v u → (u ≡ t) ⊎ (u ≡ t → ⊥) → (task_at v u).run_ns ≤ (task_at w u).run_ns + (if u == t then tick_ns else 0) → is_watched (watched_if last w t xs) u ≡ true
       go u l x (inl e) more =
           let one : (task_at v u).run_ns ≤ (task_at w u).run_ns + tick_ns = subst (λ b. (task_at v u).run_ns ≤ (task_at w u).run_ns + (if b then tick_ns else 0)) (eq-eqb u t e) more in
-          subst (λ k. is_watched (watched_if 1 timings ran w t xs) k ≡ true) (sym e)
-          (watched_here timings ran w 1 t xs (omega (arith, l, e, h.many)) (subst (λ k. lacks_at_most 1 timings ran w k ≡ true) e (lacking (timing_at timings u).run (get_or ran u 0) (task_at w u).run_ns (task_at v u).run_ns 1 x.some x.long (omega (arith, one)))))
+          let lacks : nat_le (get_or last u 0) (task_at w u).run_ns ≡ true = ap (λ k. nat_le k (task_at w u).run_ns) (last_at timings ran u l) ∙ lacking (timing_at timings u).run (get_or ran u 0) (task_at w u).run_ns (task_at v u).run_ns x.some x.long one in
+          subst (λ k. is_watched (watched_if last w t xs) k ≡ true) (sym e)
+          (watched_here last w t xs (omega (arith, l, e, h.many)) (subst (λ k. nat_le (get_or last k 0) (task_at w k).run_ns ≡ true) e lacks))
       go u l x (inr d) more =
           let none : (task_at v u).run_ns ≤ (task_at w u).run_ns + 0 = subst (λ b. (task_at v u).run_ns ≤ (task_at w u).run_ns + (if b then tick_ns else 0)) (ne_eqb u t d) more in
-          watched_more timings ran w 1 t u xs (h.all u l (has_enough timings ran w u (earlier w v u (λ y. sym (runs u) ∙ y) (omega (arith, none)) x)))
+          watched_more last w t u xs (h.all u l (has_enough timings ran w u (earlier w v u (λ y. sym (runs u) ∙ y) (omega (arith, none)) x)))
 
   -- an event that is refused changes nothing
-  unmoved : (xs : List Bool) (w : WorldState) (v : Event) → AreAllWatched xs w → AreAllWatched (watched_after timings ran w v xs) w
-  unmoved xs w (Wake t) h = record { many = length_if timings ran w 0 t xs ∙ h.many; all = λ u l e. watched_more timings ran w 0 t u xs (h.all u l e) }
+  unmoved : (xs : List Bool) (w : WorldState) (v : Event) → AreAllWatched xs w → AreAllWatched (watched_after last w v xs) w
+  unmoved xs w (Wake t) h = h
   unmoved xs w (Tick c) h = go (running w c)
     where
-      go : (o : Option ℕ) → AreAllWatched (watched_at_tick timings ran w o xs) w
+      go : (o : Option ℕ) → AreAllWatched (watched_at_tick last w o xs) w
       go None = h
-      go (Some t) = record { many = length_if timings ran w 1 t xs ∙ h.many; all = λ u l e. watched_more timings ran w 1 t u xs (h.all u l e) }
+      go (Some t) = record { many = length_if last w t xs ∙ h.many; all = λ u l e. watched_more last w t u xs (h.all u l e) }
   unmoved xs w (Sleep t) h = h
   unmoved xs w Clock h = h
   unmoved xs w (SetWeight g x) h = h
@@ -149,8 +209,8 @@ module _ (timings : List Timing) (ran : List ℕ) where
       go (inr d) l = sym (others_stay h t u false d) ∙ e
 
   -- one that is accepted
-  moved : (xs : List Bool) (s : State) (v : Event) → IsTaken s v → AreAllWatched xs s.world → AreAllWatched (watched_after timings ran s.world v xs) (machine.event_step s v).state.world
-  moved xs s v taken h = go v taken
+  moved : (xs : List Bool) (s : State) (v : Event) → IsTaken s v → IsFresh ran s.world v → AreAllWatched xs s.world → AreAllWatched (watched_after last s.world v xs) (machine.event_step s v).state.world
+  moved xs s v taken fresh h = go v taken fresh
     where
       n : ℕ
       n = length s.world.tasks
@@ -164,37 +224,37 @@ module _ (timings : List Timing) (ran : List ℕ) where
       runs : (h : Hierarchy) (w : WorldState) → w.tree.active ≡ h.active → (u : ℕ) → is_runnable w u ≡ is_active_task h u
       runs h w e u = ap (λ ys. get_or ys u false) e
 
-      go : (v : Event) → IsTaken s v → AreAllWatched (watched_after timings ran s.world v xs) (machine.event_step s v).state.world
-      go _ (Wakes t within resting) =
+      go : (v : Event) → IsTaken s v → IsFresh ran s.world v → AreAllWatched (watched_after last s.world v xs) (machine.event_step s v).state.world
+      go _ (Wakes t within resting) still =
           let after = (machine.event_step s (Wake t)).state.world in
           let x = like_wake s.world.tree (times_of n s.world) c s t like in
-          woken xs s.world after t (λ u d. runs (tree.with_task s.world.tree t true) after x.0.2 u ∙ others_stay s.world.tree t u true d) (λ u. x.1.1 u) h
-      go _ (Sleeps t within runnable) =
+          woken xs s.world after t (λ u d. runs (tree.with_task s.world.tree t true) after x.0.2 u ∙ others_stay s.world.tree t u true d) (λ u. x.1.1 u) still h
+      go _ (Sleeps t within runnable) still =
           let after = (machine.event_step s (Sleep t)).state.world in
           let x = like_sleep s.world.tree (times_of n s.world) c s t within like in
           quietly xs s.world after (λ u y. slept s.world.tree t u (sym (runs (tree.with_task s.world.tree t false) after x.0.2 u) ∙ y)) (λ u. x.1.1 u) h
-      go _ (Ticks d l) =
+      go _ (Ticks d l) still =
           let after = (machine.event_step s (Tick d)).state.world in
           let x = like_tick s.world.tree (times_of n s.world) c s d like in
           ticked xs s.world after (running s.world d) (λ u. runs s.world.tree after x.0.2 u) (λ u. x.1.1 u) h
-      go _ Clocks =
+      go _ Clocks still =
           let after = (machine.event_step s Clock).state.world in
           let x = like_clock s.world.tree (times_of n s.world) c s like in
           quietly xs s.world after (λ u y. sym (runs s.world.tree after x.0.2 u) ∙ y) (λ u. x.1.1 u) h
-      go _ (Weighs g k) = keeps_if (AreAllWatched xs) (is_none (weight_fault s.world.tree g k)) (with_tree s.world (with_weight s.world.tree g k)) s.world (record { many = h.many; all = λ t l e. h.all t l e }) h
+      go _ (Weighs g k) still = keeps_if (AreAllWatched xs) (is_none (weight_fault s.world.tree g k)) (with_tree s.world (with_weight s.world.tree g k)) s.world (record { many = h.many; all = λ t l e. h.all t l e }) h
 
   -- each event keeps it
-  watching : (xs : List Bool) (s : SimState) (v : Event) → AreAllWatched xs s.state.world → AreAllWatched (watched_after timings ran s.state.world v xs) (after_event s v).state.world
-  watching xs s v h = go (refusal s v) refl
+  watching : (xs : List Bool) (s : SimState) (v : Event) → IsFresh ran s.state.world v → AreAllWatched xs s.state.world → AreAllWatched (watched_after last s.state.world v xs) (after_event s v).state.world
+  watching xs s v fresh h = go (refusal s v) refl
     where
-      go : (o : Option Refused) → refusal s v ≡ o → AreAllWatched (watched_after timings ran s.state.world v xs) (stepped_if o s v).state.world
-      go None e = moved xs s.state v (is_taken s.state v (accepted s v e).taken) h
+      go : (o : Option Refused) → refusal s v ≡ o → AreAllWatched (watched_after last s.state.world v xs) (stepped_if o s v).state.world
+      go None e = moved xs s.state v (is_taken s.state v (accepted s v e).taken) fresh h
       go (Some r) e = unmoved xs s.state.world v h
 
   -- and so does a list of events
-  watching_all : (es : List Event) (xs : List Bool) (s : SimState) → AreAllWatched xs s.state.world → AreAllWatched (watched_after_all timings ran s es xs) (stepped_all s es).state.world
-  watching_all [] xs s h = h
-  watching_all (e ∷ es) xs s h = watching_all es (watched_after timings ran s.state.world e xs) (after_event s e) (watching xs s e h)
+  watching_all : (es : List Event) (xs : List Bool) (s : SimState) → AreFresh ran s es → AreAllWatched xs s.state.world → AreAllWatched (watched_after_all last s es xs) (stepped_all s es).state.world
+  watching_all [] xs s fresh h = h
+  watching_all (e ∷ es) xs s fresh h = watching_all es (watched_after last s.state.world e xs) (after_event s e) fresh.1 (watching xs s e fresh.0 h)
 
 -- ---- a block
 
@@ -257,15 +317,43 @@ module _ (p : Plan) (k : Memory) (xs : List Bool) (w : WorldState) (h : AreAllWa
 
 -- ---- all blocks
 
+-- as a block begins it was remembered how long each has run that wakes in it
+fresh_block : (p : Plan) (k : Memory) (xs : List Bool) (s : SimState) (b : Block) → length k.due ≤ length k.ran → AreFresh (memory_seen p b k xs s.state.world).ran s (block_seen p b k xs s.state.world)
+fresh_block p k xs s (block.Changes m) l = fresh_others k.ran (length p.changes) (is_at p.changes m) (λ i. SetWeight (change_at p.changes i).group (change_at p.changes i).weight) s (λ i w. tt)
+fresh_block p k xs s (block.Wakes m) l = (fresh_wakes later (length k.due) (is_due k.due m w) s (λ t within e. known t within e)).0
+  where
+    w : WorldState
+    w = s.state.world
+
+    later : List ℕ
+    later = ran_after k.due k.ran m w
+
+    known : (t : ℕ) → t < length k.due → is_due k.due m w t ≡ true → (task_at w t).run_ns ≤ get_or later t 0
+    known t within e =
+        let here : get_or later t 0 ≡ (task_at w t).run_ns = set_here (length k.due) t (is_due k.due m w) (λ u. (task_at w u).run_ns) k.ran 0 within (omega (arith, within, l)) e in
+        omega (arith, here)
+fresh_block p k xs s block.Ticks l = fresh_others k.ran p.cpus (λ c. true) Tick s (λ i w. tt)
+fresh_block p k xs s (block.Sleeps m) l = fresh_others k.ran (length p.timings) (is_seen p.timings k.ran xs s.state.world) Sleep s (λ i w. tt)
+fresh_block p k xs s block.Clock l = (tt, tt)
+
+-- as many tasks are remembered
+kept_lengths : (p : Plan) (k : Memory) (xs : List Bool) (w : WorldState) (b : Block) → length k.due ≤ length k.ran → length (memory_seen p b k xs w).due ≤ length (memory_seen p b k xs w).ran
+kept_lengths p k xs w (block.Changes m) l = l
+kept_lengths p k xs w (block.Wakes m) l = omega (arith, l, length_set_below (length k.due) (is_due k.due m w) (λ t. (task_at w t).run_ns) k.ran)
+kept_lengths p k xs w block.Ticks l = l
+kept_lengths p k xs w (block.Sleeps m) l = omega (arith, l, length_set_below (length p.timings) (is_seen p.timings k.ran xs w) (λ t. m + 1 + (timing_at p.timings t).sleep) k.due)
+kept_lengths p k xs w block.Clock l = l
+
 -- the driver sees all events of these blocks
-sees_all : (p : Plan) (bs : List Block) (k : Memory) (xs : List Bool) (s : SimState) → AreAllWatched p.timings k.ran xs s.state.world → events_seen p bs k xs s ≡ events_from p bs k s
-sees_all p [] k xs s h = refl
-sees_all p (b ∷ bs) k xs s h =
+sees_all : (p : Plan) (bs : List Block) (k : Memory) (xs : List Bool) (s : SimState) → length k.due ≤ length k.ran → AreAllWatched p.timings k.ran xs s.state.world → events_seen p bs k xs s ≡ events_from p bs k s
+sees_all p [] k xs s l h = refl
+sees_all p (b ∷ bs) k xs s l h =
     let w = s.state.world in
     let es = block_seen p b k xs w in
     let after = memory_seen p b k xs w in
     let still = watched_in p b k xs w in
-    let later = sees_all p bs after (watched_after_all p.timings after.ran s es still) (stepped_all s es) (watching_all p.timings after.ran es still s (begun p k xs w h b)) in
+    let seen = watched_after_all (last_ticks_of p.timings after.ran) s es still in
+    let later = sees_all p bs after seen (stepped_all s es) (kept_lengths p k xs w b l) (watching_all p.timings after.ran es still s (fresh_block p k xs s b l) (begun p k xs w h b)) in
     ap (λ fs. es ++ fs) later
     ∙ ap (λ m. es ++ events_from p bs m (stepped_all s es)) (same_memory p k xs w h b)
     ∙ ap (λ fs. fs ++ events_from p bs (memory_after p b k w) (stepped_all s fs)) (same_events p k xs w h b)
@@ -277,4 +365,5 @@ pub first_remain : (w : WorkloadState) (s : SimState) (cpus : ℕ) (timings : Li
 first_remain w s cpus timings changes pending left due ran watched e f g h i j k l =
     rw (e, f, g, h, i, j, k, l)
     (sees_all (plan_of w) (blocks_from w.ms 0) (first_memory w.timings) (replicate (length w.timings) true) s
+    (omega (arith, length-map w.timings (λ (t : Timing). t.start), length-replicate {A = ℕ} (length w.timings) 0))
     (record { many = length-replicate (length w.timings) true; all = λ t l e. get_or-replicate (length w.timings) t true false l }))

@@ -1,5 +1,5 @@
 -- A driver: what is left of a workload.
-use Rattle.std.specs.Prelude.{ℕ, ◌+◌, ◌≡◌, ◌≤◌, Bool, true, false, List, [], ◌∷◌, ◌++◌, drop, length, vec_capacity, ◌<◌}
+use Rattle.std.specs.Prelude.{ℕ, ◌+◌, ◌≡◌, ◌≤◌, Bool, true, false, not, ◌&&◌, nat_lt, List, [], ◌∷◌, ◌++◌, drop, length, vec_capacity, ◌<◌}
 use Rattle.scx_sched_machine.specs.declared.events.Event.{Event}
 use Rattle.scx_sched.specs.Sim.{SimState}
 use Rattle.scx_load_workloads.specs.Workload.{max_ms, timing_at}
@@ -8,8 +8,9 @@ use Rattle.scx_load_driver.specs.declared.driver.Phase.TheVariants as phase
 use Rattle.scx_load_driver.specs.declared.driver.Driver.TheInside.{Inside}
 use Rattle.scx_load_driver.specs.Runs.{stepped_all}
 use Rattle.scx_load_driver.specs.Blocks.{Plan, Memory, Block, Changes, Wakes, Ticks, Sleeps, Clock, ticks_of}
-use Rattle.scx_load_driver.specs.Quiet.{AreQuiet}
-use Rattle.scx_load_driver.specs.Watch.{is_watched, watched_after, watched_after_all, block_seen, memory_seen, watched_in, events_seen}
+use Rattle.scx_load_driver.specs.Changes.{AreLater}
+use Rattle.scx_load_driver.specs.Calendar.{IsWhole, AreNoted}
+use Rattle.scx_load_driver.specs.Watch.{is_watched, last_ticks_of, watched_after, watched_after_all, block_seen, memory_seen, watched_in, events_seen}
 use Rattle.scx_load_driver.specs.Events.{blocks_from}
 
 -- the events of the block at hand that are still to come, and the blocks behind it
@@ -23,7 +24,8 @@ pub record DriverState : Type 0 where
 -- what is still to come, from that state on
 abbrev pub remaining : DriverState → SimState → List Event
 remaining d s =
-    let watched = watched_after_all d.plan.timings d.memory.ran s d.pending d.watched in
+    let last = last_ticks_of d.plan.timings d.memory.ran in
+    let watched = watched_after_all last s d.pending d.watched in
     d.pending ++ events_seen d.plan d.blocks d.memory watched (stepped_all s d.pending)
 
 -- whether a list has no items
@@ -36,7 +38,8 @@ abbrev pub after_answer : DriverState → SimState → Event → List Event → 
 after_answer d s e es =
     record d {
       pending = es;
-      watched = watched_after d.plan.timings d.memory.ran s.state.world e d.watched;
+      watched =
+          watched_after (last_ticks_of d.plan.timings d.memory.ran) s.state.world e d.watched;
     }
 
 -- the driver as the first of these blocks begins, with the others behind it; as it is where
@@ -87,6 +90,31 @@ woken_before phase.Ticks m = m + 1
 woken_before phase.Sleeps m = m + 1
 woken_before phase.Clock m = m + 1
 
+-- before which millisecond no weight changes any more
+abbrev pub changed_before : Phase → ℕ → ℕ
+changed_before phase.Changes m = m
+changed_before phase.Wakes m = m + 1
+changed_before phase.Ticks m = m + 1
+changed_before phase.Sleeps m = m + 1
+changed_before phase.Clock m = m + 1
+
+-- no event comes before the clock: all went to sleep who do, or nobody may be watched
+abbrev pub is_clock_next : Phase → Bool → Bool
+is_clock_next phase.Changes some = false
+is_clock_next phase.Wakes some = false
+is_clock_next phase.Ticks some = false
+is_clock_next phase.Sleeps some = not some
+is_clock_next phase.Clock some = true
+
+-- no event comes before the ticks: all woke who do, or a millisecond begins in which no weight
+-- changes and nobody wakes
+abbrev pub are_ticks_next : Phase → ℕ → ℕ → ℕ → Bool
+are_ticks_next phase.Changes m change wake = nat_lt m change && nat_lt m wake
+are_ticks_next phase.Wakes m change wake = false
+are_ticks_next phase.Ticks m change wake = true
+are_ticks_next phase.Sleeps m change wake = false
+are_ticks_next phase.Clock m change wake = false
+
 -- nobody is watched, unless it may be that somebody is
 abbrev pub AreUnwatched : Bool → List Bool → Type 0
 AreUnwatched some watched = some ≡ false → (t : ℕ) → is_watched watched t ≡ false
@@ -99,7 +127,7 @@ state_of d = record {
   pending = drop d.cpu (ticks_of d.cpus) ++ drop d.taken d.events.items;
   blocks = blocks_left d.phase d.clock d.left;
   memory = record { due = d.due.items; ran = d.ran.items };
-  watched = d.watched.items;
+  watched = d.watched;
 }
 
 -- there is room for the events of a block, and no time grows out of its range
@@ -112,8 +140,11 @@ pub record IsKept (d : Inside) : Type 0 where
   pub few_changes : length d.changes.items ≤ 1024
   pub due : length d.due.items ≡ length d.timings.items
   pub ran : length d.ran.items ≡ length d.timings.items
-  pub watched : length d.watched.items ≡ length d.timings.items
+  pub last : d.last_ticks.items ≡ last_ticks_of d.timings.items d.ran.items
+  pub watched : length d.watched ≡ length d.timings.items
   pub times : d.clock + d.left ≤ max_ms
   pub sleeps : (t : ℕ) → t < length d.timings.items → (timing_at d.timings.items t).sleep ≤ max_ms
-  pub quiet : AreQuiet d.due.items (woken_before d.phase d.clock) d.quiet
-  pub unwatched : AreUnwatched d.some_watched d.watched.items
+  pub later : AreLater d.changes.items (changed_before d.phase d.clock) d.next_change
+  pub whole : IsWhole d.calendar
+  pub noted : AreNoted d.due.items (woken_before d.phase d.clock) d.calendar
+  pub unwatched : AreUnwatched d.some_watched d.watched

@@ -1,7 +1,9 @@
 pub mod Runs
 pub mod Blocks
 pub mod Events
-pub mod Quiet
+pub mod Sets
+pub mod Calendar
+pub mod Changes
 pub mod Watch
 pub mod Driver
 pub mod Laws

@@ -1,6 +1,6 @@
 -- Whom a driver watches: tasks that may have run as long as they run at once. As tasks go to sleep it
 -- looks at no other.
-use Rattle.std.specs.Prelude.{ℕ, ◌+◌, ◌-◌, ◌*◌, Bool, true, false, not, ◌&&◌, nat_lt, nat_le, List, [], ◌∷◌, ◌++◌, length, Option, Some, None, slice_index, slice_index_or, slice_set, if◌then◌else◌}
+use Rattle.std.specs.Prelude.{ℕ, ◌+◌, ◌-◌, ◌*◌, ◌^◌, min, Bool, true, false, not, ◌&&◌, ◌==◌, nat_le, List, [], ◌∷◌, ◌++◌, length, Option, Some, None, slice_index, slice_index_or, slice_set, if◌then◌else◌}
 use Rattle.scx_sched_world.specs.World.{WorldState, task_at, running}
 use Rattle.scx_sched_world.specs.Tasks.{tick_ns}
 use Rattle.scx_sched_machine.specs.declared.events.Event.{Event}
@@ -17,38 +17,37 @@ is_watched watched t = slice_index_or watched t false
 
 -- ---- from event to event
 
--- the task has run as long as it runs at once, but for so many ticks at most; one that runs 0 at once
--- never has
-abbrev pub lacks_at_most : ℕ → List Timing → List ℕ → WorldState → ℕ → Bool
-lacks_at_most ticks timings ran w t =
-    nat_lt 0 (timing_at timings t).run
-    && nat_le (tick_ns * ((timing_at timings t).run - ticks))
-    ((task_at w t).run_ns - slice_index ran t)
+-- how long a task that runs so many milliseconds at once has run in all, once it lacks one tick at
+-- most, if it had run so long as it woke; one that runs 0 at once never sleeps
+abbrev pub last_tick : ℕ → ℕ → ℕ
+last_tick run ran = if run == 0 then 2 ^ 64 - 1 else min (2 ^ 64 - 1) (ran + tick_ns * (run - 1))
 
--- the task is watched where it lacks no more
-abbrev pub watched_if : ℕ → List Timing → List ℕ → WorldState → ℕ → List Bool → List Bool
-watched_if ticks timings ran w t watched =
-    if lacks_at_most ticks timings ran w t then slice_set watched t true else watched
+-- the same of each task
+abbrev pub last_ticks_of : List Timing → List ℕ → List ℕ
+last_ticks_of [] ran = []
+last_ticks_of (t ∷ ts) [] = last_tick t.run 0 ∷ last_ticks_of ts []
+last_ticks_of (t ∷ ts) (r ∷ rs) = last_tick t.run r ∷ last_ticks_of ts rs
+
+-- the task is watched once it has run so long as the list says
+abbrev pub watched_if : List ℕ → WorldState → ℕ → List Bool → List Bool
+watched_if last w t watched =
+    if nat_le (slice_index last t) (task_at w t).run_ns then slice_set watched t true else watched
 
 -- whoever runs on a processor that ticks is watched, where it lacks at most that tick
-abbrev pub watched_at_tick : List Timing → List ℕ → WorldState → Option ℕ → List Bool → List Bool
-watched_at_tick timings ran w None watched = watched
-watched_at_tick timings ran w (Some t) watched = watched_if 1 timings ran w t watched
+abbrev pub watched_at_tick : List ℕ → WorldState → Option ℕ → List Bool → List Bool
+watched_at_tick last w None watched = watched
+watched_at_tick last w (Some t) watched = watched_if last w t watched
 
--- and a task that wakes, where it lacks none
-abbrev pub watched_after : List Timing → List ℕ → WorldState → Event → List Bool → List Bool
-watched_after timings ran w (event.Wake t) watched = watched_if 0 timings ran w t watched
-watched_after timings ran w (event.Tick c) watched =
-    watched_at_tick timings ran w (running w c) watched
-watched_after timings ran w e watched = watched
+-- who is watched after an event
+abbrev pub watched_after : List ℕ → WorldState → Event → List Bool → List Bool
+watched_after last w (event.Tick c) watched = watched_at_tick last w (running w c) watched
+watched_after last w e watched = watched
 
 -- who is watched after these events
-abbrev pub watched_after_all
-    : List Timing → List ℕ → SimState → List Event → List Bool → List Bool
-watched_after_all timings ran s [] watched = watched
-watched_after_all timings ran s (e ∷ es) watched =
-    watched_after_all timings ran (after_event s e) es
-    (watched_after timings ran s.state.world e watched)
+abbrev pub watched_after_all : List ℕ → SimState → List Event → List Bool → List Bool
+watched_after_all last s [] watched = watched
+watched_after_all last s (e ∷ es) watched =
+    watched_after_all last (after_event s e) es (watched_after last s.state.world e watched)
 
 -- ---- from block to block
 
@@ -96,4 +95,5 @@ events_seen p (b ∷ bs) k watched s =
     let after = memory_seen p b k watched s.state.world in
     let still = watched_in p b k watched s.state.world in
     es
-    ++ events_seen p bs after (watched_after_all p.timings after.ran s es still) (stepped_all s es)
+    ++ events_seen p bs after (watched_after_all (last_ticks_of p.timings after.ran) s es still)
+    (stepped_all s es)

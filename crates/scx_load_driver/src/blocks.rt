@@ -3,12 +3,14 @@ ghost use Rattle.std.specs.Prelude.{◌≡◌, ℕ, ◌+◌, ◌≤◌, ◌<◌,
 ghost use Rattle.scx_sched_world.specs.World.{task_at, running};
 ghost use Rattle.scx_load_workloads.specs.Workload.{max_ms, timing_at};
 ghost use Rattle.scx_load_driver.specs.Blocks.{is_due, has_run_enough, changes_at, wakes_at, ran_after};
-ghost use Rattle.scx_load_driver.specs.Watch.{lacks_at_most, watched_if, watched_at_tick, watched_after, is_seen, sleeps_seen, due_seen, watched_still};
+ghost use Rattle.scx_load_driver.specs.Watch.{last_tick, last_ticks_of, watched_if, watched_at_tick, watched_after, sleeps_seen, due_seen, watched_still};
 ghost use Rattle.scx_sched_machine.specs.declared.events.Event.TheVariants.{Wake};
-ghost use Rattle.scx_load_driver.specs.Quiet.{AreQuiet};
+ghost use Rattle.scx_load_driver.specs.Changes.{AreLater};
+ghost use Rattle.scx_load_driver.specs.Calendar.{IsWhole, AreNoted};
 ghost use Rattle.scx_load_driver.specs.Driver.{AreUnwatched};
 
-use crate::rows::{Quiet, ROW};
+use crate::calendar::Calendar;
+use crate::set::NumberSet;
 use scx_load_workloads::{Change, Timing};
 use scx_sched::{Event, Sim};
 use std::cmp;
@@ -16,15 +18,12 @@ use std::cmp;
 /// How long a millisecond is, in nanoseconds.
 const MS_NS: u64 = 1_000_000;
 
-/// How long the task has run, in nanoseconds.
+/// How long the task has run, in nanoseconds; 0 where there is none.
+#[inline(always)]
 fn run_ns(sim: &Sim, task: u16) -> u64
     ensures { result ≡ (task_at sim.now.state.world task).run_ns }
 {
-    if task < sim.tasks() {
-        sim.run_ns(task)
-    } else {
-        0
-    }
+    sim.world().task(task).run_ns
 }
 
 /// Whether the task sleeps, and wakes now.
@@ -47,9 +46,22 @@ fn has_run_enough(timings: &[Timing], ran: &[u64], sim: &Sim, task: u16) -> bool
         && MS_NS * u64::from(run) <= run_ns(sim, task).saturating_sub(ran[task as usize])
 }
 
+/// When a weight changes first behind that millisecond.
+fn next_change(changes: &[Change], now: u32) -> u32
+    ensures { AreLater changes.now (now + 1) result }
+{
+    let mut next = u32::MAX;
+    for change in changes {
+        if now < change.at {
+            next = cmp::min(next, change.at);
+        }
+    }
+    next
+}
+
 /// The changes of weights of this millisecond.
 #[tactic(auto, using(crate::proofs::Below::events_push, crate::proofs::Below::events_skip, crate::proofs::Below::set_push, crate::proofs::Below::set_skip))]
-pub(crate) fn add_changes(changes: &[Change], now: u32, events: &mut Vec<Event>)
+fn find_changes(changes: &[Change], now: u32, events: &mut Vec<Event>)
     requires few { length changes.now ≤ 1024 }
     requires room { 1024 ≤ vec_capacity events.old }
     requires empty { events.old.items ≡ [] }
@@ -63,221 +75,224 @@ pub(crate) fn add_changes(changes: &[Change], now: u32, events: &mut Vec<Event>)
     }
 }
 
+/// The same, and before which millisecond behind this one none changes. Where none changes now none is looked
+/// at.
+pub(crate) fn add_changes(changes: &[Change], next: u32, now: u32, events: &mut Vec<Event>) -> u32
+    requires few { length changes.now ≤ 1024 }
+    requires later { AreLater changes.now now next }
+    requires room { 1024 ≤ vec_capacity events.old }
+    requires empty { events.old.items ≡ [] }
+    ensures events { events.new.items ≡ changes_at changes.now now }
+    ensures room { 1024 ≤ vec_capacity events.new }
+    ensures later { AreLater changes.now (now + 1) result }
+{
+    if now < next {
+        return next;
+    }
+    find_changes(changes, now, events);
+    next_change(changes, now)
+}
+
+/// How long a task has run in all once it lacks one tick at most, in nanoseconds, if it had run so long as it
+/// woke.
+#[inline(always)]
+pub(crate) fn last_tick(run: u32, ran: u64) -> u64
+    ensures { result ≡ last_tick run ran }
+{
+    if run == 0 {
+        u64::MAX
+    } else {
+        ran.saturating_add(MS_NS * u64::from(run - 1))
+    }
+}
+
 /// The task wakes if it is due; how long it has run is remembered.
 #[inline(always)]
-fn wake(due: &[u32], ran: &mut [u64], now: u32, sim: &Sim, task: u16, events: &mut Vec<Event>)
+#[tactic(auto, using(crate::proofs::LastTicks::length_last, crate::proofs::LastTicks::last_set))]
+fn wake(
+    timings: &[Timing],
+    due: &[u32],
+    ran: &mut [u64],
+    last_ticks: &mut [u64],
+    now: u32,
+    sim: &Sim,
+    task: u16,
+    events: &mut Vec<Event>,
+)
     requires there { task < length due.now }
+    requires timed { length timings.now ≡ length due.now }
     requires even { length ran.old ≡ length due.now }
+    requires last { last_ticks.old ≡ last_ticks_of timings.now ran.old }
     requires room { vec_len events.old < vec_capacity events.old }
     ensures events { events.new.items ≡ events.old.items
         ++ (if is_due due.now now sim.now.state.world task then Wake task ∷ [] else []) }
     ensures ran { ran.new ≡ if is_due due.now now sim.now.state.world task
         then slice_set ran.old task (task_at sim.now.state.world task).run_ns else ran.old }
     ensures even { length ran.new ≡ length due.now }
+    ensures last { last_ticks.new ≡ last_ticks_of timings.now ran.new }
     ensures one { vec_len events.new ≤ vec_len events.old + 1 }
     ensures room { vec_capacity events.new ≡ vec_capacity events.old }
 {
     if is_due(due, now, sim, task) {
+        let run_ns = run_ns(sim, task);
         events.push_reserved(Event::Wake(task));
-        ran[task as usize] = run_ns(sim, task);
+        ran[task as usize] = run_ns;
+        last_ticks[task as usize] = last_tick(timings[task as usize].run, run_ns);
     }
 }
 
-/// The tasks that wake now; how long each has run is remembered. Rows of which nobody wakes are left out.
+/// The tasks that wake now; how long each has run is remembered. Only those are looked at that stand at the day.
 fn find_wakes(
+    timings: &[Timing],
     due: &[u32],
     ran: &mut [u64],
-    quiet: &Quiet,
+    last_ticks: &mut [u64],
+    calendar: &Calendar,
     now: u32,
     sim: &Sim,
     events: &mut Vec<Event>,
 )
     requires few { length due.now ≤ 1024 }
+    requires timed { length timings.now ≡ length due.now }
     requires even { length ran.old ≡ length due.now }
-    requires quiet { AreQuiet due.now now quiet.now }
+    requires last { last_ticks.old ≡ last_ticks_of timings.now ran.old }
+    requires whole { IsWhole calendar.now }
+    requires noted { AreNoted due.now now calendar.now }
     requires room { 1024 ≤ vec_capacity events.old }
     requires empty { events.old.items ≡ [] }
     ensures events { events.new.items ≡ wakes_at due.now now sim.now.state.world }
     ensures ran { ran.new ≡ ran_after due.now ran.old now sim.now.state.world }
     ensures even { length ran.new ≡ length due.now }
+    ensures last { last_ticks.new ≡ last_ticks_of timings.now ran.new }
     ensures room { 1024 ≤ vec_capacity events.new }
 {
-    let mut task = 0;
+    let mut task = calendar.next(now, 0, due.len());
     while task < due.len() {
-        if quiet.skips(task, now) {
-            task = cmp::min(task + ROW, due.len());
-        } else {
-            wake(due, ran, now, sim, task as u16, events);
-            task += 1;
-        }
+        wake(timings, due, ran, last_ticks, now, sim, task as u16, events);
+        task = calendar.next(now, task + 1, due.len());
     }
 }
 
-/// The same, and when tasks wake behind this millisecond. Where nobody wakes none is looked at.
+/// The same, and whoever woke leaves the day. Where nobody wakes none is looked at.
 #[inline(always)]
 pub(crate) fn add_wakes(
+    timings: &[Timing],
     due: &[u32],
     ran: &mut [u64],
-    quiet: &mut Quiet,
+    last_ticks: &mut [u64],
+    calendar: &mut Calendar,
     now: u32,
     sim: &Sim,
     events: &mut Vec<Event>,
 )
     requires few { length due.now ≤ 1024 }
+    requires timed { length timings.now ≡ length due.now }
     requires even { length ran.old ≡ length due.now }
-    requires quiet { AreQuiet due.now now quiet.old }
+    requires last { last_ticks.old ≡ last_ticks_of timings.now ran.old }
+    requires whole { IsWhole calendar.old }
+    requires noted { AreNoted due.now now calendar.old }
     requires room { 1024 ≤ vec_capacity events.old }
     requires empty { events.old.items ≡ [] }
     ensures events { events.new.items ≡ wakes_at due.now now sim.now.state.world }
     ensures ran { ran.new ≡ ran_after due.now ran.old now sim.now.state.world }
     ensures even { length ran.new ≡ length due.now }
+    ensures last { last_ticks.new ≡ last_ticks_of timings.now ran.new }
     ensures room { 1024 ≤ vec_capacity events.new }
-    ensures quiet { AreQuiet due.now (now + 1) quiet.new }
+    ensures whole { IsWhole calendar.new }
+    ensures noted { AreNoted due.now (now + 1) calendar.new }
 {
-    if now < quiet.all {
+    let soonest = calendar.soonest_wake(now);
+    if now < soonest {
         return;
     }
-    find_wakes(due, ran, quiet, now, sim, events);
-    quiet.refresh(due, now);
+    find_wakes(timings, due, ran, last_ticks, calendar, now, sim, events);
+    calendar.refresh(due, now);
 }
 
-/// Whether the task has run as long as it runs at once, but for so many ticks at most.
+/// Watches the task where it has run for so long.
 #[inline(always)]
-fn lacks_at_most(ticks: u32, timings: &[Timing], ran: &[u64], sim: &Sim, task: u16) -> bool
-    requires timed { task < length timings.now }
-    requires remembered { task < length ran.now }
-    ensures { result ≡ lacks_at_most ticks timings.now ran.now sim.now.state.world task }
-{
-    let run = timings[task as usize].run;
-    0 < run
-        && MS_NS * u64::from(run.saturating_sub(ticks))
-            <= run_ns(sim, task).saturating_sub(ran[task as usize])
-}
-
-/// Watches the task where it lacks no more ticks than that. Answers whether somebody may be watched.
-#[inline(always)]
-fn watch_there(
-    ticks: u32,
-    timings: &[Timing],
-    ran: &[u64],
-    watched: &mut [bool],
-    some: bool,
-    sim: &Sim,
-    task: u16,
-) -> bool
-    requires there { task < length timings.now }
-    requires remembered { length ran.now ≡ length timings.now }
-    requires even { length watched.old ≡ length timings.now }
-    requires unwatched { AreUnwatched some watched.old }
+fn watch_there(last_ticks: &[u64], watched: &mut NumberSet, some: &mut bool, sim: &Sim, task: u16)
+    requires there { task < length last_ticks.now }
+    requires even { length watched.old ≡ length last_ticks.now }
+    requires unwatched { AreUnwatched some.old watched.old }
     ensures watched { watched.new
-        ≡ watched_if ticks timings.now ran.now sim.now.state.world task watched.old }
-    ensures even { length watched.new ≡ length timings.now }
-    ensures unwatched { AreUnwatched result watched.new }
+        ≡ watched_if last_ticks.now sim.now.state.world task watched.old }
+    ensures even { length watched.new ≡ length last_ticks.now }
+    ensures unwatched { AreUnwatched some.new watched.new }
 {
-    if lacks_at_most(ticks, timings, ran, sim, task) {
-        watched[task as usize] = true;
-        true
-    } else {
-        some
+    if last_ticks[task as usize] <= run_ns(sim, task) {
+        watched.insert(task as usize);
+        *some = true;
     }
 }
 
 /// The same; nobody past the end is watched.
 #[inline(always)]
-fn watch(
-    ticks: u32,
-    timings: &[Timing],
-    ran: &[u64],
-    watched: &mut [bool],
-    some: bool,
-    sim: &Sim,
-    task: u16,
-) -> bool
-    requires remembered { length ran.now ≡ length timings.now }
-    requires even { length watched.old ≡ length timings.now }
-    requires unwatched { AreUnwatched some watched.old }
+fn watch(last_ticks: &[u64], watched: &mut NumberSet, some: &mut bool, sim: &Sim, task: u16)
+    requires even { length watched.old ≡ length last_ticks.now }
+    requires unwatched { AreUnwatched some.old watched.old }
     ensures watched { watched.new
-        ≡ watched_if ticks timings.now ran.now sim.now.state.world task watched.old }
-    ensures even { length watched.new ≡ length timings.now }
-    ensures unwatched { AreUnwatched result watched.new }
+        ≡ watched_if last_ticks.now sim.now.state.world task watched.old }
+    ensures even { length watched.new ≡ length last_ticks.now }
+    ensures unwatched { AreUnwatched some.new watched.new }
 {
-    if (task as usize) < timings.len() {
-        watch_there(ticks, timings, ran, watched, some, sim, task)
-    } else {
-        some
+    if (task as usize) < last_ticks.len() {
+        watch_there(last_ticks, watched, some, sim, task);
     }
 }
 
-/// Watches who runs on the processor, which ticks next, where it lacks at most that tick. Answers whether
-/// somebody may be watched.
+/// Watches who runs on the processor, which ticks next, where it lacks at most that tick.
 #[inline(always)]
 pub(crate) fn watch_runner(
-    timings: &[Timing],
-    ran: &[u64],
-    watched: &mut [bool],
-    some: bool,
+    last_ticks: &[u64],
+    watched: &mut NumberSet,
+    some: &mut bool,
     sim: &Sim,
     cpu: u32,
-) -> bool
-    requires remembered { length ran.now ≡ length timings.now }
-    requires even { length watched.old ≡ length timings.now }
-    requires unwatched { AreUnwatched some watched.old }
+)
+    requires even { length watched.old ≡ length last_ticks.now }
+    requires unwatched { AreUnwatched some.old watched.old }
     ensures watched { watched.new
-        ≡ watched_at_tick timings.now ran.now sim.now.state.world
+        ≡ watched_at_tick last_ticks.now sim.now.state.world
         (running sim.now.state.world cpu) watched.old }
-    ensures even { length watched.new ≡ length timings.now }
-    ensures unwatched { AreUnwatched result watched.new }
+    ensures even { length watched.new ≡ length last_ticks.now }
+    ensures unwatched { AreUnwatched some.new watched.new }
 {
-    match sim.runner(cpu) {
-        Some(task) => watch(1, timings, ran, watched, some, sim, task),
-        None => some,
+    if let Some(task) = sim.runner(cpu) {
+        watch(last_ticks, watched, some, sim, task);
     }
 }
 
-/// Watches whoever may have run enough after the event, which comes next. Answers whether somebody may be
-/// watched.
+/// Watches whoever may have run enough after the event, which comes next.
+#[inline(always)]
 pub(crate) fn watch_event(
-    timings: &[Timing],
-    ran: &[u64],
-    watched: &mut [bool],
-    some: bool,
+    last_ticks: &[u64],
+    watched: &mut NumberSet,
+    some: &mut bool,
     sim: &Sim,
     event: Event,
-) -> bool
-    requires remembered { length ran.now ≡ length timings.now }
-    requires even { length watched.old ≡ length timings.now }
-    requires unwatched { AreUnwatched some watched.old }
+)
+    requires even { length watched.old ≡ length last_ticks.now }
+    requires unwatched { AreUnwatched some.old watched.old }
     ensures watched { watched.new
-        ≡ watched_after timings.now ran.now sim.now.state.world event watched.old }
-    ensures even { length watched.new ≡ length timings.now }
-    ensures unwatched { AreUnwatched result watched.new }
+        ≡ watched_after last_ticks.now sim.now.state.world event watched.old }
+    ensures even { length watched.new ≡ length last_ticks.now }
+    ensures unwatched { AreUnwatched some.new watched.new }
 {
     match event {
-        Event::Wake(task) => watch(0, timings, ran, watched, some, sim, task),
-        Event::Tick(cpu) => watch_runner(timings, ran, watched, some, sim, cpu),
-        Event::Sleep(_) | Event::Clock | Event::SetWeight(_, _) => some,
+        Event::Tick(cpu) => watch_runner(last_ticks, watched, some, sim, cpu),
+        Event::Wake(_) | Event::Sleep(_) | Event::Clock | Event::SetWeight(_, _) => {}
     }
-}
-
-/// Whether the task is watched, and has run enough.
-fn is_seen(timings: &[Timing], ran: &[u64], watched: &[bool], sim: &Sim, task: u16) -> bool
-    requires timed { task < length timings.now }
-    requires remembered { task < length ran.now }
-    requires there { task < length watched.now }
-    ensures { result ≡ is_seen timings.now ran.now watched.now sim.now.state.world task }
-{
-    watched[task as usize] && has_run_enough(timings, ran, sim, task)
 }
 
 /// The watched tasks that go to sleep now; when each wakes is remembered, and nobody else is watched any
 /// more. Answers whether somebody is.
-#[tactic(auto, using(crate::proofs::Below::events_push, crate::proofs::Below::events_skip, crate::proofs::Below::set_push, crate::proofs::Below::set_skip))]
 fn find_sleeps(
     timings: &[Timing],
     due: &mut [u32],
     ran: &[u64],
-    watched: &mut [bool],
-    quiet: &mut Quiet,
+    watched: &mut NumberSet,
+    calendar: &mut Calendar,
     now: u32,
     sim: &Sim,
     events: &mut Vec<Event>,
@@ -288,7 +303,8 @@ fn find_sleeps(
     requires even_watched { length watched.old ≡ length timings.now }
     requires early { now < max_ms }
     requires sleeps { (t : ℕ) → t < length timings.now → (timing_at timings.now t).sleep ≤ max_ms }
-    requires quiet { AreQuiet due.old (now + 1) quiet.old }
+    requires whole { IsWhole calendar.old }
+    requires noted { AreNoted due.old (now + 1) calendar.old }
     requires room { 1024 ≤ vec_capacity events.old }
     requires empty { events.old.items ≡ [] }
     ensures events { events.new.items
@@ -300,20 +316,23 @@ fn find_sleeps(
     ensures even { length due.new ≡ length timings.now }
     ensures even_watched { length watched.new ≡ length timings.now }
     ensures unwatched { AreUnwatched result watched.new }
-    ensures quiet { AreQuiet due.new (now + 1) quiet.new }
+    ensures whole { IsWhole calendar.new }
+    ensures noted { AreNoted due.new (now + 1) calendar.new }
     ensures room { 1024 ≤ vec_capacity events.new }
 {
     let mut some = false;
-    for task in 0..timings.len() as u16 {
-        if is_seen(timings, ran, watched, sim, task) {
-            let ms = now + 1 + timings[task as usize].sleep;
-            events.push_reserved(Event::Sleep(task));
-            due[task as usize] = ms;
-            quiet.lower(task, ms);
+    let mut task = watched.next(0, timings.len());
+    while task < timings.len() {
+        if has_run_enough(timings, ran, sim, task as u16) {
+            let ms = now + 1 + timings[task].sleep;
+            events.push_reserved(Event::Sleep(task as u16));
+            due[task] = ms;
+            calendar.insert(task, ms);
             some = true;
         } else {
-            watched[task as usize] = false;
+            watched.remove(task);
         }
+        task = watched.next(task + 1, timings.len());
     }
     some
 }
@@ -324,9 +343,9 @@ pub(crate) fn add_sleeps(
     timings: &[Timing],
     due: &mut [u32],
     ran: &[u64],
-    watched: &mut [bool],
+    watched: &mut NumberSet,
     some: bool,
-    quiet: &mut Quiet,
+    calendar: &mut Calendar,
     now: u32,
     sim: &Sim,
     events: &mut Vec<Event>,
@@ -338,7 +357,8 @@ pub(crate) fn add_sleeps(
     requires unwatched { AreUnwatched some watched.old }
     requires early { now < max_ms }
     requires sleeps { (t : ℕ) → t < length timings.now → (timing_at timings.now t).sleep ≤ max_ms }
-    requires quiet { AreQuiet due.old (now + 1) quiet.old }
+    requires whole { IsWhole calendar.old }
+    requires noted { AreNoted due.old (now + 1) calendar.old }
     requires room { 1024 ≤ vec_capacity events.old }
     requires empty { events.old.items ≡ [] }
     ensures events { events.new.items
@@ -350,11 +370,12 @@ pub(crate) fn add_sleeps(
     ensures even { length due.new ≡ length timings.now }
     ensures even_watched { length watched.new ≡ length timings.now }
     ensures unwatched { AreUnwatched result watched.new }
-    ensures quiet { AreQuiet due.new (now + 1) quiet.new }
+    ensures whole { IsWhole calendar.new }
+    ensures noted { AreNoted due.new (now + 1) calendar.new }
     ensures room { 1024 ≤ vec_capacity events.new }
 {
     if some {
-        find_sleeps(timings, due, ran, watched, quiet, now, sim, events)
+        find_sleeps(timings, due, ran, watched, calendar, now, sim, events)
     } else {
         false
     }

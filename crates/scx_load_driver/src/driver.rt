@@ -1,10 +1,14 @@
-ghost use Rattle.std.specs.Prelude.{◌≡◌, ◌≤◌, ◌<◌, ◌∷◌, [], not, map, true, false, IfOk, IfSome, IfNone};
+ghost use Rattle.std.specs.Prelude.{◌≡◌, ◌≤◌, ◌<◌, ◌∷◌, [], not, map, true, false, IsTrue, IfOk, IfSome, IfNone};
+ghost use Rattle.scx_sched_machine.specs.declared.events.Event.TheVariants.{Clock};
 ghost use Rattle.scx_sched.specs.Sim.{SimState, after_event};
 ghost use Rattle.scx_load_workloads.specs.declared.workload.Timing.{Timing};
 ghost use Rattle.scx_load_driver.specs.Events.{workload_events};
+ghost use Rattle.scx_load_driver.specs.Watch.{last_tick};
+ghost use Rattle.scx_load_driver.specs.Driver.{is_clock_next, are_ticks_next};
 
-use crate::blocks::{add_changes, add_sleeps, add_wakes, watch_event, watch_runner};
-use crate::rows::Quiet;
+use crate::blocks::{add_changes, add_sleeps, add_wakes, last_tick, watch_event, watch_runner};
+use crate::calendar::Calendar;
+use crate::set::NumberSet;
 use scx_load_workloads::{Change, Timing, Workload};
 use scx_sched::{Event, Sim};
 use std::alloc::{AllocError, Global};
@@ -39,14 +43,18 @@ pub struct Driver {
     clock: u32,
     /// How many milliseconds aren't over.
     left: u32,
+    /// Before which millisecond no weight changes any more.
+    next_change: u32,
     /// When each task wakes.
     due: Vec<u32>,
-    /// Before which milliseconds nobody wakes any more.
-    quiet: Quiet,
+    /// At which day each task stands that is to wake.
+    calendar: Calendar,
     /// How long each task had run when it woke last, in nanoseconds.
     ran: Vec<u64>,
+    /// How long each task has run in all once it lacks one tick at most, in nanoseconds.
+    last_ticks: Vec<u64>,
     /// Which tasks may have run enough.
-    watched: Vec<bool>,
+    watched: NumberSet,
     /// Whether it may be that somebody is watched.
     some_watched: bool,
     /// The events of the block at hand.
@@ -77,8 +85,10 @@ impl Driver {
         workload.is_whole();
         let timings = Vec::from_slice(alloc, workload.timings())?;
         let due = starts(alloc, workload.timings())?;
+        let calendar = Calendar::new(alloc, &due)?;
         let ran = vec![in alloc; 0; timings.len()]?;
-        let watched = vec![in alloc; true; timings.len()]?;
+        let last_ticks = first_last_ticks(alloc, workload.timings())?;
+        let watched = NumberSet::all(alloc, timings.len())?;
         let cpus = workload.cpus();
         Ok(Driver {
             cpus,
@@ -88,9 +98,11 @@ impl Driver {
             phase: Phase::Changes,
             clock: 0,
             left: workload.ms(),
+            next_change: 0,
             due,
-            quiet: Quiet::new(),
+            calendar,
             ran,
+            last_ticks,
             watched,
             some_watched: true,
             events: Vec::with_capacity(alloc, MAX_BLOCK)?,
@@ -100,7 +112,7 @@ impl Driver {
 
     /// The event that comes next, for a machine that took exactly the events before it; none at the end.
     #[inline(always)]
-    #[tactic(auto, using(crate::proofs::Remaining::remaining_taken, crate::proofs::Remaining::remaining_end))]
+    #[tactic(auto, using(crate::proofs::Remaining::remaining_taken))]
     pub fn next(&mut self, sim: &Sim) -> Option<Event>
         ensures next { IfSome result
             (λ event. remaining self.old sim.now
@@ -108,11 +120,99 @@ impl Driver {
         ensures end { IfNone result (remaining self.old sim.now ≡ []) }
         ensures over { IfNone result (remaining self.new sim.now ≡ []) }
     {
-        self.begin(sim);
+        if self.is_spent() {
+            self.next_behind(sim)
+        } else {
+            Some(self.take(sim))
+        }
+    }
+
+    /// The event that comes next, where all of the block at hand were answered. With the clock the next
+    /// millisecond begins, if nothing comes before its ticks.
+    #[inline(always)]
+    fn next_behind(&mut self, sim: &Sim) -> Option<Event>
+        requires { is_empty self.old.pending ≡ true }
+        ensures next { IfSome result
+            (λ event. remaining self.old sim.now
+            ≡ event ∷ remaining self.new (after_event sim.now event)) }
+        ensures end { IfNone result (remaining self.old sim.now ≡ []) }
+        ensures over { IfNone result (remaining self.new sim.now ≡ []) }
+    {
+        if self.takes_clock() {
+            self.begin_ticks();
+            Some(Event::Clock)
+        } else {
+            self.next_begun(sim)
+        }
+    }
+
+    /// The same, where it isn't known that it is the clock.
+    #[inline(always)]
+    #[tactic(auto, using(crate::proofs::Remaining::remaining_taken))]
+    fn next_begun(&mut self, sim: &Sim) -> Option<Event>
+        requires { is_empty self.old.pending ≡ true }
+        ensures next { IfSome result
+            (λ event. remaining self.old sim.now
+            ≡ event ∷ remaining self.new (after_event sim.now event)) }
+        ensures end { IfNone result (remaining self.old sim.now ≡ []) }
+        ensures over { IfNone result (remaining self.new sim.now ≡ []) }
+    {
+        self.begin_ticks();
+        if self.is_spent() {
+            self.next_slowly(sim)
+        } else {
+            Some(self.take(sim))
+        }
+    }
+
+    /// The event that comes next, whichever blocks have events.
+    #[inline(never)]
+    #[tactic(auto, using(crate::proofs::Remaining::remaining_taken, crate::proofs::Remaining::remaining_end))]
+    fn next_slowly(&mut self, sim: &Sim) -> Option<Event>
+        ensures next { IfSome result
+            (λ event. remaining self.old sim.now
+            ≡ event ∷ remaining self.new (after_event sim.now event)) }
+        ensures end { IfNone result (remaining self.old sim.now ≡ []) }
+        ensures over { IfNone result (remaining self.new sim.now ≡ []) }
+    {
+        self.begin_blocks(sim);
         if self.is_spent() {
             None
         } else {
             Some(self.take(sim))
+        }
+    }
+
+    /// The clock's turn comes, where nothing comes before it. Answers whether it does.
+    #[inline(always)]
+    fn takes_clock(&mut self) -> bool
+        requires { is_empty self.old.pending ≡ true }
+        ensures clock { IsTrue result → (s : SimState)
+            → remaining self.old s ≡ Clock ∷ remaining self.new (after_event s Clock) }
+        ensures spent { is_empty self.new.pending ≡ true }
+        ensures same { result ≡ false → self.new ≡ self.old }
+    {
+        if is_clock_next(self.phase, self.some_watched) && 0 < self.left {
+            self.clock += 1;
+            self.left -= 1;
+            self.phase = Phase::Changes;
+            true
+        } else {
+            false
+        }
+    }
+
+    /// The ticks begin, where nothing comes before them.
+    #[inline(always)]
+    #[tactic(auto, using(crate::proofs::Calm::noted_for_ticks))]
+    fn begin_ticks(&mut self)
+        requires { is_empty self.old.pending ≡ true }
+        ensures { (s : SimState) → remaining self.new s ≡ remaining self.old s }
+    {
+        let soonest = self.calendar.soonest_wake(self.clock);
+        if are_ticks_next(self.phase, self.clock, self.next_change, soonest) && 0 < self.left {
+            self.cpu = 0;
+            self.phase = Phase::Sleeps;
         }
     }
 
@@ -130,23 +230,22 @@ impl Driver {
 
     /// The next event of the block at hand.
     #[inline(always)]
+    #[tactic(auto, using(crate::proofs::LastTicks::length_last))]
     fn take(&mut self, sim: &Sim) -> Event
         requires { is_empty self.old.pending ≡ false }
         ensures event { self.old.pending ≡ result ∷ self.new.pending }
         ensures driver { self.new ≡ after_answer self.old sim.now result self.new.pending }
     {
-        let some = self.some_watched;
+        let some = &mut self.some_watched;
         if self.cpu < self.cpus {
             let cpu = self.cpu;
             self.cpu = cpu + 1;
-            let watched = &mut self.watched;
-            self.some_watched = watch_runner(&self.timings, &self.ran, watched, some, sim, cpu);
+            watch_runner(&self.last_ticks, &mut self.watched, some, sim, cpu);
             Event::Tick(cpu)
         } else {
             let event = self.events[self.taken];
             self.taken += 1;
-            let watched = &mut self.watched;
-            self.some_watched = watch_event(&self.timings, &self.ran, watched, some, sim, event);
+            watch_event(&self.last_ticks, &mut self.watched, some, sim, event);
             event
         }
     }
@@ -159,19 +258,8 @@ impl Driver {
         0 < self.left
     }
 
-    /// Blocks begin, one after another, until there is an event to answer.
+    /// Blocks begin, one after another, until there is an event to answer. Each has its turn once.
     #[inline(always)]
-    fn begin(&mut self, sim: &Sim)
-        ensures same { remaining self.new sim.now ≡ remaining self.old sim.now }
-        ensures over { is_empty self.new.pending ≡ true → is_empty self.new.blocks ≡ true }
-    {
-        if self.is_spent() {
-            self.begin_blocks(sim);
-        }
-    }
-
-    /// Each block has its turn once.
-    #[inline(never)]
     #[tactic(auto, using(crate::proofs::Remaining::past_last))]
     fn begin_blocks(&mut self, sim: &Sim)
         ensures same { remaining self.new sim.now ≡ remaining self.old sim.now }
@@ -213,11 +301,20 @@ impl Driver {
         let events = &mut self.events;
         match self.phase {
             Phase::Changes => {
-                add_changes(&self.changes, now, events);
+                self.next_change = add_changes(&self.changes, self.next_change, now, events);
                 self.phase = Phase::Wakes;
             }
             Phase::Wakes => {
-                add_wakes(&self.due, &mut self.ran, &mut self.quiet, now, sim, events);
+                add_wakes(
+                    &self.timings,
+                    &self.due,
+                    &mut self.ran,
+                    &mut self.last_ticks,
+                    &mut self.calendar,
+                    now,
+                    sim,
+                    events,
+                );
                 self.phase = Phase::Ticks;
             }
             Phase::Ticks => {
@@ -231,7 +328,7 @@ impl Driver {
                     &self.ran,
                     &mut self.watched,
                     self.some_watched,
-                    &mut self.quiet,
+                    &mut self.calendar,
                     now,
                     sim,
                     events,
@@ -248,6 +345,31 @@ impl Driver {
     }
 }
 
+/// Whether the clock comes next: behind those who went to sleep, or where nobody may be watched, who could.
+#[inline(always)]
+fn is_clock_next(phase: Phase, some_watched: bool) -> bool
+    ensures { result ≡ is_clock_next phase some_watched }
+{
+    match phase {
+        Phase::Clock => true,
+        Phase::Sleeps => !some_watched,
+        Phase::Changes | Phase::Wakes | Phase::Ticks => false,
+    }
+}
+
+/// Whether the ticks come next: behind those who woke, or as a millisecond begins in which no weight changes
+/// and nobody wakes.
+#[inline(always)]
+fn are_ticks_next(phase: Phase, now: u32, next_change: u32, next_wake: u32) -> bool
+    ensures { result ≡ are_ticks_next phase now next_change next_wake }
+{
+    if phase == Phase::Changes {
+        now < next_change && now < next_wake
+    } else {
+        phase == Phase::Ticks
+    }
+}
+
 /// When each task wakes first.
 fn starts(alloc: Global, timings: &[Timing]) -> Result<Vec<u32>, AllocError>
     ensures { IfOk result (λ due. due.items ≡ map (λ (t : Timing). t.start) timings.now) }
@@ -257,4 +379,16 @@ fn starts(alloc: Global, timings: &[Timing]) -> Result<Vec<u32>, AllocError>
         due.push_reserved(timing.start);
     }
     Ok(due)
+}
+
+/// How long each task has run in all once it lacks one tick at most, while none has run.
+fn first_last_ticks(alloc: Global, timings: &[Timing]) -> Result<Vec<u64>, AllocError>
+    ensures { IfOk result
+        (λ last. last.items ≡ map (λ (t : Timing). last_tick t.run 0) timings.now) }
+{
+    let mut last_ticks = Vec::with_capacity(alloc, timings.len())?;
+    for timing in timings {
+        last_ticks.push_reserved(last_tick(timing.run, 0));
+    }
+    Ok(last_ticks)
 }

@@ -6,9 +6,10 @@
 #![tactic(auto)]
 
 mod blocks;
+mod calendar;
 mod driver;
 mod laws;
-mod rows;
+mod set;
 
 pub use driver::{Driver, Phase};
 pub use laws::no_event_is_refused;

@@ -1,57 +1,101 @@
-use Rattle.std.proofs.Common.{rules, ◌≡◌, ◌+◌, [], not, set, true, false, ◌∷◌, ◌++◌, sym, ap, ◌∙◌, subst, arith}
+use Rattle.std.proofs.Common.{rules, ◌≡◌, ◌+◌, false, not, length, sym, ap, ◌∙◌, subst, arith}
 use Rattle.scx_sched_machine.specs.declared.events.Event.TheVariants.{Sleep}
 use Rattle.scx_load_workloads.specs.Workload.{timing_at}
+use Rattle.scx_load_driver.specs.Blocks.{events_below, set_below}
 use Rattle.scx_load_driver.specs.Watch.{is_seen}
-use Rattle.scx_load_driver.proofs.Below.{events_push, events_skip, set_push, set_skip}
-use Rattle.scx_load_driver.specs.Quiet.{AreQuiet, with_sooner}
-use Rattle.scx_load_driver.proofs.Quiet.{AreUnwatchedBelow, seen_above, quiet_set, unwatched_more}
-use Rattle.scx_load_driver.proofs.blocks.find_sleeps.Goals.{then-is_seen, else-is_seen}
+use Rattle.scx_load_driver.specs.Calendar.{IsWhole, AreNoted, with_task}
+use Rattle.scx_load_driver.proofs.Days.{whole_with, noted_set}
+use Rattle.scx_load_driver.proofs.Quiet.{unwatched_all}
+use Rattle.scx_load_driver.proofs.Sleeping.{AreAsleep, none_asleep, asleep_to, one_more, one_less}
+use Rattle.scx_load_driver.proofs.blocks.find_sleeps.Goals.{then-has_run_enough, else-has_run_enough}
 use Rattle.scx_load_driver.proofs.blocks.find_sleeps.Goals as goal
+
+pub loop-task-init : goal.loop-task-init
+loop-task-init c =
+    let w = c.args.sim.now.state.world in
+    let next = c.next-task.ensures.next in
+    record {
+      asleep =
+          asleep_to c.args.timings.now c.args.ran.now c.args.watched.now w c.args.now c.args.due.now 0 _ _ _ _
+          (none_asleep c.args.timings.now c.args.ran.now c.args.watched.now w c.args.now c.args.due.now c.args.events.now.items c.requires.empty)
+          c.next-task.result (omega arith) next.none;
+      within = omega (arith, next.most);
+      there = λ l. next.there (omega (arith, l));
+      even = (search rules);
+      even_watched = (search rules);
+      whole = c.requires.whole;
+      noted = c.requires.noted;
+      few = (search rules);
+      room = (search rules);
+    }
 
 pub loop-task-preserved : goal.loop-task-preserved
 loop-task-preserved c =
     let k = c.loop-task.task in
     let w = c.args.sim.now.state.world in
-    let test = is_seen c.args.timings.now c.args.ran.now c.args.watched.now w in
-    let seen : c.is_seen.result ≡ test k =
-    c.is_seen.ensures
-    ∙ ap (λ xs. is_seen c.args.timings.now c.args.ran.now xs w k) c.loop-task.invariant.watched
-    ∙ seen_above c.args.timings.now c.args.ran.now k k (λ t. not (test t)) c.args.watched.now w (omega arith) in
-    elim c.if-is_seen.branch [
-      | then-is_seen x ↦
-          let yes : test k ≡ true = sym seen ∙ x.if-is_seen.true in
-          let pushed : c.if-is_seen.events.items ≡ c.loop-task.events.items ++ Sleep k ∷ [] = (search rules) in
-          record {
-            events = pushed ∙ ap (λ es. es ++ Sleep k ∷ []) c.loop-task.invariant.events ∙ sym (events_push k test Sleep yes);
-            due = x.due-is ∙ ap (λ ds. set ds k (c.args.now + 1 + (timing_at c.args.timings.now k).sleep)) c.loop-task.invariant.due ∙ sym (set_push k test (λ t. c.args.now + 1 + (timing_at c.args.timings.now t).sleep) c.args.due.now yes);
-            watched = x.watched-is ∙ c.loop-task.invariant.watched ∙ sym (set_skip k (λ t. not (test t)) (λ t. false) c.args.watched.now (ap not yes));
-            even = (search rules);
-            even_watched = (search rules);
-            unwatched = λ (e : c.if-is_seen.some ≡ false) t l. let y = sym x.some-is ∙ e in absurd (cc);
-            quiet =
-                subst (λ q. AreQuiet c.if-is_seen.due (c.args.now + 1) q) (sym (x.quiet-is ∙ x.lower.ensures))
-                (subst (λ ds. AreQuiet ds (c.args.now + 1) (with_sooner c.loop-task.quiet k (c.args.now + 1 + (timing_at c.args.timings.now k).sleep))) (sym x.due-is)
-                (quiet_set c.loop-task.due k (c.args.now + 1 + (timing_at c.args.timings.now k).sleep) (c.args.now + 1) c.loop-task.quiet c.loop-task.invariant.quiet));
-            few = (search rules);
-            room = (search rules);
-          }
-      | else-is_seen x ↦
-          let no : test k ≡ false = sym seen ∙ x.if-is_seen.false in
-          let same : c.if-is_seen.events.items ≡ c.loop-task.events.items = (search rules) in
-          record {
-            events = same ∙ c.loop-task.invariant.events ∙ sym (events_skip k test Sleep no);
-            due = x.due-is ∙ c.loop-task.invariant.due ∙ sym (set_skip k test (λ t. c.args.now + 1 + (timing_at c.args.timings.now t).sleep) c.args.due.now no);
-            watched = x.watched-is ∙ ap (λ xs. set xs k false) c.loop-task.invariant.watched ∙ sym (set_push k (λ t. not (test t)) (λ t. false) c.args.watched.now (ap not no));
-            even = (search rules);
-            even_watched = (search rules);
-            unwatched =
-                subst (λ b. AreUnwatchedBelow (k + 1) b c.if-is_seen.watched) (sym x.some-is)
-                (subst (λ xs. AreUnwatchedBelow (k + 1) c.loop-task.some xs) (sym x.watched-is)
-                (unwatched_more k c.loop-task.some c.loop-task.watched c.loop-task.invariant.unwatched));
-            quiet =
-                subst (λ q. AreQuiet c.if-is_seen.due (c.args.now + 1) q) (sym x.quiet-is)
-                (subst (λ ds. AreQuiet ds (c.args.now + 1) c.loop-task.quiet) (sym x.due-is) c.loop-task.invariant.quiet);
-            few = (search rules);
-            room = (search rules);
-          }
-    ]
+    let inv = c.loop-task.invariant in
+    let back = c.args.now + 1 + (timing_at c.args.timings.now k).sleep in
+    let watched = inv.there (omega (arith, c.loop-task-test.true)) in
+    let next = c.next-task-in-loop-task.ensures.next in
+    let one : AreAsleep c.args.timings.now c.args.ran.now c.args.watched.now w c.args.now c.args.due.now (k + 1) c.if-has_run_enough.events.items c.if-has_run_enough.due c.if-has_run_enough.watched c.if-has_run_enough.some =
+    elim c.if-has_run_enough.branch [
+      | then-has_run_enough x ↦
+          one_more c.args.timings.now c.args.ran.now c.args.watched.now w c.args.now c.args.due.now k _ _ _ _ inv.asleep _ _ _ _ watched
+          (sym c.has_run_enough.ensures ∙ x.if-has_run_enough.true) (search rules) x.due-is x.watched-is x.some-is
+      | else-has_run_enough x ↦
+          one_less c.args.timings.now c.args.ran.now c.args.watched.now w c.args.now c.args.due.now k _ _ _ _ inv.asleep _ _ _ _ watched
+          (sym c.has_run_enough.ensures ∙ x.if-has_run_enough.false) (search rules) x.due-is (x.watched-is ∙ x.remove.ensures) x.some-is
+    ] in
+    record {
+      asleep =
+          asleep_to c.args.timings.now c.args.ran.now c.args.watched.now w c.args.now c.args.due.now (k + 1) _ _ _ _ one
+          c.next-task-in-loop-task.result c.next-task-in-loop-task.ensures.after next.none;
+      within = omega (arith, next.most);
+      there = λ l. next.there (omega (arith, l));
+      even = elim c.if-has_run_enough.branch [
+        | then-has_run_enough x ↦ (search rules)
+        | else-has_run_enough x ↦ (search rules)
+      ];
+      even_watched = elim c.if-has_run_enough.branch [
+        | then-has_run_enough x ↦ (search rules)
+        | else-has_run_enough x ↦ (search rules)
+      ];
+      whole = elim c.if-has_run_enough.branch [
+        | then-has_run_enough x ↦ subst IsWhole (sym (x.calendar-is ∙ x.insert.ensures)) (whole_with c.loop-task.calendar k back inv.whole)
+        | else-has_run_enough x ↦ subst IsWhole (sym x.calendar-is) inv.whole
+      ];
+      noted = elim c.if-has_run_enough.branch [
+        | then-has_run_enough x ↦
+            subst (λ q. AreNoted c.if-has_run_enough.due (c.args.now + 1) q) (sym (x.calendar-is ∙ x.insert.ensures))
+            (subst (λ ds. AreNoted ds (c.args.now + 1) (with_task c.loop-task.calendar k back)) (sym x.due-is)
+            (noted_set c.loop-task.due k back (c.args.now + 1) c.loop-task.calendar (omega (arith, c.loop-task-test.true, c.requires.few)) inv.whole inv.noted))
+        | else-has_run_enough x ↦
+            subst (λ q. AreNoted c.if-has_run_enough.due (c.args.now + 1) q) (sym x.calendar-is)
+            (subst (λ ds. AreNoted ds (c.args.now + 1) c.loop-task.calendar) (sym x.due-is) inv.noted)
+      ];
+      few = elim c.if-has_run_enough.branch [
+        | then-has_run_enough x ↦ (search rules)
+        | else-has_run_enough x ↦ (search rules)
+      ];
+      room = elim c.if-has_run_enough.branch [
+        | then-has_run_enough x ↦ (search rules)
+        | else-has_run_enough x ↦ (search rules)
+      ];
+    }
+
+pub returns : goal.returns
+returns c =
+    let w = c.args.sim.now.state.world in
+    let inv = c.loop-task.invariant in
+    let end : c.loop-task.task ≡ length c.args.timings.now = omega (arith, inv.within, c.loop-task-test.false) in
+    record {
+      events = inv.asleep.events ∙ ap (λ n. events_below n (is_seen c.args.timings.now c.args.ran.now c.args.watched.now w) Sleep) end;
+      due = inv.asleep.due ∙ ap (λ n. set_below n (is_seen c.args.timings.now c.args.ran.now c.args.watched.now w) (λ t. c.args.now + 1 + (timing_at c.args.timings.now t).sleep) c.args.due.now) end;
+      watched = inv.asleep.watched ∙ ap (λ n. set_below n (λ t. not (is_seen c.args.timings.now c.args.ran.now c.args.watched.now w t)) (λ t. false) c.args.watched.now) end;
+      even = inv.even;
+      even_watched = inv.even_watched;
+      unwatched = unwatched_all c.loop-task.task c.loop-task.some c.loop-task.watched (omega (arith, end, inv.even_watched)) inv.asleep.unwatched;
+      whole = inv.whole;
+      noted = inv.noted;
+      room = inv.room;
+    }

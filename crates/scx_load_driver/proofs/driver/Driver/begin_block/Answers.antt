@@ -37,10 +37,9 @@ returns-in-Sleeps c =
     let whole = c.self.invariant in
     let some = some_left inside.phase inside.left inside.clock (ap (λ (d : DriverState). not (is_empty d.blocks)) c.self.view_is ∙ c.requires) in
     let even : length c.add_sleeps-self-inside.new.due ≡ inside.due.len = omega (arith, c.add_sleeps-self-inside.ensures.even, ap length c.deref-in-Sleeps.ensures.value, whole.due, inside.due.ok.0) in
-    let even_watched : length c.add_sleeps-self-inside.new.watched ≡ inside.watched.len = omega (arith, c.add_sleeps-self-inside.ensures.even_watched, ap length c.deref-in-Sleeps.ensures.value, whole.watched, inside.watched.ok.0) in
-    begun_sleeps (state_of inside) inside.clock inside.left c.args.sim.now _ (with_items inside.due c.add_sleeps-self-inside.new.due).items (with_items inside.watched c.add_sleeps-self-inside.new.watched).items some
+    begun_sleeps (state_of inside) inside.clock inside.left c.args.sim.now _ (with_items inside.due c.add_sleeps-self-inside.new.due).items c.add_sleeps-self-inside.new.watched some
     (ap (λ q. blocks_left q inside.clock inside.left) c.in-Sleeps.is) (none_ticks inside.cpus inside.cpus _ _ (omega arith) (search rules))
-    (with_items_is inside.due c.add_sleeps-self-inside.new.due even ∙ (search rules)) (with_items_is inside.watched c.add_sleeps-self-inside.new.watched even_watched ∙ (search rules))
+    (with_items_is inside.due c.add_sleeps-self-inside.new.due even ∙ (search rules)) (search rules)
     ∙ ap (λ (d : DriverState). at_next_block d c.args.sim.now) c.self.view_is
 
 pub returns-in-Clock : goal.returns-in-Clock

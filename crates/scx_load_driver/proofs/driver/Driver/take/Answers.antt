@@ -1,7 +1,6 @@
-use Rattle.std.proofs.Common.{rules, ◌≡◌, ◌≤◌, length, drop, ◌++◌, sym, ap, ◌∙◌, subst, arith}
-use Rattle.std.proofs.lemmas.List.{with_items_is}
-use Rattle.std.specs.Vec.{with_items}
-use Rattle.scx_load_driver.specs.Driver.{DriverState, is_empty, AreUnwatched}
+use Rattle.std.proofs.Common.{rules, ◌≡◌, ◌≤◌, length, drop, ◌++◌, sym, ap, ◌∙◌, arith}
+use Rattle.scx_load_driver.specs.Driver.{DriverState, is_empty}
+use Rattle.scx_load_driver.proofs.LastTicks.{length_last}
 use Rattle.scx_load_driver.proofs.Remaining.{next_tick, some_event, next_event}
 use Rattle.scx_load_driver.proofs.driver.Driver.take.Goals as goal
 
@@ -22,8 +21,8 @@ invariant_of-self-else-self c =
     let inside = c.self.inside in
     let whole = c.self.invariant in
     let some = some_event inside.cpu inside.cpus inside.taken inside.events.items (omega (arith, c.if-self.false)) (ap (λ (d : DriverState). is_empty d.pending) c.self.view_is ∙ c.requires) in
-    let even : length c.watch_event-self-inside.new.watched ≡ length inside.timings.items = c.watch_event-self-inside.ensures.even ∙ ap length c.deref-else-self.ensures.value in
-    let now : (with_items inside.watched c.watch_event-self-inside.new.watched).items ≡ c.watch_event-self-inside.new.watched = with_items_is inside.watched c.watch_event-self-inside.new.watched (omega (arith, even, whole.watched, inside.watched.ok.0)) in
+    let even : length c.watch_event.new.watched ≡ length inside.timings.items =
+    c.watch_event.ensures.even ∙ ap length c.deref-else-self.ensures.value ∙ ap length whole.last ∙ length_last inside.timings.items inside.ran.items in
     record {
       room = whole.room;
       taken = omega (arith, some);
@@ -33,11 +32,14 @@ invariant_of-self-else-self c =
       few_changes = whole.few_changes;
       due = whole.due;
       ran = whole.ran;
-      watched = ap length now ∙ even;
+      last = whole.last;
+      watched = even;
       times = whole.times;
       sleeps = whole.sleeps;
-      quiet = whole.quiet;
-      unwatched = subst (AreUnwatched c.watch_event-self-inside.result) (sym now) c.watch_event-self-inside.ensures.unwatched;
+      later = whole.later;
+      whole = whole.whole;
+      noted = whole.noted;
+      unwatched = c.watch_event.ensures.unwatched;
     }
 
 pub returns-else-self-clause-event : goal.returns-else-self-clause-event

@@ -2,7 +2,7 @@ use Rattle.std.proofs.Common.{◌≡◌, ◌≤◌, vec_len, vec_capacity}
 use Rattle.scx_sched_machine.specs.declared.events.Event.TheVariants.{SetWeight}
 use Rattle.scx_load_workloads.specs.Workload.{change_at}
 use Rattle.scx_load_driver.specs.Blocks.{is_at, events_below}
-use Rattle.scx_load_driver.proofs.blocks.add_changes.Given as goal
+use Rattle.scx_load_driver.proofs.blocks.find_changes.Given as goal
 
 abbrev pub invariant-loop-change : goal.invariant-loop-change
 invariant-loop-change l = record {
