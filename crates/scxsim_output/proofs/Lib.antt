@@ -1,2 +1,4 @@
 pub mod Growth
 pub mod Beginnings
+pub mod Shorts
+pub mod Holding

@@ -1,7 +1,8 @@
-ghost use Rattle.std.specs.Prelude.{◌≡◌, ℕ, ◌-◌, ◌^◌, ◌<◌, ◌≤◌, ◌++◌, List, length, Option, None, IsErr, IfOk, OnOk, OnErr};
+ghost use Rattle.std.specs.Prelude.{◌≡◌, ℕ, ◌-◌, ◌^◌, ◌<◌, ◌≤◌, ◌++◌, List, length, take, Option, None, IsErr, IfOk, OnOk, OnErr};
 ghost use Rattle.std.specs.Io.KnownBytes.{Appends, WriteAppends};
 ghost use Rattle.scxsim_output.specs.Output.{IsFailure, HasFailed, AppendsBeginning};
 
+use crate::short::SHORT;
 use thiserror::Error;
 
 /// An output that took no more bytes.
@@ -32,6 +33,30 @@ pub trait Out {
     /// How many writes failed so far.
     fn failures(&self) -> u64
         ensures { result ≡ failure_count self.now };
+
+    /// Takes a short text, of so many of the field's first bytes, up to the first write that fails.
+    fn write_short(&mut self, text: &[u8; SHORT], count: usize) -> Result<(), Failed>
+        requires some { 0 < count }
+        requires room { count ≤ 80 }
+        ensures ok { OnOk result
+            (Appends (contents self.old) (contents self.new) (take count text.now)) }
+        ensures ok_failures { OnOk result (failure_count self.new ≡ failure_count self.old) }
+        ensures err { OnErr result
+            (AppendsBeginning (contents self.old) (contents self.new) (take count text.now)) }
+        ensures err_failures { OnErr result
+            (HasFailed (failure_count self.old) (failure_count self.new)) }
+    {
+        let bytes = &text[..count];
+        let mut done = 0;
+        while done < bytes.len() {
+            let taken = self.write(&bytes[done..])?;
+            if taken == 0 {
+                return Err(Failed);
+            }
+            done += taken;
+        }
+        Ok(())
+    }
 }
 
 /// Writes all of `bytes`, in as many writes as it takes, up to the first one that fails.
@@ -54,6 +79,26 @@ pub fn write_all<W: Out>(out: &mut W, bytes: &[u8]) -> Result<(), Failed>
     Ok(())
 }
 
+/// Writes all of `bytes`, up to the first write that fails, and answers how many were written.
+pub(crate) fn write_front<W: Out>(out: &mut W, bytes: &[u8]) -> (usize, Result<(), Failed>)
+    ensures bound { result.0 ≤ length bytes.now }
+    ensures all { OnOk result.1 (result.0 ≡ length bytes.now) }
+    ensures bytes { Appends (W.contents out.old) (W.contents out.new) (take result.0 bytes.now) }
+    ensures ok_failures { OnOk result.1 (W.failure_count out.new ≡ W.failure_count out.old) }
+    ensures err_failures { OnErr result.1
+        (HasFailed (W.failure_count out.old) (W.failure_count out.new)) }
+{
+    let mut done = 0;
+    while done < bytes.len() {
+        match out.write(&bytes[done..]) {
+            Ok(0) => return (done, Err(Failed)),
+            Ok(count) => done += count,
+            Err(error) => return (done, Err(error)),
+        }
+    }
+    (done, Ok(()))
+}
+
 /// Writes a name between two texts, up to the first write that fails.
 pub fn write_named<W: Out>(out: &mut W, start: &str, name: &str, end: &str) -> Result<(), Failed>
     ensures ok { OnOk result
@@ -65,8 +110,22 @@ pub fn write_named<W: Out>(out: &mut W, start: &str, name: &str, end: &str) -> R
     ensures err_failures { OnErr result
         (HasFailed (W.failure_count out.old) (W.failure_count out.new)) }
 {
-    write_all(out, start.as_bytes())?;
-    write_all(out, name.as_bytes())?;
-    write_all(out, end.as_bytes())?;
+    write_parts(out, start.as_bytes(), name.as_bytes(), end.as_bytes())
+}
+
+/// Writes a name between two texts, all of them in bytes, up to the first write that fails.
+pub fn write_parts<W: Out>(out: &mut W, start: &[u8], name: &[u8], end: &[u8]) -> Result<(), Failed>
+    ensures ok { OnOk result
+        (Appends (W.contents out.old) (W.contents out.new) (start.now ++ name.now ++ end.now)) }
+    ensures ok_failures { OnOk result (W.failure_count out.new ≡ W.failure_count out.old) }
+    ensures err { OnErr result
+        (AppendsBeginning (W.contents out.old) (W.contents out.new)
+        (start.now ++ name.now ++ end.now)) }
+    ensures err_failures { OnErr result
+        (HasFailed (W.failure_count out.old) (W.failure_count out.new)) }
+{
+    write_all(out, start)?;
+    write_all(out, name)?;
+    write_all(out, end)?;
     Ok(())
 }

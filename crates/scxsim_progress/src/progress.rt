@@ -39,18 +39,24 @@ impl<'a, R: Clock + Eprint> Progress<'a, R> {
 }
 
 impl<R: Clock + Eprint> Listener for Progress<'_, R> {
+    #[inline(always)]
     fn hear(&mut self, over: u64, total: u32) {
-        let Some(line) = &mut self.line else {
-            return;
-        };
-        if over >= u64::from(total) {
-            line.take_back(self.rt);
-        } else if let Some(took) = line.took_if_due(self.rt) {
-            line.write(self.rt, &Estimate::new(over, total, took));
+        if let Some(line) = &mut self.line {
+            say(line, self.rt, over, total);
         }
     }
 
     fn hear_end(&mut self, ejected: Option<Eject>) {
         self.ejected = ejected;
+    }
+}
+
+/// Writes the line where it is time to, and takes it back at the run's end.
+#[inline(never)]
+fn say<R: Clock + Eprint>(line: &mut Line, rt: &R, over: u64, total: u32) {
+    if over >= u64::from(total) {
+        line.take_back(rt);
+    } else if let Some(took) = line.took_if_due(rt) {
+        line.write(rt, &Estimate::new(over, total, took));
     }
 }

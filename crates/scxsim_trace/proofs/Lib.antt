@@ -1,3 +1,4 @@
 pub mod Going
 pub mod Tracing
 pub mod Reporting
+pub mod Digits

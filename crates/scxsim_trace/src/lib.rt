@@ -2,7 +2,7 @@
 //! a run but whether its output has failed.
 #![tactic(auto)]
 
-mod clock_line;
+mod clock_text;
 mod events;
 mod lines;
 mod names;

@@ -1,24 +1,23 @@
-ghost use Rattle.std.specs.Prelude.{◌≡◌, ◌+◌, ◌≤◌, ◌++◌, length, codes, decimal, OnOk, OnErr};
+ghost use Rattle.std.specs.Prelude.{◌≡◌, ◌+◌, ◌≤◌, ◌<◌, ◌++◌, length, take, codes, decimal, OnOk, OnErr};
 ghost use Rattle.std.specs.Io.KnownBytes.{Appends};
-ghost use Rattle.arrayvec.specs.ArrayString.{array_string_len};
 ghost use Rattle.scxsim_output.specs.Output.{HasFailed, AppendsBeginning};
 ghost use Rattle.scxsim_trace.specs.Lines as lines;
 ghost use Rattle.scxsim_trace.specs.Lines.{note_line as line_of};
 
-use crate::clock_line::{ClockLine, Line};
+use crate::clock_text::{ClockText, put_digits};
 use crate::names::Names;
-use itoa::Buffer;
 use scx_sched_world::{BUILTIN, GLOBAL, HELD, Note, PARKED, POLICY_END, What};
-use scxsim_output::{Failed, Out, write_all, write_named};
+use scxsim_output::{Failed, Out, SHORT, put_byte, put_bytes, put_name, write_parts};
 
 /// How many bytes of a name a line has room for. No file has a longer one.
 const NAME_CAPACITY: usize = 16;
 
-/// Writes the line of a note. It is put together behind the text of its clock, and written at once.
+/// Writes the line of a note. Those that came while callbacks ran are mostly of two kinds, which have a
+/// place of their own: what is compiled there doesn't ask which kind it is.
 #[inline(always)]
 pub(crate) fn write_note<N: Names, W: Out>(
     names: &N,
-    clock: &mut ClockLine,
+    clock: &mut ClockText,
     note: Note,
     out: &mut W,
 ) -> Result<(), Failed>
@@ -31,16 +30,59 @@ pub(crate) fn write_note<N: Names, W: Out>(
     ensures err_failures { OnErr result
         (HasFailed (W.failure_count out.old) (W.failure_count out.new)) }
 {
-    let name = name(names, note.what);
-    if name.len() > NAME_CAPACITY {
-        return write_in_parts(note, name, out);
+    match note.what {
+        What::Insert(task, queue) => {
+            write_line(names, clock, note.clock, What::Insert(task, queue), out)
+        }
+        What::Move(task, cpu) => write_line(names, clock, note.clock, What::Move(task, cpu), out),
+        other => write_line(names, clock, note.clock, other, out),
     }
-    clock.set(note.clock);
+}
+
+/// Writes the line of what happened at that clock.
+#[inline(always)]
+fn write_line<N: Names, W: Out>(
+    names: &N,
+    clock: &mut ClockText,
+    ms: u64,
+    what: What,
+    out: &mut W,
+) -> Result<(), Failed>
+    ensures ok { OnOk result (Appends (W.contents out.old) (W.contents out.new)
+        (line_of (N.lists names.now) record { clock = ms; what = what })) }
+    ensures ok_failures { OnOk result (W.failure_count out.new ≡ W.failure_count out.old) }
+    ensures err { OnErr result (AppendsBeginning (W.contents out.old) (W.contents out.new)
+        (line_of (N.lists names.now) record { clock = ms; what = what })) }
+    ensures err_failures { OnErr result
+        (HasFailed (W.failure_count out.old) (W.failure_count out.new)) }
+{
+    let name = name(names, what);
+    if name.len() > NAME_CAPACITY {
+        return write_in_parts(Note { clock: ms, what }, name, out);
+    }
+    clock.set(ms);
+    write_whole(clock, what, name, out)
+}
+
+/// Writes a line of that clock. It is put together behind a copy of the clock's text, and written at once.
+#[inline(always)]
+fn write_whole<W: Out>(clock: &ClockText, what: What, name: &str, out: &mut W) -> Result<(), Failed>
+    requires { length name.now ≤ 16 }
+    ensures ok { OnOk result (Appends (W.contents out.old) (W.contents out.new)
+        (lines.start record { clock = clock.now.clock; what = what }
+        ++ name.now ++ (lines.object what ++ codes "\n"))) }
+    ensures ok_failures { OnOk result (W.failure_count out.new ≡ W.failure_count out.old) }
+    ensures err { OnErr result (AppendsBeginning (W.contents out.old) (W.contents out.new)
+        (lines.start record { clock = clock.now.clock; what = what }
+        ++ name.now ++ (lines.object what ++ codes "\n"))) }
+    ensures err_failures { OnErr result
+        (HasFailed (W.failure_count out.old) (W.failure_count out.new)) }
+{
     let mut line = clock.text;
-    push_verb(&mut line, note.what);
-    line.push_str(name);
-    push_end(&mut line, note.what);
-    write_all(out, line.as_str().as_bytes())
+    let at = put_verb(&mut line, clock.end, what);
+    let at = put_name(&mut line, at, name.as_bytes());
+    let at = put_end(&mut line, at, what);
+    out.write_short(&line, at)
 }
 
 /// Writes the line of a note with a name for which a line has no room.
@@ -54,11 +96,17 @@ fn write_in_parts<W: Out>(note: Note, name: &str, out: &mut W) -> Result<(), Fai
     ensures err_failures { OnErr result
         (HasFailed (W.failure_count out.old) (W.failure_count out.new)) }
 {
-    let mut start = ClockLine::new(note.clock).text;
-    push_verb(&mut start, note.what);
-    let mut end = Line::new();
-    push_end(&mut end, note.what);
-    write_named(out, start.as_str(), name, end.as_str())
+    let clock = ClockText::new(note.clock);
+    let mut start = clock.text;
+    let start_end = put_verb(&mut start, clock.end, note.what);
+    let mut object = [0; SHORT];
+    let object_end = put_end(&mut object, 0, note.what);
+    write_parts(
+        out,
+        &start[..start_end],
+        name.as_bytes(),
+        &object[..object_end],
+    )
 }
 
 /// The name in a note, if there is one.
@@ -80,111 +128,118 @@ fn name<N: Names>(names: &N, what: What) -> &str
     }
 }
 
+/// Puts the words there, with a space behind them, and answers where they end.
 #[inline(always)]
-fn push_verb(line: &mut Line, what: What)
-    requires { array_string_len line.old ≤ 21 }
-    ensures bytes { line.new.bytes ≡ line.old.bytes ++ lines.verb what }
-    ensures short { array_string_len line.new ≤ array_string_len line.old + 12 }
+fn put_verb(line: &mut [u8; SHORT], at: usize, what: What) -> usize
+    requires { at ≤ 21 }
+    ensures text { take result line.new ≡ take at line.old ++ lines.verb what }
+    ensures room { result ≤ at + 12 }
 {
     match what {
-        What::Wake(_) => line.push_str("wake "),
-        What::Sleep(_) => line.push_str("sleep "),
-        What::Insert(_, _) => line.push_str("insert "),
-        What::Move(_, _) => line.push_str("move "),
-        What::Run(_, _) => line.push_str("run "),
-        What::Stop(_, _) => line.push_str("stop "),
-        What::Idle(_) => line.push_str("idle cpu "),
-        What::Weight(_, _) => line.push_str("weight "),
-        What::Stall(_) => line.push_str("eject stall "),
-        What::Fault(_) => line.push_str("eject fault "),
+        What::Wake(_) => put_bytes(line, at, b"wake "),
+        What::Sleep(_) => put_bytes(line, at, b"sleep "),
+        What::Insert(_, _) => put_bytes(line, at, b"insert "),
+        What::Move(_, _) => put_bytes(line, at, b"move "),
+        What::Run(_, _) => put_bytes(line, at, b"run "),
+        What::Stop(_, _) => put_bytes(line, at, b"stop "),
+        What::Idle(_) => put_bytes(line, at, b"idle cpu "),
+        What::Weight(_, _) => put_bytes(line, at, b"weight "),
+        What::Stall(_) => put_bytes(line, at, b"eject stall "),
+        What::Fault(_) => put_bytes(line, at, b"eject fault "),
     }
 }
 
-/// Adds what stands behind the name, with the line feed.
+/// Puts there what stands behind the name, with the line feed, and answers where it ends.
 #[inline(always)]
-fn push_end(line: &mut Line, what: What)
-    requires { array_string_len line.old ≤ 49 }
-    ensures { line.new.bytes ≡ line.old.bytes ++ (lines.object what ++ codes "\n") }
+fn put_end(line: &mut [u8; SHORT], at: usize, what: What) -> usize
+    requires { at ≤ 49 }
+    ensures text { take result line.new ≡ take at line.old ++ (lines.object what ++ codes "\n") }
+    ensures some { 0 < result }
+    ensures room { result ≤ 80 }
 {
-    push_object(line, what);
-    line.push_str("\n");
+    let at = put_object(line, at, what);
+    put_byte(line, at, b'\n')
 }
 
 #[inline(always)]
-fn push_object(line: &mut Line, what: What)
-    requires { array_string_len line.old ≤ 49 }
-    ensures bytes { line.new.bytes ≡ line.old.bytes ++ lines.object what }
-    ensures short { array_string_len line.new ≤ array_string_len line.old + 27 }
+fn put_object(line: &mut [u8; SHORT], at: usize, what: What) -> usize
+    requires { at ≤ 49 }
+    ensures text { take result line.new ≡ take at line.old ++ lines.object what }
+    ensures room { result ≤ at + 27 }
 {
     match what {
-        What::Wake(_) => (),
-        What::Sleep(_) => (),
-        What::Insert(_, queue) => push_queue(line, queue),
-        What::Move(_, cpu) => push_numbered(line, " local ", u64::from(cpu)),
-        What::Run(_, cpu) => push_numbered(line, " cpu ", u64::from(cpu)),
-        What::Stop(_, cpu) => push_numbered(line, " cpu ", u64::from(cpu)),
-        What::Idle(cpu) => push_numbered(line, "", u64::from(cpu)),
-        What::Weight(_, weight) => push_numbered(line, " ", u64::from(weight)),
-        What::Stall(_) => (),
-        What::Fault(fault) => push_numbered(line, "", u64::from(fault.number())),
+        What::Wake(_) => at,
+        What::Sleep(_) => at,
+        What::Insert(_, queue) => put_queue(line, at, queue),
+        What::Move(_, cpu) => put_numbered(line, at, b" local ", u64::from(cpu)),
+        What::Run(_, cpu) => put_numbered(line, at, b" cpu ", u64::from(cpu)),
+        What::Stop(_, cpu) => put_numbered(line, at, b" cpu ", u64::from(cpu)),
+        What::Idle(cpu) => put_number(line, at, u64::from(cpu)),
+        What::Weight(_, weight) => put_numbered(line, at, b" ", u64::from(weight)),
+        What::Stall(_) => at,
+        What::Fault(fault) => put_number(line, at, u64::from(fault.number())),
     }
 }
 
-/// Adds a space, and the queue of that id.
+/// Puts a space there, and the queue of that id, and answers where it ends.
 #[inline(always)]
-fn push_queue(line: &mut Line, queue: u64)
-    requires { array_string_len line.old ≤ 49 }
-    ensures bytes { line.new.bytes ≡ line.old.bytes ++ codes " " ++ lines.queue_text queue }
-    ensures short { array_string_len line.new ≤ array_string_len line.old + 27 }
+fn put_queue(line: &mut [u8; SHORT], at: usize, queue: u64) -> usize
+    requires { at ≤ 49 }
+    ensures text { take result line.new ≡ take at line.old ++ codes " " ++ lines.queue_text queue }
+    ensures room { result ≤ at + 27 }
 {
     if queue < POLICY_END {
-        push_numbered(line, " queue ", queue)
+        put_numbered(line, at, b" queue ", queue)
     } else if queue == GLOBAL {
-        line.push_str(" global")
+        put_bytes(line, at, b" global")
     } else if queue == HELD {
-        line.push_str(" held")
+        put_bytes(line, at, b" held")
     } else if queue == BUILTIN {
-        line.push_str(" builtin")
+        put_bytes(line, at, b" builtin")
     } else if queue == PARKED {
-        line.push_str(" parked")
+        put_bytes(line, at, b" parked")
     } else {
-        push_numbered(line, " local ", queue % 0x1_0000_0000)
+        put_numbered(line, at, b" local ", queue % 0x1_0000_0000)
     }
 }
 
-/// Adds a word and a number.
+/// Puts a word and a number there, and answers where the number ends.
 #[inline(always)]
-fn push_numbered(line: &mut Line, word: &str, number: u64)
+fn put_numbered(line: &mut [u8; SHORT], at: usize, word: &[u8], number: u64) -> usize
     requires word { length word.now ≤ 7 }
-    requires room { array_string_len line.old ≤ 49 }
-    ensures bytes { line.new.bytes ≡ line.old.bytes ++ (word.now ++ decimal number) }
-    ensures short { array_string_len line.new ≤ array_string_len line.old + 27 }
+    requires room { at ≤ 49 }
+    ensures text { take result line.new ≡ take at line.old ++ (word.now ++ decimal number) }
+    ensures room { result ≤ at + 27 }
 {
-    line.push_str(word);
-    push_number(line, number);
+    let at = put_bytes(line, at, word);
+    put_number(line, at, number)
 }
 
-/// Adds a number. Most have one digit.
+/// Puts a number there, and answers where it ends. Most have one digit or two.
 #[inline(always)]
 #[tactic(auto, using(std::proofs::lemmas::Fmt::decimal_digit))]
-fn push_number(line: &mut Line, number: u64)
-    requires { array_string_len line.old ≤ 56 }
-    ensures bytes { line.new.bytes ≡ line.old.bytes ++ decimal number }
-    ensures short { array_string_len line.new ≤ array_string_len line.old + 20 }
+fn put_number(line: &mut [u8; SHORT], at: usize, number: u64) -> usize
+    requires { at ≤ 56 }
+    ensures text { take result line.new ≡ take at line.old ++ decimal number }
+    ensures room { result ≤ at + 20 }
 {
     if number < 10 {
-        line.push(char::from(b'0' + number as u8));
+        put_byte(line, at, b'0' + number as u8)
+    } else if number < 100 {
+        put_two_digits(line, at, number)
     } else {
-        push_digits(line, number);
+        put_digits(line, at, number)
     }
 }
 
-#[inline(never)]
-fn push_digits(line: &mut Line, number: u64)
-    requires { array_string_len line.old ≤ 56 }
-    ensures bytes { line.new.bytes ≡ line.old.bytes ++ decimal number }
-    ensures short { array_string_len line.new ≤ array_string_len line.old + 20 }
+#[inline(always)]
+fn put_two_digits(line: &mut [u8; SHORT], at: usize, number: u64) -> usize
+    requires least { 10 ≤ number }
+    requires most { number < 100 }
+    requires room { at ≤ 56 }
+    ensures text { take result line.new ≡ take at line.old ++ decimal number }
+    ensures room { result ≤ at + 20 }
 {
-    let mut digits = Buffer::new();
-    line.push_str(digits.format(number));
+    let at = put_byte(line, at, b'0' + (number / 10) as u8);
+    put_byte(line, at, b'0' + (number % 10) as u8)
 }

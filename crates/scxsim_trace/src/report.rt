@@ -3,14 +3,17 @@ ghost use Rattle.std.specs.Io.KnownBytes.{Appends};
 ghost use Rattle.scxsim_output.specs.Output.{HasFailed, AppendsBeginning};
 ghost use Rattle.scxsim_trace.specs.Report.{times, share, total_line as total_text, policy_start as start_of, policy_name as name_of, policy_end as end_of, policy_line, report};
 
-use crate::clock_line::Line;
 use crate::names::Names;
+use arrayvec::ArrayString;
 use itoa::Buffer;
 use scx_sched::{Eject, Sim};
 use scxsim_output::{Failed, Out, write_all, write_named};
 
 /// A millisecond in nanoseconds.
 const MS: u64 = 1_000_000;
+
+/// Room for a line, or for a part of one. It takes no memory from the allocator.
+type Line = ArrayString<80>;
 
 /// Writes how long each task ran, which part of all running that is, and whether the policy is in force.
 ///

@@ -26,8 +26,8 @@ fn step<S: Sink>(sim: &mut Sim, event: Event, sink: &mut S)
     sim.is_sound();
 }
 
-/// Gives an event to the machine. Most are ticks, which have a place of their own: what is compiled there
-/// doesn't ask which event it is.
+/// Gives an event to the machine. Most are ticks and clocks, which have a place of their own: what is
+/// compiled there doesn't ask which event it is.
 #[inline(always)]
 fn take<S: Sink>(sim: &mut Sim, event: Event, sink: &mut S)
     ensures state { sim.new ≡ after_event sim.old event }
@@ -37,6 +37,7 @@ fn take<S: Sink>(sim: &mut Sim, event: Event, sink: &mut S)
 {
     match event {
         Event::Tick(cpu) => step(sim, Event::Tick(cpu), sink),
+        Event::Clock => step(sim, Event::Clock, sink),
         other => step(sim, other, sink),
     }
 }

@@ -1,7 +1,7 @@
 ghost use Rattle.std.specs.Prelude.{◌≡◌, true, false};
 ghost use Rattle.scxsim_trace.specs.Tracing.{TakesLine};
 
-use crate::clock_line::ClockLine;
+use crate::clock_text::ClockText;
 use crate::lines::write_note;
 use crate::names::Names;
 use scx_sched_machine::Sink;
@@ -14,7 +14,7 @@ pub struct Trace<'a, N, W> {
     names: &'a N,
     out: &'a mut W,
     failed: bool,
-    clock: ClockLine,
+    clock: ClockText,
 }
 
 impl<'a, N: Names, W: Out> Trace<'a, N, W> {
@@ -28,7 +28,7 @@ impl<'a, N: Names, W: Out> Trace<'a, N, W> {
             names,
             out,
             failed: false,
-            clock: ClockLine::new(0),
+            clock: ClockText::new(0),
         }
     }
 }
@@ -46,6 +46,7 @@ impl<N: Names, W: Out> Sink for Trace<'_, N, W> {
 
     ghost failed_stays = { λ s t n failed takes. takes.0 failed };
 
+    #[inline(always)]
     fn take(&mut self, note: Note) {
         if self.failed {
             return;
