@@ -42,13 +42,13 @@ fn insn_at<'a>(
     ensures { result
         ≡ insn_for (table labels.now.entries) unresolved.now.slot (item_value unresolved.now.item) }
 {
-    match unresolved.item {
+    match &unresolved.item {
         Item::Statement(statement) => said(statement),
-        Item::Jump(jump, Target::Distance(distance)) => jumped_so_far(jump, distance),
+        Item::Jump(jump, Target::Distance(distance)) => jumped_so_far(*jump, *distance),
         Item::Jump(jump, Target::Label(label)) => jumped_to_label(
             labels,
             unresolved.slot,
-            jump,
+            *jump,
             label,
         ),
         Item::Blank | Item::Label(_) => Err(AsmFault::OutOfRange),

@@ -105,10 +105,10 @@ fn call_of(helper: Literal) -> Option<Insn>
 }
 
 /// The instruction that a statement stands for, if its numbers fit.
-fn insn_of(statement: Statement) -> Option<Insn>
-    ensures { result ≡ insn_of statement }
+fn insn_of(statement: &Statement) -> Option<Insn>
+    ensures { result ≡ insn_of statement.now }
 {
-    match statement {
+    match *statement {
         Statement::Binary(width, operation, register, argument) => {
             binary_of(width, operation, register, argument)
         }
@@ -158,11 +158,11 @@ fn distant(jump: Jump, distance: Literal) -> Option<Insn>
 pub(crate) fn fits(item: &Item<'_>) -> bool
     ensures { result ≡ fits (item_value item.now) }
 {
-    match *item {
+    match item {
         Item::Blank | Item::Label(_) => true,
         Item::Statement(statement) => insn_of(statement).is_some(),
-        Item::Jump(jump, Target::Distance(distance)) => distant(jump, distance).is_some(),
-        Item::Jump(jump, Target::Label(_)) => jump_of(jump, 0).is_some(),
+        Item::Jump(jump, Target::Distance(distance)) => distant(*jump, *distance).is_some(),
+        Item::Jump(jump, Target::Label(_)) => jump_of(*jump, 0).is_some(),
     }
 }
 
@@ -193,8 +193,8 @@ pub(crate) fn jumped_to(target: u16, slot: u16, jump: Jump) -> Result<Insn, AsmF
 }
 
 /// The instruction of a statement, or its fault.
-pub(crate) fn said(statement: Statement) -> Result<Insn, AsmFault>
-    ensures { result ≡ or_out_of_range (insn_of statement) }
+pub(crate) fn said(statement: &Statement) -> Result<Insn, AsmFault>
+    ensures { result ≡ or_out_of_range (insn_of statement.now) }
 {
     insn_of(statement).ok_or(AsmFault::OutOfRange)
 }

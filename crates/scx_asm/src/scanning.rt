@@ -1,6 +1,6 @@
-ghost use Rattle.std.specs.Prelude.{◌≡◌, option_map, length, map, IfOk, Err};
+ghost use Rattle.std.specs.Prelude.{◌≡◌, length, map, IfOk, Err};
 ghost use Rattle.std.specs.Str.Lines.{lines};
-ghost use Rattle.scx_asm_text.specs.Items.{item_value, read_line};
+ghost use Rattle.scx_asm_text.specs.Items.{item_value};
 ghost use Rattle.scx_asm.specs.declared.faults.AsmError.TheVariants.{Refused};
 ghost use Rattle.scx_asm.specs.FirstPass.{Gives, at_line, nothing_read, with_label, with_unresolved, with_line, with_text, first_pass};
 ghost use Rattle.scx_asm.specs.Passes.{table, first_pass_of};
@@ -36,17 +36,6 @@ pub(crate) fn refused<T: Drop>(fault: AsmFault, line: usize) -> Result<T, AsmErr
     Err(AsmError::Refused { fault, line })
 }
 
-/// What the line says; `None` where it isn't of the language.
-fn read<'a>(line: &'a [u8], found: &mut Vec<Token<'a>>) -> Result<Option<Item<'a>>, AllocError>
-    ensures { IfOk result (λ item. option_map item_value item ≡ read_line line.now) }
-{
-    if tokens(line, found)? {
-        Ok(item_of(found))
-    } else {
-        Ok(None)
-    }
-}
-
 /// The slot that the label names.
 #[tactic(auto, using(crate::proofs::Tables::find_is))]
 pub(crate) fn slot_of<'a>(labels: &IndexMap<&'a [u8], u16>, label: &'a [u8]) -> Option<u16>
@@ -69,33 +58,33 @@ fn push_label<'a>(pass: &mut FirstPass<'a>, number: usize, label: &'a [u8]) -> R
 fn push_unresolved<'a>(
     pass: &mut FirstPass<'a>,
     number: usize,
-    item: Item<'a>,
+    item: &Item<'a>,
 ) -> Result<(), AsmError>
     ensures { Gives (λ _. first_pass_of pass.new) result
-        (at_line number (with_unresolved number (first_pass_of pass.old) (item_value item.entry))) }
+        (at_line number (with_unresolved number (first_pass_of pass.old) (item_value item.now))) }
 {
-    if !fits(&item) {
+    if !fits(item) {
         return refused(AsmFault::OutOfRange, number);
     }
-    let size = slots_of(&item);
+    let size = slots_of(item);
     if pass.slots > MAX_SLOTS as u16 - size {
         return refused(AsmFault::TooLong, number);
     }
     let unresolved = Unresolved {
         line: number,
         slot: pass.slots,
-        item,
+        item: *item,
     };
     pass.unresolved.push(unresolved)?;
     pass.slots += size;
     Ok(())
 }
 
-fn push_item<'a>(pass: &mut FirstPass<'a>, number: usize, item: Item<'a>) -> Result<(), AsmError>
+fn push_item<'a>(pass: &mut FirstPass<'a>, number: usize, item: &Item<'a>) -> Result<(), AsmError>
     ensures { Gives (λ _. first_pass_of pass.new) result
-        (at_line number (with_line number (first_pass_of pass.old) (item_value item.entry))) }
+        (at_line number (with_line number (first_pass_of pass.old) (item_value item.now))) }
 {
-    match item {
+    match *item {
         Item::Blank => Ok(()),
         Item::Label(label) => push_label(pass, number, label),
         Item::Statement(_) | Item::Jump(..) => push_unresolved(pass, number, item),
@@ -111,8 +100,11 @@ fn push_line<'a>(
     ensures { Gives (λ _. first_pass_of pass.new) result
         (at_line number (with_text number (first_pass_of pass.old) line.now)) }
 {
-    match read(line, found)? {
-        Some(item) => push_item(pass, number, item),
+    if !tokens(line, found)? {
+        return refused(AsmFault::Syntax, number);
+    }
+    match item_of(found) {
+        Some(item) => push_item(pass, number, &item),
         None => refused(AsmFault::Syntax, number),
     }
 }

@@ -1,5 +1,5 @@
 -- A text begins with few of the symbols once its first byte is known.
-use Rattle.std.proofs.Common.{◌≡◌, ℕ, ◌≤◌, ◌<◌, false, nat_eq, List, [], ◌∷◌, length, get_or, ◌∙◌, Option, Some, None, refl, arith}
+use Rattle.std.proofs.Common.{◌≡◌, ℕ, ◌≤◌, ◌<◌, Bool, true, false, if◌then◌else◌, nat_eq, List, [], ◌∷◌, length, get_or, ◌∙◌, Option, Some, None, refl, arith}
 use Rattle.scx_asm_text.specs.declared.symbols.Symbol.{Symbol}
 use Rattle.scx_asm_text.specs.Symbols.{symbols, first_of, symbol_at}
 
@@ -13,6 +13,18 @@ narrowed found b (x ∷ rest) ss is some e same = is ∙ (rw e (same rest))
 pub alone : (s : Symbol) (b : ℕ) (text : List ℕ) → 1 ≤ length text → get_or text 0 0 ≡ b → ((rest : List ℕ) → Some s ≡ first_of symbols (b ∷ rest)) → Some s ≡ symbol_at text
 alone s b [] some e same = absurd (omega (arith, some))
 alone s b (x ∷ rest) some e same = rw e (same rest)
+
+-- what is found by whether `=` follows the first byte
+pub told_by_equals : (found : Option Symbol) (b : ℕ) (text : List ℕ) (s : Symbol) (other : Option Symbol) → found ≡ (if nat_eq (get_or text 1 0) 61 then Some s else other) → 1 ≤ length text → get_or text 0 0 ≡ b
+    → ((rest : List ℕ) → Some s ≡ first_of symbols (b ∷ 61 ∷ rest)) → ((x : ℕ) (rest : List ℕ) → nat_eq 61 x ≡ false → other ≡ first_of symbols (b ∷ x ∷ rest)) → other ≡ first_of symbols (b ∷ [])
+    → found ≡ symbol_at text
+told_by_equals found b [] s other is some e with_it without alone = absurd (omega (arith, some))
+told_by_equals found b (y ∷ []) s other is some e with_it without alone = is ∙ (rw e alone)
+told_by_equals found b (y ∷ x ∷ rest) s other is some e with_it without alone = by (nat_eq x 61) refl
+  where
+    by : (t : Bool) → nat_eq x 61 ≡ t → found ≡ symbol_at (y ∷ x ∷ rest)
+    by true t = let same : x ≡ 61 = grind (arith, t) in rw t at is ∙ rw (e, same) (with_it rest)
+    by false t = let no : nat_eq 61 x ≡ false = grind (arith, t) in rw t at is ∙ rw e (without x rest no)
 
 -- no text begins with a symbol
 pub no_text : (text : List ℕ) → length text < 1 → None ≡ symbol_at text

@@ -1,4 +1,4 @@
-ghost use Rattle.std.specs.Prelude.{◌≡◌, ◌≤◌, length};
+ghost use Rattle.std.specs.Prelude.{◌≡◌, ◌≤◌, nat_eq, length, get_or, Some, if◌then◌else◌};
 ghost use Rattle.scx_asm_text.specs.declared.symbols.Symbol.TheVariants.{Assign, Compare};
 ghost use Rattle.scx_asm_text.specs.Symbols.{spelling, first_of, symbol_at};
 
@@ -41,27 +41,6 @@ const GREATER: [Symbol; 3] = [
     Symbol::Assign(Operation::ShiftRight),
     Symbol::Compare(Comparison::GreaterOrEqual),
     Symbol::Compare(Comparison::Greater),
-];
-
-/// Those that begin with `=`.
-const EQUAL: [Symbol; 2] = [
-    Symbol::Compare(Comparison::Equal),
-    Symbol::Assign(Operation::Move),
-];
-
-/// Those that begin with `+`.
-const PLUS: [Symbol; 2] = [Symbol::Assign(Operation::Add), Symbol::Plus];
-
-/// Those that begin with `-`.
-const MINUS: [Symbol; 2] = [Symbol::Assign(Operation::Subtract), Symbol::Minus];
-
-/// Those that begin with `*`.
-const STAR: [Symbol; 2] = [Symbol::Assign(Operation::Multiply), Symbol::Star];
-
-/// Those that begin with `&`.
-const AND: [Symbol; 2] = [
-    Symbol::Assign(Operation::And),
-    Symbol::Compare(Comparison::BitTest),
 ];
 
 impl Symbol {
@@ -137,7 +116,28 @@ fn first_of(symbols: &[Symbol], text: &[u8]) -> Option<Symbol>
     None
 }
 
+/// One symbol where `=` follows the first byte, another one where it doesn't.
+#[inline(always)]
+fn by_equals(text: &[u8], with: Symbol, without: Option<Symbol>) -> Option<Symbol>
+    ensures { result ≡ (if nat_eq (get_or text.now 1 0) 61 then Some with else without) }
+{
+    match text {
+        [_, b'=', ..] => Some(with),
+        _ => without,
+    }
+}
+
+/// An assignment where `=` follows the first byte, a symbol of that byte alone where it doesn't.
+#[inline(always)]
+fn assigned(text: &[u8], operation: Operation, alone: Option<Symbol>) -> Option<Symbol>
+    ensures { result
+        ≡ (if nat_eq (get_or text.now 1 0) 61 then Some (Assign operation) else alone) }
+{
+    by_equals(text, Symbol::Assign(operation), alone)
+}
+
 /// The longest symbol with which the text begins.
+#[inline(always)]
 pub(crate) fn symbol_at(text: &[u8]) -> Option<Symbol>
     ensures { result ≡ symbol_at text.now }
 {
@@ -145,16 +145,24 @@ pub(crate) fn symbol_at(text: &[u8]) -> Option<Symbol>
         [b's', ..] => first_of(&SIGNED, text),
         [b'<', ..] => first_of(&LESS, text),
         [b'>', ..] => first_of(&GREATER, text),
-        [b'=', ..] => first_of(&EQUAL, text),
-        [b'+', ..] => first_of(&PLUS, text),
-        [b'-', ..] => first_of(&MINUS, text),
-        [b'*', ..] => first_of(&STAR, text),
-        [b'&', ..] => first_of(&AND, text),
-        [b'/', ..] => first_of(&[Symbol::Assign(Operation::Divide)], text),
-        [b'%', ..] => first_of(&[Symbol::Assign(Operation::Modulo)], text),
-        [b'|', ..] => first_of(&[Symbol::Assign(Operation::Or)], text),
-        [b'^', ..] => first_of(&[Symbol::Assign(Operation::Xor)], text),
-        [b'!', ..] => first_of(&[Symbol::Compare(Comparison::NotEqual)], text),
+        [b'=', ..] => by_equals(
+            text,
+            Symbol::Compare(Comparison::Equal),
+            Some(Symbol::Assign(Operation::Move)),
+        ),
+        [b'+', ..] => assigned(text, Operation::Add, Some(Symbol::Plus)),
+        [b'-', ..] => assigned(text, Operation::Subtract, Some(Symbol::Minus)),
+        [b'*', ..] => assigned(text, Operation::Multiply, Some(Symbol::Star)),
+        [b'&', ..] => assigned(
+            text,
+            Operation::And,
+            Some(Symbol::Compare(Comparison::BitTest)),
+        ),
+        [b'/', ..] => assigned(text, Operation::Divide, None),
+        [b'%', ..] => assigned(text, Operation::Modulo, None),
+        [b'|', ..] => assigned(text, Operation::Or, None),
+        [b'^', ..] => assigned(text, Operation::Xor, None),
+        [b'!', ..] => by_equals(text, Symbol::Compare(Comparison::NotEqual), None),
         [b'(', ..] => Some(Symbol::Opening),
         [b')', ..] => Some(Symbol::Closing),
         [b':', ..] => Some(Symbol::Colon),

@@ -1,10 +1,10 @@
-use Rattle.std.proofs.Common.{◌≡◌, [], ◌∷◌, get_or, refl, arith}
+use Rattle.std.proofs.Common.{◌≡◌, [], ◌∷◌, get_or, Some, None, refl, arith}
 use Rattle.std.proofs.lemmas.Grind.{common_steps}
 use Rattle.scx_isa_semantics.specs.declared.operations.Operation.TheVariants.{Add, Subtract, Multiply, Divide, SignedDivide, Or, And, Xor, ShiftLeft, ShiftRight, ShiftRightSigned, Modulo, SignedModulo, Move}
 use Rattle.scx_isa_semantics.specs.declared.operations.Comparison.TheVariants.{Equal, Greater, GreaterOrEqual, BitTest, NotEqual, SignedGreater, SignedGreaterOrEqual, Less, LessOrEqual, SignedLess, SignedLessOrEqual}
 use Rattle.scx_asm_text.specs.declared.symbols.Symbol.TheVariants.{Assign, Compare, Plus, Minus, Star, Opening, Closing, Colon}
 use Rattle.scx_asm_text.specs.Symbols.{first_of}
-use Rattle.scx_asm_text.proofs.Firsts.{narrowed, alone, no_symbol, no_text}
+use Rattle.scx_asm_text.proofs.Firsts.{narrowed, alone, told_by_equals, no_symbol, no_text}
 use Rattle.scx_asm_text.proofs.symbols.symbol_at.Goals as goal
 
 pub returns-in-115 : goal.returns-in-115
@@ -29,61 +29,61 @@ pub returns-in-61 : goal.returns-in-61
 unfolding first_of
 returns-in-61 c =
     let first : get_or c.args.text.now 0 0 ≡ 61 = grind (arith, common_steps) in
-    narrowed c.first_of-in-61.result 61 c.args.text.now (Compare Equal ∷ Assign Move ∷ []) c.first_of-in-61.ensures c.in-61.len_at_least first (λ rest. refl)
+    told_by_equals c.by_equals.result 61 c.args.text.now (Compare Equal) (Some (Assign Move)) c.by_equals.ensures c.in-61.len_at_least first (λ rest. refl) (λ x rest other. rw other refl) refl
 
 pub returns-in-43 : goal.returns-in-43
 unfolding first_of
 returns-in-43 c =
     let first : get_or c.args.text.now 0 0 ≡ 43 = grind (arith, common_steps) in
-    narrowed c.first_of-in-43.result 43 c.args.text.now (Assign Add ∷ Plus ∷ []) c.first_of-in-43.ensures c.in-43.len_at_least first (λ rest. refl)
+    told_by_equals c.assigned.result 43 c.args.text.now (Assign Add) (Some Plus) c.assigned.ensures c.in-43.len_at_least first (λ rest. refl) (λ x rest other. rw other refl) refl
 
 pub returns-in-45 : goal.returns-in-45
 unfolding first_of
 returns-in-45 c =
     let first : get_or c.args.text.now 0 0 ≡ 45 = grind (arith, common_steps) in
-    narrowed c.first_of-in-45.result 45 c.args.text.now (Assign Subtract ∷ Minus ∷ []) c.first_of-in-45.ensures c.in-45.len_at_least first (λ rest. refl)
+    told_by_equals c.assigned-in-45.result 45 c.args.text.now (Assign Subtract) (Some Minus) c.assigned-in-45.ensures c.in-45.len_at_least first (λ rest. refl) (λ x rest other. rw other refl) refl
 
 pub returns-in-42 : goal.returns-in-42
 unfolding first_of
 returns-in-42 c =
     let first : get_or c.args.text.now 0 0 ≡ 42 = grind (arith, common_steps) in
-    narrowed c.first_of-in-42.result 42 c.args.text.now (Assign Multiply ∷ Star ∷ []) c.first_of-in-42.ensures c.in-42.len_at_least first (λ rest. refl)
+    told_by_equals c.assigned-in-42.result 42 c.args.text.now (Assign Multiply) (Some Star) c.assigned-in-42.ensures c.in-42.len_at_least first (λ rest. refl) (λ x rest other. rw other refl) refl
 
 pub returns-in-38 : goal.returns-in-38
 unfolding first_of
 returns-in-38 c =
     let first : get_or c.args.text.now 0 0 ≡ 38 = grind (arith, common_steps) in
-    narrowed c.first_of-in-38.result 38 c.args.text.now (Assign And ∷ Compare BitTest ∷ []) c.first_of-in-38.ensures c.in-38.len_at_least first (λ rest. refl)
+    told_by_equals c.assigned-in-38.result 38 c.args.text.now (Assign And) (Some (Compare BitTest)) c.assigned-in-38.ensures c.in-38.len_at_least first (λ rest. refl) (λ x rest other. rw other refl) refl
 
 pub returns-in-47 : goal.returns-in-47
 unfolding first_of
 returns-in-47 c =
     let first : get_or c.args.text.now 0 0 ≡ 47 = grind (arith, common_steps) in
-    narrowed c.first_of-in-47.result 47 c.args.text.now (Assign Divide ∷ []) c.first_of-in-47.ensures c.in-47.len_at_least first (λ rest. refl)
+    told_by_equals c.assigned-in-47.result 47 c.args.text.now (Assign Divide) (None) c.assigned-in-47.ensures c.in-47.len_at_least first (λ rest. refl) (λ x rest other. rw other refl) refl
 
 pub returns-in-37 : goal.returns-in-37
 unfolding first_of
 returns-in-37 c =
     let first : get_or c.args.text.now 0 0 ≡ 37 = grind (arith, common_steps) in
-    narrowed c.first_of-in-37.result 37 c.args.text.now (Assign Modulo ∷ []) c.first_of-in-37.ensures c.in-37.len_at_least first (λ rest. refl)
+    told_by_equals c.assigned-in-37.result 37 c.args.text.now (Assign Modulo) (None) c.assigned-in-37.ensures c.in-37.len_at_least first (λ rest. refl) (λ x rest other. rw other refl) refl
 
 pub returns-in-124 : goal.returns-in-124
 unfolding first_of
 returns-in-124 c =
     let first : get_or c.args.text.now 0 0 ≡ 124 = grind (arith, common_steps) in
-    narrowed c.first_of-in-124.result 124 c.args.text.now (Assign Or ∷ []) c.first_of-in-124.ensures c.in-124.len_at_least first (λ rest. refl)
+    told_by_equals c.assigned-in-124.result 124 c.args.text.now (Assign Or) (None) c.assigned-in-124.ensures c.in-124.len_at_least first (λ rest. refl) (λ x rest other. rw other refl) refl
 
 pub returns-in-94 : goal.returns-in-94
 unfolding first_of
 returns-in-94 c =
     let first : get_or c.args.text.now 0 0 ≡ 94 = grind (arith, common_steps) in
-    narrowed c.first_of-in-94.result 94 c.args.text.now (Assign Xor ∷ []) c.first_of-in-94.ensures c.in-94.len_at_least first (λ rest. refl)
+    told_by_equals c.assigned-in-94.result 94 c.args.text.now (Assign Xor) (None) c.assigned-in-94.ensures c.in-94.len_at_least first (λ rest. refl) (λ x rest other. rw other refl) refl
 
 pub returns-in-33 : goal.returns-in-33
 unfolding first_of
 returns-in-33 c =
     let first : get_or c.args.text.now 0 0 ≡ 33 = grind (arith, common_steps) in
-    narrowed c.first_of-in-33.result 33 c.args.text.now (Compare NotEqual ∷ []) c.first_of-in-33.ensures c.in-33.len_at_least first (λ rest. refl)
+    told_by_equals c.by_equals-in-33.result 33 c.args.text.now (Compare NotEqual) (None) c.by_equals-in-33.ensures c.in-33.len_at_least first (λ rest. refl) (λ x rest other. rw other refl) refl
 
 pub returns-in-40 : goal.returns-in-40
 unfolding first_of
