@@ -1,5 +1,5 @@
 use crate::search::Search;
-use scx_explore_machines::Memory;
+use scx_explore_machines::{Memory, twins_of};
 use scx_explore_states::{Step, Tasks, Way};
 use scx_sched::Event;
 
@@ -9,14 +9,8 @@ impl Search {
     pub(crate) fn try_events(&mut self, state: usize, machine: usize, is_used_up: bool) -> usize {
         let memory = self.machines.memory(machine);
         if self.may_use(memory, Tasks::NONE.with(0)) {
-            for task in 0..self.machines.sim(machine).tasks() {
-                let event = if self.machines.sim(machine).is_runnable(task) {
-                    Event::Sleep(task)
-                } else {
-                    Event::Wake(task)
-                };
-                self.try_apart(state, machine, event);
-            }
+            let began = self.kept_began(memory.began);
+            self.try_tasks(state, machine, began);
         }
         for cpu in 0..self.machines.sim(machine).cpus() {
             self.try_apart(state, machine, Event::Tick(cpu));
@@ -31,6 +25,19 @@ impl Search {
         }
         self.try_apart(state, machine, Event::Clock);
         machine
+    }
+
+    /// Tries the sleep of each task that is runnable, and the wake of each of the others, but of one that sleeps as
+    /// another one does.
+    fn try_tasks(&mut self, state: usize, machine: usize, began: u64) {
+        let twins = twins_of(self.form, self.machines.sim(machine), began);
+        for task in 0..self.machines.sim(machine).tasks() {
+            if self.machines.sim(machine).is_runnable(task) {
+                self.try_apart(state, machine, Event::Sleep(task));
+            } else if !twins.has(task) {
+                self.try_apart(state, machine, Event::Wake(task));
+            }
+        }
     }
 
     /// Tries an event on a machine that becomes what that one is.
@@ -62,12 +69,13 @@ impl Search {
     /// Enters the state behind what was watched.
     pub(crate) fn enter_behind(&mut self, machine: usize, memory: Memory, way: Way) -> usize {
         let mut memory = memory;
-        memory.began = if self.finds.is_overtaken() {
-            0
-        } else {
-            self.look.watch.watched().began
-        };
+        memory.began = self.kept_began(self.look.watch.watched().began);
         self.enter(machine, memory, way)
+    }
+
+    /// Who began to run while another waits, as long as that is looked for: until a task was overtaken twice.
+    fn kept_began(&self, began: u64) -> u64 {
+        if self.finds.is_overtaken() { 0 } else { began }
     }
 
     /// Whether so many more wakes or sleeps may be.

@@ -1,4 +1,5 @@
 ghost use Rattle.std.specs.Prelude.{◌≡◌, length, All, IfOk};
+ghost use Rattle.scx_explore_machines.specs.Events.{most_events};
 ghost use Rattle.scx_explore_path.specs.Path.{IsAs};
 
 use crate::finds::Finds;
@@ -186,7 +187,10 @@ impl Search {
     }
 
     /// The most events of a list within the bounds, for such a machine.
-    pub fn most_events(bounds: Bounds, sim: &Sim) -> usize {
+    pub fn most_events(bounds: Bounds, sim: &Sim) -> usize
+        ensures { result ≡ most_events bounds (length sim.now.state.world.tasks)
+            (length sim.now.state.world.cpus) }
+    {
         most_events(bounds, sim)
     }
 
@@ -201,6 +205,11 @@ impl Search {
         self.hand = self.enter(hand, memory, way);
         self.machines.deepen();
         self.end = self.seen.len();
+    }
+
+    /// Whether tasks of a group aren't told apart: states in which they have changed places count as one.
+    pub fn are_tasks_alike(&self) -> bool {
+        !self.form.names
     }
 
     /// How many states were met so far.

@@ -1,17 +1,32 @@
+ghost use Rattle.std.specs.Prelude.{◌≡◌, length};
+ghost use Rattle.scx_explore_machines.specs.Events.{change_at};
+
 use crate::bounds::{Bounds, Mode};
 use scx_load_workloads::{Change, Workload};
 use scx_sched::Event;
 use std::alloc::{AllocError, Global};
+use std::marker::Model;
 
 /// The most different changes of weights that a search tries.
 pub const MOST_CHANGES: usize = 64;
 
 /// The weights that groups may come to have, each once.
+///
+/// In a contract it is the changes that give them.
 #[derive(Drop)]
 pub struct Changes {
     changes: Vec<Change>,
     /// Bit i is set where the workload's group has the weight of change i.
     first: u64,
+}
+
+impl Model for Changes {
+    ghost use Rattle.std.specs.Prelude.{List};
+    ghost use Rattle.scx_load_workloads.specs.declared.workload.Change.{Change};
+
+    ghost Value = { List Change };
+
+    ghost view = { λ c. c.changes.items };
 }
 
 impl Changes {
@@ -56,7 +71,9 @@ impl Changes {
     }
 
     /// How many there are.
-    pub fn len(&self) -> usize {
+    pub fn len(&self) -> usize
+        ensures { result ≡ length self.now }
+    {
         self.changes.len()
     }
 
@@ -66,10 +83,14 @@ impl Changes {
         first
     }
 
-    /// The event of that change.
-    pub fn event(&self, at: usize) -> Option<Event> {
-        let change = self.changes.get(at)?;
-        Some(Event::SetWeight(change.group, change.weight))
+    /// The event of that change; none where there is no such change.
+    pub fn event(&self, at: usize) -> Option<Event>
+        ensures { result ≡ change_at self.now at }
+    {
+        match self.changes.get(at) {
+            Some(change) => Some(Event::SetWeight(change.group, change.weight)),
+            None => None,
+        }
     }
 
     /// Which groups have such a weight, once that one has this weight.

@@ -2,7 +2,8 @@
 //!
 //! `Machines` has a machine for each state that is gone through, as far as there are any, and for those on the way to
 //! one that has none. `Memory` is what a search of some `Bounds` remembers of a state beside its machine. `Look` is
-//! who looks on while events happen. `event_at` tells the events of a step.
+//! who looks on while events happen. `event_at` tells the events of a step, and `twins_of` tells which of
+//! them are needless.
 #![tactic(auto)]
 
 mod bounds;
@@ -14,6 +15,7 @@ mod memory;
 mod most;
 mod steps;
 mod ticks;
+mod twins;
 
 pub use bounds::{Bounds, Mode};
 pub use changes::{Changes, MOST_CHANGES};
@@ -23,3 +25,4 @@ pub use memory::{Choice, Memory};
 pub use most::Most;
 pub use steps::{count_of, event_at, most_events, places};
 pub use ticks::Ticks;
+pub use twins::twins_of;

@@ -1,3 +1,6 @@
+ghost use Rattle.std.specs.Prelude.{◌≡◌, length};
+ghost use Rattle.scx_explore_machines.specs.Events.{most_events, most_of_step};
+
 use crate::bounds::{Bounds, Mode};
 use scx_explore_states::{MOST_TASKS, Step, Tasks};
 use scx_sched::{Event, Sim};
@@ -42,14 +45,23 @@ fn tick_of(cpu: usize) -> Option<Event> {
 }
 
 /// The most events of a list within the bounds, for such a machine.
-pub fn most_events(bounds: Bounds, sim: &Sim) -> usize {
-    let each = match bounds.mode {
+pub fn most_events(bounds: Bounds, sim: &Sim) -> usize
+    ensures { result ≡ most_events bounds (length sim.now.state.world.tasks)
+        (length sim.now.state.world.cpus) }
+{
+    bounds
+        .depth
+        .saturating_mul(most_of_step(bounds.mode, sim.tasks(), sim.cpus()))
+}
+
+/// The most events of a step of a machine with so many tasks and processors.
+fn most_of_step(mode: Mode, tasks: u16, cpus: u32) -> usize
+    ensures { result ≡ most_of_step mode tasks cpus }
+{
+    match mode {
         Mode::Events => 1,
-        Mode::Milliseconds | Mode::Workloads => {
-            2 * usize::from(sim.tasks()) + sim.cpus() as usize + 1
-        }
-    };
-    bounds.depth.saturating_mul(each)
+        Mode::Milliseconds | Mode::Workloads => 2 * usize::from(tasks) + cpus as usize + 1,
+    }
 }
 
 /// How many events a step of a machine with so many processors has.

@@ -6,10 +6,8 @@ ghost use Rattle.scxsim_simulation.specs.Runs.{IsCause};
 ghost use Rattle.scxsim_explore.specs.Machines.{IsFresh};
 
 use crate::machines::{Machines, fresh, make_machines};
-use scx_explore::{Bounds, Form, Mode, SORTS, Search};
-use scx_explore_states::Uses;
-use scx_isa::{CALLBACKS, Callback};
-use scx_load_policies::{PolicyText, read_policy};
+use scx_explore::{Bounds, Form, Mode, SORTS, Search, Starts, form_of, starts_of};
+use scx_isa::CALLBACKS;
 use scx_load_workloads::{Workload, read_workload};
 use scx_sched::{Event, Sim};
 use scxsim_commands::Refusal;
@@ -33,6 +31,8 @@ const MOST_TOLD: usize = SORTS.len() + 1 + CALLBACKS.len();
 #[derive(Drop)]
 pub(crate) struct Begun {
     pub(crate) search: Search,
+    /// What callbacks took before any event.
+    pub(crate) starts: Starts,
     /// Some for each list.
     pub(crate) machines: Machines,
     /// The list at hand.
@@ -73,10 +73,12 @@ pub(crate) fn begin(
     ensures fresh { IfOk result (λ begun. IsFresh policy.now workload.now begun.machines) }
     ensures refused { IfErr result (IsCause policy.now workload.now) }
 {
+    let starts = starts_of(alloc, policy, about)?;
     let machines = Machines::new(alloc, policy, workload, told_by(bounds.mode) * MOST_TOLD)?;
     match search_in(alloc, policy, workload, about, bounds, machines.first()) {
         Ok((search, events)) => Ok(Begun {
             search,
+            starts,
             machines,
             events,
         }),
@@ -159,53 +161,5 @@ fn search_from(
     match Search::new(alloc, form, bounds, root, sims, about, ROOM) {
         Ok(search) => Ok(search),
         Err(AllocError) => Err(Refusal::NoMemory),
-    }
-}
-
-/// What is kept of a state under the policy, whose text was read before.
-fn form_of(alloc: Global, policy: &str, bounds: Bounds) -> Result<Form, AllocError> {
-    match read_policy(alloc, policy) {
-        Ok(mut text) => {
-            let uses = uses_of(alloc, &mut text);
-            let timeout_ms = text.timeout_ms();
-            drop(text);
-            Ok(form_by(uses?, timeout_ms, bounds))
-        }
-        Err(error) => {
-            drop(error);
-            Err(AllocError)
-        }
-    }
-}
-
-/// What the policy's programs do.
-fn uses_of(alloc: Global, text: &mut PolicyText) -> Result<Uses, AllocError> {
-    let mut uses = Uses::NONE;
-    for callback in CALLBACKS {
-        uses = with_callback(alloc, uses, text, callback)?;
-    }
-    Ok(uses)
-}
-
-fn with_callback(
-    alloc: Global,
-    uses: Uses,
-    text: &mut PolicyText,
-    callback: Callback,
-) -> Result<Uses, AllocError> {
-    match text.take(callback) {
-        Some(program) => {
-            let next = uses.with(alloc, &program, callback, text.defs());
-            drop(program);
-            next
-        }
-        None => Ok(uses),
-    }
-}
-
-fn form_by(uses: Uses, timeout_ms: u32, bounds: Bounds) -> Form {
-    match bounds.mode {
-        Mode::Events => Form::of_events(uses, timeout_ms, bounds.depth),
-        Mode::Milliseconds | Mode::Workloads => Form::of_milliseconds(uses),
     }
 }

@@ -4,7 +4,6 @@
 #![tactic(auto)]
 
 mod beginning;
-mod course;
 mod exploring;
 mod limits;
 mod lines;

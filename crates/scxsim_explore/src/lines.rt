@@ -5,23 +5,12 @@ ghost use Rattle.scxsim_explore.specs.Lists.{event_line, event_lines, found_line
 ghost use Rattle.scxsim_explore.specs.Telling.{Grows};
 
 use itoa::Buffer;
-use scx_explore::{Bounds, Finding, Level, Mode, Sort};
+use scx_explore::{Bounds, End, Finding, Level, Mode, Sort, Starts};
 use scx_isa::Callback;
 use scx_load_workloads::Workload;
 use scx_sched::Event;
 use scxsim_output::{Failed, Out, write_all, write_named};
 use scxsim_trace::Names;
-
-/// How a search has ended.
-#[derive(Clone, Copy)]
-pub(crate) enum End {
-    /// No state is new.
-    Ended,
-    /// Lists of so many steps were gone through.
-    At(usize),
-    /// The same, and the states behind them don't fit.
-    Full(usize),
-}
 
 /// What a depth counts, at the end of a line.
 fn unit(mode: Mode) -> &'static str
@@ -142,6 +131,49 @@ fn write_weight<W: Out>(
 {
     write_group(about, "weight ", group, " ", out)?;
     write_number(out, "", u64::from(weight), "\n")
+}
+
+/// The most instructions of the callbacks that ran before any event.
+pub(crate) fn write_starts<W: Out>(starts: Starts, out: &mut W) -> Result<(), Failed>
+    ensures { OnOk result (Grows (W.contents out.old) (W.contents out.new)) }
+{
+    write_start(Callback::Init, starts.init, out)?;
+    write_start(Callback::Enable, starts.enable, out)
+}
+
+/// Those of one of them, if it ran.
+#[tactic(auto, using(crate::proofs::Written::grown_none))]
+fn write_start<W: Out>(
+    callback: Callback,
+    instructions: Option<u64>,
+    out: &mut W,
+) -> Result<(), Failed>
+    ensures { OnOk result (Grows (W.contents out.old) (W.contents out.new)) }
+{
+    match instructions {
+        Some(instructions) => write_run(callback, instructions, out),
+        None => Ok(()),
+    }
+}
+
+fn write_run<W: Out>(callback: Callback, instructions: u64, out: &mut W) -> Result<(), Failed>
+    ensures { OnOk result (Grows (W.contents out.old) (W.contents out.new)) }
+{
+    write_number(out, "most instructions ", instructions, " of ")?;
+    write_text(out, callback.name())?;
+    write_text(out, " before any event\n")
+}
+
+/// Says so, where tasks of a group may change places in a state.
+#[tactic(auto, using(crate::proofs::Written::grown_none))]
+pub(crate) fn write_alike<W: Out>(are_alike: bool, out: &mut W) -> Result<(), Failed>
+    ensures { OnOk result (Grows (W.contents out.old) (W.contents out.new)) }
+{
+    if are_alike {
+        write_text(out, "tasks of a group count as alike\n")
+    } else {
+        Ok(())
+    }
 }
 
 /// How many states were met and events tried up to a depth.

@@ -2,12 +2,11 @@ ghost use Rattle.std.specs.Prelude.{◌≡◌, OnOk};
 ghost use Rattle.scxsim_explore.specs.Telling.{Grows, HasTold, IsTold};
 
 use crate::beginning::Begun;
-use crate::course::Course;
-use crate::lines::{End, write_full, write_level, write_none};
+use crate::lines::{write_alike, write_full, write_level, write_none, write_starts};
 use crate::machines::Machines;
 use crate::showing::{Told, write_if_shown};
 use crate::watcher::Watcher;
-use scx_explore::{Bounds, Found, Level, Mode, SORTS, Search, Sort};
+use scx_explore::{Bounds, Course, End, Found, Level, Mode, SORTS, Search, Sort};
 use scx_explore_workloads::workload_file;
 use scx_isa::CALLBACKS;
 use scx_load_workloads::Workload;
@@ -33,7 +32,7 @@ pub(crate) fn tell<V: Watcher, W: Out>(
     let end = search(begun, about, &mut course, watcher, out)?;
     watcher.pause();
     write_most(begun, about, bounds.mode, out)?;
-    write_end(&begun.search, &course, end, out)
+    write_end(begun, &course, end, out)
 }
 
 /// Goes through the lists, and writes what is found.
@@ -233,13 +232,27 @@ fn write_with<W: Out>(
     }
 }
 
-/// Writes how far the search came, and what it found in none of the lists.
-fn write_end<W: Out>(search: &Search, course: &Course, end: End, out: &mut W) -> Result<(), Failed>
+/// Writes what callbacks took before any event, how far the search came, and what it found in none of the lists.
+fn write_end<W: Out>(begun: &Begun, course: &Course, end: End, out: &mut W) -> Result<(), Failed>
     ensures { OnOk result (Grows (W.contents out.old) (W.contents out.new)) }
 {
+    write_starts(begun.starts, out)?;
+    write_counts(&begun.search, course, end, out)?;
+    write_nones(&begun.search, course.bounds, end, out)
+}
+
+/// Writes how many states and events each depth has.
+fn write_counts<W: Out>(
+    search: &Search,
+    course: &Course,
+    end: End,
+    out: &mut W,
+) -> Result<(), Failed>
+    ensures { OnOk result (Grows (W.contents out.old) (W.contents out.new)) }
+{
+    write_alike(search.are_tasks_alike(), out)?;
     write_depths(course, out)?;
-    write_full(course.bounds.mode, end, out)?;
-    write_nones(search, course.bounds, end, out)
+    write_full(course.bounds.mode, end, out)
 }
 
 fn write_depths<W: Out>(course: &Course, out: &mut W) -> Result<(), Failed>

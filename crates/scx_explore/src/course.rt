@@ -1,5 +1,5 @@
-use crate::lines::End;
-use scx_explore::{Bounds, Level, Progress};
+use crate::progress::{Level, Progress};
+use scx_explore_machines::Bounds;
 
 /// How many depths are told, from the first one on.
 const FIRST: usize = 64;
@@ -7,10 +7,21 @@ const FIRST: usize = 64;
 /// And how many behind them, each twice as far as the one before.
 const DOUBLED: usize = 10;
 
+/// How a search has ended.
+#[derive(Clone, Copy)]
+pub enum End {
+    /// No state is new.
+    Ended,
+    /// Lists of so many steps were gone through.
+    At(usize),
+    /// The same, and the states behind them don't fit.
+    Full(usize),
+}
+
 /// How far a search has come, and is to go.
 #[derive(Clone, Copy)]
-pub(crate) struct Course {
-    pub(crate) bounds: Bounds,
+pub struct Course {
+    pub bounds: Bounds,
     /// Lists of so many steps were gone through.
     done: usize,
     levels: [Option<Level>; FIRST + DOUBLED],
@@ -18,7 +29,8 @@ pub(crate) struct Course {
 }
 
 impl Course {
-    pub(crate) fn new(bounds: Bounds) -> Course {
+    /// It is to go so far.
+    pub fn new(bounds: Bounds) -> Course {
         Course {
             bounds,
             done: 0,
@@ -28,12 +40,12 @@ impl Course {
     }
 
     /// The depths that are told, but for the last one where that is none of them.
-    pub(crate) fn levels(&self) -> &[Option<Level>] {
+    pub fn levels(&self) -> &[Option<Level>] {
         &self.levels
     }
 
     /// The last depth, where it is none of those.
-    pub(crate) fn last(&self) -> Option<Level> {
+    pub fn last(&self) -> Option<Level> {
         let last = self.last?;
         match place_of(last.depth) {
             Some(_) => None,
@@ -41,12 +53,13 @@ impl Course {
         }
     }
 
-    pub(crate) fn done(&self) -> usize {
+    /// Lists of so many steps were gone through.
+    pub fn done(&self) -> usize {
         self.done
     }
 
-    /// How the search has ended, if it has.
-    pub(crate) fn end_after(&mut self, progress: Progress) -> Option<End> {
+    /// How the search has ended behind what it did at last, if it has.
+    pub fn end_after(&mut self, progress: Progress) -> Option<End> {
         match progress {
             Progress::Going => None,
             Progress::Full => Some(End::Full(self.done)),

@@ -1,0 +1,64 @@
+use scx_explore_machines::{Look, Most};
+use scx_explore_states::Watch;
+use scx_isa::Callback;
+use scx_load_policies::{build, read_policy};
+use scx_load_workloads::Workload;
+use scx_sched::{Policy, Sim};
+use scx_weights::Tree;
+use std::alloc::{AllocError, Global};
+
+/// The most instructions of the callbacks that run before any event; none of one that the policy doesn't have.
+#[derive(Clone, Copy)]
+pub struct Starts {
+    pub init: Option<u64>,
+    /// Of all tasks.
+    pub enable: Option<u64>,
+}
+
+/// Those of the machine of a policy and a workload, whose texts were read before.
+///
+/// # Errors
+///
+/// Memory runs out.
+pub fn starts_of(alloc: Global, policy: &str, workload: &Workload) -> Result<Starts, AllocError> {
+    let policy = policy_of(alloc, policy)?;
+    match Tree::new(alloc, workload.groups(), workload.tasks()) {
+        Ok(tree) => starts_with(alloc, policy, tree, workload),
+        Err(_) => {
+            drop(policy);
+            Err(AllocError)
+        }
+    }
+}
+
+fn policy_of(alloc: Global, text: &str) -> Result<Policy, AllocError> {
+    let Ok(text) = read_policy(alloc, text) else {
+        return Err(AllocError);
+    };
+    match build(alloc, text) {
+        Ok(policy) => Ok(policy),
+        Err(_) => Err(AllocError),
+    }
+}
+
+fn starts_with(
+    alloc: Global,
+    policy: Policy,
+    tree: Tree,
+    workload: &Workload,
+) -> Result<Starts, AllocError> {
+    let mut look = Look {
+        watch: Watch::new(workload.tasks()),
+        most: Most::NONE,
+    };
+    match Sim::new_seen(alloc, policy, tree, workload.cpus(), &mut look) {
+        Ok(sim) => {
+            drop(sim);
+            Ok(Starts {
+                init: look.most.grown(Callback::Init),
+                enable: look.most.grown(Callback::Enable),
+            })
+        }
+        Err(_) => Err(AllocError),
+    }
+}

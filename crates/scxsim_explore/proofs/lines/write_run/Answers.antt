@@ -1,0 +1,5 @@
+use Rattle.scxsim_explore.proofs.Written.{grown_thrice_so}
+use Rattle.scxsim_explore.proofs.lines.write_run.Goals as goal
+
+pub returns : goal.returns
+returns g c = grown_thrice_so c.write_text-2.result _ _ _ _ c.in_ok-write_number.ensures.grows c.in_ok-write_text.ensures.grows c.write_text-2.ensures.grows
