@@ -36,6 +36,7 @@ pub use scxsim_commands::{
 pub use scxsim_drawing::picture;
 pub use scxsim_explain::explain;
 pub use scxsim_explore::explore;
+use scxsim_output::Blocks;
 pub use scxsim_page::view;
 pub use scxsim_pictures::timeline;
 pub use scxsim_simulation::{Listener, replay, report, simulate};
@@ -58,7 +59,7 @@ fn main(rt: HostRuntime) -> ExitCode {
     let block = if is_search(&rt) { SEARCH_BLOCK } else { BLOCK };
     match BufWriter::with_capacity(rt.alloc(), block, io::writer(&rt)) {
         Ok(writer) => {
-            let mut out = Counted::new(writer);
+            let mut out = Blocks::new(Counted::new(writer));
             let ending = run(&rt, &mut out);
             let flushed = out.flush();
             say(&rt, &ending.said);

@@ -5,7 +5,7 @@ use std::alloc::{AllocError, Global};
 use std::convert::AsStr;
 
 /// The version, which nothing else says: scripts ask the program for it.
-const VERSION: &str = "0.5.0";
+const VERSION: &str = "0.6.0";
 
 const SLOTS: &str = "A file of BPF instructions, in slots of 8 bytes, low byte first";
 
