@@ -227,12 +227,17 @@ impl Search<'_> {
         self.machine.world.ejected.is_none()
     }
 
-    /// The machine is at a state of the next depth.
-    fn enter(&mut self, step: Step) {
-        assert!(self.form.slices || !self.machine.world.notes.keeps_slice, "slices may not be left out here");
+    /// Once a task was overtaken twice, nobody asks any more who began to run.
+    fn forget(&mut self) {
         if self.found.contains(&Sort::Overtaken) {
             self.machine.world.notes.began.iter_mut().for_each(|began| began.fill(false));
         }
+    }
+
+    /// The machine is at a state of the next depth.
+    fn enter(&mut self, step: Step) {
+        assert!(self.form.slices || !self.machine.world.notes.keeps_slice, "slices may not be left out here");
+        self.forget();
         if self.met.insert(self.form.bytes(&self.machine, &self.orders)) {
             self.next.push((self.ways.len(), self.machine.world.save()));
             self.ways.push((self.from, step));
@@ -274,6 +279,7 @@ impl Search<'_> {
 
     fn go_through_events(&mut self, state: &Saved<Watch>) {
         self.machine.world.restore(state);
+        self.forget();
         for event in self.accepted() {
             self.machine.world.restore(state);
             self.behind.clear();
@@ -355,6 +361,8 @@ pub fn explore(policy: &str, workload: &str, words: &[String]) -> Result<(), Str
     let machine = Machine::new(Watch::new(&workload), &policy, &workload)?;
     let form = Form::new(&machine, &policy, &workload, &words);
     let orders = orders(&machine.world.notes.homes);
+    // What init and enable took, before any event.
+    let most = machine.world.notes.most.map(|number| Most { number, ..Most::default() });
     let mut search = Search {
         machine,
         workload: &workload,
@@ -370,7 +378,7 @@ pub fn explore(policy: &str, workload: &str, words: &[String]) -> Result<(), Str
         behind: Vec::new(),
         found: Vec::new(),
         longest: Most::default(),
-        most: Default::default(),
+        most,
     };
     let has_ended = search.go();
     search.tell_most();
