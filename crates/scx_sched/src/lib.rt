@@ -23,6 +23,8 @@ pub use laws::{
     ejections_lose_nobody, events_keep_places, no_push_is_refused, nothing_is_left_behind,
 };
 pub use places::Place;
-pub use scx_sched_machine::{BadPolicy, Callbacks, Event, NewError, Policy, Refused, Sink, Unseen};
+pub use scx_sched_machine::{
+    BadPolicy, Callbacks, Event, Hearer, NewError, Policy, Refused, Sink, Unseen,
+};
 pub use scx_sched_world::{Eject, Entry, Fault, Note, Rank, What};
 pub use sim::{MAX_EVENTS, Sim};

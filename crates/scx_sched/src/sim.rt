@@ -2,6 +2,7 @@ ghost use Rattle.std.specs.Prelude.{◌≡◌, ℕ, ◌<◌, ◌≤◌, ◌^◌,
 ghost use Rattle.scx_dsq.specs.Queues.{entry_of};
 ghost use Rattle.scx_weights.specs.Limits.{usage_of};
 ghost use Rattle.scx_sched_world.specs.World.{task_at, is_runnable, running, wait, IsLike};
+ghost use Rattle.scx_sched_machine.specs.Hearing.{Hears};
 ghost use Rattle.scx_sched_machine.specs.Notes.{Takes};
 ghost use Rattle.scx_sched_machine.specs.Callbacks.{AreAnswered};
 ghost use Rattle.scx_sched_machine.specs.Policy.{IsTimeout, AreAs};
@@ -18,7 +19,7 @@ ghost use Rattle.scx_sched.specs.Sim.{max_events, refusal, answer_of, after_even
 
 use crate::places::{Place, place_in};
 use scx_maps::Maps;
-use scx_sched_machine::{Event, Machine, NewError, Policy, Refused, Sink, Unseen};
+use scx_sched_machine::{Event, Hearer, Machine, NewError, Policy, Refused, Sink, Unseen};
 use scx_sched_world::{Eject, Entry, World};
 use scx_weights::Tree;
 use std::alloc::Global;
@@ -104,7 +105,6 @@ impl Sim {
 
     /// One event, with all that it causes. One that isn't accepted changes nothing, and has no notes.
     #[inline(always)]
-    #[tactic(auto, using(crate::proofs::Counted::counts))]
     pub fn step<S: Sink>(&mut self, event: Event, sink: &mut S) -> Result<(), Refused>
         ensures answer { result ≡ answer_of (refusal self.old event) }
         ensures state { self.new ≡ after_event self.old event }
@@ -120,10 +120,34 @@ impl Sim {
         ensures decided { OnOk result (EventsDecide self.old event self.new) }
         ensures idle { OnOk result (LeavesNothingIdle event self.new.state.world) }
     {
+        self.step_heard(event, sink)
+    }
+
+    /// The same, for one that is told of the callbacks that are called.
+    #[inline(always)]
+    #[tactic(auto, using(crate::proofs::Counted::counts))]
+    pub fn step_heard<H: Hearer>(&mut self, event: Event, hearer: &mut H) -> Result<(), Refused>
+        ensures answer { result ≡ answer_of (refusal self.old event) }
+        ensures state { self.new ≡ after_event self.old event }
+        ensures refused { OnErr result (self.new ≡ self.old) }
+        ensures notes { Takes H.takes (H.noted hearer.old) (notes_of self.old event)
+            (H.noted hearer.new) }
+        ensures calls { Hears H.hears (H.told hearer.old) (calls_of self.old event)
+            (H.told hearer.new) }
+        ensures answered { AreAnswered (calls_of self.old event) }
+        ensures once { IsOnce None self.new.state.world }
+        ensures there { AreInQueues self.new.state.world }
+        ensures timely { IsTimely self.new.state }
+        ensures bounded { AreBounded self.new.state.world }
+        ensures never_stuck { IsNeverStuck self.new.state.world }
+        ensures cause { OnOk result (EjectsOnce self.old event self.new) }
+        ensures decided { OnOk result (EventsDecide self.old event self.new) }
+        ensures idle { OnOk result (LeavesNothingIdle event self.new.state.world) }
+    {
         if let Some(refused) = self.refusal(event) {
             return Err(refused);
         }
-        self.machine.event(event, sink);
+        self.machine.event_heard(event, hearer);
         self.left -= 1;
         Ok(())
     }

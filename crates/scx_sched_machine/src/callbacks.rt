@@ -8,7 +8,8 @@ ghost use Rattle.scx_vm.specs.Host.{answer_to, after_query};
 ghost use Rattle.scx_sched_world.specs.World.{quiet};
 ghost use Rattle.scx_sched_world.specs.Helpers.{world_functions};
 ghost use Rattle.scx_sched_machine.specs.Budgets.{CanPush, HasRoom, callback_pushes, pushes_due, eject_pushes, program_pushes};
-ghost use Rattle.scx_sched_machine.specs.Does.{Does};
+ghost use Rattle.scx_sched_machine.specs.Does.{Goes};
+ghost use Rattle.scx_sched_machine.specs.Hearing.{Hears};
 ghost use Rattle.scx_sched_machine.specs.Notes.{Takes};
 ghost use Rattle.scx_sched_world.specs.Helpers.{or_fault};
 ghost use Rattle.scx_sched_machine.specs.Policy.{IsAs, HasMaps, program_of};
@@ -17,7 +18,7 @@ ghost use Rattle.scx_sched_machine.specs.Callbacks.{call_ending, call_back, end_
 
 use crate::machine::Machine;
 use crate::policy::Policy;
-use crate::sink::Sink;
+use crate::sink::Hearer;
 use scx_isa::Callback;
 use scx_maps::Maps;
 use scx_sched_world::{Eject, Fault, World};
@@ -46,14 +47,14 @@ fn acting<'a>(policy: &'a Policy, world: &World, callback: Callback) -> Option<&
 /// is ejected, answers 0.
 #[inline(always)]
 #[tactic(auto, unfolding(crate::specs::Callbacks::call_ending))]
-pub(crate) fn run_callback<S: Sink>(
+pub(crate) fn run_callback<H: Hearer>(
     core: &mut Core,
     policy: &Policy,
     callback: Callback,
     arguments: Args,
     maps: &mut Maps,
     world: &mut World,
-    sink: &mut S,
+    hearer: &mut H,
 ) -> u64
     requires shapes { HasShapes policy.now.shapes maps.old }
     requires arguments { FitsCallback callback (program_arguments arguments) }
@@ -67,10 +68,13 @@ pub(crate) fn run_callback<S: Sink>(
         arguments maps.old world.old) }
     ensures shapes { HasShapes policy.now.shapes maps.new }
     ensures few { world.new.queues.pushes ≤ world.old.queues.pushes + program_pushes }
-    ensures sink { sink.new ≡ sink.old }
+    ensures notes { H.noted hearer.new ≡ H.noted hearer.old }
+    ensures calls { Hears H.hears (H.told hearer.old)
+        (calls_of (unless_ejected world.old.ejected (program_of policy.now callback)) callback
+        arguments maps.old world.old) (H.told hearer.new) }
 {
     match acting(policy, world, callback) {
-        Some(program) => sink.run(core, program, arguments, maps, world),
+        Some(program) => hearer.call(core, program, arguments, maps, world),
         None => 0,
     }
 }
@@ -106,15 +110,16 @@ pub(crate) fn run_program(
     answer_on(core, program, arguments, maps, world)
 }
 
-/// Hands the notes that wait to the sink.
+/// Hands the notes that wait to the hearer.
 #[inline(never)]
 #[tactic(auto, using(crate::proofs::Taking::takings))]
-fn flush<S: Sink>(world: &mut World, sink: &mut S)
+fn flush<H: Hearer>(world: &mut World, hearer: &mut H)
     ensures world { world.new ≡ quiet world.old }
-    ensures notes { Takes S.takes sink.old world.old.notes sink.new }
+    ensures notes { Takes H.takes (H.noted hearer.old) world.old.notes (H.noted hearer.new) }
+    ensures calls { H.told hearer.new ≡ H.told hearer.old }
 {
     for note in world.notes() {
-        sink.take(*note);
+        hearer.note(*note);
     }
     world.quiet();
 }
@@ -122,12 +127,13 @@ fn flush<S: Sink>(world: &mut World, sink: &mut S)
 /// The same, by a call only where there are some.
 #[inline(always)]
 #[tactic(auto, using(crate::proofs::Silent::quiet_already))]
-fn flush_any<S: Sink>(world: &mut World, sink: &mut S)
+fn flush_any<H: Hearer>(world: &mut World, hearer: &mut H)
     ensures world { world.new ≡ quiet world.old }
-    ensures notes { Takes S.takes sink.old world.old.notes sink.new }
+    ensures notes { Takes H.takes (H.noted hearer.old) world.old.notes (H.noted hearer.new) }
+    ensures calls { H.told hearer.new ≡ H.told hearer.old }
 {
     if !world.notes().is_empty() {
-        flush(world, sink);
+        flush(world, hearer);
     }
 }
 
@@ -207,14 +213,14 @@ impl Machine {
 
     /// Ejects the policy where there was a fault.
     #[tactic(auto, using(crate::proofs::Taking::takings))]
-    fn eject_for<S: Sink>(&mut self, fault: Option<Fault>, sink: &mut S)
+    fn eject_for<H: Hearer>(&mut self, fault: Option<Fault>, hearer: &mut H)
         requires { HasRoom eject_pushes self.old }
-        ensures { Does S.takes eject_pushes (ejected_for fault self.old)
-            self.old sink.old self.new sink.new }
+        ensures { Goes H.noted H.takes H.told H.hears eject_pushes (ejected_for fault self.old)
+            self.old hearer.old self.new hearer.new }
     {
         if let Some(fault) = fault {
             let clock = self.world.clock();
-            self.eject(Eject::Fault(fault, clock), sink);
+            self.eject(Eject::Fault(fault, clock), hearer);
         }
     }
 
@@ -222,19 +228,20 @@ impl Machine {
     /// does. Where it has a fault the policy is ejected. Once it is ejected, none runs, and the answer is 0.
     #[inline(always)]
     #[tactic(auto, unfolding(crate::specs::Callbacks::call_back, crate::specs::Callbacks::answered_by), using(crate::proofs::Taking::takings))]
-    pub(crate) fn call_back<S: Sink>(
+    pub(crate) fn call_back<H: Hearer>(
         &mut self,
         callback: Callback,
         arguments: Args,
         task: u16,
         cpu: u32,
-        sink: &mut S,
+        hearer: &mut H,
     ) -> u64
         requires arguments { FitsCallback callback (program_arguments arguments) }
         requires room { HasRoom callback_pushes self.old }
         ensures answer { Some result ≡ answered_by self.old callback arguments task cpu }
-        ensures does { Does S.takes callback_pushes (call_back self.old callback arguments task cpu)
-            self.old sink.old self.new sink.new }
+        ensures does { Goes H.noted H.takes H.told H.hears callback_pushes
+            (call_back self.old callback arguments task cpu)
+            self.old hearer.old self.new hearer.new }
         ensures calm { is_calm callback ≡ true → pushes_due self.new ≤ pushes_due self.old }
     {
         self.world.begin(callback, task, cpu);
@@ -245,11 +252,11 @@ impl Machine {
             arguments,
             &mut self.maps,
             &mut self.world,
-            sink,
+            hearer,
         );
-        flush_any(&mut self.world, sink);
+        flush_any(&mut self.world, hearer);
         let fault = self.fault(callback, answer);
-        self.eject_for(fault, sink);
+        self.eject_for(fault, hearer);
         answer
     }
 }

@@ -1,13 +1,13 @@
 ghost use Rattle.std.specs.Prelude.{◌≡◌, ◌*◌, false, None};
 ghost use Rattle.scx_sched_world.specs.Ids.{global};
 ghost use Rattle.scx_sched_machine.specs.Budgets.{HasRoom, ask_pushes, builtin_ask_pushes, builtin_cycle_pushes, builtin_dispatch_pushes, callback_pushes, cycle_pushes, dispatch_pushes, fill_pushes, leave_pushes, pick_pushes, swap_pushes};
-ghost use Rattle.scx_sched_machine.specs.Does.{Does};
+ghost use Rattle.scx_sched_machine.specs.Does.{Goes};
 ghost use Rattle.scx_sched_machine.specs.Filling.{fill};
 ghost use Rattle.scx_sched_machine.specs.Cycle.{after_dispatch, tries, after_stopping, after_running, leave, start, rest, swap, swap_or_rest, builtin_dispatch, builtin_fill, builtin_ask, builtin_cycle, start_or_cycle, pick, pick_or_rest, conclude, ask, seek, look, stays_idle, idles, cycle};
 
 use crate::callbacks::{cpu_and_task, one_task, task_and_number};
 use crate::machine::Machine;
-use crate::sink::Sink;
+use crate::sink::Hearer;
 use scx_isa::Callback;
 use scx_sched_world::{BUILTIN, What};
 
@@ -15,302 +15,308 @@ impl Machine {
     /// Where the local queue is empty, the front of another comes to it.
     #[inline(always)]
     #[tactic(auto, unfolding(crate::specs::Filling::fill), using(crate::proofs::Taking::takings))]
-    pub(crate) fn fill<S: Sink>(&mut self, queue: u64, cpu: u32, sink: &mut S)
+    pub(crate) fn fill<H: Hearer>(&mut self, queue: u64, cpu: u32, hearer: &mut H)
         requires { HasRoom fill_pushes self.old }
-        ensures { Does S.takes fill_pushes (fill self.old queue cpu)
-            self.old sink.old self.new sink.new }
+        ensures { Goes H.noted H.takes H.told H.hears fill_pushes (fill self.old queue cpu)
+            self.old hearer.old self.new hearer.new }
     {
         if let Some(task) = self.world.fill(queue, cpu) {
-            sink.take(self.world.note(What::Move(task, cpu)));
+            hearer.note(self.world.note(What::Move(task, cpu)));
         }
     }
 
     /// Where the local queue is empty, the front of that of all processors comes to it.
     #[inline(always)]
     #[tactic(auto, unfolding(crate::specs::Filling::fill), using(crate::proofs::Taking::takings))]
-    pub(crate) fn fill_global<S: Sink>(&mut self, cpu: u32, sink: &mut S)
+    pub(crate) fn fill_global<H: Hearer>(&mut self, cpu: u32, hearer: &mut H)
         requires { HasRoom fill_pushes self.old }
-        ensures { Does S.takes fill_pushes (fill self.old global cpu)
-            self.old sink.old self.new sink.new }
+        ensures { Goes H.noted H.takes H.told H.hears fill_pushes (fill self.old global cpu)
+            self.old hearer.old self.new hearer.new }
     {
         if let Some(task) = self.world.fill_global(cpu) {
-            sink.take(self.world.note(What::Move(task, cpu)));
+            hearer.note(self.world.note(What::Move(task, cpu)));
         }
     }
 
     /// Asks dispatch once, and then supplies the local queue.
     #[inline(always)]
     #[tactic(auto, unfolding(crate::specs::Cycle::after_dispatch), using(crate::proofs::Taking::takings))]
-    fn call_dispatch<S: Sink>(&mut self, cpu: u32, before: Option<u16>, sink: &mut S)
+    fn call_dispatch<H: Hearer>(&mut self, cpu: u32, before: Option<u16>, hearer: &mut H)
         requires { HasRoom dispatch_pushes self.old }
-        ensures { Does S.takes dispatch_pushes (after_dispatch self.old cpu before)
-            self.old sink.old self.new sink.new }
+        ensures { Goes H.noted H.takes H.told H.hears dispatch_pushes
+            (after_dispatch self.old cpu before) self.old hearer.old self.new hearer.new }
     {
-        self.call_back(Callback::Dispatch, cpu_and_task(cpu, before), 0, cpu, sink);
-        self.supply(cpu, sink);
+        self.call_back(
+            Callback::Dispatch,
+            cpu_and_task(cpu, before),
+            0,
+            cpu,
+            hearer,
+        );
+        self.supply(cpu, hearer);
     }
 
     /// Asks dispatch, at most so many times.
     #[tactic(auto, using(crate::proofs::Taking::takings, crate::proofs::Tries::tries_steps))]
-    fn tries<S: Sink>(&mut self, left: u32, cpu: u32, before: Option<u16>, sink: &mut S)
+    fn tries<H: Hearer>(&mut self, left: u32, cpu: u32, before: Option<u16>, hearer: &mut H)
         requires { HasRoom (dispatch_pushes * left) self.old }
-        ensures { Does S.takes (dispatch_pushes * left) (tries left self.old cpu before)
-            self.old sink.old self.new sink.new }
+        ensures { Goes H.noted H.takes H.told H.hears (dispatch_pushes * left)
+            (tries left self.old cpu before) self.old hearer.old self.new hearer.new }
     {
         if left == 0 {
             return;
         }
-        self.call_dispatch(cpu, before, sink);
+        self.call_dispatch(cpu, before, hearer);
         if self.asks_again(cpu) {
-            self.tries(left - 1, cpu, before, sink);
+            self.tries(left - 1, cpu, before, hearer);
         }
     }
 
     /// A task has left its processor. The number says whether it stays runnable.
     #[inline(always)]
     #[tactic(auto, unfolding(crate::specs::Cycle::after_stopping), using(crate::proofs::Taking::takings))]
-    pub(crate) fn call_stopping<S: Sink>(
+    pub(crate) fn call_stopping<H: Hearer>(
         &mut self,
         cpu: u32,
         task: u16,
         runnable: u64,
-        sink: &mut S,
+        hearer: &mut H,
     )
         requires { HasRoom callback_pushes self.old }
-        ensures { Does S.takes callback_pushes (after_stopping self.old cpu task runnable)
-            self.old sink.old self.new sink.new }
+        ensures { Goes H.noted H.takes H.told H.hears callback_pushes
+            (after_stopping self.old cpu task runnable) self.old hearer.old self.new hearer.new }
     {
         if self.is_ejected() {
             self.world.charge(task);
         } else {
             let arguments = task_and_number(task, runnable);
-            self.call_back(Callback::Stopping, arguments, task, cpu, sink);
+            self.call_back(Callback::Stopping, arguments, task, cpu, hearer);
         }
     }
 
     /// A task has come to its processor.
     #[inline(always)]
     #[tactic(auto, unfolding(crate::specs::Cycle::after_running), using(crate::proofs::Taking::takings))]
-    fn call_running<S: Sink>(&mut self, cpu: u32, task: u16, sink: &mut S)
+    fn call_running<H: Hearer>(&mut self, cpu: u32, task: u16, hearer: &mut H)
         requires { HasRoom callback_pushes self.old }
-        ensures { Does S.takes callback_pushes (after_running self.old cpu task)
-            self.old sink.old self.new sink.new }
+        ensures { Goes H.noted H.takes H.told H.hears callback_pushes
+            (after_running self.old cpu task) self.old hearer.old self.new hearer.new }
     {
         if self.is_ejected() {
             self.world.overtake(task);
         } else {
-            self.call_back(Callback::Running, one_task(task), task, cpu, sink);
+            self.call_back(Callback::Running, one_task(task), task, cpu, hearer);
         }
     }
 
     /// The task before leaves the processor, and is put.
     #[inline(always)]
     #[tactic(auto, unfolding(crate::specs::Cycle::leave), using(crate::proofs::Taking::takings))]
-    fn leave<S: Sink>(&mut self, cpu: u32, before: Option<u16>, sink: &mut S)
+    fn leave<H: Hearer>(&mut self, cpu: u32, before: Option<u16>, hearer: &mut H)
         requires { HasRoom leave_pushes self.old }
-        ensures { Does S.takes leave_pushes (leave self.old cpu before)
-            self.old sink.old self.new sink.new }
+        ensures { Goes H.noted H.takes H.told H.hears leave_pushes (leave self.old cpu before)
+            self.old hearer.old self.new hearer.new }
     {
         if let Some(task) = before {
-            sink.take(self.world.note(What::Stop(task, cpu)));
+            hearer.note(self.world.note(What::Stop(task, cpu)));
             self.world.stop(cpu, task);
-            self.call_stopping(cpu, task, 1, sink);
-            self.put(task, cpu, 0, sink);
+            self.call_stopping(cpu, task, 1, hearer);
+            self.put(task, cpu, 0, hearer);
         }
     }
 
     /// The front of the local queue runs.
     #[inline(always)]
     #[tactic(auto, unfolding(crate::specs::Cycle::start), using(crate::proofs::Taking::takings))]
-    fn start<S: Sink>(&mut self, cpu: u32, sink: &mut S)
+    fn start<H: Hearer>(&mut self, cpu: u32, hearer: &mut H)
         requires { HasRoom callback_pushes self.old }
-        ensures { Does S.takes callback_pushes (start self.old cpu)
-            self.old sink.old self.new sink.new }
+        ensures { Goes H.noted H.takes H.told H.hears callback_pushes (start self.old cpu)
+            self.old hearer.old self.new hearer.new }
     {
         if let Some(task) = self.world.start(cpu) {
-            sink.take(self.world.note(What::Run(task, cpu)));
-            self.call_running(cpu, task, sink);
+            hearer.note(self.world.note(What::Run(task, cpu)));
+            self.call_running(cpu, task, hearer);
         }
     }
 
     /// Nobody comes: the task before stays, or the processor is idle.
     #[inline(always)]
     #[tactic(auto, unfolding(crate::specs::Cycle::rest), using(crate::proofs::Taking::takings))]
-    fn rest<S: Sink>(&mut self, cpu: u32, before: Option<u16>, ran: bool, sink: &mut S)
+    fn rest<H: Hearer>(&mut self, cpu: u32, before: Option<u16>, ran: bool, hearer: &mut H)
         requires { HasRoom 0 self.old }
-        ensures { Does S.takes 0 (rest self.old cpu before ran)
-            self.old sink.old self.new sink.new }
+        ensures { Goes H.noted H.takes H.told H.hears 0 (rest self.old cpu before ran)
+            self.old hearer.old self.new hearer.new }
     {
         if before.is_none() && ran {
-            sink.take(self.world.note(What::Idle(cpu)));
+            hearer.note(self.world.note(What::Idle(cpu)));
         }
         self.world.keep(before);
     }
 
     /// Under the built-in scheduler the front of the local queue runs in the place of the task before.
     #[tactic(auto, unfolding(crate::specs::Cycle::swap), using(crate::proofs::Taking::takings))]
-    fn swap<S: Sink>(&mut self, cpu: u32, before: Option<u16>, sink: &mut S)
+    fn swap<H: Hearer>(&mut self, cpu: u32, before: Option<u16>, hearer: &mut H)
         requires { HasRoom swap_pushes self.old }
-        ensures { Does S.takes swap_pushes (swap self.old cpu before)
-            self.old sink.old self.new sink.new }
+        ensures { Goes H.noted H.takes H.told H.hears swap_pushes (swap self.old cpu before)
+            self.old hearer.old self.new hearer.new }
     {
-        self.leave(cpu, before, sink);
-        self.start(cpu, sink);
+        self.leave(cpu, before, hearer);
+        self.start(cpu, hearer);
     }
 
     /// Under the built-in scheduler the front of the local queue runs, if there is one.
     #[tactic(auto, unfolding(crate::specs::Cycle::swap_or_rest), using(crate::proofs::Taking::takings))]
-    fn swap_or_rest<S: Sink>(&mut self, cpu: u32, before: Option<u16>, ran: bool, sink: &mut S)
+    fn swap_or_rest<H: Hearer>(&mut self, cpu: u32, before: Option<u16>, ran: bool, hearer: &mut H)
         requires { HasRoom swap_pushes self.old }
-        ensures { Does S.takes swap_pushes (swap_or_rest self.old cpu before ran)
-            self.old sink.old self.new sink.new }
+        ensures { Goes H.noted H.takes H.told H.hears swap_pushes
+            (swap_or_rest self.old cpu before ran) self.old hearer.old self.new hearer.new }
     {
         if self.has_local(cpu) {
-            self.swap(cpu, before, sink);
+            self.swap(cpu, before, hearer);
         } else {
-            self.rest(cpu, before, ran, sink);
+            self.rest(cpu, before, ran, hearer);
         }
     }
 
     /// The built-in scheduler's dispatch: the front of its queue comes, once those that may not run are parked.
     #[tactic(auto, unfolding(crate::specs::Cycle::builtin_dispatch), using(crate::proofs::Taking::takings))]
-    fn builtin_dispatch<S: Sink>(&mut self, cpu: u32, sink: &mut S)
+    fn builtin_dispatch<H: Hearer>(&mut self, cpu: u32, hearer: &mut H)
         requires { HasRoom builtin_dispatch_pushes self.old }
-        ensures { Does S.takes builtin_dispatch_pushes (builtin_dispatch self.old cpu)
-            self.old sink.old self.new sink.new }
+        ensures { Goes H.noted H.takes H.told H.hears builtin_dispatch_pushes
+            (builtin_dispatch self.old cpu) self.old hearer.old self.new hearer.new }
     {
         let left = self.world.len(BUILTIN);
-        self.park_fronts(left, BUILTIN, sink);
-        self.fill(BUILTIN, cpu, sink);
+        self.park_fronts(left, BUILTIN, hearer);
+        self.fill(BUILTIN, cpu, hearer);
     }
 
     /// The built-in scheduler's dispatch, where the local queue is empty.
     #[tactic(auto, unfolding(crate::specs::Cycle::builtin_fill), using(crate::proofs::Taking::takings))]
-    fn builtin_fill<S: Sink>(&mut self, cpu: u32, sink: &mut S)
+    fn builtin_fill<H: Hearer>(&mut self, cpu: u32, hearer: &mut H)
         requires { HasRoom builtin_dispatch_pushes self.old }
-        ensures { Does S.takes builtin_dispatch_pushes (builtin_fill self.old cpu)
-            self.old sink.old self.new sink.new }
+        ensures { Goes H.noted H.takes H.told H.hears builtin_dispatch_pushes
+            (builtin_fill self.old cpu) self.old hearer.old self.new hearer.new }
     {
         if !self.has_local(cpu) {
-            self.builtin_dispatch(cpu, sink);
+            self.builtin_dispatch(cpu, hearer);
         }
     }
 
     /// Under the built-in scheduler a task comes, if one may run, and the cycle ends.
     #[tactic(auto, unfolding(crate::specs::Cycle::builtin_ask), using(crate::proofs::Taking::takings))]
-    fn builtin_ask<S: Sink>(&mut self, cpu: u32, before: Option<u16>, ran: bool, sink: &mut S)
+    fn builtin_ask<H: Hearer>(&mut self, cpu: u32, before: Option<u16>, ran: bool, hearer: &mut H)
         requires { HasRoom builtin_ask_pushes self.old }
-        ensures { Does S.takes builtin_ask_pushes (builtin_ask self.old cpu before ran)
-            self.old sink.old self.new sink.new }
+        ensures { Goes H.noted H.takes H.told H.hears builtin_ask_pushes
+            (builtin_ask self.old cpu before ran) self.old hearer.old self.new hearer.new }
     {
-        self.builtin_fill(cpu, sink);
-        self.swap_or_rest(cpu, before, ran, sink);
+        self.builtin_fill(cpu, hearer);
+        self.swap_or_rest(cpu, before, ran, hearer);
     }
 
     /// A cycle of the built-in scheduler.
     #[inline(never)]
     #[tactic(auto, unfolding(crate::specs::Cycle::builtin_cycle), using(crate::proofs::Taking::takings))]
-    fn builtin_cycle<S: Sink>(&mut self, cpu: u32, before: Option<u16>, ran: bool, sink: &mut S)
+    fn builtin_cycle<H: Hearer>(&mut self, cpu: u32, before: Option<u16>, ran: bool, hearer: &mut H)
         requires { HasRoom builtin_cycle_pushes self.old }
-        ensures { Does S.takes builtin_cycle_pushes (builtin_cycle self.old cpu before ran)
-            self.old sink.old self.new sink.new }
+        ensures { Goes H.noted H.takes H.told H.hears builtin_cycle_pushes
+            (builtin_cycle self.old cpu before ran) self.old hearer.old self.new hearer.new }
     {
-        self.supply(cpu, sink);
-        self.builtin_ask(cpu, before, ran, sink);
+        self.supply(cpu, hearer);
+        self.builtin_ask(cpu, before, ran, hearer);
     }
 
     /// The front of the local queue runs. An ejection may have emptied it; then the cycle begins anew.
     #[inline(always)]
     #[tactic(auto, unfolding(crate::specs::Cycle::start_or_cycle), using(crate::proofs::Taking::takings))]
-    fn start_or_cycle<S: Sink>(&mut self, cpu: u32, ran: bool, sink: &mut S)
+    fn start_or_cycle<H: Hearer>(&mut self, cpu: u32, ran: bool, hearer: &mut H)
         requires { HasRoom builtin_cycle_pushes self.old }
-        ensures { Does S.takes builtin_cycle_pushes (start_or_cycle self.old cpu ran)
-            self.old sink.old self.new sink.new }
+        ensures { Goes H.noted H.takes H.told H.hears builtin_cycle_pushes
+            (start_or_cycle self.old cpu ran) self.old hearer.old self.new hearer.new }
     {
         if self.has_local(cpu) {
-            self.start(cpu, sink);
+            self.start(cpu, hearer);
         } else {
-            self.builtin_cycle(cpu, None, ran, sink);
+            self.builtin_cycle(cpu, None, ran, hearer);
         }
     }
 
     /// The front of the local queue runs in the place of the task before.
     #[inline(never)]
     #[tactic(auto, unfolding(crate::specs::Cycle::pick), using(crate::proofs::Taking::takings))]
-    fn pick<S: Sink>(&mut self, cpu: u32, before: Option<u16>, ran: bool, sink: &mut S)
+    fn pick<H: Hearer>(&mut self, cpu: u32, before: Option<u16>, ran: bool, hearer: &mut H)
         requires { HasRoom pick_pushes self.old }
-        ensures { Does S.takes pick_pushes (pick self.old cpu before ran)
-            self.old sink.old self.new sink.new }
+        ensures { Goes H.noted H.takes H.told H.hears pick_pushes (pick self.old cpu before ran)
+            self.old hearer.old self.new hearer.new }
     {
-        self.leave(cpu, before, sink);
-        self.start_or_cycle(cpu, ran, sink);
+        self.leave(cpu, before, hearer);
+        self.start_or_cycle(cpu, ran, hearer);
     }
 
     /// Runs the front of the local queue, if there is one.
     #[tactic(auto, unfolding(crate::specs::Cycle::pick_or_rest), using(crate::proofs::Taking::takings))]
-    fn pick_or_rest<S: Sink>(&mut self, cpu: u32, before: Option<u16>, ran: bool, sink: &mut S)
+    fn pick_or_rest<H: Hearer>(&mut self, cpu: u32, before: Option<u16>, ran: bool, hearer: &mut H)
         requires { HasRoom pick_pushes self.old }
-        ensures { Does S.takes pick_pushes (pick_or_rest self.old cpu before ran)
-            self.old sink.old self.new sink.new }
+        ensures { Goes H.noted H.takes H.told H.hears pick_pushes
+            (pick_or_rest self.old cpu before ran) self.old hearer.old self.new hearer.new }
     {
         if self.has_local(cpu) {
-            self.pick(cpu, before, ran, sink);
+            self.pick(cpu, before, ran, hearer);
         } else {
-            self.rest(cpu, before, ran, sink);
+            self.rest(cpu, before, ran, hearer);
         }
     }
 
     /// Dispatch was asked. Where it ejected the policy, the cycle begins anew.
     #[tactic(auto, unfolding(crate::specs::Cycle::conclude), using(crate::proofs::Taking::takings))]
-    fn conclude<S: Sink>(&mut self, cpu: u32, before: Option<u16>, ran: bool, sink: &mut S)
+    fn conclude<H: Hearer>(&mut self, cpu: u32, before: Option<u16>, ran: bool, hearer: &mut H)
         requires { HasRoom pick_pushes self.old }
-        ensures { Does S.takes pick_pushes (conclude self.old cpu before ran)
-            self.old sink.old self.new sink.new }
+        ensures { Goes H.noted H.takes H.told H.hears pick_pushes (conclude self.old cpu before ran)
+            self.old hearer.old self.new hearer.new }
     {
         if self.is_ejected() {
-            self.builtin_cycle(cpu, before, ran, sink);
+            self.builtin_cycle(cpu, before, ran, hearer);
         } else {
-            self.pick_or_rest(cpu, before, ran, sink);
+            self.pick_or_rest(cpu, before, ran, hearer);
         }
     }
 
     /// Asks dispatch for a task.
     #[tactic(auto, unfolding(crate::specs::Cycle::ask), using(crate::proofs::Taking::takings))]
-    fn ask<S: Sink>(&mut self, cpu: u32, before: Option<u16>, ran: bool, sink: &mut S)
+    fn ask<H: Hearer>(&mut self, cpu: u32, before: Option<u16>, ran: bool, hearer: &mut H)
         requires { HasRoom ask_pushes self.old }
-        ensures { Does S.takes ask_pushes (ask self.old cpu before ran)
-            self.old sink.old self.new sink.new }
+        ensures { Goes H.noted H.takes H.told H.hears ask_pushes (ask self.old cpu before ran)
+            self.old hearer.old self.new hearer.new }
     {
-        self.tries(32, cpu, before, sink);
-        self.conclude(cpu, before, ran, sink);
+        self.tries(32, cpu, before, hearer);
+        self.conclude(cpu, before, ran, hearer);
     }
 
     /// A processor on which that task ran and may stay, or none, seeks the one that it runs next.
     #[tactic(auto, unfolding(crate::specs::Cycle::seek), using(crate::proofs::Taking::takings))]
-    fn seek<S: Sink>(&mut self, cpu: u32, before: Option<u16>, ran: bool, sink: &mut S)
+    fn seek<H: Hearer>(&mut self, cpu: u32, before: Option<u16>, ran: bool, hearer: &mut H)
         requires { HasRoom cycle_pushes self.old }
-        ensures { Does S.takes cycle_pushes (seek self.old cpu before ran)
-            self.old sink.old self.new sink.new }
+        ensures { Goes H.noted H.takes H.told H.hears cycle_pushes (seek self.old cpu before ran)
+            self.old hearer.old self.new hearer.new }
     {
-        self.supply(cpu, sink);
+        self.supply(cpu, hearer);
         if self.has_local(cpu) {
-            self.pick(cpu, before, ran, sink);
+            self.pick(cpu, before, ran, hearer);
         } else {
-            self.ask(cpu, before, ran, sink);
+            self.ask(cpu, before, ran, hearer);
         }
     }
 
     /// A cycle of whichever scheduler is in force.
     #[tactic(auto, unfolding(crate::specs::Cycle::look), using(crate::proofs::Taking::takings))]
-    fn look<S: Sink>(&mut self, cpu: u32, before: Option<u16>, ran: bool, sink: &mut S)
+    fn look<H: Hearer>(&mut self, cpu: u32, before: Option<u16>, ran: bool, hearer: &mut H)
         requires { HasRoom cycle_pushes self.old }
-        ensures { Does S.takes cycle_pushes (look self.old cpu before ran)
-            self.old sink.old self.new sink.new }
+        ensures { Goes H.noted H.takes H.told H.hears cycle_pushes (look self.old cpu before ran)
+            self.old hearer.old self.new hearer.new }
     {
         if self.is_ejected() {
-            self.builtin_cycle(cpu, before, ran, sink);
+            self.builtin_cycle(cpu, before, ran, hearer);
         } else {
-            self.seek(cpu, before, ran, sink);
+            self.seek(cpu, before, ran, hearer);
         }
     }
 
@@ -330,8 +336,9 @@ impl Machine {
     /// A cycle that comes to nothing.
     #[inline(always)]
     #[tactic(auto, unfolding(crate::specs::Cycle::idles))]
-    fn stay_idle<S: Sink>(&mut self, cpu: u32, sink: &mut S)
-        ensures { Does S.takes 0 (idles self.old cpu) self.old sink.old self.new sink.new }
+    fn stay_idle<H: Hearer>(&mut self, cpu: u32, hearer: &mut H)
+        ensures { Goes H.noted H.takes H.told H.hears 0 (idles self.old cpu)
+            self.old hearer.old self.new hearer.new }
     {
         self.world.begin(Callback::Dispatch, 0, cpu);
         self.world.set_cycling(None);
@@ -340,28 +347,34 @@ impl Machine {
     /// The cycle of a processor on which nobody runs.
     #[inline(always)]
     #[tactic(auto, using(crate::proofs::Taking::takings, crate::proofs::Idling::idle_cycle))]
-    pub(crate) fn idle_cycle<S: Sink>(&mut self, cpu: u32, sink: &mut S)
+    pub(crate) fn idle_cycle<H: Hearer>(&mut self, cpu: u32, hearer: &mut H)
         requires { HasRoom cycle_pushes self.old }
-        ensures { Does S.takes cycle_pushes (cycle self.old cpu None false)
-            self.old sink.old self.new sink.new }
+        ensures { Goes H.noted H.takes H.told H.hears cycle_pushes (cycle self.old cpu None false)
+            self.old hearer.old self.new hearer.new }
     {
         if self.stays_idle(cpu) {
-            self.stay_idle(cpu, sink);
+            self.stay_idle(cpu, hearer);
         } else {
-            self.cycle(cpu, None, false, sink);
+            self.cycle(cpu, None, false, hearer);
         }
     }
 
     /// A whole cycle. `ran` says whether a task ran there as the event began.
     #[inline(never)]
     #[tactic(auto, unfolding(crate::specs::Cycle::cycle), using(crate::proofs::Taking::takings))]
-    pub(crate) fn cycle<S: Sink>(&mut self, cpu: u32, before: Option<u16>, ran: bool, sink: &mut S)
+    pub(crate) fn cycle<H: Hearer>(
+        &mut self,
+        cpu: u32,
+        before: Option<u16>,
+        ran: bool,
+        hearer: &mut H,
+    )
         requires { HasRoom cycle_pushes self.old }
-        ensures { Does S.takes cycle_pushes (cycle self.old cpu before ran)
-            self.old sink.old self.new sink.new }
+        ensures { Goes H.noted H.takes H.told H.hears cycle_pushes (cycle self.old cpu before ran)
+            self.old hearer.old self.new hearer.new }
     {
         self.world.set_cycling(Some(cpu));
-        self.look(cpu, before, ran, sink);
+        self.look(cpu, before, ran, hearer);
         self.world.set_cycling(None);
     }
 }

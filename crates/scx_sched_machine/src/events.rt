@@ -2,7 +2,7 @@ ghost use Rattle.std.specs.Prelude.{◌≡◌, ℕ, ◌+◌, ◌<◌, ◌≤◌,
 ghost use Rattle.scx_weights.specs.Limits.{usage_of};
 ghost use Rattle.scx_sched_world.specs.World.{task_at};
 ghost use Rattle.scx_sched_machine.specs.Budgets.{HasRoom, clock_pushes, cycle_pushes, eject_pushes, event_pushes, put_pushes, settle_pushes, sleep_pushes, throttle_pushes, wake_pushes};
-ghost use Rattle.scx_sched_machine.specs.Does.{Does};
+ghost use Rattle.scx_sched_machine.specs.Does.{Does, Goes};
 ghost use Rattle.scx_sched_machine.specs.Notes.{Takes};
 ghost use Rattle.scx_isa_semantics.specs.declared.callbacks.Callback.TheVariants.{SelectCpu};
 ghost use Rattle.scx_sched_machine.specs.Callbacks.{acting, AreAnswered};
@@ -11,7 +11,7 @@ ghost use Rattle.scx_sched_machine.specs.Events.{refusal, target, insert_or_put,
 
 use crate::callbacks::task_cpu_and_0;
 use crate::machine::Machine;
-use crate::sink::Sink;
+use crate::sink::{Hearer, Sink};
 use scx_isa::Callback;
 use scx_sched_world::{Eject, What};
 use scx_weights::is_weight;
@@ -131,83 +131,84 @@ impl Machine {
 
     /// Applies what select_cpu inserted, or puts the task.
     #[tactic(auto, using(crate::proofs::Taking::takings))]
-    fn apply_or_put<S: Sink>(&mut self, task: u16, cpu: u32, sink: &mut S)
+    fn apply_or_put<H: Hearer>(&mut self, task: u16, cpu: u32, hearer: &mut H)
         requires { HasRoom put_pushes self.old }
-        ensures { Does S.takes put_pushes (insert_or_put self.old.world.call.insert self.old task cpu)
-            self.old sink.old self.new sink.new }
+        ensures { Goes H.noted H.takes H.told H.hears put_pushes
+            (insert_or_put self.old.world.call.insert self.old task cpu)
+            self.old hearer.old self.new hearer.new }
     {
         match self.world.insert() {
-            Some(insert) => self.enter(task, insert.for_cpu(cpu), sink),
-            None => self.put(task, cpu, 1, sink),
+            Some(insert) => self.enter(task, insert.for_cpu(cpu), hearer),
+            None => self.put(task, cpu, 1, hearer),
         }
     }
 
     /// A task that woke comes to wait, and a target that is idle looks for a task.
     #[tactic(auto, unfolding(crate::specs::Events::settle), using(crate::proofs::Taking::takings))]
-    fn settle<S: Sink>(&mut self, task: u16, cpu: u32, sink: &mut S)
+    fn settle<H: Hearer>(&mut self, task: u16, cpu: u32, hearer: &mut H)
         requires { HasRoom settle_pushes self.old }
-        ensures { Does S.takes settle_pushes (settle self.old task cpu)
-            self.old sink.old self.new sink.new }
+        ensures { Goes H.noted H.takes H.told H.hears settle_pushes (settle self.old task cpu)
+            self.old hearer.old self.new hearer.new }
     {
-        self.apply_or_put(task, cpu, sink);
+        self.apply_or_put(task, cpu, hearer);
         if self.world.is_idle(cpu) {
-            self.cycle(cpu, None, false, sink);
+            self.cycle(cpu, None, false, hearer);
         }
     }
 
     /// Asks select_cpu for which processor the task is to be put.
     #[tactic(auto, unfolding(crate::specs::Events::select), using(crate::proofs::Taking::takings))]
-    fn select<S: Sink>(&mut self, task: u16, sink: &mut S)
+    fn select<H: Hearer>(&mut self, task: u16, hearer: &mut H)
         requires { HasRoom wake_pushes self.old }
-        ensures { Does S.takes wake_pushes (select self.old task)
-            self.old sink.old self.new sink.new }
+        ensures { Goes H.noted H.takes H.told H.hears wake_pushes (select self.old task)
+            self.old hearer.old self.new hearer.new }
     {
         let prev = self.world.task(task).prev_cpu;
         let arguments = task_cpu_and_0(task, prev);
-        let answer = self.call_back(Callback::SelectCpu, arguments, task, prev, sink);
+        let answer = self.call_back(Callback::SelectCpu, arguments, task, prev, hearer);
         let cpu = self.target(task, answer);
-        self.settle(task, cpu, sink);
+        self.settle(task, cpu, hearer);
     }
 
     /// A task wakes.
     #[inline(never)]
     #[tactic(auto, unfolding(crate::specs::Events::wake), using(crate::proofs::Taking::takings))]
-    fn wake<S: Sink>(&mut self, task: u16, sink: &mut S)
+    fn wake<H: Hearer>(&mut self, task: u16, hearer: &mut H)
         requires known { task < length self.old.world.tasks }
         requires room { HasRoom wake_pushes self.old }
-        ensures { Does S.takes wake_pushes (wake self.old task)
-            self.old sink.old self.new sink.new }
+        ensures { Goes H.noted H.takes H.told H.hears wake_pushes (wake self.old task)
+            self.old hearer.old self.new hearer.new }
     {
-        sink.take(self.world.note(What::Wake(task)));
+        hearer.note(self.world.note(What::Wake(task)));
         self.world.wake(task);
-        self.select(task, sink);
+        self.select(task, hearer);
     }
 
     /// A task that runs goes to sleep.
     #[tactic(auto, unfolding(crate::specs::Events::sleep_from_cpu), using(crate::proofs::Taking::takings))]
-    fn sleep_from_cpu<S: Sink>(&mut self, task: u16, cpu: u32, sink: &mut S)
+    fn sleep_from_cpu<H: Hearer>(&mut self, task: u16, cpu: u32, hearer: &mut H)
         requires { HasRoom sleep_pushes self.old }
-        ensures { Does S.takes sleep_pushes (sleep_from_cpu self.old task cpu)
-            self.old sink.old self.new sink.new }
+        ensures { Goes H.noted H.takes H.told H.hears sleep_pushes
+            (sleep_from_cpu self.old task cpu) self.old hearer.old self.new hearer.new }
     {
-        sink.take(self.world.note(What::Stop(task, cpu)));
+        hearer.note(self.world.note(What::Stop(task, cpu)));
         self.world.stop(cpu, task);
-        self.call_stopping(cpu, task, 0, sink);
+        self.call_stopping(cpu, task, 0, hearer);
         self.world.sleep(task);
-        self.cycle(cpu, None, true, sink);
+        self.cycle(cpu, None, true, hearer);
     }
 
     /// A task goes to sleep.
     #[inline(never)]
     #[tactic(auto, unfolding(crate::specs::Events::sleep), using(crate::proofs::Taking::takings))]
-    fn sleep<S: Sink>(&mut self, task: u16, sink: &mut S)
+    fn sleep<H: Hearer>(&mut self, task: u16, hearer: &mut H)
         requires { HasRoom sleep_pushes self.old }
-        ensures { Does S.takes sleep_pushes (sleep self.old task)
-            self.old sink.old self.new sink.new }
+        ensures { Goes H.noted H.takes H.told H.hears sleep_pushes (sleep self.old task)
+            self.old hearer.old self.new hearer.new }
     {
-        sink.take(self.world.note(What::Sleep(task)));
+        hearer.note(self.world.note(What::Sleep(task)));
         match self.world.cpu_of(task) {
-            Some(cpu) => self.sleep_from_cpu(task, cpu, sink),
+            Some(cpu) => self.sleep_from_cpu(task, cpu, hearer),
             None => {
                 self.world.leave_queue(task);
                 self.world.sleep(task);
@@ -218,61 +219,61 @@ impl Machine {
     /// A task that may not run any more leaves its processor and is parked.
     #[inline(never)]
     #[tactic(auto, unfolding(crate::specs::Events::throttle), using(crate::proofs::Taking::takings))]
-    fn throttle<S: Sink>(&mut self, cpu: u32, task: u16, sink: &mut S)
+    fn throttle<H: Hearer>(&mut self, cpu: u32, task: u16, hearer: &mut H)
         requires { HasRoom throttle_pushes self.old }
-        ensures { Does S.takes throttle_pushes (throttle self.old cpu task)
-            self.old sink.old self.new sink.new }
+        ensures { Goes H.noted H.takes H.told H.hears throttle_pushes (throttle self.old cpu task)
+            self.old hearer.old self.new hearer.new }
     {
-        sink.take(self.world.note(What::Stop(task, cpu)));
+        hearer.note(self.world.note(What::Stop(task, cpu)));
         self.world.stop(cpu, task);
-        self.call_stopping(cpu, task, 1, sink);
-        self.park(task, sink);
-        self.cycle(cpu, None, true, sink);
+        self.call_stopping(cpu, task, 1, hearer);
+        self.park(task, hearer);
+        self.cycle(cpu, None, true, hearer);
     }
 
     /// A task that has so much left of its slice may be replaced where that is nothing.
     #[inline(always)]
     #[tactic(auto, unfolding(crate::specs::Events::expire), using(crate::proofs::Taking::takings))]
-    fn expire<S: Sink>(&mut self, cpu: u32, task: u16, left: u64, sink: &mut S)
+    fn expire<H: Hearer>(&mut self, cpu: u32, task: u16, left: u64, hearer: &mut H)
         requires left { left ≡ (task_at self.old.world task).slice }
         requires room { HasRoom cycle_pushes self.old }
-        ensures { Does S.takes cycle_pushes (expire self.old cpu task)
-            self.old sink.old self.new sink.new }
+        ensures { Goes H.noted H.takes H.told H.hears cycle_pushes (expire self.old cpu task)
+            self.old hearer.old self.new hearer.new }
     {
         if left == 0 {
-            self.cycle(cpu, Some(task), true, sink);
+            self.cycle(cpu, Some(task), true, hearer);
         }
     }
 
     /// A task has run for a millisecond, which its groups have used.
     #[inline(always)]
     #[tactic(auto, using(crate::proofs::Taking::takings, crate::proofs::Counting::counts))]
-    fn count_down<S: Sink>(&mut self, cpu: u32, task: u16, sink: &mut S)
+    fn count_down<H: Hearer>(&mut self, cpu: u32, task: u16, hearer: &mut H)
         requires early { (task_at self.old.world task).run_ns < 2 ^ 63 }
         requires used { (g : ℕ) → usage_of self.old.world.tree g < 2 ^ 63 }
         requires room { HasRoom throttle_pushes self.old }
-        ensures { Does S.takes throttle_pushes (count_down self.old cpu task)
-            self.old sink.old self.new sink.new }
+        ensures { Goes H.noted H.takes H.told H.hears throttle_pushes (count_down self.old cpu task)
+            self.old hearer.old self.new hearer.new }
     {
         match self.world.run_and_use_ms(task) {
-            Some(left) => self.expire(cpu, task, left, sink),
-            None => self.throttle(cpu, task, sink),
+            Some(left) => self.expire(cpu, task, left, hearer),
+            None => self.throttle(cpu, task, hearer),
         }
     }
 
     /// A processor ran for a millisecond.
     #[inline(always)]
     #[tactic(auto, unfolding(crate::specs::Events::tick), using(crate::proofs::Taking::takings))]
-    fn tick<S: Sink>(&mut self, cpu: u32, sink: &mut S)
+    fn tick<H: Hearer>(&mut self, cpu: u32, hearer: &mut H)
         requires early { (t : ℕ) → (task_at self.old.world t).run_ns < 2 ^ 63 }
         requires used { (g : ℕ) → usage_of self.old.world.tree g < 2 ^ 63 }
         requires room { HasRoom throttle_pushes self.old }
-        ensures { Does S.takes throttle_pushes (tick self.old cpu)
-            self.old sink.old self.new sink.new }
+        ensures { Goes H.noted H.takes H.told H.hears throttle_pushes (tick self.old cpu)
+            self.old hearer.old self.new hearer.new }
     {
         match self.world.running(cpu) {
-            Some(task) => self.count_down(cpu, task, sink),
-            None => self.idle_cycle(cpu, sink),
+            Some(task) => self.count_down(cpu, task, hearer),
+            None => self.idle_cycle(cpu, hearer),
         }
     }
 
@@ -291,35 +292,34 @@ impl Machine {
     /// A policy that let a task wait too long is ejected.
     #[inline(always)]
     #[tactic(auto, using(crate::proofs::Taking::takings))]
-    fn watch<S: Sink>(&mut self, sink: &mut S)
+    fn watch<H: Hearer>(&mut self, hearer: &mut H)
         requires { HasRoom eject_pushes self.old }
-        ensures { Does S.takes eject_pushes (eject_if_stalled (overdue self.old) self.old)
-            self.old sink.old self.new sink.new }
+        ensures { Goes H.noted H.takes H.told H.hears eject_pushes
+            (eject_if_stalled (overdue self.old) self.old) self.old hearer.old self.new hearer.new }
     {
         if let Some(task) = self.overdue() {
             let clock = self.world.clock();
-            self.eject(Eject::Stall(task, clock), sink);
+            self.eject(Eject::Stall(task, clock), hearer);
         }
     }
 
     /// The clock grows by a millisecond, and periods begin: who may run again is let go.
     #[inline(always)]
     #[tactic(auto, unfolding(crate::specs::Events::clock), using(crate::proofs::Taking::takings))]
-    fn clock<S: Sink>(&mut self, sink: &mut S)
+    fn clock<H: Hearer>(&mut self, hearer: &mut H)
         requires early { self.old.world.clock < 2 ^ 32 }
         requires room { HasRoom event_pushes self.old }
-        ensures { Does S.takes clock_pushes (clock self.old)
-            self.old sink.old self.new sink.new }
+        ensures { Goes H.noted H.takes H.told H.hears clock_pushes (clock self.old)
+            self.old hearer.old self.new hearer.new }
     {
         self.world.advance();
         self.world.begin_periods();
-        self.let_all_go(sink);
-        self.watch(sink);
+        self.let_all_go(hearer);
+        self.watch(hearer);
     }
 
     /// Does what an event does that is accepted.
     #[inline(always)]
-    #[tactic(auto, using(crate::proofs::Taking::takings))]
     pub fn event<S: Sink>(&mut self, event: Event, sink: &mut S)
         requires accepted { refusal self.old event ≡ None }
         requires early { self.old.world.clock < 2 ^ 32 }
@@ -329,14 +329,29 @@ impl Machine {
         ensures { Does S.takes event_pushes (event_step self.old event)
             self.old sink.old self.new sink.new }
     {
+        self.event_heard(event, sink);
+    }
+
+    /// The same, for one that is told of the callbacks that are called.
+    #[inline(always)]
+    #[tactic(auto, using(crate::proofs::Taking::takings))]
+    pub fn event_heard<H: Hearer>(&mut self, event: Event, hearer: &mut H)
+        requires accepted { refusal self.old event ≡ None }
+        requires early { self.old.world.clock < 2 ^ 32 }
+        requires runs { (t : ℕ) → (task_at self.old.world t).run_ns < 2 ^ 63 }
+        requires used { (g : ℕ) → usage_of self.old.world.tree g < 2 ^ 63 }
+        requires room { HasRoom event_pushes self.old }
+        ensures { Goes H.noted H.takes H.told H.hears event_pushes (event_step self.old event)
+            self.old hearer.old self.new hearer.new }
+    {
         match event {
-            Event::Wake(task) => self.wake(task, sink),
-            Event::Sleep(task) => self.sleep(task, sink),
-            Event::Tick(cpu) => self.tick(cpu, sink),
-            Event::Clock => self.clock(sink),
+            Event::Wake(task) => self.wake(task, hearer),
+            Event::Sleep(task) => self.sleep(task, hearer),
+            Event::Tick(cpu) => self.tick(cpu, hearer),
+            Event::Clock => self.clock(hearer),
             Event::SetWeight(group, weight) => {
                 self.world.set_weight(group, weight);
-                sink.take(self.world.note(What::Weight(group, weight)));
+                hearer.note(self.world.note(What::Weight(group, weight)));
             }
         }
     }

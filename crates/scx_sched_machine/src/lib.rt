@@ -19,5 +19,5 @@ mod start;
 pub use events::{Event, Refused};
 pub use machine::Machine;
 pub use policy::{BadPolicy, Callbacks, Policy};
-pub use sink::{Sink, Unseen};
+pub use sink::{Hearer, Sink, Unseen};
 pub use start::NewError;

@@ -1,34 +1,34 @@
 //! Tasks that may not run: they are parked, and let go once periods begin.
 ghost use Rattle.std.specs.Prelude.{◌≡◌, ℕ, ◌+◌, ◌*◌, ◌≤◌};
 ghost use Rattle.scx_sched_machine.specs.Budgets.{HasRoom, CanLetGo, clear_pushes, pushes_due, eject_pushes, enter_pushes, let_go_pushes, put_pushes, supply_pushes};
-ghost use Rattle.scx_sched_machine.specs.Does.{Does};
+ghost use Rattle.scx_sched_machine.specs.Does.{Goes};
 ghost use Rattle.scx_sched_machine.specs.Parking.{park, park_front, throttled_front, park_fronts, clear, supply, let_go_one, let_go_from, let_all_go};
 
 use crate::machine::Machine;
-use crate::sink::Sink;
+use crate::sink::Hearer;
 use scx_sched_world::{GLOBAL, LOCAL_ON, PARKED, What};
 
 impl Machine {
     /// The task at hand is parked.
     #[tactic(auto, unfolding(crate::specs::Parking::park), using(crate::proofs::Taking::takings))]
-    pub(crate) fn park<S: Sink>(&mut self, task: u16, sink: &mut S)
+    pub(crate) fn park<H: Hearer>(&mut self, task: u16, hearer: &mut H)
         requires { HasRoom enter_pushes self.old }
-        ensures { Does S.takes enter_pushes (park self.old task)
-            self.old sink.old self.new sink.new }
+        ensures { Goes H.noted H.takes H.told H.hears enter_pushes (park self.old task)
+            self.old hearer.old self.new hearer.new }
     {
-        sink.take(self.world.note(What::Insert(task, PARKED)));
+        hearer.note(self.world.note(What::Insert(task, PARKED)));
         self.world.park(task);
     }
 
     /// The front of the queue leaves it, and is parked.
     #[tactic(auto, unfolding(crate::specs::Parking::park_front), using(crate::proofs::Taking::takings))]
-    fn park_front<S: Sink>(&mut self, queue: u64, task: u16, sink: &mut S)
+    fn park_front<H: Hearer>(&mut self, queue: u64, task: u16, hearer: &mut H)
         requires { HasRoom enter_pushes self.old }
-        ensures { Does S.takes enter_pushes (park_front self.old queue task)
-            self.old sink.old self.new sink.new }
+        ensures { Goes H.noted H.takes H.told H.hears enter_pushes (park_front self.old queue task)
+            self.old hearer.old self.new hearer.new }
     {
         let _front = self.world.take(queue);
-        self.park(task, sink);
+        self.park(task, hearer);
     }
 
     /// The front of the queue, if it may not run.
@@ -45,87 +45,87 @@ impl Machine {
 
     /// As long as the front of the queue may not run, it is parked, at most so often.
     #[tactic(auto, using(crate::proofs::Taking::takings, crate::proofs::Parked::park_fronts_steps))]
-    pub(crate) fn park_fronts<S: Sink>(&mut self, left: usize, queue: u64, sink: &mut S)
+    pub(crate) fn park_fronts<H: Hearer>(&mut self, left: usize, queue: u64, hearer: &mut H)
         requires { HasRoom (enter_pushes * left) self.old }
-        ensures { Does S.takes (enter_pushes * left) (park_fronts left self.old queue)
-            self.old sink.old self.new sink.new }
+        ensures { Goes H.noted H.takes H.told H.hears (enter_pushes * left)
+            (park_fronts left self.old queue) self.old hearer.old self.new hearer.new }
     {
         if left == 0 {
             return;
         }
         if let Some(task) = self.throttled_front(queue) {
-            self.park_front(queue, task, sink);
-            self.park_fronts(left - 1, queue, sink);
+            self.park_front(queue, task, hearer);
+            self.park_fronts(left - 1, queue, hearer);
         }
     }
 
     /// Wherever the local queue is empty it is filled from that of all processors, and as long as its front may
     /// not run, that is parked, at most so often.
     #[tactic(auto, using(crate::proofs::Taking::takings, crate::proofs::Parked::clear_steps))]
-    fn clear<S: Sink>(&mut self, left: usize, cpu: u32, sink: &mut S)
+    fn clear<H: Hearer>(&mut self, left: usize, cpu: u32, hearer: &mut H)
         requires { HasRoom (clear_pushes * left) self.old }
-        ensures { Does S.takes (clear_pushes * left) (clear left self.old cpu)
-            self.old sink.old self.new sink.new }
+        ensures { Goes H.noted H.takes H.told H.hears (clear_pushes * left)
+            (clear left self.old cpu) self.old hearer.old self.new hearer.new }
     {
         if left == 0 {
             return;
         }
-        self.fill_global(cpu, sink);
+        self.fill_global(cpu, hearer);
         let local = LOCAL_ON + u64::from(cpu);
         if let Some(task) = self.throttled_front(local) {
-            self.park_front(local, task, sink);
-            self.clear(left - 1, cpu, sink);
+            self.park_front(local, task, hearer);
+            self.clear(left - 1, cpu, hearer);
         }
     }
 
     /// The local queue comes to have a front that may run, where some tasks may not.
     #[inline(never)]
     #[tactic(auto, unfolding(crate::specs::Parking::supply), using(crate::proofs::Taking::takings))]
-    fn supply_limited<S: Sink>(&mut self, cpu: u32, sink: &mut S)
+    fn supply_limited<H: Hearer>(&mut self, cpu: u32, hearer: &mut H)
         requires { HasRoom supply_pushes self.old }
-        ensures { Does S.takes supply_pushes (supply self.old cpu)
-            self.old sink.old self.new sink.new }
+        ensures { Goes H.noted H.takes H.told H.hears supply_pushes (supply self.old cpu)
+            self.old hearer.old self.new hearer.new }
     {
         let left = self.world.len(LOCAL_ON + u64::from(cpu)) + self.world.len(GLOBAL);
-        self.clear(left, cpu, sink);
+        self.clear(left, cpu, hearer);
     }
 
     /// The local queue comes to have a front that may run, if it has such a task, or that of all processors.
     #[inline(always)]
     #[tactic(auto, using(crate::proofs::Taking::takings, crate::proofs::Free::supply_free))]
-    pub(crate) fn supply<S: Sink>(&mut self, cpu: u32, sink: &mut S)
+    pub(crate) fn supply<H: Hearer>(&mut self, cpu: u32, hearer: &mut H)
         requires { HasRoom supply_pushes self.old }
-        ensures { Does S.takes supply_pushes (supply self.old cpu)
-            self.old sink.old self.new sink.new }
+        ensures { Goes H.noted H.takes H.told H.hears supply_pushes (supply self.old cpu)
+            self.old hearer.old self.new hearer.new }
     {
         if self.world.is_limited() {
-            self.supply_limited(cpu, sink);
+            self.supply_limited(cpu, hearer);
         } else {
-            self.fill_global(cpu, sink);
+            self.fill_global(cpu, hearer);
         }
     }
 
     /// The task is parked no more, and is put as for the processor on which it ran last.
     #[tactic(auto, unfolding(crate::specs::Parking::let_go_one, crate::specs::Budgets::eject_left), using(crate::proofs::Taking::takings))]
-    fn let_go<S: Sink>(&mut self, task: u16, sink: &mut S)
+    fn let_go<H: Hearer>(&mut self, task: u16, hearer: &mut H)
         requires { HasRoom put_pushes self.old }
-        ensures does { Does S.takes put_pushes (let_go_one self.old task)
-            self.old sink.old self.new sink.new }
+        ensures does { Goes H.noted H.takes H.told H.hears put_pushes (let_go_one self.old task)
+            self.old hearer.old self.new hearer.new }
         ensures committed { pushes_due self.new ≤ pushes_due self.old + enter_pushes }
     {
         let cpu = self.world.task(task).prev_cpu;
         self.world.let_go(task);
-        self.put(task, cpu, 0, sink);
+        self.put(task, cpu, 0, hearer);
     }
 
     /// Of the parked those that may run again are let go, in their order from that one on; at most so many are
     /// looked at.
     #[inline(never)]
     #[tactic(auto, using(crate::proofs::Taking::takings, crate::proofs::Parked::let_go_steps, crate::proofs::Unchanged::left_few))]
-    fn let_go_from<S: Sink>(&mut self, left: usize, at: Option<u16>, sink: &mut S)
+    fn let_go_from<H: Hearer>(&mut self, left: usize, at: Option<u16>, hearer: &mut H)
         requires { CanLetGo left self.old }
-        ensures does { Does S.takes (eject_pushes + enter_pushes * left) (let_go_from left self.old at)
-            self.old sink.old self.new sink.new }
+        ensures does { Goes H.noted H.takes H.told H.hears (eject_pushes + enter_pushes * left)
+            (let_go_from left self.old at) self.old hearer.old self.new hearer.new }
         ensures committed { pushes_due self.new ≤ pushes_due self.old + enter_pushes * left }
     {
         if left == 0 {
@@ -134,10 +134,10 @@ impl Machine {
         if let Some(task) = at {
             let next = self.world.behind(task);
             if self.world.is_throttled(task) {
-                self.let_go_from(left - 1, next, sink);
+                self.let_go_from(left - 1, next, hearer);
             } else {
-                self.let_go(task, sink);
-                self.let_go_from(left - 1, next, sink);
+                self.let_go(task, hearer);
+                self.let_go_from(left - 1, next, hearer);
             }
         }
     }
@@ -145,10 +145,10 @@ impl Machine {
     /// All of the parked that may run again are let go.
     #[inline(always)]
     #[tactic(auto, unfolding(crate::specs::Parking::let_all_go), using(crate::proofs::Taking::takings, crate::proofs::Parked::go_nobody, crate::proofs::Parked::all_stay, crate::proofs::Unchanged::left_few))]
-    pub(crate) fn let_all_go<S: Sink>(&mut self, sink: &mut S)
+    pub(crate) fn let_all_go<H: Hearer>(&mut self, hearer: &mut H)
         requires { HasRoom (let_go_pushes + put_pushes) self.old }
-        ensures { Does S.takes let_go_pushes (let_all_go self.old)
-            self.old sink.old self.new sink.new }
+        ensures { Goes H.noted H.takes H.told H.hears let_go_pushes (let_all_go self.old)
+            self.old hearer.old self.new hearer.new }
     {
         let Some(first) = self.world.first_parked() else {
             return;
@@ -157,6 +157,6 @@ impl Machine {
             return;
         }
         let left = self.world.len(PARKED);
-        self.let_go_from(left, Some(first), sink);
+        self.let_go_from(left, Some(first), hearer);
     }
 }

@@ -14,5 +14,6 @@ loop-task-preserved g c =
     record {
       few = omega (arith, inv.few, c.evict.ensures.few);
       state = c.evict.ensures.state ∙ ap (λ (x : State). with_world x (evict x.world n)) inv.state ∙ rw (evicted_next n s.world) refl;
-      notes = rw (notes_next n s.world, ← now) (Takes-append g.S.Sink.takes _ _ _ _ _ inv.notes c.evict.ensures.notes);
+      notes = rw (notes_next n s.world, ← now) (Takes-append g.H.Hearer.takes _ _ _ _ _ inv.notes c.evict.ensures.notes);
+      calls = c.evict.ensures.calls ∙ inv.calls;
     }

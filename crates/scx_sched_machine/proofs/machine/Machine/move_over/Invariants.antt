@@ -9,5 +9,6 @@ abbrev pub invariant-loop-task : goal.invariant-loop-task
 invariant-loop-task g l = record {
   few : l.self.world.queues.pushes ≤ l.fn.self.world.queues.pushes + l.task;
   state : l.self ≡ with_world l.fn.self (after_evictions l.task l.fn.self.world);
-  notes : Takes g.S.Sink.takes l.fn.sink (evict_notes l.task l.fn.self.world) l.sink;
+  notes : Takes g.H.Hearer.takes (g.H.Hearer.noted l.fn.hearer) (evict_notes l.task l.fn.self.world) (g.H.Hearer.noted l.hearer);
+  calls : g.H.Hearer.told l.hearer ≡ g.H.Hearer.told l.fn.hearer;
 }
