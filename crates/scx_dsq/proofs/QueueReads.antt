@@ -117,6 +117,11 @@ opened i k id t rank q h a read =
       none = sym (clash_read i k id rank q h a.inside read is) ∙ fits;
     }
 
+-- the same, read of lists that are those of the queues
+pub opened_in : (i : Inside) (live : List Queue) (entries : List (Option Entry)) (k id t : ℕ) (rank sort : Rank) (q : Queue) → IsKept i → live ≡ i.live.items → entries ≡ i.entries.items → rank ≡ sort
+    → IsAdmitted live entries k id t sort → q ≡ get_or i.live.items k q → IsOpen i k id t rank q
+opened_in i live entries k id t rank sort q h same same' alike a = opened i k id t rank q h (rw (alike, ← same, ← same') a)
+
 -- a push to an open queue isn't refused
 pub not_refused : (i : Inside) (k id t : ℕ) (rank : Rank) (q : Queue) → IsOpen i k id t rank q → push_refusal (state_of i) id t rank ≡ None
 not_refused i k id t rank q a = rw (a.there, a.free, a.none) refl
@@ -133,3 +138,8 @@ refused i id t rank Mixed h r =
     let clash : true ≡ list_any (clashes id rank) i.entries.items = sym (m.mixed any) ∙ clash_read i m.entry id rank q h m.inside read (m.is any) in
     rw (r.0, r.1, ← clash) refl
 refused i id t rank TooManyQueues h r = absurd r
+
+-- the same, read of lists that are those of the queues
+pub refused_in : (i : Inside) (live : List Queue) (entries : List (Option Entry)) (id t : ℕ) (rank : Rank) (e : QueueError) → IsKept i → live ≡ i.live.items → entries ≡ i.entries.items
+    → IsRefused live entries id t rank e → push_refusal (state_of i) id t rank ≡ Some e
+refused_in i live entries id t rank e h same same' r = refused i id t rank e h (rw (← same, ← same') r)

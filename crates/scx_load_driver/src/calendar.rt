@@ -37,7 +37,6 @@ impl Calendar {
     }
 
     /// Nobody wakes.
-    #[tactic(auto, using(crate::proofs::Days::whole_empty))]
     fn empty(alloc: Global) -> Result<Calendar, AllocError>
         ensures { IfOk result (λ calendar. IsWhole calendar) }
     {

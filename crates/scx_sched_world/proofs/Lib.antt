@@ -6,3 +6,4 @@ mod Records
 pub mod Likes
 mod Places
 mod Running
+mod Keeping

@@ -28,7 +28,6 @@ impl World {
     }
 
     /// The task isn't runnable, and waits no more.
-    #[tactic(auto, using(crate::proofs::Parked::known_active))]
     pub fn sleep(&mut self, task: u16)
         ensures world { self.new ≡ after_sleep self.old task }
         ensures few { self.new.queues.pushes ≡ self.old.queues.pushes }
@@ -43,7 +42,6 @@ impl World {
 
     /// The task comes into a queue, if that takes it so.
     #[inline(always)]
-    #[tactic(auto, using(crate::proofs::Parked::known_pushed, crate::proofs::Places::pushed))]
     pub(crate) fn push(&mut self, queue: u64, task: u16, rank: Rank)
         requires task { task < length self.old.tasks }
         requires few { self.old.queues.pushes < 2 ^ 63 }
@@ -290,7 +288,6 @@ impl World {
     }
 
     /// The task at hand is parked, and waits no more.
-    #[tactic(auto, using(crate::proofs::Parked::known_parked, crate::proofs::Places::pushed))]
     pub fn park(&mut self, task: u16)
         requires few { self.old.queues.pushes < 2 ^ 63 }
         ensures world { self.new ≡ put_parked self.old task }
@@ -370,17 +367,6 @@ impl World {
         self.tasks.set_times(task, facts.slice, facts.run_ns);
     }
 
-    /// The task's groups have used a millisecond more.
-    pub fn use_ms(&mut self, task: u16)
-        requires { (g : ℕ) → usage_of self.old.tree g < 2 ^ 63 }
-        ensures world { self.new ≡ used_ms self.old task }
-        ensures few { self.new.queues.pushes ≡ self.old.queues.pushes }
-    {
-        if (task as usize) < self.tasks.len() {
-            self.charge_ms(task);
-        }
-    }
-
     /// A millisecond of a task that there is is charged to its groups.
     #[inline(always)]
     #[tactic(auto, using(crate::proofs::Parked::known_used))]
@@ -406,7 +392,6 @@ impl World {
     /// The task has run for a millisecond, which its groups have used. Answers what is left of its slice; none where
     /// it may not run any more.
     #[inline(always)]
-    #[tactic(auto, using(crate::proofs::Records::slice_written))]
     pub fn run_and_use_ms(&mut self, task: u16) -> Option<u64>
         requires early { (task_at self.old task).run_ns < 2 ^ 63 }
         requires used { (g : ℕ) → usage_of self.old.tree g < 2 ^ 63 }

@@ -257,7 +257,6 @@ impl World {
     }
 
     #[inline(always)]
-    #[tactic(auto, using(crate::proofs::Busy::busy_set, crate::proofs::Places::cpu_set, crate::proofs::Running::on_set))]
     pub(crate) fn set_cpu(&mut self, cpu: u32, task: Option<u16>)
         ensures { self.new ≡ with_cpu self.old cpu task }
     {
@@ -362,7 +361,6 @@ impl World {
     /// Whether all of the parked are throttled. They are looked at only where that isn't known: since a period of a
     /// throttled group has begun.
     #[inline(never)]
-    #[tactic(auto, using(crate::proofs::Parked::all_looked_at, crate::proofs::Parked::none_free))]
     pub fn are_parked_throttled(&mut self) -> bool
         ensures throttled { result ≡ true → NobodyIsFree self.old }
         ensures all { NobodyIsFree self.old → result ≡ true }
@@ -452,14 +450,6 @@ impl World {
             clock: self.clock,
             what,
         }
-    }
-
-    /// The processor of the callback at hand.
-    pub fn cpu_at_hand(&self) -> u32
-        ensures { result ≡ self.now.call.cpu }
-    {
-        let cpu = self.call.cpu;
-        cpu
     }
 
     /// Where the callback wants the task at hand to wait.

@@ -1,0 +1,67 @@
+-- What a world keeps once one of its parts has changed.
+use Rattle.std.proofs.Common.{◌≡◌, ◌⊎◌, inl, inr, ◌∙◌, ℕ, Bool, true, false, length, subst, sym}
+use Rattle.scx_dsq.specs.Queues.{task_count}
+use Rattle.scx_dsq.specs.Calls.{after_push}
+use Rattle.scx_dsq.specs.declared.entries.Rank.{Rank}
+use Rattle.scx_dsq.specs.declared.queues.Queues.{Queues}
+use Rattle.scx_weights.specs.declared.tree.Tree.{Tree}
+use Rattle.scx_sched_world.specs.declared.world.World.TheInside.{Inside}
+use Rattle.scx_sched_world.specs.Kept.{IsKept, AreThrottled, StandFirst}
+use Rattle.scx_sched_world.proofs.Places.{pushed}
+
+-- the queues are others that know of as many tasks, and what is known of the parked is so in them
+pub queues_changed : (w : Inside) (queues : Queues) (known : Bool) → IsKept w → task_count queues.state ≡ task_count w.queues.state
+    → StandFirst queues.state (length w.cpus.items) → (known ≡ true → AreThrottled queues.state w.tree)
+    → IsKept (record w { queues = queues; parked_throttled = known })
+queues_changed w queues known is tasks places parked = record {
+  notes = is.notes;
+  few_notes = is.few_notes;
+  queued = tasks ∙ is.queued;
+  weighed = is.weighed;
+  few_tasks = is.few_tasks;
+  few_cpus = is.few_cpus;
+  busy = is.busy;
+  running = is.running;
+  known_running = is.known_running;
+  places = places;
+  early = is.early;
+  parked = parked;
+}
+
+-- the groups are others, with as many tasks, and what is known of the parked is so under them
+pub tree_changed : (w : Inside) (tree : Tree) (known : Bool) → IsKept w → length tree.homes ≡ length w.tree.homes → (known ≡ true → AreThrottled w.queues.state tree)
+    → IsKept (record w { tree = tree; parked_throttled = known })
+tree_changed w tree known is homes parked = record {
+  notes = is.notes;
+  few_notes = is.few_notes;
+  queued = is.queued;
+  weighed = homes ∙ is.weighed;
+  few_tasks = is.few_tasks;
+  few_cpus = is.few_cpus;
+  busy = is.busy;
+  running = is.running;
+  known_running = is.known_running;
+  places = is.places;
+  early = is.early;
+  parked = parked;
+}
+
+-- a task has come into a queue
+pub push_keeps : (w : Inside) (queues : Queues) (known : Bool) (q t : ℕ) (r : Rank) → IsKept w
+    → (known ≡ true → AreThrottled (after_push w.queues.state q t r) w.tree)
+    → queues.state ≡ after_push w.queues.state q t r → task_count queues.state ≡ task_count w.queues.state
+    → IsKept (record w { queues = queues; parked_throttled = known })
+push_keeps w queues known q t r is parked after tasks =
+    queues_changed w queues known is tasks (rw after (pushed w.queues.state _ q t r ∙ is.places)) (rw after parked)
+
+-- the same, where it was first forgotten whether the parked are throttled, or stays known
+pub push_keeps_both : (w now : Inside) (queues : Queues) (q t : ℕ) (r : Rank) → IsKept w
+    → (now ≡ record w { parked_throttled = false }) ⊎ ((now ≡ w) × (w.parked_throttled ≡ true → AreThrottled (after_push w.queues.state q t r) w.tree))
+    → queues.state ≡ after_push now.queues.state q t r → task_count queues.state ≡ task_count now.queues.state
+    → IsKept (record now { queues = queues })
+push_keeps_both w now queues q t r is (inl e) =
+    subst (λ (n : Inside). queues.state ≡ after_push n.queues.state q t r → task_count queues.state ≡ task_count n.queues.state → IsKept (record n { queues = queues })) (sym e)
+    (push_keeps w queues false q t r is (λ known. let bad : false ≡ true = known in absurd (cc)))
+push_keeps_both w now queues q t r is (inr (e, parked)) =
+    subst (λ (n : Inside). queues.state ≡ after_push n.queues.state q t r → task_count queues.state ≡ task_count n.queues.state → IsKept (record n { queues = queues })) (sym e)
+    (push_keeps w queues w.parked_throttled q t r is parked)
