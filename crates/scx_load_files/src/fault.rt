@@ -48,7 +48,34 @@ pub enum Cause {
 
 impl fmt::Display for Cause {
     fn fmt<W: fmt::Write>(&self, f: &mut fmt::Formatter<W>) -> fmt::Result {
-        let text = match *self {
+        match *self {
+            Cause::Asm { fault, line } => self.write_fault(f, fault.number(), fault.name(), line),
+            Cause::Decode { fault, slot } => {
+                self.write_fault(f, fault.number(), fault.name(), slot)
+            }
+            Cause::Event { fault, line } => {
+                self.write_fault(f, fault.number(), fault.name(), line)
+            }
+            _ => f.write_str(self.words()),
+        }
+    }
+}
+
+impl Cause {
+    /// Writes a fault within a text, by its number, its name and its place.
+    fn write_fault<W: fmt::Write>(
+        &self,
+        f: &mut fmt::Formatter<W>,
+        number: u8,
+        name: &str,
+        place: usize,
+    ) -> fmt::Result {
+        write!(f, "{} {number} {name} at {place}", self.words())
+    }
+
+    /// What it says, of a fault within a text which sort of text that is.
+    fn words(&self) -> &'static str {
+        match self {
             Cause::NotToml => "not TOML",
             Cause::Unknown => "unknown",
             Cause::Missing => "missing",
@@ -61,17 +88,10 @@ impl fmt::Display for Cause {
             Cause::NotALeaf => "not a leaf",
             Cause::TooDeep => "too deep",
             Cause::BadHex => "bad hex",
-            Cause::Asm { fault, line } => {
-                return write!(f, "asm {} {} at {line}", fault.number(), fault.name());
-            }
-            Cause::Decode { fault, slot } => {
-                return write!(f, "decode {} {} at {slot}", fault.number(), fault.name());
-            }
-            Cause::Event { fault, line } => {
-                return write!(f, "event {} {} at {line}", fault.number(), fault.name());
-            }
-        };
-        f.write_str(text)
+            Cause::Asm { .. } => "asm",
+            Cause::Decode { .. } => "decode",
+            Cause::Event { .. } => "event",
+        }
     }
 }
 

@@ -92,14 +92,13 @@ impl<'a, 'p> Search<'a, 'p> {
     fn pair(&mut self, line: &'a str) -> Option<&'a str>
         ensures { IfSome result (λ rest. length rest.now < length line.now) }
     {
-        let (key, rest) = dotted_key(self.alloc, line).ok()?;
-        if first(rest) != b'=' {
-            return None;
+        let (path, rest) = path_of_key(self.alloc, &self.table, line)?;
+        let value = value_in(rest);
+        if value.is_some() {
+            self.consider(&path, line, value);
         }
-        let value = skip_ws(skip(rest, 1));
-        let path = joined(self.alloc, &self.table, &key).ok()?;
-        self.consider(&path, line, Some(value));
-        behind_value(self.alloc, value)
+        drop(path);
+        behind_value(self.alloc, value?)
     }
 
     /// `[KEY]`, with the text behind the bracket.
@@ -107,11 +106,12 @@ impl<'a, 'p> Search<'a, 'p> {
         requires { length inside.now < length line.now }
         ensures { IfSome result (λ rest. length rest.now < length line.now) }
     {
-        let (key, rest) = dotted_key(self.alloc, skip_ws(inside)).ok()?;
+        let (table, rest) = path_of_key(self.alloc, "", skip_ws(inside))?;
         if first(rest) != b']' {
+            drop(table);
             return None;
         }
-        self.table = joined(self.alloc, "", &key).ok()?;
+        self.table = table;
         self.consider_table(line);
         Some(skip(rest, 1))
     }
@@ -121,15 +121,23 @@ impl<'a, 'p> Search<'a, 'p> {
         requires { length inside.now < length line.now }
         ensures { IfSome result (λ rest. length rest.now < length line.now) }
     {
-        let (key, rest) = dotted_key(self.alloc, skip_ws(inside)).ok()?;
+        let (array, rest) = path_of_key(self.alloc, "", skip_ws(inside))?;
         if first(rest) != b']' || byte_at(rest, 1) != b']' {
+            drop(array);
             return None;
         }
-        let array = joined(self.alloc, "", &key).ok()?;
-        self.consider(&array, line, None);
-        self.table = self.next_element(&array).ok()?;
-        self.consider_table(line);
+        let entered = self.enter_element(&array, line);
+        drop(array);
+        entered?;
         Some(skip(rest, 2))
+    }
+
+    /// The next element of an array is the table at hand; none where memory ran out.
+    fn enter_element(&mut self, array: &str, line: &'a str) -> Option<()> {
+        self.consider(array, line, None);
+        self.table = self.next_element(array).ok()?;
+        self.consider_table(line);
+        Some(())
     }
 
     /// The path of the next element of an array. Only those of the array in which the key is are counted.
@@ -173,6 +181,26 @@ fn reach(wanted: &str, path: &str) -> Option<usize> {
     } else {
         None
     }
+}
+
+/// The path of the key that a text begins with, in the table at `table`, and the text behind it.
+fn path_of_key<'a>(alloc: Global, table: &str, text: &'a str) -> Option<(String, &'a str)>
+    ensures { IfSome result (λ found. length found.1.now < length text.now) }
+{
+    let (key, rest) = dotted_key(alloc, text).ok()?;
+    let path = joined(alloc, table, &key);
+    drop(key);
+    Some((path.ok()?, rest))
+}
+
+/// The text from the value on, behind the sign that stands between a key and its value.
+fn value_in(text: &str) -> Option<&str>
+    ensures { IfSome result (λ value. length value.now < length text.now) }
+{
+    if first(text) != b'=' {
+        return None;
+    }
+    Some(skip_ws(skip(text, 1)))
 }
 
 /// The path of a key in the table at `table`.

@@ -4,7 +4,7 @@ ghost use Rattle.toml_parser.specs.Strings.{starts_string};
 use crate::lines::place_of_line;
 use crate::place::Place;
 use crate::search::find;
-use scx_asm_text::{Item, Statement, item_of, tokens};
+use scx_asm_text::{Item, Statement, Token, item_of, tokens};
 use std::alloc::Global;
 use toml_parser::{quoted, starts_string};
 
@@ -13,8 +13,9 @@ use toml_parser::{quoted, starts_string};
 pub fn place_of_slot(alloc: Global, text: &str, path: &str, slot: usize) -> Option<Place> {
     let value = find(alloc, text, path)?.value_at(path)?;
     let code = string_of(alloc, value)?;
-    let line = line_of_slot(alloc, &code, slot)?;
-    place_of_line(alloc, text, path, line)
+    let line = line_of_slot(alloc, &code, slot);
+    drop(code);
+    place_of_line(alloc, text, path, line?)
 }
 
 fn string_of(alloc: Global, value: &str) -> Option<String> {
@@ -40,11 +41,17 @@ fn line_of_slot(alloc: Global, code: &str, slot: usize) -> Option<usize> {
 /// How many slots the line's instruction takes; 0 where it has none.
 fn slots_of(alloc: Global, line: &str) -> Option<usize> {
     let mut found = Vec::new(alloc);
-    let is_read = tokens(line.as_bytes(), &mut found).ok()?;
-    if !is_read {
-        return None;
-    }
-    match item_of(&found)? {
+    let slots = match tokens(line.as_bytes(), &mut found) {
+        Ok(true) => slots_in(&found),
+        Ok(false) | Err(_) => None,
+    };
+    drop(found);
+    slots
+}
+
+/// The same of the tokens of a line.
+fn slots_in(tokens: &[Token<'_>]) -> Option<usize> {
+    match item_of(tokens)? {
         Item::Blank | Item::Label(_) => Some(0),
         Item::Statement(Statement::LoadImmediate { .. } | Statement::LoadMapReference { .. }) => {
             Some(2)

@@ -19,7 +19,10 @@ impl TomlFault {
 /// The first fault of a text (TOML 1.1); none where it is a document, or memory ran out.
 pub fn first_toml_fault(alloc: Global, text: &str) -> Option<TomlFault> {
     match toml::table_from_str(alloc, text) {
-        Ok(_table) => None,
+        Ok(table) => {
+            drop(table);
+            None
+        }
         Err(error) => {
             let span = error.span()?;
             let place = place_at(text, span.start);

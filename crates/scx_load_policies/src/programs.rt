@@ -3,7 +3,8 @@ ghost use Rattle.toml.specs.View.{view, table_view};
 ghost use Rattle.scx_load_files.specs.Faults.{Gives};
 ghost use Rattle.scx_load_files.specs.Paths.{below};
 ghost use Rattle.hex.specs.Hex.{decode_of};
-ghost use Rattle.scx_load_policies.specs.Programs.{code_at, with_code, is_blank, without_blanks, program_of_hex, slots_at, with_slots, from_hex};
+ghost use Rattle.scx_asm.specs.Reading.{read_text};
+ghost use Rattle.scx_load_policies.specs.Programs.{code_at, with_code, from_assembly, is_blank, without_blanks, program_of_hex, slots_at, with_slots, from_hex};
 
 use crate::policy_text::Programs;
 use hex::FromHexError;
@@ -61,10 +62,18 @@ fn code_at(
         return Ok(None);
     };
     let text = code.text_in(alloc, key, value)?;
+    assembled(alloc, code.path, key, text)
+}
+
+/// The program that an assembler text stands for.
+fn assembled(alloc: Global, path: &str, key: &str, text: &str) -> Result<Option<Program>, LoadError>
+    ensures { Gives (λ p. p) result
+        (from_assembly (below path.now key.now) (read_text text.now)) }
+{
     match assemble(alloc, text) {
         Ok(program) => Ok(Some(program)),
         Err(AsmError::Refused { fault, line }) => {
-            refused(alloc, code.path, key, Cause::Asm { fault, line })
+            refused(alloc, path, key, Cause::Asm { fault, line })
         }
         Err(AsmError::OutOfMemory) => Err(LoadError::NoMemory),
     }

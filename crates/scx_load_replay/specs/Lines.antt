@@ -71,14 +71,19 @@ event_in w verb rest =
     else if bytes_eq verb (codes "weight") then weight_in w rest
     else Err fault.Syntax
 
+-- a line of that millisecond, whose text behind it says the event
+abbrev pub line_at : WorkloadState → ℕ → List ℕ → Told Line
+line_at w at text = do
+  verb ← or_fault fault.Syntax (cut text)
+  e ← event_in w verb.word verb.rest
+  Ok (record { at = at; event = e })
+
 -- the millisecond and the event that a line says
 abbrev pub line_in : WorkloadState → List ℕ → Told Line
 line_in w text = do
   time ← or_fault fault.Syntax (cut text)
   at ← or_fault fault.BadTime (number_in 0 (w.ms - 1) time.word)
-  verb ← or_fault fault.Syntax (cut time.rest)
-  e ← event_in w verb.word verb.rest
-  Ok (record { at = at; event = e })
+  line_at w at time.rest
 
 -- ---- one line behind another
 

@@ -1,6 +1,6 @@
 ghost use Rattle.std.specs.Prelude.{◌≡◌};
 ghost use Rattle.scx_load_replay.specs.Events.{is_sleep};
-ghost use Rattle.scx_load_replay.specs.Lines.{within, number_in, task_in, weight_in, event_in, line_in};
+ghost use Rattle.scx_load_replay.specs.Lines.{within, number_in, task_in, weight_in, event_in, line_at, line_in};
 
 use scx_load_files::EventFault;
 use scx_load_workloads::{Workload, numeral};
@@ -37,7 +37,14 @@ pub(crate) fn line_in(workload: &Workload, text: &str) -> Result<Line, EventFaul
     let Some(at) = number_in(time, 0, workload.ms() - 1) else {
         return Err(EventFault::BadTime);
     };
-    let Some((verb, rest)) = rest.split_once(' ') else {
+    line_at(workload, at, rest)
+}
+
+/// A line of that millisecond, whose text behind it says the event.
+fn line_at(workload: &Workload, at: u32, text: &str) -> Result<Line, EventFault>
+    ensures { result ≡ line_at workload.now at text.now }
+{
+    let Some((verb, rest)) = text.split_once(' ') else {
         return Err(EventFault::Syntax);
     };
     let event = event_in(workload, verb, rest)?;
