@@ -5,8 +5,8 @@ use scx_sched::Event;
 
 impl Search {
     /// A machine in that state, which has none of its own: it comes there along the trail.
-    pub(crate) fn come_along(&mut self, state: usize) -> Option<usize> {
-        let mut machine = self.look_back(state)?;
+    pub(crate) fn come_along(&mut self, state: usize, depth: usize) -> Option<usize> {
+        let mut machine = self.look_back(state, depth)?;
         for _ in 0..self.stops.len() {
             let Some(stop) = self.next_stop() else {
                 return Some(machine);
@@ -21,12 +21,12 @@ impl Search {
     }
 
     /// The machine of the last state of the trail on the way to that one. Behind it are the stops, backwards.
-    fn look_back(&mut self, state: usize) -> Option<usize> {
+    fn look_back(&mut self, state: usize, depth: usize) -> Option<usize> {
         self.stops.clear();
         let mut at = state;
-        for behind in 0..self.depth {
-            let depth = self.depth.saturating_sub(behind);
-            if let Some(machine) = self.cut_trail(at, depth) {
+        for behind in 0..depth {
+            let here = depth.saturating_sub(behind);
+            if let Some(machine) = self.cut_trail(at, here) {
                 return Some(machine);
             }
             at = self.step_back(at)?;
@@ -62,7 +62,7 @@ impl Search {
     }
 
     /// One more state on the trail.
-    fn lengthen(&mut self, machine: usize, stop: Stop) -> Option<usize> {
+    pub(crate) fn lengthen(&mut self, machine: usize, stop: Stop) -> Option<usize> {
         let next = self.machines.trail_machine()?;
         self.machines.copy(machine, next);
         let memory = self.machines.memory(machine);

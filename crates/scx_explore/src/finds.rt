@@ -8,6 +8,15 @@ const SORT_COUNT: usize = 11;
 /// How many callbacks of a policy there are.
 const CALLBACK_COUNT: usize = 7;
 
+/// Where the steps to the longest wait are kept, behind those to what was found of each sort.
+pub(crate) const WAIT_LIST: usize = SORT_COUNT;
+
+/// Where those to the most instructions of the first callback are kept.
+pub(crate) const MOST_LIST: usize = WAIT_LIST + 1;
+
+/// To how many findings steps are kept.
+pub(crate) const LISTS: usize = MOST_LIST + CALLBACK_COUNT;
+
 /// What was found up to now.
 #[derive(Clone, Copy)]
 pub(crate) struct Finds {
@@ -39,6 +48,11 @@ impl Finds {
         }
     }
 
+    /// How many sorts were found.
+    pub(crate) fn count(&self) -> usize {
+        self.count
+    }
+
     pub(crate) fn has_found(&self, sort: Sort) -> bool {
         for found in &self.found {
             if is_of(*found, sort) {
@@ -54,14 +68,16 @@ impl Finds {
         self.is_overtaken
     }
 
+    /// Whether it is of a sort of which nothing was found.
+    pub(crate) fn is_new(&self, finding: Finding) -> bool {
+        match finding.sort() {
+            Some(sort) => !self.has_found(sort),
+            None => false,
+        }
+    }
+
     /// Keeps the first of a sort.
     pub(crate) fn find(&mut self, found: Found) {
-        let Some(sort) = found.finding.sort() else {
-            return;
-        };
-        if self.has_found(sort) {
-            return;
-        }
         if let Some(place) = self.found.get_mut(self.count) {
             *place = Some(found);
             self.count = self.count.saturating_add(1);

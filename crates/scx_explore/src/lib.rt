@@ -6,6 +6,7 @@
 //! how far a search has come. `starts_of` looks at what happens before any event.
 #![tactic(auto)]
 
+mod again;
 mod along;
 mod course;
 mod events;

@@ -1,3 +1,4 @@
+use crate::finds::{MOST_LIST, WAIT_LIST};
 use crate::progress::Found;
 use crate::search::Search;
 use scx_explore_findings::{Finding, fault_of, idle_in, stall_of};
@@ -15,7 +16,9 @@ impl Search {
         way: Way,
         part: usize,
     ) -> bool {
-        self.events = self.events.saturating_add(1);
+        if self.again.depth() == self.depth {
+            self.events = self.events.saturating_add(1);
+        }
         if !self.machines.step(machine, event, &mut self.look) {
             return false;
         }
@@ -77,7 +80,7 @@ impl Search {
     }
 
     fn keep_wait(&mut self, finding: Finding, ms: u64, way: Way, part: usize) {
-        let found = self.found_by(finding, way, part);
+        let found = self.found_by(WAIT_LIST, finding, way, part);
         self.finds.set_wait(found, ms);
     }
 
@@ -97,21 +100,28 @@ impl Search {
             callback,
             instructions,
         };
-        let found = self.found_by(finding, way, part);
+        let list = MOST_LIST.wrapping_add(place);
+        let found = self.found_by(list, finding, way, part);
         self.finds.set_most(place, found);
     }
 
     fn find(&mut self, finding: Finding, way: Way, part: usize) {
-        let found = self.found_by(finding, way, part);
-        self.finds.find(found);
+        if self.finds.is_new(finding) {
+            let list = self.finds.count();
+            let found = self.found_by(list, finding, way, part);
+            self.finds.find(found);
+        }
     }
 
-    fn found_by(&self, finding: Finding, way: Way, part: usize) -> Found {
+    /// What was found by that step from the state that is gone through; the steps to it are kept as those of that list.
+    fn found_by(&mut self, list: usize, finding: Finding, way: Way, part: usize) -> Found {
+        let between = self.again.keep_steps(list);
         Found {
             finding,
             way,
-            depth: self.depth.saturating_add(1),
+            depth: self.again.depth().saturating_add(1),
             part,
+            between,
         }
     }
 }

@@ -2,15 +2,15 @@ ghost use Rattle.std.specs.Prelude.{◌≡◌, length, All, IfOk};
 ghost use Rattle.scx_explore_machines.specs.Events.{most_events};
 ghost use Rattle.scx_explore_path.specs.Path.{IsAs};
 
-use crate::finds::Finds;
+use crate::finds::{Finds, LISTS};
 use crate::progress::{Found, Level, Progress};
 use scx_explore_findings::Sort;
 use scx_explore_machines::{
-    Bounds, Changes, Look, Machines, Memory, Mode, Most, count_of, event_at, most_events, places,
-    push,
+    Again, Bounds, Changes, Look, Machines, Memory, Mode, Most, Origin, count_of, event_at,
+    most_events, places, push,
 };
 use scx_explore_path::Pool;
-use scx_explore_states::{Entered, Form, Seen, Step, Watch, Way, Words};
+use scx_explore_states::{Entered, Form, QueueNumbers, Seen, Step, Watch, Way, Words};
 use scx_isa::Callback;
 use scx_load_workloads::Workload;
 use scx_sched::{Event, Sim};
@@ -46,11 +46,11 @@ pub struct Search {
     /// The state that is gone through next.
     next: usize,
     /// The first state of the next depth.
-    end: usize,
+    pub(crate) end: usize,
     pub(crate) events: u64,
-    full: bool,
-    /// Whether some states of the last depth weren't kept.
-    lost: bool,
+    pub(crate) again: Again,
+    /// Whether it can't go on.
+    pub(crate) full: bool,
 }
 
 impl Model for Search {
@@ -71,6 +71,7 @@ struct Tables {
     seen: Seen,
     words: Words,
     stops: Vec<Stop>,
+    again: Again,
 }
 
 impl Tables {
@@ -94,6 +95,7 @@ impl Tables {
             seen: Seen::new(alloc, width, room)?,
             words: Words::new(alloc, width)?,
             stops: Vec::with_capacity(alloc, bounds.depth)?,
+            again: Again::new(alloc, LISTS)?,
         })
     }
 }
@@ -108,6 +110,7 @@ fn begun(form: Form, bounds: Bounds, tables: Tables, machines: Machines) -> Sear
         seen,
         words,
         stops,
+        again,
     } = tables;
     let mut machines = machines;
     let hand = machines.take_or_0();
@@ -131,8 +134,8 @@ fn begun(form: Form, bounds: Bounds, tables: Tables, machines: Machines) -> Sear
         next: 0,
         end: 0,
         events: 0,
+        again,
         full: hand == other_hand,
-        lost: false,
     };
     search.enter_first();
     search
@@ -205,11 +208,34 @@ impl Search {
         self.hand = self.enter(hand, memory, way);
         self.machines.deepen();
         self.end = self.seen.len();
+        if self.end == 0 {
+            self.full = true;
+        }
     }
 
     /// Whether tasks of a group aren't told apart: states in which they have changed places count as one.
     pub fn are_tasks_alike(&self) -> bool {
         !self.form.names
+    }
+
+    /// How states are written.
+    pub fn form(&self) -> Form {
+        self.form
+    }
+
+    /// The numbers of queues in states that are written.
+    pub fn numbers(&self) -> &QueueNumbers {
+        self.words.numbers()
+    }
+
+    /// The states that are kept.
+    pub fn seen(&self) -> &Seen {
+        &self.seen
+    }
+
+    /// Whether each state that was met is kept.
+    pub fn keeps_all(&self) -> bool {
+        !self.again.is_closed()
     }
 
     /// How many states were met so far.
@@ -249,16 +275,17 @@ impl Search {
 
     /// Goes through one more state, or on to the next depth.
     pub fn go_on(&mut self) -> Progress {
-        if self.full {
+        if self.full || self.again.is_used_up(self.events) {
             return Progress::Full;
         }
-        let state = self.next;
-        if state < self.end {
-            self.go_through(state);
-            self.next = state + 1;
+        if self.go_next() {
             return Progress::Going;
         }
-        let ended = self.seen.len() == self.end && !self.lost;
+        if self.go_again() {
+            return Progress::Going;
+        }
+        let ended = self.seen.len() == self.end && !self.again.has_more();
+        self.again.deepen();
         self.end = self.seen.len();
         self.depth = self.depth.saturating_add(1);
         self.machines.deepen();
@@ -266,23 +293,39 @@ impl Search {
             depth: self.depth,
             states: self.end,
             events: self.events,
+            again: self.again.count(),
             ended,
         })
     }
 
-    fn go_through(&mut self, state: usize) {
-        if let Some(machine) = self.machines.of(state) {
+    /// Goes through the next kept state of the depth at hand. Answers whether there was one.
+    fn go_next(&mut self) -> bool {
+        let (state, depth) = (self.next, self.depth);
+        if state >= self.end {
+            return false;
+        }
+        self.next = state.saturating_add(1);
+        self.again.begin(Origin { state, depth });
+        let machine = self.machines.of(state);
+        self.go_through(machine);
+        true
+    }
+
+    /// Goes on from the state at hand, by its machine, if it has one.
+    pub(crate) fn go_through(&mut self, machine: Option<usize>) {
+        let state = self.again.origin().state;
+        if let Some(machine) = machine {
             let left = self.go_from(state, machine, true);
             self.machines.free(left);
-        } else if let Some(machine) = self.come_along(state) {
+        } else if let Some(machine) = self.come_again() {
             self.go_from(state, machine, false);
         } else {
             self.full = true;
         }
     }
 
-    /// Goes on from the state of that machine. One that is used up isn't needed any more; it, or another one in its
-    /// place, is answered.
+    /// Goes on from the state of that machine, which is a kept one, or was come to from it. A machine that is used up
+    /// isn't needed any more; it, or another one in its place, is answered.
     fn go_from(&mut self, state: usize, machine: usize, is_used_up: bool) -> usize {
         match self.bounds.mode {
             Mode::Events => self.try_events(state, machine, is_used_up),
@@ -303,17 +346,16 @@ impl Search {
             .write(self.machines.sim(machine), memory.began, &mut self.words);
         let tasks = self.machines.sim(machine).tasks();
         memory.write(self.bounds, tasks, self.changes.are_some(), &mut self.words);
+        if self.again.is_closed() {
+            if self.seen.has(self.words.as_slice()) {
+                return machine;
+            }
+            return self.lose(machine, memory, way);
+        }
         match self.seen.enter(self.words.as_slice(), way) {
             Entered::Was(_) => machine,
             Entered::New(state) => self.keep(state, machine, memory),
-            Entered::Full => {
-                if self.is_last() {
-                    self.lost = true;
-                } else {
-                    self.full = true;
-                }
-                machine
-            }
+            Entered::Full => self.lose(machine, memory, way),
         }
     }
 
@@ -329,8 +371,14 @@ impl Search {
     pub fn list_of(&self, found: Found, events: &mut Vec<Event>) {
         events.clear();
         self.write_back(found.way.step, found.part, events);
+        let between = found.between;
+        for behind in 0..between.count {
+            if let Some(step) = self.again.step_before(between, behind) {
+                self.write_back(step, usize::MAX, events);
+            }
+        }
         let mut at = found.way.from;
-        for _ in 1..found.depth {
+        for _ in 1..found.depth.saturating_sub(between.count) {
             let Some(way) = self.seen.way(at) else {
                 return;
             };

@@ -62,6 +62,11 @@ impl Machines {
         }
     }
 
+    /// A machine that nobody has, if there is one.
+    pub fn take(&mut self) -> Option<usize> {
+        self.free.pop()
+    }
+
     /// Nobody has that machine any more.
     pub fn free(&mut self, machine: usize) {
         push(&mut self.free, machine);

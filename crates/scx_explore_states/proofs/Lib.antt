@@ -1,3 +1,5 @@
+mod Placed
+mod Putting
 mod Slots
 mod Spots
 mod Tables

@@ -22,6 +22,10 @@ no_states width = record { width = width; count = 0; words = []; ways = [] }
 abbrev pub state_at : Kept → ℕ → List ℕ
 state_at v k = take v.width (drop (k * v.width) v.words)
 
+-- the state is one of those that are kept
+abbrev pub IsKept : Kept → List ℕ → Type 0
+IsKept v xs = (k : ℕ) × (k < v.count) × (state_at v k ≡ xs)
+
 -- how the state of that number was come to
 abbrev pub way_at : Kept → ℕ → Option Way
 way_at v k = slice_get v.ways k

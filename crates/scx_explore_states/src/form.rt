@@ -126,7 +126,7 @@ impl Form {
             words.put(began);
             self.write_rows(&rows, Order::OWN, kept_tasks(sim), words);
         } else {
-            let order = Order::of(sim, &rows);
+            let order = Order::of(sim, &rows).settled(sim, &rows, began);
             words.put(order.by_places(began));
             self.write_rows(&rows, order, kept_tasks(sim), words);
         }

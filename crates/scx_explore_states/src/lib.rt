@@ -15,9 +15,11 @@ mod step;
 mod uses;
 mod watch;
 mod words;
+mod written;
 
 pub use form::{Form, MOST_TASKS};
 pub use laws::half_words_tell;
+pub use queue_numbers::QueueNumbers;
 pub use rows::MOST_CPUS;
 pub use seen::{Entered, Seen, Way};
 pub use step::{Step, Tasks};

@@ -13,7 +13,7 @@ const MOST_QUEUES: usize = 36;
 ///
 /// In a contract it is the list of their ids.
 #[derive(Drop)]
-pub(crate) struct QueueNumbers {
+pub struct QueueNumbers {
     ids: Vec<u64>,
 }
 
@@ -55,6 +55,13 @@ impl QueueNumbers {
         if number == self.ids.len() && number < MOST_QUEUES {
             self.ids.push_reserved(id);
         }
+    }
+
+    /// How many queues have a number.
+    pub(crate) fn len(&self) -> usize
+        ensures { result ≡ length self.now }
+    {
+        self.ids.len()
     }
 
     /// The number of the queue, which is the next one where no task was met there.

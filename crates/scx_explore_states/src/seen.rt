@@ -1,5 +1,5 @@
 ghost use Rattle.std.specs.Prelude.{◌≡◌, ◌+◌, ◌<◌, ◌≤◌, ◌++◌, true, length, IfOk, vec_capacity};
-ghost use Rattle.scx_explore_states.specs.Seen.{IsEntered, IsPlace, state_at, way_at, no_states};
+ghost use Rattle.scx_explore_states.specs.Seen.{IsEntered, IsKept, IsPlace, state_at, way_at, no_states};
 
 use crate::step::Step;
 use std::alloc::{AllocError, Global};
@@ -81,6 +81,14 @@ impl Seen {
         })
     }
 
+    /// How many words a state has.
+    pub fn width(&self) -> usize
+        ensures { result ≡ self.now.width }
+    {
+        let width = self.width;
+        width
+    }
+
     /// How many states are kept.
     pub fn len(&self) -> usize
         ensures { result ≡ self.now.count }
@@ -105,6 +113,17 @@ impl Seen {
         match self.ways.get(number) {
             Some(way) => Some(*way),
             None => None,
+        }
+    }
+
+    /// Whether the state is kept.
+    pub fn has(&self, state: &[u64]) -> bool
+        requires { length state.now ≡ self.now.width }
+        ensures { result ≡ true → IsKept self.now state.now }
+    {
+        match self.look(state) {
+            Place::Of(_) => true,
+            Place::Free(_) | Place::Nowhere => false,
         }
     }
 

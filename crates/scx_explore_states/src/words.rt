@@ -1,4 +1,5 @@
 ghost use Rattle.std.specs.Prelude.{◌≡◌, length, IfOk};
+ghost use Rattle.scx_explore_states.specs.Written.{joined, word_of};
 
 use crate::queue_numbers::QueueNumbers;
 use std::alloc::{AllocError, Global};
@@ -42,6 +43,11 @@ impl Words {
         self.words.as_slice()
     }
 
+    /// Those by which the words name queues.
+    pub fn numbers(&self) -> &QueueNumbers {
+        &self.numbers
+    }
+
     /// The next word is the first one.
     pub(crate) fn begin(&mut self)
         ensures { self.new ≡ self.old }
@@ -71,10 +77,19 @@ impl Words {
 }
 
 /// The number of at most eight bytes, high byte first.
-fn word_of(bytes: &[u8]) -> u64 {
+pub(crate) fn word_of(bytes: &[u8]) -> u64
+    ensures { result ≡ word_of bytes.now }
+{
     let mut word = 0;
-    for &byte in bytes {
-        word = word << 8 | u64::from(byte);
+    for at in 0..bytes.len() {
+        word = with_byte(word, bytes[at]);
     }
     word
+}
+
+#[inline(always)]
+fn with_byte(word: u64, byte: u8) -> u64
+    ensures { result ≡ joined 8 word byte }
+{
+    word << 8 | u64::from(byte)
 }

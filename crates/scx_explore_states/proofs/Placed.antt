@@ -1,0 +1,33 @@
+-- Places of lists.
+use Rattle.std.proofs.Common.{◌≡◌, ℕ, zero, suc, ◌+◌, ◌<◌, ◌≤◌, List, [], ◌∷◌, length, take, get_or, All, refl, sym, ◌∙◌, subst, arith, ⊎_elim}
+use Rattle.std.specs.Prelude.{Contains}
+use Rattle.std.proofs.lemmas.Bool.{cases_eq}
+use Rattle.std.proofs.lemmas.List.{take_all}
+use Rattle.scx_explore_states.specs.declared.rows.Row.{Row}
+
+-- what stands inside a list is no default
+any : {X : Type 0} (xs : List X) (k : ℕ) (d e : X) → k < length xs → get_or xs k d ≡ get_or xs k e
+any [] k d e l = absurd (omega (arith, l))
+any (x ∷ xs) zero d e l = refl
+any (x ∷ xs) (suc k) d e l = any xs k d e (omega (arith, l))
+
+-- so of rows
+pub any_default : (rows : List Row) (k : ℕ) (d e : Row) → k < length rows → get_or rows k d ≡ get_or rows k e
+any_default rows k d e l = any rows k d e l
+
+-- what stands there is in the list
+pub contains_at : (xs : List ℕ) (k x d : ℕ) → k < length xs → get_or xs k d ≡ x → Contains xs x
+contains_at xs k x d l is = (k, l, any xs k x d l ∙ is)
+
+-- at most eight are their own first eight
+pub few_are_all : (xs ys : List ℕ) → ys ≡ xs → length ys ≤ 8 → ys ≡ take 8 xs
+few_are_all xs ys is few = is ∙ sym (take_all 8 xs (subst (λ (l : List ℕ). length l ≤ 8) is few))
+
+-- what holds of each number so far, and of the next one
+pub below_more : (P : ℕ → Type 0) (n : ℕ) → ((t : ℕ) → t < n → P t) → P n → (t : ℕ) → t < n + 1 → P t
+below_more P n before here t few =
+    ⊎_elim (λ (e : t ≡ n). subst P (sym e) here) (λ (e : t ≡ n → ⊥). before t (omega (arith, e, few))) (cases_eq t n)
+
+-- what holds of all that were taken holds of all, where no more are left
+pub all_taken : {X : Type 0} (P : X → Type 0) (xs : List X) (n : ℕ) → length xs ≤ n → All P (take n xs) → All P xs
+all_taken {X} P xs n past all = subst (λ (ys : List X). All P ys) (take_all n xs past) all

@@ -1,0 +1,102 @@
+-- Words of a state, one part after another.
+use Rattle.std.proofs.Common.{◌≡◌, ℕ, suc, ◌+◌, ◌*◌, ◌<◌, ◌≤◌, List, [], ◌∷◌, ◌++◌, length, drop, get_or, sym, ap, ◌∙◌, subst, append_assoc, arith}
+use Rattle.std.proofs.lemmas.List.{drop_all, drop_more}
+use Rattle.std.specs.Prelude.{◌/◌, min, Option}
+use Rattle.scx_dsq.specs.declared.entries.Entry.{Entry}
+use Rattle.scx_maps.specs.Lending.{all_bytes}
+use Rattle.scx_weights.specs.Hierarchy.{Hierarchy}
+use Rattle.scx_weights.specs.Limits.{usage_of}
+use Rattle.scx_sched.specs.Sim.{SimState}
+use Rattle.scx_explore_states.specs.declared.form.Form.{Form}
+use Rattle.scx_explore_states.specs.declared.rows.Row.{Row}
+use Rattle.scx_explore_states.specs.Rows.{entries_of, rows_of}
+use Rattle.scx_explore_states.specs.Written.{AreKnown, IsFair, IsWritten, byte_words, eight_at, joined, kept_word, row_in, row_words, rows_words, spot_words, state_words, task_words, time_words, usage_words, used_words, word_from, word_of}
+
+-- a part behind others
+pub behind : (xs ys zs ps qs : List ℕ) → zs ≡ ys ++ qs → ys ≡ xs ++ ps → zs ≡ xs ++ (ps ++ qs)
+behind xs ys zs ps qs new old = new ∙ (ap (λ (l : List ℕ). l ++ qs) old ∙ append_assoc xs ps qs)
+
+-- four parts behind others
+four : (o ps qs rs ts : List ℕ) → (((o ++ ps) ++ qs) ++ rs) ++ ts ≡ o ++ (ps ++ (qs ++ (rs ++ ts)))
+four o ps qs rs ts = append_assoc ((o ++ ps) ++ qs) rs ts ∙ (append_assoc (o ++ ps) qs (rs ++ ts) ∙ append_assoc o ps (qs ++ (rs ++ ts)))
+
+-- one more byte of a word
+pub word_more : (bytes : List ℕ) (n w v d : ℕ) → n < length bytes → v ≡ joined 8 w (get_or bytes n d) → word_from w (drop n bytes) ≡ word_of bytes → word_from v (drop (n + 1) bytes) ≡ word_of bytes
+word_more bytes n w v d l is before =
+    ap (λ (x : ℕ). word_from x (drop (n + 1) bytes)) is
+    ∙ (ap (λ (bs : List ℕ). word_from w bs) (sym (drop_more bytes n d l)) ∙ before)
+
+-- all of them
+pub word_all : (bytes : List ℕ) (n w : ℕ) → length bytes ≤ n → word_from w (drop n bytes) ≡ word_of bytes → w ≡ word_of bytes
+word_all bytes n w past is = ap (λ (bs : List ℕ). word_from w bs) (sym (drop_all n bytes past)) ∙ is
+
+-- half a word each of one more pair
+pub spots_more : (rows : List Row) (order : List ℕ) (n : ℕ) (a b : Row) (w : ℕ) (xs ys zs : List ℕ) → zs ≡ ys ++ w ∷ [] → ys ≡ xs ++ spot_words rows order n → w ≡ joined 32 a.spot b.spot → a ≡ row_in rows order (2 * n) → b ≡ row_in rows order (2 * n + 1) → zs ≡ xs ++ spot_words rows order (n + 1)
+spots_more rows order n a b w xs ys zs new old is first second =
+    let on : n + 1 ≡ suc n = omega arith in
+    let word : w ≡ joined 32 (row_in rows order (2 * n)).spot (row_in rows order (2 * n + 1)).spot =
+    is ∙ ap (λ (r : Row). joined 32 r.spot b.spot) first ∙ ap (λ (r : Row). joined 32 (row_in rows order (2 * n)).spot r.spot) second in
+    behind xs ys zs (spot_words rows order n) (w ∷ []) new old
+    ∙ ap (λ (x : ℕ). xs ++ (spot_words rows order n ++ x ∷ [])) word
+    ∙ ap (λ (k : ℕ). xs ++ spot_words rows order k) (sym on)
+
+-- what is kept of the task at one more place
+pub rows_more : (f : Form) (rows : List Row) (order : List ℕ) (n : ℕ) (a : Row) (xs ys zs : List ℕ) → zs ≡ ys ++ row_words f a → ys ≡ xs ++ rows_words f rows order n → a ≡ row_in rows order n → zs ≡ xs ++ rows_words f rows order (n + 1)
+rows_more f rows order n a xs ys zs new old is =
+    let on : n + 1 ≡ suc n = omega arith in
+    behind xs ys zs (rows_words f rows order n) (row_words f a) new old
+    ∙ ap (λ (r : Row). xs ++ (rows_words f rows order n ++ row_words f r)) is
+    ∙ ap (λ (k : ℕ). xs ++ rows_words f rows order k) (sym on)
+
+-- what one more group has used
+pub used_more : (t : Hierarchy) (n w : ℕ) (xs ys zs : List ℕ) → zs ≡ ys ++ w ∷ [] → ys ≡ xs ++ used_words t n → w ≡ usage_of t n → zs ≡ xs ++ used_words t (n + 1)
+used_more t n w xs ys zs new old is =
+    let on : n + 1 ≡ suc n = omega arith in
+    behind xs ys zs (used_words t n) (w ∷ []) new old
+    ∙ ap (λ (x : ℕ). xs ++ (used_words t n ++ x ∷ [])) is
+    ∙ ap (λ (k : ℕ). xs ++ used_words t k) (sym on)
+
+-- eight bytes more
+pub bytes_more : (bytes : List ℕ) (n w : ℕ) (eight xs ys zs : List ℕ) → zs ≡ ys ++ w ∷ [] → ys ≡ xs ++ byte_words bytes n → w ≡ word_of eight → eight ≡ eight_at bytes n → zs ≡ xs ++ byte_words bytes (n + 1)
+bytes_more bytes n w eight xs ys zs new old is there =
+    let on : n + 1 ≡ suc n = omega arith in
+    behind xs ys zs (byte_words bytes n) (w ∷ []) new old
+    ∙ ap (λ (x : ℕ). xs ++ (byte_words bytes n ++ x ∷ [])) (is ∙ ap word_of there)
+    ∙ ap (λ (k : ℕ). xs ++ byte_words bytes k) (sym on)
+
+-- ---- parts of a state
+
+-- what is kept of a task
+pub row_parts : (f : Form) (r : Row) (old xs ys zs new : List ℕ) → xs ≡ old ++ r.slice ∷ [] → ys ≡ xs ++ kept_word f.keys r.key → zs ≡ ys ++ kept_word f.vtime r.vtime → new ≡ zs ++ kept_word f.run_ns r.run_ns → new ≡ old ++ row_words f r
+row_parts f r old xs ys zs new first second third last =
+    last
+    ∙ (ap (λ (l : List ℕ). l ++ kept_word f.run_ns r.run_ns) (third ∙ (ap (λ (l : List ℕ). l ++ kept_word f.vtime r.vtime) (second ∙ ap (λ (l : List ℕ). l ++ kept_word f.keys r.key) first)))
+    ∙ four old (r.slice ∷ []) (kept_word f.keys r.key) (kept_word f.vtime r.vtime) (kept_word f.run_ns r.run_ns))
+
+-- all of them but the first word
+pub state_parts : (f : Form) (rows : List Row) (order : List ℕ) (s : SimState) (n : ℕ) (bytes old xs ys zs new : List ℕ) → n ≡ min (length s.state.world.tasks) 8 → bytes ≡ all_bytes s.state.maps → xs ≡ old ++ task_words f rows order n → ys ≡ xs ++ time_words f s.state.world → zs ≡ ys ++ usage_words s.state.world → new ≡ zs ++ byte_words bytes ((length bytes + 7) / 8) → new ≡ old ++ state_words f rows order s
+state_parts f rows order s n bytes old xs ys zs new many maps first second third last =
+    last
+    ∙ (ap (λ (l : List ℕ). l ++ byte_words bytes ((length bytes + 7) / 8)) (third ∙ (ap (λ (l : List ℕ). l ++ usage_words s.state.world) (second ∙ ap (λ (l : List ℕ). l ++ time_words f s.state.world) first)))
+    ∙ (four old (task_words f rows order n) (time_words f s.state.world) (usage_words s.state.world) (byte_words bytes ((length bytes + 7) / 8))
+    ∙ (ap (λ (k : ℕ). old ++ (task_words f rows order k ++ (time_words f s.state.world ++ (usage_words s.state.world ++ byte_words bytes ((length bytes + 7) / 8))))) many
+    ∙ ap (λ (bs : List ℕ). old ++ (task_words f rows order (min (length s.state.world.tasks) 8) ++ (time_words f s.state.world ++ (usage_words s.state.world ++ byte_words bs ((length bs + 7) / 8))))) maps)))
+
+-- the clock behind others, and what groups have used
+pub limited_parts : (t : Hierarchy) (clock n m w : ℕ) (old xs new : List ℕ) → w ≡ clock → n ≡ m → xs ≡ old ++ w ∷ [] → new ≡ xs ++ used_words t n → new ≡ old ++ clock ∷ used_words t m
+limited_parts t clock n m w old xs new now many first last =
+    behind old xs new (w ∷ []) (used_words t n) last first
+    ∙ (ap (λ (k : ℕ). old ++ k ∷ used_words t n) now ∙ ap (λ (k : ℕ). old ++ clock ∷ used_words t k) many)
+
+-- and a state
+pub state_written : (f : Form) (ids : List ℕ) (s : SimState) (rows : List Row) (order : List ℕ) (es : List (Option Entry)) (b : ℕ) (none first new : List ℕ) → rows ≡ rows_of f s.state.world ids → none ≡ [] → first ≡ none ++ b ∷ [] → new ≡ first ++ state_words f rows order s → IsFair f s.state.world order → es ≡ entries_of s.state.world → AreKnown ids es → IsWritten f ids new s
+state_written f ids s rows order es b none first new kept clear one all fair at known = record {
+  began = b;
+  order = order;
+  fair = fair;
+  known = subst (λ (xs : List (Option Entry)). AreKnown ids xs) at known;
+  words =
+      all
+      ∙ (ap (λ (l : List ℕ). l ++ state_words f rows order s) (one ∙ ap (λ (l : List ℕ). l ++ b ∷ []) clear)
+      ∙ ap (λ (rs : List Row). b ∷ state_words f rs order s) kept);
+}

@@ -1,0 +1,125 @@
+-- A state in words, as a function of the machine's state.
+use Rattle.std.specs.Prelude.{◌≡◌, ℕ, zero, suc, ◌+◌, ◌*◌, ◌/◌, ◌%◌, ◌^◌, ◌<◌, min, Bool, true, List, [], ◌∷◌, ◌++◌, length, take, drop, bit_or, nat_lt, Contains, slice_index, slice_index_or, All, Option, IfSome, if◌then◌else◌}
+use Rattle.scx_dsq.specs.declared.entries.Entry.{Entry}
+use Rattle.scx_maps.specs.Lending.{all_bytes}
+use Rattle.scx_weights.specs.Hierarchy.{Hierarchy}
+use Rattle.scx_weights.specs.Limits.{usage_of, has_quota}
+use Rattle.scx_sched_world.specs.World.{WorldState}
+use Rattle.scx_sched_world.specs.Helpers.{group_at}
+use Rattle.scx_sched.specs.Sim.{SimState}
+use Rattle.scx_explore_states.specs.declared.form.Form.{Form}
+use Rattle.scx_explore_states.specs.declared.rows.Row.{Row}
+use Rattle.scx_explore_states.specs.Rows.{entries_of, no_row, rows_of}
+use Rattle.scx_explore_states.specs.Words.{number_in}
+
+-- ---- words
+
+-- the number in so many high bits, and the other one behind it
+abbrev pub joined : ℕ → ℕ → ℕ → ℕ
+joined n a b = bit_or (a * 2 ^ n % 2 ^ 64) b
+
+-- behind that number the bytes one after another, each of them below the last one
+abbrev pub word_from : ℕ → List ℕ → ℕ
+word_from n [] = n
+word_from n (b ∷ bs) = word_from (joined 8 n b) bs
+
+-- at most eight bytes as a number
+abbrev pub word_of : List ℕ → ℕ
+word_of bytes = word_from 0 bytes
+
+-- the word, where it is kept
+abbrev pub kept_word : Bool → ℕ → List ℕ
+kept_word b n = if b then n ∷ [] else []
+
+-- ---- the order in which tasks are written
+
+-- each task at its own place
+abbrev pub own_order : List ℕ
+own_order = 0 ∷ 1 ∷ 2 ∷ 3 ∷ 4 ∷ 5 ∷ 6 ∷ 7 ∷ []
+
+-- the task at that place
+abbrev pub task_in : List ℕ → ℕ → ℕ
+task_in order p = slice_index order (p % 8) % 8
+
+-- what is kept of the task at that place
+abbrev pub row_in : List Row → List ℕ → ℕ → Row
+row_in rows order p = slice_index_or rows (task_in order p) no_row
+
+-- the group of a task; a number that no group has where there is no such task
+abbrev pub home_at : WorldState → ℕ → ℕ
+home_at w t = if nat_lt t (length w.tasks) then group_at w t else 18446744073709551615
+
+-- each of the first eight tasks stands somewhere, and tasks of a group may have changed places; they
+-- haven't where the form tells them apart
+pub record IsFair (f : Form) (w : WorldState) (order : List ℕ) : Type 0 where
+  pub names : f.names ≡ true → order ≡ own_order
+  pub whole : (t : ℕ) → t < 8 → Contains order t
+  pub homes : (p : ℕ) → p < 8 → home_at w (task_in order p) ≡ home_at w p
+
+-- ---- the parts of a state
+
+-- half a word each of the first so many pairs of tasks
+abbrev pub spot_words : List Row → List ℕ → ℕ → List ℕ
+spot_words rows order zero = []
+spot_words rows order (suc n) =
+    spot_words rows order n
+    ++ joined 32 (row_in rows order (2 * n)).spot (row_in rows order (2 * n + 1)).spot ∷ []
+
+-- what is kept of a task beside it
+abbrev pub row_words : Form → Row → List ℕ
+row_words f r =
+    r.slice ∷ (kept_word f.keys r.key ++ (kept_word f.vtime r.vtime ++ kept_word f.run_ns r.run_ns))
+
+-- the same of the tasks at the first so many places
+abbrev pub rows_words : Form → List Row → List ℕ → ℕ → List ℕ
+rows_words f rows order zero = []
+rows_words f rows order (suc n) = rows_words f rows order n ++ row_words f (row_in rows order n)
+
+-- the clock and how many pushes there were
+abbrev pub time_words : Form → WorldState → List ℕ
+time_words f w = kept_word f.clock w.clock ++ kept_word f.pushes w.queues.pushes
+
+-- what the first so many groups have used
+abbrev pub used_words : Hierarchy → ℕ → List ℕ
+used_words t zero = []
+used_words t (suc n) = used_words t n ++ usage_of t n ∷ []
+
+-- the same of all, behind the clock, where a group has a quota
+abbrev pub usage_words : WorldState → List ℕ
+usage_words w =
+    if has_quota w.tree.groups then w.clock ∷ used_words w.tree (length w.tree.groups) else []
+
+-- eight of the bytes
+abbrev pub eight_at : List ℕ → ℕ → List ℕ
+eight_at bytes n = take 8 (drop (8 * n) bytes)
+
+-- so many words of eight bytes
+abbrev pub byte_words : List ℕ → ℕ → List ℕ
+byte_words bytes zero = []
+byte_words bytes (suc n) = byte_words bytes n ++ word_of (eight_at bytes n) ∷ []
+
+-- ---- all of a state
+
+-- what is kept of the tasks, in that order
+abbrev pub task_words : Form → List Row → List ℕ → ℕ → List ℕ
+task_words f rows order n = spot_words rows order ((n + 1) / 2) ++ rows_words f rows order n
+
+-- the state of a machine, of whose tasks that is kept, in that order
+abbrev pub state_words : Form → List Row → List ℕ → SimState → List ℕ
+state_words f rows order s =
+    task_words f rows order (min (length s.state.world.tasks) 8)
+    ++ (time_words f s.state.world ++ (usage_words s.state.world
+    ++ byte_words (all_bytes s.state.maps) ((length (all_bytes s.state.maps) + 7) / 8)))
+
+-- each task that waits does so in a queue that has a number
+abbrev pub AreKnown : List ℕ → List (Option Entry) → Type 0
+AreKnown ids es = All (λ o. IfSome o (λ e. number_in ids e.queue < length ids)) es
+
+-- the words are those of the state, behind one that says who began to run while another waits, with
+-- tasks of a group in any order where the form doesn't tell them apart
+pub record IsWritten (f : Form) (ids : List ℕ) (xs : List ℕ) (s : SimState) : Type 0 where
+  pub began : ℕ
+  pub order : List ℕ
+  pub fair : IsFair f s.state.world order
+  pub known : AreKnown ids (entries_of s.state.world)
+  pub words : xs ≡ began ∷ state_words f (rows_of f s.state.world ids) order s

@@ -1,0 +1,382 @@
+ghost use Rattle.std.specs.Prelude.{ℕ, ◌≡◌, ◌+◌, ◌*◌, ◌/◌, ◌<◌, ◌≤◌, ◌∷◌, ◌++◌, [], true, length, Contains, IfSome};
+ghost use Rattle.scx_explore_states.specs.Words.{number_in};
+ghost use Rattle.scx_explore_states.specs.Written.{AreKnown, IsFair, IsWritten, byte_words, eight_at, home_at, joined, kept_word, own_order, row_in, row_words, rows_words, spot_words, state_words, task_in, task_words, time_words, usage_words, used_words, word_of};
+
+use crate::form::{Form, MOST_TASKS};
+use crate::order::Order;
+use crate::queue_numbers::QueueNumbers;
+use crate::rows::{Row, entries_of, kept_tasks, rows_by};
+use crate::words::word_of;
+use scx_isa::{Field, TaskId};
+use scx_sched::{Entry, Sim};
+use scx_vm::Env;
+
+/// Which task stands at each place.
+type TaskOrder = [u8; MOST_TASKS];
+
+impl Form {
+    /// Writes the words of a state in place of those in the list: those that `write` writes, where queues have these
+    /// numbers. Answers false where there is no room for them, or a task waits in a queue without a number.
+    pub fn write_state(
+        self,
+        sim: &Sim,
+        began: u64,
+        numbers: &QueueNumbers,
+        words: &mut Vec<u64>,
+    ) -> bool
+        ensures { result ≡ true → IsWritten self numbers.now words.new.items sim.now }
+    {
+        let rows = rows_by(self, sim, numbers);
+        let order = self.order_of(sim, &rows, began);
+        let tasks = order.tasks();
+        words.clear();
+        if !put(words, order.by_places(began)) {
+            return false;
+        }
+        if !self.put_state(sim, &rows, &tasks, words) {
+            return false;
+        }
+        if !self.is_fair(sim, &tasks) {
+            return false;
+        }
+        let entries = entries_of(sim);
+        are_known(&entries, numbers)
+    }
+
+    /// Who began to run while another waits, in a state that was written as those words, with queues numbered so.
+    pub fn began_in(self, sim: &Sim, state: &[u64], numbers: &QueueNumbers) -> u64 {
+        let began = match state.first() {
+            Some(began) => *began,
+            None => 0,
+        };
+        if self.names {
+            return began;
+        }
+        let rows = rows_by(self, sim, numbers);
+        Order::of(sim, &rows).by_tasks(began)
+    }
+
+    /// Where tasks are told apart each stands at its own place.
+    fn order_of(self, sim: &Sim, rows: &[Row; MOST_TASKS], began: u64) -> Order {
+        if self.names {
+            Order::OWN
+        } else {
+            Order::of(sim, rows).settled(sim, rows, began)
+        }
+    }
+
+    /// Puts all words but the first one.
+    fn put_state(
+        self,
+        sim: &Sim,
+        rows: &[Row; MOST_TASKS],
+        order: &TaskOrder,
+        words: &mut Vec<u64>,
+    ) -> bool
+        ensures { result ≡ true → words.new.items
+            ≡ words.old.items ++ state_words self rows.now order.now sim.now }
+    {
+        let count = kept_tasks(sim);
+        if !self.put_tasks(rows, order, count, words) {
+            return false;
+        }
+        if !self.put_times(sim, words) {
+            return false;
+        }
+        if !put_usages(sim, words) {
+            return false;
+        }
+        let bytes = sim.maps().bytes();
+        put_bytes(bytes, words)
+    }
+
+    fn put_tasks(
+        self,
+        rows: &[Row; MOST_TASKS],
+        order: &TaskOrder,
+        tasks: usize,
+        words: &mut Vec<u64>,
+    ) -> bool
+        requires { tasks ≤ 8 }
+        ensures { result ≡ true → words.new.items
+            ≡ words.old.items ++ task_words self rows.now order.now tasks }
+    {
+        if !put_spots(rows, order, (tasks + 1) / 2, words) {
+            return false;
+        }
+        self.put_rows(rows, order, tasks, words)
+    }
+
+    fn put_rows(
+        self,
+        rows: &[Row; MOST_TASKS],
+        order: &TaskOrder,
+        tasks: usize,
+        words: &mut Vec<u64>,
+    ) -> bool
+        requires { tasks ≤ 8 }
+        ensures { result ≡ true → words.new.items
+            ≡ words.old.items ++ rows_words self rows.now order.now tasks }
+    {
+        for place in 0..tasks {
+            if !self.put_row(row_in(rows, order, place), words) {
+                return false;
+            }
+        }
+        true
+    }
+
+    fn put_row(self, row: Row, words: &mut Vec<u64>) -> bool
+        ensures { result ≡ true → words.new.items ≡ words.old.items ++ row_words self row }
+    {
+        if !put(words, row.slice) {
+            return false;
+        }
+        if !put_kept(self.keys, row.key, words) {
+            return false;
+        }
+        if !put_kept(self.vtime, row.vtime, words) {
+            return false;
+        }
+        put_kept(self.run_ns, row.run_ns, words)
+    }
+
+    fn put_times(self, sim: &Sim, words: &mut Vec<u64>) -> bool
+        ensures { result ≡ true → words.new.items
+            ≡ words.old.items ++ time_words self sim.now.state.world }
+    {
+        let (clock, pushes) = (sim.clock(), sim.world().pushes());
+        if !put_kept(self.clock, clock, words) {
+            return false;
+        }
+        put_kept(self.pushes, pushes, words)
+    }
+
+    /// Whether each task stands somewhere, and at its own place or at that of another one of its group.
+    fn is_fair(self, sim: &Sim, order: &TaskOrder) -> bool
+        ensures { result ≡ true → IsFair self sim.now.state.world order.now }
+    {
+        if !self.keeps_names(order) {
+            return false;
+        }
+        if !is_whole(order) {
+            return false;
+        }
+        keeps_homes(sim, order)
+    }
+
+    /// Whether each task stands at its own place, where tasks are told apart.
+    fn keeps_names(self, order: &TaskOrder) -> bool
+        ensures { result ≡ true → self.names ≡ true → order.now ≡ own_order }
+    {
+        !self.names || is_same(order, &[0, 1, 2, 3, 4, 5, 6, 7])
+    }
+}
+
+/// Whether each task that waits does so in a queue that has a number.
+fn are_known(entries: &[Option<Entry>], numbers: &QueueNumbers) -> bool
+    ensures { result ≡ true → AreKnown numbers.now entries.now }
+{
+    for at in 0..entries.len() {
+        if !is_known(entries[at], numbers) {
+            return false;
+        }
+    }
+    true
+}
+
+fn is_known(entry: Option<Entry>, numbers: &QueueNumbers) -> bool
+    ensures { result ≡ true → IfSome entry (λ e. number_in numbers.now e.queue < length numbers.now) }
+{
+    match entry {
+        Some(entry) => numbers.number_of(entry.queue) < numbers.len(),
+        None => true,
+    }
+}
+
+/// Puts a word behind the others, if there is room for it.
+fn put(words: &mut Vec<u64>, word: u64) -> bool
+    ensures { result ≡ true → words.new.items ≡ words.old.items ++ word ∷ [] }
+{
+    if words.len() < words.capacity() {
+        words.push_reserved(word);
+        return true;
+    }
+    false
+}
+
+fn put_kept(is_kept: bool, word: u64, words: &mut Vec<u64>) -> bool
+    ensures { result ≡ true → words.new.items ≡ words.old.items ++ kept_word is_kept word }
+{
+    if is_kept { put(words, word) } else { true }
+}
+
+fn put_spots(
+    rows: &[Row; MOST_TASKS],
+    order: &TaskOrder,
+    pairs: usize,
+    words: &mut Vec<u64>,
+) -> bool
+    requires { pairs ≤ 4 }
+    ensures { result ≡ true → words.new.items
+        ≡ words.old.items ++ spot_words rows.now order.now pairs }
+{
+    for pair in 0..pairs {
+        let first = row_in(rows, order, 2 * pair);
+        let second = row_in(rows, order, 2 * pair + 1);
+        if !put(words, spots_of(first, second)) {
+            return false;
+        }
+    }
+    true
+}
+
+/// Half a word of each.
+pub(crate) fn spots_of(first: Row, second: Row) -> u64
+    ensures { result ≡ joined 32 first.spot second.spot }
+{
+    first.spot << 32 | second.spot
+}
+
+/// Where a group has a quota: what each has used, and the clock, with which periods begin.
+fn put_usages(sim: &Sim, words: &mut Vec<u64>) -> bool
+    ensures { result ≡ true → words.new.items
+        ≡ words.old.items ++ usage_words sim.now.state.world }
+{
+    if !sim.world().is_limited() {
+        return true;
+    }
+    put_limited(sim, words)
+}
+
+/// The clock and what each group has used.
+fn put_limited(sim: &Sim, words: &mut Vec<u64>) -> bool
+    ensures { result ≡ true → words.new.items ≡ words.old.items
+        ++ sim.now.state.world.clock
+        ∷ used_words sim.now.state.world.tree (length sim.now.state.world.tree.groups) }
+{
+    let (clock, groups) = (sim.clock(), sim.groups());
+    if !put(words, clock) {
+        return false;
+    }
+    put_used(sim, groups, words)
+}
+
+/// What the first so many groups have used.
+fn put_used(sim: &Sim, groups: u32, words: &mut Vec<u64>) -> bool
+    requires { groups ≤ length sim.now.state.world.tree.groups }
+    ensures { result ≡ true → words.new.items
+        ≡ words.old.items ++ used_words sim.now.state.world.tree groups }
+{
+    for group in 0..groups {
+        if !put(words, sim.usage(group)) {
+            return false;
+        }
+    }
+    true
+}
+
+/// Eight bytes a word, the last one filled up with zeros.
+fn put_bytes(bytes: &[u8], words: &mut Vec<u64>) -> bool
+    ensures { result ≡ true → words.new.items
+        ≡ words.old.items ++ byte_words bytes.now ((length bytes.now + 7) / 8) }
+{
+    let count = (bytes.len() + 7) / 8;
+    for at in 0..count {
+        if !put(words, word_of(eight_at(bytes, at))) {
+            return false;
+        }
+    }
+    true
+}
+
+/// Eight of the bytes, or those that are left.
+#[tactic(auto, using(crate::proofs::Placed::few_are_all))]
+fn eight_at(bytes: &[u8], at: usize) -> &[u8]
+    requires { 8 * at < length bytes.now }
+    ensures { result.now ≡ eight_at bytes.now at }
+{
+    let rest = &bytes[8 * at..];
+    if rest.len() <= 8 {
+        return rest;
+    }
+    &rest[..8]
+}
+
+/// What is kept of the task at that place.
+#[tactic(auto, using(crate::proofs::Placed::any_default))]
+fn row_in(rows: &[Row; MOST_TASKS], order: &TaskOrder, place: usize) -> Row
+    ensures { result ≡ row_in rows.now order.now place }
+{
+    rows[task_in(order, place)]
+}
+
+/// The task at that place.
+fn task_in(order: &TaskOrder, place: usize) -> usize
+    ensures task { result ≡ task_in order.now place }
+    ensures few { result < 8 }
+{
+    usize::from(order[place % MOST_TASKS]) % MOST_TASKS
+}
+
+fn is_same(one: &[u8], other: &[u8]) -> bool
+    ensures { result ≡ true → one.now ≡ other.now }
+{
+    one == other
+}
+
+/// Whether each task stands somewhere.
+fn is_whole(order: &TaskOrder) -> bool
+    ensures { result ≡ true → (t : ℕ) → t < 8 → Contains order.now t }
+{
+    for task in 0..8u8 {
+        if !has(order, task) {
+            return false;
+        }
+    }
+    true
+}
+
+#[tactic(auto, using(crate::proofs::Placed::contains_at))]
+fn has(order: &[u8], task: u8) -> bool
+    ensures { result ≡ true → Contains order.now task }
+{
+    for place in 0..order.len() {
+        if order[place] == task {
+            return true;
+        }
+    }
+    false
+}
+
+/// Whether each task stands at its own place or at that of another one of its group.
+fn keeps_homes(sim: &Sim, order: &TaskOrder) -> bool
+    ensures { result ≡ true → (p : ℕ) → p < 8
+        → home_at sim.now.state.world (task_in order.now p) ≡ home_at sim.now.state.world p }
+{
+    for place in 0..8u16 {
+        if !keeps_home(sim, order, place) {
+            return false;
+        }
+    }
+    true
+}
+
+fn keeps_home(sim: &Sim, order: &TaskOrder, place: u16) -> bool
+    ensures { result ≡ true → home_at sim.now.state.world (task_in order.now place)
+        ≡ home_at sim.now.state.world place }
+{
+    let task = task_in(order, usize::from(place)) as u16;
+    home_at(sim, task) == home_at(sim, place)
+}
+
+/// The group of a task; a number that no group has where there is no such task.
+fn home_at(sim: &Sim, task: u16) -> u64
+    ensures { result ≡ home_at sim.now.state.world task }
+{
+    if task < sim.tasks() {
+        sim.world().load(TaskId(task), Field::Group)
+    } else {
+        u64::MAX
+    }
+}
