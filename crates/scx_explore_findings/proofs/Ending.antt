@@ -10,7 +10,7 @@ use Rattle.scx_sched_world.specs.declared.notes.Note.{Note}
 use Rattle.scx_sched_machine.specs.declared.events.Event.{Event}
 use Rattle.scx_sched_machine.specs.declared.events.Event.TheVariants.{Tick}
 use Rattle.scx_sched_machine.specs.Notes.{Takes}
-use Rattle.scx_sched.specs.Sim.{SimState, refusal}
+use Rattle.scx_sched.specs.Sim.{SimState, refusal, calls_of}
 use Rattle.scx_load_driver.specs.Runs.{stepped_all, notes_of_all}
 use Rattle.scx_explore_path.specs.declared.outcome.Outcome.{Outcome}
 use Rattle.scx_explore_path.specs.declared.outcome.Outcome.TheVariants as outcome
@@ -18,7 +18,7 @@ use Rattle.scx_explore_path.specs.Outcomes.{Happens, done_of, after_first, IsInF
 use Rattle.scx_explore_states.specs.declared.watch.Pair.{Pair}
 use Rattle.scx_explore_findings.specs.declared.count.Count.{Count}
 use Rattle.scx_explore_findings.specs.Counting.{Counts}
-use Rattle.scx_explore_findings.specs.Running.{IsRun}
+use Rattle.scx_explore_findings.specs.Running.{IsRunAmong}
 use Rattle.scx_explore_findings.specs.Findings.{IsFaultAtEnd, IsStallAtEnd, EndsInFault, EndsInStall, EndsIdle, EndsWaiting, EndsTaking, EndsOvertaken, AreTogether, IsTwice, IsLast, is_left, begun_over}
 
 -- a list is its first so many elements as it has
@@ -95,8 +95,8 @@ to_last : {A : Type 0} (xs : List A) (d : A) → 0 < length xs → xs ≡ take (
 to_last xs d l = to_last_at xs d (length xs - 1) (omega (arith, l))
 
 -- a run of so many instructions, where the event behind a list is accepted
-pub taking_at_end : (s t : SimState) (before : List Event) (e : Event) (b : Callback) (n : ℕ) (o : Outcome) → Happens s before o → o ≡ outcome.InForce → t ≡ after_first s before (done_of o before) → refusal t e ≡ None → IsRun b n → EndsTaking s (before ++ e ∷ []) b n
-taking_at_end s t before e b n o h force at accepted run =
+pub taking_at_end : (s t : SimState) (before : List Event) (e : Event) (b : Callback) (n : ℕ) (o : Outcome) → Happens s before o → o ≡ outcome.InForce → t ≡ after_first s before (done_of o before) → refusal t e ≡ None → IsRunAmong (calls_of t e) b n → EndsTaking s (before ++ e ∷ []) b n
+taking_at_end s t before e b n o h force at accepted called =
     let here : t ≡ stepped_all s before = all_done s t before o force at in
     record {
       before = before;
@@ -104,7 +104,7 @@ taking_at_end s t before e b n o h force at accepted run =
       list = refl;
       force = in_force s before o h force;
       accepted = subst (λ (x : SimState). refusal x e ≡ None) here accepted;
-      run = run;
+      called = subst (λ (x : SimState). IsRunAmong (calls_of x e) b n) here called;
     }
 
 -- the same of the whole list

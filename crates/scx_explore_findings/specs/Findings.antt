@@ -13,13 +13,13 @@ use Rattle.scx_sched_world.specs.declared.notes.What.{What}
 use Rattle.scx_sched_world.specs.declared.notes.What.TheVariants.{Wake, Sleep, Insert, Move, Run, Stop, Idle, Weight, Stall, Fault}
 use Rattle.scx_sched_machine.specs.declared.events.Event.{Event}
 use Rattle.scx_sched_machine.specs.declared.events.Event.TheVariants.{Tick}
-use Rattle.scx_sched.specs.Sim.{SimState, refusal}
+use Rattle.scx_sched.specs.Sim.{SimState, refusal, calls_of}
 use Rattle.scx_load_driver.specs.Runs.{stepped_all, notes_of_all}
 use Rattle.scx_explore_path.specs.declared.outcome.Outcome.{Outcome}
 use Rattle.scx_explore_path.specs.declared.outcome.Outcome.TheVariants as outcome
 use Rattle.scx_explore_path.specs.Outcomes.{IsInForceFor, IsEjectedAt}
 use Rattle.scx_explore_states.specs.declared.watch.Pair.{Pair}
-use Rattle.scx_explore_findings.specs.Running.{IsRun}
+use Rattle.scx_explore_findings.specs.Running.{IsRunAmong}
 use Rattle.scx_explore_findings.specs.declared.finding.Sort.{Sort}
 use Rattle.scx_explore_findings.specs.declared.finding.Sort.TheVariants as sort
 use Rattle.scx_explore_findings.specs.declared.finding.Finding.{Finding}
@@ -179,15 +179,15 @@ pub record EndsWaiting (s : SimState) (events : List Event) (t ms : ℕ) : Type 
   pub waits : waits (stepped_all s events).state.world t ≡ true
   pub long : wait (stepped_all s events).state.world t ≡ ms
 
--- the list is accepted, and the policy in force up to its last event; and a program takes so many
--- instructions when it runs as that callback
+-- the list is accepted, and the policy in force up to its last event; and one of the callbacks that
+-- are called in that event is the one, and its program takes so many instructions in that run
 pub record EndsTaking (s : SimState) (events : List Event) (b : Callback) (n : ℕ) : Type 0 where
   pub before : List Event
   pub event : Event
   pub list : events ≡ before ++ event ∷ []
   pub force : IsInForceFor s before (length before)
   pub accepted : refusal (stepped_all s before) event ≡ None
-  pub run : IsRun b n
+  pub called : IsRunAmong (calls_of (stepped_all s before) event) b n
 
 -- given to that machine, whose tasks are of these groups, the list is accepted and ends so
 abbrev pub Shows : List ℕ → SimState → List Event → Finding → Type 0

@@ -1,25 +1,25 @@
 -- A run of a program as a callback.
-use Rattle.std.specs.Prelude.{◌≡◌, ℕ}
+use Rattle.std.specs.Prelude.{◌≡◌, ℕ, List, Any}
 use Rattle.scx_isa_semantics.specs.declared.callbacks.Callback.{Callback}
 use Rattle.scx_isa_semantics.specs.Elements.{Maps}
 use Rattle.scx_isa_semantics.specs.Runs.{Runs}
 use Rattle.scx_vm.specs.Arguments.{program_arguments}
 use Rattle.scx_vm.specs.Host.{host}
-use Rattle.scx_vm.specs.Programs.{VerifiedProgram}
-use Rattle.scx_vm.specs.declared.arguments.Args.{Args}
 use Rattle.scx_sched_world.specs.World.{WorldState}
 use Rattle.scx_sched_world.specs.Helpers.{world_functions}
+use Rattle.scx_sched_machine.specs.Steps.{CallMade}
 
--- a program that was verified as that callback comes to an answer in so many steps, from some
--- arguments, maps and world on
-pub record IsRun (b : Callback) (n : ℕ) : Type 0 where
-  pub program : VerifiedProgram
-  pub callback : program.context.callback ≡ b
-  pub arguments : Args
+-- the call is of that callback, for which its program was verified, and comes to an answer in so
+-- many steps
+pub record IsRunOf (c : CallMade) (b : Callback) (n : ℕ) : Type 0 where
+  pub callback : c.callback ≡ b
+  pub verified : c.program.context.callback ≡ b
+  pub answer : ℕ
   pub maps : Maps
   pub world : WorldState
-  pub answer : ℕ
-  pub maps_after : Maps
-  pub world_after : WorldState
-  pub run : Runs (host world_functions) program.context.callback program.code
-      (program_arguments arguments) maps world answer n maps_after world_after
+  pub run : Runs (host world_functions) c.callback c.program.code (program_arguments c.arguments)
+      c.maps c.world answer n maps world
+
+-- one of these calls is of that callback, and comes to an answer in so many steps
+abbrev pub IsRunAmong : List CallMade → Callback → ℕ → Type 0
+IsRunAmong cs b n = Any (λ (c : CallMade). IsRunOf c b n) cs

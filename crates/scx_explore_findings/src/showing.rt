@@ -1,7 +1,7 @@
 ghost use Rattle.std.specs.Prelude.{◌≡◌, ◌∷◌, ◌++◌, [], true, None};
-ghost use Rattle.scx_sched.specs.Sim.{refusal};
+ghost use Rattle.scx_sched.specs.Sim.{refusal, calls_of};
 ghost use Rattle.scx_explore_path.specs.declared.outcome.Outcome.TheVariants.{InForce};
-ghost use Rattle.scx_explore_findings.specs.Running.{IsRun};
+ghost use Rattle.scx_explore_findings.specs.Running.{IsRunAmong};
 ghost use Rattle.scx_explore_findings.specs.Findings.{Shows, EndsInFault, EndsInStall, EndsIdle, IsTwice, EndsWaiting, EndsTaking, IsFaultAtEnd, IsStallAtEnd, AreTogether, IsLast};
 
 use crate::count::Count;
@@ -115,14 +115,14 @@ fn ends_taking_in(
 }
 
 /// Whether the machine accepts the event, and a run of that callback in it takes so many instructions.
-#[tactic(auto, using(crate::proofs::Running::run_wanted))]
 fn takes(sim: &mut Sim, event: Event, callback: Callback, instructions: u64) -> bool
     ensures accepted { result ≡ true → refusal sim.old event ≡ None }
-    ensures run { result ≡ true → IsRun callback instructions }
+    ensures called { result ≡ true
+        → IsRunAmong (calls_of sim.old event) callback instructions }
 {
     let mut tally = Tally::of(callback, instructions);
-    let answer = sim.step(event, &mut tally);
-    answer.is_ok() && tally.has_run()
+    let answer = sim.step_heard(event, &mut tally);
+    answer.is_ok() && tally.has_run
 }
 
 fn is_in_force(outcome: Outcome) -> bool

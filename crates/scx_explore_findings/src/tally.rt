@@ -1,4 +1,4 @@
-ghost use Rattle.std.specs.Prelude.{◌≡◌, ◌+◌, ◌≤◌, true, false, [], Some};
+ghost use Rattle.std.specs.Prelude.{◌≡◌, ◌+◌, ◌≤◌, ◌⊎◌, ⊤, true, false, [], Some};
 ghost use Rattle.scx_isa_semantics.specs.Arguments.{FitsCallback};
 ghost use Rattle.scx_isa_semantics.specs.Endings.{run_of};
 ghost use Rattle.scx_maps.specs.Contents.{HasShapes};
@@ -7,42 +7,31 @@ ghost use Rattle.scx_vm.specs.Host.{answer_to, after_query};
 ghost use Rattle.scx_sched_world.specs.Helpers.{world_functions};
 ghost use Rattle.scx_sched_machine.specs.Budgets.{CanPush, program_pushes};
 ghost use Rattle.scx_sched_machine.specs.Callbacks.{IsAnswered};
-ghost use Rattle.scx_explore_findings.specs.Running.{IsRun};
-ghost use Rattle.scx_explore_findings.specs.Tallies.{Keeps};
+ghost use Rattle.scx_explore_findings.specs.Running.{IsRunOf};
+ghost use Rattle.scx_explore_findings.specs.Tallies.{Tells};
+ghost use Rattle.scx_explore_findings.specs.declared.tally.Tally.{Tally};
 
 use scx_isa::Callback;
 use scx_maps::Maps;
-use scx_sched::{Note, Sink};
+use scx_sched::{Hearer, Note};
 use scx_sched_world::World;
 use scx_verify::Verified;
 use scx_vm::{Args, Done};
 use scx_vm_run::{Core, run_on};
-use std::marker::Model;
 
 /// Runs programs, and says whether a run of that callback took so many instructions.
-///
-/// In a contract it is what it looks for.
 #[derive(Drop)]
 pub(crate) struct Tally {
-    callback: Callback,
-    instructions: u64,
-    has_run: bool,
-}
-
-impl Model for Tally {
-    ghost use Rattle.scx_explore_findings.specs.Tallies.{TallyState, tally_of, IsSeen};
-
-    ghost Value = { TallyState };
-
-    ghost view = { tally_of };
-
-    ghost invariant = { IsSeen };
+    pub(crate) callback: Callback,
+    pub(crate) instructions: u64,
+    pub(crate) has_run: bool,
 }
 
 impl Tally {
     /// There was no run yet.
     pub(crate) fn of(callback: Callback, instructions: u64) -> Tally
-        ensures { result ≡ record { callback = callback; instructions = instructions } }
+        ensures { result
+            ≡ record { callback = callback; instructions = instructions; has_run = false } }
     {
         Tally {
             callback,
@@ -51,20 +40,12 @@ impl Tally {
         }
     }
 
-    /// Whether there was such a run.
-    #[tactic(auto, using(crate::proofs::Running::run_seen))]
-    pub(crate) fn has_run(&self) -> bool
-        ensures { result ≡ true → IsRun self.now.callback self.now.instructions }
-    {
-        let has_run = self.has_run;
-        has_run
-    }
-
     /// Looks at a run of that callback, which took so many instructions.
-    #[tactic(auto, using(crate::proofs::Running::run_as))]
     fn look(&mut self, callback: Callback, steps: usize)
-        requires { IsRun callback steps }
-        ensures { self.new ≡ self.old }
+        ensures callback { self.new.callback ≡ self.old.callback }
+        ensures instructions { self.new.instructions ≡ self.old.instructions }
+        ensures seen { self.new.has_run ≡ true → (self.old.has_run ≡ true)
+            ⊎ ((callback ≡ self.old.callback) × (steps ≡ self.old.instructions)) }
     {
         if callback == self.callback && steps as u64 == self.instructions {
             self.has_run = true;
@@ -95,7 +76,14 @@ fn run_counted(
           maps = maps.old;
           world = world.old;
         }) }
-    ensures run { IsRun program.now.context.callback result.steps }
+    ensures run { IsRunOf
+        (record {
+          callback = program.now.context.callback;
+          program = program.now;
+          arguments = arguments;
+          maps = maps.old;
+          world = world.old;
+        }) program.now.context.callback result.steps }
     ensures shapes { HasShapes program.now.context.defs maps.new }
     ensures few { world.new.queues.pushes ≤ world.old.queues.pushes + program_pushes }
 {
@@ -103,20 +91,22 @@ fn run_counted(
     run_on(core, program, arguments, maps, world)
 }
 
-impl Sink for Tally {
-    ghost takes = { Keeps };
+impl Hearer for Tally {
+    ghost Noted = { ⊤ };
 
-    ghost has_failed = { λ s. false };
+    ghost noted = { λ s. tt };
 
-    ghost failed_stays = { λ s t n failed takes. takes };
+    ghost takes = { λ s n t. ⊤ };
 
-    fn take(&mut self, _note: Note) {}
+    ghost Told = { Tally };
 
-    fn failed(&self) -> bool {
-        false
-    }
+    ghost told = { λ s. s };
 
-    fn run(
+    ghost hears = { Tells };
+
+    fn note(&mut self, _note: Note) {}
+
+    fn call(
         &mut self,
         core: &mut Core,
         program: &Verified,

@@ -13,13 +13,10 @@ returns-clause-answered c = record {
 
 pub returns-clause-run : goal.returns-clause-run
 returns-clause-run c = record {
-  program = c.args.program.now;
   callback = refl;
-  arguments = c.args.arguments;
-  maps = c.args.maps.now;
-  world = c.args.world.now;
+  verified = refl;
   answer = c.run_on.result.r0;
-  maps_after = c.run_on.new.maps;
-  world_after = c.run_on.new.env;
+  maps = c.run_on.new.maps;
+  world = c.run_on.new.env;
   run = c.run_on.ensures.run;
 }
