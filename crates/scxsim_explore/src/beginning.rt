@@ -7,6 +7,7 @@ ghost use Rattle.scxsim_explore.specs.Machines.{IsFresh};
 
 use crate::machines::{Machines, fresh, make_machines};
 use scx_explore::{Bounds, Form, Mode, SORTS, Search, Starts, form_of, starts_of};
+use scx_explore_path::Path;
 use scx_isa::CALLBACKS;
 use scx_load_workloads::{Workload, read_workload};
 use scx_sched::{Event, Sim};
@@ -37,6 +38,8 @@ pub(crate) struct Begun {
     pub(crate) machines: Machines,
     /// The list at hand.
     pub(crate) events: Vec<Event>,
+    /// Machines to go through the states again that the search has met.
+    pub(crate) path: Path,
 }
 
 /// The workload of a text that was read before.
@@ -76,16 +79,57 @@ pub(crate) fn begin(
     let starts = starts_of(alloc, policy, about)?;
     let machines = Machines::new(alloc, policy, workload, told_by(bounds.mode) * MOST_TOLD)?;
     match search_in(alloc, policy, workload, about, bounds, machines.first()) {
-        Ok((search, events)) => Ok(Begun {
-            search,
-            starts,
-            machines,
-            events,
-        }),
+        Ok((search, events)) => match path_in(alloc, policy, workload, bounds) {
+            Ok(path) => Ok(Begun {
+                search,
+                starts,
+                machines,
+                events,
+                path,
+            }),
+            Err(refusal) => {
+                drop(search);
+                drop(machines);
+                drop(events);
+                Err(refusal)
+            }
+        },
         Err(refusal) => {
             drop(machines);
             Err(refusal)
         }
+    }
+}
+
+/// A path along lists within the bounds, where these are of events.
+fn path_in(alloc: Global, policy: &str, workload: &str, bounds: Bounds) -> Result<Path, Refusal>
+    ensures { IfErr result (IsCause policy.now workload.now) }
+{
+    let sims = make_machines(alloc, policy, workload, audited_by(bounds))?;
+    match fresh(alloc, policy, workload) {
+        Ok(root) => path_from(alloc, root, sims),
+        Err(refusal) => {
+            drop(sims);
+            Err(refusal)
+        }
+    }
+}
+
+/// How many machines a list takes that is gone through again: one for each of its events.
+fn audited_by(bounds: Bounds) -> usize {
+    match bounds.mode {
+        Mode::Events => bounds.depth,
+        Mode::Milliseconds | Mode::Workloads => 0,
+    }
+}
+
+fn path_from(alloc: Global, root: Sim, sims: Vec<Sim>) -> Result<Path, Refusal>
+    requires { All (IsAs root) sims.items }
+    ensures { IfErr result (λ refusal. refusal ≡ NoMemory) }
+{
+    match Path::new(alloc, root, sims) {
+        Ok(path) => Ok(path),
+        Err(AllocError) => Err(Refusal::NoMemory),
     }
 }
 

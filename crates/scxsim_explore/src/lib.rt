@@ -3,6 +3,7 @@
 //! first. A watcher is told how far it is.
 #![tactic(auto)]
 
+mod auditing;
 mod beginning;
 mod exploring;
 mod limits;

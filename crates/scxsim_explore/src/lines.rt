@@ -182,7 +182,24 @@ pub(crate) fn write_level<W: Out>(mode: Mode, level: Level, out: &mut W) -> Resu
 {
     write_number(out, "depth ", level.depth as u64, depth_unit(mode))?;
     write_number(out, " states ", level.states as u64, "")?;
-    write_number(out, " events ", level.events, "\n")
+    write_tried(level, out)
+}
+
+/// How many events were tried and, where states had no room, how often such were gone through.
+fn write_tried<W: Out>(level: Level, out: &mut W) -> Result<(), Failed>
+    ensures { OnOk result (Grows (W.contents out.old) (W.contents out.new)) }
+{
+    match level.again {
+        Some(again) => write_again(level.events, again, out),
+        None => write_number(out, " events ", level.events, "\n"),
+    }
+}
+
+fn write_again<W: Out>(events: u64, again: u64, out: &mut W) -> Result<(), Failed>
+    ensures { OnOk result (Grows (W.contents out.old) (W.contents out.new)) }
+{
+    write_number(out, " events ", events, "")?;
+    write_number(out, " again ", again, "\n")
 }
 
 /// What a depth counts, behind its number.

@@ -1,6 +1,7 @@
 ghost use Rattle.std.specs.Prelude.{◌≡◌, OnOk};
 ghost use Rattle.scxsim_explore.specs.Telling.{Grows, HasTold, IsTold};
 
+use crate::auditing::end_audited;
 use crate::beginning::Begun;
 use crate::lines::{write_alike, write_full, write_level, write_none, write_starts};
 use crate::machines::Machines;
@@ -32,7 +33,8 @@ pub(crate) fn tell<V: Watcher, W: Out>(
     let end = search(begun, about, &mut course, watcher, out)?;
     watcher.pause();
     write_most(begun, about, bounds.mode, out)?;
-    write_end(begun, &course, end, out)
+    let audited = end_audited(begun, about, &course, end);
+    write_end(begun, &course, audited, out)
 }
 
 /// Goes through the lists, and writes what is found.

@@ -1,0 +1,3 @@
+mod Covered
+mod Going
+mod Leading

@@ -1,0 +1,181 @@
+ghost use Rattle.std.specs.Prelude.{◌≡◌, ◌<◌, true, All, None, length};
+ghost use Rattle.scx_load_driver.specs.Runs.{AreAccepted};
+ghost use Rattle.scx_explore_path.specs.Path.{machine_of};
+ghost use Rattle.scx_explore_audit.specs.Claims.{IsTried};
+
+use scx_explore_path::Path;
+use scx_explore_states::{Seen, Step};
+use scx_sched::{Event, Unseen};
+
+/// How often what is left is cut in half.
+const HALVES: u32 = 64;
+
+/// Comes to the state behind that one, whose list the path is: to the first one that it led to, or to the next one that
+/// the same state led to, or one before it. There is none behind the last one.
+pub(crate) fn come_on(seen: &Seen, state: usize, path: &mut Path) -> Option<usize>
+    requires { All (IsTried path.old.root) path.old.events }
+    ensures root { path.new.root ≡ path.old.root }
+    ensures room { path.new.room ≡ path.old.room }
+    ensures tried { All (IsTried path.new.root) path.new.events }
+{
+    let depth = path.events().len();
+    let (next, before) = next_of(seen, state, depth)?;
+    if come_to(seen, next, before, path) {
+        Some(next)
+    } else {
+        None
+    }
+}
+
+/// The state behind that one, to whose list so many events lead, and how many lead there but for the last one.
+fn next_of(seen: &Seen, state: usize, depth: usize) -> Option<(usize, usize)> {
+    match first_from(seen, state) {
+        Some(child) => Some((child, depth)),
+        None => next_beside(seen, state, depth),
+    }
+}
+
+/// Comes to that state from the one at that depth of the list. Answers false where there is no way.
+fn come_to(seen: &Seen, state: usize, depth: usize, path: &mut Path) -> bool
+    requires { All (IsTried path.old.root) path.old.events }
+    ensures root { path.new.root ≡ path.old.root }
+    ensures room { path.new.room ≡ path.old.room }
+    ensures tried { All (IsTried path.new.root) path.new.events }
+{
+    go_back(path, depth);
+    match event_to(seen, state) {
+        Some(event) => go_on(path, event),
+        None => false,
+    }
+}
+
+/// Goes back to the first so many events.
+fn go_back(path: &mut Path, depth: usize)
+    requires { All (IsTried path.old.root) path.old.events }
+    ensures root { path.new.root ≡ path.old.root }
+    ensures room { path.new.room ≡ path.old.room }
+    ensures tried { All (IsTried path.new.root) path.new.events }
+{
+    path.go_back(depth);
+}
+
+/// Goes on by the event. Answers false where that can't be, or isn't audited.
+fn go_on(path: &mut Path, event: Event) -> bool
+    requires { All (IsTried path.old.root) path.old.events }
+    ensures root { path.new.root ≡ path.old.root }
+    ensures room { path.new.room ≡ path.old.room }
+    ensures tried { All (IsTried path.new.root) path.new.events }
+{
+    if !has_room(path) {
+        return false;
+    }
+    if !is_tried(path, event) {
+        return false;
+    }
+    path.go_on(event, &mut Unseen).is_ok()
+}
+
+/// Whether it is an event of the machine's tasks, of its processors, or of the clock.
+fn is_tried(path: &Path, event: Event) -> bool
+    ensures { result ≡ true → IsTried path.now.root event }
+{
+    match event {
+        Event::Wake(task) => task < tasks_of(path),
+        Event::Sleep(task) => task < tasks_of(path),
+        Event::Tick(cpu) => cpu < cpus_of(path),
+        Event::Clock => true,
+        Event::SetWeight(_, _) => false,
+    }
+}
+
+/// The event that led to that state.
+fn event_to(seen: &Seen, state: usize) -> Option<Event> {
+    match seen.way(state)?.step {
+        Step::Event(event) => Some(event),
+        Step::Millisecond { .. } => None,
+    }
+}
+
+/// The first state to which that one led. States are numbered in the order of those that led to them.
+fn first_from(seen: &Seen, state: usize) -> Option<usize> {
+    let mut low = state;
+    let mut high = seen.len();
+    for _ in 0..HALVES {
+        if low.saturating_add(1) >= high {
+            break;
+        }
+        let middle = low.saturating_add(high.saturating_sub(low) / 2);
+        if is_from_before(seen, middle, state) {
+            low = middle;
+        } else {
+            high = middle;
+        }
+    }
+    if is_from(seen, high, state) {
+        Some(high)
+    } else {
+        None
+    }
+}
+
+/// Whether a state before that one led to the state.
+fn is_from_before(seen: &Seen, state: usize, from: usize) -> bool {
+    match seen.way(state) {
+        Some(way) => way.from < from,
+        None => false,
+    }
+}
+
+/// Whether that one led to the state. Nothing led to the first one.
+fn is_from(seen: &Seen, state: usize, from: usize) -> bool {
+    match seen.way(state) {
+        Some(way) => state > 0 && way.from == from,
+        None => false,
+    }
+}
+
+/// The next state that the same one led to, or one before that, and how many events lead there but for the last one.
+fn next_beside(seen: &Seen, state: usize, depth: usize) -> Option<(usize, usize)> {
+    let mut at = state;
+    for left in 1..=depth {
+        let from = seen.way(at)?.from;
+        let next = at.saturating_add(1);
+        if is_from(seen, next, from) {
+            return Some((next, depth.saturating_sub(left)));
+        }
+        at = from;
+    }
+    None
+}
+
+/// How many tasks the machine has.
+pub(crate) fn tasks_of(path: &Path) -> u16
+    ensures { result ≡ length path.now.root.state.world.tasks }
+{
+    let first = path.sim_at(0);
+    first.tasks()
+}
+
+/// How many processors it has.
+pub(crate) fn cpus_of(path: &Path) -> u32
+    ensures { result ≡ length path.now.root.state.world.cpus }
+{
+    let first = path.sim_at(0);
+    first.cpus()
+}
+
+/// Whether the list may have one more event.
+pub(crate) fn has_room(path: &Path) -> bool
+    ensures room { result ≡ true → length path.now.events < path.now.room }
+    ensures accepted { AreAccepted path.now.root path.now.events }
+{
+    path.events().len() < path.room()
+}
+
+/// Whether the policy is in force after the list.
+pub(crate) fn is_in_force(path: &Path) -> bool
+    ensures { result ≡ true → (machine_of path.now).state.world.ejected ≡ None }
+{
+    let sim = path.sim();
+    sim.ejected().is_none()
+}
