@@ -1,25 +1,17 @@
 use scx_isa::{CALLBACKS, Callback, PerCallback, Program};
 use scxsim_calls::Calls;
-use std::alloc::AllocError;
+use scxsim_text::Text;
 
 /// Writes how often each callback of the policy was called, of those that the run may call.
-///
-/// # Errors
-///
-/// Memory runs out.
-pub fn write_calls(
-    programs: &PerCallback<Option<Program>>,
-    calls: &Calls,
-    page: &mut String,
-) -> Result<(), AllocError> {
-    page.push_str("\n    calls  of the callback\n")?;
+pub fn write_calls(programs: &PerCallback<Option<Program>>, calls: &Calls, page: &mut Text) {
+    page.push("\n    calls  of the callback\n");
     for callback in CALLBACKS {
         let is_of_start = callback == Callback::Init || callback == Callback::Enable;
         if !is_of_start && programs.get(callback).is_some() {
-            let name = callback.name();
-            let calls = calls.calls(callback);
-            writeln!(page, "{calls:>9}  {name}")?;
+            page.number_right(calls.calls(callback), 9);
+            page.push("  ");
+            page.push(callback.name());
+            page.push("\n");
         }
     }
-    Ok(())
 }

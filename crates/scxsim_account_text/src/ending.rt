@@ -1,9 +1,10 @@
 use scx_load_workloads::Workload;
 use scx_sched::{Event, Fault, Note, Sink};
 use scxsim_output::Counted;
+use scxsim_text::Text;
 use scxsim_trace::{Names, Trace};
 use scxsim_views::fault_words;
-use std::alloc::{AllocError, Global};
+use std::alloc::Global;
 
 /// An ejection's task and processor, as far as it has them, and the last notes of both.
 #[derive(Clone, Copy)]
@@ -14,105 +15,69 @@ pub struct Ejected<'a> {
 }
 
 /// Writes that a policy was ejected as that task had waited too long.
-///
-/// # Errors
-///
-/// Memory runs out.
-pub fn write_stall(workload: &Workload, task: u16, page: &mut String) -> Result<(), AllocError> {
-    let name = workload.task(task);
-    writeln!(page, "{name} had waited too long (stall)")
+pub fn write_stall(workload: &Workload, task: u16, page: &mut Text) {
+    page.push(workload.task(task));
+    page.push(" had waited too long (stall)\n");
 }
 
 /// Writes a fault of which no more is known.
-///
-/// # Errors
-///
-/// Memory runs out.
-pub fn write_unplaced(
-    workload: &Workload,
-    fault: Fault,
-    event: Event,
-    page: &mut String,
-) -> Result<(), AllocError> {
-    let words = fault_words(fault);
-    write!(page, ", {words}, ")?;
-    write_event(workload, event, page)?;
-    page.push_str("\n")
+pub fn write_unplaced(workload: &Workload, fault: Fault, event: Event, page: &mut Text) {
+    page.push(", ");
+    page.push(fault_words(fault));
+    page.push(", ");
+    write_event(workload, event, page);
+    page.push("\n");
 }
 
 /// Writes as what came a policy was ejected.
-///
-/// # Errors
-///
-/// Memory runs out.
-pub fn write_event(workload: &Workload, event: Event, page: &mut String) -> Result<(), AllocError> {
+pub fn write_event(workload: &Workload, event: Event, page: &mut Text) {
     match event {
         Event::Wake(task) => {
-            let name = workload.task(task);
-            write!(page, "as {name} woke")
+            page.push("as ");
+            page.push(workload.task(task));
+            page.push(" woke");
         }
         Event::Sleep(task) => {
-            let name = workload.task(task);
-            write!(page, "as {name} went to sleep")
+            page.push("as ");
+            page.push(workload.task(task));
+            page.push(" went to sleep");
         }
-        Event::Tick(cpu) => write!(page, "at a tick of processor {cpu}"),
-        Event::Clock => write!(page, "as the clock grew"),
-        Event::SetWeight(_, _) => write!(page, "as a weight changed"),
+        Event::Tick(cpu) => page.number("at a tick of processor ", u64::from(cpu)),
+        Event::Clock => page.push("as the clock grew"),
+        Event::SetWeight(_, _) => page.push("as a weight changed"),
     }
 }
 
 /// Writes who never ran.
-///
-/// # Errors
-///
-/// Memory runs out.
-pub fn write_never(
-    workload: &Workload,
-    never_ran: &[u16],
-    page: &mut String,
-) -> Result<(), AllocError> {
+pub fn write_never(workload: &Workload, never_ran: &[u16], page: &mut Text) {
     let mut before = "never ran: ";
     for task in never_ran {
-        let name = workload.task(*task);
-        write!(page, "{before}{name}")?;
+        page.push(before);
+        page.push(workload.task(*task));
         before = ", ";
     }
-    if before == "never ran: " {
-        page.push_str("each task ran")?;
+    if never_ran.is_empty() {
+        page.push("each task ran");
     }
-    page.push_str("\n")
+    page.push("\n");
 }
 
 /// Writes the last lines of the trace up to an ejection, of its task and its processor.
-///
-/// # Errors
-///
-/// Memory runs out.
-pub fn write_last_lines(
-    alloc: Global,
-    workload: &Workload,
-    of: Ejected<'_>,
-    page: &mut String,
-) -> Result<(), AllocError> {
-    page.push_str("\nthe last lines of the trace up to there")?;
+pub fn write_last_lines(alloc: Global, workload: &Workload, of: Ejected<'_>, page: &mut Text) {
+    page.push("\nthe last lines of the trace up to there");
     if let Some(task) = of.task {
-        let name = workload.task(task);
-        write!(page, ", of {name}")?;
+        page.push(", of ");
+        page.push(workload.task(task));
     }
     if let Some(cpu) = of.cpu {
-        write!(page, ", of processor {cpu}")?;
+        page.number(", of processor ", u64::from(cpu));
     }
-    page.push_str("\n")?;
-    write_lines(alloc, workload, of.notes, page)
+    page.push("\n");
+    write_lines(alloc, workload, of.notes, page);
 }
 
 /// Writes the lines that a trace has for these notes.
-fn write_lines(
-    alloc: Global,
-    workload: &Workload,
-    notes: &[Note],
-    page: &mut String,
-) -> Result<(), AllocError> {
+fn write_lines(alloc: Global, workload: &Workload, notes: &[Note], page: &mut Text) {
     let mut bytes = Vec::new(alloc);
     let mut out = Counted::new(&mut bytes);
     let mut trace = Trace::new(workload, &mut out);
@@ -120,10 +85,8 @@ fn write_lines(
         trace.take(*note);
     }
     if trace.failed() {
-        return Err(AllocError);
-    }
-    match std::str::from_utf8(bytes.as_slice()) {
-        Ok(text) => page.push_str(text),
-        Err(_) => Ok(()),
+        page.cut();
+    } else if let Ok(text) = std::str::from_utf8(bytes.as_slice()) {
+        page.push(text);
     }
 }

@@ -1,77 +1,64 @@
-use crate::words::{Count, tasks_of};
+use crate::words::{tasks_of, write_count};
 use scx_load_workloads::Workload;
 use scxsim_calls::{QueueFigures, Queues};
+use scxsim_text::Text;
 use scxsim_trace::Names;
 use scxsim_views::QueueName;
-use std::alloc::AllocError;
 
 /// How many of those who were held are named.
 const NAMED: u64 = 10;
 
 /// Writes the queues that tasks came into and nobody left.
-///
-/// # Errors
-///
-/// Memory runs out.
-pub fn write_undrained(queues: &Queues, page: &mut String) -> Result<(), AllocError> {
+pub fn write_undrained(queues: &Queues, page: &mut Text) {
     let mut before = "nobody left ";
     for figures in queues.figures.as_slice() {
         if figures.left == 0 {
-            let queue = QueueName(figures.queue);
-            let came = Count(figures.came, "task");
-            write!(page, "{before}{queue}, into which came {came}")?;
+            page.show(before, &QueueName(figures.queue));
+            write_count(", into which came ", figures.came, "task", page);
             before = "; ";
         }
     }
     if before == "nobody left " {
-        page.push_str("of each queue that tasks came into somebody left")?;
+        page.push("of each queue that tasks came into somebody left");
     }
-    page.push_str("\n")
+    page.push("\n");
 }
 
 /// Writes how many came into each queue and left it, and who was held as the policy's time ended.
-///
-/// # Errors
-///
-/// Memory runs out.
-pub fn write_queues(
-    workload: &Workload,
-    queues: &Queues,
-    page: &mut String,
-) -> Result<(), AllocError> {
-    page.push_str("\n     came     left    there  of those who came into\n")?;
+pub fn write_queues(workload: &Workload, queues: &Queues, page: &mut Text) {
+    page.push("\n     came     left    there  of those who came into\n");
     for figures in queues.figures.as_slice() {
-        write_queue(*figures, page)?;
+        write_queue(*figures, page);
     }
-    write_held(workload, queues, page)
+    write_held(workload, queues, page);
 }
 
-fn write_held(workload: &Workload, queues: &Queues, page: &mut String) -> Result<(), AllocError> {
+fn write_held(workload: &Workload, queues: &Queues, page: &mut Text) {
     let mut before = "still held: ";
     let mut held = 0u64;
     for task in 0..tasks_of(workload) {
         if queues.is_held(task) {
             held = held.saturating_add(1);
             if held <= NAMED {
-                let name = workload.task(task);
-                write!(page, "{before}{name}")?;
+                page.push(before);
+                page.push(workload.task(task));
                 before = ", ";
             }
         }
     }
     if NAMED < held {
-        let more = held.saturating_sub(NAMED);
-        write!(page, " and {more} more")?;
+        page.number(" and ", held.saturating_sub(NAMED));
+        page.push(" more");
     }
     if 0 < held {
-        page.push_str("\n")?;
+        page.push("\n");
     }
-    Ok(())
 }
 
-fn write_queue(figures: QueueFigures, page: &mut String) -> Result<(), AllocError> {
-    let QueueFigures { queue, came, left } = figures;
-    let there = figures.there();
-    let queue = QueueName(queue);
-    writeln!(page, "{came:>9}{left:>9}{there:>9}  {queue}")
+fn write_queue(figures: QueueFigures, page: &mut Text) {
+    page.number_right(figures.came, 9);
+    page.number_right(figures.left, 9);
+    page.number_right(figures.there(), 9);
+    page.show("  ", &QueueName(figures.queue));
+    page.push("\n");
 }

@@ -1,5 +1,6 @@
-use crate::words::Count;
+use crate::words::write_count;
 use scx_load_workloads::Workload;
+use scxsim_text::Text;
 use scxsim_trace::Names;
 use std::alloc::{AllocError, Global};
 
@@ -31,25 +32,22 @@ pub(crate) fn runners(alloc: Global, tasks: u16, each: &[u64]) -> Result<Vec<Run
 
 /// Writes who ran for how long, and of those who aren't named how many they are and for how long they ran together. The
 /// answer is what stands before more.
-pub(crate) fn write_ran(
-    workload: &Workload,
-    ran: &[Runner],
-    page: &mut String,
-) -> Result<&'static str, AllocError> {
+pub(crate) fn write_ran(workload: &Workload, ran: &[Runner], page: &mut Text) -> &'static str {
     for (place, runner) in ran.iter().enumerate() {
         if place < NAMED {
-            let before = before_place(place);
-            let name = workload.task(runner.task);
-            let ms = runner.ms;
-            write!(page, "{before}{name} ran {ms} ms")?;
+            page.push(before_place(place));
+            page.push(workload.task(runner.task));
+            page.number(" ran ", runner.ms);
+            page.push(" ms");
         }
     }
     if NAMED < ran.len() {
-        let others = Count(ran.len().saturating_sub(NAMED) as u64, "other");
-        let ms = sum(ran, NAMED);
-        write!(page, ", {others} ran {ms} ms")?;
+        let others = ran.len().saturating_sub(NAMED) as u64;
+        write_count(", ", others, "other", page);
+        page.number(" ran ", sum(ran, NAMED));
+        page.push(" ms");
     }
-    Ok(before_place(ran.len()))
+    before_place(ran.len())
 }
 
 /// For how many milliseconds the task ran, or nobody, which stands behind all tasks.

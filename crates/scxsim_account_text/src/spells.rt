@@ -1,147 +1,139 @@
-use crate::words::Count;
+use crate::words::write_count;
 use scx_sched::Rank;
 use scx_sched_world::{HELD, POLICY_END};
 use scxsim_calls::{Numbers, Spell};
+use scxsim_text::Text;
 use scxsim_views::QueueName;
 use scxsim_waits::Meanwhile;
-use std::alloc::AllocError;
 
 /// Writes why a task wasn't taken while it stood in a queue.
-pub(crate) fn write_spell(
-    wait: &Meanwhile,
-    spell: &Spell,
-    page: &mut String,
-) -> Result<(), AllocError> {
+pub(crate) fn write_spell(wait: &Meanwhile, spell: &Spell, page: &mut Text) {
     if spell.queue < POLICY_END || spell.queue == HELD {
-        write_asked(wait, spell, page)
+        write_asked(wait, spell, page);
     } else {
-        write_passed(spell, page)
+        write_passed(spell, page);
     }
 }
 
 /// Writes what calls of dispatch did that might have taken the task.
-fn write_asked(wait: &Meanwhile, spell: &Spell, page: &mut String) -> Result<(), AllocError> {
+fn write_asked(wait: &Meanwhile, spell: &Spell, page: &mut Text) {
     let calls = spell.calls();
     if calls == 0 && wait.stood_in(spell.queue) == 0 {
-        return Ok(());
+        return;
     }
     if calls == 0 {
-        page.push_str("  no call of dispatch")?;
+        page.push("  no call");
     } else {
-        let calls = Count(calls, "call");
-        write!(page, "  {calls} of dispatch")?;
+        write_count("  ", calls, "call", page);
     }
-    write_where(spell.queue, page)?;
-    write_took(spell, page)?;
-    write_others(spell, page)?;
-    write_vain(spell, page)
+    page.push(" of dispatch");
+    write_where(spell.queue, page);
+    write_took(spell, page);
+    write_others(spell, page);
+    write_vain(spell, page);
 }
 
-fn write_where(queue: u64, page: &mut String) -> Result<(), AllocError> {
+fn write_where(queue: u64, page: &mut Text) {
     if queue == HELD {
-        return page.push_str(" while it was held\n");
+        page.push(" while it was held\n");
+        return;
     }
-    let queue = QueueName(queue);
-    writeln!(page, " while it stood in {queue}")
+    page.show(" while it stood in ", &QueueName(queue));
+    page.push("\n");
 }
 
 /// Writes how many calls took others out of the queue in which the task stood.
-fn write_took(spell: &Spell, page: &mut String) -> Result<(), AllocError> {
+fn write_took(spell: &Spell, page: &mut Text) {
     let took = spell.took;
     if took == 0 {
-        return Ok(());
+        return;
     }
-    let taken = spell.taken;
-    if took == taken {
-        write!(page, "    {took} took another from there")?;
+    page.number("    ", took);
+    if took == spell.taken {
+        page.push(" took another from there");
     } else {
-        write!(page, "    {took} took {taken} others from there")?;
+        page.number(" took ", spell.taken);
+        page.push(" others from there");
     }
     if spell.queue != HELD {
-        write_keys(spell, page)?;
+        write_keys(spell, page);
     }
-    page.push_str("\n")
+    page.push("\n");
 }
 
 /// Writes by what they stood before the task.
-fn write_keys(spell: &Spell, page: &mut String) -> Result<(), AllocError> {
+fn write_keys(spell: &Spell, page: &mut Text) {
     match spell.rank {
-        Some(Rank::Fifo) => page.push_str(", who came before it"),
+        Some(Rank::Fifo) => page.push(", who came before it"),
         Some(Rank::Vtime(own)) => write_times(spell, own, page),
-        None => Ok(()),
+        None => {}
     }
 }
 
-fn write_times(spell: &Spell, own: u64, page: &mut String) -> Result<(), AllocError> {
+fn write_times(spell: &Spell, own: u64, page: &mut Text) {
     if !spell.is_known {
-        return Ok(());
+        return;
     }
     let Some(Numbers { low, high }) = spell.theirs else {
-        return Ok(());
+        return;
     };
-    write!(page, ", of virtual time {low}")?;
+    page.number(", of virtual time ", low);
     if low < high {
-        write!(page, " to {high}")?;
+        page.number(" to ", high);
     }
-    write!(page, "; its own is {own}")
+    page.number("; its own is ", own);
 }
 
 /// Writes how many calls took others alone, and out of which queues they took the first.
-fn write_others(spell: &Spell, page: &mut String) -> Result<(), AllocError> {
+fn write_others(spell: &Spell, page: &mut Text) {
     let passed = spell.passed;
     if passed == 0 {
-        return Ok(());
+        return;
     }
-    write!(page, "    {passed} took another from")?;
+    page.number("    ", passed);
+    page.push(" took another from");
     let mut before = " ";
     for share in spell.shares.as_slice() {
-        let queue = QueueName(share.queue);
-        write!(page, "{before}{queue}")?;
+        page.show(before, &QueueName(share.queue));
         if share.calls < passed {
-            let calls = share.calls;
-            write!(page, " ({calls})")?;
+            page.number(" (", share.calls);
+            page.push(")");
         }
         before = ", ";
     }
-    write_unasked(spell, page)
+    write_unasked(spell, page);
 }
 
-fn write_vain(spell: &Spell, page: &mut String) -> Result<(), AllocError> {
-    let vain = spell.vain;
-    if vain == 0 {
-        return Ok(());
+fn write_vain(spell: &Spell, page: &mut Text) {
+    if spell.vain == 0 {
+        return;
     }
-    write!(page, "    {vain} took no task")?;
-    write_unasked(spell, page)
+    page.number("    ", spell.vain);
+    page.push(" took no task");
+    write_unasked(spell, page);
 }
 
 /// Writes that a call didn't ask the queue in which the task stood. It would have taken somebody.
-fn write_unasked(spell: &Spell, page: &mut String) -> Result<(), AllocError> {
+fn write_unasked(spell: &Spell, page: &mut Text) {
     if spell.queue < POLICY_END {
-        let queue = QueueName(spell.queue);
-        write!(page, ", and didn't ask {queue}")?;
+        page.show(", and didn't ask ", &QueueName(spell.queue));
     }
-    page.push_str("\n")
+    page.push("\n");
 }
 
 /// Writes who was taken out of a queue that processors empty by themselves, and calls that couldn't take from it.
-fn write_passed(spell: &Spell, page: &mut String) -> Result<(), AllocError> {
+fn write_passed(spell: &Spell, page: &mut Text) {
     let queue = QueueName(spell.queue);
     if 0 < spell.taken {
-        let others = Count(spell.taken, "other");
-        let were = if spell.taken == 1 { "was" } else { "were" };
-        writeln!(
-            page,
-            "  {others} {were} taken out of {queue} while it stood there"
-        )?;
+        write_count("  ", spell.taken, "other", page);
+        page.push(if spell.taken == 1 { " was" } else { " were" });
+        page.show(" taken out of ", &queue);
+        page.push(" while it stood there\n");
     }
     let calls = spell.calls();
     if 0 < calls {
-        let calls = Count(calls, "call");
-        writeln!(
-            page,
-            "  {calls} of dispatch while it stood in {queue}, out of which no call takes a task"
-        )?;
+        write_count("  ", calls, "call", page);
+        page.show(" of dispatch while it stood in ", &queue);
+        page.push(", out of which no call takes a task\n");
     }
-    Ok(())
 }

@@ -1,18 +1,13 @@
 use scx_load_workloads::Workload;
-use std::fmt;
+use scxsim_text::Text;
 
-/// So many of something.
-#[derive(Clone, Copy)]
-pub(crate) struct Count(pub(crate) u64, pub(crate) &'static str);
-
-impl fmt::Display for Count {
-    fn fmt<W: fmt::Write>(&self, f: &mut fmt::Formatter<W>) -> fmt::Result {
-        let Count(number, word) = *self;
-        if number == 1 {
-            write!(f, "1 {word}")
-        } else {
-            write!(f, "{number} {word}s")
-        }
+/// Writes so many of something.
+pub(crate) fn write_count(before: &str, number: u64, word: &str, page: &mut Text) {
+    page.number(before, number);
+    page.push(" ");
+    page.push(word);
+    if number != 1 {
+        page.push("s");
     }
 }
 

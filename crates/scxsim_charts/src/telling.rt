@@ -12,6 +12,7 @@ use crate::writing::write_chart;
 use scxsim_commands::{Fault, Refusal};
 use scxsim_output::{Failed, Out, write_all};
 use scxsim_simulation::{Listener, Run, prepare};
+use scxsim_text::Text;
 use scxsim_windows::{Span, Window};
 use std::alloc::{AllocError, Global};
 
@@ -87,7 +88,9 @@ fn lines_of_run<L: Listener>(
     match Window::of(span, run.workload.ms()) {
         Ok(window) => {
             let chart = gather(alloc, run, Scale::new(window), listener)?;
-            Ok(lines_of_chart(alloc, &chart)?)
+            let lines = lines_of_chart(alloc, &chart);
+            drop(chart);
+            Ok(lines?)
         }
         Err(refusal) => {
             drop(run);
@@ -97,7 +100,7 @@ fn lines_of_run<L: Listener>(
 }
 
 fn lines_of_chart(alloc: Global, chart: &Chart) -> Result<String, AllocError> {
-    let mut lines = String::new(alloc);
-    write_chart(chart, &mut lines)?;
-    Ok(lines)
+    let mut lines = Text::new(alloc);
+    write_chart(chart, &mut lines);
+    lines.finish()
 }

@@ -1,3 +1,4 @@
+use scxsim_text::Text;
 use std::alloc::{AllocError, Global};
 
 /// How many characters of a file's name a title has, at most.
@@ -12,22 +13,17 @@ const MOST: usize = 23;
 ///
 /// Memory ran out.
 pub fn title(alloc: Global, policy: &str, workload: &str) -> Result<String, AllocError> {
-    let mut title = String::new(alloc);
-    push_title(&mut title, policy, workload)?;
-    Ok(title)
+    let mut title = Text::new(alloc);
+    push_name(&mut title, policy);
+    title.push(" on ");
+    push_name(&mut title, workload);
+    title.finish()
 }
 
-fn push_title(title: &mut String, policy: &str, workload: &str) -> Result<(), AllocError> {
-    push_name(title, policy)?;
-    title.push_str(" on ")?;
-    push_name(title, workload)
-}
-
-fn push_name(title: &mut String, path: &str) -> Result<(), AllocError> {
+fn push_name(title: &mut Text, path: &str) {
     for letter in base_of(path).chars().take(MOST) {
-        title.push(plain(letter))?;
+        title.character(plain(letter));
     }
-    Ok(())
 }
 
 /// The last part of a path, without `.toml`.

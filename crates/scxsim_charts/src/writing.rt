@@ -1,9 +1,9 @@
 use crate::gathering::Chart;
 use crate::marks::letter;
 use crate::scales::CELLS;
+use scxsim_text::Text;
 use scxsim_trace::Names;
 use scxsim_windows::Ejection;
-use std::alloc::AllocError;
 
 /// How many characters stand before those of time: the name of a row, and a bar.
 const NAME: usize = 19;
@@ -43,76 +43,82 @@ impl Chart {
 }
 
 /// Makes the lines of a chart, from the end of its title on.
-pub(crate) fn write_chart(chart: &Chart, page: &mut String) -> Result<(), AllocError> {
-    write_end(chart, page)?;
-    write_axis(chart, page)?;
+pub(crate) fn write_chart(chart: &Chart, page: &mut Text) {
+    write_end(chart, page);
+    write_axis(chart, page);
     for cpu in 0..chart.rows.cpus {
-        write_cpu(chart, cpu, page)?;
+        write_cpu(chart, cpu, page);
     }
     for row in 0..chart.rows.of_tasks() {
-        write_row(chart, row, page)?;
+        write_row(chart, row, page);
     }
-    write_ejection(chart, page)?;
-    write_legend(chart, page)
+    write_ejection(chart, page);
+    write_legend(chart, page);
 }
 
 /// Whether the policy is in force at the end of the run.
-fn write_end(chart: &Chart, page: &mut String) -> Result<(), AllocError> {
+fn write_end(chart: &Chart, page: &mut Text) {
     match chart.ejection {
-        None => page.push_str("in force to the end\n"),
+        None => page.push("in force to the end\n"),
         Some(Ejection::Stall { moment, task }) => {
-            let name = chart.workload.task(task);
-            writeln!(page, "ejected at {moment} ms, stall of {name}")
+            page.number("ejected at ", moment);
+            page.push(" ms, stall of ");
+            page.push(chart.workload.task(task));
+            page.push("\n");
         }
         Some(Ejection::Fault { moment, number }) => {
-            writeln!(page, "ejected at {moment} ms, fault {number}")
+            page.number("ejected at ", moment);
+            page.number(" ms, fault ", u64::from(number));
+            page.push("\n");
         }
     }
 }
 
 /// The moments with which some characters begin, above them.
-fn write_axis(chart: &Chart, page: &mut String) -> Result<(), AllocError> {
-    write!(page, "{:<19}", "ms")?;
+fn write_axis(chart: &Chart, page: &mut Text) {
+    page.left("ms", NAME);
     let start = page.len();
     let apart = chart.scale.apart().max(1);
     for number in 0..CELLS {
         let cell = number.saturating_mul(apart);
         if cell >= chart.scale.used() || cell.saturating_add(NUMBER) > CELLS {
-            return page.push_str("\n");
+            break;
         }
         let wide = page.len().saturating_sub(start);
-        push_blanks(page, cell.saturating_sub(wide))?;
-        write!(page, "{}", chart.scale.moment(cell))?;
+        page.spaces(cell.saturating_sub(wide));
+        page.number("", chart.scale.moment(cell));
     }
-    page.push_str("\n")
+    page.push("\n");
 }
 
-fn write_cpu(chart: &Chart, cpu: usize, page: &mut String) -> Result<(), AllocError> {
-    write!(page, "cpu {cpu:<14}|")?;
+fn write_cpu(chart: &Chart, cpu: usize, page: &mut Text) {
+    page.push("cpu ");
+    page.number_left(cpu as u64, 14);
+    page.push("|");
     for cell in 0..chart.scale.used() {
-        page.push(chart.cpu_mark(cpu, cell))?;
+        page.character(chart.cpu_mark(cpu, cell));
     }
-    page.push_str("\n")
+    page.push("\n");
 }
 
 /// Makes the line of a task or of a group. Blanks at its end are left out, and so is a group without tasks.
-fn write_row(chart: &Chart, row: usize, page: &mut String) -> Result<(), AllocError> {
+fn write_row(chart: &Chart, row: usize, page: &mut Text) {
     if !has_tasks(chart, row) {
-        return Ok(());
+        return;
     }
-    write_name(chart, row, page)?;
+    write_name(chart, row, page);
     let mut blanks = 0usize;
     for cell in 0..chart.scale.used() {
         let mark = chart.task_mark(row, cell);
         if mark == ' ' {
             blanks = blanks.saturating_add(1);
         } else {
-            push_blanks(page, blanks)?;
+            page.spaces(blanks);
             blanks = 0;
-            page.push(mark)?;
+            page.character(mark);
         }
     }
-    page.push_str("\n")
+    page.push("\n");
 }
 
 /// Whether the row is that of a task, or of a group with tasks.
@@ -125,60 +131,69 @@ fn has_tasks(chart: &Chart, row: usize) -> bool {
             .any(|group| *group as usize == row)
 }
 
-fn write_name(chart: &Chart, row: usize, page: &mut String) -> Result<(), AllocError> {
+fn write_name(chart: &Chart, row: usize, page: &mut Text) {
     if chart.rows.by_group {
-        let name = chart.group_name(row);
-        return write!(page, "{name:<18}|");
+        page.left(chart.group_name(row), 18);
+    } else {
+        write_task_name(row, chart.task_name(row), page);
     }
-    let name = chart.task_name(row);
-    match letter(row) {
-        Some(letter) => write!(page, "{letter} {name:<16}|"),
-        None => write!(page, "{name:<18}|"),
+    page.push("|");
+}
+
+/// The name of a task, behind its letter if it has one.
+fn write_task_name(task: usize, name: &str, page: &mut Text) {
+    match letter(task) {
+        Some(letter) => {
+            page.character(letter);
+            page.push(" ");
+            page.left(name, 16);
+        }
+        None => page.left(name, 18),
     }
 }
 
 /// When the policy was ejected, if that lies in the window.
-fn write_ejection(chart: &Chart, page: &mut String) -> Result<(), AllocError> {
-    let Some(ejection) = chart.ejection else {
-        return Ok(());
-    };
-    if !chart.scale.has(ejection.moment()) {
-        return Ok(());
+fn write_ejection(chart: &Chart, page: &mut Text) {
+    match chart.ejection {
+        Some(ejection) if chart.scale.has(ejection.moment()) => {
+            write_mark(chart.scale.cell(ejection.moment()), page);
+        }
+        _ => {}
     }
-    let column = NAME.saturating_add(chart.scale.cell(ejection.moment()));
+}
+
+/// Marks the character in which the policy was ejected.
+fn write_mark(cell: usize, page: &mut Text) {
+    let column = NAME.saturating_add(cell);
     if column.saturating_add(EJECTED) <= NAME.saturating_add(CELLS) {
-        push_blanks(page, column)?;
-        page.push_str("^ ejected\n")
+        page.spaces(column);
+        page.push("^ ejected\n");
     } else {
-        push_blanks(page, column.saturating_sub(EJECTED - 1))?;
-        page.push_str("ejected ^\n")
+        page.spaces(column.saturating_sub(EJECTED - 1));
+        page.push("ejected ^\n");
     }
 }
 
 /// What the characters say, and how long each is.
-fn write_legend(chart: &Chart, page: &mut String) -> Result<(), AllocError> {
-    page.push_str(if chart.rows.by_group {
+fn write_legend(chart: &Chart, page: &mut Text) {
+    page.push(if chart.rows.by_group {
         GROUP_LEGEND
     } else {
         TASK_LEGEND
-    })?;
+    });
     match chart.scale.ms_a_cell() {
-        Some(ms) => write!(page, "       a character is {ms} ms")?,
+        Some(ms) => {
+            page.number("       a character is ", ms);
+            page.push(" ms");
+        }
         None => {
-            let cells = chart.scale.cells_a_ms();
-            write!(page, "       {cells} characters are a millisecond")?;
+            page.number("       ", chart.scale.cells_a_ms());
+            page.push(" characters are a millisecond");
         }
     }
-    page.push_str(if chart.rows.by_group {
+    page.push(if chart.rows.by_group {
         "; tasks are added up by groups\n"
     } else {
         "\n"
-    })
-}
-
-fn push_blanks(page: &mut String, count: usize) -> Result<(), AllocError> {
-    for _ in 0..count {
-        page.push(' ')?;
-    }
-    Ok(())
+    });
 }

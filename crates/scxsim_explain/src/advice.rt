@@ -1,8 +1,8 @@
-use crate::words::FieldName;
+use crate::words::field_name;
 use scx_abs::Kind;
 use scx_isa::{CALLBACKS, Field, Helper, Size};
 use scx_verify_explain::{BadAccess, BadCall, BadField, BadFlow, BadValue, Origin, Reason};
-use std::fmt;
+use scxsim_text::Text;
 
 /// How to keep a pointer in an element that a number moves.
 const COMPARE_OR_MASK: &str = "compare the number first, or mask it";
@@ -15,20 +15,19 @@ pub(crate) struct Advice {
     pub(crate) is_copied: bool,
 }
 
-impl fmt::Display for Advice {
-    fn fmt<W: fmt::Write>(&self, f: &mut fmt::Formatter<W>) -> fmt::Result {
+impl Advice {
+    /// Appends it.
+    pub(crate) fn push(&self, line: &mut Text) {
         match self.reason {
-            Reason::Flow(flow) => f.write_str(advice_on_flow(flow)),
-            Reason::Value(value) => f.write_str(self.on_value(value)),
-            Reason::Access(access) => f.write_str(self.on_access(access)),
-            Reason::Field(field) => write_advice_on_field(f, field),
-            Reason::Call(call) => write_advice_on_call(f, call),
-            Reason::UnknownMap { .. } => f.write_str("count maps from 0, or define the map"),
+            Reason::Flow(flow) => line.push(advice_on_flow(flow)),
+            Reason::Value(value) => line.push(self.on_value(value)),
+            Reason::Access(access) => line.push(self.on_access(access)),
+            Reason::Field(field) => push_advice_on_field(line, field),
+            Reason::Call(call) => push_advice_on_call(line, call),
+            Reason::UnknownMap { .. } => line.push("count maps from 0, or define the map"),
         }
     }
-}
 
-impl Advice {
     fn on_value(self, value: BadValue) -> &'static str {
         match value {
             BadValue::Unusable(_) => advice_on_unusable(self.origin),
@@ -100,49 +99,48 @@ fn advice_on_address(kind: Kind, origin: Option<Origin>) -> &'static str {
     }
 }
 
-fn write_advice_on_field<W: fmt::Write>(f: &mut fmt::Formatter<W>, field: BadField) -> fmt::Result {
+fn push_advice_on_field(line: &mut Text, field: BadField) {
     match field {
-        BadField::Missing { offset, .. } => write_field_at(f, offset),
-        BadField::Signed(_) => f.write_str("load it without one"),
-        BadField::ReadOnly(_) => f.write_str("store to slice and dsq_vtime alone"),
+        BadField::Missing { offset, .. } => push_field_at(line, offset),
+        BadField::Signed(_) => line.push("load it without one"),
+        BadField::ReadOnly(_) => line.push("store to slice and dsq_vtime alone"),
     }
 }
 
-fn write_advice_on_call<W: fmt::Write>(f: &mut fmt::Formatter<W>, call: BadCall) -> fmt::Result {
+fn push_advice_on_call(line: &mut Text, call: BadCall) {
     match call {
-        BadCall::Unknown(_) => f.write_str("take the number from the table of helpers"),
-        BadCall::NotHere { number, .. } => write_callbacks(f, number),
-        BadCall::Argument { .. } => f.write_str("put the arguments in r1, r2 and so on"),
+        BadCall::Unknown(_) => line.push("take the number from the table of helpers"),
+        BadCall::NotHere { number, .. } => push_callbacks(line, number),
+        BadCall::Argument { .. } => line.push("put the arguments in r1, r2 and so on"),
     }
 }
 
-/// Writes where a helper may be called.
-fn write_callbacks<W: fmt::Write>(f: &mut fmt::Formatter<W>, number: i32) -> fmt::Result {
-    f.write_str("call it in ")?;
+/// Appends where a helper may be called.
+fn push_callbacks(line: &mut Text, number: i32) {
+    line.push("call it in ");
     let Some(helper) = Helper::new(number) else {
-        return Ok(());
+        return;
     };
     let mut before = "";
     for callback in CALLBACKS {
         if helper.is_allowed(callback) {
-            let name = callback.name();
-            write!(f, "{before}{name}")?;
+            line.push(before);
+            line.push(callback.name());
             before = ", ";
         }
     }
-    Ok(())
 }
 
-/// Writes which field is at an offset of a task's record.
-fn write_field_at<W: fmt::Write>(f: &mut fmt::Formatter<W>, offset: i16) -> fmt::Result {
+/// Appends which field is at an offset of a task's record.
+fn push_field_at(line: &mut Text, offset: i16) {
     let (field, bytes) = match (
         Field::at(offset, Size::Word),
         Field::at(offset, Size::DoubleWord),
     ) {
-        (Some(field), _) => (field, 4),
-        (None, Some(field)) => (field, 8),
-        (None, None) => return f.write_str("take offset and size from the table of fields"),
+        (Some(field), _) => (field, " is there, of 4 bytes"),
+        (None, Some(field)) => (field, " is there, of 8 bytes"),
+        (None, None) => return line.push("take offset and size from the table of fields"),
     };
-    let field = FieldName(field);
-    write!(f, "{field} is there, of {bytes} bytes")
+    line.push(field_name(field));
+    line.push(bytes);
 }

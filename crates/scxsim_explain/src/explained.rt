@@ -15,6 +15,7 @@ use scx_maps::MapDefs;
 use scx_verify_explain::{Explanation, Jumps, Listing, explanation_of};
 use scx_vm::Context;
 use scxsim_commands::{Refusal, Verdict, Verdicts, judge};
+use scxsim_text::Text;
 use std::alloc::{AllocError, Global};
 
 /// A program, the verdict on it, and why it is refused, if it is.
@@ -33,7 +34,7 @@ pub(crate) struct ExplainedPolicy {
     pub(crate) verdicts: Verdicts,
     pub(crate) programs: Vec<Explained>,
     /// Room for a line of them.
-    pub(crate) line: String,
+    pub(crate) line: Text,
 }
 
 /// Explains the programs of a policy.

@@ -1,38 +1,18 @@
 use crate::advice::Advice;
-use crate::words::{FieldName, Members, Name, Spoken, Wanted, from_top, step_of};
+use crate::words::{Members, field_name, from_top, push_register, push_spoken, step_of, wanted};
 use scx_abs::Kind;
-use scx_isa::{Register, STACK_SIZE};
+use scx_isa::{Parameter, Register, STACK_SIZE};
 use scx_verify_explain::{
     BadAccess, BadCall, BadField, BadFlow, BadValue, Brought, Explanation, Leg, Memory, Origin,
     Place, Reach, Reason,
 };
-use std::alloc::AllocError;
-use std::fmt;
+use scxsim_text::Text;
 
 /// What begins a line of an explanation.
 const MARGIN: &str = "      = ";
 
-/// What is wrong, in a sentence.
-#[derive(Clone, Copy)]
-struct ReasonText(Reason);
-
-/// Where the value at fault comes from, in a sentence.
-#[derive(Clone, Copy)]
-struct OriginText(Origin);
-
-/// What a way brought, in a sentence.
-#[derive(Clone, Copy)]
-struct BroughtText(Brought);
-
-/// The first and the last byte that is read or written, in a list or a sentence.
-#[derive(Clone, Copy)]
-struct Bytes(Reach);
-
 /// Appends why a program is refused, and how control came there.
-pub(crate) fn push_explanation(
-    line: &mut String,
-    explanation: &Explanation,
-) -> Result<(), AllocError> {
+pub(crate) fn push_explanation(line: &mut Text, explanation: &Explanation) {
     let (origin, is_copied) = match &explanation.trail {
         Some(trail) => (trail.origin, trail.is_copied),
         None => (None, false),
@@ -42,176 +22,199 @@ pub(crate) fn push_explanation(
         origin,
         is_copied,
     };
-    push_sentence(line, &advice)?;
+    push_sentence(line, &advice);
     if let Some(trail) = &explanation.trail {
-        push_way(line, &trail.legs)?;
+        push_way(line, &trail.legs);
     }
-    Ok(())
 }
 
-fn push_sentence(line: &mut String, advice: &Advice) -> Result<(), AllocError> {
-    let reason = ReasonText(advice.reason);
-    write!(line, "{MARGIN}{reason}")?;
-    push_origin(line, advice.origin)?;
-    writeln!(line, "; {advice}")
+/// Appends what is wrong, where the value at fault comes from, and what to change.
+fn push_sentence(line: &mut Text, advice: &Advice) {
+    line.push(MARGIN);
+    push_reason(line, advice.reason);
+    push_known_origin(line, advice.origin);
+    line.push("; ");
+    advice.push(line);
+    line.push("\n");
 }
 
 /// Appends where the value at fault comes from, if that is known.
-fn push_origin(line: &mut String, origin: Option<Origin>) -> Result<(), AllocError> {
-    match origin {
-        Some(origin) => {
-            let origin = OriginText(origin);
-            write!(line, ": {origin}")
-        }
-        None => Ok(()),
+fn push_known_origin(line: &mut Text, origin: Option<Origin>) {
+    if let Some(origin) = origin {
+        line.push(": ");
+        push_origin(line, origin);
     }
 }
 
 /// Appends the way by which control came, from the first slot on.
-fn push_way(line: &mut String, legs: &[Leg]) -> Result<(), AllocError> {
-    write!(line, "{MARGIN}control came by ")?;
+fn push_way(line: &mut Text, legs: &[Leg]) {
+    line.push(MARGIN);
+    line.push("control came by ");
     let mut left = None;
     for leg in legs.iter().rev() {
-        push_leg(line, left, *leg)?;
+        push_leg(line, left, *leg);
         left = Some(leg.last);
     }
-    line.push_str("\n")
+    line.push("\n");
 }
 
 /// Appends a part of the way. In front of it control jumped from the slot that it left, if it left one.
-fn push_leg(line: &mut String, left: Option<usize>, leg: Leg) -> Result<(), AllocError> {
+fn push_leg(line: &mut Text, left: Option<usize>, leg: Leg) {
     let Leg { first, last } = leg;
-    match left {
-        Some(left) if first == last => write!(line, ", jump at {left} to {first}"),
-        Some(left) => write!(line, ", jump at {left} to {first}, {first}..{last}"),
-        None if first == last => write!(line, "{first}"),
-        None => write!(line, "{first}..{last}"),
+    if let Some(left) = left {
+        line.number(", jump at ", left as u64);
+        line.number(" to ", first as u64);
+        if first == last {
+            return;
+        }
+        line.push(", ");
+    }
+    line.number("", first as u64);
+    if first != last {
+        line.number("..", last as u64);
     }
 }
 
-impl fmt::Display for ReasonText {
-    fn fmt<W: fmt::Write>(&self, f: &mut fmt::Formatter<W>) -> fmt::Result {
-        match self.0 {
-            Reason::Flow(flow) => write_flow(f, flow),
-            Reason::Value(value) => write_value(f, value),
-            Reason::Access(access) => write_access(f, access),
-            Reason::Field(field) => write_field(f, field),
-            Reason::Call(call) => write_call(f, call),
-            Reason::UnknownMap { map, maps } => {
-                write!(f, "there is no map {map}, as the policy has {maps}")
-            }
+/// Appends what is wrong.
+fn push_reason(line: &mut Text, reason: Reason) {
+    match reason {
+        Reason::Flow(flow) => push_flow(line, flow),
+        Reason::Value(value) => push_value(line, value),
+        Reason::Access(access) => push_access(line, access),
+        Reason::Field(field) => push_field(line, field),
+        Reason::Call(call) => push_call(line, call),
+        Reason::UnknownMap { map, maps } => {
+            line.show("there is no map ", &map);
+            line.number(", as the policy has ", maps as u64);
         }
     }
 }
 
-fn write_flow<W: fmt::Write>(f: &mut fmt::Formatter<W>, flow: BadFlow) -> fmt::Result {
+fn push_flow(line: &mut Text, flow: BadFlow) {
     match flow {
-        BadFlow::Back(to) => write!(f, "the jump goes back to {to}"),
+        BadFlow::Back(to) => line.show("the jump goes back to ", &to),
         BadFlow::OutOfProgram { to, slots } => {
-            write!(
-                f,
-                "the jump goes to {to}, and the program has {slots} slots"
-            )
+            line.show("the jump goes to ", &to);
+            line.number(", and the program has ", slots as u64);
+            line.push(" slots");
         }
-        BadFlow::IntoWide(to) => write!(f, "{to} is the second slot of an instruction"),
-        BadFlow::FallsOff => f.write_str("control would go on behind the last instruction"),
+        BadFlow::IntoWide(to) => {
+            line.show("", &to);
+            line.push(" is the second slot of an instruction");
+        }
+        BadFlow::FallsOff => line.push("control would go on behind the last instruction"),
     }
 }
 
-fn write_value<W: fmt::Write>(f: &mut fmt::Formatter<W>, value: BadValue) -> fmt::Result {
+fn push_value(line: &mut Text, value: BadValue) {
     match value {
-        BadValue::Unusable(register) => write!(f, "{} is unusable here", Name(register)),
-        BadValue::Frame => f.write_str("r10 is never written"),
-        BadValue::MayBeNull(register) => write!(f, "{} may be 0 here", Name(register)),
-        BadValue::Arithmetic(register, kind) => write_held(f, register, kind),
-        BadValue::Comparison(register, kind) => write_held(f, register, kind),
-        BadValue::Stored(register, kind) => write_held(f, register, kind),
+        BadValue::Unusable(register) => {
+            push_register(line, register);
+            line.push(" is unusable here");
+        }
+        BadValue::Frame => line.push("r10 is never written"),
+        BadValue::MayBeNull(register) => {
+            push_register(line, register);
+            line.push(" may be 0 here");
+        }
+        BadValue::Arithmetic(register, kind) => push_held(line, register, kind),
+        BadValue::Comparison(register, kind) => push_held(line, register, kind),
+        BadValue::Stored(register, kind) => push_held(line, register, kind),
         BadValue::Answer { kind, callback } => {
-            let name = callback.name();
-            let kind = Spoken(kind);
-            write!(f, "{name} answers a number in r0, which holds {kind} here")
+            line.push(callback.name());
+            line.push(" answers a number in r0, which holds ");
+            push_spoken(line, kind);
+            line.push(" here");
         }
     }
 }
 
-fn write_held<W: fmt::Write>(
-    f: &mut fmt::Formatter<W>,
-    register: Register,
-    kind: Kind,
-) -> fmt::Result {
-    let name = Name(register);
-    let kind = Spoken(kind);
-    write!(f, "{name} holds {kind} here")
+fn push_held(line: &mut Text, register: Register, kind: Kind) {
+    push_register(line, register);
+    line.push(" holds ");
+    push_spoken(line, kind);
+    line.push(" here");
 }
 
-fn write_access<W: fmt::Write>(f: &mut fmt::Formatter<W>, access: BadAccess) -> fmt::Result {
+fn push_access(line: &mut Text, access: BadAccess) {
     match access {
         BadAccess::Unwritten { reach, byte } => {
-            let bytes = Bytes(reach);
-            let byte = from_top(byte);
-            write!(
-                f,
-                "stack {bytes} is read here, and {byte} needn't hold a number"
-            )
+            push_read(line, reach);
+            line.show(", and ", &from_top(byte));
+            line.push(" needn't hold a number");
         }
         BadAccess::PartOfPointer { reach, kind } => {
-            let bytes = Bytes(reach);
-            let kind = Spoken(kind);
-            write!(f, "stack {bytes} is read here, and is a part of {kind}")
+            push_read(line, reach);
+            line.push(", and is a part of ");
+            push_spoken(line, kind);
         }
         BadAccess::NoPointer(register, kind) => {
-            write_held(f, register, kind)?;
-            f.write_str(", no pointer to memory")
+            push_held(line, register, kind);
+            line.push(", no pointer to memory");
         }
-        BadAccess::Outside(reach) => write_outside(f, reach),
-        BadAccess::MovedOut { register, place } => write_moved_out(f, register, place),
-        BadAccess::Misaligned(reach) => write_misaligned(f, reach),
+        BadAccess::Outside(reach) => push_outside(line, reach),
+        BadAccess::MovedOut { register, place } => push_moved_out(line, register, place),
+        BadAccess::Misaligned(reach) => push_misaligned(line, reach),
     }
 }
 
-fn write_moved_out<W: fmt::Write>(
-    f: &mut fmt::Formatter<W>,
-    register: Register,
-    place: Place,
-) -> fmt::Result {
-    let name = Name(register);
-    let Place { from, to, .. } = place;
+/// Appends which bytes of the stack are read.
+fn push_read(line: &mut Text, reach: Reach) {
+    line.push("stack ");
+    push_bytes(line, reach);
+    line.push(" is read here");
+}
+
+fn push_moved_out(line: &mut Text, register: Register, place: Place) {
+    push_register(line, register);
     match place.memory {
         Memory::Stack => {
-            write!(
-                f,
-                "{name} would be stack {to}, outside of r10 - {STACK_SIZE} up to r10"
-            )
+            line.show(" would be stack ", &place.to);
+            line.number(", outside of r10 - ", u64::from(STACK_SIZE));
+            line.push(" up to r10");
         }
         Memory::Element { map, bytes } => {
-            write!(f, "{name} would point to ")?;
-            if place.is_single() {
-                write!(f, "byte {to}")?;
-            } else {
-                write!(f, "a byte among {from}..{to}")?;
-            }
-            write!(f, " of an element of map {map}, which has {bytes}")
+            line.push(" would point to ");
+            push_byte_among(line, place);
+            line.number(" of an element of map ", u64::from(map));
+            line.show(", which has ", &bytes);
         }
     }
 }
 
-fn write_field<W: fmt::Write>(f: &mut fmt::Formatter<W>, field: BadField) -> fmt::Result {
+/// Appends to which byte a pointer would point, or to one among which.
+fn push_byte_among(line: &mut Text, place: Place) {
+    if place.is_single() {
+        line.show("byte ", &place.to);
+    } else {
+        line.show("a byte among ", &place.from);
+        line.show("..", &place.to);
+    }
+}
+
+fn push_field(line: &mut Text, field: BadField) {
     match field {
         BadField::Missing { offset, size } => {
-            let bytes = size.bytes();
-            write!(f, "a task has no field of {bytes} bytes at {offset}")
+            line.show("a task has no field of ", &size.bytes());
+            line.show(" bytes at ", &offset);
         }
-        BadField::Signed(field) => write!(f, "{} is loaded with a sign", FieldName(field)),
-        BadField::ReadOnly(field) => write!(f, "{} may only be read", FieldName(field)),
+        BadField::Signed(field) => {
+            line.push(field_name(field));
+            line.push(" is loaded with a sign");
+        }
+        BadField::ReadOnly(field) => {
+            line.push(field_name(field));
+            line.push(" may only be read");
+        }
     }
 }
 
-fn write_call<W: fmt::Write>(f: &mut fmt::Formatter<W>, call: BadCall) -> fmt::Result {
+fn push_call(line: &mut Text, call: BadCall) {
     match call {
-        BadCall::Unknown(number) => write!(f, "no helper has the number {number}"),
+        BadCall::Unknown(number) => line.show("no helper has the number ", &number),
         BadCall::NotHere { number, callback } => {
-            let name = callback.name();
-            write!(f, "{name} may not call {number}")
+            line.push(callback.name());
+            line.show(" may not call ", &number);
         }
         BadCall::Argument {
             number,
@@ -219,28 +222,37 @@ fn write_call<W: fmt::Write>(f: &mut fmt::Formatter<W>, call: BadCall) -> fmt::R
             kind,
             parameter,
         } => {
-            let wanted = Wanted(parameter);
-            write!(f, "call {number} takes {wanted} in ")?;
-            let name = Name(register);
-            let kind = Spoken(kind);
-            write!(f, "{name}, which holds {kind} here")
+            line.show("call ", &number);
+            push_argument(line, register, kind, parameter);
         }
     }
 }
 
-impl fmt::Display for Bytes {
-    fn fmt<W: fmt::Write>(&self, f: &mut fmt::Formatter<W>) -> fmt::Result {
-        let Reach { place, count } = self.0;
-        let Place { from, to, .. } = place;
-        let last = last_of(from, count);
-        write!(f, "{from}..{last}")?;
-        if place.is_single() {
-            Ok(())
-        } else {
-            let last = last_of(to, count);
-            write!(f, " up to {to}..{last}")
-        }
+/// Appends what a call takes in a register, and what is there.
+fn push_argument(line: &mut Text, register: Register, kind: Kind, parameter: Parameter) {
+    line.push(" takes ");
+    line.push(wanted(parameter));
+    line.push(" in ");
+    push_register(line, register);
+    line.push(", which holds ");
+    push_spoken(line, kind);
+    line.push(" here");
+}
+
+/// Appends the first and the last byte that is read or written, in a list or a sentence.
+fn push_bytes(line: &mut Text, reach: Reach) {
+    let Reach { place, count } = reach;
+    push_bytes_from(line, place.from, count);
+    if !place.is_single() {
+        line.push(" up to ");
+        push_bytes_from(line, place.to, count);
     }
+}
+
+/// Appends the first and the last of so many bytes.
+fn push_bytes_from(line: &mut Text, first: i128, count: u16) {
+    line.show("", &first);
+    line.show("..", &last_of(first, count));
 }
 
 /// The last of so many bytes from one on.
@@ -248,38 +260,42 @@ fn last_of(first: i128, count: u16) -> i128 {
     first.saturating_add(i128::from(count)).saturating_sub(1)
 }
 
-fn write_outside<W: fmt::Write>(f: &mut fmt::Formatter<W>, reach: Reach) -> fmt::Result {
-    let accessed = Bytes(reach);
+fn push_outside(line: &mut Text, reach: Reach) {
     match reach.place.memory {
         Memory::Stack => {
-            write!(
-                f,
-                "the access is to stack {accessed}, outside of r10 - {STACK_SIZE} up to r10 - 1"
-            )
+            line.push("the access is to stack ");
+            push_bytes(line, reach);
+            line.number(", outside of r10 - ", u64::from(STACK_SIZE));
+            line.push(" up to r10 - 1");
         }
         Memory::Element { map, bytes } => {
-            let end = bytes.saturating_sub(1);
-            write!(
-                f,
-                "the access is to bytes {accessed} of an element of map {map}, outside of 0..{end}"
-            )
+            line.push("the access is to bytes ");
+            push_bytes(line, reach);
+            line.number(" of an element of map ", u64::from(map));
+            line.show(", outside of 0..", &bytes.saturating_sub(1));
         }
     }
 }
 
-fn write_misaligned<W: fmt::Write>(f: &mut fmt::Formatter<W>, reach: Reach) -> fmt::Result {
+fn push_misaligned(line: &mut Text, reach: Reach) {
     let byte = misaligned_in(reach);
-    let count = reach.count;
     match reach.place.memory {
-        Memory::Stack => write!(f, "stack {byte} is no multiple of {count}"),
+        Memory::Stack => line.show("stack ", &byte),
         Memory::Element { map, .. } => {
-            write!(f, "byte {byte} of an element of map {map}")?;
-            if !reach.place.is_single() {
-                let among = Members::of_place(reach.place);
-                write!(f, ", among {among},")?;
-            }
-            write!(f, " is no multiple of {count}")
+            line.show("byte ", &byte);
+            line.number(" of an element of map ", u64::from(map));
+            push_among(line, reach.place);
         }
+    }
+    line.number(" is no multiple of ", u64::from(reach.count));
+}
+
+/// Appends among which bytes it is, if there is more than one.
+fn push_among(line: &mut Text, place: Place) {
+    if !place.is_single() {
+        line.push(", among ");
+        Members::of_place(place).push(line);
+        line.push(",");
     }
 }
 
@@ -294,71 +310,76 @@ fn misaligned_in(reach: Reach) -> i128 {
     }
 }
 
-impl fmt::Display for OriginText {
-    fn fmt<W: fmt::Write>(&self, f: &mut fmt::Formatter<W>) -> fmt::Result {
-        match self.0 {
-            Origin::Nowhere => f.write_str("nothing on the way here writes it"),
-            Origin::Argument => f.write_str("it is an argument"),
-            Origin::Frame => f.write_str("it comes from r10"),
-            Origin::Written(slot) => write!(f, "it was written at {slot}"),
-            Origin::Torn(slot) => {
-                write!(
-                    f,
-                    "the store at {slot} writes over another part of the pointer there"
-                )
-            }
-            Origin::Answered { number, slot } => write!(f, "it comes from call {number} at {slot}"),
-            Origin::Lost { number, slot } => {
-                write!(f, "call {number} at {slot} leaves it unusable")
-            }
-            Origin::Null(slot) => write!(f, "it is 0 on this side of the test at {slot}"),
-            Origin::Met {
-                slot,
-                first,
-                second,
-            } => {
-                let first = BroughtText(first);
-                let second = BroughtText(second);
-                write!(f, "at {slot} ways meet that bring {first} and {second}")
-            }
-            Origin::Sides {
-                slot,
-                jump,
-                jumped,
-                on,
-            } => write_sides(f, slot, jump, Spoken(jumped), Spoken(on)),
+/// Appends where the value at fault comes from.
+fn push_origin(line: &mut Text, origin: Origin) {
+    match origin {
+        Origin::Nowhere => line.push("nothing on the way here writes it"),
+        Origin::Argument => line.push("it is an argument"),
+        Origin::Frame => line.push("it comes from r10"),
+        Origin::Written(slot) => line.number("it was written at ", slot as u64),
+        Origin::Torn(slot) => {
+            line.number("the store at ", slot as u64);
+            line.push(" writes over another part of the pointer there");
         }
+        Origin::Answered { number, slot } => {
+            line.show("it comes from call ", &number);
+            line.number(" at ", slot as u64);
+        }
+        Origin::Lost { number, slot } => {
+            line.show("call ", &number);
+            line.number(" at ", slot as u64);
+            line.push(" leaves it unusable");
+        }
+        Origin::Null(slot) => {
+            line.number("it is 0 on this side of the test at ", slot as u64);
+        }
+        Origin::Met {
+            slot,
+            first,
+            second,
+        } => push_met(line, slot, first, second),
+        Origin::Sides {
+            slot,
+            jump,
+            jumped,
+            on,
+        } => push_sides(line, slot, jump, jumped, on),
     }
 }
 
-/// Writes that both sides of a jump meet, as it goes to the next instruction.
-fn write_sides<W: fmt::Write>(
-    f: &mut fmt::Formatter<W>,
-    slot: usize,
-    jump: usize,
-    jumped: Spoken,
-    on: Spoken,
-) -> fmt::Result {
-    write!(
-        f,
-        "the jump at {jump} goes to the next instruction, so both of its sides meet at {slot}: "
-    )?;
-    write!(f, "{jumped} where it jumps, {on} where it doesn't")
+/// Appends what the ways brought that meet at a slot.
+fn push_met(line: &mut Text, slot: usize, first: Brought, second: Brought) {
+    line.number("at ", slot as u64);
+    line.push(" ways meet that bring ");
+    push_brought(line, first);
+    line.push(" and ");
+    push_brought(line, second);
 }
 
-impl fmt::Display for BroughtText {
-    fn fmt<W: fmt::Write>(&self, f: &mut fmt::Formatter<W>) -> fmt::Result {
-        let Brought { from, kind } = self.0;
-        match kind {
-            Kind::Stack(STACK_SIZE) => write!(f, "the frame pointer from {from}"),
-            Kind::Stack(byte) => {
-                let offset = from_top(byte);
-                write!(f, "a pointer to stack {offset} from {from}")
-            }
-            kind => {
-                let kind = Spoken(kind);
-                write!(f, "{kind} from {from}")
-            }
-        }
+/// Appends that both sides of a jump meet, as it goes to the next instruction.
+fn push_sides(line: &mut Text, slot: usize, jump: usize, jumped: Kind, on: Kind) {
+    line.number("the jump at ", jump as u64);
+    line.number(
+        " goes to the next instruction, so both of its sides meet at ",
+        slot as u64,
+    );
+    line.push(": ");
+    push_spoken(line, jumped);
+    line.push(" where it jumps, ");
+    push_spoken(line, on);
+    line.push(" where it doesn't");
+}
+
+/// Appends what a way brought.
+fn push_brought(line: &mut Text, brought: Brought) {
+    push_brought_kind(line, brought.kind);
+    line.number(" from ", brought.from as u64);
+}
+
+fn push_brought_kind(line: &mut Text, kind: Kind) {
+    match kind {
+        Kind::Stack(STACK_SIZE) => line.push("the frame pointer"),
+        Kind::Stack(byte) => line.show("a pointer to stack ", &from_top(byte)),
+        kind => push_spoken(line, kind),
     }
 }

@@ -8,20 +8,21 @@ use crate::explained::Explained;
 use crate::lines::{push_slot, width_of};
 use scxsim_commands::verdict_line;
 use scxsim_output::{Failed, Out, write_all};
+use scxsim_text::Text;
 use std::alloc::{AllocError, Global};
 
 /// How many bytes a line takes at most, and many more.
 const LINE_CAPACITY: usize = 0x40000;
 
 /// Room for a line, so that none takes memory once another was written.
-pub(crate) fn room_for_line(alloc: Global) -> Result<String, AllocError> {
-    String::with_capacity(alloc, LINE_CAPACITY)
+pub(crate) fn room_for_line(alloc: Global) -> Result<Text, AllocError> {
+    Text::with_room(alloc, LINE_CAPACITY)
 }
 
 /// Writes the programs in their order, with an empty line between two.
 pub(crate) fn write_programs<W: Out>(
     programs: &[Explained],
-    line: &mut String,
+    line: &mut Text,
     out: &mut W,
 ) -> Result<(), Failed>
     ensures ok { OnOk result ((text : List ℕ) × IsListed (map first_line programs.now) text
@@ -38,7 +39,7 @@ pub(crate) fn write_programs<W: Out>(
 }
 
 /// Writes the programs behind the first one, each behind an empty line.
-fn write_rest<W: Out>(programs: &[Explained], line: &mut String, out: &mut W) -> Result<(), Failed>
+fn write_rest<W: Out>(programs: &[Explained], line: &mut Text, out: &mut W) -> Result<(), Failed>
     ensures ok { OnOk result ((text : List ℕ) × IsListedBehind (map first_line programs.now) text
         × Appends (W.contents out.old) (W.contents out.new) text) }
     ensures ok_failures { OnOk result (W.failure_count out.new ≡ W.failure_count out.old) }
@@ -53,11 +54,7 @@ fn write_rest<W: Out>(programs: &[Explained], line: &mut String, out: &mut W) ->
 }
 
 /// Writes the verdict on a program and its listing.
-fn write_program<W: Out>(
-    explained: &Explained,
-    line: &mut String,
-    out: &mut W,
-) -> Result<(), Failed>
+fn write_program<W: Out>(explained: &Explained, line: &mut Text, out: &mut W) -> Result<(), Failed>
     ensures ok { OnOk result ((listing : List ℕ)
         × Appends (W.contents out.old) (W.contents out.new)
         (first_line explained.now ++ listing)) }
@@ -71,11 +68,7 @@ fn write_program<W: Out>(
 }
 
 /// Writes the lines of a program's slots.
-fn write_listing<W: Out>(
-    explained: &Explained,
-    line: &mut String,
-    out: &mut W,
-) -> Result<(), Failed>
+fn write_listing<W: Out>(explained: &Explained, line: &mut Text, out: &mut W) -> Result<(), Failed>
     ensures ok { OnOk result (Grows (W.contents out.old) (W.contents out.new)) }
     ensures ok_failures { OnOk result (W.failure_count out.new ≡ W.failure_count out.old) }
     ensures err_failures { OnErr result
@@ -84,13 +77,13 @@ fn write_listing<W: Out>(
     let width = width_of(&explained.listing);
     for slot in 0..explained.listing.slots() {
         make_line(line, explained, slot, width);
-        write_all(out, line.as_bytes())?;
+        write_all(out, line.as_str().as_bytes())?;
     }
     Ok(())
 }
 
 /// Makes the line of a slot, for which there is room.
-fn make_line(line: &mut String, explained: &Explained, slot: usize, width: usize) {
+fn make_line(line: &mut Text, explained: &Explained, slot: usize, width: usize) {
     line.clear();
-    let _ = push_slot(line, explained, slot, width);
+    push_slot(line, explained, slot, width);
 }

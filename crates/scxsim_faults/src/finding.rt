@@ -37,8 +37,14 @@ fn policy_of(alloc: Global, text: &str) -> Result<Option<Policy>, AllocError> {
 fn built(alloc: Global, text: PolicyText) -> Result<Option<Policy>, AllocError> {
     match build(alloc, text) {
         Ok(policy) => Ok(Some(policy)),
-        Err(BuildError::NoMemory) => Err(AllocError),
-        Err(BuildError::Refused { .. }) => Ok(None),
+        Err(error) => not_built(error),
+    }
+}
+
+fn not_built(error: BuildError) -> Result<Option<Policy>, AllocError> {
+    match error {
+        BuildError::NoMemory => Err(AllocError),
+        BuildError::Refused { .. } => Ok(None),
     }
 }
 

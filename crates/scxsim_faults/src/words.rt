@@ -2,10 +2,8 @@ use crate::place::{FaultPlace, HelperCall};
 use scx_isa::{Callback, Helper};
 use scx_sched::Fault;
 use scx_sched_world::{GLOBAL, LOCAL, LOCAL_ON, POLICY_END};
+use scxsim_text::Text;
 use scxsim_trace::Names;
-use std::alloc::AllocError;
-use std::fmt;
-use std::fmt::Write;
 
 /// What an argument of a helper is.
 #[derive(Clone, Copy)]
@@ -55,22 +53,15 @@ fn name_of(helper: Helper) -> &'static str {
 }
 
 /// A queue as a policy names it.
-#[derive(Clone, Copy)]
-struct QueueId(u64);
-
-impl fmt::Display for QueueId {
-    fn fmt<W: fmt::Write>(&self, f: &mut fmt::Formatter<W>) -> fmt::Result {
-        let queue = self.0;
-        if queue == GLOBAL {
-            f.write_str("global")
-        } else if queue == LOCAL {
-            f.write_str("local")
-        } else if is_local(queue) {
-            let cpu = queue % 0x1_0000_0000;
-            write!(f, "local {cpu}")
-        } else {
-            write!(f, "queue {queue}")
-        }
+fn write_queue(queue: u64, said: &mut Text) {
+    if queue == GLOBAL {
+        said.push("global");
+    } else if queue == LOCAL {
+        said.push("local");
+    } else if is_local(queue) {
+        said.number("local ", queue % 0x1_0000_0000);
+    } else {
+        said.number("queue ", queue);
     }
 }
 
@@ -80,77 +71,57 @@ fn is_local(queue: u64) -> bool {
 }
 
 /// A slice of so many nanoseconds, in milliseconds where it is a whole number of them; the greatest has no end.
-#[derive(Clone, Copy)]
-struct Slice(u64);
-
-impl fmt::Display for Slice {
-    fn fmt<W: fmt::Write>(&self, f: &mut fmt::Formatter<W>) -> fmt::Result {
-        let ns = self.0;
-        if ns == u64::MAX {
-            f.write_str("no end")
-        } else if ns != 0 && ns % 1_000_000 == 0 {
-            let ms = ns / 1_000_000;
-            write!(f, "{ms} ms")
-        } else {
-            write!(f, "{ns} ns")
-        }
+fn write_slice(ns: u64, said: &mut Text) {
+    if ns == u64::MAX {
+        said.push("no end");
+    } else if ns != 0 && ns % 1_000_000 == 0 {
+        said.number("", ns / 1_000_000);
+        said.push(" ms");
+    } else {
+        said.number("", ns);
+        said.push(" ns");
     }
 }
 
 /// `enqueue, slot 3: call 1002 dsq_insert`, or `select_cpu, slot 1: exit`.
-pub fn write_place(place: &FaultPlace, said: &mut String) -> Result<(), AllocError> {
-    let callback = place.callback.name();
-    let slot = place.slot;
-    write!(said, "{callback}, slot {slot}: ")?;
+pub fn write_place(place: &FaultPlace, said: &mut Text) {
+    said.push(place.callback.name());
+    said.number(", slot ", place.slot as u64);
     match place.call {
         Some(call) => {
-            let number = call.number;
-            let name = name_of(call.helper);
-            write!(said, "call {number} {name}")
+            said.show(": call ", &call.number);
+            said.push(" ");
+            said.push(name_of(call.helper));
         }
-        None => said.push_str("exit"),
+        None => said.push(": exit"),
     }
 }
 
 /// The call with its arguments, `dsq_insert(a, queue 9, 2 ms, 0)`, or the answer.
-pub fn write_call<N: Names>(
-    place: &FaultPlace,
-    names: &N,
-    said: &mut String,
-) -> Result<(), AllocError> {
-    let Some(call) = place.call else {
-        let answer = place.answer;
-        return write!(said, "answer {answer}");
-    };
-    write_helper_call(&call, names, said)
+pub fn write_call<N: Names>(place: &FaultPlace, names: &N, said: &mut Text) {
+    match place.call {
+        Some(call) => write_helper_call(&call, names, said),
+        None => said.number("answer ", place.answer),
+    }
 }
 
 /// A helper's call with its arguments: `dsq_insert(a, queue 9, 2 ms, 0)`.
-pub fn write_helper_call<N: Names>(
-    call: &HelperCall,
-    names: &N,
-    said: &mut String,
-) -> Result<(), AllocError> {
-    let name = name_of(call.helper);
-    write!(said, "{name}(")?;
-    write_arguments(call, names, said)?;
-    said.push_str(")")
+pub fn write_helper_call<N: Names>(call: &HelperCall, names: &N, said: &mut Text) {
+    said.push(name_of(call.helper));
+    said.push("(");
+    write_arguments(call, names, said);
+    said.push(")");
 }
 
-fn write_arguments<N: Names>(
-    call: &HelperCall,
-    names: &N,
-    said: &mut String,
-) -> Result<(), AllocError> {
+fn write_arguments<N: Names>(call: &HelperCall, names: &N, said: &mut Text) {
     let mut before = "";
     let mut index = 0usize;
     for meaning in meanings(call.helper) {
-        said.push_str(before)?;
-        write_argument(*meaning, call, index, names, said)?;
+        said.push(before);
+        write_argument(*meaning, call, index, names, said);
         before = ", ";
         index = index.saturating_add(1);
     }
-    Ok(())
 }
 
 fn write_argument<N: Names>(
@@ -158,48 +129,46 @@ fn write_argument<N: Names>(
     call: &HelperCall,
     index: usize,
     names: &N,
-    said: &mut String,
-) -> Result<(), AllocError> {
+    said: &mut Text,
+) {
     let number = call.number_at(index);
     match meaning {
         Meaning::Task => write_task(call.task_at(index), names, said),
-        Meaning::Queue => write!(said, "{}", QueueId(number)),
-        Meaning::Slice => write!(said, "{}", Slice(number)),
-        Meaning::Number => write!(said, "{number}"),
+        Meaning::Queue => write_queue(number, said),
+        Meaning::Slice => write_slice(number, said),
+        Meaning::Number => said.number("", number),
     }
 }
 
-fn write_task<N: Names>(task: Option<u16>, names: &N, said: &mut String) -> Result<(), AllocError> {
+fn write_task<N: Names>(task: Option<u16>, names: &N, said: &mut Text) {
     match task {
-        Some(task) => said.push_str(names.task(task)),
-        None => said.push_str("no task"),
+        Some(task) => said.push(names.task(task)),
+        None => said.push("no task"),
     }
 }
 
 /// What is wrong with it: `no queue 9`.
-pub fn write_reason<N: Names>(
-    place: &FaultPlace,
-    names: &N,
-    said: &mut String,
-) -> Result<(), AllocError> {
-    let Some(call) = place.call else {
-        let answer = place.answer;
-        return write_no_cpu(answer, place.cpus, said);
-    };
-    let queue = queue_of(&call);
+pub fn write_reason<N: Names>(place: &FaultPlace, names: &N, said: &mut Text) {
+    match place.call {
+        Some(call) => write_reason_of(place, &call, names, said),
+        None => write_no_cpu(place.answer, place.cpus, said),
+    }
+}
+
+/// What is wrong with a call.
+fn write_reason_of<N: Names>(place: &FaultPlace, call: &HelperCall, names: &N, said: &mut Text) {
+    let queue = queue_of(call);
     match place.fault {
-        Fault::Stuck => said.push_str("it can't go on"),
+        Fault::Stuck => said.push("it can't go on"),
         Fault::NoSuchQueue => write_no_queue(queue, said),
-        Fault::CannotInsert => write_no_insert(place, &call, names, said),
-        Fault::Mixed => write!(
-            said,
-            "tasks wait in {} {}",
-            QueueId(queue),
-            other_order(&call)
-        ),
-        Fault::BuiltinVtime => write!(said, "by virtual time into {}", QueueId(queue)),
-        Fault::NoSuchCpu => write_no_cpu(cpu_of(&call), place.cpus, said),
-        Fault::UnknownFlag => write!(said, "flags other than 0 and 1"),
+        Fault::CannotInsert => write_no_insert(place, call, names, said),
+        Fault::Mixed => write_mixed(call, queue, said),
+        Fault::BuiltinVtime => {
+            said.push("by virtual time into ");
+            write_queue(queue, said);
+        }
+        Fault::NoSuchCpu => write_no_cpu(cpu_of(call), place.cpus, said),
+        Fault::UnknownFlag => said.push("flags other than 0 and 1"),
         Fault::CannotCreate => write_no_room(place, queue, said),
     }
 }
@@ -228,63 +197,70 @@ fn other_order(call: &HelperCall) -> &'static str {
     }
 }
 
-fn write_no_queue(queue: u64, said: &mut String) -> Result<(), AllocError> {
+fn write_mixed(call: &HelperCall, queue: u64, said: &mut Text) {
+    said.push("tasks wait in ");
+    write_queue(queue, said);
+    said.push(" ");
+    said.push(other_order(call));
+}
+
+fn write_no_queue(queue: u64, said: &mut Text) {
     if queue < POLICY_END {
-        write!(said, "no queue {queue}")
+        said.number("no queue ", queue);
     } else {
-        write!(said, "{} is no queue of the policy", QueueId(queue))
+        write_queue(queue, said);
+        said.push(" is no queue of the policy");
     }
 }
 
-fn write_no_cpu(cpu: u64, cpus: u32, said: &mut String) -> Result<(), AllocError> {
+fn write_no_cpu(cpu: u64, cpus: u32, said: &mut Text) {
+    said.number("no processor ", cpu);
     if cpus == 1 {
-        write!(said, "no processor {cpu}; there is 1")
+        said.push("; there is 1");
     } else {
-        write!(said, "no processor {cpu}; there are {cpus}")
+        said.number("; there are ", u64::from(cpus));
     }
 }
 
-fn write_no_insert<N: Names>(
-    place: &FaultPlace,
-    call: &HelperCall,
-    names: &N,
-    said: &mut String,
-) -> Result<(), AllocError> {
+fn write_no_insert<N: Names>(place: &FaultPlace, call: &HelperCall, names: &N, said: &mut Text) {
     let task = call.task_at(0);
     if place.callback == Callback::Dispatch {
-        write_task(task, names, said)?;
-        return said.push_str(" isn't held");
+        write_task(task, names, said);
+        said.push(" isn't held");
+    } else if task == place.task() {
+        said.push("a second insert in one call");
+    } else {
+        write_task(task, names, said);
+        said.push(" isn't the task at hand");
     }
-    if task == place.task() {
-        return said.push_str("a second insert in one call");
-    }
-    write_task(task, names, said)?;
-    said.push_str(" isn't the task at hand")
 }
 
-fn write_no_room(place: &FaultPlace, queue: u64, said: &mut String) -> Result<(), AllocError> {
+fn write_no_room(place: &FaultPlace, queue: u64, said: &mut Text) {
     if queue >= POLICY_END {
-        return said.push_str("a queue's number is below 2^63");
+        said.push("a queue's number is below 2^63");
+    } else if place.queues.has(queue) {
+        said.number("queue ", queue);
+        said.push(" is there");
+    } else {
+        said.push("16 queues are there");
     }
-    if place.queues.has(queue) {
-        return write!(said, "queue {queue} is there");
-    }
-    said.push_str("16 queues are there")
 }
 
 /// The queues that the policy has, where one is missing: `; the policy's queues are 0, 1`.
-pub fn write_policy_queues(place: &FaultPlace, said: &mut String) -> Result<(), AllocError> {
-    if place.fault != Fault::NoSuchQueue {
-        return Ok(());
+pub fn write_policy_queues(place: &FaultPlace, said: &mut Text) {
+    if place.fault == Fault::NoSuchQueue {
+        write_queues(place.queues.ids(), said);
     }
-    if place.queues.ids().is_empty() {
-        return said.push_str("; the policy has no queues");
+}
+
+fn write_queues(ids: &[u64], said: &mut Text) {
+    if ids.is_empty() {
+        said.push("; the policy has no queues");
+        return;
     }
-    said.push_str("; the policy's queues are")?;
-    let mut before = " ";
-    for queue in place.queues.ids() {
-        write!(said, "{before}{queue}")?;
+    let mut before = "; the policy's queues are ";
+    for queue in ids {
+        said.number(before, *queue);
         before = ", ";
     }
-    Ok(())
 }

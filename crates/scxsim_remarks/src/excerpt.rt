@@ -1,29 +1,27 @@
 use scx_load_places::{Place, line_at};
-use std::alloc::AllocError;
-use std::fmt::Write;
+use scxsim_text::Text;
 
 /// How many characters of a line are shown at most.
 const SHOWN: usize = 100;
 
 /// The line of a place with its number, and a mark below the column. Nothing where there is no such line, or it is
 /// longer up to there than is shown.
-pub(crate) fn write_excerpt(said: &mut String, text: &str, place: Place) -> Result<(), AllocError> {
+pub(crate) fn write_excerpt(said: &mut Text, text: &str, place: Place) {
     match line_at(text, place.line) {
         Some(line) if place.column <= SHOWN => write_line(said, line, place),
-        _ => Ok(()),
+        _ => {}
     }
 }
 
-fn write_line(said: &mut String, line: &str, place: Place) -> Result<(), AllocError> {
-    write!(said, "{:>5} | ", place.line)?;
+fn write_line(said: &mut Text, line: &str, place: Place) {
+    said.number_right(place.line as u64, 5);
+    said.push(" | ");
     for c in line.chars().take(SHOWN) {
-        said.push(shown(c))?;
+        said.character(shown(c));
     }
-    said.push_str("\n      | ")?;
-    for _ in 1..place.column {
-        said.push(' ')?;
-    }
-    said.push_str("^\n")
+    said.push("\n      | ");
+    said.spaces(place.column.saturating_sub(1));
+    said.push("^\n");
 }
 
 /// A character as one column of a terminal; what controls one is shown as a blank.

@@ -1,7 +1,8 @@
 use crate::excerpt::write_excerpt;
-use scx_load_places::Place;
+use scx_isa::Callback;
+use scx_load_places::{Place, place_of_slot};
+use scxsim_text::Text;
 use std::alloc::{AllocError, Global};
-use std::fmt::Write;
 
 /// The text of a file, and the path by which it was named.
 #[derive(Clone, Copy)]
@@ -16,12 +17,37 @@ impl<'a> NamedText<'a> {
         self,
         alloc: Global,
         place: Place,
-        what: &str,
+        what: &Text,
     ) -> Result<String, AllocError> {
-        let mut said = String::new(alloc);
-        let Place { line, column } = place;
-        writeln!(said, "{}:{line}:{column}: error: {what}", self.path)?;
-        write_excerpt(&mut said, self.text, place)?;
-        Ok(said)
+        let mut said = Text::new(alloc);
+        said.push(self.path);
+        said.number(":", place.line as u64);
+        said.number(":", place.column as u64);
+        said.push(": error: ");
+        said.append(what);
+        said.push("\n");
+        write_excerpt(&mut said, self.text, place);
+        said.finish()
+    }
+
+    /// `PATH: error: WHAT`.
+    pub(crate) fn error(self, alloc: Global, what: &Text) -> Result<String, AllocError> {
+        let mut said = Text::new(alloc);
+        said.push(self.path);
+        said.push(": error: ");
+        said.append(what);
+        said.push("\n");
+        said.finish()
+    }
+
+    /// The line of a policy's instruction. One that is given as a slot has none.
+    pub(crate) fn line_of(self, alloc: Global, callback: Callback, slot: usize) -> Option<Place> {
+        let mut path = Text::new(alloc);
+        path.push("code.");
+        path.push(callback.name());
+        if path.is_cut() {
+            return None;
+        }
+        place_of_slot(alloc, self.text, path.as_str(), slot)
     }
 }

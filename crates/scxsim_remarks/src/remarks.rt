@@ -4,11 +4,12 @@ use crate::named_text::NamedText;
 use scx_asm::AsmFault;
 use scx_isa::Callback;
 use scx_load_files::Cause;
-use scx_load_places::{Place, first_toml_fault, place_of_key, place_of_line, place_of_slot};
+use scx_load_places::{Place, first_toml_fault, place_of_key, place_of_line};
 use scx_load_workloads::read_workload;
 use scx_verify::Fault;
 use scxsim_commands::Refusal;
-use std::alloc::Global;
+use scxsim_text::Text;
+use std::alloc::{AllocError, Global};
 
 /// Of a refusal of a run's files, of which the second may be a file of events: where it stands, and what may have been meant. None where it stands nowhere in
 /// a text, or memory ran out.
@@ -48,7 +49,10 @@ fn remark_on_line(
     fault: AsmFault,
     line: usize,
 ) -> Option<String> {
-    let what = format!(in alloc; "asm {} {}", fault.number(), fault.name()).ok()?;
+    let mut what = Text::new(alloc);
+    what.number("asm ", u64::from(fault.number()));
+    what.push(" ");
+    what.push(fault.name());
     file.error_at(alloc, Place { line, column: 1 }, &what).ok()
 }
 
@@ -62,14 +66,18 @@ fn remark_on_policy(
     match read_workload(alloc, policy.text) {
         Ok(workload) => {
             drop(workload);
-            format!(in alloc;
-                "hint: {} is a workload, and a policy is wanted there\n",
-                policy.path
-            )
-            .ok()
+            hint_at_workload(alloc, policy.path).ok()
         }
         Err(_) => remark_on_key(alloc, policy, path, cause),
     }
+}
+
+fn hint_at_workload(alloc: Global, path: &str) -> Result<String, AllocError> {
+    let mut said = Text::new(alloc);
+    said.push("hint: ");
+    said.push(path);
+    said.push(" is a workload, and a policy is wanted there\n");
+    said.finish()
 }
 
 /// Of a key of a file.
@@ -99,23 +107,32 @@ fn remark_at(
     path: &str,
     cause: Cause,
 ) -> Option<String> {
-    let what = format!(in alloc; "{path}: {cause}").ok()?;
-    file.error_at(alloc, place?, &what).ok()
+    let place = place?;
+    let mut what = Text::new(alloc);
+    what.push(path);
+    what.show(": ", &cause);
+    file.error_at(alloc, place, &what).ok()
 }
 
 /// Of a text that is no TOML document.
 fn remark_on_toml(alloc: Global, file: NamedText<'_>) -> Option<String> {
     let fault = first_toml_fault(alloc, file.text)?;
-    file.error_at(alloc, fault.place, fault.message()).ok()
+    let mut what = Text::new(alloc);
+    what.push(fault.message());
+    file.error_at(alloc, fault.place, &what).ok()
 }
 
 /// Of a key that the format doesn't have.
 fn remark_on_unknown(alloc: Global, file: NamedText<'_>, path: &str) -> Option<String> {
     let place = place_of_key(alloc, file.text, path)?;
-    let what = match nearest_key(alloc, path) {
-        Some(known) => format!(in alloc; "{path}: unknown; is {known} meant?").ok()?,
-        None => format!(in alloc; "{path}: unknown").ok()?,
-    };
+    let mut what = Text::new(alloc);
+    what.push(path);
+    what.push(": unknown");
+    if let Some(known) = nearest_key(alloc, path) {
+        what.push("; is ");
+        what.push(known);
+        what.push(" meant?");
+    }
     file.error_at(alloc, place, &what).ok()
 }
 
@@ -127,14 +144,12 @@ pub(crate) fn remark_on_callback(
     fault: Fault,
     slot: usize,
 ) -> Option<String> {
-    let path = format!(in alloc; "code.{}", callback.name()).ok()?;
-    let place = place_of_slot(alloc, policy.text, &path, slot)?;
-    let what = format!(in alloc;
-        "{}: {} {} at {slot}",
-        callback.name(),
-        fault.number(),
-        fault.name()
-    )
-    .ok()?;
+    let place = policy.line_of(alloc, callback, slot)?;
+    let mut what = Text::new(alloc);
+    what.push(callback.name());
+    what.number(": ", u64::from(fault.number()));
+    what.push(" ");
+    what.push(fault.name());
+    what.number(" at ", slot as u64);
     policy.error_at(alloc, place, &what).ok()
 }

@@ -19,9 +19,9 @@ use scx_sched_world::World;
 use scx_verify::Verified;
 use scx_vm::{Arg, Args};
 use scxsim_faults::run_seen;
+use scxsim_text::Text;
 use scxsim_trace::Names;
-use std::alloc::{AllocError, Global};
-use std::fmt::Write;
+use std::alloc::Global;
 
 /// How wide the column of a callback's name is.
 const WIDTH: usize = 12;
@@ -45,13 +45,12 @@ pub(crate) struct Account<'a> {
     phase: Phase,
     /// The event that is under way, where nothing of it is written yet.
     event: Option<Event>,
-    pub(crate) text: String,
-    pub(crate) result: Result<(), AllocError>,
+    pub(crate) text: Text,
 }
 
 impl<'a> Account<'a> {
     /// Nothing has happened yet, and that text stands first.
-    pub(crate) fn new(alloc: Global, names: &'a Workload, ms: u64, text: String) -> Account<'a> {
+    pub(crate) fn new(alloc: Global, names: &'a Workload, ms: u64, text: Text) -> Account<'a> {
         Account {
             alloc,
             names,
@@ -59,95 +58,61 @@ impl<'a> Account<'a> {
             phase: Phase::Before,
             event: None,
             text,
-            result: Ok(()),
         }
     }
 
     /// That event comes next.
     pub(crate) fn expect(&mut self, sim: &Sim, event: Event) {
-        if self.result.is_ok() {
-            self.result = self.push_expected(sim, event);
-        }
-    }
-
-    fn push_expected(&mut self, sim: &Sim, event: Event) -> Result<(), AllocError> {
         let is_now = sim.clock() == self.ms;
         let is_clock = matches!(event, Event::Clock);
-        if is_now && is_clock {
-            return self.push_end(sim);
-        }
         let is_next = is_clock && sim.clock().saturating_add(1) == self.ms;
-        if is_now || is_next {
-            self.push_begin(sim)?;
+        if is_now && is_clock {
+            self.end(sim);
+        } else if is_now || is_next {
+            self.push_begin(sim);
             self.event = Some(event);
         }
-        Ok(())
     }
 
     /// Tells how the machine is as the millisecond begins, if it hasn't begun yet.
-    fn push_begin(&mut self, sim: &Sim) -> Result<(), AllocError> {
+    fn push_begin(&mut self, sim: &Sim) {
         if self.phase != Phase::Before {
-            return Ok(());
+            return;
         }
         self.phase = Phase::Quiet;
-        let ms = self.ms;
-        let all = self.names.ms();
         if !self.text.is_empty() {
-            self.text.push_str("\n")?;
+            self.text.push("\n");
         }
-        writeln!(self.text, "before millisecond {ms} of {all}")?;
-        push_state(self.alloc, self.names, sim, &mut self.text)
-    }
-
-    /// The run is over.
-    pub(crate) fn end(&mut self, sim: &Sim) {
-        if self.result.is_ok() {
-            self.result = self.push_end(sim);
-        }
+        self.text.number("before millisecond ", self.ms);
+        self.text.number(" of ", u64::from(self.names.ms()));
+        self.text.push("\n");
+        push_state(self.alloc, self.names, sim, &mut self.text);
     }
 
     /// Tells how the machine is as the millisecond is over, if that isn't told yet.
-    fn push_end(&mut self, sim: &Sim) -> Result<(), AllocError> {
+    pub(crate) fn end(&mut self, sim: &Sim) {
         if self.phase == Phase::Over {
-            return Ok(());
+            return;
         }
-        self.push_begin(sim)?;
+        self.push_begin(sim);
         if self.phase == Phase::Quiet {
             self.text
-                .push_str("\nno callback is called, and nothing is noted\n")?;
+                .push("\nno callback is called, and nothing is noted\n");
         }
         self.phase = Phase::Over;
-        self.text.push_str("\nafter it\n")?;
-        push_state(self.alloc, self.names, sim, &mut self.text)
-    }
-
-    pub(crate) fn into_text(self) -> Result<String, AllocError> {
-        let Account { text, result, .. } = self;
-        match result {
-            Ok(()) => Ok(text),
-            Err(error) => {
-                drop(text);
-                Err(error)
-            }
-        }
+        self.text.push("\nafter it\n");
+        push_state(self.alloc, self.names, sim, &mut self.text);
     }
 
     /// Something comes of the event: what that is stands first.
     pub(crate) fn begin(&mut self) {
-        if self.result.is_ok() {
-            self.result = self.push_title();
+        if let Some(event) = self.event {
+            self.event = None;
+            self.phase = Phase::Busy;
+            self.text.push("\n");
+            push_event(self.names, event, &mut self.text);
+            self.text.push("\n");
         }
-    }
-
-    fn push_title(&mut self) -> Result<(), AllocError> {
-        let Some(event) = self.event else {
-            return Ok(());
-        };
-        self.event = None;
-        self.phase = Phase::Busy;
-        self.text.push_str("\n")?;
-        push_event(self.names, event, &mut self.text)?;
-        self.text.push_str("\n")
     }
 
     /// Runs a program, and tells each of its instructions.
@@ -177,71 +142,59 @@ impl<'a> Account<'a> {
         ensures shapes { HasShapes program.now.context.defs maps.new }
         ensures few { world.new.queues.pushes ≤ world.old.queues.pushes + program_pushes }
     {
-        if self.result.is_ok() {
-            self.result = self.push_callback(program.callback(), arguments);
-        }
-        let mut lines = Lines::new(
-            self.alloc,
-            self.names,
-            program.program(),
-            &mut self.text,
-            self.result,
-        );
+        self.push_callback(program.callback(), arguments);
+        let mut lines = Lines::new(self.alloc, self.names, program.program(), &mut self.text);
         let ran = run_seen(program, arguments, maps, world, &mut lines);
         lines.end(program.callback(), ran.answer, world);
-        self.result = lines.result;
         ran.answer
     }
 
     /// Tells a callback, with what it is given.
-    fn push_callback(&mut self, callback: Callback, arguments: Args) -> Result<(), AllocError> {
-        self.push_title()?;
-        let mut words = String::new(self.alloc);
-        push_argument("r1", arguments.first, self.names, &mut words)?;
-        push_argument("r2", arguments.second, self.names, &mut words)?;
-        push_argument("r3", arguments.third, self.names, &mut words)?;
-        self.text.push_str("  ")?;
+    fn push_callback(&mut self, callback: Callback, arguments: Args) {
+        self.begin();
+        let mut words = Text::new(self.alloc);
+        push_argument("r1", arguments.first, self.names, &mut words);
+        push_argument("r2", arguments.second, self.names, &mut words);
+        push_argument("r3", arguments.third, self.names, &mut words);
+        self.text.push("  ");
         let begin = self.text.len();
-        self.text.push_str(callback.name())?;
-        end_row(begin, WIDTH, words.as_str(), &mut self.text)
+        self.text.push(callback.name());
+        end_row(begin, WIDTH, &words, &mut self.text);
     }
 }
 
 /// Appends what a register holds as a callback begins, if it was given something.
-fn push_argument(
-    register: &str,
-    argument: Arg,
-    names: &Workload,
-    words: &mut String,
-) -> Result<(), AllocError> {
+fn push_argument(register: &str, argument: Arg, names: &Workload, words: &mut Text) {
     let value = match argument {
-        Arg::Unset => return Ok(()),
+        Arg::Unset => return,
         Arg::Num(n) => Value::Number(n),
         Arg::Task(task) => Value::Pointer(Pointer::Task(task)),
     };
     if !words.is_empty() {
-        words.push_str(", ")?;
+        words.push(", ");
     }
-    write!(words, "{register} = ")?;
-    push_value(value, names, words)
+    words.push(register);
+    words.push(" = ");
+    push_value(value, names, words);
 }
 
 /// Appends what event it is.
-fn push_event(names: &Workload, event: Event, text: &mut String) -> Result<(), AllocError> {
+fn push_event(names: &Workload, event: Event, text: &mut Text) {
     match event {
         Event::Wake(task) => {
-            let name = names.task(task);
-            write!(text, "wake of {name}")
+            text.push("wake of ");
+            text.push(names.task(task));
         }
         Event::Sleep(task) => {
-            let name = names.task(task);
-            write!(text, "sleep of {name}")
+            text.push("sleep of ");
+            text.push(names.task(task));
         }
-        Event::Tick(cpu) => write!(text, "tick of cpu {cpu}"),
-        Event::Clock => text.push_str("the clock goes on"),
+        Event::Tick(cpu) => text.number("tick of cpu ", u64::from(cpu)),
+        Event::Clock => text.push("the clock goes on"),
         Event::SetWeight(group, weight) => {
-            let name = names.group(group);
-            write!(text, "weight of {name}: {weight}")
+            text.push("weight of ");
+            text.push(names.group(group));
+            text.number(": ", u64::from(weight));
         }
     }
 }

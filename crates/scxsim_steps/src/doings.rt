@@ -6,10 +6,9 @@ use scx_sched::What;
 use scx_sched_world::World;
 use scx_vm_tagged::Core;
 use scxsim_faults::{HelperCall, write_helper_call};
+use scxsim_text::Text;
 use scxsim_trace::Names;
 use scxsim_views::{QueueName, fault_words};
-use std::alloc::AllocError;
-use std::fmt::Write;
 
 /// An instruction that is about to be done, and what of the world has to be known before it.
 #[derive(Clone, Copy)]
@@ -47,23 +46,18 @@ fn source_of(insn: Insn, core: &Core) -> Option<Place> {
 
 /// Appends what an instruction is about to do that isn't seen in registers: the call of a helper with its arguments,
 /// what is stored and where, and the answer.
-pub(crate) fn push_begun<N: Names>(
-    before: Before,
-    core: &Core,
-    names: &N,
-    words: &mut String,
-) -> Result<(), AllocError> {
+pub(crate) fn push_begun<N: Names>(before: Before, core: &Core, names: &N, words: &mut Text) {
     match before.insn {
         Insn::Call(number) => push_call(number, core, names, words),
         Insn::Store(size, register, offset, operand) => {
             match Place::of(core, register, offset, size) {
-                Some(place) => place.push(names, words)?,
-                None => words.push_str("nowhere")?,
+                Some(place) => place.push(names, words),
+                None => words.push("nowhere"),
             }
-            words.push_str(" = ")?;
-            push_value(operand_value(operand, core), names, words)
+            words.push(" = ");
+            push_value(operand_value(operand, core), names, words);
         }
-        _ => Ok(()),
+        _ => {}
     }
 }
 
@@ -76,39 +70,34 @@ fn operand_value(operand: Operand, core: &Core) -> Value {
 }
 
 /// Appends a helper's call with its arguments.
-fn push_call<N: Names>(
-    number: i32,
-    core: &Core,
-    names: &N,
-    words: &mut String,
-) -> Result<(), AllocError> {
-    let Some(helper) = Helper::new(number) else {
-        return words.push_str("no helper");
-    };
-    if helper == Helper::MapLookupElem {
-        return push_lookup(core, names, words);
+fn push_call<N: Names>(number: i32, core: &Core, names: &N, words: &mut Text) {
+    match Helper::new(number) {
+        Some(Helper::MapLookupElem) => push_lookup(core, names, words),
+        Some(helper) => {
+            let call = HelperCall {
+                helper,
+                number,
+                arguments: [
+                    core.read(Register::R1),
+                    core.read(Register::R2),
+                    core.read(Register::R3),
+                    core.read(Register::R4),
+                    core.read(Register::R5),
+                ],
+            };
+            write_helper_call(&call, names, words);
+        }
+        None => words.push("no helper"),
     }
-    let call = HelperCall {
-        helper,
-        number,
-        arguments: [
-            core.read(Register::R1),
-            core.read(Register::R2),
-            core.read(Register::R3),
-            core.read(Register::R4),
-            core.read(Register::R5),
-        ],
-    };
-    write_helper_call(&call, names, words)
 }
 
 /// Appends the look-up of an element: in which map, and where the key stands.
-fn push_lookup<N: Names>(core: &Core, names: &N, words: &mut String) -> Result<(), AllocError> {
-    words.push_str("map_lookup_elem(")?;
-    push_value(core.read(Register::R1), names, words)?;
-    words.push_str(", key at ")?;
-    push_value(core.read(Register::R2), names, words)?;
-    words.push_str(")")
+fn push_lookup<N: Names>(core: &Core, names: &N, words: &mut Text) {
+    words.push("map_lookup_elem(");
+    push_value(core.read(Register::R1), names, words);
+    words.push(", key at ");
+    push_value(core.read(Register::R2), names, words);
+    words.push(")");
 }
 
 /// Appends what an instruction did: the register that it wrote, where control goes, and what its helper did.
@@ -117,44 +106,34 @@ pub(crate) fn push_after<N: Names>(
     next: Option<(usize, &Core)>,
     world: &World,
     names: &N,
-    words: &mut String,
-) -> Result<(), AllocError> {
+    words: &mut Text,
+) {
     if let Some((slot, core)) = next {
-        push_written(before, core, names, words)?;
-        push_way(before, slot, words)?;
+        push_written(before, core, names, words);
+        push_way(before, slot, words);
     }
-    push_effects(before, world, names, words)
+    push_effects(before, world, names, words);
 }
 
 /// Goes on behind what is said already, if anything is.
-fn separate(words: &mut String) -> Result<(), AllocError> {
-    if words.is_empty() {
-        Ok(())
-    } else {
-        words.push_str(", ")
+fn separate(words: &mut Text) {
+    if !words.is_empty() {
+        words.push(", ");
     }
 }
 
 /// Appends what is in the register that the instruction wrote, if it writes one.
-fn push_written<N: Names>(
-    before: Before,
-    core: &Core,
-    names: &N,
-    words: &mut String,
-) -> Result<(), AllocError> {
+fn push_written<N: Names>(before: Before, core: &Core, names: &N, words: &mut Text) {
     let Some(register) = destination_of(before.insn) else {
-        return Ok(());
+        return;
     };
-    separate(words)?;
-    let number = register.number();
-    write!(words, "r{number} = ")?;
-    push_value(core.read(register), names, words)?;
-    match before.source {
-        Some(place) => {
-            words.push_str(", from ")?;
-            place.push(names, words)
-        }
-        None => Ok(()),
+    separate(words);
+    words.number("r", u64::from(register.number()));
+    words.push(" = ");
+    push_value(core.read(register), names, words);
+    if let Some(place) = before.source {
+        words.push(", from ");
+        place.push(names, words);
     }
 }
 
@@ -176,63 +155,53 @@ fn destination_of(insn: Insn) -> Option<Register> {
 }
 
 /// Appends where control goes behind a jump.
-fn push_way(before: Before, slot: usize, words: &mut String) -> Result<(), AllocError> {
+fn push_way(before: Before, slot: usize, words: &mut Text) {
     match before.insn {
-        Insn::JumpIf { .. } => {
-            if slot == before.slot.saturating_add(1) {
-                words.push_str("goes on")
-            } else {
-                write!(words, "jumps to {slot}")
-            }
+        Insn::JumpIf { .. } if slot == before.slot.saturating_add(1) => words.push("goes on"),
+        Insn::JumpIf { .. } | Insn::Goto(_) | Insn::GotoLong(_) => {
+            words.number("jumps to ", slot as u64);
         }
-        Insn::Goto(_) | Insn::GotoLong(_) => write!(words, "jumps to {slot}"),
-        _ => Ok(()),
+        _ => {}
     }
 }
 
 /// Appends what a helper did: tasks that it moved, and a fault.
-fn push_effects<N: Names>(
-    before: Before,
-    world: &World,
-    names: &N,
-    words: &mut String,
-) -> Result<(), AllocError> {
+fn push_effects<N: Names>(before: Before, world: &World, names: &N, words: &mut Text) {
     if let Some(notes) = world.notes().get(before.notes..) {
         for note in notes {
-            push_effect(note.what, names, words)?;
+            push_effect(note.what, names, words);
         }
     }
     match world.first_fault() {
         Some(fault) if !before.is_faulty => {
-            separate(words)?;
-            let number = fault.number();
-            let reason = fault_words(fault);
-            write!(words, "fault {number}: {reason}")
+            separate(words);
+            words.number("fault ", u64::from(fault.number()));
+            words.push(": ");
+            words.push(fault_words(fault));
         }
-        _ => Ok(()),
+        _ => {}
     }
 }
 
 /// Appends what becomes of a task.
-fn push_effect<N: Names>(what: What, names: &N, words: &mut String) -> Result<(), AllocError> {
+fn push_effect<N: Names>(what: What, names: &N, words: &mut Text) {
     match what {
         What::Move(task, cpu) => {
-            separate(words)?;
-            let name = names.task(task);
-            write!(words, "{name} goes to local {cpu}")
+            separate(words);
+            words.push(names.task(task));
+            words.number(" goes to local ", u64::from(cpu));
         }
         What::Insert(task, queue) => {
-            separate(words)?;
-            let name = names.task(task);
-            let queue = QueueName(queue);
-            write!(words, "{name} goes into {queue}")
+            separate(words);
+            words.push(names.task(task));
+            words.show(" goes into ", &QueueName(queue));
         }
-        _ => Ok(()),
+        _ => {}
     }
 }
 
 /// Appends the answer of a callback that answers.
-pub(crate) fn push_answer(answer: u64, words: &mut String) -> Result<(), AllocError> {
-    words.push_str("answers ")?;
-    push_number(answer, words)
+pub(crate) fn push_answer(answer: u64, words: &mut Text) {
+    words.push("answers ");
+    push_number(answer, words);
 }

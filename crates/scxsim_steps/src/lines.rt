@@ -6,8 +6,8 @@ use scx_isa::{Callback, Program};
 use scx_load_workloads::Workload;
 use scx_sched_world::World;
 use scx_vm_tagged::{Core, Watch};
-use std::alloc::{AllocError, Global};
-use std::fmt::Write;
+use scxsim_text::Text;
+use std::alloc::Global;
 
 /// Makes a line for each instruction of one run of a program.
 #[derive(Drop)]
@@ -16,11 +16,10 @@ pub(crate) struct Lines<'a, 'b> {
     program: &'b Program,
     /// How wide the column of instructions is.
     width: usize,
-    text: &'b mut String,
+    text: &'b mut Text,
     /// The instruction whose line isn't in the text yet, and what is said of it so far.
     before: Option<Before>,
-    words: String,
-    pub(crate) result: Result<(), AllocError>,
+    words: Text,
 }
 
 impl<'a, 'b> Lines<'a, 'b> {
@@ -28,8 +27,7 @@ impl<'a, 'b> Lines<'a, 'b> {
         alloc: Global,
         names: &'a Workload,
         program: &'b Program,
-        text: &'b mut String,
-        so_far: Result<(), AllocError>,
+        text: &'b mut Text,
     ) -> Lines<'a, 'b> {
         Lines {
             names,
@@ -37,57 +35,43 @@ impl<'a, 'b> Lines<'a, 'b> {
             width: width_of(program),
             text,
             before: None,
-            words: String::new(alloc),
-            result: so_far,
+            words: Text::new(alloc),
         }
     }
 
     /// The run is over, with that answer, and has left the world so.
     pub(crate) fn end(&mut self, callback: Callback, answer: u64, world: &World) {
-        if self.result.is_ok() {
-            self.result = self.push_end(callback, answer, world);
-        }
-    }
-
-    fn push_end(
-        &mut self,
-        callback: Callback,
-        answer: u64,
-        world: &World,
-    ) -> Result<(), AllocError> {
         if callback.answers() {
-            push_answer(answer, &mut self.words)?;
+            push_answer(answer, &mut self.words);
         }
-        self.finish(None, world)
+        self.finish(None, world);
     }
 
     /// The instruction at that slot comes next: the line of the one before is finished.
-    fn go_on(&mut self, slot: usize, core: &Core, world: &World) -> Result<(), AllocError> {
-        self.finish(Some((slot, core)), world)?;
-        let Some(insn) = self.program.at(slot) else {
-            return Ok(());
-        };
-        let before = Before::new(slot, insn, core, world);
-        push_begun(before, core, self.names, &mut self.words)?;
-        self.before = Some(before);
-        Ok(())
+    fn go_on(&mut self, slot: usize, core: &Core, world: &World) {
+        self.finish(Some((slot, core)), world);
+        if let Some(insn) = self.program.at(slot) {
+            let before = Before::new(slot, insn, core, world);
+            push_begun(before, core, self.names, &mut self.words);
+            self.before = Some(before);
+        }
     }
 
     /// Writes the line of the instruction that was done, if one was. What came of it is seen in the world, and
     /// in the registers as the next one finds them.
-    fn finish(&mut self, next: Option<(usize, &Core)>, world: &World) -> Result<(), AllocError> {
+    fn finish(&mut self, next: Option<(usize, &Core)>, world: &World) {
         let Some(before) = self.before else {
-            return Ok(());
+            return;
         };
-        push_after(before, next, world, self.names, &mut self.words)?;
+        push_after(before, next, world, self.names, &mut self.words);
         self.before = None;
-        let slot = before.slot;
-        write!(self.text, "  {slot:>4}  ")?;
+        self.text.push("  ");
+        self.text.number_right(before.slot as u64, 4);
+        self.text.push("  ");
         let begin = self.text.len();
-        self.text.push_str(Canonical(before.insn).line().as_str())?;
-        end_row(begin, self.width, self.words.as_str(), self.text)?;
+        self.text.push(Canonical(before.insn).line().as_str());
+        end_row(begin, self.width, &self.words, self.text);
         self.words.clear();
-        Ok(())
     }
 }
 
@@ -99,27 +83,19 @@ impl Watch<World> for Lines<'_, '_> {
     }
 
     fn see(&mut self, slot: usize, core: &Core, env: &World) {
-        if self.result.is_ok() {
-            self.result = self.go_on(slot, core, env);
-        }
+        self.go_on(slot, core, env);
     }
 }
 
 /// Ends a line of two columns, of which the first begins there and has that width.
-pub(crate) fn end_row(
-    begin: usize,
-    width: usize,
-    second: &str,
-    text: &mut String,
-) -> Result<(), AllocError> {
+pub(crate) fn end_row(begin: usize, width: usize, second: &Text, text: &mut Text) {
     if !second.is_empty() {
-        for _ in text.len().saturating_sub(begin)..width {
-            text.push_str(" ")?;
-        }
-        text.push_str("  ")?;
-        text.push_str(second)?;
+        let first = text.len().saturating_sub(begin);
+        text.spaces(width.saturating_sub(first));
+        text.push("  ");
+        text.append(second);
     }
-    text.push_str("\n")
+    text.push("\n");
 }
 
 /// How wide the longest instruction is.

@@ -1,9 +1,8 @@
 use crate::words::{field_name, push_element, push_stack};
 use scx_isa::{Field, Pointer, Register, Size, TaskId, Value};
 use scx_vm_tagged::Core;
+use scxsim_text::Text;
 use scxsim_trace::Names;
-use std::alloc::AllocError;
-use std::fmt::Write;
 
 /// Where an instruction loads from or stores to.
 #[derive(Clone, Copy)]
@@ -40,12 +39,12 @@ impl Place {
     }
 
     /// Appends its words: `a.slice`, `element 3 of map 0`, `stack -8`.
-    pub(crate) fn push<N: Names>(self, names: &N, text: &mut String) -> Result<(), AllocError> {
+    pub(crate) fn push<N: Names>(self, names: &N, text: &mut Text) {
         match self {
             Place::Field(task, field) => {
-                let name = names.task(task.0);
-                let field = field_name(field);
-                write!(text, "{name}.{field}")
+                text.push(names.task(task.0));
+                text.push(".");
+                text.push(field_name(field));
             }
             Place::Element { map, index, at } => push_element(map, index, at, text),
             Place::Stack(at) => push_stack(at, text),

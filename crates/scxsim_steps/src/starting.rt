@@ -4,6 +4,7 @@ use scx_load_policies::{BuildError, PolicyText, build, read_policy};
 use scx_load_workloads::Workload;
 use scx_sched::{NewError, Policy, Sim};
 use scx_weights::Tree;
+use scxsim_text::Text;
 use std::alloc::{AllocError, Global};
 
 /// What init and enable do, which are called before the first event. Nothing, where that isn't the millisecond 0.
@@ -16,22 +17,27 @@ pub(crate) fn text_of_start(
     policy: &str,
     workload: &Workload,
     ms: u64,
-) -> Result<String, AllocError> {
+) -> Result<Text, AllocError> {
     if ms != 0 {
-        return Ok(String::new(alloc));
+        return Ok(Text::new(alloc));
     }
     match policy_of(alloc, policy)? {
-        Some(policy) => titled(start_of(alloc, policy, workload)?),
-        None => Ok(String::new(alloc)),
+        Some(policy) => {
+            let text = start_of(alloc, policy, workload)?;
+            Ok(titled(alloc, &text))
+        }
+        None => Ok(Text::new(alloc)),
     }
 }
 
 /// The same text behind a title, unless it is empty.
-fn titled(mut text: String) -> Result<String, AllocError> {
+fn titled(alloc: Global, text: &Text) -> Text {
+    let mut page = Text::new(alloc);
     if !text.is_empty() {
-        text.insert_str(0, "as the policy is loaded\n")?;
+        page.push("as the policy is loaded\n");
     }
-    Ok(text)
+    page.append(text);
+    page
 }
 
 fn policy_of(alloc: Global, text: &str) -> Result<Option<Policy>, AllocError> {
@@ -50,7 +56,7 @@ fn built(alloc: Global, text: PolicyText) -> Result<Option<Policy>, AllocError> 
     }
 }
 
-fn start_of(alloc: Global, policy: Policy, workload: &Workload) -> Result<String, AllocError> {
+fn start_of(alloc: Global, policy: Policy, workload: &Workload) -> Result<Text, AllocError> {
     match Tree::new(alloc, workload.groups(), workload.tasks()) {
         Ok(tree) => start_with(alloc, policy, tree, workload),
         Err(_) => {
@@ -66,17 +72,17 @@ fn start_with(
     policy: Policy,
     tree: Tree,
     workload: &Workload,
-) -> Result<String, AllocError> {
-    let mut stepper = Stepper::new(alloc, workload, 0, String::new(alloc));
+) -> Result<Text, AllocError> {
+    let mut stepper = Stepper::new(alloc, workload, 0, Text::new(alloc));
     match Sim::new_seen(alloc, policy, tree, workload.cpus(), &mut stepper) {
         Ok(sim) => {
             drop(sim);
-            stepper.into_text()
+            Ok(stepper.into_text())
         }
         Err(NewError::OutOfMemory) => {
             drop(stepper);
             Err(AllocError)
         }
-        Err(_) => stepper.into_text(),
+        Err(_) => Ok(stepper.into_text()),
     }
 }

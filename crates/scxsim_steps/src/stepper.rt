@@ -12,6 +12,7 @@ use scx_verify::Verified;
 use scx_vm::Args;
 use scx_vm_run::Core;
 use scxsim_output::{Failed, write_all};
+use scxsim_text::Text;
 use scxsim_trace::Trace;
 use std::alloc::{AllocError, Global};
 use std::marker::Model;
@@ -46,7 +47,7 @@ impl<'a> Model for Stepper<'a> {
 
 impl<'a> Stepper<'a> {
     /// Nothing is written yet but what comes first.
-    pub(crate) fn new(alloc: Global, names: &'a Workload, ms: u64, first: String) -> Stepper<'a>
+    pub(crate) fn new(alloc: Global, names: &'a Workload, ms: u64, first: Text) -> Stepper<'a>
         ensures ms { result.ms ≡ ms }
         ensures names { result.names ≡ names_of names.now }
         ensures text { result.text ≡ [] }
@@ -99,21 +100,19 @@ impl<'a> Stepper<'a> {
         ensures text { OnOk result ((rest : List ℕ) × (self.new.text ≡ self.old.text ++ rest)) }
     {
         self.account.end(sim);
-        self.account.result?;
-        if self.lost {
+        if self.lost || self.account.text.is_cut() {
             return Err(AllocError);
         }
-        match write_all(&mut self.page, self.account.text.as_bytes()) {
-            Ok(()) => Ok(()),
-            Err(_) => Err(AllocError),
-        }
+        push_rest(&mut self.page, self.account.text.as_str())?;
+        Ok(())
     }
 
     /// What was written where there were no notes.
-    pub(crate) fn into_text(self) -> Result<String, AllocError> {
+    pub(crate) fn into_text(self) -> Text {
         let Stepper { page, account, .. } = self;
         drop(page);
-        account.into_text()
+        let Account { text, .. } = account;
+        text
     }
 
     /// What stands on the page.
@@ -159,6 +158,16 @@ impl Sink for Stepper<'_> {
             return Unseen.run(core, program, arguments, maps, world);
         }
         self.account.run(program, arguments, maps, world)
+    }
+}
+
+/// Writes what is left.
+fn push_rest(page: &mut Page, rest: &str) -> Result<(), AllocError>
+    ensures { OnOk result (page.new.bytes.items ≡ page.old.bytes.items ++ rest.now) }
+{
+    match write_all(page, rest.as_bytes()) {
+        Ok(()) => Ok(()),
+        Err(_) => Err(AllocError),
     }
 }
 

@@ -1,69 +1,57 @@
 use scx_isa::{Field, Pointer, STACK_SIZE, Value};
 use scx_sched_world::{GLOBAL, LOCAL, LOCAL_ON};
+use scxsim_text::Text;
 use scxsim_trace::Names;
-use std::alloc::AllocError;
-use std::fmt;
-use std::fmt::Write;
 
 /// A millisecond in nanoseconds.
 const MS: u64 = 1_000_000;
 
-/// A time in nanoseconds, in milliseconds where it is a whole number of them; the greatest has no end.
-#[derive(Clone, Copy)]
-pub(crate) struct Time(pub(crate) u64);
-
-impl fmt::Display for Time {
-    fn fmt<W: fmt::Write>(&self, f: &mut fmt::Formatter<W>) -> fmt::Result {
-        let ns = self.0;
-        if ns == u64::MAX {
-            f.write_str("no end")
-        } else if ns % MS == 0 {
-            let ms = ns / MS;
-            write!(f, "{ms} ms")
-        } else {
-            write!(f, "{ns} ns")
-        }
+/// Appends a time in nanoseconds, in milliseconds where it is a whole number of them; the greatest has no end.
+pub(crate) fn push_time(ns: u64, text: &mut Text) {
+    if ns == u64::MAX {
+        text.push("no end");
+    } else if ns % MS == 0 {
+        text.number("", ns / MS);
+        text.push(" ms");
+    } else {
+        text.number("", ns);
+        text.push(" ns");
     }
 }
 
 /// Appends what a register holds, in a policy's terms.
-pub(crate) fn push_value<N: Names>(
-    value: Value,
-    names: &N,
-    text: &mut String,
-) -> Result<(), AllocError> {
+pub(crate) fn push_value<N: Names>(value: Value, names: &N, text: &mut Text) {
     match value {
-        Value::Unset => text.push_str("nothing"),
+        Value::Unset => text.push("nothing"),
         Value::Number(n) => push_number(n, text),
         Value::Pointer(Pointer::Task(task)) => {
-            let name = names.task(task.0);
-            write!(text, "task {name}")
+            text.push("task ");
+            text.push(names.task(task.0));
         }
-        Value::Pointer(Pointer::Map(map)) => write!(text, "map {map}"),
+        Value::Pointer(Pointer::Map(map)) => text.number("map ", u64::from(map)),
         Value::Pointer(Pointer::Stack(at)) => push_stack(at, text),
         Value::Pointer(Pointer::Element { map, index, offset }) => {
-            push_element(map, index, offset, text)
+            push_element(map, index, offset, text);
         }
     }
 }
 
 /// Appends a number, and what it may stand for: a queue of the machine, a number below 0, or a time.
-pub(crate) fn push_number(n: u64, text: &mut String) -> Result<(), AllocError> {
-    write!(text, "{n}")?;
+pub(crate) fn push_number(n: u64, text: &mut Text) {
+    text.number("", n);
     if n == GLOBAL {
-        text.push_str(" (global)")
+        text.push(" (global)");
     } else if n == LOCAL {
-        text.push_str(" (local)")
+        text.push(" (local)");
     } else if is_local(n) {
-        let cpu = n % 0x1_0000_0000;
-        write!(text, " (local {cpu})")
+        text.number(" (local ", n % 0x1_0000_0000);
+        text.push(")");
     } else if 1 << 63 <= n {
-        let negative = n.wrapping_neg();
-        write!(text, " (-{negative})")
+        text.number(" (-", n.wrapping_neg());
+        text.push(")");
     } else if MS <= n && n % MS == 0 {
-        write!(text, " ({})", Time(n))
-    } else {
-        Ok(())
+        text.number(" (", n / MS);
+        text.push(" ms)");
     }
 }
 
@@ -73,27 +61,21 @@ fn is_local(n: u64) -> bool {
 }
 
 /// Appends a place on the stack, by its distance from the top.
-pub(crate) fn push_stack(at: u16, text: &mut String) -> Result<(), AllocError> {
+pub(crate) fn push_stack(at: u16, text: &mut Text) {
     let below = STACK_SIZE.saturating_sub(at);
     if below == 0 {
-        text.push_str("frame")
+        text.push("frame");
     } else {
-        write!(text, "stack -{below}")
+        text.number("stack -", u64::from(below));
     }
 }
 
 /// Appends a place in an element of a map.
-pub(crate) fn push_element(
-    map: u8,
-    index: u32,
-    offset: u16,
-    text: &mut String,
-) -> Result<(), AllocError> {
-    write!(text, "element {index} of map {map}")?;
-    if offset == 0 {
-        Ok(())
-    } else {
-        write!(text, " + {offset}")
+pub(crate) fn push_element(map: u8, index: u32, offset: u16, text: &mut Text) {
+    text.number("element ", u64::from(index));
+    text.number(" of map ", u64::from(map));
+    if offset != 0 {
+        text.number(" + ", u64::from(offset));
     }
 }
 

@@ -7,6 +7,7 @@ use crate::words::{Occurrence, write_words};
 use itoa::Buffer;
 use scx_load_workloads::Workload;
 use scx_sched::{Event, Note, Sim, What};
+use scxsim_text::Text;
 use scxsim_views::View;
 use std::alloc::{AllocError, Global};
 
@@ -22,7 +23,7 @@ pub(crate) struct Storyteller<'w> {
     moment: u64,
     life: Life,
     /// The words of a line.
-    words: String,
+    words: Text,
     /// Whether there was memory for all.
     pub(crate) result: Result<(), AllocError>,
 }
@@ -42,7 +43,7 @@ impl<'w> Storyteller<'w> {
             pending: None,
             moment: 0,
             life: Life::new(),
-            words: String::new(alloc),
+            words: Text::new(alloc),
             result: Ok(()),
         }
     }
@@ -96,7 +97,10 @@ impl<'w> Storyteller<'w> {
             sim,
         };
         self.words.clear();
-        write_words(self.workload, occurrence, &mut self.words)?;
+        write_words(self.workload, occurrence, &mut self.words);
+        if self.words.is_cut() {
+            return Err(AllocError);
+        }
         push_line(&mut self.text, clock, self.words.as_str())?;
         self.life = self.life.after(self.moment, clock, what);
         self.pending = None;

@@ -1,11 +1,11 @@
 use crate::lives::{Life, slice_of};
-use crate::standing::{write_behind, write_standing};
+use crate::standing::{entry_in, write_behind, write_standing};
 use scx_load_workloads::Workload;
 use scx_sched::{Fault, Sim, What};
 use scx_sched_world::{HELD, LOCAL_ON, PARKED};
+use scxsim_text::Text;
 use scxsim_trace::Names;
 use scxsim_views::{QueueName, fault_words};
-use std::alloc::AllocError;
 
 /// A millisecond in nanoseconds.
 const MS: u64 = 1_000_000;
@@ -26,11 +26,7 @@ pub(crate) struct Occurrence<'a> {
 }
 
 /// Writes what happened, and why.
-pub(crate) fn write_words(
-    workload: &Workload,
-    of: Occurrence<'_>,
-    words: &mut String,
-) -> Result<(), AllocError> {
+pub(crate) fn write_words(workload: &Workload, of: Occurrence<'_>, words: &mut Text) {
     match of.what {
         What::Wake(_) => write_wake(workload, of, words),
         What::Sleep(_) => write_sleep(of, words),
@@ -38,91 +34,78 @@ pub(crate) fn write_words(
         What::Move(_, cpu) => write_move(workload, of, cpu, words),
         What::Run(_, cpu) => write_run(of, cpu, words),
         What::Stop(_, cpu) => write_stop(of, cpu, words),
-        What::Weight(group, weight) => {
-            let name = workload.group(group);
-            write!(words, "its group {name} weighs {weight} from now on")
-        }
+        What::Weight(group, weight) => write_weight(workload, group, weight, words),
         What::Stall(task) => write_stall(workload, of.task, task, words),
         What::Fault(fault) => write_fault(fault, words),
-        What::Idle(cpu) => write!(words, "cpu {cpu} is idle"),
+        What::Idle(cpu) => {
+            words.number("cpu ", u64::from(cpu));
+            words.push(" is idle");
+        }
     }
 }
 
-fn write_wake(
-    workload: &Workload,
-    of: Occurrence<'_>,
-    words: &mut String,
-) -> Result<(), AllocError> {
-    words.push_str("wakes")?;
+fn write_wake(workload: &Workload, of: Occurrence<'_>, words: &mut Text) {
+    words.push("wakes");
     if let Some(since) = of.life.sleeps_since {
-        let ms = of.moment.saturating_sub(since);
-        write!(words, " after sleeping {ms} ms")?;
+        words.number(" after sleeping ", of.moment.saturating_sub(since));
+        words.push(" ms");
     }
     if let Some(cpu) = of.life.cpu {
-        write!(words, ", last on cpu {cpu}")?;
+        words.number(", last on cpu ", u64::from(cpu));
     }
-    let idle = of.life.idle_cpus;
-    let cpus = workload.cpus();
-    write!(words, ", {idle} of {cpus} processors idle")
+    words.number(", ", u64::from(of.life.idle_cpus));
+    words.number(" of ", u64::from(workload.cpus()));
+    words.push(" processors idle");
 }
 
-fn write_sleep(of: Occurrence<'_>, words: &mut String) -> Result<(), AllocError> {
-    words.push_str("goes to sleep")?;
+fn write_sleep(of: Occurrence<'_>, words: &mut Text) {
+    words.push("goes to sleep");
     if let Some(queue) = of.life.queue {
-        let queue = QueueName(queue);
-        write!(words, " out of {queue}")?;
+        words.show(" out of ", &QueueName(queue));
     }
-    Ok(())
 }
 
-fn write_insert(
-    workload: &Workload,
-    of: Occurrence<'_>,
-    queue: u64,
-    words: &mut String,
-) -> Result<(), AllocError> {
+fn write_insert(workload: &Workload, of: Occurrence<'_>, queue: u64, words: &mut Text) {
     if queue == PARKED {
-        return write_parked(workload, of, words);
+        write_parked(workload, of, words);
+    } else if queue == HELD {
+        words.push("is held, since enqueue put it nowhere");
+    } else {
+        write_leaving(of.life, words);
+        write_coming(workload, of, queue, words);
     }
-    if queue == HELD {
-        return words.push_str("is held, since enqueue put it nowhere");
-    }
-    write_leaving(of.life, words)?;
-    let stands = match of.sim {
-        Some(sim) => write_standing(workload, sim, of.task, queue, words)?,
-        None => false,
-    };
-    if stands {
-        return Ok(());
-    }
-    let queue = QueueName(queue);
-    write!(words, "comes into {queue}")
 }
 
 /// Writes that the task was parked or held up to now, if it was.
-fn write_leaving(life: Life, words: &mut String) -> Result<(), AllocError> {
+fn write_leaving(life: Life, words: &mut Text) {
     if life.queue == Some(PARKED) {
-        words.push_str("is let go, and ")
+        words.push("is let go, and ");
     } else if life.queue == Some(HELD) {
-        words.push_str("is held no more, and ")
-    } else {
-        Ok(())
+        words.push("is held no more, and ");
     }
 }
 
+/// Writes where the task stands in a queue that it comes into.
+fn write_coming(workload: &Workload, of: Occurrence<'_>, queue: u64, words: &mut Text) {
+    if let Some(sim) = of.sim {
+        if let Some(entry) = entry_in(sim, of.task, queue) {
+            write_standing(workload, sim, entry, words);
+            return;
+        }
+    }
+    words.show("comes into ", &QueueName(queue));
+}
+
 /// Writes that the task is parked, and which group of those that it lies in may not run.
-fn write_parked(
-    workload: &Workload,
-    of: Occurrence<'_>,
-    words: &mut String,
-) -> Result<(), AllocError> {
-    words.push_str("is parked, since ")?;
+fn write_parked(workload: &Workload, of: Occurrence<'_>, words: &mut Text) {
+    words.push("is parked, since ");
     match spent_group(workload, of) {
         Some(group) => {
-            let name = workload.group(group);
-            write!(words, "group {name} has used up its quota")
+            words.push("group ");
+            words.push(workload.group(group));
+            words.push(" has used up its quota");
         }
-        None => words.push_str("a quota is used up"),
+        None => words.push("a quota is used up"),
     }
 }
 
@@ -154,49 +137,44 @@ fn is_spent(workload: &Workload, sim: &Sim, group: u32) -> bool {
     }
 }
 
-fn write_move(
-    workload: &Workload,
-    of: Occurrence<'_>,
-    cpu: u32,
-    words: &mut String,
-) -> Result<(), AllocError> {
-    words.push_str("moves")?;
+fn write_move(workload: &Workload, of: Occurrence<'_>, cpu: u32, words: &mut Text) {
+    words.push("moves");
     if let Some(queue) = of.life.queue {
-        let queue = QueueName(queue);
-        write!(words, " from {queue}")?;
+        words.show(" from ", &QueueName(queue));
     }
-    write!(words, " to local {cpu}")?;
-    match of.sim {
-        Some(sim) => {
-            let local = LOCAL_ON.saturating_add(u64::from(cpu));
-            write_behind(workload, sim, of.task, local, words)
+    words.number(" to local ", u64::from(cpu));
+    if let Some(sim) = of.sim {
+        let local = LOCAL_ON.saturating_add(u64::from(cpu));
+        if let Some(entry) = entry_in(sim, of.task, local) {
+            write_behind(workload, sim, entry, words);
         }
-        None => Ok(()),
     }
 }
 
-fn write_run(of: Occurrence<'_>, cpu: u32, words: &mut String) -> Result<(), AllocError> {
-    let ms = of.clock.saturating_sub(of.life.waits_since);
-    write!(words, "runs on cpu {cpu} after waiting {ms} ms")?;
-    match of.sim {
-        Some(sim) => {
-            let slice = slice_of(sim, of.task);
-            write!(words, ", slice {slice} ns")
-        }
-        None => Ok(()),
+fn write_run(of: Occurrence<'_>, cpu: u32, words: &mut Text) {
+    words.number("runs on cpu ", u64::from(cpu));
+    words.number(
+        " after waiting ",
+        of.clock.saturating_sub(of.life.waits_since),
+    );
+    words.push(" ms");
+    if let Some(sim) = of.sim {
+        words.number(", slice ", slice_of(sim, of.task));
+        words.push(" ns");
     }
 }
 
-fn write_stop(of: Occurrence<'_>, cpu: u32, words: &mut String) -> Result<(), AllocError> {
-    let ms = of.moment.saturating_sub(of.life.runs_since);
-    let reason = if of.life.is_leaving {
+fn write_stop(of: Occurrence<'_>, cpu: u32, words: &mut Text) {
+    words.number("stops on cpu ", u64::from(cpu));
+    words.number(" after ", of.moment.saturating_sub(of.life.runs_since));
+    words.push(" ms: ");
+    words.push(if of.life.is_leaving {
         "it sleeps"
     } else if is_spent_at(of) {
         "a quota is used up"
     } else {
         "its slice is used up"
-    };
-    write!(words, "stops on cpu {cpu} after {ms} ms: {reason}")
+    });
 }
 
 /// Whether the task stops since a group of its may not run, and not since its slice is used up.
@@ -207,23 +185,25 @@ fn is_spent_at(of: Occurrence<'_>) -> bool {
     }
 }
 
-fn write_stall(
-    workload: &Workload,
-    own: u16,
-    task: u16,
-    words: &mut String,
-) -> Result<(), AllocError> {
-    words.push_str("the policy is ejected, since ")?;
-    if task == own {
-        words.push_str("it has waited too long")
-    } else {
-        let name = workload.task(task);
-        write!(words, "{name} has waited too long")
-    }
+fn write_weight(workload: &Workload, group: u32, weight: u32, words: &mut Text) {
+    words.push("its group ");
+    words.push(workload.group(group));
+    words.number(" weighs ", u64::from(weight));
+    words.push(" from now on");
 }
 
-fn write_fault(fault: Fault, words: &mut String) -> Result<(), AllocError> {
-    let number = fault.number();
-    let reason = fault_words(fault);
-    write!(words, "the policy is ejected: fault {number}, {reason}")
+fn write_stall(workload: &Workload, own: u16, task: u16, words: &mut Text) {
+    words.push("the policy is ejected, since ");
+    words.push(if task == own {
+        "it"
+    } else {
+        workload.task(task)
+    });
+    words.push(" has waited too long");
+}
+
+fn write_fault(fault: Fault, words: &mut Text) {
+    words.number("the policy is ejected: fault ", u64::from(fault.number()));
+    words.push(", ");
+    words.push(fault_words(fault));
 }

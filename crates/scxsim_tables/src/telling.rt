@@ -14,6 +14,7 @@ use scxsim_faults::{FaultPlace, find_fault};
 use scxsim_output::{Failed, Out, write_all};
 use scxsim_simulation::Listener;
 use scxsim_statistics::{Figures, figures, replay_figures};
+use scxsim_text::Text;
 use std::alloc::{AllocError, Global};
 
 /// Writes tables of the figures of the run that the texts of a policy file and of a workload file stand for.
@@ -109,7 +110,9 @@ fn replay_values<L: Listener>(
     ensures { IfErr result (IsReplayCause policy.now events.now) }
 {
     let all = replay_figures(alloc, policy, events, listener)?;
-    Ok(value_rows(alloc, &all)?)
+    let rows = value_rows(alloc, &all);
+    drop(all);
+    Ok(rows?)
 }
 
 /// Writes what stands above rows, and then the rows.
@@ -134,14 +137,16 @@ fn tables_of<L: Listener>(
     ensures { IfErr result (IsCause policy.now workload.now) }
 {
     let all = figures(alloc, policy, workload, listener)?;
-    Ok(table_rows(alloc, policy, &all)?)
+    let rows = table_rows(alloc, policy, &all);
+    drop(all);
+    Ok(rows?)
 }
 
 fn table_rows(alloc: Global, policy: &str, figures: &Figures) -> Result<String, AllocError> {
     let place = place_of_fault(alloc, policy, figures)?;
-    let mut rows = String::new(alloc);
-    write_tables(figures, place, &mut rows)?;
-    Ok(rows)
+    let mut rows = Text::new(alloc);
+    write_tables(figures, place, &mut rows);
+    rows.finish()
 }
 
 /// Where the fault came for which the policy was ejected, if it was ejected for one.
@@ -173,11 +178,13 @@ fn values_of<L: Listener>(
     ensures { IfErr result (IsCause policy.now workload.now) }
 {
     let all = figures(alloc, policy, workload, listener)?;
-    Ok(value_rows(alloc, &all)?)
+    let rows = value_rows(alloc, &all);
+    drop(all);
+    Ok(rows?)
 }
 
 fn value_rows(alloc: Global, figures: &Figures) -> Result<String, AllocError> {
-    let mut rows = String::new(alloc);
-    write_list(figures, &mut rows)?;
-    Ok(rows)
+    let mut rows = Text::new(alloc);
+    write_list(figures, &mut rows);
+    rows.finish()
 }

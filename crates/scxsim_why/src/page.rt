@@ -9,52 +9,49 @@ use scxsim_account_text::{
 };
 use scxsim_faults::{FaultPlace, write_call, write_policy_queues, write_reason};
 use scxsim_statistics::Figures;
+use scxsim_text::Text;
 use std::alloc::{AllocError, Global};
 
 /// Makes the page, behind its first word.
-pub(crate) fn write_page(
-    alloc: Global,
-    found: &Findings,
-    page: &mut String,
-) -> Result<(), AllocError> {
+pub(crate) fn write_page(alloc: Global, found: &Findings, page: &mut Text) {
     let account = &found.account;
     let workload = &found.figures.workload;
     let has_dispatch = found.programs.get(Callback::Dispatch).is_some();
-    write_ending(workload, account.ejection, found.fault, page)?;
-    write_worst(alloc, workload, &account.waits, page)?;
-    write_idle(workload, found.idle.lost, &account.stretches, page)?;
-    write_undrained(&account.queues, page)?;
-    write_who_never_ran(alloc, &found.figures, page)?;
-    write_up_to_ejection(alloc, workload, account, page)?;
-    write_waits(alloc, workload, &account.waits, page)?;
+    write_ending(workload, account.ejection, found.fault, page);
+    write_worst(alloc, workload, &account.waits, page);
+    write_idle(workload, found.idle.lost, &account.stretches, page);
+    write_undrained(&account.queues, page);
+    write_who_never_ran(alloc, &found.figures, page);
+    write_up_to_ejection(alloc, workload, account, page);
+    write_waits(alloc, workload, &account.waits, page);
     write_stretches(
         workload,
         found.idle.count,
         &account.stretches,
         has_dispatch,
         page,
-    )?;
-    write_calls(&found.programs, &account.calls, page)?;
-    write_queues(workload, &account.queues, page)
+    );
+    write_calls(&found.programs, &account.calls, page);
+    write_queues(workload, &account.queues, page);
 }
 
 fn write_ending(
     workload: &Workload,
     ejection: Option<Ejection>,
     place: Option<FaultPlace>,
-    page: &mut String,
-) -> Result<(), AllocError> {
+    page: &mut Text,
+) {
     let Some(ejection) = ejection else {
-        let ms = workload.ms();
-        return writeln!(page, "in force to the end, at {ms} ms");
+        page.number("in force to the end, at ", u64::from(workload.ms()));
+        page.push(" ms\n");
+        return;
     };
-    let clock = ejection.clock;
-    write!(page, "ejected at {clock} ms: ")?;
+    page.number("ejected at ", ejection.clock);
+    page.push(" ms: ");
     match ejection.cause {
         Cause::Stall(task) => write_stall(workload, task, page),
         Cause::Fault(fault, event) => {
-            let number = fault.number();
-            write!(page, "fault {number}")?;
+            page.number("fault ", u64::from(fault.number()));
             match place {
                 Some(place) => write_fault(workload, place, event, page),
                 None => write_unplaced(workload, fault, event, page),
@@ -64,57 +61,55 @@ fn write_ending(
 }
 
 /// Writes in which callback a fault came, and with what call.
-fn write_fault(
-    workload: &Workload,
-    place: FaultPlace,
-    event: Event,
-    page: &mut String,
-) -> Result<(), AllocError> {
-    let callback = place.callback.name();
-    let slot = place.slot;
-    write!(page, " in {callback} at slot {slot}, ")?;
-    write_event(workload, event, page)?;
-    page.push_str(": ")?;
-    write_call(&place, workload, page)?;
-    page.push_str(": ")?;
-    write_reason(&place, workload, page)?;
-    write_policy_queues(&place, page)?;
-    page.push_str("\n")
+fn write_fault(workload: &Workload, place: FaultPlace, event: Event, page: &mut Text) {
+    page.push(" in ");
+    page.push(place.callback.name());
+    page.number(" at slot ", place.slot as u64);
+    page.push(", ");
+    write_event(workload, event, page);
+    page.push(": ");
+    write_call(&place, workload, page);
+    page.push(": ");
+    write_reason(&place, workload, page);
+    write_policy_queues(&place, page);
+    page.push("\n");
 }
 
 /// Writes who never ran.
-fn write_who_never_ran(
-    alloc: Global,
-    figures: &Figures,
-    page: &mut String,
-) -> Result<(), AllocError> {
-    let mut never_ran = Vec::new(alloc);
+fn write_who_never_ran(alloc: Global, figures: &Figures, page: &mut Text) {
+    match never_ran(alloc, figures) {
+        Ok(tasks) => write_never(&figures.workload, tasks.as_slice(), page),
+        Err(_) => page.cut(),
+    }
+}
+
+fn never_ran(alloc: Global, figures: &Figures) -> Result<Vec<u16>, AllocError> {
+    let mut tasks = Vec::new(alloc);
     for (number, task) in figures.tasks.iter().enumerate() {
         if task.run == 0 {
-            never_ran.push(u16::try_from(number).unwrap_or(u16::MAX))?;
+            tasks.push(u16::try_from(number).unwrap_or(u16::MAX))?;
         }
     }
-    write_never(&figures.workload, never_ran.as_slice(), page)
+    Ok(tasks)
 }
 
 /// Writes the last lines of the trace up to the ejection, if there is one.
-fn write_up_to_ejection(
-    alloc: Global,
-    workload: &Workload,
-    account: &Account,
-    page: &mut String,
-) -> Result<(), AllocError> {
+fn write_up_to_ejection(alloc: Global, workload: &Workload, account: &Account, page: &mut Text) {
     let Some(ejection) = account.ejection else {
-        return Ok(());
+        return;
     };
     let Some(recent) = &account.recent else {
-        return Ok(());
+        return;
     };
-    let notes = recent.of_ejection(alloc, ejection)?;
-    let of = Ejected {
-        task: ejection.task,
-        cpu: ejection.cpu,
-        notes: notes.as_slice(),
-    };
-    write_last_lines(alloc, workload, of, page)
+    match recent.of_ejection(alloc, ejection) {
+        Ok(notes) => {
+            let of = Ejected {
+                task: ejection.task,
+                cpu: ejection.cpu,
+                notes: notes.as_slice(),
+            };
+            write_last_lines(alloc, workload, of, page);
+        }
+        Err(_) => page.cut(),
+    }
 }

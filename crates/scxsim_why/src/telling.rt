@@ -10,6 +10,7 @@ use crate::page::write_page;
 use scxsim_commands::{Fault, Refusal};
 use scxsim_output::{Failed, Out, write_all};
 use scxsim_simulation::Listener;
+use scxsim_text::Text;
 use std::alloc::{AllocError, Global};
 
 /// The page's first word.
@@ -70,7 +71,7 @@ fn told<L: Listener>(
 }
 
 fn page_of(alloc: Global, found: &Findings) -> Result<String, AllocError> {
-    let mut page = String::new(alloc);
-    write_page(alloc, found, &mut page)?;
-    Ok(page)
+    let mut page = Text::new(alloc);
+    write_page(alloc, found, &mut page);
+    page.finish()
 }
