@@ -21,6 +21,126 @@ pub(crate) enum Kind {
     Cases,
 }
 
+/// A word that a command reads.
+#[derive(Clone, Copy)]
+pub(crate) enum Word {
+    Slots,
+    Text,
+    Policy,
+    Workload,
+    Events,
+    From,
+    To,
+    Task,
+    Moment,
+    Mode,
+    Depth,
+    Few,
+    Cases,
+}
+
+const SLOTS: [Word; 1] = [Word::Slots];
+
+const TEXT: [Word; 1] = [Word::Text];
+
+const POLICY: [Word; 1] = [Word::Policy];
+
+const RUN: [Word; 2] = [Word::Policy, Word::Workload];
+
+const PART: [Word; 4] = [Word::Policy, Word::Workload, Word::From, Word::To];
+
+const TASK: [Word; 3] = [Word::Policy, Word::Workload, Word::Task];
+
+const MOMENT: [Word; 3] = [Word::Policy, Word::Workload, Word::Moment];
+
+const REPLAY: [Word; 2] = [Word::Policy, Word::Events];
+
+const EXPLORE: [Word; 4] = [Word::Policy, Word::Workload, Word::Mode, Word::Depth];
+
+const EXPLORE_FEW: [Word; 5] = [
+    Word::Policy,
+    Word::Workload,
+    Word::Mode,
+    Word::Depth,
+    Word::Few,
+];
+
+const CASES: [Word; 1] = [Word::Cases];
+
+impl Kind {
+    /// The words behind the command, in their order.
+    pub(crate) fn words(self) -> &'static [Word] {
+        match self {
+            Kind::Program(ProgramCommand::Asm) => &TEXT,
+            Kind::Program(_) => &SLOTS,
+            Kind::Policy(_) => &POLICY,
+            Kind::Run(_) => &RUN,
+            Kind::Part(_) => &PART,
+            Kind::Task(_) => &TASK,
+            Kind::Moment(_) => &MOMENT,
+            Kind::Replay(_) => &REPLAY,
+            Kind::Explore => &EXPLORE,
+            Kind::ExploreFew => &EXPLORE_FEW,
+            Kind::Cases => &CASES,
+        }
+    }
+}
+
+impl Word {
+    /// Its name in the help.
+    pub(crate) fn name(self) -> &'static str {
+        match self {
+            Word::Slots | Word::Text | Word::Cases => "FILE",
+            Word::Policy => "POLICY",
+            Word::Workload => "WORKLOAD",
+            Word::Events => "EVENTS",
+            Word::From => "FROM",
+            Word::To => "TO",
+            Word::Task => "TASK",
+            Word::Moment => "MS",
+            Word::Mode => "MODE",
+            Word::Depth => "DEPTH",
+            Word::Few => "K",
+        }
+    }
+
+    /// Whether several may stand in its place.
+    pub(crate) fn may_be_many(self) -> bool {
+        matches!(self, Word::Cases)
+    }
+
+    /// What the help says of it.
+    pub(crate) fn help(self) -> &'static str {
+        match self {
+            Word::Slots => "A file of BPF instructions, in slots of 8 bytes, low byte first",
+            Word::Text => "A file of assembler text, as docs/ASSEMBLY.md has it",
+            Word::Policy => {
+                "A policy file in TOML: programs by callback, and maps, as docs/FILES.md has it"
+            }
+            Word::Workload => {
+                "A workload file in TOML: processors, groups and tasks, as docs/FILES.md has it"
+            }
+            Word::Events => {
+                "A file of events in TOML: processors, groups, tasks and lines, as docs/FILES.md has it"
+            }
+            Word::From => "The millisecond with which the part begins, from 0 on",
+            Word::To => {
+                "The millisecond with which it ends, greater than FROM and at most that of the run's end"
+            }
+            Word::Task => "The name of a task in the workload",
+            Word::Moment => "A millisecond of the run, from 0 to the run's length",
+            Word::Mode => {
+                "Which lists: events for all that are accepted, ms for those in which each processor ticks in each millisecond, workloads for those of workloads [possible values: events, ms, workloads]"
+            }
+            Word::Depth => {
+                "How many events a list has at most, from 1 to 64, or how many milliseconds, up to 65535"
+            }
+            Word::Few => "How many wakes and sleeps a list has at most, up to 64",
+            Word::Cases => "Files of cases, as docs/CASES.md has them",
+        }
+    }
+}
+
 /// How a command is called, and its help.
 #[derive(Clone, Copy)]
 pub(crate) struct Form {
