@@ -1,5 +1,5 @@
 //! Tests of what no file of cases can show: outputs that fail or take little, files as large as there may be, and
-//! calls of the libraries below: the lines of refusals and of notes, how tasks wait, figures, and how far a run is.
+//! calls of the libraries below: the lines of refusals and of notes, how tasks wait, and how far a run is.
 #![tactic(auto)]
 
 #[cfg(test)]
@@ -8,8 +8,6 @@ mod beginnings;
 mod commands;
 #[cfg(test)]
 mod failures;
-#[cfg(test)]
-mod figures;
 #[cfg(test)]
 mod finishing;
 #[cfg(test)]

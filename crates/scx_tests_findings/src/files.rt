@@ -1,6 +1,7 @@
 //! Lists of events, and the workload files that begin with them.
 
-use crate::machines::{TWO_TASKS, machine, workload};
+use crate::machines::{NO_PROGRAMS, TWO_TASKS, machine, workload};
+use crate::same::expect_same;
 use scx_explore_workloads::{begins_with, workload_file};
 use scx_sched::Event;
 use std::process::Abort;
@@ -13,32 +14,38 @@ const TICK: Event = Event::Tick(0);
 
 const MS: Event = Event::Clock;
 
-/// Whoever comes runs, first come, first served.
-const NO_PROGRAMS: &str = "";
-
 /// The file that is made of the list, for tasks of that workload; an empty text where none is.
-fn expect_file<R: AllocGlobal + Abort>(rt: &R, about: &str, events: &[Event], wanted: &str) {
+fn file_of<R: AllocGlobal + Abort>(rt: &R, about: &str, events: &[Event]) -> String {
     let workload = workload(rt, about);
     let mut first = machine(rt, NO_PROGRAMS, &workload);
     let mut second = machine(rt, NO_PROGRAMS, &workload);
     let file = workload_file(rt.alloc(), &workload, &mut first, &mut second, events);
-    match file.expect(rt, "memory") {
-        Some(text) => assert_eq!(rt; text.as_str(), wanted, "{events:?}"),
-        None => assert_eq!(rt; "", wanted, "{events:?}"),
-    }
     drop(first);
     drop(second);
     drop(workload);
+    match file.expect(rt, "memory") {
+        Some(text) => text,
+        None => String::new(rt.alloc()),
+    }
+}
+
+fn expect_file<R: AllocGlobal + Abort>(rt: &R, about: &str, events: &[Event], wanted: &str) {
+    let file = file_of(rt, about, events);
+    expect_same(rt, file.as_str(), wanted, events);
 }
 
 /// Whether the file's events begin with the list.
-fn expect_beginning<R: AllocGlobal + Abort>(rt: &R, text: &str, events: &[Event], wanted: bool) {
+fn begins<R: AllocGlobal + Abort>(rt: &R, text: &str, events: &[Event]) -> bool {
     let workload = workload(rt, TWO_TASKS);
     let mut sim = machine(rt, NO_PROGRAMS, &workload);
     let answer = begins_with(rt.alloc(), text, &workload, &mut sim, events);
-    assert_eq!(rt; answer.expect(rt, "memory"), wanted, "{text} {events:?}");
     drop(sim);
     drop(workload);
+    answer.expect(rt, "memory")
+}
+
+fn expect_beginning<R: AllocGlobal + Abort>(rt: &R, text: &str, events: &[Event], wanted: bool) {
+    expect_same(rt, begins(rt, text, events), wanted, (text, events));
 }
 
 /// It runs for 2 ms, sleeps for 3 and wakes once more.

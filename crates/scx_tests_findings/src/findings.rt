@@ -1,6 +1,7 @@
 //! Lists of events, and what they end in.
 
 use crate::machines::{KEEPS, MISSES, PREFERS, TWO_GROUPS, TWO_TASKS, machine, workload};
+use crate::same::expect_same;
 use scx_explore_findings::{Finding, Pair, SORTS, Sort, shows};
 use scx_isa::Callback;
 use scx_sched::{Event, Fault};
@@ -39,8 +40,20 @@ fn expect_first<R: AllocGlobal + Abort>(
 ) {
     for place in 0..findings.len() {
         let found = ends_so(rt, files, events, findings[place]);
-        assert_eq!(rt; found, place == 0, "{events:?}, {place}");
+        expect_same(rt, found, place == 0, (events, place));
     }
+}
+
+/// The list doesn't end in the finding.
+fn expect_not<R: AllocGlobal + Abort>(
+    rt: &R,
+    files: (&str, &str),
+    events: &[Event],
+    finding: Finding,
+    case: &str,
+) {
+    let found = ends_so(rt, files, events, finding);
+    expect_same(rt, found, false, case);
 }
 
 const KEPT: (&str, &str) = (KEEPS, TWO_TASKS);
@@ -73,11 +86,8 @@ fn a_fault_ejects(rt: HostRuntime) {
     ];
     expect_first(&rt, (MISSES, TWO_TASKS), &[A], &others);
     expect_first(&rt, (MISSES, TWO_TASKS), &[MS, A], &others);
-    assert!(rt;
-        !ends_so(&rt, (MISSES, TWO_TASKS), &[A, MS], fault),
-        "it ends before"
-    );
-    assert!(rt; !ends_so(&rt, KEPT, &[A], fault), "there is a queue 0");
+    expect_not(&rt, (MISSES, TWO_TASKS), &[A, MS], fault, "it ends before");
+    expect_not(&rt, KEPT, &[A], fault, "there is a queue 0");
 }
 
 #[test]
@@ -92,14 +102,8 @@ fn a_task_waits_for_too_long(rt: HostRuntime) {
     ];
     expect_first(&rt, KEPT, &[A, MS, MS, MS], &others);
     expect_first(&rt, KEPT, &[A, MS, B, MS, MS], &others);
-    assert!(rt;
-        !ends_so(&rt, KEPT, &[A, MS, MS], stall),
-        "2 ms are not too long"
-    );
-    assert!(rt;
-        !ends_so(&rt, KEPT, &[A, MS, MS, MS, MS], stall),
-        "it ends before"
-    );
+    expect_not(&rt, KEPT, &[A, MS, MS], stall, "2 ms are not too long");
+    expect_not(&rt, KEPT, &[A, MS, MS, MS, MS], stall, "it ends before");
 }
 
 #[test]
@@ -114,14 +118,14 @@ fn a_task_has_waited(rt: HostRuntime) {
     expect_first(&rt, KEPT, &[A, MS, MS], &others);
     expect_first(&rt, KEPT, &[A, MS, B, MS], &[waits(1, 1), waits(1, 2)]);
     expect_first(&rt, KEPT, &[A], &[waits(0, 0), waits(1, 0)]);
-    assert!(rt;
-        !ends_so(&rt, PREFERRED, &[B, MS], waits(1, 0)),
-        "a task that runs doesn't wait"
+    expect_not(
+        &rt,
+        PREFERRED,
+        &[B, MS],
+        waits(1, 0),
+        "a task that runs doesn't wait",
     );
-    assert!(rt;
-        !ends_so(&rt, KEPT, &[A, A], waits(0, 0)),
-        "the list is refused"
-    );
+    expect_not(&rt, KEPT, &[A, A], waits(0, 0), "the list is refused");
 }
 
 #[test]
@@ -132,15 +136,9 @@ fn a_processor_is_left_idle(rt: HostRuntime) {
         Finding::Idle { cpu: 1, task: 0 },
     ];
     expect_first(&rt, KEPT, &[A, TICK], &others);
-    assert!(rt;
-        !ends_so(&rt, KEPT, &[A, TICK, MS], IDLE),
-        "the last event is no tick"
-    );
-    assert!(rt; !ends_so(&rt, KEPT, &[TICK], IDLE), "nobody waits");
-    assert!(rt;
-        !ends_so(&rt, PREFERRED, &[A, B, TICK], IDLE),
-        "the second task runs"
-    );
+    expect_not(&rt, KEPT, &[A, TICK, MS], IDLE, "the last event is no tick");
+    expect_not(&rt, KEPT, &[TICK], IDLE, "nobody waits");
+    expect_not(&rt, PREFERRED, &[A, B, TICK], IDLE, "the second task runs");
 }
 
 #[test]
@@ -152,17 +150,20 @@ fn a_task_is_overtaken_twice(rt: HostRuntime) {
         IDLE,
     ];
     expect_first(&rt, PREFERRED, &twice, &others);
-    assert!(rt;
-        !ends_so(&rt, PREFERRED, &[A, B, Event::Sleep(1)], OVERTAKEN),
-        "once"
+    expect_not(&rt, PREFERRED, &[A, B, Event::Sleep(1)], OVERTAKEN, "once");
+    expect_not(
+        &rt,
+        PREFERRED,
+        &[B, Event::Sleep(1), A, B],
+        OVERTAKEN,
+        "once since it waits",
     );
-    assert!(rt;
-        !ends_so(&rt, PREFERRED, &[B, Event::Sleep(1), A, B], OVERTAKEN),
-        "once since it waits"
-    );
-    assert!(rt;
-        !ends_so(&rt, (PREFERS, TWO_GROUPS), &twice, OVERTAKEN),
-        "another group"
+    expect_not(
+        &rt,
+        (PREFERS, TWO_GROUPS),
+        &twice,
+        OVERTAKEN,
+        "another group",
     );
 }
 
@@ -188,27 +189,24 @@ fn a_callback_takes_instructions(rt: HostRuntime) {
         &[takes(Callback::Enqueue, 8), takes(Callback::Enqueue, 7)],
     );
     let enqueue = takes(Callback::Enqueue, 5);
-    assert!(rt;
-        !ends_so(&rt, KEPT, &[A, MS], enqueue),
-        "the last event calls nothing"
+    expect_not(&rt, KEPT, &[A, MS], enqueue, "the last event calls nothing");
+    expect_not(
+        &rt,
+        KEPT,
+        &[A, MS, MS, MS, B],
+        enqueue,
+        "the policy is out of force",
     );
-    assert!(rt;
-        !ends_so(&rt, KEPT, &[A, MS, MS, MS, B], enqueue),
-        "the policy is out of force"
-    );
-    assert!(rt;
-        ends_so(&rt, (MISSES, TWO_TASKS), &[A], enqueue),
-        "it ejects the policy"
-    );
-    assert!(rt; !ends_so(&rt, KEPT, &[], enqueue), "there is no event");
+    expect_first(&rt, (MISSES, TWO_TASKS), &[A], &[enqueue]);
+    expect_not(&rt, KEPT, &[], enqueue, "there is no event");
 }
 
 #[test]
 fn sorts_stand_by_their_numbers(rt: HostRuntime) {
     for place in 0..SORTS.len() {
-        assert_eq!(rt; usize::from(SORTS[place].number()), place, "place");
+        expect_same(&rt, usize::from(SORTS[place].number()), place, "place");
     }
-    assert_eq!(rt; SORTS.len(), 11, "eight faults and three more");
+    expect_same(&rt, SORTS.len(), 11, "eight faults and three more");
 }
 
 /// The number of a finding's sort.
@@ -221,22 +219,25 @@ fn number_of(finding: Finding) -> Option<u8> {
 
 #[test]
 fn findings_are_of_sorts(rt: HostRuntime) {
-    assert_eq!(rt;
+    expect_same(
+        &rt,
         number_of(Finding::Fault(Fault::NoSuchQueue)),
         Some(1),
-        "a fault"
+        "a fault",
     );
-    assert_eq!(rt; number_of(Finding::Stall(7)), Some(8), "a stall");
-    assert_eq!(rt; number_of(IDLE), Some(9), "an idle processor");
-    assert_eq!(rt;
+    expect_same(&rt, number_of(Finding::Stall(7)), Some(8), "a stall");
+    expect_same(&rt, number_of(IDLE), Some(9), "an idle processor");
+    expect_same(
+        &rt,
         number_of(OVERTAKEN),
         Some(Sort::Overtaken.number()),
-        "a task that is overtaken"
+        "a task that is overtaken",
     );
-    assert_eq!(rt; number_of(waits(0, 1)), None, "a wait");
-    assert_eq!(rt;
+    expect_same(&rt, number_of(waits(0, 1)), None, "a wait");
+    expect_same(
+        &rt,
         number_of(takes(Callback::Enqueue, 5)),
         None,
-        "instructions"
+        "instructions",
     );
 }

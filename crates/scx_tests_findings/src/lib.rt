@@ -1,4 +1,5 @@
-//! Tests of what is found in lists of events, and of the workload files that begin with a list.
+//! Tests of what is found in lists of events, of the workload files that begin with a list, and of generated
+//! workloads whose groups have quotas.
 #![tactic(auto)]
 
 #[cfg(test)]
@@ -9,3 +10,7 @@ mod findings;
 mod machines;
 #[cfg(test)]
 mod meets;
+#[cfg(test)]
+mod quotas;
+#[cfg(test)]
+mod same;

@@ -39,6 +39,9 @@ group = [{ name = 'g' }, { name = 'h' }]
 task = [{ name = 'a', group = 'g' }, { name = 'b', group = 'h' }]
 ";
 
+/// Whoever comes runs, first come, first served.
+pub(crate) const NO_PROGRAMS: &str = "";
+
 /// Whoever waits does so in queue 0 and stays there, for 2 ms at most. Each run of `enqueue` takes 5 instructions.
 pub(crate) const KEEPS: &str = "timeout_ms = 2
 [code]

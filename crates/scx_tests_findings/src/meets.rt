@@ -1,18 +1,25 @@
 //! What a machine shows behind an event.
 
 use crate::machines::{KEEPS, MISSES, TWO_TASKS, machine, workload};
+use crate::same::expect_same;
 use scx_explore_findings::{Finding, fault_of, idle_in, stall_of};
 use scx_sched::{Event, Sim, Unseen};
 use std::process::Abort;
 
-/// The machine behind these events, each of which it accepts.
+/// The machine accepts each of these events.
+fn go(rt: &impl Abort, sim: &mut Sim, events: &[Event]) {
+    for &event in events {
+        let answer = sim.step(event, &mut Unseen);
+        expect_same(rt, answer, Ok(()), event);
+    }
+}
+
+/// The machine behind these events.
 fn behind<R: AllocGlobal + Abort>(rt: &R, policy: &str, events: &[Event]) -> Sim {
     let workload = workload(rt, TWO_TASKS);
     let mut sim = machine(rt, policy, &workload);
-    for event in events {
-        assert!(rt; sim.step(*event, &mut Unseen).is_ok(), "{event:?}");
-    }
     drop(workload);
+    go(rt, &mut sim, events);
     sim
 }
 
@@ -35,12 +42,18 @@ fn causes<R: AllocGlobal + Abort>(
 #[test]
 fn causes_of_ejections(rt: HostRuntime) {
     let clocks = [Event::Wake(1), Event::Clock, Event::Clock, Event::Clock];
-    assert_eq!(rt; causes(&rt, KEEPS, &clocks), (None, Some(1)), "a stall");
-    assert_eq!(rt; causes(&rt, KEEPS, &clocks[..3]), (None, None), "in force");
-    assert_eq!(rt;
+    expect_same(&rt, causes(&rt, KEEPS, &clocks), (None, Some(1)), "a stall");
+    expect_same(
+        &rt,
+        causes(&rt, KEEPS, &clocks[..3]),
+        (None, None),
+        "in force",
+    );
+    expect_same(
+        &rt,
         causes(&rt, MISSES, &[Event::Wake(0)]),
         (Some(1), None),
-        "a fault"
+        "a fault",
     );
 }
 
@@ -62,20 +75,23 @@ fn idle_behind<R: AllocGlobal + Abort>(
 #[test]
 fn idle_processors(rt: HostRuntime) {
     let tick = Event::Tick(0);
-    assert_eq!(rt;
+    expect_same(
+        &rt,
         idle_behind(&rt, &[Event::Wake(1)], tick),
         Some((0, 1)),
-        "one waits"
+        "one waits",
     );
-    assert_eq!(rt;
+    expect_same(
+        &rt,
         idle_behind(&rt, &[Event::Wake(1), Event::Wake(0)], tick),
         Some((0, 0)),
-        "two wait"
+        "two wait",
     );
-    assert_eq!(rt; idle_behind(&rt, &[], tick), None, "nobody waits");
-    assert_eq!(rt;
+    expect_same(&rt, idle_behind(&rt, &[], tick), None, "nobody waits");
+    expect_same(
+        &rt,
         idle_behind(&rt, &[Event::Wake(1)], Event::Clock),
         None,
-        "no tick"
+        "no tick",
     );
 }

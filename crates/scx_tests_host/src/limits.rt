@@ -58,7 +58,7 @@ impl Counted {
 }
 
 /// What happens to a tree.
-#[derive(Clone, Copy, Debug, PartialEq, Eq)]
+#[derive(Clone, Copy)]
 enum Use {
     /// That task ran for a millisecond.
     Ran(u32),
@@ -75,17 +75,17 @@ fn happen(rt: &impl Abort, tree: &mut Counted, what: Use) {
     }
 }
 
-fn check_usages(rt: &impl Abort, tree: &Counted, usages: &[u64], case: (usize, Use)) {
+fn check_usages(rt: &impl Abort, tree: &Counted, usages: &[u64], row: usize) {
     assert!(rt; tree.tree.groups() as usize == usages.len());
     for (group, usage) in usages.iter().enumerate() {
-        expect_same(rt, tree.usage(rt, group as u32), *usage, case);
+        expect_same(rt, tree.usage(rt, group as u32), *usage, row);
     }
 }
 
-fn check_throttled(rt: &impl Abort, tree: &Counted, throttled: &[bool], case: (usize, Use)) {
+fn check_throttled(rt: &impl Abort, tree: &Counted, throttled: &[bool], row: usize) {
     assert!(rt; tree.tree.tasks() as usize == throttled.len());
     for (task, is_throttled) in throttled.iter().enumerate() {
-        expect_same(rt, tree.throttled(rt, task as u32), *is_throttled, case);
+        expect_same(rt, tree.throttled(rt, task as u32), *is_throttled, row);
     }
 }
 
@@ -97,9 +97,10 @@ fn expect_after(
     usages: &[u64],
     throttled: &[bool],
 ) {
-    happen(rt, tree, case.1);
-    check_usages(rt, tree, usages, case);
-    check_throttled(rt, tree, throttled, case);
+    let (row, what) = case;
+    happen(rt, tree, what);
+    check_usages(rt, tree, usages, row);
+    check_throttled(rt, tree, throttled, row);
 }
 
 macro_rules! limited {
@@ -178,10 +179,11 @@ fn a_group_uses_what_those_above_it_may(rt: HostRuntime) {
     drop(tree);
 }
 
-fn expect_limited<R: AllocGlobal + Abort>(rt: &R, groups: &[Group], home: u32, wanted: bool) {
+fn is_limited<R: AllocGlobal + Abort>(rt: &R, groups: &[Group], home: u32) -> bool {
     let tree = Tree::new(rt.alloc(), groups, &[home]).expect(rt, "the task is in a group");
-    expect_same(rt, tree.is_limited(), wanted, home);
+    let is_limited = tree.is_limited();
     drop(tree);
+    is_limited
 }
 
 /// A group below one, neither of which has a quota.
@@ -189,8 +191,8 @@ const FREE: [Group; 2] = [limited!(None, None, 100), limited!(Some(0), None, 5)]
 
 #[test]
 fn a_quota_of_any_group_limits(rt: HostRuntime) {
-    expect_limited(&rt, &FREE, 1, false);
-    expect_limited(&rt, &NESTED, 1, true);
+    expect_same(&rt, is_limited(&rt, &FREE, 1), false, "no quota");
+    expect_same(&rt, is_limited(&rt, &NESTED, 1), true, "quotas");
 }
 
 /// The shortest period and the longest one, with the least quota and the greatest one.

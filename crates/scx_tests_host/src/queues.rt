@@ -22,28 +22,36 @@ enum Command {
 
 use Command::{Create, Front, Len, Pop, PushFifo, PushVtime, Pushes, QueueOf, Remove};
 
-/// What it answered.
-#[derive(Clone, Copy, Debug, PartialEq, Eq)]
-enum Reply {
-    /// Of `Create`, `PushFifo` and `PushVtime`.
-    Done(Result<(), QueueError>),
-    /// Of `Front` and `Pop`.
-    Task(Option<u32>),
-    Removed(bool),
-    Len(usize),
-    Queue(Option<u64>),
-    Pushes(u64),
+/// What it answered: the error of a `Create`, `PushFifo` or `PushVtime`, or the number of a task or a queue or how
+/// many there are, if one was asked for. `Remove` answers 1 where the task was in a queue, and 0 where it wasn't.
+type Reply = Result<Option<u64>, QueueError>;
+
+/// No error, or no task or queue that was asked for.
+const DONE: Reply = Ok(None);
+
+const NOBODY: Reply = Ok(None);
+
+const NO_SUCH_QUEUE: Reply = Err(QueueError::NoSuchQueue);
+
+const ALREADY_THERE: Reply = Err(QueueError::AlreadyThere);
+
+const MIXED: Reply = Err(QueueError::Mixed);
+
+const TOO_MANY_QUEUES: Reply = Err(QueueError::TooManyQueues);
+
+fn done(answer: Result<(), QueueError>) -> Reply {
+    match answer {
+        Ok(()) => DONE,
+        Err(error) => Err(error),
+    }
 }
 
-const DONE: Reply = Reply::Done(Ok(()));
-
-const NO_SUCH_QUEUE: Reply = Reply::Done(Err(QueueError::NoSuchQueue));
-
-const ALREADY_THERE: Reply = Reply::Done(Err(QueueError::AlreadyThere));
-
-const MIXED: Reply = Reply::Done(Err(QueueError::Mixed));
-
-const TOO_MANY_QUEUES: Reply = Reply::Done(Err(QueueError::TooManyQueues));
+fn found(task: Option<u32>) -> Reply {
+    match task {
+        Some(task) => Ok(Some(u64::from(task))),
+        None => NOBODY,
+    }
+}
 
 /// Makes the call, whose task is one that there is.
 fn ask<R: Abort>(rt: &R, queues: &mut Queues, command: Command) -> Reply {
@@ -62,17 +70,15 @@ fn ask_counted<L: Ledger, R: Abort>(
 {
     let mut steps = Steps::<L>::new(blank);
     match command {
-        Create(queue) => Reply::Done(queues.create(queue)),
-        PushFifo(queue, task) => Reply::Done(push_by_order(rt, queues, queue, task)),
-        PushVtime(queue, task, key) => {
-            Reply::Done(push_by_key(rt, queues, queue, task, key, &mut steps))
-        }
-        Front(queue) => Reply::Task(queues.front(queue)),
-        Pop(queue) => Reply::Task(queues.pop(queue, &mut steps)),
-        Remove(task) => Reply::Removed(take_out(rt, queues, task, &mut steps)),
-        Len(queue) => Reply::Len(queues.len(queue)),
-        QueueOf(task) => Reply::Queue(find_queue(rt, queues, task)),
-        Pushes => Reply::Pushes(queues.pushes()),
+        Create(queue) => done(queues.create(queue)),
+        PushFifo(queue, task) => done(push_by_order(rt, queues, queue, task)),
+        PushVtime(queue, task, key) => done(push_by_key(rt, queues, queue, task, key, &mut steps)),
+        Front(queue) => found(queues.front(queue)),
+        Pop(queue) => found(queues.pop(queue, &mut steps)),
+        Remove(task) => Ok(Some(u64::from(take_out(rt, queues, task, &mut steps)))),
+        Len(queue) => Ok(Some(queues.len(queue) as u64)),
+        QueueOf(task) => Ok(find_queue(rt, queues, task)),
+        Pushes => Ok(Some(queues.pushes())),
     }
 }
 
@@ -136,19 +142,17 @@ fn expect<R: AllocGlobal + Abort>(rt: &R, room: usize, tasks: usize, rows: &[Row
     drop(queues);
 }
 
-const ERRORS: [(QueueError, u8, &str); 4] = [
-    (QueueError::NoSuchQueue, 1, "NoSuchQueue"),
-    (QueueError::AlreadyThere, 2, "AlreadyThere"),
-    (QueueError::Mixed, 3, "Mixed"),
-    (QueueError::TooManyQueues, 4, "TooManyQueues"),
-];
+fn expect_error(rt: &impl Abort, error: QueueError, number: u8, name: &str) {
+    expect_same(rt, error.number(), number, name);
+    expect_same(rt, error.name(), name, number);
+}
 
 #[test]
 fn errors_have_numbers(rt: HostRuntime) {
-    for &(error, number, name) in &ERRORS {
-        expect_same(&rt, error.number(), number, name);
-        expect_same(&rt, error.name(), name, number);
-    }
+    expect_error(&rt, QueueError::NoSuchQueue, 1, "NoSuchQueue");
+    expect_error(&rt, QueueError::AlreadyThere, 2, "AlreadyThere");
+    expect_error(&rt, QueueError::Mixed, 3, "Mixed");
+    expect_error(&rt, QueueError::TooManyQueues, 4, "TooManyQueues");
 }
 
 const BY_KEY: [Row; 15] = [
@@ -158,14 +162,14 @@ const BY_KEY: [Row; 15] = [
     (PushVtime(3, 3, u64::MAX), DONE),
     (PushVtime(3, 4, 0), DONE),
     (PushFifo(3, 0), MIXED),
-    (Len(3), Reply::Len(4)),
-    (Pushes, Reply::Pushes(4)),
-    (Pop(3), Reply::Task(Some(4))),
-    (Pop(3), Reply::Task(Some(2))),
-    (Pop(3), Reply::Task(Some(1))),
-    (Front(3), Reply::Task(Some(3))),
-    (Pop(3), Reply::Task(Some(3))),
-    (Pop(3), Reply::Task(None)),
+    (Len(3), Ok(Some(4))),
+    (Pushes, Ok(Some(4))),
+    (Pop(3), Ok(Some(4))),
+    (Pop(3), Ok(Some(2))),
+    (Pop(3), Ok(Some(1))),
+    (Front(3), Ok(Some(3))),
+    (Pop(3), Ok(Some(3))),
+    (Pop(3), NOBODY),
     (PushFifo(3, 0), DONE),
 ];
 
@@ -183,15 +187,15 @@ const KEPT_APART: [Row; 18] = [
     (PushFifo(7, 1), DONE),
     (PushFifo(7, 2), DONE),
     (PushFifo(7, 3), DONE),
-    (Remove(2), Reply::Removed(true)),
-    (Remove(2), Reply::Removed(false)),
-    (QueueOf(2), Reply::Queue(None)),
+    (Remove(2), Ok(Some(1))),
+    (Remove(2), Ok(Some(0))),
+    (QueueOf(2), NOBODY),
     (PushVtime(8, 1, 0), ALREADY_THERE),
-    (QueueOf(1), Reply::Queue(Some(7))),
-    (Pop(7), Reply::Task(Some(1))),
-    (Pop(7), Reply::Task(Some(3))),
-    (Pop(7), Reply::Task(None)),
-    (QueueOf(1), Reply::Queue(None)),
+    (QueueOf(1), Ok(Some(7))),
+    (Pop(7), Ok(Some(1))),
+    (Pop(7), Ok(Some(3))),
+    (Pop(7), NOBODY),
+    (QueueOf(1), NOBODY),
     (PushVtime(7, 2, 9), DONE),
 ];
 
@@ -203,9 +207,9 @@ fn two_queues_are_kept_apart(rt: HostRuntime) {
 const FIRST_CAUSES: [Row; 24] = [
     (PushFifo(1, 0), NO_SUCH_QUEUE),
     (PushVtime(1, 0, 7), NO_SUCH_QUEUE),
-    (Pop(1), Reply::Task(None)),
-    (Front(1), Reply::Task(None)),
-    (Len(1), Reply::Len(0)),
+    (Pop(1), NOBODY),
+    (Front(1), NOBODY),
+    (Len(1), Ok(Some(0))),
     (Create(1), DONE),
     (Create(u64::MAX), DONE),
     // Full, and there already.
@@ -221,14 +225,14 @@ const FIRST_CAUSES: [Row; 24] = [
     (PushVtime(1, 2, 7), MIXED),
     (PushFifo(u64::MAX, 2), MIXED),
     // Nothing has changed, and no refused push was counted.
-    (Pushes, Reply::Pushes(2)),
-    (Len(1), Reply::Len(1)),
-    (Len(u64::MAX), Reply::Len(1)),
-    (QueueOf(2), Reply::Queue(None)),
+    (Pushes, Ok(Some(2))),
+    (Len(1), Ok(Some(1))),
+    (Len(u64::MAX), Ok(Some(1))),
+    (QueueOf(2), NOBODY),
     // An empty queue takes either sort.
-    (Remove(0), Reply::Removed(true)),
+    (Remove(0), Ok(Some(1))),
     (PushVtime(1, 2, 7), DONE),
-    (Pop(u64::MAX), Reply::Task(Some(1))),
+    (Pop(u64::MAX), Ok(Some(1))),
     (PushFifo(u64::MAX, 1), DONE),
 ];
 
@@ -239,8 +243,8 @@ fn the_first_cause_is_told(rt: HostRuntime) {
 
 const NO_ROOM: [Row; 3] = [
     (Create(0), TOO_MANY_QUEUES),
-    (Pop(0), Reply::Task(None)),
-    (Len(0), Reply::Len(0)),
+    (Pop(0), NOBODY),
+    (Len(0), Ok(Some(0))),
 ];
 
 #[test]
@@ -300,7 +304,7 @@ impl Plain {
     }
 
     fn has(&self, queue: u64) -> bool {
-        self.is_queue.get(queue as usize) == Some(&true)
+        self.is_queue.get(queue as usize).copied().unwrap_or(false)
     }
 
     fn create(&mut self, queue: u64) -> Reply {
@@ -399,12 +403,12 @@ impl Plain {
             Create(queue) => self.create(queue),
             PushFifo(queue, task) => self.push(queue, task, false, 0),
             PushVtime(queue, task, key) => self.push(queue, task, true, key),
-            Front(queue) => Reply::Task(self.front(queue)),
-            Pop(queue) => Reply::Task(self.pop(queue)),
-            Remove(task) => Reply::Removed(self.remove(task)),
-            Len(queue) => Reply::Len(self.len(queue)),
-            QueueOf(task) => Reply::Queue(self.queue_of(task)),
-            Pushes => Reply::Pushes(self.pushes),
+            Front(queue) => found(self.front(queue)),
+            Pop(queue) => found(self.pop(queue)),
+            Remove(task) => Ok(Some(u64::from(self.remove(task)))),
+            Len(queue) => Ok(Some(self.len(queue) as u64)),
+            QueueOf(task) => Ok(self.queue_of(task)),
+            Pushes => Ok(Some(self.pushes)),
         }
     }
 }

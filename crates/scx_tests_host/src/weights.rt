@@ -66,10 +66,7 @@ fn awake<R: AllocGlobal + Abort>(rt: &R, groups: &[Group], tasks: &[u32]) -> Tre
 }
 
 /// The tree of these groups and tasks, all of them active, gives these weights.
-type Row = (&'static [Group], &'static [u32], &'static [u32]);
-
-fn expect_awake<R: AllocGlobal + Abort>(rt: &R, row: &Row) {
-    let &(groups, tasks, weights) = row;
+fn expect_awake<R: AllocGlobal + Abort>(rt: &R, groups: &[Group], tasks: &[u32], weights: &[u32]) {
     let tree = awake(rt, groups, tasks);
     check_weights(rt, &tree, weights);
     drop(tree);
@@ -137,25 +134,17 @@ const THREE_LEVELS: [Group; 6] = [
     group!(Some(2), 6),
 ];
 
-const SHARES: [Row; 5] = [
-    (&TWO_LEVELS, &[1, 2, 3], &[1250, 3750, 5000]),
-    (
-        &[group!(None, 1), group!(None, 10_000)],
-        &[0, 1],
-        &[1, 9999],
-    ),
-    (&[group!(None, 7)], &[0, 0, 0], &[3333, 3333, 3333]),
-    // One third of three quarters; rounded down at each level it would be 2499.
-    (&THIRDS, &[1, 2, 3], &[6666, 2500, 833]),
-    // 1 / 2 * 1 / 3 * 1 / 7 and 1 / 2 * 1 / 3 * 6 / 7.
-    (&THREE_LEVELS, &[1, 3, 4, 5], &[5000, 3333, 238, 1428]),
-];
+const LEAST_AND_MOST: [Group; 2] = [group!(None, 1), group!(None, 10_000)];
 
 #[test]
 fn groups_share_what_is_above_them(rt: HostRuntime) {
-    for row in &SHARES {
-        expect_awake(&rt, row);
-    }
+    expect_awake(&rt, &TWO_LEVELS, &[1, 2, 3], &[1250, 3750, 5000]);
+    expect_awake(&rt, &LEAST_AND_MOST, &[0, 1], &[1, 9999]);
+    expect_awake(&rt, &[group!(None, 7)], &[0, 0, 0], &[3333, 3333, 3333]);
+    // One third of three quarters; rounded down at each level it would be 2499.
+    expect_awake(&rt, &THIRDS, &[1, 2, 3], &[6666, 2500, 833]);
+    // 1 / 2 * 1 / 3 * 1 / 7 and 1 / 2 * 1 / 3 * 6 / 7.
+    expect_awake(&rt, &THREE_LEVELS, &[1, 3, 4, 5], &[5000, 3333, 238, 1428]);
 }
 
 /// A task that sleeps weighs what it would if it were active.
@@ -355,9 +344,13 @@ impl Plain {
             .unwrap_or(Group::new(None, 1))
     }
 
+    fn home(&self, task: usize) -> u32 {
+        self.homes.get(task).copied().unwrap_or(0)
+    }
+
     /// Whether the task of that number is active, or the one that is counted in any case.
     fn counts(&self, number: usize, task: usize) -> bool {
-        number == task || self.active.get(number) == Some(&true)
+        number == task || self.active.get(number).copied().unwrap_or(false)
     }
 
     /// Marks a group and those above it.
@@ -375,9 +368,9 @@ impl Plain {
 
     /// Marks the groups that have an active task in them or below them, that task counted.
     fn mark_active(&self, marks: &mut [bool], task: usize) {
-        for (number, home) in self.homes.iter().enumerate() {
+        for number in 0..1024_usize {
             if self.counts(number, task) {
-                self.mark(marks, *home);
+                self.mark(marks, self.home(number));
             }
         }
     }
@@ -386,7 +379,7 @@ impl Plain {
     fn weights_under(&self, marks: &[bool], parent: Option<u32>) -> u128 {
         let mut sum = 0u128;
         for (number, group) in self.groups.iter().enumerate() {
-            if group.parent == parent && marks.get(number) == Some(&true) {
+            if group.parent == parent && marks.get(number).copied().unwrap_or(false) {
                 sum = sum.saturating_add(u128::from(group.weight));
             }
         }
@@ -407,7 +400,7 @@ impl Plain {
     fn weight_of(&self, task: usize) -> u32 {
         let mut marks = [false; 256];
         self.mark_active(&mut marks, task);
-        let home = self.homes.get(task).copied().unwrap_or(0);
+        let home = self.home(task);
         self.share(&marks, home, self.sharers(task, home))
     }
 

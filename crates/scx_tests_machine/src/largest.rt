@@ -10,7 +10,6 @@ use scx_weights::{Group, Tree, TreeError};
 use std::alloc::{AllocError, Global};
 use std::fmt::Write;
 use std::process::Abort;
-use std::test::Fail;
 
 /// Creates sixteen queues.
 fn creating(alloc: Global) -> Result<String, AllocError> {
@@ -27,16 +26,16 @@ const BY_NUMBER: &str =
     "r4 = r2\nr2 = *(u32 *)(r1 + 0)\nr2 -= 1\nr2 &= 15\nr3 = 2000000\ncall 1002\nexit";
 
 /// Tasks wait in sixteen queues by number, and processors take turns at these.
-fn sixteen_queues<R: AllocGlobal + Abort>(rt: &R) -> Result<Policy, AllocError> {
-    let init = creating(rt.alloc())?;
-    Ok(policy(
+fn sixteen_queues<R: AllocGlobal + Abort>(rt: &R) -> Policy {
+    let init = creating(rt.alloc()).expect(rt, "memory is ample");
+    policy(
         rt,
         &[
             (Callback::Init, init.as_str()),
             (Callback::Enqueue, BY_NUMBER),
             (Callback::Dispatch, "r1 &= 15\ncall 1004\nexit"),
         ],
-    ))
+    )
 }
 
 /// 1024 tasks take turns at 256 groups.
@@ -56,9 +55,10 @@ fn large_tree(alloc: Global) -> Result<Tree, TreeError> {
 }
 
 /// 64 processors and 1024 tasks, which wait in sixteen queues.
-fn largest<R: AllocGlobal + Abort>(rt: &R) -> Result<Session, Fail> {
-    let tree = large_tree(rt.alloc())?;
-    Ok(Session::of(rt, sixteen_queues(rt)?, tree, 64, 100_000))
+fn largest<R: AllocGlobal + Abort>(rt: &R) -> Session {
+    let policy = sixteen_queues(rt);
+    let tree = large_tree(rt.alloc()).expect(rt, "the tasks are in groups");
+    Session::of(rt, policy, tree, 64, 100_000)
 }
 
 /// All tasks wake, one after another, and the first 64 run.
@@ -85,8 +85,8 @@ fn tick_twice(rt: &impl Abort, session: &mut Session) {
 }
 
 #[test]
-fn a_machine_may_be_as_large_as_its_limits(rt: HostRuntime) -> Result<(), Fail> {
-    let mut session = largest(&rt)?;
+fn a_machine_may_be_as_large_as_its_limits(rt: HostRuntime) {
+    let mut session = largest(&rt);
     wake_all(&rt, &mut session);
     // A slice of 2 ms is over with the second tick of a processor.
     tick_twice(&rt, &mut session);
@@ -98,7 +98,6 @@ fn a_machine_may_be_as_large_as_its_limits(rt: HostRuntime) -> Result<(), Fail> 
         "notes",
     );
     drop(session);
-    Ok(())
 }
 
 /// Of those who have waited longest the least number is named.

@@ -1,6 +1,6 @@
-//! Tests of the machine that are no console sessions: calls that are refused, sinks that fail, machines as large as
-//! there may be, and generated workloads; and of what files of policies and workloads say of themselves, and the
-//! events of a workload. What else a machine does stands in files of cases.
+//! Tests of the machine that are no console sessions: calls that are refused, sinks that fail, and machines as large
+//! as there may be; and of what files of policies and workloads say of themselves, and the events of a workload. What
+//! else a machine does stands in files of cases.
 #![tactic(auto)]
 
 #[cfg(test)]
@@ -8,15 +8,11 @@ mod crowds;
 #[cfg(test)]
 mod driving;
 #[cfg(test)]
-mod faults;
-#[cfg(test)]
 mod files;
 #[cfg(test)]
 mod largest;
 #[cfg(test)]
 mod policies;
-#[cfg(test)]
-mod quotas;
 #[cfg(test)]
 mod recorder;
 #[cfg(test)]

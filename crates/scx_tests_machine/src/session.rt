@@ -90,12 +90,6 @@ impl Session {
         self.sim.place(task)
     }
 
-    pub(crate) fn has_vtime(&self, rt: &impl Abort, task: u16, wanted: u64) {
-        let known = task < self.sim.tasks();
-        assert!(rt; known);
-        expect_same(rt, self.sim.vtime(task), wanted, task);
-    }
-
     /// The task has waited so many milliseconds.
     pub(crate) fn has_waited(&self, rt: &impl Abort, task: u16, wanted: u64) {
         let known = task < self.sim.tasks();

@@ -14,8 +14,6 @@ mod malicious;
 #[cfg(test)]
 mod programs;
 #[cfg(test)]
-mod ranges;
-#[cfg(test)]
 mod runs;
 #[cfg(test)]
 mod same;

@@ -1,14 +1,11 @@
 //! Generated workloads whose groups have quotas: what each group has used, who is parked and who may begin to
 //! run is what is counted here, from who runs before each tick.
 
-ghost use Rattle.std.specs.Prelude.{◌≡◌, false};
-
-use crate::policies::{TWO_MILLISECONDS, policy_within};
+use crate::machines::{NO_PROGRAMS, machine, workload};
 use crate::same::expect_same;
-use scx_isa::Callback;
-use scx_load::{Driver, Workload, read_workload};
-use scx_sched::{Event, Note, Place, Sim, Sink};
-use scx_weights::{Group, Tree};
+use scx_load::Driver;
+use scx_sched::{Event, Place, Sim, Unseen};
+use scx_weights::Group;
 use std::alloc::{AllocError, Global};
 use std::fmt::Write;
 use std::process::Abort;
@@ -234,29 +231,11 @@ impl Counted<'_> {
     }
 }
 
-/// A sink that keeps nothing.
-#[derive(Drop)]
-struct Nowhere;
-
-impl Sink for Nowhere {
-    ghost takes = { λ s n t. t ≡ s };
-
-    ghost has_failed = { λ s. false };
-
-    ghost failed_stays = { λ s t n failed takes. takes };
-
-    fn take(&mut self, _note: Note) {}
-
-    fn failed(&self) -> bool {
-        false
-    }
-}
-
 /// The event happens; answers whether the machine is as it was counted.
 fn follow(sim: &mut Sim, counted: &mut Counted<'_>, event: Event) -> bool {
     let before = running(sim);
     counted.count(event, &before);
-    sim.step(event, &mut Nowhere).is_ok() && counted.agrees(sim, event, before)
+    sim.step(event, &mut Unseen).is_ok() && counted.agrees(sim, event, before)
 }
 
 /// All events of the driver happen; answers whether the machine always is as it was counted.
@@ -273,25 +252,15 @@ fn follow_all(sim: &mut Sim, driver: &mut Driver, counted: &mut Counted<'_>) -> 
     false
 }
 
-/// A policy: how long a task may wait, and the texts of its callbacks.
-type Rules = (u32, &'static [(Callback, &'static str)]);
-
-fn machine<R: AllocGlobal + Abort>(rt: &R, rules: Rules, workload: &Workload) -> Sim {
-    let (timeout_ms, texts) = rules;
-    let tree = Tree::new(rt.alloc(), workload.groups(), workload.tasks()).expect(rt, "a tree");
-    let policy = policy_within(rt, timeout_ms, texts);
-    Sim::new(rt.alloc(), policy, tree, workload.cpus()).expect(rt, "a machine")
-}
-
 /// What happens as the workload is run, if the machine always is as it was counted.
 fn seen_in<R: AllocGlobal + Abort>(
     rt: &R,
-    rules: Rules,
+    policy: &str,
     groups: &[Group],
     text: &str,
 ) -> Option<Seen> {
-    let workload = read_workload(rt.alloc(), text).expect(rt, "a workload");
-    let mut sim = machine(rt, rules, &workload);
+    let workload = workload(rt, text);
+    let mut sim = machine(rt, policy, &workload);
     let mut driver = Driver::new(rt.alloc(), &workload).expect(rt, "a driver");
     let mut counted = Counted {
         groups,
@@ -450,21 +419,49 @@ fn text(alloc: Global, numbers: &mut Numbers, groups: &[Group]) -> Result<String
     Ok(text)
 }
 
+/// Tasks wait in queue 0, in order of arrival, and run for 2 ms.
+const TWO_MILLISECONDS: &str = "[code]
+init = '''
+r1 = 0
+call 1001
+exit
+'''
+enqueue = '''
+r4 = r2
+r2 = 0
+r3 = 2000000
+call 1002
+exit
+'''
+dispatch = '''
+r1 = 0
+call 1004
+exit
+'''
+";
+
 /// Tasks wait where they are put, and run for 3 ms at once.
-const LOCAL: &[(Callback, &str)] = &[(
-    Callback::Enqueue,
-    "r4 = r2\nr2 = 9223372036854775810 ll\nr3 = 3000000\ncall 1002\nexit",
-)];
+const LOCAL: &str = "[code]
+enqueue = '''
+r4 = r2
+r2 = 9223372036854775810 ll
+r3 = 3000000
+call 1002
+exit
+'''
+";
 
 /// Nobody who waits is put anywhere, until the policy is ejected.
-const HOLDS: &[(Callback, &str)] = &[(Callback::Enqueue, "exit")];
+const HOLDS: &str = "timeout_ms = 3
+code.enqueue = 'exit'
+";
 
-fn rules(numbers: &mut Numbers) -> Rules {
+fn policy(numbers: &mut Numbers) -> &'static str {
     match numbers.below(4) {
-        0 => (30_000, &[]),
-        1 => (30_000, TWO_MILLISECONDS),
-        2 => (30_000, LOCAL),
-        _ => (3, HOLDS),
+        0 => NO_PROGRAMS,
+        1 => TWO_MILLISECONDS,
+        2 => LOCAL,
+        _ => HOLDS,
     }
 }
 
@@ -472,11 +469,11 @@ fn rules(numbers: &mut Numbers) -> Rules {
 fn next<R: AllocGlobal + Abort>(rt: &R, numbers: &mut Numbers) -> Option<Seen> {
     let groups = groups(rt.alloc(), numbers).expect(rt, "memory is ample");
     let text = text(rt.alloc(), numbers, &groups).expect(rt, "memory is ample");
-    seen_in(rt, rules(numbers), &groups, text.as_str())
+    seen_in(rt, policy(numbers), &groups, text.as_str())
 }
 
 /// In how many workloads it happened.
-#[derive(Clone, Copy, Debug)]
+#[derive(Clone, Copy)]
 struct Totals {
     parked: u32,
     above: u32,
@@ -519,5 +516,5 @@ fn usages_are_as_counted(rt: HostRuntime) {
         expect_same(&rt, seen.is_some(), true, number);
         totals.add(seen.unwrap_or(NOTHING));
     }
-    expect_same(&rt, totals.are_many(), true, totals);
+    expect_same(&rt, totals.are_many(), true, "there is enough of all");
 }
