@@ -1,5 +1,5 @@
 -- What a list of events ends in.
-use Rattle.std.proofs.Common.{◌≡◌, ℕ, zero, suc, ◌-◌, ◌<◌, arith, slice_index_or, List, [], ◌∷◌, ◌++◌, true, length, take, Option, Some, None, ap, sym, ◌∙◌, subst, refl}
+use Rattle.std.proofs.Common.{◌≡◌, ℕ, zero, suc, ◌+◌, ◌-◌, ◌<◌, arith, slice_index_or, List, [], ◌∷◌, ◌++◌, true, length, take, Option, Some, None, ap, sym, ◌∙◌, subst, refl}
 use Rattle.std.specs.Prelude.{is_none}
 use Rattle.scx_isa_semantics.specs.declared.callbacks.Callback.{Callback}
 use Rattle.scx_dsq.specs.Queues.{queue_of}
@@ -10,11 +10,12 @@ use Rattle.scx_sched_world.specs.declared.notes.Note.{Note}
 use Rattle.scx_sched_machine.specs.declared.events.Event.{Event}
 use Rattle.scx_sched_machine.specs.declared.events.Event.TheVariants.{Tick}
 use Rattle.scx_sched_machine.specs.Notes.{Takes}
-use Rattle.scx_sched.specs.Sim.{SimState, refusal, calls_of}
+use Rattle.scx_sched.specs.Sim.{SimState, refusal, calls_of, after_event}
 use Rattle.scx_load_driver.specs.Runs.{stepped_all, notes_of_all}
 use Rattle.scx_explore_path.specs.declared.outcome.Outcome.{Outcome}
 use Rattle.scx_explore_path.specs.declared.outcome.Outcome.TheVariants as outcome
 use Rattle.scx_explore_path.specs.Outcomes.{Happens, done_of, after_first, IsInForceFor, IsEjectedAt}
+use Rattle.scx_explore_path.proofs.Along.{stepped_push}
 use Rattle.scx_explore_states.specs.declared.watch.Pair.{Pair}
 use Rattle.scx_explore_findings.specs.declared.count.Count.{Count}
 use Rattle.scx_explore_findings.specs.Counting.{Counts}
@@ -58,9 +59,33 @@ none_is None e = refl
 none_is (Some x) e = absurd (cc)
 
 -- the machine after all events
-all_done : (s t : SimState) (events : List Event) (o : Outcome) → o ≡ outcome.InForce → t ≡ after_first s events (done_of o events) → t ≡ stepped_all s events
+pub all_done : (s t : SimState) (events : List Event) (o : Outcome) → o ≡ outcome.InForce → t ≡ after_first s events (done_of o events) → t ≡ stepped_all s events
 all_done s t events o e at =
     at ∙ (ap (λ (x : Outcome). after_first s events (done_of x events)) e ∙ ap (λ (es : List Event). stepped_all s es) (take_all events))
+
+-- so it is behind the last event, where an ejection comes with that
+done_at_end : (s t : SimState) (events : List Event) (at : ℕ) → t ≡ after_first s events (at + 1) → at + 1 ≡ length events → t ≡ stepped_all s events
+done_at_end s t events at here last =
+    here ∙ (ap (λ (n : ℕ). after_first s events n) last ∙ ap (λ (es : List Event). stepped_all s es) (take_all events))
+
+-- for a fault
+pub fault_there : (s t : SimState) (events : List Event) (f : faults.Fault) (o : Outcome) → t ≡ after_first s events (done_of o events) → IsFaultAtEnd o (length events) f → t ≡ stepped_all s events
+fault_there s t events f (outcome.Ejected at (cause.Fault g clock)) here x = done_at_end s t events at here x.1
+fault_there s t events f (outcome.Ejected at (cause.Stall u clock)) here x = absurd x
+fault_there s t events f outcome.InForce here x = absurd x
+fault_there s t events f (outcome.Refused at r) here x = absurd x
+
+-- or for a wait
+pub stall_there : (s t : SimState) (events : List Event) (u : ℕ) (o : Outcome) → t ≡ after_first s events (done_of o events) → IsStallAtEnd o (length events) u → t ≡ stepped_all s events
+stall_there s t events u (outcome.Ejected at (cause.Stall v clock)) here x = done_at_end s t events at here x.1
+stall_there s t events u (outcome.Ejected at (cause.Fault f clock)) here x = absurd x
+stall_there s t events u outcome.InForce here x = absurd x
+stall_there s t events u (outcome.Refused at r) here x = absurd x
+
+-- and behind one more event
+pub taken_there : (s t u : SimState) (before : List Event) (e : Event) (o : Outcome) → o ≡ outcome.InForce → t ≡ after_first s before (done_of o before) → u ≡ after_event t e → u ≡ stepped_all s (before ++ e ∷ [])
+taken_there s t u before e o force here next =
+    next ∙ (ap (λ (x : SimState). after_event x e) (all_done s t before o force here) ∙ sym (stepped_push s before e))
 
 -- a tick that leaves its processor idle
 pub idle_at_end : (s t : SimState) (events : List Event) (c task : ℕ) (o : Outcome) → Happens s events o → o ≡ outcome.InForce → t ≡ after_first s events (done_of o events) → IsLast events (Tick c) → is_none (running t.state.world c) ≡ true → is_left (queue_of t.state.world.queues task) ≡ true → EndsIdle s events c task
@@ -115,6 +140,15 @@ taking_of_list s events before e b n count many some front last h =
     ∙ (ap (λ (x : Event). take (length events - 1) events ++ x ∷ []) (last ∙ ap (λ (k : ℕ). slice_index_or events (k - 1) e) many)
     ∙ sym (to_last events e (omega (arith, many, some)))) in
     subst (λ (es : List Event). EndsTaking s es b n) whole h
+
+-- and the machine behind it
+pub there_of_list : (s t : SimState) (events before : List Event) (e : Event) (count : ℕ) → count ≡ length events → 0 < count → before ≡ take (count - 1) events → e ≡ slice_index_or events (count - 1) e → t ≡ stepped_all s (before ++ e ∷ []) → t ≡ stepped_all s events
+there_of_list s t events before e count many some front last h =
+    let whole : before ++ e ∷ [] ≡ events =
+    ap (λ (es : List Event). es ++ e ∷ []) (front ∙ ap (λ (k : ℕ). take (k - 1) events) many)
+    ∙ (ap (λ (x : Event). take (length events - 1) events ++ x ∷ []) (last ∙ ap (λ (k : ℕ). slice_index_or events (k - 1) e) many)
+    ∙ sym (to_last events e (omega (arith, many, some)))) in
+    h ∙ ap (λ (es : List Event). stepped_all s es) whole
 
 -- what a count comes to over notes
 counted : (a b : Count) (ns : List Note) → Takes Counts a ns b → b.begun ≡ begun_over a.pair a.begun ns

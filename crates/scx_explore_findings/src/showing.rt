@@ -1,5 +1,7 @@
 ghost use Rattle.std.specs.Prelude.{◌≡◌, ◌∷◌, ◌++◌, [], true, None};
-ghost use Rattle.scx_sched.specs.Sim.{refusal, calls_of};
+ghost use Rattle.scx_sched.specs.Sim.{refusal, calls_of, after_event};
+ghost use Rattle.scx_load_driver.specs.Runs.{stepped_all};
+ghost use Rattle.scx_explore_path.specs.Path.{IsAs};
 ghost use Rattle.scx_explore_path.specs.declared.outcome.Outcome.TheVariants.{InForce};
 ghost use Rattle.scx_explore_findings.specs.Running.{IsRunAmong};
 ghost use Rattle.scx_explore_findings.specs.Findings.{Shows, EndsInFault, EndsInStall, EndsIdle, IsTwice, EndsWaiting, EndsTaking, IsFaultAtEnd, IsStallAtEnd, AreTogether, IsLast};
@@ -15,10 +17,12 @@ use scx_sched::{Eject, Event, Fault, Sim, Unseen};
 
 /// Whether the list of events, given to a machine whose policy is in force, is accepted and ends in that finding.
 /// The tasks' groups are those of the list.
-#[tactic(auto, using(crate::proofs::Ending::overtaken_at_end))]
+#[tactic(auto, using(crate::proofs::Ending::overtaken_at_end, scx_explore_path::proofs::Alike::as_itself))]
 pub fn shows(sim: &mut Sim, homes: &[u32], events: &[Event], finding: Finding) -> bool
     requires { sim.old.state.world.ejected ≡ None }
-    ensures { result ≡ true → Shows homes.now sim.old events.now finding }
+    ensures shown { result ≡ true → Shows homes.now sim.old events.now finding }
+    ensures there { result ≡ true → sim.new ≡ stepped_all sim.old events.now }
+    ensures alike { IsAs sim.old sim.new }
 {
     match finding {
         Finding::Fault(fault) => ends_in_fault(sim, events, fault),
@@ -35,28 +39,34 @@ pub fn shows(sim: &mut Sim, homes: &[u32], events: &[Event], finding: Finding) -
     }
 }
 
-#[tactic(auto, using(crate::proofs::Ending::fault_at_end))]
+#[tactic(auto, using(crate::proofs::Ending::fault_at_end, crate::proofs::Ending::fault_there))]
 fn ends_in_fault(sim: &mut Sim, events: &[Event], fault: Fault) -> bool
     requires { sim.old.state.world.ejected ≡ None }
-    ensures { result ≡ true → EndsInFault sim.old events.now fault }
+    ensures shown { result ≡ true → EndsInFault sim.old events.now fault }
+    ensures there { result ≡ true → sim.new ≡ stepped_all sim.old events.now }
+    ensures alike { IsAs sim.old sim.new }
 {
     let outcome = replay(sim, events, &mut Unseen);
     is_fault_at_end(outcome, events.len(), fault)
 }
 
-#[tactic(auto, using(crate::proofs::Ending::stall_at_end))]
+#[tactic(auto, using(crate::proofs::Ending::stall_at_end, crate::proofs::Ending::stall_there))]
 fn ends_in_stall(sim: &mut Sim, events: &[Event], task: u16) -> bool
     requires { sim.old.state.world.ejected ≡ None }
-    ensures { result ≡ true → EndsInStall sim.old events.now task }
+    ensures shown { result ≡ true → EndsInStall sim.old events.now task }
+    ensures there { result ≡ true → sim.new ≡ stepped_all sim.old events.now }
+    ensures alike { IsAs sim.old sim.new }
 {
     let outcome = replay(sim, events, &mut Unseen);
     is_stall_at_end(outcome, events.len(), task)
 }
 
-#[tactic(auto, using(crate::proofs::Ending::idle_at_end))]
+#[tactic(auto, using(crate::proofs::Ending::idle_at_end, crate::proofs::Ending::all_done))]
 fn ends_idle(sim: &mut Sim, events: &[Event], cpu: u32, task: u16) -> bool
     requires { sim.old.state.world.ejected ≡ None }
-    ensures { result ≡ true → EndsIdle sim.old events.now cpu task }
+    ensures shown { result ≡ true → EndsIdle sim.old events.now cpu task }
+    ensures there { result ≡ true → sim.new ≡ stepped_all sim.old events.now }
+    ensures alike { IsAs sim.old sim.new }
 {
     let outcome = replay(sim, events, &mut Unseen);
     is_in_force(outcome)
@@ -65,29 +75,35 @@ fn ends_idle(sim: &mut Sim, events: &[Event], cpu: u32, task: u16) -> bool
         && is_left(sim, task)
 }
 
-#[tactic(auto, using(crate::proofs::Ending::twice_at_end))]
+#[tactic(auto, using(crate::proofs::Ending::twice_at_end, crate::proofs::Ending::all_done))]
 fn ends_overtaken(sim: &mut Sim, events: &[Event], pair: Pair) -> bool
     requires { sim.old.state.world.ejected ≡ None }
-    ensures { result ≡ true → IsTwice sim.old events.now pair }
+    ensures shown { result ≡ true → IsTwice sim.old events.now pair }
+    ensures there { result ≡ true → sim.new ≡ stepped_all sim.old events.now }
+    ensures alike { IsAs sim.old sim.new }
 {
     let mut count = Count::of(pair);
     let outcome = replay(sim, events, &mut count);
     is_in_force(outcome) && count.is_twice()
 }
 
-#[tactic(auto, using(crate::proofs::Ending::waiting_at_end))]
+#[tactic(auto, using(crate::proofs::Ending::waiting_at_end, crate::proofs::Ending::all_done))]
 fn ends_waiting(sim: &mut Sim, events: &[Event], task: u16, ms: u64) -> bool
     requires { sim.old.state.world.ejected ≡ None }
-    ensures { result ≡ true → EndsWaiting sim.old events.now task ms }
+    ensures shown { result ≡ true → EndsWaiting sim.old events.now task ms }
+    ensures there { result ≡ true → sim.new ≡ stepped_all sim.old events.now }
+    ensures alike { IsAs sim.old sim.new }
 {
     let outcome = replay(sim, events, &mut Unseen);
     is_in_force(outcome) && sim.world().waits(task) && sim.world().wait(task) == ms
 }
 
-#[tactic(auto, using(crate::proofs::Ending::taking_of_list))]
+#[tactic(auto, using(crate::proofs::Ending::taking_of_list, crate::proofs::Ending::there_of_list, scx_explore_path::proofs::Alike::as_itself))]
 fn ends_taking(sim: &mut Sim, events: &[Event], callback: Callback, instructions: u64) -> bool
     requires { sim.old.state.world.ejected ≡ None }
-    ensures { result ≡ true → EndsTaking sim.old events.now callback instructions }
+    ensures shown { result ≡ true → EndsTaking sim.old events.now callback instructions }
+    ensures there { result ≡ true → sim.new ≡ stepped_all sim.old events.now }
+    ensures alike { IsAs sim.old sim.new }
 {
     let count = events.len();
     if count == 0 {
@@ -98,7 +114,7 @@ fn ends_taking(sim: &mut Sim, events: &[Event], callback: Callback, instructions
 }
 
 /// The same of a list that ends with that event.
-#[tactic(auto, using(crate::proofs::Ending::taking_at_end))]
+#[tactic(auto, using(crate::proofs::Ending::taking_at_end, scx_explore_path::proofs::Alike::as_another))]
 fn ends_taking_in(
     sim: &mut Sim,
     before: &[Event],
@@ -107,18 +123,23 @@ fn ends_taking_in(
     instructions: u64,
 ) -> bool
     requires { sim.old.state.world.ejected ≡ None }
-    ensures { result ≡ true
+    ensures shown { result ≡ true
         → EndsTaking sim.old (before.now ++ event ∷ []) callback instructions }
+    ensures there { result ≡ true → sim.new ≡ stepped_all sim.old (before.now ++ event ∷ []) }
+    ensures alike { IsAs sim.old sim.new }
 {
     let outcome = replay(sim, before, &mut Unseen);
     is_in_force(outcome) && takes(sim, event, callback, instructions)
 }
 
 /// Whether the machine accepts the event, and a run of that callback in it takes so many instructions.
+#[tactic(auto, using(scx_explore_path::proofs::Alike::as_stepped))]
 fn takes(sim: &mut Sim, event: Event, callback: Callback, instructions: u64) -> bool
     ensures accepted { result ≡ true → refusal sim.old event ≡ None }
     ensures called { result ≡ true
         → IsRunAmong (calls_of sim.old event) callback instructions }
+    ensures state { sim.new ≡ after_event sim.old event }
+    ensures alike { IsAs sim.old sim.new }
 {
     let mut tally = Tally::of(callback, instructions);
     let answer = sim.step_heard(event, &mut tally);

@@ -2,6 +2,7 @@ ghost use Rattle.std.specs.Prelude.{◌≡◌, take, None};
 ghost use Rattle.scx_sched_machine.specs.Notes.{Takes};
 ghost use Rattle.scx_sched.specs.Sim.{refusal, after_event, notes_of};
 ghost use Rattle.scx_load_driver.specs.Runs.{notes_of_all};
+ghost use Rattle.scx_explore_path.specs.Path.{IsAs};
 ghost use Rattle.scx_explore_path.specs.Outcomes.{end_of, outcome_of, done_of, after_first, Happens};
 
 use scx_sched::{Eject, Event, Refused, Sim, Sink};
@@ -25,6 +26,7 @@ pub fn replay<S: Sink>(sim: &mut Sim, events: &[Event], sink: &mut S) -> Outcome
     ensures state { sim.new ≡ after_first sim.old events.now (done_of result events.now) }
     ensures notes { Takes S.takes sink.old
         (notes_of_all sim.old (take (done_of result events.now) events.now)) sink.new }
+    ensures alike { IsAs sim.old sim.new }
 {
     for at in 0..events.len() {
         if let Some(outcome) = step_to_end(sim, at, events[at], sink) {
@@ -40,6 +42,7 @@ fn step_to_end<S: Sink>(sim: &mut Sim, at: usize, event: Event, sink: &mut S) ->
         (after_event sim.old event).state.world.ejected at }
     ensures state { sim.new ≡ after_event sim.old event }
     ensures notes { Takes S.takes sink.old (notes_of sim.old event) sink.new }
+    ensures alike { IsAs sim.old sim.new }
 {
     match sim.step(event, sink) {
         Ok(()) => ejected_at(sim, at),

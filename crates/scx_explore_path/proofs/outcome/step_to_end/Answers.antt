@@ -1,5 +1,6 @@
 use Rattle.std.proofs.Common.{ap, ◌∙◌}
 use Rattle.scx_sched.specs.Sim.{SimState, refusal, after_event}
+use Rattle.scx_explore_path.proofs.Alike.{as_stepped}
 use Rattle.scx_explore_path.proofs.Replaying.{end_refused, end_accepted}
 use Rattle.scx_explore_path.proofs.outcome.step_to_end.Goals as goal
 
@@ -11,3 +12,9 @@ returns-in-Ok-clause-answer g c =
 pub returns-in-Err-clause-answer : goal.returns-in-Err-clause-answer
 returns-in-Err-clause-answer g c =
     end_refused (refusal c.args.sim.now c.args.event) (after_event c.args.sim.now c.args.event).state.world.ejected c.args.at _ c.in-Err.ensures.answer
+
+pub returns-in-Ok-clause-alike : goal.returns-in-Ok-clause-alike
+returns-in-Ok-clause-alike g c = as_stepped c.args.sim.now c.args.event c.step.new.self c.step.result c.step.ensures.answer c.step.ensures.state c.step.ensures.decided
+
+pub returns-in-Err-clause-alike : goal.returns-in-Err-clause-alike
+returns-in-Err-clause-alike g c = as_stepped c.args.sim.now c.args.event c.step.new.self c.step.result c.step.ensures.answer c.step.ensures.state c.step.ensures.decided
