@@ -1,4 +1,4 @@
-ghost use Rattle.std.specs.Prelude.{◌≡◌, ◌≤◌, length};
+ghost use Rattle.std.specs.Prelude.{◌≤◌};
 
 use crate::bounds::{Bounds, Mode};
 use crate::ticks::Ticks;
@@ -183,18 +183,14 @@ impl Memory {
     }
 
     /// Writes behind a state what it takes to go on from it.
-    pub fn write(&self, bounds: Bounds, tasks: u16, are_changed: bool, words: &mut Words)
-        ensures { length words.new ≡ length words.old }
-    {
+    pub fn write(&self, bounds: Bounds, tasks: u16, are_changed: bool, words: &mut Words) {
         put_if(are_changed, self.changed, words);
         put_if(bounds.few.is_some(), self.used, words);
         self.write_plans(bounds.mode, tasks, words);
     }
 
     /// Where lists are those of workloads.
-    fn write_plans(&self, mode: Mode, tasks: u16, words: &mut Words)
-        ensures { length words.new ≡ length words.old }
-    {
+    fn write_plans(&self, mode: Mode, tasks: u16, words: &mut Words) {
         if mode != Mode::Workloads {
             return;
         }
@@ -205,9 +201,7 @@ impl Memory {
 }
 
 /// Writes the word where it is one of a state.
-fn put_if(is_kept: bool, word: u64, words: &mut Words)
-    ensures { length words.new ≡ length words.old }
-{
+fn put_if(is_kept: bool, word: u64, words: &mut Words) {
     if is_kept {
         words.put(word);
     }

@@ -1,3 +1,4 @@
+mod Eight
 mod Placed
 mod Putting
 mod Slots

@@ -1,9 +1,12 @@
 -- Places of lists.
-use Rattle.std.proofs.Common.{◌≡◌, ℕ, zero, suc, ◌+◌, ◌<◌, ◌≤◌, List, [], ◌∷◌, length, take, get_or, All, refl, sym, ◌∙◌, subst, arith, ⊎_elim}
+use Rattle.std.proofs.Common.{◌≡◌, ℕ, zero, suc, ◌+◌, ◌<◌, ◌≤◌, List, [], ◌∷◌, length, take, get_or, All, refl, sym, ap, ◌∙◌, subst, arith, ⊎_elim}
 use Rattle.std.specs.Prelude.{Contains}
 use Rattle.std.proofs.lemmas.Bool.{cases_eq}
 use Rattle.std.proofs.lemmas.List.{take_all}
+use Rattle.scx_sched_world.specs.World.{WorldState}
+use Rattle.scx_explore_states.specs.declared.form.Form.{Form}
 use Rattle.scx_explore_states.specs.declared.rows.Row.{Row}
+use Rattle.scx_explore_states.specs.Written.{IsFair, home_at, own_order, task_in}
 
 -- what stands inside a list is no default
 any : {X : Type 0} (xs : List X) (k : ℕ) (d e : X) → k < length xs → get_or xs k d ≡ get_or xs k e
@@ -31,3 +34,37 @@ below_more P n before here t few =
 -- what holds of all that were taken holds of all, where no more are left
 pub all_taken : {X : Type 0} (P : X → Type 0) (xs : List X) (n : ℕ) → length xs ≤ n → All P (take n xs) → All P xs
 all_taken {X} P xs n past all = subst (λ (ys : List X). All P ys) (take_all n xs past) all
+
+-- ---- each task at its own place
+
+own_values : (t : ℕ) → t < 8 → get_or own_order t 0 ≡ t
+own_values zero few = refl
+own_values (suc zero) few = refl
+own_values (suc (suc zero)) few = refl
+own_values (suc (suc (suc zero))) few = refl
+own_values (suc (suc (suc (suc zero)))) few = refl
+own_values (suc (suc (suc (suc (suc zero))))) few = refl
+own_values (suc (suc (suc (suc (suc (suc zero)))))) few = refl
+own_values (suc (suc (suc (suc (suc (suc (suc zero))))))) few = refl
+own_values (suc (suc (suc (suc (suc (suc (suc (suc t)))))))) few = absurd (omega (arith, few))
+
+own_tasks : (t : ℕ) → t < 8 → task_in own_order t ≡ t
+own_tasks zero few = refl
+own_tasks (suc zero) few = refl
+own_tasks (suc (suc zero)) few = refl
+own_tasks (suc (suc (suc zero))) few = refl
+own_tasks (suc (suc (suc (suc zero)))) few = refl
+own_tasks (suc (suc (suc (suc (suc zero))))) few = refl
+own_tasks (suc (suc (suc (suc (suc (suc zero)))))) few = refl
+own_tasks (suc (suc (suc (suc (suc (suc (suc zero))))))) few = refl
+own_tasks (suc (suc (suc (suc (suc (suc (suc (suc t)))))))) few = absurd (omega (arith, few))
+
+-- is fair
+pub own_fair : (f : Form) (w : WorldState) (order : List ℕ) → order ≡ own_order → IsFair f w order
+own_fair f w order is =
+    subst (λ (o : List ℕ). IsFair f w o) (sym is)
+    (record {
+      names = λ told. refl;
+      whole = λ t few. contains_at own_order t t 0 few (own_values t few);
+      homes = λ p few. ap (λ (t : ℕ). home_at w t) (own_tasks p few);
+    })

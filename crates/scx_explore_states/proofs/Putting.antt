@@ -1,8 +1,7 @@
 -- Words of a state, one part after another.
-use Rattle.std.proofs.Common.{◌≡◌, ℕ, suc, ◌+◌, ◌*◌, ◌<◌, ◌≤◌, List, [], ◌∷◌, ◌++◌, length, drop, get_or, sym, ap, ◌∙◌, subst, append_assoc, arith}
+use Rattle.std.proofs.Common.{◌≡◌, ℕ, suc, ◌+◌, ◌*◌, ◌<◌, ◌≤◌, List, [], ◌∷◌, ◌++◌, length, drop, get_or, sym, ap, ◌∙◌, append_assoc, arith}
 use Rattle.std.proofs.lemmas.List.{drop_all, drop_more}
-use Rattle.std.specs.Prelude.{◌/◌, min, Option}
-use Rattle.scx_dsq.specs.declared.entries.Entry.{Entry}
+use Rattle.std.specs.Prelude.{◌/◌, min}
 use Rattle.scx_maps.specs.Lending.{all_bytes}
 use Rattle.scx_weights.specs.Hierarchy.{Hierarchy}
 use Rattle.scx_weights.specs.Limits.{usage_of}
@@ -88,15 +87,17 @@ limited_parts t clock n m w old xs new now many first last =
     behind old xs new (w ∷ []) (used_words t n) last first
     ∙ (ap (λ (k : ℕ). old ++ k ∷ used_words t n) now ∙ ap (λ (k : ℕ). old ++ clock ∷ used_words t k) many)
 
--- and a state
-pub state_written : (f : Form) (ids : List ℕ) (s : SimState) (rows : List Row) (order : List ℕ) (es : List (Option Entry)) (b : ℕ) (none first new : List ℕ) → rows ≡ rows_of f s.state.world ids → none ≡ [] → first ≡ none ++ b ∷ [] → new ≡ first ++ state_words f rows order s → IsFair f s.state.world order → es ≡ entries_of s.state.world → AreKnown ids es → IsWritten f ids new s
-state_written f ids s rows order es b none first new kept clear one all fair at known = record {
+-- and all of them
+pub words_written : (f : Form) (rows : List Row) (order : List ℕ) (s : SimState) (b : ℕ) (none first new : List ℕ) → none ≡ [] → first ≡ none ++ b ∷ [] → new ≡ first ++ state_words f rows order s → new ≡ b ∷ state_words f rows order s
+words_written f rows order s b none first new clear one all =
+    all ∙ ap (λ (l : List ℕ). l ++ state_words f rows order s) (one ∙ ap (λ (l : List ℕ). l ++ b ∷ []) clear)
+
+-- a state
+pub state_written : (f : Form) (ids : List ℕ) (s : SimState) (rows : List Row) (order : List ℕ) (b : ℕ) (new : List ℕ) → rows ≡ rows_of f s.state.world ids → new ≡ b ∷ state_words f rows order s → IsFair f s.state.world order → AreKnown ids (entries_of s.state.world) → IsWritten f ids new s
+state_written f ids s rows order b new kept all fair known = record {
   began = b;
   order = order;
   fair = fair;
-  known = subst (λ (xs : List (Option Entry)). AreKnown ids xs) at known;
-  words =
-      all
-      ∙ (ap (λ (l : List ℕ). l ++ state_words f rows order s) (one ∙ ap (λ (l : List ℕ). l ++ b ∷ []) clear)
-      ∙ ap (λ (rs : List Row). b ∷ state_words f rs order s) kept);
+  known = known;
+  words = all ∙ ap (λ (rs : List Row). b ∷ state_words f rs order s) kept;
 }

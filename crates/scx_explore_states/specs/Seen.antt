@@ -45,10 +45,10 @@ IsEntered v xs way (Was k) new = (k < v.count) × (state_at v k ≡ xs) × (new 
 IsEntered v xs way (New k) new = (k ≡ v.count) × (new ≡ with_state v xs way)
 IsEntered v xs way Full new = new ≡ v
 
--- the place of a state that is kept is its number
+-- the place of a state that is kept is its number; one that isn't may be kept if it has as many words
 abbrev pub IsPlace : Kept → List ℕ → Place → Type 0
 IsPlace v xs (Of k) = (k < v.count) × (state_at v k ≡ xs)
-IsPlace v xs (Free k) = Unit {0}
+IsPlace v xs (Free k) = length xs ≡ v.width
 IsPlace v xs Nowhere = Unit {0}
 
 -- what is kept, in its fields
@@ -68,4 +68,3 @@ pub record IsFilled (i : Inside) : Type 0 where
   pub room : i.room * i.width ≤ vec_capacity i.words
   pub ways_room : i.room ≤ vec_capacity i.ways
   pub few : i.count ≤ i.room
-  pub slots : 0 < length i.slots.items

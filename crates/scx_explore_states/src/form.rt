@@ -1,10 +1,8 @@
-ghost use Rattle.std.specs.Prelude.{◌≡◌, ◌≤◌, true, length, nat_lt};
+ghost use Rattle.std.specs.Prelude.{◌≡◌, ◌≤◌, true, nat_lt};
 ghost use Rattle.scx_explore_states.specs.Forms.{form_of, without_names};
 
-use crate::order::Order;
-use crate::rows::{Row, kept_tasks, rows_of};
+use crate::rows::kept_tasks;
 use crate::uses::Uses;
-use crate::words::Words;
 use scx_sched::Sim;
 
 /// The most tasks of a machine that is searched.
@@ -115,96 +113,9 @@ impl Form {
     {
         1 + usize::from(self.keys) + usize::from(self.vtime) + usize::from(self.run_ns)
     }
-
-    /// Writes the state, and who began to run while another waits, in the order of the words.
-    pub fn write(self, sim: &Sim, began: u64, words: &mut Words)
-        ensures { length words.new ≡ length words.old }
-    {
-        let rows = rows_of(self, sim, &mut words.numbers);
-        words.begin();
-        if self.names {
-            words.put(began);
-            self.write_rows(&rows, Order::OWN, kept_tasks(sim), words);
-        } else {
-            let order = Order::of(sim, &rows).settled(sim, &rows, began);
-            words.put(order.by_places(began));
-            self.write_rows(&rows, order, kept_tasks(sim), words);
-        }
-        self.write_times(sim, words);
-        write_usages(sim, words);
-        words.put_bytes(sim.maps().bytes());
-    }
-
-    /// Who began to run while another waits, in a state that was written as those words. The machine is in that state,
-    /// with tasks of a group in any places, and `words` are those by which the state was written.
-    pub fn began(self, sim: &Sim, state: &[u64], words: &mut Words) -> u64
-        ensures { words.new ≡ words.old }
-    {
-        let began = match state.first() {
-            Some(began) => *began,
-            None => 0,
-        };
-        if self.names {
-            return began;
-        }
-        let rows = rows_of(self, sim, &mut words.numbers);
-        Order::of(sim, &rows).by_tasks(began)
-    }
-
-    fn write_rows(self, rows: &[Row; MOST_TASKS], order: Order, tasks: usize, words: &mut Words)
-        requires { tasks ≤ 8 }
-        ensures { length words.new ≡ length words.old }
-    {
-        for pair in 0..tasks.div_ceil(2) {
-            let (first, second) = (order.row(rows, 2 * pair), order.row(rows, 2 * pair + 1));
-            words.put(first.spot << 32 | second.spot);
-        }
-        for place in 0..tasks {
-            self.write_row(order.row(rows, place), words);
-        }
-    }
-
-    fn write_row(self, row: Row, words: &mut Words)
-        ensures { length words.new ≡ length words.old }
-    {
-        words.put(row.slice);
-        if self.keys {
-            words.put(row.key);
-        }
-        if self.vtime {
-            words.put(row.vtime);
-        }
-        if self.run_ns {
-            words.put(row.run_ns);
-        }
-    }
-
-    fn write_times(self, sim: &Sim, words: &mut Words)
-        ensures { length words.new ≡ length words.old }
-    {
-        if self.clock {
-            words.put(sim.clock());
-        }
-        if self.pushes {
-            words.put(sim.world().pushes());
-        }
-    }
 }
 
-/// Where a group has a quota: what each has used, and the clock, with which periods begin.
-fn write_usages(sim: &Sim, words: &mut Words)
-    ensures { length words.new ≡ length words.old }
-{
-    if !sim.world().is_limited() {
-        return;
-    }
-    words.put(sim.clock());
-    for group in 0..sim.groups() {
-        words.put(sim.usage(group));
-    }
-}
-
-/// How many words `write_usages` writes.
+/// How many words say what groups have used.
 fn usage_words(sim: &Sim) -> usize
     ensures { result ≤ 4294967296 }
 {

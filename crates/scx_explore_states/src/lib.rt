@@ -7,6 +7,7 @@
 
 mod form;
 mod laws;
+mod marks;
 mod order;
 mod queue_numbers;
 mod rows;

@@ -1,12 +1,10 @@
-ghost use Rattle.std.specs.Prelude.{◌≡◌, ◌+◌, ◌<◌, ◌≤◌, ◌++◌, true, length, IfOk, vec_capacity};
-ghost use Rattle.scx_explore_states.specs.Seen.{IsEntered, IsKept, IsPlace, state_at, way_at, no_states};
+ghost use Rattle.std.specs.Prelude.{◌≡◌, ◌+◌, ◌<◌, ◌≤◌, ◌++◌, true, length, IfOk, IfSome, vec_capacity};
+ghost use Rattle.scx_explore_states.specs.Seen.{IsEntered, IsPlace, state_at, way_at, no_states};
 
+use crate::marks::{Marks, PROBES};
 use crate::step::Step;
 use std::alloc::{AllocError, Global};
 use std::marker::Model;
-
-/// In how many places a state is looked for.
-const PROBES: usize = 256;
 
 /// How a state was come to: from which one, and by which step.
 #[derive(Clone, Copy)]
@@ -42,8 +40,7 @@ pub struct Seen {
     count: usize,
     words: Vec<u64>,
     ways: Vec<Way>,
-    /// At a place, one more than the number of a state, or 0.
-    slots: Vec<usize>,
+    marks: Marks,
 }
 
 impl Model for Seen {
@@ -77,7 +74,7 @@ impl Seen {
             count: 0,
             words: Vec::with_capacity(alloc, words)?,
             ways: Vec::with_capacity(alloc, room)?,
-            slots: vec![in alloc; 0; (room / 4).saturating_mul(5).saturating_add(1)]?,
+            marks: Marks::new(alloc, room)?,
         })
     }
 
@@ -116,20 +113,20 @@ impl Seen {
         }
     }
 
-    /// Whether the state is kept.
-    pub fn has(&self, state: &[u64]) -> bool
-        requires { length state.now ≡ self.now.width }
-        ensures { result ≡ true → IsKept self.now state.now }
+    /// The number of the state, if it is kept.
+    pub fn number_of(&self, state: &[u64]) -> Option<usize>
+        ensures there { IfSome result (λ number. number < self.now.count) }
+        ensures same { IfSome result (λ number. state_at self.now number ≡ state.now) }
     {
         match self.look(state) {
-            Place::Of(_) => true,
-            Place::Free(_) | Place::Nowhere => false,
+            Place::Of(number) => Some(number),
+            Place::Free(_) | Place::Nowhere => None,
         }
     }
 
-    /// Enters a state, if it wasn't met before. The hash only says where to look.
+    /// Enters a state, if it wasn't met before. The hash only says where to look. There is no room for one of another
+    /// length.
     pub fn enter(&mut self, state: &[u64], way: Way) -> Entered
-        requires { length state.now ≡ self.old.width }
         ensures { IsEntered self.old state.now way result self.new }
     {
         match self.look(state) {
@@ -141,18 +138,19 @@ impl Seen {
 
     /// Where the state is kept, or may be.
     fn look(&self, state: &[u64]) -> Place
-        requires { length state.now ≡ self.now.width }
         ensures { IsPlace self.now state.now result }
     {
+        if state.len() != self.width {
+            return Place::Nowhere;
+        }
         let start = hash(state);
         for probe in 0..PROBES {
-            let at = start.wrapping_add(probe) % self.slots.len();
-            let mark = self.slots[at];
-            if mark == 0 {
+            let at = self.marks.place(start, probe);
+            let Some(number) = self.marks.number_at(at) else {
                 return Place::Free(at);
-            }
-            if self.is_at(mark - 1, state) {
-                return Place::Of(mark - 1);
+            };
+            if self.is_at(number, state) {
+                return Place::Of(number);
             }
         }
         Place::Nowhere
@@ -180,11 +178,32 @@ impl Seen {
         }
         append(&mut self.words, state);
         self.ways.push_reserved(way);
+        let number = self.count;
         self.count += 1;
-        if at < self.slots.len() {
-            self.slots[at] = self.count;
+        self.marks.set(at, number);
+        self.widen_if_few();
+        Entered::New(number)
+    }
+
+    /// Where many of the places are taken there are more of them, and each state has another one.
+    fn widen_if_few(&mut self)
+        ensures { self.new ≡ self.old }
+    {
+        if self.marks.are_few(self.count) {
+            self.marks.widen();
+            mark_all(&mut self.marks, &self.words, self.width);
         }
-        Entered::New(self.count - 1)
+    }
+}
+
+/// Each state of so many words has a place.
+fn mark_all(marks: &mut Marks, words: &[u64], width: usize)
+    requires { 0 < width }
+{
+    let mut number: usize = 0;
+    for state in words.chunks(width) {
+        marks.add_from(hash(state), number);
+        number = number.saturating_add(1);
     }
 }
 
@@ -203,8 +222,7 @@ fn append(words: &mut Vec<u64>, state: &[u64])
 fn hash(state: &[u64]) -> usize {
     let mut sum: u64 = 0;
     for word in state {
-        sum = (sum ^ *word).wrapping_mul(0x9e37_79b9_7f4a_7c15);
-        sum ^= sum >> 29;
+        sum = (sum.rotate_left(29) ^ *word).wrapping_mul(0x9e37_79b9_7f4a_7c15);
     }
     sum as usize
 }

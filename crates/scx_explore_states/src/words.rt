@@ -1,18 +1,16 @@
-ghost use Rattle.std.specs.Prelude.{◌≡◌, length, IfOk};
+ghost use Rattle.std.specs.Prelude.{◌≡◌, ◌∷◌, ◌++◌, [], true, IfOk};
 ghost use Rattle.scx_explore_states.specs.Written.{joined, word_of};
 
 use crate::queue_numbers::QueueNumbers;
 use std::alloc::{AllocError, Global};
 use std::marker::Model;
 
-/// A place for so many words, which are written one after another. What is past its end is lost.
+/// The words of a state, with room for so many, and the numbers of queues in them.
 ///
 /// In a contract it is the words.
 #[derive(Drop)]
 pub struct Words {
-    words: Vec<u64>,
-    at: usize,
-    /// Those by which the words name queues.
+    pub(crate) words: Vec<u64>,
     pub(crate) numbers: QueueNumbers,
 }
 
@@ -25,13 +23,12 @@ impl Model for Words {
 }
 
 impl Words {
-    /// Room for so many words, which are 0.
+    /// There are none, and room for so many.
     pub fn new(alloc: Global, width: usize) -> Result<Words, AllocError>
-        ensures { IfOk result (λ words. length words ≡ width) }
+        ensures { IfOk result (λ words. words ≡ []) }
     {
         Ok(Words {
-            words: vec![in alloc; 0; width]?,
-            at: 0,
+            words: Vec::with_capacity(alloc, width)?,
             numbers: QueueNumbers::new(alloc)?,
         })
     }
@@ -48,32 +45,23 @@ impl Words {
         &self.numbers
     }
 
-    /// The next word is the first one.
-    pub(crate) fn begin(&mut self)
-        ensures { self.new ≡ self.old }
+    /// Puts a word behind those that are there, if there is room for it.
+    pub fn put(&mut self, word: u64) -> bool
+        ensures { result ≡ true → self.new ≡ self.old ++ word ∷ [] }
     {
-        self.at = 0;
+        put(&mut self.words, word)
     }
+}
 
-    /// Puts a word behind those that are written.
-    pub fn put(&mut self, word: u64)
-        ensures { length self.new ≡ length self.old }
-    {
-        let at = self.at;
-        if at < self.words.len() {
-            self.words[at] = word;
-            self.at = at + 1;
-        }
+/// Puts a word behind the others, if there is room for it.
+pub(crate) fn put(words: &mut Vec<u64>, word: u64) -> bool
+    ensures { result ≡ true → words.new.items ≡ words.old.items ++ word ∷ [] }
+{
+    if words.len() < words.capacity() {
+        words.push_reserved(word);
+        return true;
     }
-
-    /// Eight bytes a word, the last one filled up with zeros.
-    pub(crate) fn put_bytes(&mut self, bytes: &[u8])
-        ensures { length self.new ≡ length self.old }
-    {
-        for chunk in bytes.chunks(8) {
-            self.put(word_of(chunk));
-        }
-    }
+    false
 }
 
 /// The number of at most eight bytes, high byte first.

@@ -1,12 +1,13 @@
 ghost use Rattle.std.specs.Prelude.{ℕ, ◌≡◌, ◌+◌, ◌*◌, ◌/◌, ◌<◌, ◌≤◌, ◌∷◌, ◌++◌, [], true, length, Contains, IfSome};
+ghost use Rattle.scx_explore_states.specs.Rows.{entries_of};
 ghost use Rattle.scx_explore_states.specs.Words.{number_in};
 ghost use Rattle.scx_explore_states.specs.Written.{AreKnown, IsFair, IsWritten, byte_words, eight_at, home_at, joined, kept_word, own_order, row_in, row_words, rows_words, spot_words, state_words, task_in, task_words, time_words, usage_words, used_words, word_of};
 
 use crate::form::{Form, MOST_TASKS};
 use crate::order::Order;
 use crate::queue_numbers::QueueNumbers;
-use crate::rows::{Row, entries_of, kept_tasks, rows_by};
-use crate::words::word_of;
+use crate::rows::{Row, kept_tasks, rows_by, rows_of};
+use crate::words::{Words, put, word_of};
 use scx_isa::{Field, TaskId};
 use scx_sched::{Entry, Sim};
 use scx_vm::Env;
@@ -15,8 +16,17 @@ use scx_vm::Env;
 type TaskOrder = [u8; MOST_TASKS];
 
 impl Form {
-    /// Writes the words of a state in place of those in the list: those that `write` writes, where queues have these
-    /// numbers. Answers false where there is no room for them, or a task waits in a queue without a number.
+    /// Writes the state, and who began to run while another waits, in place of the words that are there. The queues in
+    /// which tasks wait have numbers from now on. What has no room is left out.
+    pub fn write(self, sim: &Sim, began: u64, words: &mut Words) {
+        let rows = rows_of(self, sim, &mut words.numbers);
+        let order = self.order_of(sim, &rows, began);
+        let first = order.by_places(began);
+        self.write_words(sim, first, &rows, &order.tasks(), &mut words.words);
+    }
+
+    /// The same, where queues have these numbers. Answers false where there is no room for the words, or a task waits in
+    /// a queue without a number.
     pub fn write_state(
         self,
         sim: &Sim,
@@ -29,18 +39,14 @@ impl Form {
         let rows = rows_by(self, sim, numbers);
         let order = self.order_of(sim, &rows, began);
         let tasks = order.tasks();
-        words.clear();
-        if !put(words, order.by_places(began)) {
-            return false;
-        }
-        if !self.put_state(sim, &rows, &tasks, words) {
+        let first = order.by_places(began);
+        if !self.write_words(sim, first, &rows, &tasks, words) {
             return false;
         }
         if !self.is_fair(sim, &tasks) {
             return false;
         }
-        let entries = entries_of(sim);
-        are_known(&entries, numbers)
+        are_known(sim, numbers)
     }
 
     /// Who began to run while another waits, in a state that was written as those words, with queues numbered so.
@@ -57,12 +63,36 @@ impl Form {
     }
 
     /// Where tasks are told apart each stands at its own place.
+    #[inline(always)]
     fn order_of(self, sim: &Sim, rows: &[Row; MOST_TASKS], began: u64) -> Order {
         if self.names {
-            Order::OWN
-        } else {
-            Order::of(sim, rows).settled(sim, rows, began)
+            return Order::OWN;
         }
+        let order = Order::of(sim, rows);
+        if began == 0 {
+            order
+        } else {
+            order.settled(sim, rows, began)
+        }
+    }
+
+    /// Writes the first word and behind it those of the state, in place of those in the list.
+    fn write_words(
+        self,
+        sim: &Sim,
+        first: u64,
+        rows: &[Row; MOST_TASKS],
+        order: &TaskOrder,
+        words: &mut Vec<u64>,
+    ) -> bool
+        ensures { result ≡ true → words.new.items
+            ≡ first ∷ state_words self rows.now order.now sim.now }
+    {
+        words.clear();
+        if !put(words, first) {
+            return false;
+        }
+        self.put_state(sim, rows, order, words)
     }
 
     /// Puts all words but the first one.
@@ -152,11 +182,15 @@ impl Form {
         put_kept(self.pushes, pushes, words)
     }
 
-    /// Whether each task stands somewhere, and at its own place or at that of another one of its group.
+    /// Whether each task stands at its own place; or somewhere, at its own place or at that of another one of its group,
+    /// where tasks aren't told apart.
     fn is_fair(self, sim: &Sim, order: &TaskOrder) -> bool
         ensures { result ≡ true → IsFair self sim.now.state.world order.now }
     {
-        if !self.keeps_names(order) {
+        if is_same(order, &[0, 1, 2, 3, 4, 5, 6, 7]) {
+            return true;
+        }
+        if self.names {
             return false;
         }
         if !is_whole(order) {
@@ -164,25 +198,20 @@ impl Form {
         }
         keeps_homes(sim, order)
     }
-
-    /// Whether each task stands at its own place, where tasks are told apart.
-    fn keeps_names(self, order: &TaskOrder) -> bool
-        ensures { result ≡ true → self.names ≡ true → order.now ≡ own_order }
-    {
-        !self.names || is_same(order, &[0, 1, 2, 3, 4, 5, 6, 7])
-    }
 }
 
 /// Whether each task that waits does so in a queue that has a number.
-fn are_known(entries: &[Option<Entry>], numbers: &QueueNumbers) -> bool
-    ensures { result ≡ true → AreKnown numbers.now entries.now }
+fn are_known(sim: &Sim, numbers: &QueueNumbers) -> bool
+    ensures { result ≡ true → AreKnown numbers.now (entries_of sim.now.state.world) }
 {
-    for at in 0..entries.len() {
-        if !is_known(entries[at], numbers) {
-            return false;
-        }
-    }
-    true
+    is_known(sim.entry(0), numbers)
+        && is_known(sim.entry(1), numbers)
+        && is_known(sim.entry(2), numbers)
+        && is_known(sim.entry(3), numbers)
+        && is_known(sim.entry(4), numbers)
+        && is_known(sim.entry(5), numbers)
+        && is_known(sim.entry(6), numbers)
+        && is_known(sim.entry(7), numbers)
 }
 
 fn is_known(entry: Option<Entry>, numbers: &QueueNumbers) -> bool
@@ -192,17 +221,6 @@ fn is_known(entry: Option<Entry>, numbers: &QueueNumbers) -> bool
         Some(entry) => numbers.number_of(entry.queue) < numbers.len(),
         None => true,
     }
-}
-
-/// Puts a word behind the others, if there is room for it.
-fn put(words: &mut Vec<u64>, word: u64) -> bool
-    ensures { result ≡ true → words.new.items ≡ words.old.items ++ word ∷ [] }
-{
-    if words.len() < words.capacity() {
-        words.push_reserved(word);
-        return true;
-    }
-    false
 }
 
 fn put_kept(is_kept: bool, word: u64, words: &mut Vec<u64>) -> bool
@@ -232,7 +250,7 @@ fn put_spots(
 }
 
 /// Half a word of each.
-pub(crate) fn spots_of(first: Row, second: Row) -> u64
+fn spots_of(first: Row, second: Row) -> u64
     ensures { result ≡ joined 32 first.spot second.spot }
 {
     first.spot << 32 | second.spot
@@ -371,7 +389,7 @@ fn keeps_home(sim: &Sim, order: &TaskOrder, place: u16) -> bool
 }
 
 /// The group of a task; a number that no group has where there is no such task.
-fn home_at(sim: &Sim, task: u16) -> u64
+pub(crate) fn home_at(sim: &Sim, task: u16) -> u64
     ensures { result ≡ home_at sim.now.state.world task }
 {
     if task < sim.tasks() {
