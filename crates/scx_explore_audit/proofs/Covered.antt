@@ -1,66 +1,198 @@
 -- That a table that is closed has covered every list.
-use Rattle.std.proofs.Common.{◌≡◌, ℕ, List, [], ◌∷◌, ◌++◌, get_or, All, None, refl, sym, ◌∙◌, subst}
-use Rattle.std.proofs.lemmas.List.Elements.{All-nil, All-head, All-tail, All-push}
+use Rattle.std.proofs.Common.{◌≡◌, ℕ, suc, ◌+◌, ◌≤◌, List, [], ◌∷◌, ◌++◌, length, map, All, Option, None, Some, refl, sym, ap, ◌∙◌, subst, arith}
+use Rattle.std.specs.Prelude.{IfSome}
+use Rattle.std.proofs.lemmas.List.Elements.{All-nil, All-push, All-head, All-tail, All-map, All-weaker}
+use Rattle.std.proofs.lemmas.List.{append-nil, append_assoc, length-map}
 use Rattle.scx_sched_machine.specs.declared.events.Event.{Event}
-use Rattle.scx_sched.specs.Sim.{SimState, refusal, after_event}
+use Rattle.scx_sched.specs.Sim.{SimState, after_event}
 use Rattle.scx_load_driver.specs.Runs.{stepped_all, AreAccepted}
+use Rattle.scx_explore_findings.specs.declared.finding.Sort.{Sort}
+use Rattle.scx_explore_states.specs.Seen.{state_at}
 use Rattle.scx_explore_states.specs.Written.{IsWritten}
-use Rattle.scx_explore_audit.specs.Claims.{IsTried, ShowsNone}
-use Rattle.scx_explore_audit.specs.Closed.{Claim, IsReached, IsMatched, Respects, IsMet, IsDone, IsClosed}
-use Rattle.scx_explore_audit.specs.Laws.{ClosedTablesCover}
+use Rattle.scx_explore_audit.specs.declared.table.Moves.{Moves}
+use Rattle.scx_explore_audit.specs.declared.table.Moves.TheVariants.{Events}
+use Rattle.scx_explore_audit.specs.Claims.{IsTried, IsMove, ShowsNone, list_of}
+use Rattle.scx_explore_audit.specs.Closed.{Claim, IsReached, IsMatched, IsSurvived, IsWithin, Respects, IsMet, LeadsBack, IsDone, IsClosed, depth_at}
+use Rattle.scx_explore_audit.specs.Laws.{ClosedTablesCover, ListsAreOfEvents}
 
--- ---- lists of events
+-- ---- events behind others
 
 -- one event behind others
 pub stepped_push : (s : SimState) (es : List Event) (e : Event) → stepped_all s (es ++ e ∷ []) ≡ after_event (stepped_all s es) e
 stepped_push s [] e = refl
 stepped_push s (x ∷ es) e = stepped_push (after_event s x) es e
 
--- which is accepted
-pub accepted_push : (s : SimState) (es : List Event) (e : Event) → AreAccepted s es → refusal (stepped_all s es) e ≡ None → AreAccepted s (es ++ e ∷ [])
-accepted_push s [] e h fine = (fine, tt)
-accepted_push s (x ∷ es) e h fine = (h.0, accepted_push (after_event s x) es e h.1 fine)
+-- events behind others
+pub stepped_append : (s : SimState) (es rest : List Event) → stepped_all s (es ++ rest) ≡ stepped_all (stepped_all s es) rest
+stepped_append s [] rest = refl
+stepped_append s (e ∷ es) rest = stepped_append (after_event s e) es rest
 
--- the state before any event
-pub reached_first : (root : SimState) → root.state.world.ejected ≡ None → IsReached root root
-reached_first root force = record {
-  events = [];
-  tried = All-nil (IsTried root);
+-- all of which are accepted
+pub accepted_append : (s : SimState) (es rest : List Event) → AreAccepted s es → AreAccepted (stepped_all s es) rest → AreAccepted s (es ++ rest)
+accepted_append s [] rest first second = second
+accepted_append s (e ∷ es) rest first second = (first.0, accepted_append (after_event s e) es rest first.1 second)
+
+-- events behind which the policy stays in force are accepted
+survived_accepted : (s : SimState) (es : List Event) → IsSurvived s es → AreAccepted s es
+survived_accepted s [] survived = tt
+survived_accepted s (e ∷ es) survived = (survived.0, survived_accepted (after_event s e) es survived.2)
+
+-- and it is in force behind all of them
+survived_force : (s : SimState) (es : List Event) → s.state.world.ejected ≡ None → IsSurvived s es → (stepped_all s es).state.world.ejected ≡ None
+survived_force s [] force survived = force
+survived_force s (e ∷ es) force survived = survived_force (after_event s e) es survived.1 survived.2
+
+-- ---- moves
+
+-- one move behind others
+list_push : (list : List (List Event)) (es : List Event) → list_of (list ++ es ∷ []) ≡ list_of list ++ es
+list_push [] es = append-nil es
+list_push (xs ∷ list) es = ap (λ (ys : List Event). xs ++ ys) (list_push list es) ∙ sym (append_assoc xs (list_of list) es)
+
+-- the state before any move
+pub reached_first : (moves : Moves) (root : SimState) → root.state.world.ejected ≡ None → IsReached moves root root
+reached_first moves root force = record {
+  list = [];
+  made = All-nil (IsMove moves root);
   accepted = tt;
   state = refl;
   force = force;
 }
 
--- one event further
-further : (root s : SimState) (e : Event) → IsReached root s → IsTried root e → refusal s e ≡ None → (after_event s e).state.world.ejected ≡ None → IsReached root (after_event s e)
-further root s e h tried fine force = record {
-  events = h.events ++ e ∷ [];
-  tried = All-push (IsTried root) h.events e h.tried tried;
-  accepted = accepted_push root h.events e h.accepted (subst (λ (t : SimState). refusal t e ≡ None) h.state fine);
-  state = subst (λ (t : SimState). after_event s e ≡ after_event t e) h.state refl ∙ sym (stepped_push root h.events e);
-  force = force;
-}
+-- one move further
+further : (moves : Moves) (root s : SimState) (es : List Event) → IsReached moves root s → IsMove moves root es → IsSurvived s es → IsReached moves root (stepped_all s es)
+further moves root s es h move survived =
+    let is : list_of (h.list ++ es ∷ []) ≡ list_of h.list ++ es = list_push h.list es in
+    record {
+      list = h.list ++ es ∷ [];
+      made = All-push (IsMove moves root) h.list es h.made move;
+      accepted =
+          subst (λ (xs : List Event). AreAccepted root xs) (sym is)
+          (accepted_append root (list_of h.list) es h.accepted
+          (subst (λ (t : SimState). AreAccepted t es) h.state (survived_accepted s es survived)));
+      state =
+          ap (λ (t : SimState). stepped_all t es) h.state ∙ sym (stepped_append root (list_of h.list) es)
+          ∙ ap (λ (xs : List Event). stepped_all root xs) (sym is);
+      force = survived_force s es h.force survived;
+    }
+
+-- ---- what is shown
+
+-- what leads back shows nothing
+leads_shows : (c : Claim) (n : ℕ) (s : SimState) (es : List Event) → LeadsBack c n s es → ShowsNone c.sorts s es
+leads_shows c n s [] leads = tt
+leads_shows c n s (e ∷ es) leads = λ fine. (
+  (leads fine).0,
+  λ force. leads_shows c n (after_event s e) es ((leads fine).1 force),
+)
+
+-- and where it is survived, the state behind it is kept
+leads_met : (c : Claim) (n : ℕ) (s : SimState) (es : List Event) → LeadsBack c n s es → IsSurvived s es → IsWithin c.limit n → IsMet c n (stepped_all s es)
+leads_met c n s [] leads survived within = leads within
+leads_met c n s (e ∷ es) leads survived within =
+    leads_met c n (after_event s e) es ((leads survived.0).1 survived.1) survived.2 within
+
+-- a list shows nothing if its beginning doesn't, and nor does what is behind it
+shows_append : (sorts : List Sort) (s : SimState) (es rest : List Event) → ShowsNone sorts s es → (IsSurvived s es → ShowsNone sorts (stepped_all s es) rest) → ShowsNone sorts s (es ++ rest)
+shows_append sorts s [] rest first second = second tt
+shows_append sorts s (e ∷ es) rest first second = λ fine. (
+  (first fine).0,
+  λ force.
+      shows_append sorts (after_event s e) es rest ((first fine).1 force) (λ survived. second (fine, force, survived)),
+)
+
+-- ---- how many moves there are
+
+-- where one more comes
+within_more : (limit : Option ℕ) (n m : ℕ) → IfSome limit (λ most. n + suc m ≤ most) → IsWithin limit n
+within_more None n m few = tt
+within_more (Some most) n m few = omega (arith, few)
+
+-- before the first one
+none_came : (limit : Option ℕ) (m : ℕ) → IfSome limit (λ most. m ≤ most) → IfSome limit (λ most. 0 + m ≤ most)
+none_came None m few = tt
+none_came (Some most) m few = omega (arith, few)
+
+-- of which one has come
+one_came : (limit : Option ℕ) (n m : ℕ) → IfSome limit (λ most. n + suc m ≤ most) → IfSome limit (λ most. n + 1 + m ≤ most)
+one_came None n m few = tt
+one_came (Some most) n m few = omega (arith, few)
+
+-- fewer are within it
+within_fewer : (limit : Option ℕ) (d n : ℕ) → IfSome limit (λ most. d ≤ n) → IsWithin limit n → IsWithin limit d
+within_fewer None d n few within = tt
+within_fewer (Some most) d n few within = omega (arith, few, within)
+
+-- one more on both sides
+one_more : (limit : Option ℕ) (d n : ℕ) → IfSome limit (λ most. d ≤ n) → IfSome limit (λ most. d + 1 ≤ n + 1)
+one_more None d n few = tt
+one_more (Some most) d n few = omega (arith, few)
+
+no_more : (limit : Option ℕ) (k d n : ℕ) → IfSome limit (λ most. k ≤ d) → IfSome limit (λ most. d ≤ n) → IfSome limit (λ most. k ≤ n)
+no_more None k d n less few = tt
+no_more (Some most) k d n less few = omega (arith, less, few)
 
 -- ---- the law
 
-covers : (c : Claim) (root : SimState) (depth : ℕ) → Respects c.form c.ids root depth → IsClosed c root depth → (events : List Event) (s : SimState) → IsReached root s → IsMet c s → All (IsTried root) events → ShowsNone c.sorts s events
-covers c root depth respects closed [] s reached met tried = tt
-covers c root depth respects closed (e ∷ es) s reached met tried = λ fine.
-    let k : ℕ = met.kept.0 in
-    let done : IsDone c root depth k = closed.each k met.kept.1 in
-    let here : IsTried root e = All-head (IsTried root) e es tried in
-    let m : IsMatched c.form c.ids root s done.state e =
-    respects met.words s done.state e reached done.near met.written (subst (λ (xs : List ℕ). IsWritten c.form c.ids xs done.state) met.kept.2 done.written) here fine in
-    let leads = done.events m.event m.tried m.accepted in (
-      λ j d l. m.free (get_or c.sorts j d) (leads.0 j d l),
-      λ force.
-          let to : IsMet c (after_event done.state m.event) = leads.1 (m.force force) in
-          covers c root depth respects closed es (after_event s e) (further root s e reached here fine force)
-          (record { words = to.words; kept = to.kept; written = m.written to.words force to.written })
-          (All-tail (IsTried root) e es tried),
-    )
+-- what stands for one state stands for the other, where no fewer moves came before
+met_as : (c : Claim) (d n : ℕ) (s t : SimState) → IfSome c.limit (λ most. d ≤ n) → ((xs : List ℕ) → IsWritten c.form c.ids xs t → IsWritten c.form c.ids xs s) → (IsWithin c.limit d → IsMet c d t) → IsWithin c.limit n → IsMet c n s
+met_as c d n s t few written there within =
+    let m : IsMet c d t = there (within_fewer c.limit d n few within) in
+    record {
+      number = m.number;
+      there = m.there;
+      depth = no_more c.limit (depth_at c m.number) d n m.depth few;
+      written = written (state_at c.kept m.number) m.written;
+    }
+
+covers : (c : Claim) (root : SimState) (room : ℕ) → Respects c.form c.ids c.moves c.sorts root room → IsClosed c root room → (list : List (List Event)) (n : ℕ) (s : SimState) → IsReached c.moves root s → (IsWithin c.limit n → IsMet c n s) → All (IsMove c.moves root) list → IfSome c.limit (λ most. n + length list ≤ most) → ShowsNone c.sorts s (list_of list)
+covers c root room respects closed [] n s reached met moves few = tt
+covers c root room respects closed (es ∷ list) n s reached met moves few =
+    let within : IsWithin c.limit n = within_more c.limit n (length list) few in
+    let m : IsMet c n s = met within in
+    let k : ℕ = m.number in
+    let d : ℕ = depth_at c k in
+    let done : IsDone c root room k = closed.each k m.there (within_fewer c.limit d n m.depth within) in
+    let move : IsMove c.moves root es = All-head (IsMove c.moves root) es list moves in
+    let other : IsMatched c.form c.ids c.moves c.sorts root s done.state es =
+    respects (state_at c.kept k) s done.state es reached done.near m.written done.written move in
+    let leads : LeadsBack c (d + 1) done.state other.other = done.moves other.other other.move in
+    shows_append c.sorts s es (list_of list) (other.free (leads_shows c (d + 1) done.state other.other leads))
+    (λ survived.
+    covers c root room respects closed list (n + 1) (stepped_all s es)
+    (further c.moves root s es reached move survived)
+    (met_as c (d + 1) (n + 1) (stepped_all s es) (stepped_all done.state other.other) (one_more c.limit d n m.depth)
+    (λ xs. other.written xs survived)
+    (leads_met c (d + 1) done.state other.other leads (other.there survived)))
+    (All-tail (IsMove c.moves root) es list moves)
+    (one_came c.limit n (length list) few))
 
 -- from the first state on
 pub closed_tables_cover : ClosedTablesCover
-closed_tables_cover c root depth respects closed events tried =
-    covers c root depth respects closed events root (reached_first root closed.force) closed.first tried
+closed_tables_cover c root room respects closed list moves few =
+    covers c root room respects closed list 0 root (reached_first c.moves root closed.force) closed.first moves
+    (none_came c.limit (length list) few)
+
+-- ---- lists of events
+
+-- each event is a move
+each_move : (root : SimState) (events : List Event) → All (IsTried root) events → All (IsMove Events root) (map (λ e. e ∷ []) events)
+each_move root events tried =
+    All-map (IsMove Events root) (λ e. e ∷ []) events
+    (All-weaker (IsTried root) (λ e. IsMove Events root (e ∷ [])) (λ e here. (e, here, refl)) events tried)
+
+-- one after another they are the list
+list_events : (events : List Event) → list_of (map (λ e. e ∷ []) events) ≡ events
+list_events [] = refl
+list_events (e ∷ events) = ap (λ (es : List Event). e ∷ es) (list_events events)
+
+-- of which there are as many
+as_many : (limit : Option ℕ) (n m : ℕ) → n ≡ m → IfSome limit (λ most. m ≤ most) → IfSome limit (λ most. n ≤ most)
+as_many limit n m same few = subst (λ (k : ℕ). IfSome limit (λ most. k ≤ most)) (sym same) few
+
+pub lists_are_of_events : ListsAreOfEvents
+lists_are_of_events limit sorts root none events tried few =
+    let moves : List (List Event) = map (λ e. e ∷ []) events in
+    subst (λ (es : List Event). ShowsNone sorts root es) (list_events events)
+    (none moves (each_move root events tried)
+    (as_many limit (length moves) (length events) (length-map events (λ e. e ∷ [])) few))

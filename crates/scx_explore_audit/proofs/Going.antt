@@ -1,5 +1,5 @@
 -- Paths that go on by an event, and back.
-use Rattle.std.proofs.Common.{◌≡◌, ℕ, ◌<◌, List, [], ◌∷◌, ◌++◌, length, take, All, Option, Some, None, is_none, if◌then◌else◌, Ok, Err, refl, sym, ap, ◌∙◌, subst}
+use Rattle.std.proofs.Common.{◌≡◌, ℕ, List, [], ◌∷◌, ◌++◌, length, take, All, Option, Some, None, is_none, if◌then◌else◌, Ok, refl, sym, ap, ◌∙◌, subst}
 use Rattle.std.proofs.lemmas.List.Elements.{All-push, All-take}
 use Rattle.scx_sched_machine.specs.declared.events.Event.{Event}
 use Rattle.scx_sched_machine.specs.declared.events.Refused.{Refused}
@@ -12,11 +12,6 @@ use Rattle.scx_explore_audit.proofs.Covered.{stepped_push}
 pub is_accepted : (o : Option Refused) (u : Unit {0}) → Ok u ≡ answer_of o → o ≡ None
 is_accepted None u e = refl
 is_accepted (Some r) u e = absurd (cc)
-
--- of one that is refused the refusal is
-pub is_refused : (o : Option Refused) (r : Refused) → Err r ≡ answer_of o → o ≡ Some r
-is_refused None r e = absurd (cc)
-is_refused (Some x) r e = cc
 
 -- an event that is accepted comes behind the list
 pub went_accepted : (p : PathState) (e : Event) → refusal (machine_of p) e ≡ None → went_on p e ≡ record p { events = p.events ++ e ∷ [] }
@@ -76,7 +71,3 @@ tried_back p q n back all =
 -- and of one that is the same
 pub tried_same : (p q : PathState) → q ≡ p → All (IsTried p.root) p.events → All (IsTried q.root) q.events
 tried_same p q is all = subst (λ (x : PathState). All (IsTried x.root) x.events) (sym is) all
-
--- which has as much room left
-pub few_same : (p q : PathState) → q ≡ p → length p.events < p.room → length q.events < q.room
-few_same p q is few = subst (λ (x : PathState). length x.events < x.room) (sym is) few

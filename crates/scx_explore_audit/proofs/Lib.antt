@@ -1,3 +1,4 @@
 mod Covered
 mod Going
-mod Leading
+mod Passing
+mod Settled

@@ -1,11 +1,15 @@
 -- Which lists of events are spoken of, and what none of them shows.
-use Rattle.std.specs.Prelude.{◌≡◌, ◌<◌, ⊤, List, [], ◌∷◌, length, All, None, Some}
+use Rattle.std.specs.Prelude.{◌≡◌, ℕ, zero, suc, ◌/◌, ◌%◌, ◌^◌, ◌<◌, ◌==◌, Bool, ⊤, List, [], ◌∷◌, ◌++◌, length, All, None, Some, if◌then◌else◌}
 use Rattle.scx_sched_machine.specs.declared.events.Event.{Event}
 use Rattle.scx_sched_machine.specs.declared.events.Event.TheVariants.{Wake, Sleep, Tick, Clock, SetWeight}
 use Rattle.scx_sched.specs.Sim.{SimState, refusal, after_event}
-use Rattle.scx_explore_findings.specs.Findings.{fault_in, IsIdleBehind}
+use Rattle.scx_explore_findings.specs.Findings.{fault_in, stall_in, IsIdleBehind}
 use Rattle.scx_explore_findings.specs.declared.finding.Sort.{Sort}
 use Rattle.scx_explore_findings.specs.declared.finding.Sort.TheVariants as sort
+use Rattle.scx_explore_audit.specs.declared.table.Moves.{Moves}
+use Rattle.scx_explore_audit.specs.declared.table.Moves.TheVariants.{Events, Milliseconds}
+
+-- ---- lists
 
 -- an event of a machine's tasks, of its processors, or of the clock; no change of a weight
 abbrev pub IsTried : SimState → Event → Type 0
@@ -15,12 +19,54 @@ IsTried r (Tick c) = c < length r.state.world.cpus
 IsTried r Clock = ⊤
 IsTried r (SetWeight g w) = ⊥
 
--- the event, which has led to that state, shows nothing of the sort: no ejection for that fault, and
--- no processor that its tick leaves idle while a task waits; of other sorts nothing is said
+-- the task is one of a set, in which each has a bit
+abbrev pub is_in : ℕ → ℕ → Bool
+is_in set t = set / 2 ^ t % 2 == 1
+
+-- of so many tasks from that one on the event of each that is of the set, by number
+abbrev pub of_tasks : (ℕ → Event) → ℕ → ℕ → ℕ → List Event
+of_tasks event set t zero = []
+of_tasks event set t (suc n) =
+    (if is_in set t then event t ∷ [] else []) ++ of_tasks event set (suc t) n
+
+-- of so many processors from that one on a tick of each, by number
+abbrev pub ticks : ℕ → ℕ → List Event
+ticks c zero = []
+ticks c (suc n) = Tick c ∷ ticks (suc c) n
+
+-- a millisecond of so many tasks and processors: those of the one set wake, each processor ticks,
+-- those of the other set go to sleep, and the clock grows
+abbrev pub millisecond : ℕ → ℕ → ℕ → ℕ → List Event
+millisecond tasks cpus wakes sleeps =
+    of_tasks (λ t. Wake t) wakes 0 tasks
+    ++ (ticks 0 cpus ++ (of_tasks (λ t. Sleep t) sleeps 0 tasks ++ Clock ∷ []))
+
+-- the events are a millisecond, with any two sets of tasks
+pub record IsMillisecond (tasks cpus : ℕ) (es : List Event) : Type 0 where
+  pub wakes : ℕ
+  pub sleeps : ℕ
+  pub list : es ≡ millisecond tasks cpus wakes sleeps
+
+-- of what lists are made: of single events, or of whole milliseconds
+abbrev pub IsMove : Moves → SimState → List Event → Type 0
+IsMove Events r es = (e : Event) × IsTried r e × (es ≡ e ∷ [])
+IsMove Milliseconds r es =
+    IsMillisecond (length r.state.world.tasks) (length r.state.world.cpus) es
+
+-- the list of these moves, one after another
+abbrev pub list_of : List (List Event) → List Event
+list_of [] = []
+list_of (es ∷ moves) = es ++ list_of moves
+
+-- ---- what is shown
+
+-- the event, which has led to that state, shows nothing of the sort: no ejection for that fault,
+-- none because a task waited too long, and no processor that its tick leaves idle while a task
+-- waits; of tasks that are overtaken nothing is said
 abbrev pub IsFree : Sort → SimState → Event → Type 0
 IsFree (sort.Fault f) s e = fault_in s.state.world.ejected ≡ Some f → ⊥
+IsFree sort.Stall s e = stall_in s.state.world.ejected ≡ None
 IsFree sort.Idle s e = s.state.world.ejected ≡ None → IsIdleBehind s e None
-IsFree sort.Stall s e = ⊥
 IsFree sort.Overtaken s e = ⊥
 
 -- the same of some sorts

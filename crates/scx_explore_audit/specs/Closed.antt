@@ -1,97 +1,141 @@
 -- Tables of states that are closed, and what is presumed of their words.
-use Rattle.std.specs.Prelude.{◌≡◌, ℕ, ◌<◌, List, length, All, None}
+use Rattle.std.specs.Prelude.{◌≡◌, ℕ, ◌+◌, ◌<◌, ◌≤◌, ⊤, List, [], ◌∷◌, length, slice_index, All, Option, None, Some, IfSome}
 use Rattle.scx_sched_machine.specs.declared.events.Event.{Event}
 use Rattle.scx_sched.specs.Sim.{SimState, refusal, after_event}
 use Rattle.scx_load_driver.specs.Runs.{stepped_all, AreAccepted}
 use Rattle.scx_explore_findings.specs.declared.finding.Sort.{Sort}
 use Rattle.scx_explore_states.specs.declared.form.Form.{Form}
-use Rattle.scx_explore_states.specs.Seen.{Kept, IsKept, state_at}
+use Rattle.scx_explore_states.specs.Seen.{Kept, state_at}
 use Rattle.scx_explore_states.specs.Written.{IsWritten}
-use Rattle.scx_explore_audit.specs.Claims.{IsTried, IsFree, AreFree}
+use Rattle.scx_explore_audit.specs.declared.table.Moves.{Moves}
+use Rattle.scx_explore_audit.specs.declared.table.Charted.{Charted}
+use Rattle.scx_explore_audit.specs.Claims.{IsTried, IsMove, AreFree, ShowsNone, list_of}
 
 -- what is audited: how states are written, with which numbers of queues, the states that are kept,
--- and the sorts of which none is to be shown
+-- the sorts of which none is to be shown, of which moves lists are made, how many a list has at
+-- most where that is bounded, and how many lead to each state
 pub record Claim : Type 0 where
   pub form : Form
   pub ids : List ℕ
   pub kept : Kept
   pub sorts : List Sort
+  pub moves : Moves
+  pub limit : Option ℕ
+  pub depths : List ℕ
 
--- by its parts
-abbrev pub claim : Form → List ℕ → Kept → List Sort → Claim
-claim f ids v sorts = record { form = f; ids = ids; kept = v; sorts = sorts }
+-- what is audited of a table whose depths are known
+abbrev pub claim_of : Charted → Claim
+claim_of c = record {
+  form = c.table.form;
+  ids = c.table.numbers.now;
+  kept = c.table.seen.now;
+  sorts = c.table.sorts.now;
+  moves = c.table.moves;
+  limit = c.table.limit;
+  depths = c.depths.now;
+}
+
+-- how many moves lead to the state of that number
+abbrev pub depth_at : Claim → ℕ → ℕ
+depth_at c k = slice_index c.depths k
+
+-- a list of so many moves may have one more
+abbrev pub IsWithin : Option ℕ → ℕ → Type 0
+IsWithin None n = ⊤
+IsWithin (Some limit) n = n < limit
 
 -- ---- states
 
--- the state is that after a list of such events, and the policy is in force
-pub record IsReached (root s : SimState) : Type 0 where
+-- the state is that after a list of such moves, and the policy is in force
+pub record IsReached (moves : Moves) (root s : SimState) : Type 0 where
+  pub list : List (List Event)
+  pub made : All (IsMove moves root) list
+  pub accepted : AreAccepted root (list_of list)
+  pub state : s ≡ stepped_all root (list_of list)
+  pub force : s.state.world.ejected ≡ None
+
+-- the state is that after fewer events than that, whichever, and the policy is in force
+pub record IsNear (root : SimState) (room : ℕ) (s : SimState) : Type 0 where
   pub events : List Event
   pub tried : All (IsTried root) events
   pub accepted : AreAccepted root events
   pub state : s ≡ stepped_all root events
   pub force : s.state.world.ejected ≡ None
+  pub few : length events < room
 
--- the same, with fewer events than that
-pub record IsNear (root : SimState) (depth : ℕ) (s : SimState) : Type 0 where
-  pub reached : IsReached root s
-  pub few : length reached.events < depth
+-- each of the events is accepted, and the policy stays in force behind each
+abbrev pub IsSurvived : SimState → List Event → Type 0
+IsSurvived s [] = ⊤
+IsSurvived s (e ∷ es) =
+    (refusal s e ≡ None) × ((after_event s e).state.world.ejected ≡ None)
+    × IsSurvived (after_event s e) es
 
 -- ---- what is presumed
 
--- What the event does in the first state that event does in the second one, as far as anything is
--- said of it: it shows no less, and what stands for the state behind it stands for the one behind the
--- first. The second list may go on where the first one ends: where a task waited too long.
-pub record IsMatched (f : Form) (ids : List ℕ) (root s t : SimState) (e : Event) : Type 0 where
-  pub event : Event
-  pub tried : IsTried root event
-  pub accepted : refusal t event ≡ None
-  pub free : (x : Sort) → IsFree x (after_event t event) event → IsFree x (after_event s e) e
-  pub force :
-      (after_event s e).state.world.ejected ≡ None
-      → (after_event t event).state.world.ejected ≡ None
+-- What the events do in the first state a move does in the second one, as far as anything is said
+-- of it: they show nothing where it doesn't, and what stands for the state behind it stands for the
+-- one behind them. The second list may go on where the first one ends: where a task waited too
+-- long.
+pub record IsMatched
+    (f : Form) (ids : List ℕ) (moves : Moves) (sorts : List Sort) (root s t : SimState)
+    (es : List Event) : Type 0 where
+  pub other : List Event
+  pub move : IsMove moves root other
+  pub free : ShowsNone sorts t other → ShowsNone sorts s es
+  pub there : IsSurvived s es → IsSurvived t other
   pub written :
       (xs : List ℕ)
-      → (after_event s e).state.world.ejected ≡ None
-      → IsWritten f ids xs (after_event t event)
-      → IsWritten f ids xs (after_event s e)
+      → IsSurvived s es
+      → IsWritten f ids xs (stepped_all t other)
+      → IsWritten f ids xs (stepped_all s es)
 
 -- what a form leaves out of a state changes nothing that is looked for: of two states that are
--- written as the same words, the second one after few events, each event of the first is matched
-abbrev pub Respects : Form → List ℕ → SimState → ℕ → Type 0
-Respects f ids root depth =
-    (xs : List ℕ) (s t : SimState) (e : Event)
-    → IsReached root s
-    → IsNear root depth t
+-- written as the same words, the first one after a list of moves and the second one after few
+-- events, each move of the first is matched
+abbrev pub Respects : Form → List ℕ → Moves → List Sort → SimState → ℕ → Type 0
+Respects f ids moves sorts root room =
+    (xs : List ℕ) (s t : SimState) (es : List Event)
+    → IsReached moves root s
+    → IsNear root room t
     → IsWritten f ids xs s
     → IsWritten f ids xs t
-    → IsTried root e
-    → refusal s e ≡ None
-    → IsMatched f ids root s t e
+    → IsMove moves root es
+    → IsMatched f ids moves sorts root s t es
 
 -- ---- what is audited
 
--- words that stand for the state are kept
-pub record IsMet (c : Claim) (s : SimState) : Type 0 where
-  pub words : List ℕ
-  pub kept : IsKept c.kept words
-  pub written : IsWritten c.form c.ids words s
+-- words that stand for the state are kept, and no more moves lead to them than that, where their
+-- number is bounded
+pub record IsMet (c : Claim) (n : ℕ) (s : SimState) : Type 0 where
+  pub number : ℕ
+  pub there : number < c.kept.count
+  pub depth : IfSome c.limit (λ limit. depth_at c number ≤ n)
+  pub written : IsWritten c.form c.ids (state_at c.kept number) s
 
--- if the event is accepted, it shows nothing, and ends the list or leads to a state that is kept
-abbrev pub LeadsBack : Claim → SimState → Event → Type 0
-LeadsBack c s e =
+-- as far as the events are accepted and the policy stays in force, they show nothing; and where all
+-- are and it does, the state behind them is kept, if a list of so many moves may have one more
+abbrev pub LeadsBack : Claim → ℕ → SimState → List Event → Type 0
+LeadsBack c n s [] = IsWithin c.limit n → IsMet c n s
+LeadsBack c n s (e ∷ es) =
     refusal s e ≡ None
     → AreFree c.sorts (after_event s e) e
-    × ((after_event s e).state.world.ejected ≡ None → IsMet c (after_event s e))
+    × ((after_event s e).state.world.ejected ≡ None → LeadsBack c n (after_event s e) es)
 
--- a state that is written as the words of that number is near, and each event leads back from it
-pub record IsDone (c : Claim) (root : SimState) (depth k : ℕ) : Type 0 where
+-- a state that is written as the words of that number is near, and each move leads back from it
+pub record IsDone (c : Claim) (root : SimState) (room k : ℕ) : Type 0 where
   pub state : SimState
-  pub near : IsNear root depth state
+  pub near : IsNear root room state
   pub written : IsWritten c.form c.ids (state_at c.kept k) state
-  pub events : (e : Event) → IsTried root e → LeadsBack c state e
+  pub moves :
+      (es : List Event) → IsMove c.moves root es → LeadsBack c (depth_at c k + 1) state es
 
--- the first state is kept, and from no state that is kept an event leads out of the table
-pub record IsClosed (c : Claim) (root : SimState) (depth : ℕ) : Type 0 where
+-- the same of that number, where a list that leads there may have one more move
+abbrev pub IsSettled : Claim → SimState → ℕ → ℕ → Type 0
+IsSettled c root room k = IsWithin c.limit (depth_at c k) → IsDone c root room k
+
+-- the first state is kept, if lists have moves at all, and from no state that is kept a move leads
+-- out of the table
+pub record IsClosed (c : Claim) (root : SimState) (room : ℕ) : Type 0 where
   pub force : root.state.world.ejected ≡ None
-  pub first : IsMet c root
-  pub each : (k : ℕ) → k < c.kept.count → IsDone c root depth k
+  pub first : IsWithin c.limit 0 → IsMet c 0 root
+  pub each : (k : ℕ) → k < c.kept.count → IsSettled c root room k

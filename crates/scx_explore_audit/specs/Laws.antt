@@ -1,20 +1,35 @@
 -- What a table shows that is closed.
-use Rattle.std.specs.Prelude.{ℕ, List, All}
+use Rattle.std.specs.Prelude.{ℕ, ◌≤◌, List, length, All, Option, IfSome}
 use Rattle.scx_sched_machine.specs.declared.events.Event.{Event}
 use Rattle.scx_sched.specs.Sim.{SimState}
 use Rattle.scx_explore_findings.specs.declared.finding.Sort.{Sort}
-use Rattle.scx_explore_audit.specs.Claims.{IsTried, ShowsNone}
+use Rattle.scx_explore_audit.specs.declared.table.Moves.{Moves}
+use Rattle.scx_explore_audit.specs.declared.table.Moves.TheVariants.{Events}
+use Rattle.scx_explore_audit.specs.Claims.{IsMove, IsTried, ShowsNone, list_of}
 use Rattle.scx_explore_audit.specs.Closed.{Claim, IsClosed, Respects}
 
--- no list of events at all shows anything of these sorts
-abbrev pub NoneInAnyList : List Sort → SimState → Type 0
-NoneInAnyList sorts root =
-    (events : List Event) → All (IsTried root) events → ShowsNone sorts root events
+-- no list of such moves, of any number or of at most so many, shows anything of these sorts
+abbrev pub NoneIn : Moves → Option ℕ → List Sort → SimState → Type 0
+NoneIn moves limit sorts root =
+    (list : List (List Event))
+    → All (IsMove moves root) list
+    → IfSome limit (λ most. length list ≤ most)
+    → ShowsNone sorts root (list_of list)
 
 -- so it is where a table of states is closed, and what its words leave out changes nothing
 abbrev pub ClosedTablesCover : Type 0
 ClosedTablesCover =
-    (c : Claim) (root : SimState) (depth : ℕ)
-    → Respects c.form c.ids root depth
-    → IsClosed c root depth
-    → NoneInAnyList c.sorts root
+    (c : Claim) (root : SimState) (room : ℕ)
+    → Respects c.form c.ids c.moves c.sorts root room
+    → IsClosed c root room
+    → NoneIn c.moves c.limit c.sorts root
+
+-- where lists are made of events, that is said of each list of wakes, sleeps, ticks and the clock
+abbrev pub ListsAreOfEvents : Type 0
+ListsAreOfEvents =
+    (limit : Option ℕ) (sorts : List Sort) (root : SimState)
+    → NoneIn Events limit sorts root
+    → (events : List Event)
+    → All (IsTried root) events
+    → IfSome limit (λ most. length events ≤ most)
+    → ShowsNone sorts root events

@@ -1,3 +1,5 @@
 pub mod Claims
 pub mod Closed
 pub mod Laws
+pub mod Marks
+pub mod Steps

@@ -1,7 +1,13 @@
-ghost use Rattle.scx_explore_audit.specs.Laws.{ClosedTablesCover};
+ghost use Rattle.scx_explore_audit.specs.Laws.{ClosedTablesCover, ListsAreOfEvents};
 
-/// Where a table of states is closed, and what its words leave out changes nothing, no list of events at all shows what
-/// none of its states shows. The function does nothing: its contract is the law.
+/// Where a table of states is closed, and what its words leave out changes nothing, no list of moves shows what none of
+/// its states shows. The function does nothing: its contract is the law.
 pub fn closed_tables_cover()
     ensures { ClosedTablesCover }
+{}
+
+/// Where lists are made of events, what is said of lists of moves is said of lists of events. The function does
+/// nothing: its contract is the law.
+pub fn lists_are_of_events()
+    ensures { ListsAreOfEvents }
 {}

@@ -1,8 +1,8 @@
 ghost use Rattle.std.specs.Prelude.{◌≡◌, true, None, Some};
-ghost use Rattle.scx_explore_findings.specs.Findings.{IsIdleBehind, fault_in};
+ghost use Rattle.scx_explore_findings.specs.Findings.{IsIdleBehind, fault_in, stall_in};
 ghost use Rattle.scx_explore_audit.specs.Claims.{AreFree, IsFree};
 
-use scx_explore_findings::{Sort, fault_of, idle_in};
+use scx_explore_findings::{Sort, fault_of, idle_in, stall_of};
 use scx_sched::{Event, Fault, Sim};
 
 /// Whether the event, which has led to the state of that machine, shows nothing of these sorts.
@@ -22,8 +22,9 @@ fn is_free(sort: Sort, sim: &Sim, event: Event) -> bool
 {
     match sort {
         Sort::Fault(fault) => is_no_fault(sim, fault),
+        Sort::Stall => is_no_stall(sim),
         Sort::Idle => sim.ejected().is_some() || is_not_idle(sim, event),
-        Sort::Stall | Sort::Overtaken => false,
+        Sort::Overtaken => false,
     }
 }
 
@@ -35,6 +36,13 @@ fn is_no_fault(sim: &Sim, fault: Fault) -> bool
         Some(other) => other.number() != fault.number(),
         None => true,
     }
+}
+
+/// Whether the policy wasn't ejected because a task waited too long.
+fn is_no_stall(sim: &Sim) -> bool
+    ensures { result ≡ true → stall_in sim.now.state.world.ejected ≡ None }
+{
+    stall_of(sim).is_none()
 }
 
 /// Whether the event is no tick that has left its processor idle while a task waits.

@@ -3,6 +3,9 @@ ghost use Rattle.scx_load_driver.specs.Runs.{AreAccepted};
 ghost use Rattle.scx_explore_path.specs.Path.{machine_of};
 ghost use Rattle.scx_explore_audit.specs.Claims.{IsTried};
 
+use crate::depths::{depth_of, is_within};
+use crate::table::Charted;
+use scx_explore_machines::{count_of, event_at, places};
 use scx_explore_path::Path;
 use scx_explore_states::{Seen, Step};
 use scx_sched::{Event, Unseen};
@@ -11,40 +14,41 @@ use scx_sched::{Event, Unseen};
 const HALVES: u32 = 64;
 
 /// Comes to the state behind that one, whose list the path is: to the first one that it led to, or to the next one that
-/// the same state led to, or one before it. There is none behind the last one.
-pub(crate) fn come_on(seen: &Seen, state: usize, path: &mut Path) -> Option<usize>
+/// the same state led to, or one before it. There is none behind the last one, and none is come to where a list may
+/// have no more moves.
+pub(crate) fn come_on(charted: Charted<'_>, state: usize, path: &mut Path) -> Option<usize>
     requires { All (IsTried path.old.root) path.old.events }
     ensures root { path.new.root ≡ path.old.root }
     ensures room { path.new.room ≡ path.old.room }
     ensures tried { All (IsTried path.new.root) path.new.events }
 {
-    let depth = path.events().len();
-    let (next, before) = next_of(seen, state, depth)?;
-    if come_to(seen, next, before, path) {
+    let length = path.events().len();
+    let (next, before) = next_of(charted, state, length, cpus_of(path))?;
+    if come_to(charted.table.seen, next, before, path) {
         Some(next)
     } else {
         None
     }
 }
 
-/// The state behind that one, to whose list so many events lead, and how many lead there but for the last one.
-fn next_of(seen: &Seen, state: usize, depth: usize) -> Option<(usize, usize)> {
-    match first_from(seen, state) {
-        Some(child) => Some((child, depth)),
-        None => next_beside(seen, state, depth),
+/// The state behind that one, to whose list so many events lead, and how many lead to the state before it.
+fn next_of(charted: Charted<'_>, state: usize, length: usize, cpus: u32) -> Option<(usize, usize)> {
+    match first_behind(charted, state) {
+        Some(child) => Some((child, length)),
+        None => next_beside(charted.table.seen, state, length, cpus),
     }
 }
 
-/// Comes to that state from the one at that depth of the list. Answers false where there is no way.
-fn come_to(seen: &Seen, state: usize, depth: usize, path: &mut Path) -> bool
+/// Comes to that state from the one at that length of the list. Answers false where there is no way.
+fn come_to(seen: &Seen, state: usize, length: usize, path: &mut Path) -> bool
     requires { All (IsTried path.old.root) path.old.events }
     ensures root { path.new.root ≡ path.old.root }
     ensures room { path.new.room ≡ path.old.room }
     ensures tried { All (IsTried path.new.root) path.new.events }
 {
-    go_back(path, depth);
-    match event_to(seen, state) {
-        Some(event) => go_on(path, event),
+    go_back(path, length);
+    match seen.way(state) {
+        Some(way) => go_on_by(path, way.step),
         None => false,
     }
 }
@@ -57,6 +61,35 @@ fn go_back(path: &mut Path, depth: usize)
     ensures tried { All (IsTried path.new.root) path.new.events }
 {
     path.go_back(depth);
+}
+
+/// Goes on by each event of the step, as long as that can be.
+fn go_on_by(path: &mut Path, step: Step) -> bool
+    requires { All (IsTried path.old.root) path.old.events }
+    ensures root { path.new.root ≡ path.old.root }
+    ensures room { path.new.room ≡ path.old.room }
+    ensures tried { All (IsTried path.new.root) path.new.events }
+{
+    let cpus = cpus_of(path);
+    for place in 0..places(step, cpus) {
+        if !go_on_at(path, step, cpus, place) {
+            return false;
+        }
+    }
+    true
+}
+
+/// Goes on by the event in that place of a step, if there is one.
+fn go_on_at(path: &mut Path, step: Step, cpus: u32, place: usize) -> bool
+    requires { All (IsTried path.old.root) path.old.events }
+    ensures root { path.new.root ≡ path.old.root }
+    ensures room { path.new.room ≡ path.old.room }
+    ensures tried { All (IsTried path.new.root) path.new.events }
+{
+    match event_at(step, cpus, place) {
+        Some(event) => go_on(path, event),
+        None => true,
+    }
 }
 
 /// Goes on by the event. Answers false where that can't be, or isn't audited.
@@ -88,11 +121,13 @@ fn is_tried(path: &Path, event: Event) -> bool
     }
 }
 
-/// The event that led to that state.
-fn event_to(seen: &Seen, state: usize) -> Option<Event> {
-    match seen.way(state)?.step {
-        Step::Event(event) => Some(event),
-        Step::Millisecond { .. } => None,
+/// The first state to which that one led, if lists go on behind it.
+fn first_behind(charted: Charted<'_>, state: usize) -> Option<usize> {
+    let first = first_from(charted.table.seen, state)?;
+    if is_within(charted.table.limit, depth_of(charted, first)) {
+        Some(first)
+    } else {
+        None
     }
 }
 
@@ -134,16 +169,21 @@ fn is_from(seen: &Seen, state: usize, from: usize) -> bool {
     }
 }
 
-/// The next state that the same one led to, or one before that, and how many events lead there but for the last one.
-fn next_beside(seen: &Seen, state: usize, depth: usize) -> Option<(usize, usize)> {
+/// The next state that the same one led to, or one before that, and how many events lead to the state before it.
+fn next_beside(seen: &Seen, state: usize, length: usize, cpus: u32) -> Option<(usize, usize)> {
     let mut at = state;
-    for left in 1..=depth {
-        let from = seen.way(at)?.from;
-        let next = at.saturating_add(1);
-        if is_from(seen, next, from) {
-            return Some((next, depth.saturating_sub(left)));
+    let mut before = length;
+    for _ in 0..length {
+        if at == 0 {
+            return None;
         }
-        at = from;
+        let way = seen.way(at)?;
+        before = before.saturating_sub(count_of(way.step, cpus));
+        let next = at.saturating_add(1);
+        if is_from(seen, next, way.from) {
+            return Some((next, before));
+        }
+        at = way.from;
     }
     None
 }

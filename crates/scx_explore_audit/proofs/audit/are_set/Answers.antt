@@ -1,6 +1,6 @@
 use Rattle.std.proofs.Common.{◌≡◌, true, arith}
 use Rattle.std.proofs.lemmas.List.Elements.{All-more}
-use Rattle.scx_explore_audit.proofs.Leading.{all_taken}
+use Rattle.scx_explore_audit.proofs.Settled.{all_taken}
 use Rattle.scx_explore_audit.proofs.audit.are_set.Goals as goal
 
 pub loop-at-preserved : goal.loop-at-preserved

@@ -1,5 +1,5 @@
-use Rattle.scx_explore_audit.specs.Closed.{claim}
-use Rattle.scx_explore_audit.proofs.Leading.{begun_tried, closed}
+use Rattle.scx_explore_audit.specs.Closed.{claim_of}
+use Rattle.scx_explore_audit.proofs.Settled.{begun_tried, closed}
 use Rattle.scx_explore_audit.proofs.audit.is_closed.Goals as goal
 
 pub are_done-requires-clause-tried : goal.are_done-requires-clause-tried
@@ -7,4 +7,4 @@ are_done-requires-clause-tried c = begun_tried c.args.path.now _ c.go_back.ensur
 
 pub returns : goal.returns
 returns c is =
-    closed (claim c.args.table.form c.args.table.numbers.now c.args.table.seen.now c.args.table.sorts.now) c.args.path.now _ c.go_back.ensures (c.is_first_met.ensures.force c.if-not-is_first_met.false) (c.is_first_met.ensures.met c.if-not-is_first_met.false) (c.are_done.ensures is)
+    closed (claim_of c.args.charted) c.args.path.now _ c.go_back.ensures (c.is_first_met.ensures.force c.if-not-is_first_met.false) (c.is_first_met.ensures.met c.if-not-is_first_met.false) (c.are_done.ensures is)

@@ -1,7 +1,7 @@
 use Rattle.std.proofs.Common.{arith}
 use Rattle.std.proofs.lemmas.List.Elements.{All-more}
 use Rattle.scx_explore_audit.specs.Claims.{IsFree}
-use Rattle.scx_explore_audit.proofs.Leading.{all_taken}
+use Rattle.scx_explore_audit.proofs.Settled.{all_taken}
 use Rattle.scx_explore_audit.proofs.looking.are_free.Goals as goal
 
 pub loop-at-preserved : goal.loop-at-preserved

@@ -1,4 +1,4 @@
-use Rattle.scx_explore_audit.proofs.Leading.{written_as}
+use Rattle.scx_explore_audit.proofs.Settled.{written_as}
 use Rattle.scx_explore_audit.proofs.states.is_written.Goals as goal
 
 pub returns : goal.returns

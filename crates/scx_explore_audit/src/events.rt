@@ -1,0 +1,118 @@
+ghost use Rattle.std.specs.Prelude.{◌≡◌, ◌<◌, true, ℕ, List, [], ◌∷◌};
+ghost use Rattle.scx_sched_machine.specs.declared.events.Event.{Event};
+ghost use Rattle.scx_sched_machine.specs.declared.events.Event.TheVariants.{Wake, Sleep, Tick};
+ghost use Rattle.scx_explore_path.specs.Path.{machine_of};
+ghost use Rattle.scx_explore_audit.specs.Claims.{IsTried};
+ghost use Rattle.scx_explore_audit.specs.Closed.{LeadsBack, claim_of};
+
+use crate::moves::last_leads_back;
+use crate::states::begin;
+use crate::table::{Charted, Hand};
+use crate::walking::{cpus_of, tasks_of};
+use scx_explore_path::Path;
+use scx_sched::Event;
+
+/// Whether each event leads back into the table.
+pub(crate) fn events_lead_back(
+    charted: Charted<'_>,
+    depth: usize,
+    began: u64,
+    path: &mut Path,
+    hand: &mut Hand,
+) -> bool
+    ensures same { path.new ≡ path.old }
+    ensures back { result ≡ true → (e : Event) → IsTried path.old.root e
+        → LeadsBack (claim_of charted.entry) depth (machine_of path.old) (e ∷ []) }
+{
+    let tasks = tasks_of(path);
+    let cpus = cpus_of(path);
+    if !tasks_lead_back(charted, depth, tasks, began, path, hand) {
+        return false;
+    }
+    if !cpus_lead_back(charted, depth, cpus, began, path, hand) {
+        return false;
+    }
+    event_leads_back(charted, depth, Event::Clock, began, path, hand)
+}
+
+/// The same of wakes and sleeps of the first so many tasks.
+fn tasks_lead_back(
+    charted: Charted<'_>,
+    depth: usize,
+    tasks: u16,
+    began: u64,
+    path: &mut Path,
+    hand: &mut Hand,
+) -> bool
+    ensures same { path.new ≡ path.old }
+    ensures wakes { result ≡ true → (t : ℕ) → t < tasks
+        → LeadsBack (claim_of charted.entry) depth (machine_of path.old) (Wake t ∷ []) }
+    ensures sleeps { result ≡ true → (t : ℕ) → t < tasks
+        → LeadsBack (claim_of charted.entry) depth (machine_of path.old) (Sleep t ∷ []) }
+{
+    for task in 0..tasks {
+        if !task_leads_back(charted, depth, task, began, path, hand) {
+            return false;
+        }
+    }
+    true
+}
+
+/// The same of both of that task.
+fn task_leads_back(
+    charted: Charted<'_>,
+    depth: usize,
+    task: u16,
+    began: u64,
+    path: &mut Path,
+    hand: &mut Hand,
+) -> bool
+    ensures same { path.new ≡ path.old }
+    ensures wakes { result ≡ true
+        → LeadsBack (claim_of charted.entry) depth (machine_of path.old) (Wake task ∷ []) }
+    ensures sleeps { result ≡ true
+        → LeadsBack (claim_of charted.entry) depth (machine_of path.old) (Sleep task ∷ []) }
+{
+    if !event_leads_back(charted, depth, Event::Wake(task), began, path, hand) {
+        return false;
+    }
+    event_leads_back(charted, depth, Event::Sleep(task), began, path, hand)
+}
+
+/// The same of ticks of the first so many processors.
+fn cpus_lead_back(
+    charted: Charted<'_>,
+    depth: usize,
+    cpus: u32,
+    began: u64,
+    path: &mut Path,
+    hand: &mut Hand,
+) -> bool
+    ensures same { path.new ≡ path.old }
+    ensures ticks { result ≡ true → (k : ℕ) → k < cpus
+        → LeadsBack (claim_of charted.entry) depth (machine_of path.old) (Tick k ∷ []) }
+{
+    for cpu in 0..cpus {
+        if !event_leads_back(charted, depth, Event::Tick(cpu), began, path, hand) {
+            return false;
+        }
+    }
+    true
+}
+
+/// Whether that event leads back.
+fn event_leads_back(
+    charted: Charted<'_>,
+    depth: usize,
+    event: Event,
+    began: u64,
+    path: &mut Path,
+    hand: &mut Hand,
+) -> bool
+    ensures same { path.new ≡ path.old }
+    ensures back { result ≡ true
+        → LeadsBack (claim_of charted.entry) depth (machine_of path.old) (event ∷ []) }
+{
+    begin(hand, path, began);
+    last_leads_back(charted, depth, event, path, hand)
+}
