@@ -1,0 +1,17 @@
+pub mod Records
+pub mod Worlds
+pub mod Helpers
+pub mod Asking
+pub mod Runs
+pub mod Steps
+pub mod Cycles
+pub mod Events
+pub mod Machines
+pub mod Words
+pub mod Near
+pub mod Loads
+pub mod Force
+pub mod Order
+pub mod Ordered
+pub mod Showing
+pub mod First
