@@ -4,7 +4,7 @@ use scx_explore_states::Way;
 
 impl Search {
     /// There is no room for the state of that machine. Answers the machine, or another one in its place.
-    pub(crate) fn lose(&mut self, machine: usize, memory: Memory, way: Way) -> usize {
+    pub(crate) fn lose(&mut self, machine: usize, memory: &Memory, way: Way) -> usize {
         let (end, events) = (self.end, self.events);
         self.again.close(end, events);
         let depth = self.again.depth().saturating_add(1);
@@ -14,7 +14,7 @@ impl Search {
         }
         let (mine, left) = match self.machines.take() {
             Some(other) => {
-                self.machines.set_memory(machine, memory);
+                self.machines.set_memory(machine, *memory);
                 (Some(machine), other)
             }
             None => (None, machine),

@@ -1,74 +1,86 @@
 use crate::search::Search;
 use scx_explore_machines::{Memory, twins_of};
-use scx_explore_states::{Step, Tasks, Way};
+use scx_explore_states::{Step, Tasks, Watched, Way};
 use scx_sched::Event;
+
+/// A state from which events are tried.
+#[derive(Clone, Copy)]
+struct Begun {
+    state: usize,
+    memory: Memory,
+    watched: Watched,
+}
 
 impl Search {
     /// Tries each event that the machine of a state accepts. One that is used up has the last of them itself; it, or
     /// another one in its place, is answered.
     pub(crate) fn try_events(&mut self, state: usize, machine: usize, is_used_up: bool) -> usize {
         let memory = self.machines.memory(machine);
+        self.look
+            .watch
+            .begin(self.machines.sim(machine), memory.began);
+        let begun = Begun {
+            state,
+            memory,
+            watched: self.look.watch.watched(),
+        };
         if self.may_use(memory, Tasks::NONE.with(0)) {
-            let began = self.kept_began(memory.began);
-            self.try_tasks(state, machine, began);
+            self.try_tasks(machine, &begun);
         }
         for cpu in 0..self.machines.sim(machine).cpus() {
-            self.try_apart(state, machine, Event::Tick(cpu));
+            self.try_apart(machine, &begun, Event::Tick(cpu));
         }
         for at in 0..self.changes.len() {
             if let Some(event) = self.changes.event(at) {
-                self.try_apart(state, machine, event);
+                self.try_apart(machine, &begun, event);
             }
         }
         if is_used_up {
-            return self.try_on(state, machine, memory, Event::Clock);
+            return self.try_on(machine, &begun, Event::Clock);
         }
-        self.try_apart(state, machine, Event::Clock);
+        self.try_apart(machine, &begun, Event::Clock);
         machine
     }
 
     /// Tries the sleep of each task that is runnable, and the wake of each of the others, but of one that sleeps as
     /// another one does.
-    fn try_tasks(&mut self, state: usize, machine: usize, began: u64) {
+    fn try_tasks(&mut self, machine: usize, begun: &Begun) {
+        let began = self.kept_began(begun.memory.began);
         let twins = twins_of(self.form, self.machines.sim(machine), began);
         for task in 0..self.machines.sim(machine).tasks() {
             if self.machines.sim(machine).is_runnable(task) {
-                self.try_apart(state, machine, Event::Sleep(task));
+                self.try_apart(machine, begun, Event::Sleep(task));
             } else if !twins.has(task) {
-                self.try_apart(state, machine, Event::Wake(task));
+                self.try_apart(machine, begun, Event::Wake(task));
             }
         }
     }
 
     /// Tries an event on a machine that becomes what that one is.
-    fn try_apart(&mut self, state: usize, machine: usize, event: Event) {
-        let memory = self.machines.memory(machine);
+    fn try_apart(&mut self, machine: usize, begun: &Begun, event: Event) {
         let hand = self.hand;
         self.machines.copy(machine, hand);
-        self.hand = self.try_on(state, hand, memory, event);
+        self.hand = self.try_on(hand, begun, event);
     }
 
     /// Tries an event on that machine, and enters the state that it leads to. Answers the machine, or another one in
     /// its place.
-    fn try_on(&mut self, state: usize, machine: usize, memory: Memory, event: Event) -> usize {
-        let mut memory = memory;
+    fn try_on(&mut self, machine: usize, begun: &Begun, event: Event) -> usize {
         let way = Way {
-            from: state,
+            from: begun.state,
             step: Step::Event(event),
         };
-        self.look
-            .watch
-            .begin(self.machines.sim(machine), memory.began);
+        self.look.watch.go_on(begun.watched);
         if !self.try_event(machine, event, way, 1) {
             return machine;
         }
+        let mut memory = begun.memory;
         self.note_event(&mut memory, event);
-        self.enter_behind(machine, memory, way)
+        self.enter_behind(machine, &mut memory, way)
     }
 
     /// Enters the state behind what was watched.
-    pub(crate) fn enter_behind(&mut self, machine: usize, memory: Memory, way: Way) -> usize {
-        let mut memory = memory;
+    pub(crate) fn enter_behind(&mut self, machine: usize, memory: &mut Memory, way: Way) -> usize {
         memory.began = self.kept_began(self.look.watch.watched().began);
         self.enter(machine, memory, way)
     }

@@ -195,7 +195,7 @@ impl Search {
         if self.bounds.mode == Mode::Workloads {
             memory.end(self.machines.sim(machine), sleeps, &begun.ran);
         }
-        self.enter_behind(machine, memory, way)
+        self.enter_behind(machine, &mut memory, way)
     }
 
     /// The sleeps and the clock of a millisecond, on that machine. Answers whether the list goes on.

@@ -1,4 +1,4 @@
-ghost use Rattle.std.specs.Prelude.{◌≡◌, length, All, IfOk};
+ghost use Rattle.std.specs.Prelude.{◌≡◌, length, All};
 ghost use Rattle.scx_explore_machines.specs.Events.{most_events};
 ghost use Rattle.scx_explore_path.specs.Path.{IsAs};
 
@@ -54,13 +54,9 @@ pub struct Search {
 }
 
 impl Model for Search {
-    ghost use Rattle.scx_explore.specs.Searching.{IsReady};
-
     ghost Value = { Unit {0} };
 
     ghost view = { λ s. tt };
-
-    ghost invariant = { IsReady };
 }
 
 /// What a search keeps beside its machines.
@@ -82,9 +78,7 @@ impl Tables {
         root: &Sim,
         workload: &Workload,
         bytes: usize,
-    ) -> Result<Tables, AllocError>
-        ensures { IfOk result (λ tables. length tables.words ≡ tables.seen.width) }
-    {
+    ) -> Result<Tables, AllocError> {
         let changes = Changes::new(alloc, bounds, workload)?;
         let beside = Memory::width(bounds, root.tasks(), changes.are_some());
         let width = form.width(root).saturating_add(beside);
@@ -101,9 +95,7 @@ impl Tables {
 }
 
 /// A search whose first state was entered.
-fn begun(form: Form, bounds: Bounds, tables: Tables, machines: Machines) -> Search
-    requires { length tables.words ≡ tables.seen.width }
-{
+fn begun(form: Form, bounds: Bounds, tables: Tables, machines: Machines) -> Search {
     let Tables {
         watch,
         changes,
@@ -176,9 +168,7 @@ impl Search {
         bounds: Bounds,
         tables: Tables,
         pool: Pool,
-    ) -> Result<Search, AllocError>
-        requires { length tables.words ≡ tables.seen.width }
-    {
+    ) -> Result<Search, AllocError> {
         let first = Memory::new(tables.changes.first());
         match Machines::new(alloc, pool, first) {
             Ok(machines) => Ok(begun(form, bounds, tables, machines)),
@@ -205,7 +195,7 @@ impl Search {
             from: 0,
             step: Step::Event(Event::Clock),
         };
-        self.hand = self.enter(hand, memory, way);
+        self.hand = self.enter(hand, &memory, way);
         self.machines.deepen();
         self.end = self.seen.len();
         if self.end == 0 {
@@ -245,7 +235,7 @@ impl Search {
 
     /// How many bytes they take, with the ways to them and the places where they are looked for.
     pub fn bytes(&self) -> usize {
-        let words = self.words.as_slice().len();
+        let words = self.seen.width();
         words
             .saturating_mul(8)
             .saturating_add(34)
@@ -341,13 +331,13 @@ impl Search {
     }
 
     /// Enters the state of that machine. Answers the machine, or another one in its place.
-    pub(crate) fn enter(&mut self, machine: usize, memory: Memory, way: Way) -> usize {
+    pub(crate) fn enter(&mut self, machine: usize, memory: &Memory, way: Way) -> usize {
         self.form
             .write(self.machines.sim(machine), memory.began, &mut self.words);
         let tasks = self.machines.sim(machine).tasks();
         memory.write(self.bounds, tasks, self.changes.are_some(), &mut self.words);
         if self.again.is_closed() {
-            if self.seen.has(self.words.as_slice()) {
+            if self.seen.number_of(self.words.as_slice()).is_some() {
                 return machine;
             }
             return self.lose(machine, memory, way);
@@ -359,11 +349,11 @@ impl Search {
         }
     }
 
-    fn keep(&mut self, state: usize, machine: usize, memory: Memory) -> usize {
+    fn keep(&mut self, state: usize, machine: usize, memory: &Memory) -> usize {
         if self.is_last() && state > 0 {
             return machine;
         }
-        self.machines.set_memory(machine, memory);
+        self.machines.set_memory(machine, *memory);
         self.machines.keep(state, machine)
     }
 
