@@ -1,3 +1,4 @@
+mod Ended
 mod Rest
 mod Same
 mod Told

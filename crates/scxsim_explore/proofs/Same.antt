@@ -1,12 +1,11 @@
 -- Machines that are made of the same texts are one, so that a search may have many of them.
-use Rattle.std.proofs.Common.{◌≡◌, ℕ, length, length-append, List, [], ◌∷◌, ◌++◌, arith, Option, Some, None, Result, Ok, refl, sym, ap, ◌∙◌, subst}
-use Rattle.std.proofs.lemmas.List.{get_or_append_left, get_or_push}
+use Rattle.std.proofs.Common.{◌≡◌, ℕ, length, List, [], ◌∷◌, ◌++◌, arith, Option, Some, None, Result, Ok, Err, refl, sym, ap, ◌∙◌, subst}
 use Rattle.std.proofs.lemmas.List.Elements.{All-push}
 use Rattle.scx_isa_semantics.specs.declared.callbacks.Callback.{Callback}
 use Rattle.scx_isa_semantics.specs.declared.callbacks.Callback.TheVariants as callback
 use Rattle.scx_isa_semantics.specs.Callbacks.{at}
 use Rattle.scx_maps.specs.declared.shape.Shape.{Shape}
-use Rattle.scx_vm.specs.Programs.{VerifiedProgram, context}
+use Rattle.scx_vm.specs.Programs.{VerifiedProgram}
 use Rattle.scx_sched_machine.specs.Policy.{Programs, PolicyState, IsAs, HasMaps}
 use Rattle.scx_sched.specs.Sim.{SimState, IsFirstState}
 use Rattle.scx_load_policies.specs.Policies.{PolicyFile}
@@ -16,8 +15,8 @@ use Rattle.scx_weights.specs.Hierarchy.{idle}
 use Rattle.scx_explore_path.specs.Path as path
 use Rattle.scx_explore_path.proofs.Alike.{same_first, as_itself}
 use Rattle.scxsim_simulation.specs.Runs.{IsRun}
-use Rattle.std.specs.Prelude.{All, slice_index_or, IfSome, option_to_list}
-use Rattle.scxsim_explore.specs.Machines.{IsFresh, AreSame}
+use Rattle.std.specs.Prelude.{All, slice_index_or, is_ok, if◌then◌else◌}
+use Rattle.scxsim_explore.specs.Machines.{IsFresh}
 
 -- of two programs that were verified as the same callback, for the same maps and from the same code, one is the other
 same_both : (p q : VerifiedProgram) → p.code ≡ q.code → p.context.callback ≡ q.context.callback → p.context.defs ≡ q.context.defs → p ≡ q
@@ -112,18 +111,7 @@ all_push policy workload sims s all h = All-push (IsFresh policy workload) sims 
 pub all_none : (policy workload : List ℕ) → All (IsFresh policy workload) []
 all_none policy workload k d l = absurd (omega (arith, l))
 
--- all of them are the same as one of them
-pub all_same : (policy workload : List ℕ) (s : SimState) (sims : List SimState) → IsFresh policy workload s → All (IsFresh policy workload) sims → AreSame s sims
-all_same policy workload s sims h all k d l = same_fresh policy workload (slice_index_or sims k d) s (all k d l) h
-
--- of machines that are all the same, one that is taken is the same, and so are those that are left
-pub left_same : (s : SimState) (new : List SimState) (o : Option SimState) (old : List SimState) → old ≡ new ++ option_to_list o → AreSame s old → AreSame s new
-left_same s new o old is all k d l =
-    let longer : AreSame s (new ++ option_to_list o) = subst (λ (xs : List SimState). AreSame s xs) is all in
-    sym (get_or_append_left new (option_to_list o) d k l) ∙ longer k d (omega (arith, l, length-append new (option_to_list o)))
-
-pub one_same : (s : SimState) (new : List SimState) (o : Option SimState) (old : List SimState) → old ≡ new ++ option_to_list o → AreSame s old → IfSome o (λ (t : SimState). t ≡ s)
-one_same s new None old is all = tt
-one_same s new (Some t) old is all =
-    let longer : AreSame s (new ++ t ∷ []) = subst (λ (xs : List SimState). AreSame s xs) is all in
-    sym (get_or_push new t t (length new) refl) ∙ longer (length new) t (omega (arith, length-append new (t ∷ [])))
+-- and where one more of the same policy and size may come behind such machines, all of them are so
+pub kept_all : {A E : Type 0} (root s : SimState) (old new : List SimState) (r : Result A E) → new ≡ (if is_ok r then old ++ s ∷ [] else old) → All (path.IsAs root) old → path.IsAs root s → All (path.IsAs root) new
+kept_all root s old new (Ok x) is all one = subst (λ (sims : List SimState). All (path.IsAs root) sims) (sym is) (All-push (path.IsAs root) old s all one)
+kept_all root s old new (Err x) is all one = subst (λ (sims : List SimState). All (path.IsAs root) sims) (sym is) all

@@ -1,3 +1,4 @@
 pub mod Lists
 pub mod Machines
 pub mod Telling
+pub mod Unfound

@@ -1,5 +1,5 @@
 -- Machines of a policy's and a workload's texts, before any event.
-use Rattle.std.specs.Prelude.{◌≡◌, ℕ, List, All}
+use Rattle.std.specs.Prelude.{ℕ, List}
 use Rattle.scx_load_workloads.specs.Workload.{WorkloadState}
 use Rattle.scx_sched.specs.Sim.{SimState}
 use Rattle.scxsim_simulation.specs.Runs.{IsRun}
@@ -7,7 +7,3 @@ use Rattle.scxsim_simulation.specs.Runs.{IsRun}
 -- the texts stand for a run that begins in that state
 abbrev pub IsFresh : List ℕ → List ℕ → SimState → Type 0
 IsFresh policy workload s = (w : WorkloadState) × IsRun policy workload w s
-
--- each of the others is in the state of the first one
-abbrev pub AreSame : SimState → List SimState → Type 0
-AreSame s others = All (λ t. t ≡ s) others

@@ -1,4 +1,4 @@
-ghost use Rattle.std.specs.Prelude.{◌≡◌, ◌≤◌, Ok, All, IfOk, IfErr};
+ghost use Rattle.std.specs.Prelude.{◌≡◌, Ok, All, IfOk, IfErr};
 ghost use Rattle.scx_explore_path.specs.Path.{IsAs};
 ghost use Rattle.scx_load_workloads.specs.Reading.{workload_of};
 ghost use Rattle.scxsim_commands.specs.declared.refusal.Refusal.TheVariants.{NoMemory};
@@ -7,7 +7,6 @@ ghost use Rattle.scxsim_explore.specs.Machines.{IsFresh};
 
 use crate::machines::{Machines, fresh, make_machines};
 use scx_explore::{Bounds, Form, Mode, SORTS, Search, Starts, form_of, starts_of};
-use scx_explore_path::Path;
 use scx_isa::CALLBACKS;
 use scx_load_workloads::{Workload, read_workload};
 use scx_sched::{Event, Sim};
@@ -17,11 +16,21 @@ use std::alloc::{AllocError, Global};
 /// How much memory a search takes, in bytes.
 const ROOM: usize = 268_435_456;
 
-/// How many machines a search has for its states, for each event or millisecond of a list; each is made of the texts,
-/// which takes a third of a millisecond.
+/// How many machines a search has at least.
+const LEAST_HANDS: usize = 4;
+
+/// How many more it has for its states, for each event or millisecond of a list behind the first one. Each is made of
+/// the texts, which takes as long as a hundred events do.
 const HANDS: usize = 16;
 
-/// How many it has at most.
+/// The longest lists of which all states on the way to one keep their machines, so that one without a machine is soon
+/// come to.
+const SHORT: usize = 64;
+
+/// How many machines a search through such lists has at most.
+const MOST_OF_SHORT: usize = 128;
+
+/// How many one through longer lists has at most.
 const MOST_HANDS: usize = 1024;
 
 /// How much is written of a search: what was found of each sort, the longest wait, and the most instructions of each
@@ -34,12 +43,10 @@ pub(crate) struct Begun {
     pub(crate) search: Search,
     /// What callbacks took before any event.
     pub(crate) starts: Starts,
-    /// Some for each list.
+    /// Those that show what is found.
     pub(crate) machines: Machines,
     /// The list at hand.
     pub(crate) events: Vec<Event>,
-    /// Machines to go through the states again that the search has met.
-    pub(crate) path: Path,
 }
 
 /// The workload of a text that was read before.
@@ -77,59 +84,18 @@ pub(crate) fn begin(
     ensures refused { IfErr result (IsCause policy.now workload.now) }
 {
     let starts = starts_of(alloc, policy, about)?;
-    let machines = Machines::new(alloc, policy, workload, told_by(bounds.mode) * MOST_TOLD)?;
+    let machines = Machines::new(alloc, policy, workload, told_by(bounds.mode))?;
     match search_in(alloc, policy, workload, about, bounds, machines.first()) {
-        Ok((search, events)) => match path_in(alloc, policy, workload, bounds) {
-            Ok(path) => Ok(Begun {
-                search,
-                starts,
-                machines,
-                events,
-                path,
-            }),
-            Err(refusal) => {
-                drop(search);
-                drop(machines);
-                drop(events);
-                Err(refusal)
-            }
-        },
+        Ok((search, events)) => Ok(Begun {
+            search,
+            starts,
+            machines,
+            events,
+        }),
         Err(refusal) => {
             drop(machines);
             Err(refusal)
         }
-    }
-}
-
-/// A path along lists within the bounds, where these are of events.
-fn path_in(alloc: Global, policy: &str, workload: &str, bounds: Bounds) -> Result<Path, Refusal>
-    ensures { IfErr result (IsCause policy.now workload.now) }
-{
-    let sims = make_machines(alloc, policy, workload, audited_by(bounds))?;
-    match fresh(alloc, policy, workload) {
-        Ok(root) => path_from(alloc, root, sims),
-        Err(refusal) => {
-            drop(sims);
-            Err(refusal)
-        }
-    }
-}
-
-/// How many machines a list takes that is gone through again: one for each of its events.
-fn audited_by(bounds: Bounds) -> usize {
-    match bounds.mode {
-        Mode::Events => bounds.depth,
-        Mode::Milliseconds | Mode::Workloads => 0,
-    }
-}
-
-fn path_from(alloc: Global, root: Sim, sims: Vec<Sim>) -> Result<Path, Refusal>
-    requires { All (IsAs root) sims.items }
-    ensures { IfErr result (λ refusal. refusal ≡ NoMemory) }
-{
-    match Path::new(alloc, root, sims) {
-        Ok(path) => Ok(path),
-        Err(AllocError) => Err(Refusal::NoMemory),
     }
 }
 
@@ -174,20 +140,27 @@ fn search_of(
     }
 }
 
-/// How many machines a list takes: one to look at it once more from the beginning and one to write its trace, and of
-/// milliseconds two more to see whether it is that of a workload file.
-fn told_by(mode: Mode) -> usize
-    ensures { result ≤ 4 }
-{
+/// How many machines serve to tell what was found: one goes through a list once more from the beginning, and one to
+/// write its trace. Of milliseconds two more for each list see whether it is that of a workload file.
+fn told_by(mode: Mode) -> usize {
     match mode {
         Mode::Events => 2,
-        Mode::Milliseconds | Mode::Workloads => 4,
+        Mode::Milliseconds | Mode::Workloads => 2 + 2 * MOST_TOLD,
     }
 }
 
 /// How many machines a search of that depth has.
 fn hands(depth: usize) -> usize {
-    depth.saturating_mul(HANDS).min(MOST_HANDS)
+    let most = if depth > SHORT {
+        MOST_HANDS
+    } else {
+        MOST_OF_SHORT
+    };
+    depth
+        .saturating_sub(1)
+        .saturating_mul(HANDS)
+        .saturating_add(LEAST_HANDS)
+        .min(most)
 }
 
 /// The search from these machines, which are the same.

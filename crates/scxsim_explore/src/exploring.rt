@@ -4,6 +4,7 @@ ghost use Rattle.scxsim_commands.specs.Outcome.{IfRefused, IsRefused};
 ghost use Rattle.scxsim_simulation.specs.Runs.{IsCause};
 ghost use Rattle.scxsim_explore.specs.Telling.{IsExplored, IsLimited, IsAnswer};
 
+use crate::auditing::Texts;
 use crate::beginning::{begin, workload_in};
 use crate::limits::{Limit, Lists, bounds_of, is_past_changes, limit_of};
 use crate::lines::write_text;
@@ -146,7 +147,8 @@ fn explore_about<V: Watcher, W: Out>(
     ensures quiet { IsRefused result → out.new ≡ out.old }
 {
     let mut begun = begin(alloc, policy, workload, about, bounds)?;
-    let told = tell(&mut begun, about, bounds, watcher, out);
+    let texts = Texts { policy, workload };
+    let told = tell(&mut begun, texts, about, bounds, watcher, out);
     drop(begun);
     match told {
         Ok(()) => Ok(true),

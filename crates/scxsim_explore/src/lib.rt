@@ -5,6 +5,7 @@
 
 mod auditing;
 mod beginning;
+mod ending;
 mod exploring;
 mod limits;
 mod lines;

@@ -2,10 +2,11 @@ ghost use Rattle.std.specs.Prelude.{◌≡◌, ◌++◌, OnOk, decimal};
 ghost use Rattle.std.specs.Io.KnownBytes.{Appends};
 ghost use Rattle.scxsim_trace.specs.Lines.{task_name, group_name, names_of};
 ghost use Rattle.scxsim_explore.specs.Lists.{event_line, event_lines, found_line, finding_words, idle_words, most_words, overtaken_words, wait_words, weight_line, unit};
-ghost use Rattle.scxsim_explore.specs.Telling.{Grows};
+ghost use Rattle.scxsim_explore.specs.Lists.{run_line, start_line, start_lines, alike_line, depth_unit, tried_words, level_line, misfit_line, sort_words, reach_words, few_words, none_line, again_line};
 
 use itoa::Buffer;
-use scx_explore::{Bounds, End, Finding, Level, Mode, Sort, Starts};
+use scx_explore::{Bounds, Finding, Level, Mode, Sort, Starts};
+use scx_explore_audit::Moves;
 use scx_isa::Callback;
 use scx_load_workloads::Workload;
 use scx_sched::Event;
@@ -135,20 +136,21 @@ fn write_weight<W: Out>(
 
 /// The most instructions of the callbacks that ran before any event.
 pub(crate) fn write_starts<W: Out>(starts: Starts, out: &mut W) -> Result<(), Failed>
-    ensures { OnOk result (Grows (W.contents out.old) (W.contents out.new)) }
+    ensures { OnOk result (Appends (W.contents out.old) (W.contents out.new) (start_lines starts)) }
 {
     write_start(Callback::Init, starts.init, out)?;
     write_start(Callback::Enable, starts.enable, out)
 }
 
 /// Those of one of them, if it ran.
-#[tactic(auto, using(crate::proofs::Written::grown_none))]
+#[tactic(auto, using(crate::proofs::Written::none_written))]
 fn write_start<W: Out>(
     callback: Callback,
     instructions: Option<u64>,
     out: &mut W,
 ) -> Result<(), Failed>
-    ensures { OnOk result (Grows (W.contents out.old) (W.contents out.new)) }
+    ensures { OnOk result (Appends (W.contents out.old) (W.contents out.new)
+        (start_line callback instructions)) }
 {
     match instructions {
         Some(instructions) => write_run(callback, instructions, out),
@@ -157,7 +159,8 @@ fn write_start<W: Out>(
 }
 
 fn write_run<W: Out>(callback: Callback, instructions: u64, out: &mut W) -> Result<(), Failed>
-    ensures { OnOk result (Grows (W.contents out.old) (W.contents out.new)) }
+    ensures { OnOk result (Appends (W.contents out.old) (W.contents out.new)
+        (run_line callback instructions)) }
 {
     write_number(out, "most instructions ", instructions, " of ")?;
     write_text(out, callback.name())?;
@@ -165,9 +168,10 @@ fn write_run<W: Out>(callback: Callback, instructions: u64, out: &mut W) -> Resu
 }
 
 /// Says so, where tasks of a group may change places in a state.
-#[tactic(auto, using(crate::proofs::Written::grown_none))]
+#[tactic(auto, using(crate::proofs::Written::none_written))]
 pub(crate) fn write_alike<W: Out>(are_alike: bool, out: &mut W) -> Result<(), Failed>
-    ensures { OnOk result (Grows (W.contents out.old) (W.contents out.new)) }
+    ensures { OnOk result (Appends (W.contents out.old) (W.contents out.new)
+        (alike_line are_alike)) }
 {
     if are_alike {
         write_text(out, "tasks of a group count as alike\n")
@@ -178,32 +182,37 @@ pub(crate) fn write_alike<W: Out>(are_alike: bool, out: &mut W) -> Result<(), Fa
 
 /// How many states were met and events tried up to a depth.
 pub(crate) fn write_level<W: Out>(mode: Mode, level: Level, out: &mut W) -> Result<(), Failed>
-    ensures { OnOk result (Grows (W.contents out.old) (W.contents out.new)) }
+    ensures { OnOk result (Appends (W.contents out.old) (W.contents out.new)
+        (level_line mode level)) }
 {
     write_number(out, "depth ", level.depth as u64, depth_unit(mode))?;
     write_number(out, " states ", level.states as u64, "")?;
-    write_tried(level, out)
+    write_tried(level.events, level.again, out)
 }
 
 /// How many events were tried and, where states had no room, how often such were gone through.
-fn write_tried<W: Out>(level: Level, out: &mut W) -> Result<(), Failed>
-    ensures { OnOk result (Grows (W.contents out.old) (W.contents out.new)) }
+fn write_tried<W: Out>(events: u64, again: Option<u64>, out: &mut W) -> Result<(), Failed>
+    ensures { OnOk result (Appends (W.contents out.old) (W.contents out.new)
+        (tried_words events again)) }
 {
-    match level.again {
-        Some(again) => write_again(level.events, again, out),
-        None => write_number(out, " events ", level.events, "\n"),
+    match again {
+        Some(again) => write_tried_again(events, again, out),
+        None => write_number(out, " events ", events, "\n"),
     }
 }
 
-fn write_again<W: Out>(events: u64, again: u64, out: &mut W) -> Result<(), Failed>
-    ensures { OnOk result (Grows (W.contents out.old) (W.contents out.new)) }
+fn write_tried_again<W: Out>(events: u64, again: u64, out: &mut W) -> Result<(), Failed>
+    ensures { OnOk result (Appends (W.contents out.old) (W.contents out.new)
+        (tried_words events (Some again))) }
 {
     write_number(out, " events ", events, "")?;
     write_number(out, " again ", again, "\n")
 }
 
 /// What a depth counts, behind its number.
-fn depth_unit(mode: Mode) -> &'static str {
+fn depth_unit(mode: Mode) -> &'static str
+    ensures { result.now ≡ depth_unit mode }
+{
     match mode {
         Mode::Events => "",
         Mode::Milliseconds | Mode::Workloads => " ms",
@@ -211,39 +220,66 @@ fn depth_unit(mode: Mode) -> &'static str {
 }
 
 /// Where states didn't fit, if they didn't.
-#[tactic(auto, using(crate::proofs::Written::grown_none))]
-pub(crate) fn write_full<W: Out>(mode: Mode, end: End, out: &mut W) -> Result<(), Failed>
-    ensures { OnOk result (Grows (W.contents out.old) (W.contents out.new)) }
+#[tactic(auto, using(crate::proofs::Written::none_written))]
+pub(crate) fn write_misfit<W: Out>(
+    mode: Mode,
+    depth: Option<u64>,
+    out: &mut W,
+) -> Result<(), Failed>
+    ensures { OnOk result (Appends (W.contents out.old) (W.contents out.new)
+        (misfit_line mode depth)) }
 {
-    match end {
-        End::Ended | End::At(_) => Ok(()),
-        End::Full(depth) => write_misfit(mode, (depth as u64).saturating_add(1), out),
+    match depth {
+        Some(depth) => write_misfit_at(mode, depth, out),
+        None => Ok(()),
     }
 }
 
-fn write_misfit<W: Out>(mode: Mode, depth: u64, out: &mut W) -> Result<(), Failed>
-    ensures { OnOk result (Grows (W.contents out.old) (W.contents out.new)) }
+fn write_misfit_at<W: Out>(mode: Mode, depth: u64, out: &mut W) -> Result<(), Failed>
+    ensures { OnOk result (Appends (W.contents out.old) (W.contents out.new)
+        (misfit_line mode (Some depth))) }
 {
     write_number(out, "depth ", depth, depth_unit(mode))?;
     write_text(out, " does not fit\n")
 }
 
-/// In which lists a sort isn't there that wasn't found.
+/// Says so, where states were gone through once more, and for what.
+#[tactic(auto, using(crate::proofs::Written::none_written))]
+pub(crate) fn write_again<W: Out>(again: Option<Moves>, out: &mut W) -> Result<(), Failed>
+    ensures { OnOk result (Appends (W.contents out.old) (W.contents out.new) (again_line again)) }
+{
+    match again {
+        Some(moves) => write_text(out, again_text(moves)),
+        None => Ok(()),
+    }
+}
+
+fn again_text(moves: Moves) -> &'static str
+    ensures { result.now ≡ again_line (Some moves) }
+{
+    match moves {
+        Moves::Events => "gone through once more for faults and idle processors\n",
+        Moves::Milliseconds => "gone through once more for faults, stalls and idle processors\n",
+    }
+}
+
+/// In which lists a sort isn't there that wasn't found: in any, or in those of so many events or milliseconds.
 pub(crate) fn write_none<W: Out>(
-    sort: Sort,
     bounds: Bounds,
-    end: End,
+    reach: Option<usize>,
+    sort: Sort,
     out: &mut W,
 ) -> Result<(), Failed>
-    ensures { OnOk result (Grows (W.contents out.old) (W.contents out.new)) }
+    ensures { OnOk result (Appends (W.contents out.old) (W.contents out.new)
+        (none_line bounds reach sort)) }
 {
     write_sort(sort, out)?;
-    write_lists(bounds.mode, end, out)?;
+    write_reach(bounds.mode, reach, out)?;
     write_few(bounds.few, out)
 }
 
 fn write_sort<W: Out>(sort: Sort, out: &mut W) -> Result<(), Failed>
-    ensures { OnOk result (Grows (W.contents out.old) (W.contents out.new)) }
+    ensures { OnOk result (Appends (W.contents out.old) (W.contents out.new) (sort_words sort)) }
 {
     match sort {
         Sort::Fault(fault) => write_number(out, "fault ", u64::from(fault.number()), ""),
@@ -253,18 +289,19 @@ fn write_sort<W: Out>(sort: Sort, out: &mut W) -> Result<(), Failed>
     }
 }
 
-fn write_lists<W: Out>(mode: Mode, end: End, out: &mut W) -> Result<(), Failed>
-    ensures { OnOk result (Grows (W.contents out.old) (W.contents out.new)) }
+fn write_reach<W: Out>(mode: Mode, reach: Option<usize>, out: &mut W) -> Result<(), Failed>
+    ensures { OnOk result (Appends (W.contents out.old) (W.contents out.new)
+        (reach_words mode reach)) }
 {
-    match end {
-        End::Ended => write_text(out, " none in any list"),
-        End::At(depth) => write_reached(mode, depth, out),
-        End::Full(depth) => write_reached(mode, depth, out),
+    match reach {
+        Some(depth) => write_depth(mode, depth, out),
+        None => write_text(out, " none in any list"),
     }
 }
 
-fn write_reached<W: Out>(mode: Mode, depth: usize, out: &mut W) -> Result<(), Failed>
-    ensures { OnOk result (Grows (W.contents out.old) (W.contents out.new)) }
+fn write_depth<W: Out>(mode: Mode, depth: usize, out: &mut W) -> Result<(), Failed>
+    ensures { OnOk result (Appends (W.contents out.old) (W.contents out.new)
+        (reach_words mode (Some depth))) }
 {
     match mode {
         Mode::Events => write_number(out, " none up to depth ", depth as u64, ""),
@@ -275,7 +312,7 @@ fn write_reached<W: Out>(mode: Mode, depth: usize, out: &mut W) -> Result<(), Fa
 }
 
 fn write_few<W: Out>(few: Option<u8>, out: &mut W) -> Result<(), Failed>
-    ensures { OnOk result (Grows (W.contents out.old) (W.contents out.new)) }
+    ensures { OnOk result (Appends (W.contents out.old) (W.contents out.new) (few_words few)) }
 {
     match few {
         Some(few) => write_number(out, " with ", u64::from(few), " wakes and sleeps\n"),
@@ -313,9 +350,8 @@ fn write_group<W: Out>(
 
 /// A number between two texts.
 fn write_number<W: Out>(out: &mut W, start: &str, number: u64, end: &str) -> Result<(), Failed>
-    ensures text { OnOk result (Appends (W.contents out.old) (W.contents out.new)
+    ensures { OnOk result (Appends (W.contents out.old) (W.contents out.new)
         (start.now ++ decimal number ++ end.now)) }
-    ensures grows { OnOk result (Grows (W.contents out.old) (W.contents out.new)) }
 {
     let mut digits = Buffer::new();
     write_named(out, start, digits.format(number), end)
@@ -323,8 +359,7 @@ fn write_number<W: Out>(out: &mut W, start: &str, number: u64, end: &str) -> Res
 
 /// A text.
 pub(crate) fn write_text<W: Out>(out: &mut W, text: &str) -> Result<(), Failed>
-    ensures text { OnOk result (Appends (W.contents out.old) (W.contents out.new) text.now) }
-    ensures grows { OnOk result (Grows (W.contents out.old) (W.contents out.new)) }
+    ensures { OnOk result (Appends (W.contents out.old) (W.contents out.new) text.now) }
 {
     write_all(out, text.as_bytes())
 }

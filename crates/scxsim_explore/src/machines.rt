@@ -1,6 +1,7 @@
 ghost use Rattle.std.specs.Prelude.{◌≡◌, [], ◌∷◌, ◌++◌, All, IfOk, IfErr, IfSome, OnOk};
+ghost use Rattle.scx_explore_path.specs.Path.{IsAs};
 ghost use Rattle.scxsim_simulation.specs.Runs.{IsCause};
-ghost use Rattle.scxsim_explore.specs.Machines.{IsFresh, AreSame};
+ghost use Rattle.scxsim_explore.specs.Machines.{IsFresh};
 
 use scx_sched::Sim;
 use scxsim_commands::Refusal;
@@ -8,9 +9,9 @@ use scxsim_simulation::{Run, prepare};
 use std::alloc::{AllocError, Global};
 use std::marker::Model;
 
-/// Machines of the same texts, in which no event has happened.
+/// A machine of the texts, in which no event has happened, and others that become what it is when they are taken.
 ///
-/// In a contract they are the state that each of them has.
+/// In a contract they are the state that it has.
 #[derive(Drop)]
 pub(crate) struct Machines {
     alloc: Global,
@@ -20,13 +21,14 @@ pub(crate) struct Machines {
 
 impl Model for Machines {
     ghost use Rattle.scx_sched.specs.Sim.{SimState};
-    ghost use Rattle.scxsim_explore.specs.Machines.{AreSame};
+    ghost use Rattle.std.specs.Prelude.{All};
+    ghost use Rattle.scx_explore_path.specs.Path.{IsAs};
 
     ghost Value = { SimState };
 
     ghost view = { λ m. m.first };
 
-    ghost invariant = { λ m. AreSame m.first m.others.items };
+    ghost invariant = { λ m. All (IsAs m.first) m.others.items };
 }
 
 impl Machines {
@@ -64,17 +66,41 @@ impl Machines {
         &self.first
     }
 
-    /// One of them, if one is left.
+    /// One of the others, if one is left, in which no event has happened.
     pub(crate) fn take(&mut self) -> Option<Sim>
         ensures same { self.new ≡ self.old }
         ensures one { IfSome result (λ sim. sim ≡ self.old) }
     {
-        self.others.pop()
+        match self.others.pop() {
+            Some(sim) => Some(begun_anew(&self.first, sim)),
+            None => None,
+        }
+    }
+
+    /// That one may be taken again.
+    pub(crate) fn give_back(&mut self, sim: Sim)
+        requires { IsAs self.old sim }
+        ensures { self.new ≡ self.old }
+    {
+        match self.others.push(sim) {
+            Ok(()) => {}
+            Err(failed) => drop(failed),
+        }
     }
 }
 
+/// The second machine, which becomes what the first one is.
+fn begun_anew(first: &Sim, sim: Sim) -> Sim
+    requires { IsAs first.now sim }
+    ensures { result ≡ first.now }
+{
+    let mut sim = sim;
+    sim.copy_from(first);
+    sim
+}
+
 fn joined(alloc: Global, first: Sim, others: Vec<Sim>) -> Machines
-    requires { AreSame first others.items }
+    requires { All (IsAs first) others.items }
     ensures { result ≡ first }
 {
     Machines {

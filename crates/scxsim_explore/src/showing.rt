@@ -1,10 +1,11 @@
 ghost use Rattle.std.specs.Prelude.{◌≡◌, ◌++◌, true, OnOk, codes};
 ghost use Rattle.std.specs.Io.KnownBytes.{Appends};
-ghost use Rattle.scx_load_driver.specs.Runs.{notes_of_all};
+ghost use Rattle.scx_load_driver.specs.Runs.{notes_of_all, stepped_all};
+ghost use Rattle.scx_explore_path.specs.Path.{IsAs};
 ghost use Rattle.scxsim_trace.specs.Lines.{note_lines, names_of};
 ghost use Rattle.scx_explore_findings.specs.Findings.{Shows};
-ghost use Rattle.scxsim_explore.specs.Lists.{told_text};
-ghost use Rattle.scxsim_explore.specs.Telling.{Grows, HasTold};
+ghost use Rattle.scxsim_explore.specs.Lists.{file_text, told_text};
+ghost use Rattle.scxsim_explore.specs.Telling.{HasTold, IsBehind};
 
 use crate::lines::{write_events, write_found, write_text};
 use crate::listed::Listed;
@@ -28,28 +29,27 @@ pub(crate) struct Told<'a> {
 /// Writes what was found, its list and the list's trace, if the first machine shows that the list ends so; else
 /// nothing. The second machine is the first one's twin.
 pub(crate) fn write_if_shown<W: Out>(
-    first: Sim,
-    second: Sim,
+    first: &mut Sim,
+    second: &mut Sim,
     about: &Workload,
     told: Told<'_>,
     out: &mut W,
 ) -> Result<(), Failed>
-    requires { first ≡ second }
-    ensures { OnOk result
-        (HasTold about.now second (W.contents out.old) (W.contents out.new)) }
+    requires { first.old ≡ second.old }
+    ensures told { OnOk result
+        (HasTold about.now second.old (W.contents out.old) (W.contents out.new)) }
+    ensures first { IsAs first.old first.new }
+    ensures second { OnOk result (IsAs second.old second.new) }
 {
-    let mut first = first;
-    let mut second = second;
-    let is_shown = does_show(&mut first, about.tasks(), told.events, told.finding);
-    drop(first);
-    let written = write_where(is_shown, &mut second, about, told, out);
-    drop(second);
-    written
+    let is_shown = does_show(first, about.tasks(), told.events, told.finding);
+    write_where(is_shown, second, about, told, out)
 }
 
 /// Whether the policy is in force and the list ends so.
 fn does_show(sim: &mut Sim, homes: &[u32], events: &[Event], finding: Finding) -> bool
-    ensures { result ≡ true → Shows homes.now sim.old events.now finding }
+    ensures shown { result ≡ true → Shows homes.now sim.old events.now finding }
+    ensures there { result ≡ true → sim.new ≡ stepped_all sim.old events.now }
+    ensures alike { IsAs sim.old sim.new }
 {
     sim.ejected().is_none() && shows(sim, homes, events, finding)
 }
@@ -62,9 +62,12 @@ fn write_where<W: Out>(
     told: Told<'_>,
     out: &mut W,
 ) -> Result<(), Failed>
-    requires { is_shown ≡ true → Shows about.now.homes sim.old told.events.now told.finding }
-    ensures { OnOk result
+    requires shown { is_shown ≡ true
+        → Shows about.now.homes sim.old told.events.now told.finding }
+    requires alike { is_shown ≡ true → IsAs sim.old (stepped_all sim.old told.events.now) }
+    ensures told { OnOk result
         (HasTold about.now sim.old (W.contents out.old) (W.contents out.new)) }
+    ensures alike { OnOk result (IsAs sim.old sim.new) }
 {
     if is_shown {
         write_shown(sim, about, told, out)
@@ -80,8 +83,9 @@ fn write_shown<W: Out>(
     out: &mut W,
 ) -> Result<(), Failed>
     requires { Shows about.now.homes sim.old told.events.now told.finding }
-    ensures { OnOk result
+    ensures told { OnOk result
         (HasTold about.now sim.old (W.contents out.old) (W.contents out.new)) }
+    ensures there { OnOk result (sim.new ≡ stepped_all sim.old told.entry.events.now) }
 {
     write_list(sim, about, told, out)?;
     write_behind(told.file, out)
@@ -89,7 +93,7 @@ fn write_shown<W: Out>(
 
 /// Writes the workload file, if there is one, and an empty line.
 fn write_behind<W: Out>(file: Option<&str>, out: &mut W) -> Result<(), Failed>
-    ensures { OnOk result (Grows (W.contents out.old) (W.contents out.new)) }
+    ensures { OnOk result (IsBehind (W.contents out.old) (W.contents out.new)) }
 {
     match file {
         Some(text) => write_file(text, out),
@@ -98,7 +102,8 @@ fn write_behind<W: Out>(file: Option<&str>, out: &mut W) -> Result<(), Failed>
 }
 
 fn write_file<W: Out>(text: &str, out: &mut W) -> Result<(), Failed>
-    ensures { OnOk result (Grows (W.contents out.old) (W.contents out.new)) }
+    ensures { OnOk result (Appends (W.contents out.old) (W.contents out.new)
+        (file_text (Some text.now))) }
 {
     write_text(out, "workload\n")?;
     write_text(out, text)?;
@@ -112,9 +117,10 @@ fn write_list<W: Out>(
     told: Told<'_>,
     out: &mut W,
 ) -> Result<(), Failed>
-    ensures { OnOk result (Appends (W.contents out.old) (W.contents out.new)
+    ensures text { OnOk result (Appends (W.contents out.old) (W.contents out.new)
         (told_text (names_of about.now) sim.old told.entry.finding told.entry.mode
         told.entry.depth told.entry.events.now)) }
+    ensures there { OnOk result (sim.new ≡ stepped_all sim.old told.entry.events.now) }
 {
     write_found(about, told.finding, told.mode, told.depth, out)?;
     write_events(about, told.events, out)?;
@@ -128,8 +134,9 @@ fn write_trace<W: Out>(
     events: &[Event],
     out: &mut W,
 ) -> Result<(), Failed>
-    ensures { OnOk result (Appends (W.contents out.old) (W.contents out.new)
+    ensures text { OnOk result (Appends (W.contents out.old) (W.contents out.new)
         (codes "trace\n" ++ note_lines (names_of about.now) (notes_of_all sim.old events.now))) }
+    ensures there { OnOk result (sim.new ≡ stepped_all sim.old events.now) }
 {
     write_text(out, "trace\n")?;
     write_run(sim, &mut Listed::new(events), about, out)

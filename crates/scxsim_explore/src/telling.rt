@@ -1,40 +1,42 @@
 ghost use Rattle.std.specs.Prelude.{◌≡◌, OnOk};
-ghost use Rattle.scxsim_explore.specs.Telling.{Grows, HasTold, IsTold};
+ghost use Rattle.scxsim_explore.specs.Machines.{IsFresh};
+ghost use Rattle.scxsim_explore.specs.Telling.{HasTold, IsTold};
 
-use crate::auditing::end_audited;
+use crate::auditing::Texts;
 use crate::beginning::Begun;
-use crate::lines::{write_alike, write_full, write_level, write_none, write_starts};
+use crate::ending::write_end;
 use crate::machines::Machines;
 use crate::showing::{Told, write_if_shown};
 use crate::watcher::Watcher;
-use scx_explore::{Bounds, Course, End, Found, Level, Mode, SORTS, Search, Sort};
+use scx_explore::{Bounds, Course, End, Found, Mode, SORTS, Search};
 use scx_explore_workloads::workload_file;
 use scx_isa::CALLBACKS;
 use scx_load_workloads::Workload;
-use scx_sched::Event;
+use scx_sched::{Event, Sim};
 use scxsim_output::{Failed, Out};
 use std::alloc::AllocError;
 
 /// After how many states a watcher is told of them.
 const PACE: u64 = 1024;
 
-/// Writes what the search finds, as it does, and at its end how far it came.
+/// Writes what the search finds, as it does, and at its end how far it came. The texts are those of the machines.
 pub(crate) fn tell<V: Watcher, W: Out>(
     begun: &mut Begun,
+    texts: Texts<'_>,
     about: &Workload,
     bounds: Bounds,
     watcher: &mut V,
     out: &mut W,
 ) -> Result<(), Failed>
-    ensures { OnOk result (IsTold about.now begun.old.machines
+    requires { IsFresh texts.policy.now texts.workload.now begun.old.machines }
+    ensures { OnOk result (IsTold texts.entry.policy.now about.now begun.old.machines
         (W.contents out.old) (W.contents out.new)) }
 {
     let mut course = Course::new(bounds);
     let end = search(begun, about, &mut course, watcher, out)?;
     watcher.pause();
     write_most(begun, about, bounds.mode, out)?;
-    let audited = end_audited(begun, about, &course, end);
-    write_end(begun, &course, audited, out)
+    write_end(begun, texts, about, &course, end, out)
 }
 
 /// Goes through the lists, and writes what is found.
@@ -210,7 +212,7 @@ fn file_of(machines: &mut Machines, about: &Workload, events: &[Event]) -> Optio
     }
 }
 
-/// The same, with two machines of which there are enough.
+/// The same, with two machines, of which there are enough.
 #[tactic(auto, using(crate::proofs::Told::told_nothing))]
 fn write_with<W: Out>(
     machines: &mut Machines,
@@ -226,7 +228,7 @@ fn write_with<W: Out>(
         return Ok(());
     };
     match machines.take() {
-        Some(second) => write_if_shown(first, second, about, told, out),
+        Some(second) => write_by(machines, first, second, about, told, out),
         None => {
             drop(first);
             Ok(())
@@ -234,85 +236,33 @@ fn write_with<W: Out>(
     }
 }
 
-/// Writes what callbacks took before any event, how far the search came, and what it found in none of the lists.
-fn write_end<W: Out>(begun: &Begun, course: &Course, end: End, out: &mut W) -> Result<(), Failed>
-    ensures { OnOk result (Grows (W.contents out.old) (W.contents out.new)) }
-{
-    write_starts(begun.starts, out)?;
-    write_counts(&begun.search, course, end, out)?;
-    write_nones(&begun.search, course.bounds, end, out)
-}
-
-/// Writes how many states and events each depth has.
-fn write_counts<W: Out>(
-    search: &Search,
-    course: &Course,
-    end: End,
+/// The same, with these machines, which are given back where nothing fails.
+fn write_by<W: Out>(
+    machines: &mut Machines,
+    first: Sim,
+    second: Sim,
+    about: &Workload,
+    told: Told<'_>,
     out: &mut W,
 ) -> Result<(), Failed>
-    ensures { OnOk result (Grows (W.contents out.old) (W.contents out.new)) }
+    requires first { first ≡ machines.old }
+    requires second { second ≡ machines.old }
+    ensures same { machines.new ≡ machines.old }
+    ensures told { OnOk result (HasTold about.now machines.old
+        (W.contents out.old) (W.contents out.new)) }
 {
-    write_alike(search.are_tasks_alike(), out)?;
-    write_depths(course, out)?;
-    write_full(course.bounds.mode, end, out)
-}
-
-fn write_depths<W: Out>(course: &Course, out: &mut W) -> Result<(), Failed>
-    ensures { OnOk result (Grows (W.contents out.old) (W.contents out.new)) }
-{
-    write_levels(course.bounds.mode, course.levels(), out)?;
-    write_kept(course.bounds.mode, course.last(), out)
-}
-
-fn write_levels<W: Out>(mode: Mode, levels: &[Option<Level>], out: &mut W) -> Result<(), Failed>
-    ensures { OnOk result (Grows (W.contents out.old) (W.contents out.new)) }
-{
-    for level in levels {
-        write_kept(mode, *level, out)?;
-    }
-    Ok(())
-}
-
-#[tactic(auto, using(crate::proofs::Written::grown_none))]
-fn write_kept<W: Out>(mode: Mode, level: Option<Level>, out: &mut W) -> Result<(), Failed>
-    ensures { OnOk result (Grows (W.contents out.old) (W.contents out.new)) }
-{
-    match level {
-        Some(level) => write_level(mode, level, out),
-        None => Ok(()),
-    }
-}
-
-fn write_nones<W: Out>(search: &Search, bounds: Bounds, end: End, out: &mut W) -> Result<(), Failed>
-    ensures { OnOk result (Grows (W.contents out.old) (W.contents out.new)) }
-{
-    for sort in SORTS {
-        write_unfound(search, sort, bounds, end, out)?;
-    }
-    Ok(())
-}
-
-#[tactic(auto, using(crate::proofs::Written::grown_none))]
-fn write_unfound<W: Out>(
-    search: &Search,
-    sort: Sort,
-    bounds: Bounds,
-    end: End,
-    out: &mut W,
-) -> Result<(), Failed>
-    ensures { OnOk result (Grows (W.contents out.old) (W.contents out.new)) }
-{
-    if is_told(sort, bounds.mode) && !search.has_found(sort) {
-        write_none(sort, bounds, end, out)
-    } else {
-        Ok(())
-    }
-}
-
-/// Whether it is looked for in such lists: where clocks are free, each policy has stalls.
-fn is_told(sort: Sort, mode: Mode) -> bool {
-    match sort {
-        Sort::Stall => mode != Mode::Events,
-        Sort::Fault(_) | Sort::Idle | Sort::Overtaken => true,
+    let mut first = first;
+    let mut second = second;
+    match write_if_shown(&mut first, &mut second, about, told, out) {
+        Ok(()) => {
+            machines.give_back(first);
+            machines.give_back(second);
+            Ok(())
+        }
+        Err(Failed) => {
+            drop(first);
+            drop(second);
+            Err(Failed)
+        }
     }
 }

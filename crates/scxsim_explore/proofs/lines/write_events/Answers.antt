@@ -1,9 +1,10 @@
 use Rattle.std.proofs.Common.{rules, ◌<◌, length}
 use Rattle.scxsim_trace.specs.Lines.{names_of}
-use Rattle.scxsim_explore.proofs.Written.{events_more}
+use Rattle.scxsim_explore.specs.Lists.{event_line}
+use Rattle.scxsim_explore.proofs.Written.{lines_more}
 use Rattle.scxsim_explore.proofs.lines.write_events.Goals as goal
 
 pub loop-event-preserved : goal.loop-event-preserved
 loop-event-preserved g c =
     let within : c.loop-event.event-index < length c.args.events.now = search rules in
-    events_more (names_of c.args.about.now) c.args.events.now c.loop-event.event-index _ _ _ _ within (search rules) c.loop-event.invariant c.in_ok-write_event.ensures
+    lines_more (event_line (names_of c.args.about.now)) c.args.events.now c.loop-event.event-index _ _ _ _ within (search rules) c.loop-event.invariant c.in_ok-write_event.ensures

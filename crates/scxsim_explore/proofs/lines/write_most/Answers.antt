@@ -3,5 +3,5 @@ use Rattle.scxsim_explore.proofs.lines.write_most.Goals as goal
 
 pub returns : goal.returns
 returns g c =
-    let last = rw c.name.ensures at c.write_text.ensures.text in
-    two_on c.write_text.result _ _ _ _ _ c.in_ok-write_number.ensures.text last
+    let last = rw c.name.ensures at c.write_text.ensures in
+    two_on c.write_text.result _ _ _ _ _ c.in_ok-write_number.ensures last

@@ -1,5 +1,7 @@
-use Rattle.scxsim_explore.proofs.Written.{grown_thrice_so}
+use Rattle.scxsim_explore.proofs.Written.{three_on}
 use Rattle.scxsim_explore.proofs.lines.write_run.Goals as goal
 
 pub returns : goal.returns
-returns g c = grown_thrice_so c.write_text-2.result _ _ _ _ c.in_ok-write_number.ensures.grows c.in_ok-write_text.ensures.grows c.write_text-2.ensures.grows
+returns g c =
+    let name = rw c.name.ensures at c.in_ok-write_text.ensures in
+    three_on c.write_text-2.result _ _ _ _ _ _ _ c.in_ok-write_number.ensures name c.write_text-2.ensures

@@ -2,4 +2,4 @@ use Rattle.scxsim_explore.proofs.Written.{two_on}
 use Rattle.scxsim_explore.proofs.lines.write_wait.Goals as goal
 
 pub returns : goal.returns
-returns g c = two_on c.write_task.result _ _ _ _ _ c.in_ok-write_number.ensures.text c.write_task.ensures
+returns g c = two_on c.write_task.result _ _ _ _ _ c.in_ok-write_number.ensures c.write_task.ensures
