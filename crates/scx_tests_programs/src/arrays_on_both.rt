@@ -137,13 +137,21 @@ const PARTS: [(&str, u64, &str); 24] = [
     ),
 ];
 
+fn any_part(random: &mut Random) -> (&'static str, u64, &'static str) {
+    PARTS[(random.next() % 24) as usize]
+}
+
+fn push_part(text: &mut String, random: &mut Random) -> Result<(), AllocError> {
+    let (before, bits, behind) = any_part(random);
+    let number = random.next() & bits;
+    write!(text, "{NEXT}{before}{number}{behind}")
+}
+
 fn push_random(text: &mut String, random: &mut Random) -> Result<(), AllocError> {
     write!(text, "{HEAD}{}", random.next())?;
     let parts = 1 + random.next() % 4;
     for _ in 0..parts {
-        let (before, bits, behind) = PARTS[(random.next() % 24) as usize];
-        let number = random.next() & bits;
-        write!(text, "{NEXT}{before}{number}{behind}")?;
+        push_part(text, random)?;
     }
     text.push_str("\nout:\nr0 = r8\nexit\n")
 }

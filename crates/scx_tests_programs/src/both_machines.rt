@@ -223,6 +223,17 @@ fn compare<T: Texts>(alloc: Global, texts: &mut T, defs: &MapDefs) -> Option<boo
     Some(is_left_by_both(alloc, text.as_str(), &verified, defs))
 }
 
+/// Whether the next program is accepted, and then it leaves the same on both machines.
+fn expect_next<R: AllocGlobal + Abort, T: Texts>(rt: &R, texts: &mut T, defs: &MapDefs) -> bool {
+    match compare(rt.alloc(), texts, defs) {
+        Some(same) => {
+            assert!(rt; same);
+            true
+        }
+        None => false,
+    }
+}
+
 /// Compares what programs with these maps leave, until enough of those that are tried were accepted.
 pub(crate) fn expect_left_the_same<R: AllocGlobal + Abort, T: Texts>(
     rt: &R,
@@ -232,11 +243,8 @@ pub(crate) fn expect_left_the_same<R: AllocGlobal + Abort, T: Texts>(
     let defs = MapDefs::new(shapes).expect(rt, "the map is within the limits");
     let mut compared = 0u32;
     for _ in 0..TRIED {
-        if compared < COMPARED {
-            if let Some(same) = compare(rt.alloc(), texts, &defs) {
-                assert!(rt; same);
-                compared = compared.wrapping_add(1);
-            }
+        if compared < COMPARED && expect_next(rt, texts, &defs) {
+            compared = compared.wrapping_add(1);
         }
     }
     expect_same(rt, compared, COMPARED, "compared");

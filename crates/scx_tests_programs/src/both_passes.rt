@@ -12,7 +12,6 @@ use scx_tests_examples::{EXIT, bytes_of};
 use scx_verify::{Fault, verify};
 use std::alloc::{AllocError, Global};
 use std::process::Abort;
-use std::test::Fail;
 
 /// How many random programs are compared.
 const COMPARED: u32 = 100_000;
@@ -152,35 +151,39 @@ fn compare_random<R: AllocGlobal + Abort>(
     rt: &R,
     random: &mut Random,
     context: &Context,
-) -> Result<Verdict, AllocError> {
-    let text = random_text(rt.alloc(), random)?;
-    let program = assemble(rt.alloc(), text.as_str()).expect(rt, "it is a program");
-    Ok(compare(rt, program, context))
+) -> Verdict {
+    let text = random_text(rt.alloc(), random).expect(rt, "memory is ample");
+    let program = assemble(rt.alloc(), text.as_str());
+    drop(text);
+    compare(rt, program.expect(rt, "it is a program"), context)
 }
 
-#[test]
-fn random_programs_are_judged_alike(rt: HostRuntime) -> Result<(), Fail> {
-    let defs = MapDefs::new(&SHAPES).expect(&rt, "the map is within the limits");
-    let context = Context {
-        callback: Callback::SelectCpu,
-        defs,
-    };
+/// How many are accepted of the first random programs whose flow is.
+fn count_accepted<R: AllocGlobal + Abort>(rt: &R, context: &Context) -> u32 {
     let mut random = Random(7);
     let mut compared = 0u32;
     let mut accepted = 0u32;
     for _ in 0..2 * COMPARED {
         if compared < COMPARED {
-            if let Some(verdict) = compare_random(&rt, &mut random, &context)? {
+            if let Some(verdict) = compare_random(rt, &mut random, context) {
                 compared = compared.wrapping_add(1);
                 accepted = accepted.wrapping_add(u32::from(verdict.is_none()));
             }
         }
     }
-    expect_same(&rt, compared, COMPARED, "compared");
+    expect_same(rt, compared, COMPARED, "compared");
+    accepted
+}
+
+#[test]
+fn random_programs_are_judged_alike(rt: HostRuntime) {
+    let context = Context {
+        callback: Callback::SelectCpu,
+        defs: MapDefs::new(&SHAPES).expect(&rt, "the map is within the limits"),
+    };
+    let accepted = count_accepted(&rt, &context);
     // Of both kinds there are thousands.
-    assert!(&rt; accepted > 5000);
-    assert!(&rt; accepted < 95_000);
-    Ok(())
+    assert!(rt; 5000 < accepted && accepted < 95_000);
 }
 
 /// The verdict of both on the next random program with an array, whose flow is accepted.
@@ -188,29 +191,35 @@ fn compare_array<R: AllocGlobal + Abort>(
     rt: &R,
     random: &mut Random,
     context: &Context,
-) -> Result<Option<(Why, usize)>, AllocError> {
-    let text = random_array(rt.alloc(), random)?;
-    let program = assemble(rt.alloc(), text.as_str()).expect(rt, "it is a program");
-    Ok(compare(rt, program, context).expect(rt, "its flow is accepted"))
+) -> Option<(Why, usize)> {
+    let text = random_array(rt.alloc(), random).expect(rt, "memory is ample");
+    let program = assemble(rt.alloc(), text.as_str());
+    drop(text);
+    let verdict = compare(rt, program.expect(rt, "it is a program"), context);
+    verdict.expect(rt, "its flow is accepted")
+}
+
+/// How many are accepted of so many random programs with an array.
+fn count_accepted_arrays<R: AllocGlobal + Abort>(rt: &R, context: &Context) -> u32 {
+    let mut random = Random(13);
+    let mut accepted = 0u32;
+    for _ in 0..COMPARED_ARRAYS {
+        let verdict = compare_array(rt, &mut random, context);
+        accepted = accepted.wrapping_add(u32::from(verdict.is_none()));
+    }
+    accepted
 }
 
 /// Ranges are joined where ways meet, and cut where they part.
 #[test]
-fn arrays_are_judged_alike(rt: HostRuntime) -> Result<(), Fail> {
+fn arrays_are_judged_alike(rt: HostRuntime) {
     let context = Context {
         callback: Callback::SelectCpu,
         defs: MapDefs::new(&ARRAYS).expect(&rt, "the map is within the limits"),
     };
-    let mut random = Random(13);
-    let mut accepted = 0u32;
-    for _ in 0..COMPARED_ARRAYS {
-        let verdict = compare_array(&rt, &mut random, &context)?;
-        accepted = accepted.wrapping_add(u32::from(verdict.is_none()));
-    }
+    let accepted = count_accepted_arrays(&rt, &context);
     // Of both kinds there are thousands.
-    assert!(&rt; accepted > 1000);
-    assert!(&rt; accepted < 4000);
-    Ok(())
+    assert!(rt; 1000 < accepted && accepted < 4000);
 }
 
 /// The slots of a program of 4096, as the benchmark verifies it: those of the body over and over.
@@ -225,25 +234,33 @@ fn push_slots(slots: &mut Vec<u64>, body: &[u64]) -> Result<(), AllocError> {
     Ok(())
 }
 
-fn long_program(alloc: Global, body: &[u64]) -> Result<Program, Fail> {
-    let mut slots = Vec::new(alloc);
-    push_slots(&mut slots, body)?;
-    let bytes = bytes_of(alloc, slots.as_slice())?;
-    Ok(decode(alloc, &bytes)?)
+fn long_slots<R: AllocGlobal + Abort>(rt: &R, body: &[u64]) -> Vec<u64> {
+    let mut slots = Vec::new(rt.alloc());
+    let pushed = push_slots(&mut slots, body);
+    pushed.expect(rt, "memory is ample");
+    slots
 }
 
-fn expect_accepted<R: AllocGlobal + Abort>(rt: &R, body: &[u64]) -> Result<(), Fail> {
-    let program = long_program(rt.alloc(), body)?;
+fn long_program<R: AllocGlobal + Abort>(rt: &R, body: &[u64]) -> Program {
+    let slots = long_slots(rt, body);
+    let bytes = bytes_of(rt.alloc(), slots.as_slice()).expect(rt, "memory is ample");
+    drop(slots);
+    let program = decode(rt.alloc(), &bytes);
+    drop(bytes);
+    program.expect(rt, "each slot is an instruction")
+}
+
+fn expect_accepted<R: AllocGlobal + Abort>(rt: &R, body: &[u64]) {
+    let program = long_program(rt, body);
     let context = Context {
         callback: Callback::Plain,
         defs: MapDefs::none(),
     };
     expect_same(rt, compare(rt, program, &context), Some(None), body);
-    Ok(())
 }
 
 #[test]
-fn long_programs_are_judged_alike(rt: HostRuntime) -> Result<(), Fail> {
+fn long_programs_are_judged_alike(rt: HostRuntime) {
     let straight = [
         0x0700_0000_0300_0000,
         0x2400_0000_0500_0000,
@@ -252,19 +269,19 @@ fn long_programs_are_judged_alike(rt: HostRuntime) -> Result<(), Fail> {
         0xc700_0000_0300_0000,
         0xbf01_0000_0000_0000,
     ];
-    expect_accepted(&rt, &straight)?;
+    expect_accepted(&rt, &straight);
     let ladder = [
         0x1500_0200_0700_0000,
         0x7a0a_f8ff_0100_0000,
         0x0500_0100_0000_0000,
         0xb702_0000_0200_0000,
     ];
-    expect_accepted(&rt, &ladder)?;
+    expect_accepted(&rt, &ladder);
     let stores = [
         0x7b0a_f8ff_0000_0000,
         0x7b0a_00ff_0000_0000,
         0x7b0a_00fe_0000_0000,
         0x7b0a_80fe_0000_0000,
     ];
-    expect_accepted(&rt, &stores)
+    expect_accepted(&rt, &stores);
 }

@@ -109,27 +109,42 @@ fn explained_array<R: AllocGlobal + Abort>(
     Ok(is_accepted.expect(rt, "its flow is accepted"))
 }
 
-#[test]
-fn listings_end_where_programs_are_refused(rt: HostRuntime) -> Result<(), Fail> {
-    let defs = MapDefs::new(&SHAPES).expect(&rt, "the map is within the limits");
-    let context = Context {
-        callback: Callback::SelectCpu,
-        defs,
-    };
+/// How many of the random programs are accepted, and how many are refused though their flow is accepted.
+fn count_explained<R: AllocGlobal + Abort>(rt: &R, context: &Context) -> Result<(u32, u32), Fail> {
     let mut random = Random(11);
     let mut accepted = 0u32;
     let mut refused = 0u32;
     for _ in 0..EXPLAINED {
-        match explained_random(&rt, &mut random, &context)? {
+        match explained_random(rt, &mut random, context)? {
             Some(true) => accepted = accepted.wrapping_add(1),
             Some(false) => refused = refused.wrapping_add(1),
             None => (),
         }
     }
+    Ok((accepted, refused))
+}
+
+#[test]
+fn listings_end_where_programs_are_refused(rt: HostRuntime) -> Result<(), Fail> {
+    let context = Context {
+        callback: Callback::SelectCpu,
+        defs: MapDefs::new(&SHAPES).expect(&rt, "the map is within the limits"),
+    };
+    let (accepted, refused) = count_explained(&rt, &context)?;
     // Of both kinds there are many.
-    assert!(&rt; accepted > 10);
-    assert!(&rt; refused > 100);
+    assert!(&rt; 10 < accepted && 100 < refused);
     Ok(())
+}
+
+/// How many of the random programs with an array are accepted.
+fn count_explained_arrays<R: AllocGlobal + Abort>(rt: &R, context: &Context) -> Result<u32, Fail> {
+    let mut random = Random(17);
+    let mut accepted = 0u32;
+    for _ in 0..EXPLAINED {
+        let is_accepted = explained_array(rt, &mut random, context)?;
+        accepted = accepted.wrapping_add(u32::from(is_accepted));
+    }
+    Ok(accepted)
 }
 
 #[test]
@@ -138,14 +153,8 @@ fn listings_of_arrays_end_where_they_are_refused(rt: HostRuntime) -> Result<(), 
         callback: Callback::SelectCpu,
         defs: MapDefs::new(&ARRAYS).expect(&rt, "the map is within the limits"),
     };
-    let mut random = Random(17);
-    let mut accepted = 0u32;
-    for _ in 0..EXPLAINED {
-        let is_accepted = explained_array(&rt, &mut random, &context)?;
-        accepted = accepted.wrapping_add(u32::from(is_accepted));
-    }
+    let accepted = count_explained_arrays(&rt, &context)?;
     // Of both kinds there are many.
-    assert!(&rt; accepted > 50);
-    assert!(&rt; accepted < 250);
+    assert!(&rt; 50 < accepted && accepted < 250);
     Ok(())
 }

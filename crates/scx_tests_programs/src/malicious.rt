@@ -50,11 +50,15 @@ fn judge_beginnings<R: AllocGlobal + Abort>(rt: &R, code: &[u8], callback: Callb
     }
 }
 
+fn judge_beginnings_of<R: AllocGlobal + Abort>(rt: &R, callback: Callback, text: &str) {
+    let code = code_of(rt.alloc(), text).expect(rt, "the text stands for a program");
+    judge_beginnings(rt, code.as_slice(), callback);
+}
+
 #[test]
 fn beginnings_are_judged(rt: HostRuntime) {
     for &(callback, text) in &WITHOUT_SELECT_CPU {
-        let code = code_of(rt.alloc(), text).expect(&rt, "the text stands for a program");
-        judge_beginnings(&rt, code.as_slice(), callback);
+        judge_beginnings_of(&rt, callback, text);
     }
 }
 
@@ -72,11 +76,15 @@ fn change_each_byte<R: AllocGlobal + Abort>(rt: &R, code: &mut [u8], callback: C
     }
 }
 
+fn change_each_byte_of<R: AllocGlobal + Abort>(rt: &R, callback: Callback, text: &str) {
+    let mut code = code_of(rt.alloc(), text).expect(rt, "the text stands for a program");
+    change_each_byte(rt, code.as_mut_slice(), callback);
+}
+
 #[test]
 fn changed_bytes_are_judged(rt: HostRuntime) {
     for &(callback, text) in &WITHOUT_SELECT_CPU {
-        let mut code = code_of(rt.alloc(), text).expect(&rt, "the text stands for a program");
-        change_each_byte(&rt, code.as_mut_slice(), callback);
+        change_each_byte_of(&rt, callback, text);
     }
 }
 

@@ -2,7 +2,7 @@
 
 use crate::same::expect_same;
 use scx_asm::assemble;
-use scx_isa::{Callback, Helper, TaskId, flow};
+use scx_isa::{Callback, Helper, Program, TaskId, flow};
 use scx_maps::{MapDefs, Maps, Shape, Size};
 use scx_tests_examples::{DISPATCH, ENABLE, ENQUEUE, INIT, OneTask, RUNNING, STOPPING};
 use scx_vm::{Arg, Args};
@@ -41,6 +41,20 @@ fn idle_host() -> OneTask {
     }
 }
 
+/// How the program runs, if its flow is accepted.
+fn run_program(
+    program: &Program,
+    callback: Callback,
+    arguments: Args,
+    maps: &mut Maps,
+    host: &mut OneTask,
+) -> Option<Ran> {
+    flow(program).ok()?;
+    // The host has room for as many calls as can be counted.
+    let _instructions = program.instructions();
+    Some(try_run(program, callback, arguments, maps, host))
+}
+
 /// How the program runs for which the text stands.
 fn run(
     alloc: Global,
@@ -51,10 +65,9 @@ fn run(
     host: &mut OneTask,
 ) -> Option<Ran> {
     let program = assemble(alloc, text).ok()?;
-    flow(&program).ok()?;
-    // The host has room for as many calls as can be counted.
-    let _instructions = program.instructions();
-    Some(try_run(&program, callback, arguments, maps, host))
+    let ran = run_program(&program, callback, arguments, maps, host);
+    drop(program);
+    ran
 }
 
 /// One map of one number of eight bytes.

@@ -1,4 +1,5 @@
 use scx_load_workloads::Workload;
+use scxsim_text::Text;
 use scxsim_trace::Names;
 use scxsim_windows::Window;
 use std::alloc::{AllocError, Global};
@@ -21,52 +22,44 @@ pub(crate) fn head(
     contents: &Workload,
     window: Window,
 ) -> Result<String, AllocError> {
-    let mut text = String::new(alloc);
-    push_head(&mut text, paths, contents, window)?;
-    Ok(text)
+    let mut text = Text::new(alloc);
+    push_head(&mut text, paths, contents, window);
+    text.finish()
 }
 
-fn push_head(
-    text: &mut String,
-    paths: Paths<'_>,
-    contents: &Workload,
-    window: Window,
-) -> Result<(), AllocError> {
-    text.push_str("<script id=\"head\" type=\"application/json\">{\"policy\":\"")?;
-    push_name(text, paths.policy)?;
-    text.push_str("\",\"workload\":\"")?;
-    push_name(text, paths.workload)?;
-    push_lengths(text, contents, window)?;
-    text.push_str(",\"groups\":[")?;
-    push_groups(text, contents)?;
-    text.push_str("],\"tasks\":[")?;
-    push_tasks(text, contents)?;
-    text.push_str("],\"changes\":[")?;
-    push_changes(text, contents, window)?;
-    text.push_str("]}</script>\n<script id=\"stretches\" type=\"text/plain\">\n")
+fn push_head(text: &mut Text, paths: Paths<'_>, contents: &Workload, window: Window) {
+    text.push("<script id=\"head\" type=\"application/json\">{\"policy\":\"");
+    push_name(text, paths.policy);
+    text.push("\",\"workload\":\"");
+    push_name(text, paths.workload);
+    push_lengths(text, contents, window);
+    text.push(",\"groups\":[");
+    push_groups(text, contents);
+    text.push("],\"tasks\":[");
+    push_tasks(text, contents);
+    text.push("],\"changes\":[");
+    push_changes(text, contents, window);
+    text.push("]}</script>\n<script id=\"stretches\" type=\"text/plain\">\n");
 }
 
 /// How many processors there are, which part of the run is shown, and how long the run is.
-fn push_lengths(text: &mut String, contents: &Workload, window: Window) -> Result<(), AllocError> {
-    let (cpus, ms) = (contents.cpus(), contents.ms());
-    let Window { from, to } = window;
-    write!(
-        text,
-        "\",\"processors\":{cpus},\"ms\":{ms},\"from\":{from},\"to\":{to}"
-    )
+fn push_lengths(text: &mut Text, contents: &Workload, window: Window) {
+    text.number("\",\"processors\":", u64::from(contents.cpus()));
+    text.number(",\"ms\":", u64::from(contents.ms()));
+    text.number(",\"from\":", window.from);
+    text.number(",\"to\":", window.to);
 }
 
 /// The name of a file: the last part of its path, without `.toml`.
-fn push_name(text: &mut String, path: &str) -> Result<(), AllocError> {
+fn push_name(text: &mut Text, path: &str) {
     let base = match path.rsplit_once('/') {
         Some((_, base)) => base,
         None => path,
     };
     let name = base.strip_suffix(".toml").unwrap_or(base);
     for letter in name.chars().take(MOST) {
-        text.push(plain(letter))?;
+        text.show("", &plain(letter));
     }
-    Ok(())
 }
 
 /// A character that needn't be quoted in JSON or in a page.
@@ -78,33 +71,34 @@ fn plain(letter: char) -> char {
     }
 }
 
-fn push_comma(text: &mut String, number: usize) -> Result<(), AllocError> {
+fn push_comma(text: &mut Text, number: usize) {
     if number > 0 {
-        text.push_str(",")?;
+        text.push(",");
     }
-    Ok(())
 }
 
-fn push_groups(text: &mut String, contents: &Workload) -> Result<(), AllocError> {
+fn push_groups(text: &mut Text, contents: &Workload) {
     for (number, group) in contents.groups().iter().enumerate() {
-        push_comma(text, number)?;
-        let name = group_name(contents, number);
-        write!(text, "{{\"name\":\"{name}\",\"weight\":{}", group.weight)?;
+        push_comma(text, number);
+        text.push("{\"name\":\"");
+        text.push(group_name(contents, number));
+        text.number("\",\"weight\":", u64::from(group.weight));
         match group.parent {
-            Some(parent) => write!(text, ",\"parent\":{parent}}}")?,
-            None => text.push_str(",\"parent\":-1}")?,
+            Some(parent) => text.number(",\"parent\":", u64::from(parent)),
+            None => text.push(",\"parent\":-1"),
         }
+        text.push("}");
     }
-    Ok(())
 }
 
-fn push_tasks(text: &mut String, contents: &Workload) -> Result<(), AllocError> {
+fn push_tasks(text: &mut Text, contents: &Workload) {
     for (number, group) in contents.tasks().iter().enumerate() {
-        push_comma(text, number)?;
-        let name = task_name(contents, number);
-        write!(text, "{{\"name\":\"{name}\",\"group\":{group}}}")?;
+        push_comma(text, number);
+        text.push("{\"name\":\"");
+        text.push(task_name(contents, number));
+        text.number("\",\"group\":", u64::from(*group));
+        text.push("}");
     }
-    Ok(())
 }
 
 fn group_name(contents: &Workload, number: usize) -> &str {
@@ -122,14 +116,16 @@ fn task_name(contents: &Workload, number: usize) -> &str {
 }
 
 /// The changes of weights that come before the end of what is shown.
-fn push_changes(text: &mut String, contents: &Workload, window: Window) -> Result<(), AllocError> {
+fn push_changes(text: &mut Text, contents: &Workload, window: Window) {
     let mut number = 0usize;
     for change in contents.changes() {
         if u64::from(change.at) < window.to {
-            push_comma(text, number)?;
-            write!(text, "[{},{},{}]", change.at, change.group, change.weight)?;
+            push_comma(text, number);
+            text.number("[", u64::from(change.at));
+            text.number(",", u64::from(change.group));
+            text.number(",", u64::from(change.weight));
+            text.push("]");
             number = number.saturating_add(1);
         }
     }
-    Ok(())
 }

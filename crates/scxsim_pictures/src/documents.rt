@@ -1,6 +1,7 @@
 use crate::tracks::{CPUS, EJECTIONS, INSERTS, MOVES, PARKED, QUEUES, TASKS, WAITS, WAKES};
 use arrayvec::ArrayString;
 use scx_load_workloads::Workload;
+use scxsim_text::Text;
 use scxsim_trace::Names;
 use std::alloc::{AllocError, Global};
 use std::fmt::Write;
@@ -12,17 +13,17 @@ pub(crate) const END: &str = "\n]}\n";
 
 /// The titles of all tracks, which are the first objects of a document.
 pub(crate) fn titles(alloc: Global, workload: &Workload) -> Result<String, AllocError> {
-    let mut text = String::new(alloc);
-    push_cpus(&mut text, workload.cpus())?;
-    push_tasks(&mut text)?;
-    push_group(&mut text, QUEUES, 3, "queues")?;
+    let mut text = Text::new(alloc);
+    push_cpus(&mut text, workload.cpus());
+    push_tasks(&mut text);
+    push_group(&mut text, QUEUES, 3, "queues");
     if has_quotas(workload) {
-        push_group(&mut text, PARKED, 2, "parked")?;
-        push_names(&mut text, PARKED, workload)?;
+        push_group(&mut text, PARKED, 2, "parked");
+        push_names(&mut text, PARKED, workload);
     }
-    push_group(&mut text, WAITS, 1, "waits")?;
-    push_names(&mut text, WAITS, workload)?;
-    Ok(text)
+    push_group(&mut text, WAITS, 1, "waits");
+    push_names(&mut text, WAITS, workload);
+    text.finish()
 }
 
 /// Whether a group of the workload has a quota.
@@ -33,13 +34,12 @@ fn has_quotas(workload: &Workload) -> bool {
         .any(|group| group.quota_ms.is_some())
 }
 
-fn push_cpus(text: &mut String, cpus: u32) -> Result<(), AllocError> {
-    push_group(text, CPUS, 0, "processors")?;
+fn push_cpus(text: &mut Text, cpus: u32) {
+    push_group(text, CPUS, 0, "processors");
     for cpu in 0..cpus {
-        push_title(text, "thread_name", CPUS, cpu, cpu_name(cpu).as_str())?;
-        push_place(text, "thread_sort_index", CPUS, cpu, cpu)?;
+        push_title(text, "thread_name", CPUS, cpu, cpu_name(cpu).as_str());
+        push_place(text, "thread_sort_index", CPUS, cpu, cpu);
     }
-    Ok(())
 }
 
 fn cpu_name(cpu: u32) -> ArrayString<16> {
@@ -48,60 +48,56 @@ fn cpu_name(cpu: u32) -> ArrayString<16> {
     name
 }
 
-fn push_tasks(text: &mut String) -> Result<(), AllocError> {
-    push_group(text, TASKS, 4, "tasks")?;
-    push_title(text, "thread_name", TASKS, WAKES, "wakes")?;
-    push_title(text, "thread_name", TASKS, INSERTS, "inserts")?;
-    push_title(text, "thread_name", TASKS, MOVES, "moves")?;
-    push_title(text, "thread_name", TASKS, EJECTIONS, "ejections")
+fn push_tasks(text: &mut Text) {
+    push_group(text, TASKS, 4, "tasks");
+    push_title(text, "thread_name", TASKS, WAKES, "wakes");
+    push_title(text, "thread_name", TASKS, INSERTS, "inserts");
+    push_title(text, "thread_name", TASKS, MOVES, "moves");
+    push_title(text, "thread_name", TASKS, EJECTIONS, "ejections");
 }
 
 /// Each task has a track in that group, in the workload's order.
-fn push_names(text: &mut String, pid: u32, workload: &Workload) -> Result<(), AllocError> {
+fn push_names(text: &mut Text, pid: u32, workload: &Workload) {
     let mut task = 0u16;
     for _group in workload.tasks() {
         let track = u32::from(task);
-        push_title(text, "thread_name", pid, track, workload.task(task))?;
-        push_place(text, "thread_sort_index", pid, track, track)?;
+        push_title(text, "thread_name", pid, track, workload.task(task));
+        push_place(text, "thread_sort_index", pid, track, track);
         task = task.saturating_add(1);
     }
-    Ok(())
 }
 
 /// Appends the title of a group of tracks, and its place among the others.
-fn push_group(text: &mut String, pid: u32, place: u32, title: &str) -> Result<(), AllocError> {
-    push_title(text, "process_name", pid, 0, title)?;
-    push_place(text, "process_sort_index", pid, 0, place)
+fn push_group(text: &mut Text, pid: u32, place: u32, title: &str) {
+    push_title(text, "process_name", pid, 0, title);
+    push_place(text, "process_sort_index", pid, 0, place);
 }
 
 /// Appends the place of a group of tracks among the others, or of a track in its group. Some title stands before.
-fn push_place(
-    text: &mut String,
-    what: &str,
-    pid: u32,
-    tid: u32,
-    place: u32,
-) -> Result<(), AllocError> {
-    write!(
-        text,
-        ",\n{{\"ph\":\"M\",\"pid\":{pid},\"tid\":{tid},\"name\":\"{what}\",\"args\":{{\"sort_index\":{place}}}}}"
-    )
+fn push_place(text: &mut Text, what: &str, pid: u32, tid: u32, place: u32) {
+    text.push(",\n");
+    push_head(text, what, pid, tid);
+    text.number("\"sort_index\":", u64::from(place));
+    text.push("}}");
 }
 
 /// Appends that a group of tracks, or a track, as `what` says, has that title. No title has a character that
 /// would have to be quoted.
-fn push_title(
-    text: &mut String,
-    what: &str,
-    pid: u32,
-    tid: u32,
-    title: &str,
-) -> Result<(), AllocError> {
+fn push_title(text: &mut Text, what: &str, pid: u32, tid: u32, title: &str) {
     if !text.is_empty() {
-        text.push_str(",\n")?;
+        text.push(",\n");
     }
-    write!(
-        text,
-        "{{\"ph\":\"M\",\"pid\":{pid},\"tid\":{tid},\"name\":\"{what}\",\"args\":{{\"name\":\"{title}\"}}}}"
-    )
+    push_head(text, what, pid, tid);
+    text.push("\"name\":\"");
+    text.push(title);
+    text.push("\"}}");
+}
+
+/// Appends the beginning of what is said of a group of tracks, or of a track.
+fn push_head(text: &mut Text, what: &str, pid: u32, tid: u32) {
+    text.number("{\"ph\":\"M\",\"pid\":", u64::from(pid));
+    text.number(",\"tid\":", u64::from(tid));
+    text.push(",\"name\":\"");
+    text.push(what);
+    text.push("\",\"args\":{");
 }
