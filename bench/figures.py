@@ -1,3 +1,4 @@
+#!/usr/bin/env python3
 """How many slots a second are decoded, encoded, assembled, disassembled and verified, how many numbers of
 an array map are loaded and stored, how many pushes, pops and removals a queue takes, how many callbacks
 are verified, how many lines of a trace are written, and how many instructions a millisecond of a whole run and a
@@ -325,20 +326,29 @@ def measure_traces(scxsim, plain, folder):
 
 
 def measure_files(scxsim, _, folder):
-    """How long reading a file of nearly 1 MB takes, in a run whose first callback is refused at once."""
-    line = "r0 = 7  # for people who read the program\n"
+    """How long reading a file of nearly 1 MB takes, in a run whose first callback is refused at once: programs of which
+    each line has a comment, programs without comments, and a workload of comments."""
     names = ("init", "enable", "enqueue", "dispatch", "running", "stopping")
     small = {"policy": policy({"init": "r0 = 7\n"}), "workload": workload(1, 1, 1)}
-    large = {"policy": policy({name: MOST * line for name in names}), "workload": workload(64, 1024, 1, "# " + 970 * "-" + "\n")}
-    for work, text in large.items():
-        runs = []
-        for files in (small, small | {work: text}):
-            paths = [write(folder, name, files[name]) for name in ("policy", "workload")]
-            words = [scxsim, "report", *paths]
-            runs.append((min(seconds(words, status=1)[0] for _ in range(20)), counted(words, status=1)))
-        ms, count = ((after - before) for before, after in zip(*runs))
-        figures = (work, "", 1000 * ms, count / len(text), len(text))
-        print("read     %-14s %6s %12.2f ms, %.1f instructions a byte, a file of %d bytes" % figures, flush=True)
+    line, short = "r0 = 7  # for people who read the program\n", "r0 = 7\n"
+    large = {
+        "policy, comments": {"policy": policy({name: MOST * line for name in names})},
+        "policy, code alone": {"policy": policy({name: MOST * short for name in names})},
+        "workload, comments": {"workload": workload(64, 1024, 1, "# " + 970 * "-" + "\n")},
+        "workload, tasks": {"workload": workload(64, 1024, 1)},
+    }
+
+    def taken(files):
+        """Seconds and instructions of a run of these files."""
+        paths = [write(folder, name, files[name]) for name in ("policy", "workload")]
+        words = [scxsim, "report", *paths]
+        return min(seconds(words, status=1)[0] for _ in range(20)), counted(words, status=1)
+
+    without = taken(small)
+    for work, texts in large.items():
+        spent, count = (after - before for before, after in zip(without, taken(small | texts)))
+        size = sum(len(text) for text in texts.values())
+        print("read     %-18s %7d bytes %6.1f a byte %6.1f ms" % (work, size, count / size, 1000 * spent), flush=True)
 
 
 # Works of scx_tests_bench, by what does them with it and plain Rust, and a path for a program.
@@ -362,7 +372,7 @@ HEADS = {work: RATES for work in (*UNITS, "verify", "maps", "callbacks", "traces
     "growth": "work     what grows               size       scxsim        plain",
     "counts": "work     program     scxsim     plain   ratio",
     "run": "work     program     slots       scxsim       tagged   predecoded    ratio    ratio",
-    "files": "work     file",
+    "files": "work     file                            instructions    time",
 }
 
 
