@@ -1,9 +1,10 @@
 -- Limits of processor time: `cpu.max` of Linux Documentation/admin-guide/cgroup-v2.rst, in whole
 -- milliseconds. A group with a quota may use that much in each of its periods, which begin where
 -- the clock is a multiple of their length. What its tasks use, and those below it, counts together.
-use Rattle.std.specs.Prelude.{ℕ, ◌+◌, ◌%◌, Bool, false, ◌==◌, nat_le, List, length, map, slice_index, Option, None, Some, is_some, if◌then◌else◌}
+use Rattle.std.specs.Prelude.{ℕ, ◌+◌, ◌%◌, Bool, false, ◌&&◌, ◌==◌, nat_le, List, length, map, slice_index, Option, None, Some, is_some, if◌then◌else◌}
 use Rattle.std.specs.List.{list_any, range_with_len}
 use Rattle.scx_weights.specs.declared.group.Group.{Group}
+use Rattle.scx_weights.specs.Counting.{any_below}
 use Rattle.scx_weights.specs.Hierarchy.{Hierarchy, quota_at, period_at, path, lies_in, home_of}
 
 -- the processor time that the group has used in its period, in ms
@@ -47,3 +48,11 @@ abbrev pub with_turn : Hierarchy → ℕ → Hierarchy
 with_turn t clock = record t {
   usages = for_each_group t (λ g. if begins_period t g clock then 0 else usage_of t g);
 }
+
+-- the group had used up its quota, and at that clock its next period begins
+abbrev pub is_freed : Hierarchy → ℕ → ℕ → Bool
+is_freed t clock g = is_throttled_group t g && begins_period t g clock
+
+-- a group is freed at that clock
+abbrev pub frees : Hierarchy → ℕ → Bool
+frees t clock = any_below (length t.groups) (λ g. is_freed t clock g)

@@ -1,10 +1,11 @@
 -- What groups have used, as it is kept: for each group what was added up so far, and what its own
 -- tasks used since then. That is pending: it counts for the group and for all that it lies below.
-use Rattle.std.specs.Prelude.{ℕ, ◌+◌, ◌^◌, ◌<◌, ◌≤◌, ◌≡◌, Bool, true, List, length, map, slice_index, if◌then◌else◌}
+use Rattle.std.specs.Prelude.{ℕ, ◌+◌, ◌%◌, ◌^◌, ◌<◌, ◌≤◌, ◌≡◌, ◌&&◌, ◌==◌, Bool, true, List, length, map, slice_index, if◌then◌else◌}
 use Rattle.std.specs.List.{range_with_len}
 use Rattle.scx_weights.specs.declared.group.Group.{Group}
-use Rattle.scx_weights.specs.Counting.{sum_below}
-use Rattle.scx_weights.specs.Hierarchy.{lies_in}
+use Rattle.scx_weights.specs.Counting.{sum_below, any_below}
+use Rattle.scx_weights.specs.Hierarchy.{quota_at, period_at, lies_in}
+use Rattle.scx_weights.specs.Limits.{is_used_up}
 
 -- what is pending of the second group, where it counts for the first
 abbrev pub pending_for : List Group → List ℕ → ℕ → ℕ → ℕ
@@ -27,3 +28,21 @@ pub record AreUsages (groups : List Group) (used pending : List ℕ) (limited : 
   pub pending_length : length pending ≡ length groups
   pub settled : limited ≡ true → (g : ℕ) → g < length groups → slice_index pending g ≡ 0
   pub room : (g : ℕ) → g < length groups → slice_index (usages_in groups used pending) g ≤ 2 ^ 63
+
+-- the second usages are the first ones, but 0 for each group whose period begins at that clock
+abbrev pub AreTurned : List Group → ℕ → List ℕ → List ℕ → Type 0
+AreTurned groups clock old new =
+    (g : ℕ) → g < length groups
+    → slice_index new g
+    ≡ (if (clock % period_at groups g) == 0 then 0 else slice_index old g)
+
+-- with these usages the group has used up its quota, and at that clock its next period begins
+abbrev pub is_freed_in : List Group → List ℕ → ℕ → ℕ → Bool
+is_freed_in groups usages clock g =
+    is_used_up (quota_at groups g) (slice_index usages g)
+    && ((clock % period_at groups g) == 0)
+
+-- with these usages a group is freed at that clock
+abbrev pub frees_in : List Group → List ℕ → ℕ → Bool
+frees_in groups usages clock =
+    any_below (length groups) (λ g. is_freed_in groups usages clock g)

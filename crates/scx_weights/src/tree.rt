@@ -42,7 +42,7 @@ impl Model for Tree {
 impl Tree {
     ghost use Rattle.scx_weights.specs.Hierarchy.{home_of, is_active_task, with_task, with_weight, idle};
     ghost use Rattle.scx_weights.specs.Weights.{active_tasks, task_weight};
-    ghost use Rattle.scx_weights.specs.Limits.{usage_of, has_quota, begins_period, is_throttled_group, is_throttled, with_use, with_turn};
+    ghost use Rattle.scx_weights.specs.Limits.{usage_of, has_quota, is_throttled, with_use, with_turn, frees};
     ghost use Rattle.scx_weights.specs.Hierarchy.{lies_in};
     ghost use Rattle.scx_weights.specs.Refusals.{max_tasks, first_fault, weight_fault, Names};
 
@@ -182,13 +182,12 @@ impl Tree {
             .is_throttled(&self.groups, self.homes[task as usize])
     }
 
-    /// The clock shows so many ms: a group whose period begins has used nothing. Answers whether one of them had
+    /// The clock shows so many ms: a group whose period begins has used nothing. Returns whether one of them had
     /// used up its quota.
     #[inline(always)]
     pub fn turn(&mut self, clock: u64) -> bool
         ensures turned { self.new ≡ with_turn self.old clock }
-        ensures freed { result ≡ false → (g : ℕ) → g < length self.old.groups
-            → is_throttled_group self.old g ≡ true → begins_period self.old g clock ≡ false }
+        ensures freed { result ≡ frees self.old clock }
     {
         self.usages.turn(&self.groups, clock)
     }

@@ -1,7 +1,8 @@
 use Rattle.std.proofs.Common.{◌%◌, eqb, get_or, length, refl, sym, ap, ◌∙◌}
 use Rattle.std.proofs.lemmas.Bool.{ne_eqb}
-use Rattle.scx_weights.specs.Hierarchy.{period_at, quota_at}
-use Rattle.scx_weights.specs.Limits.{is_used_up}
+use Rattle.scx_weights.specs.Hierarchy.{period_at}
+use Rattle.scx_weights.specs.Pending.{usages_in}
+use Rattle.scx_weights.proofs.Forgetting.{nobody_freed, frees_same}
 use Rattle.scx_weights.proofs.KnownLimits.{none_begins, quiet_after}
 use Rattle.scx_weights.proofs.Settling.{turned_usage, turned_are, usage_settled}
 use Rattle.scx_weights.proofs.usage.Usages.turn_at.Goals as goal
@@ -12,9 +13,12 @@ returns-then-clock-self-ne0-clause-counted c g lt =
     rw (ne_eqb (c.args.clock % p) 0 (none_begins c.args.self.now.beat p c.args.clock (c.requires.limits.divides g lt) c.if-clock-self-ne0.true)) refl
 
 pub returns-then-clock-self-ne0-clause-freed : goal.returns-then-clock-self-ne0-clause-freed
-returns-then-clock-self-ne0-clause-freed c e g lt used =
-    let p = period_at c.args.groups.now g in
-    ne_eqb (c.args.clock % p) 0 (none_begins c.args.self.now.beat p c.args.clock (c.requires.limits.divides g lt) c.if-clock-self-ne0.true)
+returns-then-clock-self-ne0-clause-freed c =
+    let groups = c.args.groups.now in
+    let self = c.args.self.now in
+    let clock = c.args.clock in
+    nobody_freed groups (usages_in groups self.used.items self.pending.items) clock
+    (λ g lt. ne_eqb (clock % period_at groups g) 0 (none_begins self.beat (period_at groups g) clock (c.requires.limits.divides g lt) c.if-clock-self-ne0.true))
 
 pub returns-clause-limits : goal.returns-clause-limits
 returns-clause-limits c =
@@ -34,11 +38,13 @@ returns-clause-counted c g lt =
     (eqb (c.args.clock % period_at c.args.groups.now g) 0) g lt c.settle.ensures.settled c.forget.ensures.pending (c.settle.ensures.counted g lt) (c.forget.ensures.counted g lt)
 
 pub returns-clause-freed : goal.returns-clause-freed
-returns-clause-freed c e g lt used =
+returns-clause-freed c =
     let groups = c.args.groups.now in
+    let self = c.args.self.now in
     let settled = c.settle.new.self in
-    let same = sym (usage_settled groups settled.used.items settled.pending.items g lt c.settle.ensures.settled) ∙ c.settle.ensures.counted g lt in
-    c.forget.ensures.freed e g lt (ap (λ n. is_used_up (quota_at groups g) n) same ∙ used)
+    c.forget.ensures.freed
+    ∙ frees_same groups settled.used.items (usages_in groups self.used.items self.pending.items) c.args.clock
+    (λ g lt. sym (usage_settled groups settled.used.items settled.pending.items g lt c.settle.ensures.settled) ∙ c.settle.ensures.counted g lt)
 
 pub returns-clause-usages : goal.returns-clause-usages
 returns-clause-usages c =
