@@ -40,5 +40,5 @@ pub use group::{
     DEFAULT_PERIOD_MS, Group, MAX_DEPTH, MAX_GROUPS, MAX_PERIOD_MS, MAX_QUOTA_MS, MAX_TASKS,
     MAX_WEIGHT, MIN_WEIGHT, is_weight,
 };
-pub use laws::ways_reach_top;
+pub use laws::{freed_are_free, ways_reach_top};
 pub use tree::Tree;
