@@ -1,12 +1,12 @@
 -- A group that is freed may run again.
-use Rattle.std.proofs.Common.{◌≡◌, ℕ, zero, suc, ◌<◌, ◌≤◌, ◌&&◌, ◌||◌, Bool, true, false, not, cond, List, length, get_or, Option, None, Some, refl, sym, ap, ◌∙◌, ⊎_elim, arith}
+use Rattle.std.proofs.Common.{◌≡◌, ℕ, zero, suc, ◌<◌, ◌≤◌, ◌&&◌, ◌||◌, Bool, true, false, not, cond, length, get_or, Option, None, Some, refl, sym, ap, ◌∙◌, ⊎_elim, arith}
 use Rattle.std.proofs.lemmas.Bool.{cases_lt, cases_Bool, or_parts, leb-true}
 use Rattle.std.proofs.lemmas.List.{get_or_past}
 use Rattle.std.proofs.lemmas.List.FromFn.{get_or-map-range_with_len}
 use Rattle.scx_weights.specs.declared.group.Group.{Group}
-use Rattle.scx_weights.specs.Hierarchy.{Hierarchy, quota_at, period_at}
-use Rattle.scx_weights.specs.Limits.{is_used_up, usage_of, is_throttled_group, begins_period, with_turn, is_freed}
-use Rattle.scx_weights.specs.Refusals.{is_bad_quota, has_bad_limit, is_outside, max_period}
+use Rattle.scx_weights.specs.Hierarchy.{quota_at, period_at}
+use Rattle.scx_weights.specs.Limits.{is_used_up, usage_of, begins_period, with_turn}
+use Rattle.scx_weights.specs.Refusals.{is_bad_quota, is_outside, max_period}
 use Rattle.scx_weights.specs.Laws.{FreedAreFree}
 use Rattle.scx_weights.proofs.Admitted.{none_at}
 
