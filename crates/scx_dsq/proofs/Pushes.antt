@@ -6,6 +6,7 @@ use Rattle.std.proofs.lemmas.List.{with_items_is, length-set}
 use Rattle.scx_dsq.specs.declared.entries.Rank.{Rank}
 use Rattle.scx_dsq.specs.declared.entries.Rank.TheVariants.{Fifo, Vtime}
 use Rattle.scx_dsq.specs.declared.entries.Entry.{Entry}
+use Rattle.scx_dsq.specs.declared.priority.Priority.{Priority}
 use Rattle.scx_dsq.specs.declared.heap.Item.{Item}
 use Rattle.scx_dsq.specs.declared.links.Link.{Link}
 use Rattle.scx_dsq.specs.declared.queue.Queue.{Queue}
@@ -68,23 +69,23 @@ module _ (i j : Inside) (k id t : ℕ) (q : Queue) (h : IsKept i) (within : t < 
       changed_state i j k t q (with_last q t) (Some (next_entry (state_of i) id Fifo)) (links_appended i.links.items q.ends t) i.spots.items (i.pushes + 1) a.inside a.read refl c ∙ rw (not_refused i k id t Fifo q a) refl
 
 -- what the code leaves of the queues
-pub entered_fifo : (i : Inside) (k id t : ℕ) (q new : Queue) (links linked : List Link) → links ≡ i.links.items → new ≡ with_last q t → linked ≡ links_appended links q.ends t
+pub entered_fifo : (i : Inside) (k id t : ℕ) (q new : Queue) (links linked : List Link) (entry : Entry) → entry ≡ next_entry (state_of i) id Fifo → links ≡ i.links.items → new ≡ with_last q t → linked ≡ links_appended links q.ends t
     → IsChanged i (record {
       live = with_item i.live k new;
       order = i.order;
       spare = i.spare;
-      entries = with_item i.entries t (Some (next_entry (state_of i) id Fifo));
+      entries = with_item i.entries t (Some entry);
       links = with_items i.links linked;
       spots = i.spots;
       guesses = i.guesses;
       pushes = i.pushes + 1;
     }) k t (with_last q t) (Some (next_entry (state_of i) id Fifo)) (links_appended i.links.items q.ends t) i.spots.items (i.pushes + 1)
-entered_fifo i k id t q new links linked same is are = record {
+entered_fifo i k id t q new links linked entry made same is are = record {
   live = ap (λ x. set i.live.items k x) is;
   capacity = refl;
   order = refl;
   spare = refl;
-  entries = refl;
+  entries = ap (λ (p : Entry). set i.entries.items t (Some p)) made;
   links = with_items_is i.links linked long ∙ after;
   spots = refl;
   pushes = refl;
@@ -158,24 +159,28 @@ module _ (i j : Inside) (k id : ℕ) (x : Item) (q new : Queue) (stood : List �
       subst (λ v. IsPaid (value_of i) (value_of j) v steps) a.is
       (paid i j k q new h a.inside a.read (ap (λ (s : QueueState). s.ids) state) arrays steps cheap (λ t p w is. absurd (no_fifo p.rank is (holds_vtime i.entries.items q.id q.heap.items held t p w))))
 
+-- the entry that the code makes of the item is that of the next push
+pub entry_made : (s : QueueState) (id : ℕ) (p : Priority) (e : Entry) → e ≡ entry_for id p → p.stamp ≡ s.pushes → e ≡ next_entry s id (Vtime p.key)
+entry_made s id p e is late = rw (is, late) refl
+
 -- what the code leaves of the queues
-pub entered_vtime : (i : Inside) (k id : ℕ) (x : Item) (q new : Queue) (spots stood : List ℕ) → spots ≡ i.spots.items → Inserted spots q x stood new
+pub entered_vtime : (i : Inside) (k id : ℕ) (x : Item) (q new : Queue) (spots stood : List ℕ) (entry : Entry) → entry ≡ next_entry (state_of i) id (Vtime x.priority.key) → spots ≡ i.spots.items → Inserted spots q x stood new
     → IsChanged i (record {
       live = with_item i.live k new;
       order = i.order;
       spare = i.spare;
-      entries = with_item i.entries x.task (Some (next_entry (state_of i) id (Vtime x.priority.key)));
+      entries = with_item i.entries x.task (Some entry);
       links = i.links;
       spots = with_items i.spots stood;
       guesses = i.guesses;
       pushes = i.pushes + 1;
     }) k x.task new (Some (next_entry (state_of i) id (Vtime x.priority.key))) i.links.items stood (i.pushes + 1)
-entered_vtime i k id x q new spots stood same e = record {
+entered_vtime i k id x q new spots stood entry made same e = record {
   live = refl;
   capacity = refl;
   order = refl;
   spare = refl;
-  entries = refl;
+  entries = ap (λ (p : Entry). set i.entries.items x.task (Some p)) made;
   links = refl;
   spots = with_items_is i.spots stood (omega (arith, e.others.long, ap (λ (xs : List ℕ). length xs) same, i.spots.ok.0));
   pushes = refl;

@@ -9,7 +9,7 @@ use Rattle.scx_dsq.specs.declared.entries.Entry.{Entry}
 use Rattle.scx_dsq.specs.declared.links.Link.{Link}
 use Rattle.scx_dsq.specs.declared.queue.Queue.{Queue}
 use Rattle.scx_dsq.specs.declared.queues.Queues.TheInside.{Inside}
-use Rattle.scx_dsq.specs.Entries.{same_sort}
+use Rattle.scx_dsq.specs.Entries.{same_sort, keyless}
 use Rattle.scx_dsq.specs.Queues.{QueueState, IsQueueAt, Waits, IsFront, entry_at, entry_of}
 use Rattle.scx_dsq.specs.Calls.{without_task}
 use Rattle.scx_dsq.specs.Links.{link_at, with_ahead, links_unlinked}
@@ -155,7 +155,8 @@ module _ (i : Inside) (k t : ℕ) (p : Entry) (q : Queue) (h : IsKept i) (w : Is
 
 -- ---- the front leaves
 
-like_leave : (r s : Rank) (links : List Link) (spots : List ℕ) (q : Queue) (t : ℕ) → same_sort r s ≡ true → CanLeave r links spots q t → CanLeave s links spots q t
+-- what may leave by a rank may leave by another one of its sort
+pub like_leave : (r s : Rank) (links : List Link) (spots : List ℕ) (q : Queue) (t : ℕ) → same_sort r s ≡ true → CanLeave r links spots q t → CanLeave s links spots q t
 like_leave Fifo Fifo links spots q t alike can = can
 like_leave Fifo (Vtime k) links spots q t alike can = absurd (cc)
 like_leave (Vtime l) Fifo links spots q t alike can = absurd (cc)
@@ -168,10 +169,16 @@ like_left Fifo (Vtime k) links linked spots stood q new t alike left = absurd (c
 like_left (Vtime l) Fifo links linked spots stood q new t alike left = absurd (cc)
 like_left (Vtime l) (Vtime k) links linked spots stood q new t alike left = left
 
-like_fifo : (r s : Rank) → same_sort r s ≡ true → r ≡ Fifo → s ≡ Fifo
+-- a rank of the sort of a FIFO entry is that
+pub like_fifo : (r s : Rank) → same_sort r s ≡ true → r ≡ Fifo → s ≡ Fifo
 like_fifo Fifo Fifo alike e = refl
 like_fifo Fifo (Vtime k) alike e = absurd (cc)
 like_fifo (Vtime l) s alike e = absurd (cc)
+
+-- a rank with the key 0 is of its sort
+pub alike_keyless : (r s : Rank) → s ≡ keyless r → same_sort r s ≡ true
+alike_keyless Fifo s e = rw e refl
+alike_keyless (Vtime k) s e = rw e refl
 
 -- the front of a queue, and a rank of its sort
 pub record IsLeaving (i : Inside) (k t : ℕ) (p : Entry) (q : Queue) (rank : Rank) : Type 0 where

@@ -18,6 +18,16 @@ same_sort Fifo (Vtime k) = false
 same_sort (Vtime k) Fifo = false
 same_sort (Vtime k) (Vtime l) = true
 
+-- the rank of an entry by its sort and its key
+abbrev pub rank_of : Bool → ℕ → Rank
+rank_of true key = Fifo
+rank_of false key = Vtime key
+
+-- a rank of the same sort, with the key 0
+abbrev pub keyless : Rank → Rank
+keyless Fifo = Fifo
+keyless (Vtime key) = Vtime 0
+
 -- whether an entry comes before another: by key, then by stamp
 abbrev pub is_before : Entry → Entry → Bool
 is_before p q =

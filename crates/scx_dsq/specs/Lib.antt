@@ -10,3 +10,4 @@ pub mod Words
 pub mod Holdings
 pub mod Order
 pub mod Kept
+pub mod KeptEntries

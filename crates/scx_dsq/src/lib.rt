@@ -21,6 +21,7 @@
 mod entries;
 mod errors;
 mod heap;
+mod kept_entry;
 mod laws;
 mod links;
 mod optional_task;

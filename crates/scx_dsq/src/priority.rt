@@ -8,7 +8,7 @@ use std::sync::ledger::Ledger;
 const STAMPS: u128 = 1 << 64;
 
 /// When a task leaves a queue by virtual time: by its key, and among equal keys by how many pushes were
-/// accepted before it. Two of them can only be compared, which is counted.
+/// accepted before it. Code that is lent a counter can only compare two of them, which is counted.
 #[derive(Clone, Copy)]
 pub struct Priority {
     key: u64,
@@ -17,11 +17,21 @@ pub struct Priority {
 
 impl Priority {
     /// Of a task that goes in with that key, when `stamp` pushes were accepted before.
+    #[inline(always)]
     pub fn new(key: u64, stamp: u64) -> Priority
         ensures key { result.key ≡ key }
         ensures stamp { result.stamp ≡ stamp }
     {
         Priority { key, stamp }
+    }
+
+    /// The key and the stamp as numbers. Nothing counts how these are compared, so the call takes a counter
+    /// away.
+    #[inline(always)]
+    pub fn numbers<L: Ledger>(self, _steps: Steps<L>) -> (u64, u64)
+        ensures { result ≡ (self.key, self.stamp) }
+    {
+        (self.key, self.stamp)
     }
 
     /// Whether its task leaves before that of the other.

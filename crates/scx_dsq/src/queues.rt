@@ -13,6 +13,7 @@ ghost use Rattle.scx_dsq.specs.Kept.{ids_of, IsAdmitted, IsRefused, AreCopies, H
 use crate::entries::{Entry, Rank};
 use crate::errors::QueueError;
 use crate::heap::{Heap, Item};
+use crate::kept_entry::KeptEntry;
 use crate::links::{Ends, Link};
 use crate::priority::Priority;
 use crate::queue::{Queue, append_to, insert_into, leave, leave_first};
@@ -36,7 +37,7 @@ pub struct Queues {
     order: Vec<usize>,
     /// Empty heaps for queues to come.
     spare: Vec<Heap>,
-    entries: Vec<Option<Entry>>,
+    entries: Vec<Option<KeptEntry>>,
     /// At each task's number, whom it waits beside in a FIFO queue.
     links: Vec<Link>,
     /// At each task's number, where it stands in the array of a queue by virtual time.
@@ -179,11 +180,7 @@ impl Queues {
     {
         admit_at(&self.live, &self.entries, place, id, task, Rank::Fifo)?;
         append_to(&mut self.links, &mut self.live[place], task);
-        self.entries[task as usize] = Some(Entry {
-            queue: id,
-            rank: Rank::Fifo,
-            stamp: self.pushes,
-        });
+        self.entries[task as usize] = Some(KeptEntry::fifo(id, self.pushes));
         self.pushes += 1;
         Ok(())
     }
@@ -240,16 +237,10 @@ impl Queues {
             task,
             Rank::Vtime(key),
         )?;
-        let item = Item {
-            task,
-            priority: Priority::new(key, stamp),
-        };
+        let priority = Priority::new(key, stamp);
+        let item = Item { task, priority };
         insert_into(&mut self.spots, &mut self.live[index], item, steps);
-        self.entries[task as usize] = Some(Entry {
-            queue: id,
-            rank: Rank::Vtime(key),
-            stamp,
-        });
+        self.entries[task as usize] = Some(KeptEntry::vtime(id, priority));
         self.pushes = stamp + 1;
         Ok(())
     }
@@ -319,7 +310,7 @@ impl Queues {
         let Some(entry) = self.entries[task as usize] else {
             return false;
         };
-        let Some(index) = find(&self.live, &self.order, &self.guesses, entry.queue) else {
+        let Some(index) = find(&self.live, &self.order, &self.guesses, entry.queue()) else {
             unreachable!()
         };
         self.take_out(index, task, entry, steps);
@@ -327,7 +318,13 @@ impl Queues {
     }
 
     /// Takes out a task that waits by that entry, in the queue that stands there in `live`.
-    fn take_out<L: Ledger>(&mut self, index: usize, task: u32, entry: Entry, steps: &mut Steps<L>)
+    fn take_out<L: Ledger>(
+        &mut self,
+        index: usize,
+        task: u32,
+        entry: KeptEntry,
+        steps: &mut Steps<L>,
+    )
         requires task { task < task_count self.old.state }
         requires stands { IsQueueAt self.old.state index entry.queue }
         requires waits { entry_of self.old.state task ≡ Some entry }
@@ -340,7 +337,7 @@ impl Queues {
             &mut self.spots,
             &mut self.live[index],
             task,
-            entry.rank,
+            entry.sort(),
             steps,
         );
         self.entries[task as usize] = None;
@@ -383,7 +380,7 @@ impl Queues {
         ensures { result ≡ queue_of self.now.state task }
     {
         match self.entries[task as usize] {
-            Some(entry) => Some(entry.queue),
+            Some(entry) => Some(entry.queue()),
             None => None,
         }
     }
@@ -404,25 +401,25 @@ impl Queues {
 
     /// Who waits right behind a task that waits by that entry.
     #[tactic(auto, using(crate::proofs::Behind::nobody_behind_vtime))]
-    fn behind_entry(&self, task: u32, entry: Entry) -> Option<u32>
+    fn behind_entry(&self, task: u32, entry: KeptEntry) -> Option<u32>
         requires task { task < task_count self.now.state }
         requires waits { entry_of self.now.state task ≡ Some entry }
         ensures { result ≡ behind_of self.now.state task }
     {
-        match entry.rank {
+        match entry.sort() {
             Rank::Fifo => self.link_behind(task, entry),
             Rank::Vtime(_) => None,
         }
     }
 
     /// Who waits right behind a task that waits by that entry, in order of arrival.
-    fn link_behind(&self, task: u32, entry: Entry) -> Option<u32>
+    fn link_behind(&self, task: u32, entry: KeptEntry) -> Option<u32>
         requires task { task < task_count self.now.state }
         requires waits { entry_of self.now.state task ≡ Some entry }
         requires fifo { entry.rank ≡ Fifo }
         ensures { result ≡ behind_of self.now.state task }
     {
-        let Some(index) = find(&self.live, &self.order, &self.guesses, entry.queue) else {
+        let Some(index) = find(&self.live, &self.order, &self.guesses, entry.queue()) else {
             unreachable!()
         };
         let _queue = &self.live[index];
@@ -463,12 +460,16 @@ impl Queues {
         self.pushes = other.pushes;
     }
 
-    /// Where the task waits, by which rank, and how many pushes were accepted before it.
-    pub fn entry(&self, task: u32) -> Option<Entry>
+    /// The queue in which the task waits, its rank, and the number of pushes that were accepted before it.
+    /// Nothing counts how the caller compares these numbers, so the call takes a counter away.
+    pub fn entry<L: Ledger>(&self, task: u32, steps: Steps<L>) -> Option<Entry>
         requires { task < task_count self.now.state }
         ensures { result ≡ entry_of self.now.state task }
     {
-        self.entries[task as usize]
+        match self.entries[task as usize] {
+            Some(entry) => Some(entry.entry(steps)),
+            None => None,
+        }
     }
 
     /// How many pushes were accepted.
@@ -496,7 +497,7 @@ fn admit(
     live: &[Queue],
     order: &[usize],
     guesses: &[usize; HASHES],
-    entries: &[Option<Entry>],
+    entries: &[Option<KeptEntry>],
     id: u64,
     task: u32,
     rank: Rank,
@@ -517,7 +518,7 @@ fn admit(
 #[inline(always)]
 fn admit_at(
     live: &[Queue],
-    entries: &[Option<Entry>],
+    entries: &[Option<KeptEntry>],
     place: usize,
     id: u64,
     task: u32,

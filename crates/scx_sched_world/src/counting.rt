@@ -3,7 +3,7 @@ ghost use Rattle.scx_dsq.specs.Queues.{IsQueueAt, task_count, entry_of, front_of
 ghost use Rattle.scx_dsq.specs.declared.entries.Rank.TheVariants.{Vtime};
 ghost use Rattle.scx_dsq.specs.Calls.{after_push, after_pop, after_remove};
 
-use scx_dsq::{Queues, Rank, Steps};
+use scx_dsq::{Entry, Queues, Rank, Steps};
 use std::marker::Brand;
 use std::sync::ledger::{Blank, Ledger};
 
@@ -128,4 +128,24 @@ fn remove_counted<L: Ledger>(queues: &mut Queues, task: u32, blank: Blank) -> bo
     let was_there = queues.remove(task, &mut steps);
     drop(steps);
     was_there
+}
+
+/// The entry of the task. The world makes no promise on how its key and stamp are compared.
+#[inline(always)]
+pub fn entry(queues: &Queues, task: u32) -> Option<Entry>
+    requires { task < task_count queues.now.state }
+    ensures { result ≡ entry_of queues.now.state task }
+{
+    entry_uncounted::<Brand>(queues, task, Blank::new(1))
+}
+
+#[inline(always)]
+fn entry_uncounted<L: Ledger>(queues: &Queues, task: u32, blank: Blank) -> Option<Entry>
+    requires task { task < task_count queues.now.state }
+    requires name { blank.name ≡ L.name }
+    requires parts { blank.parts ≡ L.parts }
+    requires some { 0 < blank.parts }
+    ensures { result ≡ entry_of queues.now.state task }
+{
+    queues.entry(task, Steps::<L>::new(blank))
 }

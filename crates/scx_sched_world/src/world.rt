@@ -11,6 +11,7 @@ ghost use Rattle.scx_weights.specs.Limits.{usage_of};
 ghost use Rattle.scx_sched_world.specs.World.{task_at, wait, with_task, is_runnable, is_throttled, waits, running, with_cpu, with_cycling, is_this, cpu_of, is_idle, first_idle, default_choice, at_callback, quiet, note_now, IsLike};
 
 use crate::call::{Call, Insert};
+use crate::counting;
 use crate::eject::Eject;
 use crate::faults::Fault;
 use crate::ids::{BUILTIN, GLOBAL, HELD, LOCAL_ON, PARKED};
@@ -199,7 +200,7 @@ impl World {
         ensures { result ≡ entry_of self.now.queues task }
     {
         if (task as usize) < self.queues.tasks() {
-            self.queues.entry(u32::from(task))
+            counting::entry(&self.queues, u32::from(task))
         } else {
             None
         }

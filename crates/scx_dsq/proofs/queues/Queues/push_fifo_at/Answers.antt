@@ -31,7 +31,7 @@ pub invariant_of-self : goal.invariant_of-self
 invariant_of-self c =
     let within : c.args.task < task_count (state_of c.self.inside) = rw (← c.self.view_is) at c.requires.task in
     let open_to = opened c.self.inside c.args.place c.args.id c.args.task Fifo c.index_mut.result.now c.self.invariant (rw (c.deref.ensures.value, c.deref-2.ensures.value) at c.in_ok-admit_at.ensures.admitted) c.index_mut.ensures.value in
-    let changed = entered_fifo c.self.inside c.args.place c.args.id c.args.task c.index_mut.result.now c.append_to.new.queue c.deref_mut.result.now c.append_to.new.links c.deref_mut.ensures.value c.append_to.ensures.queue c.append_to.ensures.links in
+    let changed = entered_fifo c.self.inside c.args.place c.args.id c.args.task c.index_mut.result.now c.append_to.new.queue c.deref_mut.result.now c.append_to.new.links c.fifo.result c.fifo.ensures c.deref_mut.ensures.value c.append_to.ensures.queue c.append_to.ensures.links in
     pushed_fifo c.self.inside _ c.args.place c.args.id c.args.task c.index_mut.result.now c.self.invariant within open_to changed
 
 pub returns-clause-answer : goal.returns-clause-answer
@@ -43,7 +43,7 @@ pub returns-clause-state : goal.returns-clause-state
 returns-clause-state c =
     let within : c.args.task < task_count (state_of c.self.inside) = rw (← c.self.view_is) at c.requires.task in
     let open_to = opened c.self.inside c.args.place c.args.id c.args.task Fifo c.index_mut.result.now c.self.invariant (rw (c.deref.ensures.value, c.deref-2.ensures.value) at c.in_ok-admit_at.ensures.admitted) c.index_mut.ensures.value in
-    let changed = entered_fifo c.self.inside c.args.place c.args.id c.args.task c.index_mut.result.now c.append_to.new.queue c.deref_mut.result.now c.append_to.new.links c.deref_mut.ensures.value c.append_to.ensures.queue c.append_to.ensures.links in
+    let changed = entered_fifo c.self.inside c.args.place c.args.id c.args.task c.index_mut.result.now c.append_to.new.queue c.deref_mut.result.now c.append_to.new.links c.fifo.result c.fifo.ensures c.deref_mut.ensures.value c.append_to.ensures.queue c.append_to.ensures.links in
     rw (← c.self.view_is) (pushed_fifo_state c.self.inside _ c.args.place c.args.id c.args.task c.index_mut.result.now c.self.invariant within open_to changed)
 
 pub returns-clause-arrays : goal.returns-clause-arrays

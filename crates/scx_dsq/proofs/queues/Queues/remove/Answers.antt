@@ -1,7 +1,7 @@
 use Rattle.std.proofs.Common.{◌≡◌, ◌<◌, true, false, Option, Some, None, is_some, option_map, refl, sym, ap, ◌∙◌}
 use Rattle.std.proofs.lemmas.Bool.{both_ways}
 use Rattle.scx_dsq.specs.declared.entries.Entry.{Entry}
-use Rattle.scx_dsq.specs.Queues.{QueueState, exists, task_count, entry_of, queue_of}
+use Rattle.scx_dsq.specs.Queues.{QueueState, IsQueueAt, exists, task_count, entry_of, queue_of}
 use Rattle.scx_dsq.specs.Kept.{state_of}
 use Rattle.scx_dsq.proofs.QueueReads.{entry_read, stands_at}
 use Rattle.scx_dsq.proofs.Facts.{tasks_without}
@@ -11,11 +11,13 @@ pub unreachable-requires : goal.unreachable-requires
 unreachable-requires g c =
     let within : c.args.task < task_count (state_of c.self.inside) = rw (← c.self.view_is) at c.requires in
     let waits = entry_read c.self.inside c.args.task c.index.result.now within c.index.ensures ∙ c.in-Some.is in
-    let out : exists (state_of c.self.inside) c.in-Some.entry.queue ≡ false = rw (← c.deref.ensures.value) (sym c.in_default-find.ensures.found) in
-    both_ways _ out (c.self.invariant.sound.homes c.args.task c.in-Some.entry waits)
+    let out : exists (state_of c.self.inside) c.queue.result ≡ false = rw (← c.deref.ensures.value) (sym c.in_default-find.ensures.found) in
+    both_ways _ (rw c.queue.ensures at out) (c.self.invariant.sound.homes c.args.task c.in-Some.entry waits)
 
 pub take_out-requires-clause-stands : goal.take_out-requires-clause-stands
-take_out-requires-clause-stands g c = rw (← c.self.view_is) (stands_at c.self.inside _ c.in-Some-find.index c.in-Some.entry.queue c.deref.ensures.value c.in-Some-find.ensures.at)
+take_out-requires-clause-stands g c =
+    let found : IsQueueAt (state_of c.self.inside) c.in-Some-find.index c.queue.result = stands_at c.self.inside _ c.in-Some-find.index c.queue.result c.deref.ensures.value c.in-Some-find.ensures.at in
+    rw (← c.self.view_is) (rw c.queue.ensures at found)
 
 pub returns-clause-tasks : goal.returns-clause-tasks
 returns-clause-tasks g c = ap (λ (s : QueueState). task_count s) c.take_out.ensures.state ∙ tasks_without c.args.self.now.state (Some c.args.task)
