@@ -8,7 +8,8 @@ use Rattle.scx_dsq.specs.declared.entries.Rank.TheVariants.{Fifo}
 use Rattle.scx_dsq.specs.Queues.{QueueState, task_count, entry_of, queue_of, front_of}
 use Rattle.scx_dsq.specs.Calls.{create_refusal, with_queue, after_create, push_refusal, next_entry, with_task as with_place, after_push, without_task, after_remove, without, after_pop}
 use Rattle.scx_weights.specs.Hierarchy.{Hierarchy, with_task}
-use Rattle.scx_weights.specs.Limits.{is_throttled_group, is_throttled, begins_period, with_use, with_turn}
+use Rattle.scx_weights.specs.Limits.{is_throttled_group, is_throttled, begins_period, with_use, with_turn, is_freed, frees}
+use Rattle.scx_weights.proofs.Counting.{none_below_at}
 use Rattle.scx_weights_limits.proofs.Throttled.{there, uses_keep_throttled, clocks_keep_throttled}
 use Rattle.scx_sched_world.specs.Ids.{parked_queue}
 use Rattle.scx_sched_world.specs.World as world
@@ -107,11 +108,20 @@ known_active known s tree t on h k u e = h k u e
 pub known_used : (known : Bool) (s : QueueState) (tree : Hierarchy) (t : ℕ) → (known ≡ true → AreThrottled s tree) → known ≡ true → AreThrottled s (with_use tree t)
 known_used known s tree t h k u e = uses_keep_throttled tree u t (h k u e)
 
--- no period begins of a group that is throttled
+-- if it is known that the parked are throttled, it stays so at a clock at which no group is freed
 pub known_turned : (known : Bool) (s : QueueState) (tree : Hierarchy) (clock : ℕ)
-    → ((g : ℕ) → g < length tree.groups → is_throttled_group tree g ≡ true → begins_period tree g clock ≡ false)
+    → frees tree clock ≡ false
     → (known ≡ true → AreThrottled s tree) → known ≡ true → AreThrottled s (with_turn tree clock)
-known_turned known s tree clock none h k u e = clocks_keep_throttled tree u clock (λ g was. none g (there tree g was) was) (h k u e)
+known_turned known s tree clock none h k u e = clocks_keep_throttled tree u clock still (h k u e)
+  where
+    and_of : (a b : Bool) → a ≡ true → (a && b) ≡ false → b ≡ false
+    and_of true b was both = both
+    and_of false b was both = absurd (cc)
+
+    still : (g : ℕ) → is_throttled_group tree g ≡ true → begins_period tree g clock ≡ false
+    still g was =
+        and_of (is_throttled_group tree g) (begins_period tree g clock) was
+        (none_below_at (length tree.groups) g (λ j. is_freed tree clock j) none (there tree g was))
 
 -- ---- what is known of each task
 
