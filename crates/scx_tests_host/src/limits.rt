@@ -42,8 +42,8 @@ impl Counted {
     }
 
     #[tactic(auto, using(crate::proofs::Usages::most_turned))]
-    fn turn(&mut self, clock: u64) {
-        self.tree.turn(clock);
+    fn turn(&mut self, clock: u64) -> bool {
+        self.tree.turn(clock)
     }
 
     fn usage(&self, rt: &impl Abort, group: u32) -> u64 {
@@ -62,16 +62,16 @@ impl Counted {
 enum Use {
     /// That task ran for a millisecond.
     Ran(u32),
-    /// The clock shows so many.
-    Turned(u64),
+    /// The clock shows so many, and frees a group or not.
+    Turned(u64, bool),
 }
 
 use Use::{Ran, Turned};
 
-fn happen(rt: &impl Abort, tree: &mut Counted, what: Use) {
+fn happen(rt: &impl Abort, tree: &mut Counted, what: Use, row: usize) {
     match what {
         Ran(task) => tree.charge(rt, task),
-        Turned(clock) => tree.turn(clock),
+        Turned(clock, frees) => expect_same(rt, tree.turn(clock), frees, row),
     }
 }
 
@@ -98,7 +98,7 @@ fn expect_after(
     throttled: &[bool],
 ) {
     let (row, what) = case;
-    happen(rt, tree, what);
+    happen(rt, tree, what, row);
     check_usages(rt, tree, usages, row);
     check_throttled(rt, tree, throttled, row);
 }
@@ -118,16 +118,16 @@ macro_rules! limited {
 const ONE_GROUP: [(Use, [u64; 1], [bool; 2]); 11] = [
     (Ran(0), [1], [false, false]),
     (Ran(1), [2], [true, true]),
-    (Turned(1), [2], [true, true]),
-    (Turned(4), [2], [true, true]),
-    (Turned(5), [0], [false, false]),
+    (Turned(1, false), [2], [true, true]),
+    (Turned(4, false), [2], [true, true]),
+    (Turned(5, true), [0], [false, false]),
     (Ran(1), [1], [false, false]),
-    (Turned(6), [1], [false, false]),
+    (Turned(6, false), [1], [false, false]),
     (Ran(1), [2], [true, true]),
     // What runs on is counted on.
     (Ran(0), [3], [true, true]),
-    (Turned(11), [3], [true, true]),
-    (Turned(15), [0], [false, false]),
+    (Turned(11, false), [3], [true, true]),
+    (Turned(15, true), [0], [false, false]),
 ];
 
 fn go_through_one_group(rt: &impl Abort, tree: &mut Counted) {
@@ -153,17 +153,19 @@ const NESTED: [Group; 4] = [
 ];
 
 const UNDER_ONE: [(Use, [u64; 4], [bool; 3]); 11] = [
-    (Turned(0), [0, 0, 0, 0], [false, false, false]),
+    (Turned(0, false), [0, 0, 0, 0], [false, false, false]),
     (Ran(1), [1, 0, 1, 0], [false, false, false]),
     (Ran(1), [2, 0, 2, 0], [false, true, false]),
     (Ran(0), [3, 1, 2, 0], [true, true, false]),
     (Ran(2), [3, 1, 2, 1], [true, true, false]),
-    (Turned(5), [3, 1, 0, 1], [true, true, false]),
+    // The third group is free, and below one that isn't.
+    (Turned(5, true), [3, 1, 0, 1], [true, true, false]),
     (Ran(1), [4, 1, 1, 1], [true, true, false]),
-    (Turned(10), [0, 1, 0, 1], [false, false, false]),
+    (Turned(10, true), [0, 1, 0, 1], [false, false, false]),
     (Ran(0), [1, 2, 0, 1], [false, false, false]),
-    (Turned(99), [1, 2, 0, 1], [false, false, false]),
-    (Turned(100), [0, 0, 0, 0], [false, false, false]),
+    (Turned(99, false), [1, 2, 0, 1], [false, false, false]),
+    // Periods begin of groups that haven't used up their quotas.
+    (Turned(100, false), [0, 0, 0, 0], [false, false, false]),
 ];
 
 fn go_under_one(rt: &impl Abort, tree: &mut Counted) {
@@ -204,13 +206,13 @@ const EXTREMES: [Group; 2] = [
 const AT_EXTREMES: [(Use, [u64; 2], [bool; 2]); 8] = [
     (Ran(0), [1, 0], [true, false]),
     (Ran(1), [1, 1], [true, false]),
-    (Turned(1), [0, 1], [false, false]),
+    (Turned(1, true), [0, 1], [false, false]),
     (Ran(0), [1, 1], [true, false]),
-    (Turned(999), [0, 1], [false, false]),
-    (Turned(1000), [0, 0], [false, false]),
+    (Turned(999, true), [0, 1], [false, false]),
+    (Turned(1000, false), [0, 0], [false, false]),
     (Ran(1), [0, 1], [false, false]),
     // The clock is a multiple of each period at 0 too.
-    (Turned(0), [0, 0], [false, false]),
+    (Turned(0, false), [0, 0], [false, false]),
 ];
 
 fn go_to_extremes(rt: &impl Abort, tree: &mut Counted) {
