@@ -1,9 +1,11 @@
-"""What `scxsim help` says, taken apart; tools/manual and tools/completions are made of it."""
+"""What `scxsim help` says, taken apart; tools/manual and tools/completions are made of it. SCXSIM names another program
+than bin/scxsim."""
+import os
 import re
 import subprocess
 from pathlib import Path
 
-PROGRAM = Path(__file__).resolve().parent.parent / "bin" / "scxsim"
+PROGRAM = os.environ.get("SCXSIM", Path(__file__).resolve().parent.parent / "bin" / "scxsim")
 
 
 class Help:
