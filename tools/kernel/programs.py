@@ -1,9 +1,8 @@
 """Callbacks that are put before both verifiers: those of policy files, and generated ones."""
 import re
 import subprocess
+import sys
 import tomllib
-from importlib.machinery import SourceFileLoader
-from importlib.util import module_from_spec, spec_from_loader
 from pathlib import Path
 from random import Random
 
@@ -11,7 +10,9 @@ from kernel_types import NoCounterpart
 from mending import callbacks_of, explained, findings, mended
 from translate import code_of, known, ops_lines, program_line, translated
 
-PAIRS = Path(__file__).resolve().parents[2] / "tests" / "pairs"
+sys.path.append(str(Path(__file__).resolve().parents[2] / "tests"))
+from generator.pairs import SORTS
+
 CLASSES = {		# of generated callbacks: the sorts of tests/pairs that each is made of
     "of policies that run": "fifo|fair|ordered|assorted|built-in queues|ring of held tasks|marked held tasks|selecting|partial|busy code",
     "with one mistake": "verify .*",
@@ -92,14 +93,6 @@ def of_files(scxsim, paths, folder):
             yield Program("of the files", f"{path} {callback}", alone(path, callback, folder, number), callback, refusal)
 
 
-def pairs_of_tests():
-    """tests/pairs, the project's generator."""
-    loader = SourceFileLoader("pairs", str(PAIRS))
-    module = module_from_spec(spec_from_loader("pairs", loader))
-    loader.exec_module(module)
-    return module
-
-
 def some_callback(random, verdicts):
     """A callback that is refused, if there is one."""
     return random.choice([name for name, refusal in verdicts.items() if refusal] or list(verdicts))
@@ -107,10 +100,10 @@ def some_callback(random, verdicts):
 
 def generated(scxsim, seed, count, folder):
     """As many callbacks of each class, each of a policy of its own."""
-    sorts, names = pairs_of_tests().SORTS, list(CLASSES)
+    names = list(CLASSES)
     for number in range(count):
         label = names[number % len(names)]
-        makers = [make for _, sort, make in sorts if re.fullmatch(CLASSES[label], sort)]
+        makers = [make for _, sort, make in SORTS if re.fullmatch(CLASSES[label], sort)]
         random, path, verdicts = Random(f"{seed} {number}"), folder / "policy.toml", {}
         while not verdicts:
             policy, _ = random.choice(makers)(random)
