@@ -1,18 +1,19 @@
-//! The machine of the definitions as they stand, which the tests compare `scx_vm_run` with: each register
-//! holds a value with its tag, and each byte of the stack a mark.
+//! The interpreter that shows its steps: it runs a program on the state of the definitions, in which each
+//! register holds a value with its tag, and each byte of the stack has a mark.
 //!
-//! `try_run` runs a program that `flow` accepts as a callback of a policy, from its first slot, over
+//! `run_watched` runs a program that `flow` accepts as a callback of a policy, from its first slot, over
 //! the policy's maps and a host, an `Env`, which answers its helpers and holds the records of tasks.
-//! It says how the run ended: with an answer at an `exit`, or stuck at an instruction that has no
-//! meaning in the state there, as one that reads an unset register. Its contract says that the run is
-//! the one that the definitions of `scx_isa_semantics` give the program, and that it takes no more steps
-//! than there are instructions. `run_watched` does the same with a `Watch`, who is shown each instruction
-//! before it is done, and says at which slot what is awaited of the host came about.
+//! It shows each instruction to a `Watch` before it does it: so `scxsim step` prints callbacks. It says
+//! how the run ended: with an answer at an `exit`, or stuck at an instruction that has no meaning in the
+//! state there, as one that reads an unset register. It also says at which slot what the watch awaits of
+//! the host came about: so the slot of a fault is found. Its contract says that the run is the one that
+//! the definitions of `scx_isa_semantics` give the program, and that it takes no more steps than there
+//! are instructions. `try_run` does the same run without a watch; tests compare `scx_vm_run` with it.
 //!
 //! The layers, from below: the 512 bytes of stack (`stack`), values that pass to the host and back
 //! (`arguments`), registers and stack (`state`), operands and pointers (`values`), comparisons
 //! (`jumps`), addresses (`memory`), loads and stores (`access`), helper calls (`calls`), one
-//! instruction (`execute`), who looks on (`watch`), slots and the run (`run`).
+//! instruction (`execute`), the watch (`watch`), slots and the run (`run`).
 #![tactic(auto)]
 
 mod access;

@@ -34,11 +34,11 @@ pub enum Ran {
     Stuck(usize),
 }
 
-/// How a run ended on which somebody looked.
+/// How a watched run ended.
 #[derive(Clone, Copy, Debug, PartialEq, Eq)]
 pub struct Watched {
     pub ran: Ran,
-    /// The slot at which what was awaited came about.
+    /// The slot at which what the watch awaits came about, if it did in this run.
     pub slot: Option<usize>,
 }
 
@@ -82,7 +82,8 @@ pub fn try_run<E: Env>(
     walk(program, callback, arguments, maps, env, &mut Nobody).ran
 }
 
-/// The same, with somebody who looks on.
+/// Runs a program that `flow` accepts, as that callback, and shows each instruction to the watch before it
+/// is done.
 pub fn run_watched<E: Env, W: Watch<E>>(
     program: &Program,
     callback: Callback,

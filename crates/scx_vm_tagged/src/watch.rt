@@ -2,7 +2,7 @@ ghost use Rattle.std.specs.Prelude.{◌≡◌, Bool, false};
 
 use crate::state::Core;
 
-/// Somebody who looks on as a program is run over a host.
+/// A watch of a run: it sees each instruction before it is done, and awaits something of the host.
 pub trait Watch<E> {
     /// What is awaited of the host.
     ghost awaited: { E → Bool };
@@ -15,7 +15,7 @@ pub trait Watch<E> {
     fn see(&mut self, slot: usize, core: &Core, env: &E);
 }
 
-/// Nobody looks on, and nothing is awaited.
+/// The watch of `try_run`, which awaits nothing.
 #[derive(Drop)]
 pub(crate) struct Nobody;
 
