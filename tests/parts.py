@@ -1,4 +1,4 @@
-"""Parts of tests: commands that are run, what became of them, and a line for each. tests/quick and tests/long have them."""
+"""Parts of tests: their commands, what became of them, and a line for each. tests/quick and tests/long have them."""
 import os
 import shlex
 import shutil
