@@ -3,6 +3,7 @@ ghost use Rattle.std.specs.Prelude.{◌≡◌, false};
 use crate::form::MOST_TASKS;
 use crate::step::Tasks;
 use scx_sched::{Note, Sim, Sink, What};
+use scx_sched_world::PARKED;
 use std::marker::Model;
 
 /// How many tasks are watched.
@@ -23,7 +24,7 @@ pub struct Watched {
     pub began: u64,
 }
 
-/// Which tasks began to run while another waits, of the same group.
+/// Which tasks began to run while another waits, of the same group. A parked task doesn't wait.
 ///
 /// In a contract it is nothing: whatever it keeps, events do the same.
 #[derive(Drop)]
@@ -62,7 +63,7 @@ impl Watch {
     pub fn begin(&mut self, sim: &Sim, began: u64) {
         let mut waiting = Tasks::NONE;
         for task in 0..WATCHED {
-            if sim.entry(task).is_some() {
+            if sim.world().waits(task) {
                 waiting = waiting.with(task);
             }
         }
@@ -106,8 +107,13 @@ impl Watch {
         !self.waiting.is_empty()
     }
 
-    fn come(&mut self, task: u16) {
-        self.waiting = self.waiting.with(task);
+    /// The task comes into that queue. It waits there, unless it is parked.
+    fn come(&mut self, task: u16, queue: u64) {
+        if queue == PARKED {
+            self.leave(task);
+        } else {
+            self.waiting = self.waiting.with(task);
+        }
     }
 
     /// The task waits no more.
@@ -185,7 +191,7 @@ impl Sink for Watch {
 
     fn take(&mut self, note: Note) {
         match note.what {
-            What::Insert(task, _) => self.come(task),
+            What::Insert(task, queue) => self.come(task, queue),
             What::Sleep(task) => self.leave(task),
             What::Run(task, _) => self.run(task),
             What::Wake(_)
