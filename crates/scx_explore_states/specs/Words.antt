@@ -1,5 +1,5 @@
 -- A state in words.
-use Rattle.std.specs.Prelude.{ℕ, ◌==◌, ◌&&◌, nat_lt, List, [], ◌∷◌, ◌++◌, length, if◌then◌else◌, Option, Some, None, unwrap_or, position}
+use Rattle.std.specs.Prelude.{ℕ, ◌<◌, ◌==◌, ◌&&◌, nat_lt, List, [], ◌∷◌, ◌++◌, length, All, if◌then◌else◌, Option, Some, None, unwrap_or, position}
 use Rattle.scx_dsq.specs.declared.entries.Entry.{Entry}
 
 -- ---- numbers of queues
@@ -17,6 +17,10 @@ abbrev pub added : List ℕ → ℕ → List ℕ
 added ids q =
     if (number_in ids q == length ids) && nat_lt (number_in ids q) most_queues then ids ++ q ∷ []
     else ids
+
+-- each of the others has a number among these
+abbrev pub HasNumbers : List ℕ → List ℕ → Type 0
+HasNumbers ids others = All (λ q. number_in ids q < length ids) others
 
 -- the same with that of a task that waits
 abbrev pub met : List ℕ → Option Entry → List ℕ

@@ -1,5 +1,5 @@
-ghost use Rattle.std.specs.Prelude.{◌≡◌, ◌==◌, ◌<◌, ◌≤◌, [], length, position, IfOk, IfSome};
-ghost use Rattle.scx_explore_states.specs.Words.{number_in, added, met, most_queues};
+ghost use Rattle.std.specs.Prelude.{◌≡◌, ◌==◌, ◌<◌, ◌≤◌, [], true, length, position, IfOk, IfSome};
+ghost use Rattle.scx_explore_states.specs.Words.{HasNumbers, number_in, added, met, most_queues};
 
 use scx_sched::Entry;
 use std::alloc::{AllocError, Global};
@@ -30,7 +30,7 @@ impl Model for QueueNumbers {
 
 impl QueueNumbers {
     /// No task was met in any queue.
-    pub(crate) fn new(alloc: Global) -> Result<QueueNumbers, AllocError>
+    pub fn new(alloc: Global) -> Result<QueueNumbers, AllocError>
         ensures { IfOk result (λ numbers. numbers ≡ []) }
     {
         Ok(QueueNumbers {
@@ -38,8 +38,8 @@ impl QueueNumbers {
         })
     }
 
-    /// A task is met there, if anywhere.
-    pub(crate) fn meet(&mut self, entry: Option<Entry>)
+    /// Gives a number to the queue in which a task waits or is parked, if it is in one.
+    pub fn meet(&mut self, entry: Option<Entry>)
         ensures { self.new ≡ met self.old entry }
     {
         if let Some(entry) = entry {
@@ -58,10 +58,18 @@ impl QueueNumbers {
     }
 
     /// How many queues have a number.
-    pub(crate) fn len(&self) -> usize
-        ensures { result ≡ length self.now }
+    pub fn len(&self) -> usize
+        ensures count { result ≡ length self.now }
+        ensures few { result ≤ most_queues }
     {
         self.ids.len()
+    }
+
+    /// Whether each queue that has a number there has one here.
+    pub fn has_all(&self, others: &QueueNumbers) -> bool
+        ensures { result ≡ true → HasNumbers self.now others.now }
+    {
+        have_numbers(&self.ids, &others.ids)
     }
 
     /// The number of the queue, which is the next one where no task was met there.
@@ -71,6 +79,25 @@ impl QueueNumbers {
     {
         position_in(&self.ids, id)
     }
+}
+
+/// Whether each of the others is in the list.
+fn have_numbers(ids: &[u64], others: &[u64]) -> bool
+    ensures { result ≡ true → HasNumbers ids.now others.now }
+{
+    for at in 0..others.len() {
+        if !is_among(ids, others[at]) {
+            return false;
+        }
+    }
+    true
+}
+
+/// Whether the number is in the list.
+fn is_among(ids: &[u64], id: u64) -> bool
+    ensures { result ≡ true → number_in ids.now id < length ids.now }
+{
+    position_in(ids, id) < ids.len()
 }
 
 /// The first place of the number in the list, or the list's end.
