@@ -3,7 +3,7 @@ use Rattle.std.specs.Prelude.{◌≡◌, ℕ, ◌+◌, ◌-◌, ◌≤◌, ◌==
 use Rattle.scx_isa_semantics.specs.declared.callbacks.Callback.{Callback}
 use Rattle.scx_dsq.specs.Queues.{queue_of}
 use Rattle.scx_sched_world.specs.Faults.{fault_number}
-use Rattle.scx_sched_world.specs.Ids.{policy_end, held_queue}
+use Rattle.scx_sched_world.specs.Ids.{policy_end, held_queue, parked_queue}
 use Rattle.scx_sched_world.specs.World.{WorldState, running, waits, wait}
 use Rattle.scx_sched_world.specs.declared.eject.Eject.{Eject}
 use Rattle.scx_sched_world.specs.declared.eject.Eject.TheVariants as cause
@@ -89,9 +89,14 @@ IsIdleBehind s e (Some (finding.Takes b n)) = ⊥
 abbrev pub once_more : ℕ → ℕ
 once_more n = if nat_lt n 2 then n + 1 else n
 
--- the count behind an insert: it begins at 0 where the first task of the pair comes to wait
-abbrev pub begun_after_insert : Pair → Option ℕ → ℕ → Option ℕ
-begun_after_insert p b t = if t == p.waits then Some (unwrap_or b 0) else b
+-- the count of the first task of a pair after it comes into a queue: none while it is parked; it
+-- begins at 0 as its wait does
+abbrev pub begun_in_queue : Option ℕ → ℕ → Option ℕ
+begun_in_queue b q = if q == parked_queue then None else Some (unwrap_or b 0)
+
+-- the count after an insert, which changes it for the first task of the pair alone
+abbrev pub begun_after_insert : Pair → Option ℕ → ℕ → ℕ → Option ℕ
+begun_after_insert p b t q = if t == p.waits then begun_in_queue b q else b
 
 -- the count behind a run: there is none where the first task runs
 abbrev pub begun_after_run : Pair → Option ℕ → ℕ → Option ℕ
@@ -99,9 +104,9 @@ begun_after_run p b t =
     if t == p.waits then None else if t == p.runs then option_map once_more b else b
 
 -- how often the second task of a pair began to run, up to two, since the first one waits, behind
--- what happens: none while it doesn't wait
+-- what happens: none while it doesn't wait, as one that is parked
 abbrev pub begun_after : Pair → Option ℕ → What → Option ℕ
-begun_after p b (Insert t q) = begun_after_insert p b t
+begun_after p b (Insert t q) = begun_after_insert p b t q
 begun_after p b (Sleep t) = if t == p.waits then None else b
 begun_after p b (Run t c) = begun_after_run p b t
 begun_after p b (Wake t) = b

@@ -1,15 +1,16 @@
 ghost use Rattle.std.specs.Prelude.{◌≡◌, true, false, None, Some, option_map};
 ghost use Rattle.scx_explore_findings.specs.Counting.{Counts};
-ghost use Rattle.scx_explore_findings.specs.Findings.{begun_after, begun_after_insert, begun_after_run, once_more};
+ghost use Rattle.scx_explore_findings.specs.Findings.{begun_after, begun_after_insert, begun_after_run, begun_in_queue, once_more};
 
 use scx_explore_states::Pair;
 use scx_sched::{Note, Sink, What};
+use scx_sched_world::PARKED;
 
 /// Counts how often one task began to run since another one waits, up to two.
 #[derive(Drop)]
 pub(crate) struct Count {
     pub(crate) pair: Pair,
-    /// None while that task doesn't wait.
+    /// None while that task doesn't wait. A parked task doesn't.
     pub(crate) begun: Option<u64>,
 }
 
@@ -38,7 +39,7 @@ fn begun_after(pair: Pair, begun: Option<u64>, what: What) -> Option<u64>
     ensures { result ≡ begun_after pair begun what }
 {
     match what {
-        What::Insert(task, _) => begun_after_insert(pair, begun, task),
+        What::Insert(task, queue) => begun_after_insert(pair, begun, task, queue),
         What::Sleep(task) => { if task == pair.waits { None } else { begun } }
         What::Run(task, _) => begun_after_run(pair, begun, task),
         What::Wake(_)
@@ -51,11 +52,22 @@ fn begun_after(pair: Pair, begun: Option<u64>, what: What) -> Option<u64>
     }
 }
 
-fn begun_after_insert(pair: Pair, begun: Option<u64>, task: u16) -> Option<u64>
-    ensures { result ≡ begun_after_insert pair begun task }
+fn begun_after_insert(pair: Pair, begun: Option<u64>, task: u16, queue: u64) -> Option<u64>
+    ensures { result ≡ begun_after_insert pair begun task queue }
 {
-    if task != pair.waits {
-        return begun;
+    if task == pair.waits {
+        begun_in_queue(begun, queue)
+    } else {
+        begun
+    }
+}
+
+/// The count once the task that waits came into that queue. It is parked there, or it waits.
+fn begun_in_queue(begun: Option<u64>, queue: u64) -> Option<u64>
+    ensures { result ≡ begun_in_queue begun queue }
+{
+    if queue == PARKED {
+        return None;
     }
     match begun {
         Some(count) => Some(count),
