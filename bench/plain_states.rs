@@ -4,7 +4,7 @@ use crate::plain_core::{Callback, Op, STACK};
 use crate::plain_explore::Words;
 use crate::plain_files::{Policy, Workload};
 use crate::plain_machine::Machine;
-use crate::plain_notes::{HELD, Notes};
+use crate::plain_notes::{HELD, Notes, PARKED};
 use crate::plain_tasks::{NEVER, NOWHERE};
 
 /// What a list has shown so far, by the notes that its machine takes.
@@ -55,9 +55,14 @@ impl Notes for Watch {
         self.leave(task);
     }
 
-    fn insert(&mut self, task: u16, _: usize) {
+    /// A parked task doesn't wait.
+    fn insert(&mut self, task: u16, queue: usize) {
         self.pushes += 1;
-        self.waits[usize::from(task)] = true;
+        if queue == PARKED {
+            self.leave(task);
+        } else {
+            self.waits[usize::from(task)] = true;
+        }
     }
 
     fn moved(&mut self, _: u16, _: u32) {
