@@ -1,6 +1,16 @@
 //! Lists of events, and what they end in.
 
-use crate::machines::{KEEPS, MISSES, PREFERS, TWO_GROUPS, TWO_TASKS, machine, workload};
+use crate::machines::{
+    KEEPS,
+    LIMITED,
+    MISSES,
+    PREFERS,
+    TWO_GROUPS,
+    TWO_TASKS,
+    YIELDS,
+    machine,
+    workload,
+};
 use crate::same::expect_same;
 use scx_explore_findings::{Finding, Pair, SORTS, Sort, shows};
 use scx_isa::Callback;
@@ -10,6 +20,8 @@ use std::process::Abort;
 const A: Event = Event::Wake(0);
 
 const B: Event = Event::Wake(1);
+
+const C: Event = Event::Wake(2);
 
 const TICK: Event = Event::Tick(0);
 
@@ -165,6 +177,18 @@ fn a_task_is_overtaken_twice(rt: HostRuntime) {
         OVERTAKEN,
         "another group",
     );
+}
+
+/// Task a is parked by the tick and let go by the clock. The second run of b comes before that, the third after it.
+#[test]
+fn a_parked_task_is_not_overtaken(rt: HostRuntime) {
+    let (sleep_b, sleep_c) = (Event::Sleep(1), Event::Sleep(2));
+    let parked = [B, A, C, sleep_b, B, sleep_c, TICK, MS, TICK];
+    let again = [
+        B, A, C, sleep_b, B, sleep_c, TICK, MS, TICK, C, sleep_b, B, sleep_c,
+    ];
+    expect_not(&rt, (YIELDS, LIMITED), &parked, OVERTAKEN, "once each");
+    expect_first(&rt, (YIELDS, LIMITED), &again, &[OVERTAKEN, IDLE]);
 }
 
 #[test]

@@ -39,6 +39,13 @@ group = [{ name = 'g' }, { name = 'h' }]
 task = [{ name = 'a', group = 'g' }, { name = 'b', group = 'h' }]
 ";
 
+/// A processor, and three tasks of a group that may run for one millisecond in each.
+pub(crate) const LIMITED: &str = "cpus = 1
+ms = 1
+group = [{ name = 'g', cpu_max = '1000 1000' }]
+task = [{ name = 'a', group = 'g' }, { name = 'b', group = 'g' }, { name = 'c', group = 'g' }]
+";
+
 /// Whoever comes runs, first come, first served.
 pub(crate) const NO_PROGRAMS: &str = "";
 
@@ -76,6 +83,31 @@ r2 = 9223372036854775809 ll
 in:
 r3 = 20000000
 call 1002
+exit
+'''
+";
+
+/// The first task waits in queue 0, and all others in the queue of all processors, which goes first.
+pub(crate) const YIELDS: &str = "[code]
+init = '''
+r1 = 0
+call 1001
+exit
+'''
+enqueue = '''
+r6 = *(u32 *)(r1 + 0)
+r4 = r2
+r2 = 0
+if r6 == 1 goto in
+r2 = 9223372036854775809 ll
+in:
+r3 = 20000000
+call 1002
+exit
+'''
+dispatch = '''
+r1 = 0
+call 1004
 exit
 '''
 ";
