@@ -75,7 +75,7 @@ def alone(path, callback, folder, number):
     policy = tomllib.loads(Path(path).read_text())
     lines = [f"[[map]]\nentries = {one['entries']}\nvalue_size = {one['value_size']}" for one in policy.get("map", [])]
     table = "code" if callback in policy.get("code", {}) else "slots"
-    lines += [f"[{table}]", f'{callback} = """', policy[table][callback].strip("\n"), '"""']
+    lines += [f"[{table}]", f"{callback} = '''", policy[table][callback].strip("\n"), "'''"]
     target = folder / f"{number:05}.toml"
     target.write_text("\n".join(lines) + "\n")
     return target

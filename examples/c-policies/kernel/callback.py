@@ -42,11 +42,15 @@ def reads_second_argument(instructions):
     return False
 
 
+def is_error(one, symbol):
+    return one.code == slots.CALL and symbol is not None and symbol.name == "scx_bpf_error"
+
+
 def go_on_if_zero(target, place):
     """Behind init_task: enable comes next if it answered 0. Else the policy is refused, as in a kernel, by a call with a fault."""
     jump = slots.Instruction(0x16, 0, 0, 0, 0, place, target)
     failed = [slots.wide_number(1, 1 << 63), slots.call(1008), slots.Instruction(slots.EXIT)]
-    return [jump, *failed]
+    return [jump, *slots.noted("init_task didn't answer 0, so the policy is refused", failed)]
 
 
 class Callback:
@@ -83,7 +87,18 @@ class Callback:
             changed.append(self.instead(one, symbol, registers.tasks(at)))
             for new in changed[-1]:
                 new.place = one.place
+            if is_error(one, symbol):
+                changed[-1] = slots.noted(self.message_before(changed, [one.target for one, _ in read], at), changed[-1])
         return changed
+
+    def message_before(self, lists, targets, at):
+        """The message of a call of scx_bpf_error: that in r1, as far back as only one way leads."""
+        while at > 0 and at not in targets:
+            at -= 1
+            loaded = [one for one in lists[at] if one.note and one.code == slots.WIDE]
+            if loaded:
+                return loaded[-1].note
+        return "scx_bpf_error: the queue's number says which message, as the head of this file has it"
 
     def all_lists(self):
         """Those of the function; of init_task and enable, those of both, one after the other."""
@@ -121,7 +136,8 @@ class Callback:
         elif section.name == ".maps":
             return [slots.wide_number(one.dst, self.policy.map_number(symbol, one), 5)]
         elif section.name.startswith(".rodata.str"):
-            return [slots.wide_number(one.dst, self.policy.message_number(symbol, one))]
+            number = self.policy.message_number(symbol, one)
+            return slots.noted(self.policy.said_at(number), [slots.wide_number(one.dst, number)])
         elif holds_variables(section):
             start = self.policy.globals.starts[section.name] + symbol.value + one.number
             return [slots.load(one.dst, 10, -self.globals_cell), slots.add_number(one.dst, start)]
@@ -175,14 +191,17 @@ class Callback:
     def prologue(self):
         """What comes before the callback: the address of the variables is looked up, and kept on the stack."""
         count = names.CALLBACKS[self.name]
-        before = [slots.move(6 + at, 1 + at) for at in range(count)] if self.uses_globals else []
+        before = []
         if self.uses_globals:
             cell = -self.globals_cell
+            before += [slots.move(6 + at, 1 + at) for at in range(count)]
             before += [slots.Instruction(0x62, 10, 0, cell, 0), slots.move(2, 10), slots.add_number(2, cell)]
             before += [slots.wide_number(1, VARIABLES, 5), slots.call(1), slots.skip_if_not_zero(0, 1)]
             before += [slots.Instruction(slots.EXIT), slots.store(10, cell, 0)]
-            before += list(self.policy.globals.stores()) if self.name == "init" else []
-            before += [slots.move(1 + at, 6 + at) for at in range(count)]
+            before = slots.noted("by build: looks up the policy's variables", before)
+            if self.name == "init":
+                before += slots.noted("by build: values of variables at the start", self.policy.globals.stores())
+            before += slots.noted("by build: the arguments again", [slots.move(1 + at, 6 + at) for at in range(count)])
         if self.task_cell:
-            before.append(slots.store(10, -self.task_cell, 1))
+            before += slots.noted("by build: keeps the task for enable", [slots.store(10, -self.task_cell, 1)])
         return before

@@ -8,6 +8,7 @@ from .btf import Types, read_lines
 from .callback import Callback, NEVER_THERE, reads_second_argument
 from .elf import FUNCTION, Elf, text_at
 from .globals import GREATEST, Globals, holds_variables
+from listing import tables, with_text
 
 PARTS = {"enable": ["init_task", "enable"]}
 
@@ -15,11 +16,13 @@ PARTS = {"enable": ["init_task", "enable"]}
 class Policy:
     """A policy under way, from the object to the text of a policy file."""
 
+    header = "scx/common.bpf.h"
+
     def __init__(self, source, data, settings):
         self.source, self.settings = source, dict(settings)
         self.refusals, self.warnings, self.warned = [], [], set()
         self.elf = Elf(data)
-        self.messages, self.maps, self.callbacks, self.places = [], [], {}, {}
+        self.messages, self.maps, self.callbacks, self.instructions = [], [], {}, {}
         self.name, self.timeout = "", 0
         self.cpus = self.settings.pop("cpus", None)
         with open(source, errors="replace") as file:
@@ -164,9 +167,19 @@ class Policy:
         shown = self.source if is_source else min(file, os.path.relpath(file), key=len)
         return f"{shown}:{lines[at - 1][2]}"
 
+    def instruction_at(self, callback, slot):
+        """The instruction in a slot of a callback, or None."""
+        instructions = self.instructions.get(callback, [])
+        return instructions[slot] if slot < len(instructions) else None
+
     def place(self, callback, slot):
-        places = self.places.get(callback, [])
-        return f"{places[slot] if slot < len(places) and places[slot] else self.source}: {callback}"
+        one = self.instruction_at(callback, slot)
+        return f"{one.place if one and one.place else self.source}: {callback}"
+
+    def comment(self, callback, slot):
+        """What an instruction is for: its line of C, or why build wrote it."""
+        one = self.instruction_at(callback, slot)
+        return (one.note or with_text(one.place)) if one else ""
 
     # What callbacks ask for.
 
@@ -191,11 +204,17 @@ class Policy:
         return "..", offset
 
     def message_number(self, symbol, one):
+        """The number of a queue that stands for a message of scx_bpf_error."""
         at = symbol.value + one.number
         message = text_at(symbol.section.content, at)
         if (message, one.place) not in self.messages:
             self.messages.append((message, one.place))
         return NEVER_THERE + self.messages.index((message, one.place))
+
+    def said_at(self, number):
+        """The message for which a queue's number stands, with its line."""
+        message, place = self.messages[number - NEVER_THERE]
+        return f"scx_bpf_error at {place}: {quoted(message)}"
 
     def map_number(self, symbol, one):
         start = symbol.value + (one.number if symbol.kind != 1 else 0)
@@ -239,8 +258,8 @@ class Policy:
             if not parts and not (name == "init" and self.has_values()):
                 continue
             callback = Callback(self, name, [functions[part] for part in parts], "init_task" in parts)
-            code, places = slots.written(callback.prologue(), callback.all_lists())
-            self.callbacks[name], self.places[name] = code, places
+            code, instructions = slots.written(callback.prologue(), callback.all_lists())
+            self.callbacks[name], self.instructions[name] = code, instructions
             if len(code) > 8 * 4096:
                 self.refuse(f"{self.source}: {name}: {len(code) // 8} slots; a callback has 4096 at most: write fewer rounds out")
 
@@ -249,7 +268,7 @@ class Policy:
         if reads_second_argument(read):
             self.refuse(f"{read[0].place}: init_task reads its second argument, which isn't here: all tasks are there at the start, and p->group is the group of one")
 
-    def text(self):
+    def text(self, program):
         lines = ["# Made of C in the kernel's form by examples/c-policies/build."]
         for number, (message, place) in enumerate(self.messages):
             lines.append(f"# The queue {NEVER_THERE + number} is never there: {place} says {quoted(message)}")
@@ -260,13 +279,9 @@ class Policy:
         if self.timeout:
             lines.append(f"timeout_ms = {self.timeout}")
         maps = [("", 1, self.globals.size)] * (self.globals.size > 0) + self.maps
-        lines += [f"\n[[map]]\nentries = {entries}\nvalue_size = {size}" for _, entries, size in maps] + ["\n[slots]"]
-        for callback in names.CALLBACKS:
-            if callback in self.callbacks:
-                code = self.callbacks[callback].hex()
-                rows = "\n".join(code[at:at + 16] for at in range(0, len(code), 16))
-                lines.append(f'{callback} = """\n{rows}\n"""')
-        return "\n".join(lines) + "\n"
+        lines += [f"\n[[map]]\nentries = {entries}\nvalue_size = {size}" for _, entries, size in maps]
+        codes = {callback: self.callbacks[callback] for callback in names.CALLBACKS if callback in self.callbacks}
+        return "\n".join([*lines, "", *tables(codes, self.comment, program)]) + "\n"
 
 
 def quoted(message):

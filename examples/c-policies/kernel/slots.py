@@ -19,6 +19,7 @@ class Instruction:
     number: int = 0
     place: str = ""
     target: int = None	# of a jump: which of the instructions as they were read, counted from 0
+    note: str = ""	# what stands in the listing in place of the line of C
 
     def is_jump(self):
         return self.code & 7 in (5, 6) and self.code & 0xf0 not in (0x80, 0x90)
@@ -119,19 +120,24 @@ def moved(lists, distance):
 
 
 def written(before, lists):
-    """The slots of what comes first and of the lists in the places of what was read, with the place in C of each."""
+    """The slots of what comes first and of the lists in the places of what was read, with the instruction of each."""
     at, starts = sum(one.size() for one in before), []
     for instructions in lists:
         starts.append(at)
         at += sum(one.size() for one in instructions)
-    code, places = b"", []
+    code, instructions = b"", []
     for one in [*before, *(one for instructions in lists for one in instructions)]:
         if one.target is not None:
             distance = starts[one.target] - len(code) // 8 - 1
             one = replace(one, number=distance) if one.code == LONG_GOTO else replace(one, offset=distance)
         code += one.bytes()
-        places += [one.place] * one.size()
-    return code, places
+        instructions += [one] * one.size()
+    return code, instructions
+
+
+def noted(note, instructions):
+    """The same instructions, with what the listing says of them."""
+    return [replace(one, note=note) for one in instructions]
 
 
 def move(dst, src):

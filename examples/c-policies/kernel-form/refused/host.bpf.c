@@ -13,7 +13,7 @@ void BPF_STRUCT_OPS(host_running, struct task_struct *p)
 	u32 key = 3;
 	u64 *count = bpf_map_lookup_elem(&counts, &key);
 
-	*count += 1;	/* refused: running refused 10 NullNotTested */
+	*count += 1;	/* refused: running refused 10 NullNotTested */ /* reason: r0 may be 0 here: it comes from call 1 at 6 */
 }
 
 SCX_OPS_DEFINE(host_ops, .running = (void *)host_running, .name = "host");
