@@ -1,6 +1,4 @@
 """Turns a callback of the kernel's form into one of the host's, instruction by instruction."""
-import re
-
 from . import names, slots
 from .globals import holds_variables
 from .registers import Registers
@@ -9,10 +7,6 @@ VARIABLES = 0	# the map that has them, if any does
 SIGNED_LOAD = 0x81	# of 32 bits, from version 4 on; of a task the host takes unsigned loads alone
 ACCESSES = (0x61, 0x62, 0x63, 0x69, 0x6a, 0x6b, 0x71, 0x72, 0x73, 0x79, 0x7a, 0x7b, SIGNED_LOAD)
 NEVER_THERE = (1 << 63) + 16	# the number of a queue that no policy can have; that of message 0
-
-
-def advice_for(name):
-    return next((advice for form, advice in names.NOT_HERE if re.fullmatch(form, name)), "the host has nothing like it")
 
 
 def stack_depth(instructions):
@@ -151,7 +145,7 @@ class Callback:
         if symbol and symbol.section is None and name in names.HELPERS:
             return [slots.call(names.HELPERS[name])]
         if symbol and symbol.section is None:
-            self.refuse(one, f"{names.SHOWN.get(name, name)} isn't here: {advice_for(name)}")
+            self.refuse(one, f"{names.SHOWN.get(name, name)} isn't here: {names.advice_for(name)}")
         else:
             self.refuse(one, "a call of a function that clang didn't put in its place; declare it 'static __always_inline'")
         return [one]

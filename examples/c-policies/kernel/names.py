@@ -1,4 +1,10 @@
 """What of the kernel's names is here, what is left out, and what to write for what isn't here."""
+import difflib
+import os
+import re
+from functools import lru_cache
+
+FOLDER = os.path.dirname(os.path.dirname(os.path.realpath(__file__)))
 
 CALLBACKS = {"init": 0, "enable": 1, "select_cpu": 3, "enqueue": 2, "dispatch": 2, "running": 1, "stopping": 2}
 ANSWERED = ("init", "select_cpu")
@@ -96,11 +102,37 @@ NOT_HERE = [
     ("SCX_ENQ_(HEAD|PREEMPT)", "inserts go to the end of a queue, and nothing stops a task before its slice ends; a queue by virtual time may put one first"),
 ]
 
+
+
+@lru_cache(None)
+def of_header(header):
+    """The names in a header of this project."""
+    for path in (os.path.join(FOLDER, header), os.path.join(FOLDER, "include", header)):
+        if os.path.exists(path):
+            with open(path) as file:
+                return sorted(set(re.findall(r"\b[A-Za-z_]\w{3,}\b", file.read())))
+    return []
+
+
+def likely(name, known):
+    """What may be meant by a name that isn't known."""
+    close = difflib.get_close_matches(name, known, 1, 0.8)
+    return f"did you mean {close[0]}?" if close else "the host has nothing like it"
+
+
+def advice_for(name):
+    """What to write in place of a function or a number of the kernel that isn't here."""
+    advice = next((advice for form, advice in NOT_HERE if re.fullmatch(form, name)), None)
+    here = [one for one in of_header("scx/common.bpf.h") if not any(re.fullmatch(form, one) for form, _ in NOT_HERE)]
+    return advice or likely(name, [one for one in here if one != name])
+
+
 SHOWN = {"scx_bpf_kick_cpu_with_flags": "scx_bpf_kick_cpu with these flags"}
 
 # Fields of a task, at the host's offsets.
 FIELDS = {"pid": 0, "scx.weight": 4, "scx.slice": 8, "scx.dsq_vtime": 16, "thread_info.cpu": 24, "group": 28, "se.sum_exec_runtime": 32}
 FIRST_FIELD = 16384
+MEMBERS = ["pid", "scx", "weight", "slice", "dsq_vtime", "se", "sum_exec_runtime", "group", "flags"]
 CONSTANTS = {
     "flags": (0, "a workload has no kernel threads, and its tasks stay to the end"),
     "migration_disabled": (0, "each task may run on all processors"),

@@ -28,11 +28,12 @@ class Policy:
         with open(source, errors="replace") as file:
             self.lines_of_source = file.read().splitlines()
         btf, lines = self.elf.named(".BTF"), self.elf.named(".BTF.ext")
-        if btf is None or lines is None:
+        has_functions = any(one.kind == FUNCTION for one in self.elf.symbols)
+        if btf is None or lines is None and has_functions:
             self.refuse(f"{source}: no types and lines are in the object; compile it with -g")
             return
         self.types = Types(btf.content)
-        self.lines = read_lines(lines.content, self.types)
+        self.lines = read_lines(lines.content, self.types) if lines else {}
         task = self.types.struct("task_struct")
         self.fields = sorted(self.types.fields(task)) if task else []
         self.read()
