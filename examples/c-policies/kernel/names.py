@@ -167,4 +167,4 @@ NO_MAP = {
     "CGRP_STORAGE": "an array map by p->group",
     "ARENA": "an array map",
 }
-TASKS = 1025	# pids are 1 to 1024
+TASKS = 1024	# the most of a workload

@@ -25,6 +25,7 @@ class Policy:
         self.messages, self.maps, self.callbacks, self.instructions = [], [], {}, {}
         self.name, self.timeout = "", 0
         self.cpus = self.settings.pop("cpus", None)
+        self.tasks = self.settings.pop("tasks", names.TASKS)
         with open(source, errors="replace") as file:
             self.lines_of_source = file.read().splitlines()
         btf, lines = self.elf.named(".BTF"), self.elf.named(".BTF.ext")
@@ -234,7 +235,7 @@ class Policy:
         entries, size = numbers.get("max_entries", 0), numbers.get("value_size") or types.size(pointed.get("value", 0))
         key = numbers.get("key_size") or types.size(pointed.get("key", 0))
         if kind == "TASK_STORAGE":
-            entries = names.TASKS
+            entries = self.tasks + 1	# pids are counted from 1
         elif kind == "PERCPU_ARRAY":
             self.warn(f"{place}: warning: {symbol.name} is an array of one copy, which all processors share")
         elif kind != "ARRAY":
