@@ -6,6 +6,7 @@ from .registers import Registers
 VARIABLES = 0	# the map that has them, if any does
 SIGNED_LOAD = 0x81	# of 32 bits, from version 4 on; of a task the host takes unsigned loads alone
 ACCESSES = (0x61, 0x62, 0x63, 0x69, 0x6a, 0x6b, 0x71, 0x72, 0x73, 0x79, 0x7a, 0x7b, SIGNED_LOAD)
+CPU_AT_HAND = "bpf_get_smp_processor_id"
 NEVER_THERE = (1 << 63) + 16	# the number of a queue that no policy can have; that of message 0
 
 
@@ -59,6 +60,9 @@ class Callback:
         self.uses_globals = any(holds_variables(section) for section in named) or name == "init" and policy.has_values()
         self.globals_cell = self.cell() if self.uses_globals else None
         self.task_cell = self.cell() if has_init_task else None
+        self.first_cell = self.cell() if self.asks_for_cpu() and name != "init" else None
+        wants_arguments = has_init_task and reads_second_argument([one for one, _ in self.read[0]])
+        self.arguments_cell = self.cells(2) if wants_arguments else None
         if self.used > 512:
             self.refuse(instructions[0], f"{self.used} bytes of stack are wanted, with those for the address of the variables; there are 512")
 
@@ -70,12 +74,19 @@ class Callback:
         self.used += 8
         return self.used
 
+    def cells(self, count):
+        """The lowest of so many cells."""
+        return [self.cell() for _ in range(count)][-1]
+
+    def asks_for_cpu(self):
+        return any(symbol and symbol.name == CPU_AT_HAND for read in self.read for _, symbol in read)
+
     def lists(self, read):
         """For each instruction of a function those that take its place."""
         changed = []
         read, loop = slots.forward(read)
         if loop:
-            self.refuse(loop, "a loop that clang didn't write out: a constant number of rounds is wanted, and not too many")
+            self.refuse(loop, "a loop that clang didn't write out: take bpf_for or bpf_repeat, or a constant number of rounds")
         registers = Registers(self.name, [one for one, _ in read])
         for at, (one, symbol) in enumerate(read):
             changed.append(self.instead(one, symbol, registers.tasks(at)))
@@ -142,6 +153,8 @@ class Callback:
 
     def kernel_call(self, one, symbol):
         name = symbol.name.removeprefix("__COMPAT_") if symbol else "a function"
+        if symbol and symbol.section is None and name == CPU_AT_HAND:
+            return self.cpu_at_hand(one)
         if symbol and symbol.section is None and name in names.HELPERS:
             return [slots.call(names.HELPERS[name])]
         if symbol and symbol.section is None:
@@ -150,9 +163,18 @@ class Callback:
             self.refuse(one, "a call of a function that clang didn't put in its place; declare it 'static __always_inline'")
         return [one]
 
+    def cpu_at_hand(self, one):
+        """The CPU of dispatch, of init 0, else that of the task."""
+        self.policy.warn(f"{one.place}: warning: {CPU_AT_HAND} is the CPU of dispatch, and elsewhere that on which the task runs or ran last", CPU_AT_HAND)
+        if self.name == "init":
+            return [slots.move_number(0, 0)]
+        kept = slots.load(0, 10, -self.first_cell)
+        return [kept] if self.name == "dispatch" else [kept, slots.Instruction(0x61, 0, 0, names.FIELDS["thread_info.cpu"])]
+
     def note(self, one):
         if one.number in names.NOTES:
-            self.policy.warn(f"{one.place}: warning: {names.NOTES[one.number]}", one.number)
+            said = names.NOTES[one.number].format(rounds=self.policy.rounds)
+            self.policy.warn(f"{one.place}: warning: {said}", one.number)
         return []
 
     def field(self, one):
@@ -182,6 +204,11 @@ class Callback:
             return [one, slots.Instruction(0xbf, one.dst, one.dst, 32)]
         return [one]
 
+    def zeros(self, cell, count, register):
+        """A struct of zeros on the stack, to which a register points."""
+        stores = [slots.Instruction(0x7a, 10, 0, -cell + 8 * at, 0) for at in range(count)]
+        return [*stores, slots.move(register, 10), slots.add_number(register, -cell)]
+
     def prologue(self):
         """What comes before the callback: the address of the variables is looked up, and kept on the stack."""
         count = names.CALLBACKS[self.name]
@@ -196,6 +223,10 @@ class Callback:
             if self.name == "init":
                 before += slots.noted("by build: values of variables at the start", self.policy.globals.stores())
             before += slots.noted("by build: the arguments again", [slots.move(1 + at, 6 + at) for at in range(count)])
+        if self.first_cell:
+            before += slots.noted("by build: keeps the first argument", [slots.store(10, -self.first_cell, 1)])
+        if self.arguments_cell:
+            before += slots.noted("by build: the second argument of init_task, zeros", self.zeros(self.arguments_cell, 2, 2))
         if self.task_cell:
             before += slots.noted("by build: keeps the task for enable", [slots.store(10, -self.task_cell, 1)])
         return before

@@ -26,6 +26,28 @@ LEFT_OUT = {
     "cpu_release": "no other scheduler takes a processor",
     "cpu_online": "processors stay",
     "cpu_offline": "processors stay",
+    "yield": "tasks here don't yield",
+    "core_sched_before": "processors here have no siblings",
+    "cgroup_set_bandwidth": "the host keeps to cpu_max by itself",
+    "cgroup_set_idle": "groups here are never idle ones",
+}
+
+# The arguments of callbacks that are left out, by which they are verified: a task, a task that may be NULL, a number,
+# or a struct. Callbacks with a cgroup aren't in it: the host has no such object.
+ARGUMENTS = {
+    "exit": ["struct"],
+    "dump": ["struct"],
+    "dump_cpu": ["struct", "number", "number"],
+    "dump_task": ["struct", "task"],
+    "exit_task": ["task", "struct"],
+    "disable": ["task"],
+    "set_cpumask": ["task", "number"],
+    "cpu_acquire": ["number", "struct"],
+    "cpu_release": ["number", "struct"],
+    "cpu_online": ["number"],
+    "cpu_offline": ["number"],
+    "yield": ["task", "task or NULL"],
+    "core_sched_before": ["task", "task"],
 }
 
 # What to write instead of a callback that isn't here.
@@ -34,14 +56,10 @@ NO_CALLBACK = {
     "tick": "give shorter slices",
     "runnable": "do it in enqueue, whose flags are 1 after a wake",
     "quiescent": "do it in stopping, where runnable is 0",
-    "yield": "tasks here don't yield",
-    "core_sched_before": "processors here have no siblings",
     "set_weight": "read p->scx.weight where it is used",
     "update_idle": "ask in select_cpu or enqueue, by scx_bpf_select_cpu_dfl",
     "cgroup_init": "an array map by p->group, the number of the task's group in the workload",
     "cgroup_set_weight": "read p->scx.weight where it is used: it follows the weights of the groups",
-    "cgroup_set_bandwidth": "the host keeps to cpu_max by itself",
-    "cgroup_set_idle": "groups here are never idle ones",
 }
 
 # Flags of a policy, by their bits.
@@ -50,6 +68,7 @@ FLAGS = ["SCX_OPS_KEEP_BUILTIN_IDLE", "SCX_OPS_ENQ_LAST", "SCX_OPS_ENQ_EXITING",
 FLAGS += [f"flag {bit}" for bit in range(7, 16)] + ["SCX_OPS_HAS_CGROUP_WEIGHT"]
 FLAGS_OF_NO_MEANING = {
     "SCX_OPS_KEEP_BUILTIN_IDLE": "the host always knows which processors are idle",
+    "SCX_OPS_ENQ_LAST": "a task to whom nobody comes goes on by itself, and enqueue isn't called for it",
     "SCX_OPS_ENQ_EXITING": "tasks stay to the end of the workload",
     "SCX_OPS_SWITCH_PARTIAL": "all tasks of a workload are under the policy",
     "SCX_OPS_ENQ_MIGRATION_DISABLED": "each task may run on all processors",
@@ -67,38 +86,42 @@ NOTES = {
     3: "scx_bpf_kick_cpu is nothing, since an idle processor looks for a task each millisecond",
     4: "scx_bpf_test_and_clear_cpu_idle asks and claims nothing: the processor is idle for the next who asks, too",
     5: "task storage is an array by pid: it is there for each task from the start, as zeros",
+    7: "printk and dump are left out: scxsim run writes what the policy does",
+    8: "the mask of a task has all CPUs, and an idle one isn't claimed: it is idle for the next who asks, too",
+    9: "bpf_get_prandom_u32 counts in a variable, so each run has the same numbers",
+    10: "a loop whose bounds aren't constant has at most {rounds} rounds, past which the policy is ejected; --loops N says another number",
+    11: "a map that is a queue or a stack is a ring in an array map",
+    12: "scx_bpf_dispatch_nr_slots is 32: dispatch inserts at once, as many tasks as it likes",
+    13: "scx_bpf_exit ends the policy as scx_bpf_error does, by a fault",
 }
 NOTE_ERROR = 6
+ROUNDS = 8	# of a loop whose bounds aren't constant
 
 NOT_HERE = [
     ("bpf_map_delete_elem", "write zeros into the element"),
     ("bpf_map_lookup_percpu_elem", "use a map of type ARRAY, with an index for each processor"),
-    ("bpf_map_(push|pop|peek)_elem", "keep a ring in an array map, with two counts"),
     ("bpf_task_storage_delete", "write zeros into the element"),
     ("bpf_cgrp_storage_get", "an array map by p->group, the number of the task's group in the workload"),
     ("bpf_timer_.*", "there are no timers; do it in a callback, by scx_bpf_now()"),
-    ("bpf_loop", "bpf_for with constant bounds"),
-    ("bpf_for_each", "queues can't be looked through; use queues of their own, or one by virtual time"),
-    ("bpf_get_smp_processor_id", "the argument cpu of dispatch, or scx_bpf_task_cpu(p)"),
-    ("bpf_get_prandom_u32", "count in a variable, and multiply"),
+    ("bpf_loop", "bpf_for or bpf_repeat"),
+    ("bpf_for_each|bpf_iter_scx_dsq_.*", "queues can't be looked through; use queues of their own, or one by virtual time"),
     ("bpf_get_current_task.*", "the task that the callback is given"),
     ("bpf_kptr_xchg", "keep pids, and ask bpf_task_from_pid"),
     ("bpf_task_acquire", "keep pids, and ask bpf_task_from_pid"),
     ("bpf_obj_(new|drop).*|bpf_(rbtree|list|refcount)_.*", "a queue by virtual time keeps the order"),
     ("scx_bpf_task_cgroup|bpf_cgroup_.*", "p->group, the number of the task's group in the workload"),
     ("scx_bpf_destroy_dsq", "queues stay"),
-    ("scx_bpf_dispatch_nr_slots|scx_bpf_dispatch_cancel", "dispatch inserts at once, as many tasks as it likes"),
+    ("scx_bpf_dispatch_cancel", "dispatch inserts at once, as many tasks as it likes"),
     ("scx_bpf_dsq_move.*|scx_bpf_dsq_peek", "scx_bpf_dsq_move_to_local, or hold tasks in enqueue and insert them in dispatch"),
-    ("scx_bpf_(select_cpu_and|pick_.*)", "scx_bpf_select_cpu_dfl"),
-    ("(bpf_cpumask|scx_bpf_get_.*mask|scx_bpf_put_.*mask).*", "each task may run on all processors; scx_bpf_select_cpu_dfl finds an idle one"),
+    ("scx_bpf_pick_.*|bpf_cpumask_(test_cpu|first|empty|weight)", "say how many there are, as build --set cpus=4"),
+    ("bpf_cpumask.*", "each task may run on all processors; scx_bpf_select_cpu_dfl finds an idle one"),
     ("scx_bpf_task_running", "keep it in a variable, which running and stopping write"),
     ("scx_bpf_cpu_(rq|curr)", "keep the pid in an array, which running and stopping write"),
     ("scx_bpf_cpuperf_.*", "processors are all as fast"),
     ("scx_bpf_kick_cpu_with_flags", "without flags or with SCX_KICK_IDLE it is nothing; nothing here stops a task before its slice ends: give shorter slices"),
     ("scx_bpf_nr_cpu_ids", "say how many there are, as build --set cpus=4"),
     ("scx_bpf_reenqueue_local", "tasks stay in the queue of a processor"),
-    ("scx_bpf_exit", "scx_bpf_error"),
-    ("scx_bpf_dump|bpf_printk", "leave it out; scxsim run writes what the policy does"),
+    ("bpf_strncmp", "tasks have no names here; p->pid is the number in the workload"),
     ("SCX_ENQ_(HEAD|PREEMPT)", "inserts go to the end of a queue, and nothing stops a task before its slice ends; a queue by virtual time may put one first"),
 ]
 
@@ -136,13 +159,13 @@ MEMBERS = ["pid", "scx", "weight", "slice", "dsq_vtime", "se", "sum_exec_runtime
 CONSTANTS = {
     "flags": (0, "a workload has no kernel threads, and its tasks stay to the end"),
     "migration_disabled": (0, "each task may run on all processors"),
+    "cpus_ptr": (1, "each task may run on all processors"),
 }
 FIELD_NOTES = {
     "scx.weight": "the task's part of the processor time, 10000 for all of it; in a kernel 100 is that of any task",
 }
 NO_FIELD = {
     "nr_cpus_allowed": "say how many there are, as build --set cpus=4",
-    "cpus_ptr": "each task may run on all processors",
     "comm": "tasks have no names here; p->pid is the number in the workload",
     "tgid": "each task stands for itself; p->pid is its number in the workload",
     "real_parent": "tasks have no parents",
@@ -160,8 +183,6 @@ NO_MAP = {
     "HASH": "an array map by pid, or by another number that is small",
     "PERCPU_HASH": "an array map by pid, or by another number that is small",
     "LRU_HASH": "an array map by pid, or by another number that is small",
-    "QUEUE": "a ring in an array map, with two counts",
-    "STACK": "an array map, with a count",
     "RINGBUF": "leave it out; nothing in user space reads it",
     "USER_RINGBUF": "leave it out; nothing in user space writes it",
     "CGRP_STORAGE": "an array map by p->group",

@@ -5,12 +5,20 @@ import re
 
 from . import names, slots
 from .btf import Types, read_lines
-from .callback import Callback, NEVER_THERE, reads_second_argument
+from .callback import Callback, NEVER_THERE
 from .elf import FUNCTION, Elf, text_at
 from .globals import GREATEST, Globals, holds_variables
 from listing import tables, with_text
 
 PARTS = {"enable": ["init_task", "enable"]}
+ENQ_LAST = 2		# this flag of a policy
+FOR_USER_SPACE = ("syscall",)	# sections whose programs user space runs
+
+
+def does_nothing(symbol):
+    """Whether a function only computes an answer."""
+    found, _ = slots.read(symbol.section.content[symbol.value:symbol.value + symbol.size])
+    return all(one.code & 7 in (4, 7) or one.code == slots.EXIT for one in found)
 
 
 class Policy:
@@ -23,9 +31,11 @@ class Policy:
         self.refusals, self.warnings, self.warned = [], [], set()
         self.elf = Elf(data)
         self.messages, self.maps, self.callbacks, self.instructions = [], [], {}, {}
-        self.name, self.timeout = "", 0
+        self.name, self.timeout, self.has_enq_last = "", 0, False
+        self.left_out = {}
         self.cpus = self.settings.pop("cpus", None)
         self.tasks = self.settings.pop("tasks", names.TASKS)
+        self.rounds = self.settings.pop("loops", names.ROUNDS)
         with open(source, errors="replace") as file:
             self.lines_of_source = file.read().splitlines()
         btf, lines = self.elf.named(".BTF"), self.elf.named(".BTF.ext")
@@ -94,6 +104,8 @@ class Policy:
             else:
                 number = int.from_bytes(content[offset:offset + self.types.size(of)], "little")
                 self.take_number(ops, member, number)
+        if self.has_enq_last and "enqueue" not in functions:
+            self.refuse(f"{self.place_of_text(ops.name)}: flags: SCX_OPS_ENQ_LAST wants enqueue, as in a kernel")
         return functions
 
     def function_at(self, symbol, number):
@@ -109,6 +121,9 @@ class Policy:
             functions[member] = symbol
         elif member in names.LEFT_OUT:
             self.warn(f"{self.place_of_text(symbol.name)}: warning: {member} is left out: {names.LEFT_OUT[member]}")
+            self.left_out[member] = symbol.name
+        elif does_nothing(symbol):
+            self.warn(f"{self.place_of_text(symbol.name)}: warning: {member} is left out: it does nothing")
         else:
             self.refuse(f"{place} isn't here: {names.NO_CALLBACK.get(member, 'the host has nothing like it')}")
 
@@ -124,6 +139,7 @@ class Policy:
             self.timeout = number
             if number > 30000:
                 self.refuse(f"{place}: timeout_ms is {number}; it is 30000 at most")
+        self.has_enq_last |= member == "flags" and bool(number & ENQ_LAST)
         for bit in range(64):
             if member == "flags" and number >> bit & 1:
                 name = names.FLAGS[bit] if bit < len(names.FLAGS) else f"flag {bit}"
@@ -139,7 +155,9 @@ class Policy:
             if one.kind != FUNCTION or one.section is None or one.section.name == ".text":
                 continue
             is_callback = one.section.name.startswith("struct_ops")
-            if not is_callback:
+            if one.section.name in FOR_USER_SPACE:
+                self.warn(f"{self.place_of_text(one.name)}: warning: '{one.name}' is in the section {one.section.name}, and left out: nothing here runs it")
+            elif not is_callback:
                 self.refuse(f"{self.place_of_text(one.name)}: '{one.name}' is in the section {one.section.name}, which nothing here would run")
             elif (one.section.name, one.value) not in taken and not self.is_named_in_ops(one):
                 self.warn(f"{self.place_of_text(one.name)}: warning: '{one.name}' is no callback of the policy, and left out")
@@ -173,6 +191,10 @@ class Policy:
         """The instruction in a slot of a callback, or None."""
         instructions = self.instructions.get(callback, [])
         return instructions[slot] if slot < len(instructions) else None
+
+    def kept_settings(self):
+        """Those that are no variables."""
+        return [("cpus", self.cpus), ("tasks", self.tasks), ("loops", self.rounds)]
 
     def place(self, callback, slot):
         one = self.instruction_at(callback, slot)
@@ -236,6 +258,8 @@ class Policy:
         key = numbers.get("key_size") or types.size(pointed.get("key", 0))
         if kind == "TASK_STORAGE":
             entries = self.tasks + 1	# pids are counted from 1
+        elif kind in ("QUEUE", "STACK"):
+            entries, size, key = entries + 1, max(8, -(-size // 8) * 8), 4	# element 0 has the counts
         elif kind == "PERCPU_ARRAY":
             self.warn(f"{place}: warning: {symbol.name} is an array of one copy, which all processors share")
         elif kind != "ARRAY":
@@ -253,8 +277,6 @@ class Policy:
         return any(True for _ in self.globals.stores())
 
     def translate(self, functions):
-        if "init_task" in functions:
-            self.look_at_init_task(functions["init_task"])
         for name in names.CALLBACKS:
             parts = [part for part in PARTS.get(name, [name]) if part in functions]
             if not parts and not (name == "init" and self.has_values()):
@@ -264,11 +286,6 @@ class Policy:
             self.callbacks[name], self.instructions[name] = code, instructions
             if len(code) > 8 * 4096:
                 self.refuse(f"{self.source}: {name}: {len(code) // 8} slots; a callback has 4096 at most: write fewer rounds out")
-
-    def look_at_init_task(self, function):
-        read = [one for one, _ in self.read_function(function)]
-        if reads_second_argument(read):
-            self.refuse(f"{read[0].place}: init_task reads its second argument, which isn't here: all tasks are there at the start, and p->group is the group of one")
 
     def text(self, program):
         lines = ["# Made of C in the kernel's form by examples/c-policies/build."]

@@ -65,6 +65,13 @@ typedef _Bool bool;
 #define NOTE_NOT_CLAIMED 4
 #define NOTE_TASK_STORAGE 5
 #define NOTE_ERROR 6
+#define NOTE_NO_PRINT 7
+#define NOTE_MASK 8
+#define NOTE_RANDOM 9
+#define NOTE_ROUNDS 10
+#define NOTE_RING 11
+#define NOTE_SLOTS 12
+#define NOTE_EXIT 13
 
 /* A number or pointer of which clang knows nothing. So it tests this one and no copy of it. */
 #define FORGOTTEN(value) \
@@ -107,6 +114,7 @@ enum bpf_map_type {
 #define EPERM 1
 #define ENOENT 2
 #define ESRCH 3
+#define E2BIG 7
 #define EAGAIN 11
 #define ENOMEM 12
 #define EBUSY 16
@@ -136,12 +144,20 @@ struct bpf_list_head {
 struct cpumask;
 struct bpf_cpumask;
 struct rq;
-struct bpf_iter_scx_dsq;
+struct bpf_iter_scx_dsq {
+	u64 numbers[6];
+};
 struct scx_dump_ctx;
 struct scx_cpu_acquire_args;
 struct scx_cpu_release_args;
 struct scx_exit_task_args;
-struct scx_exit_info;
+struct scx_exit_info {
+	int kind;
+	s64 exit_code;
+	const char *reason;
+	char *msg;
+	char *dump;
+};
 struct user_exit_info;
 struct bpf_spin_lock {
 	u32 number;
@@ -227,6 +243,10 @@ struct task_struct {
 #define SCX_WAKE_TTWU 8
 #define SCX_WAKE_SYNC 16
 #define SCX_DEQ_SLEEP 1ull
+#define SCX_DEQ_CORE_SCHED_EXEC (1ull << 32)
+#define SCX_DEQ_SCHED_CHANGE (1ull << 33)
+#define SCX_EXIT_NONE 0
+#define SCX_ECODE_ACT_RESTART (1ll << 48)
 #define SCX_KICK_IDLE 1ull
 #define SCX_KICK_PREEMPT 2ull
 #define SCX_KICK_WAIT 4ull
@@ -447,6 +467,86 @@ INSTEAD void bpf_rcu_read_unlock(void)
 
 #define __sync_fetch_and_sub(pointer, number) __sync_fetch_and_add(pointer, -(number))
 
+/* The other atomic functions: what is there is `before_`, and `after` takes its place. */
+#define HOST_PLAIN(pointer, after) \
+	({ \
+		__typeof__(*(pointer)) before_ = *(pointer); \
+		NOTE(NOTE_PLAIN_ADD); \
+		*(pointer) = (after); \
+		before_; \
+	})
+#define __sync_fetch_and_or(pointer, number) HOST_PLAIN(pointer, before_ | (number))
+#define __sync_fetch_and_and(pointer, number) HOST_PLAIN(pointer, before_ & (number))
+#define __sync_fetch_and_xor(pointer, number) HOST_PLAIN(pointer, before_ ^ (number))
+#define __sync_add_and_fetch(pointer, number) (__sync_fetch_and_add(pointer, number) + (number))
+#define __sync_sub_and_fetch(pointer, number) (__sync_fetch_and_sub(pointer, number) - (number))
+#define __sync_lock_test_and_set(pointer, number) HOST_PLAIN(pointer, number)
+#define __sync_val_compare_and_swap(pointer, old, new) HOST_PLAIN(pointer, before_ == (old) ? (new) : before_)
+#define __sync_bool_compare_and_swap(pointer, old, new) \
+	({ \
+		__typeof__(*(pointer)) old_ = (old); \
+		__sync_val_compare_and_swap(pointer, old_, new) == old_; \
+	})
+
+/* A number that follows from the one before it, so each run has the same ones. */
+static u64 host_random = 0x9e3779b97f4a7c15ull;
+INSTEAD u32 bpf_get_prandom_u32(void)
+{
+	u64 next = host_random;
+
+	NOTE(NOTE_RANDOM);
+	next ^= next << 13;
+	next ^= next >> 7;
+	next ^= next << 17;
+	host_random = next;
+	return next >> 32;
+}
+
+/*
+ * A map that is a queue or a stack is an array map with an element more. Element 0 counts what was taken and what was
+ * put; the others are a ring. The last of a stack is taken by one step back of what was put.
+ */
+#define HOST_ENTRIES(map) (sizeof(*(map)->max_entries) / sizeof(int))
+#define HOST_IS_STACK(map) (sizeof(*(map)->type) / sizeof(int) == BPF_MAP_TYPE_STACK)
+#define bpf_map_push_elem(map, value, flags) \
+	({ \
+		u32 at_ = 0; \
+		long answer_ = -E2BIG; \
+		u32 *counts_ = bpf_map_lookup_elem(map, &at_); \
+		NOTE(NOTE_RING); \
+		if (counts_ && counts_[1] - counts_[0] < HOST_ENTRIES(map)) { \
+			__typeof__(value) element_; \
+			at_ = 1 + counts_[1] % HOST_ENTRIES(map); \
+			element_ = bpf_map_lookup_elem(map, &at_); \
+			if (element_) { \
+				*element_ = *(value); \
+				counts_[1]++; \
+				answer_ = 0; \
+			} \
+		} \
+		answer_; \
+	})
+#define HOST_FRONT(map, value, taken) \
+	({ \
+		u32 at_ = 0; \
+		long answer_ = -ENOENT; \
+		u32 *counts_ = bpf_map_lookup_elem(map, &at_); \
+		NOTE(NOTE_RING); \
+		if (counts_ && counts_[1] != counts_[0]) { \
+			__typeof__(value) element_; \
+			at_ = 1 + (HOST_IS_STACK(map) ? counts_[1] - 1 : counts_[0]) % HOST_ENTRIES(map); \
+			element_ = bpf_map_lookup_elem(map, &at_); \
+			if (element_) { \
+				*(value) = *element_; \
+				counts_[HOST_IS_STACK(map)] += HOST_IS_STACK(map) ? -(taken) : (taken); \
+				answer_ = 0; \
+			} \
+		} \
+		answer_; \
+	})
+#define bpf_map_pop_elem(map, value) HOST_FRONT(map, value, 1)
+#define bpf_map_peek_elem(map, value) HOST_FRONT(map, value, 0)
+
 /* An array that user space makes as long as there are processors: here as long as there are at most. */
 #define RESIZABLE_ARRAY(section, array) array[64]
 
@@ -476,11 +576,141 @@ INSTEAD u32 scx_bpf_nr_cpu_ids(void)
 extern u32 scx_bpf_nr_cpu_ids(void);
 #endif
 
+/*
+ * Masks of CPUs are numbers: each task may run on all of them, and build loads HOST_ALL as p->cpus_ptr. Which CPUs are
+ * idle is asked when a mask is looked at, and not claimed.
+ */
+#define HOST_ALL ((const struct cpumask *)1)
+#define HOST_IDLE ((const struct cpumask *)2)
+#define cast_mask(mask) ((const struct cpumask *)(mask))
+INSTEAD const struct cpumask *scx_bpf_get_idle_cpumask(void)
+{
+	return HOST_IDLE;
+}
+
+INSTEAD const struct cpumask *scx_bpf_get_idle_smtmask(void)
+{
+	return HOST_IDLE;
+}
+
+INSTEAD const struct cpumask *scx_bpf_get_online_cpumask(void)
+{
+	return HOST_ALL;
+}
+
+INSTEAD const struct cpumask *scx_bpf_get_possible_cpumask(void)
+{
+	return HOST_ALL;
+}
+
+INSTEAD void scx_bpf_put_cpumask(const struct cpumask *mask)
+{
+}
+
+INSTEAD void scx_bpf_put_idle_cpumask(const struct cpumask *mask)
+{
+}
+
+INSTEAD s32 scx_bpf_select_cpu_and(struct task_struct *p, s32 prev_cpu, u64 wake_flags, const struct cpumask *allowed, u64 flags)
+{
+	u64 cpu = host_select_cpu_dfl(p);
+
+	NOTE(NOTE_MASK);
+	return host_cpu_idle(cpu) ? (s32)cpu : -EBUSY;
+}
+
+#ifdef HOST_CPUS
+INSTEAD bool bpf_cpumask_test_cpu(u32 cpu, const struct cpumask *mask)
+{
+	NOTE(NOTE_MASK);
+	if (cpu >= HOST_CPUS)
+		return false;
+	return mask == HOST_IDLE ? host_cpu_idle(cpu) != 0 : true;
+}
+
+INSTEAD s32 scx_bpf_pick_idle_cpu(const struct cpumask *allowed, u64 flags)
+{
+	NOTE(NOTE_MASK);
+	_Pragma("clang loop unroll(full)") for (u32 cpu = 0; cpu < HOST_CPUS; cpu++)
+		if (host_cpu_idle(cpu))
+			return cpu;
+	return -EBUSY;
+}
+
+INSTEAD s32 scx_bpf_pick_any_cpu(const struct cpumask *allowed, u64 flags)
+{
+	s32 cpu = scx_bpf_pick_idle_cpu(allowed, flags);
+
+	return cpu >= 0 ? cpu : 0;
+}
+
+INSTEAD u32 bpf_cpumask_first(const struct cpumask *mask)
+{
+	s32 cpu = mask == HOST_IDLE ? scx_bpf_pick_idle_cpu(mask, 0) : 0;
+
+	return cpu >= 0 ? cpu : HOST_CPUS;
+}
+
+INSTEAD bool bpf_cpumask_empty(const struct cpumask *mask)
+{
+	return mask == HOST_IDLE && scx_bpf_pick_idle_cpu(mask, 0) < 0;
+}
+
+INSTEAD u32 bpf_cpumask_weight(const struct cpumask *mask)
+{
+	u32 count = 0;
+
+	_Pragma("clang loop unroll(full)") for (u32 cpu = 0; cpu < HOST_CPUS; cpu++)
+		count += bpf_cpumask_test_cpu(cpu, mask);
+	return count;
+}
+#else
+extern bool bpf_cpumask_test_cpu(u32 cpu, const struct cpumask *mask);
+extern s32 scx_bpf_pick_idle_cpu(const struct cpumask *allowed, u64 flags);
+extern s32 scx_bpf_pick_any_cpu(const struct cpumask *allowed, u64 flags);
+extern u32 bpf_cpumask_first(const struct cpumask *mask);
+extern bool bpf_cpumask_empty(const struct cpumask *mask);
+extern u32 bpf_cpumask_weight(const struct cpumask *mask);
+#endif
+
+/* One node has all CPUs. */
+#define __COMPAT_SCX_PICK_IDLE_IN_NODE 0
+#define scx_bpf_cpu_node(cpu) 0
+#define scx_bpf_nr_node_ids() 1u
+#define scx_bpf_get_idle_cpumask_node(node) scx_bpf_get_idle_cpumask()
+#define scx_bpf_get_idle_smtmask_node(node) scx_bpf_get_idle_smtmask()
+#define scx_bpf_pick_idle_cpu_node(mask, node, flags) scx_bpf_pick_idle_cpu(mask, flags)
+#define scx_bpf_pick_any_cpu_node(mask, node, flags) scx_bpf_pick_any_cpu(mask, flags)
+#define __COMPAT_scx_bpf_cpu_node scx_bpf_cpu_node
+#define __COMPAT_scx_bpf_nr_node_ids scx_bpf_nr_node_ids
+#define __COMPAT_scx_bpf_get_idle_cpumask_node scx_bpf_get_idle_cpumask_node
+#define __COMPAT_scx_bpf_get_idle_smtmask_node scx_bpf_get_idle_smtmask_node
+#define __COMPAT_scx_bpf_pick_idle_cpu_node scx_bpf_pick_idle_cpu_node
+#define __COMPAT_scx_bpf_pick_any_cpu_node scx_bpf_pick_any_cpu_node
+
+/* dispatch inserts at once, so its buffer has always the same room. */
+INSTEAD u32 scx_bpf_dispatch_nr_slots(void)
+{
+	NOTE(NOTE_SLOTS);
+	return 32;
+}
+
+/* What a kernel may have or not isn't here. */
+#define bpf_ksym_exists(name) 0
+#define bpf_core_field_exists(field) 0
+#define bpf_core_type_exists(type) 0
+
 /* The values are looked at by the compiler alone, so that their variables are used. */
 #define LOOKED_AT(values...) \
 	_Pragma("clang diagnostic push") _Pragma("clang diagnostic ignored \"-Wunused-value\"") \
 	_Pragma("clang diagnostic ignored \"-Wsizeof-array-decay\"") \
 	(void)sizeof((0, ##values)); \
+	_Pragma("clang diagnostic pop")
+
+/* The values are loaded, so that a pointer among them is tested as where they are printed. */
+#define LOADED(values...) \
+	_Pragma("clang diagnostic push") _Pragma("clang diagnostic ignored \"-Wunused-value\"") \
+	(void)(0, ##values); \
 	_Pragma("clang diagnostic pop")
 
 /* The address of the message becomes the number of a queue that is never there. */
@@ -492,11 +722,29 @@ extern void host_error(const char *message) asm("scx_bpf_error");
 		host_error(message); \
 	})
 
-/* Loops with constant bounds, which clang writes out. */
+/*
+ * Loops, which clang writes out: as many rounds as constant bounds say, where these are at most 512, else at most
+ * HOST_ROUNDS. One round more is an error of the policy.
+ */
+#ifndef HOST_ROUNDS
+#define HOST_ROUNDS 8
+#endif
+#define HOST_TEXT_(number) #number
+#define HOST_TEXT(number) HOST_TEXT_(number)
+#define HOST_MOST(rounds) (__builtin_constant_p(rounds) && (rounds) <= 512 ? (rounds) : HOST_ROUNDS)
+#define HOST_NO_MORE() \
+	({ \
+		NOTE(NOTE_ROUNDS); \
+		host_error("a loop of more than " HOST_TEXT(HOST_ROUNDS) " rounds; --loops gives it more"); \
+		0; \
+	})
 #define bpf_for(number, from, end) \
-	_Pragma("clang loop unroll(full)") for ((number) = (from); (number) < (end); (number)++)
+	_Pragma("clang loop unroll(full)") \
+	for (s64 round_ = ((number) = (from), 0); (number) < (end) && (round_ < HOST_MOST((end) - (from)) || HOST_NO_MORE()); \
+	     round_++, (number)++)
 #define bpf_repeat(rounds) \
-	_Pragma("clang loop unroll(full)") for (int round_ = 0; round_ < (rounds); round_++)
+	_Pragma("clang loop unroll(full)") \
+	for (s64 round_ = 0; round_ < (rounds) && (round_ < HOST_MOST(rounds) || HOST_NO_MORE()); round_++)
 
 /* Virtual time, and the clock, as they go round. */
 #define time_after(a, b) ((s64)((b) - (a)) < 0)
@@ -534,9 +782,6 @@ extern void host_error(const char *message) asm("scx_bpf_error");
 
 /* Functions of the kernel that aren't here. build refuses a call with its line, and says what to write. */
 extern long bpf_map_delete_elem(void *map, const void *key);
-extern long bpf_map_push_elem(void *map, const void *value, u64 flags);
-extern long bpf_map_pop_elem(void *map, void *value);
-extern long bpf_map_peek_elem(void *map, void *value);
 extern void *bpf_map_lookup_percpu_elem(void *map, const void *key, u32 cpu);
 extern long bpf_task_storage_delete(void *map, struct task_struct *p);
 extern void *bpf_cgrp_storage_get(void *map, struct cgroup *cgrp, void *value, u64 flags);
@@ -546,7 +791,6 @@ extern long bpf_timer_start(struct bpf_timer *timer, u64 nsecs, u64 flags);
 extern long bpf_timer_cancel(struct bpf_timer *timer);
 extern long bpf_loop(u32 rounds, void *callback, void *context, u64 flags);
 extern u32 bpf_get_smp_processor_id(void);
-extern u32 bpf_get_prandom_u32(void);
 extern struct task_struct *bpf_get_current_task_btf(void);
 extern void *bpf_kptr_xchg(void *to, void *pointer);
 extern struct task_struct *bpf_task_acquire(struct task_struct *p);
@@ -566,24 +810,19 @@ extern struct cgroup *bpf_cgroup_ancestor(struct cgroup *cgrp, int level);
 extern void bpf_cgroup_release(struct cgroup *cgrp);
 extern struct cgroup *scx_bpf_task_cgroup(struct task_struct *p);
 extern void scx_bpf_destroy_dsq(u64 dsq_id);
-extern u32 scx_bpf_dispatch_nr_slots(void);
 extern void scx_bpf_dispatch_cancel(void);
 extern bool scx_bpf_dsq_move(struct bpf_iter_scx_dsq *iterator, struct task_struct *p, u64 dsq_id, u64 enq_flags);
 extern bool scx_bpf_dsq_move_vtime(struct bpf_iter_scx_dsq *iterator, struct task_struct *p, u64 dsq_id, u64 enq_flags);
 extern void scx_bpf_dsq_move_set_slice(struct bpf_iter_scx_dsq *iterator, u64 slice);
 extern void scx_bpf_dsq_move_set_vtime(struct bpf_iter_scx_dsq *iterator, u64 vtime);
-extern s32 scx_bpf_select_cpu_and(struct task_struct *p, s32 prev_cpu, u64 wake_flags, const struct cpumask *allowed, u64 flags);
-extern s32 scx_bpf_pick_idle_cpu(const struct cpumask *allowed, u64 flags);
-extern s32 scx_bpf_pick_any_cpu(const struct cpumask *allowed, u64 flags);
-extern const struct cpumask *scx_bpf_get_idle_cpumask(void);
-extern const struct cpumask *scx_bpf_get_idle_smtmask(void);
-extern const struct cpumask *scx_bpf_get_online_cpumask(void);
-extern const struct cpumask *scx_bpf_get_possible_cpumask(void);
-extern void scx_bpf_put_cpumask(const struct cpumask *mask);
-extern void scx_bpf_put_idle_cpumask(const struct cpumask *mask);
-extern bool bpf_cpumask_test_cpu(u32 cpu, const struct cpumask *mask);
-extern u32 bpf_cpumask_first(const struct cpumask *mask);
-extern u32 bpf_cpumask_weight(const struct cpumask *mask);
+extern int bpf_iter_scx_dsq_new(struct bpf_iter_scx_dsq *iterator, u64 dsq_id, u64 flags);
+extern struct task_struct *bpf_iter_scx_dsq_next(struct bpf_iter_scx_dsq *iterator);
+extern void bpf_iter_scx_dsq_destroy(struct bpf_iter_scx_dsq *iterator);
+extern struct task_struct *scx_bpf_dsq_peek(u64 dsq_id);
+#define __COMPAT_scx_bpf_dsq_peek scx_bpf_dsq_peek
+extern int bpf_strncmp(const char *text, u32 size, const char *other);
+extern void bpf_cpumask_set_cpu(u32 cpu, struct bpf_cpumask *mask);
+extern void bpf_cpumask_clear_cpu(u32 cpu, struct bpf_cpumask *mask);
 extern struct bpf_cpumask *bpf_cpumask_create(void);
 extern void bpf_cpumask_release(struct bpf_cpumask *mask);
 extern bool scx_bpf_task_running(const struct task_struct *p);
@@ -593,13 +832,10 @@ extern u32 scx_bpf_cpuperf_cap(s32 cpu);
 extern u32 scx_bpf_cpuperf_cur(s32 cpu);
 extern void scx_bpf_cpuperf_set(s32 cpu, u32 perf);
 extern u32 scx_bpf_reenqueue_local(void);
-extern void host_exit(s64 code, const char *message) asm("scx_bpf_exit");
-extern void host_dump(const char *message) asm("scx_bpf_dump");
-extern void host_printk(const char *message) asm("bpf_printk");
 extern void *host_for_each(void) asm("bpf_for_each");
-#define scx_bpf_exit(code, message, values...) ({ LOOKED_AT(values) host_exit(code, message); })
-#define scx_bpf_dump(message, values...) ({ LOOKED_AT(values) host_dump(message); })
-#define bpf_printk(message, values...) ({ LOOKED_AT(values) host_printk(message); })
+#define scx_bpf_exit(code, message, values...) ({ LOOKED_AT(values) (void)(code); NOTE(NOTE_EXIT); host_error(message); })
+#define scx_bpf_dump(message, values...) ({ LOADED(values) NOTE(NOTE_NO_PRINT); })
+#define bpf_printk(message, values...) ({ LOADED(values) NOTE(NOTE_NO_PRINT); })
 #define bpf_for_each(kind, element, values...) for ((element) = host_for_each(); (element); (element) = NULL)
 
 #endif

@@ -1,4 +1,4 @@
-/* Callbacks that aren't here, one that nothing here would call, and a function that is none. */
+/* Callbacks that aren't here, some that nothing here would call, and functions that are none. */
 #include <scx/common.bpf.h>
 
 void BPF_STRUCT_OPS(callbacks_tick, struct task_struct *p)	/* refused: tick isn't here: give shorter slices */
@@ -6,7 +6,12 @@ void BPF_STRUCT_OPS(callbacks_tick, struct task_struct *p)	/* refused: tick isn'
 	p->scx.slice = 0;
 }
 
-void BPF_STRUCT_OPS(callbacks_quiescent, struct task_struct *p, u64 deq_flags)	/* refused: quiescent isn't here: do it in stopping */
+void BPF_STRUCT_OPS(callbacks_runnable, struct task_struct *p, u64 enq_flags)	/* refused: runnable isn't here: do it in enqueue */
+{
+	p->scx.dsq_vtime = 0;
+}
+
+void BPF_STRUCT_OPS(callbacks_quiescent, struct task_struct *p, u64 deq_flags)	/* warned: quiescent is left out: it does nothing */
 {
 }
 
@@ -14,17 +19,40 @@ void BPF_STRUCT_OPS(callbacks_exit_task, struct task_struct *p, struct scx_exit_
 {
 }
 
+void BPF_STRUCT_OPS(callbacks_disable, struct task_struct *p)	/* warned: disable is left out: tasks stay */ /* warned: disable isn't verified: p->prio isn't here */
+{
+	p->scx.slice = p->prio;
+}
+
+void BPF_STRUCT_OPS(callbacks_cgroup_exit, struct cgroup *cgrp)	/* warned: cgroup_exit is left out: groups stay */ /* warned: cgroup_exit isn't verified: it has a cgroup */
+{
+}
+
+bool BPF_STRUCT_OPS(callbacks_yield, struct task_struct *from, struct task_struct *to)	/* warned: yield is left out: tasks here don't yield */
+{
+	return to->pid > 3;	/* refused: yield refused 10 NullNotTested */ /* reason: r2 may be 0 here: it is an argument; test it first */
+}
+
 void BPF_STRUCT_OPS(callbacks_running, struct task_struct *p)	/* warned: 'callbacks_running' is no callback of the policy */
 {
 }
 
-SEC("syscall") int prepare(void *context)	/* refused: 'prepare' is in the section syscall */
+SEC("syscall") int prepare(void *context)	/* warned: 'prepare' is in the section syscall, and left out */
+{
+	return 0;
+}
+
+SEC("tp_btf/sched_switch") int follow(void *context)	/* refused: 'follow' is in the section tp_btf/sched_switch */
 {
 	return 0;
 }
 
 SCX_OPS_DEFINE(callbacks_ops,
 	       .tick = (void *)callbacks_tick,
+	       .runnable = (void *)callbacks_runnable,
 	       .quiescent = (void *)callbacks_quiescent,
 	       .exit_task = (void *)callbacks_exit_task,
+	       .disable = (void *)callbacks_disable,
+	       .cgroup_exit = (void *)callbacks_cgroup_exit,
+	       .yield = (void *)callbacks_yield,
 	       .name = "callbacks");

@@ -8,7 +8,7 @@ void BPF_STRUCT_OPS(flags_enqueue, struct task_struct *p, u64 enq_flags)
 	scx_bpf_kick_cpu(0, SCX_KICK_PREEMPT);	/* refused: enqueue: scx_bpf_kick_cpu with these flags isn't here */
 }
 
-SCX_OPS_DEFINE(flags_ops,	/* refused: flags: SCX_OPS_ENQ_LAST isn't here */ /* warned: SCX_OPS_SWITCH_PARTIAL means nothing here */
+SCX_OPS_DEFINE(flags_ops,	/* warned: SCX_OPS_ENQ_LAST means nothing here */ /* warned: SCX_OPS_SWITCH_PARTIAL means nothing here */
 	       .enqueue = (void *)flags_enqueue,
 	       .flags = SCX_OPS_ENQ_LAST | SCX_OPS_SWITCH_PARTIAL,
 	       .name = "flags");

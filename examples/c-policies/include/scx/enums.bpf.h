@@ -1,0 +1,1 @@
+/* What a kernel has here is in common.bpf.h. */
