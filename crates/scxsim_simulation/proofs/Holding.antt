@@ -1,17 +1,21 @@
 -- The headline holds of a run through the events that its machine took.
-use Rattle.std.proofs.Common.{ℕ, List, [], ◌∷◌, ◌++◌, Option, Result, Ok, Err, OnErr, sym, subst}
+use Rattle.std.proofs.Common.{◌≡◌, ℕ, List, [], ◌∷◌, ◌++◌, Option, Result, Ok, Err, OnErr, sym, subst, ap, ◌∙◌}
 use Rattle.scx_weights.specs.Hierarchy.{idle}
 use Rattle.scx_sched_machine.specs.declared.events.Event.{Event}
 use Rattle.scx_sched_machine.specs.Callbacks.{AreAnswered}
+use Rattle.scx_sched_machine.specs.Policy.{PolicyState, IsTimeout}
 use Rattle.scx_sched_machine.proofs.Taking.{answered_append}
 use Rattle.scx_sched.specs.Sim.{SimState, after_event, calls_of}
-use Rattle.scx_load_workloads.specs.Workload.{WorkloadState}
+use Rattle.scx_sched.proofs.First.{policy_started}
+use Rattle.scx_load_workloads.specs.Workload.{WorkloadState, IsWorkload}
 use Rattle.scxsim_headline.specs.Headline.{states_from, calls_of_all, NoneIsLate, EachFollows}
 use Rattle.scxsim_headline.proofs.Going.{AreOnce, AreCounted, AreTimely, AreAllBounded, follows_before}
 use Rattle.scxsim_headline.proofs.Whole.{run_notes, run_last, run_never_stuck, run_once, run_counted, run_timely, run_bounded, run_follows}
 use Rattle.scxsim_trace.specs.Lines.{NameLists, names_of}
 use Rattle.scxsim_trace.specs.Runs.{StaysInOrder, StopsAtFailure}
 use Rattle.scxsim_simulation.specs.Runs.{IsBegun, run_of, IsOfHeadline, IsCutOff}
+use Rattle.scxsim_simulation.proofs.Belonging.{is_that_machine}
+use Rattle.scxsim_simulation.proofs.Shapes.{shape_is_right}
 
 all_answered : (s : SimState) (events : List Event) → StaysInOrder s events → AreAnswered (calls_of_all s events)
 all_answered s [] h = tt
@@ -38,9 +42,14 @@ all_follow : (s : SimState) (events : List Event) → StaysInOrder s events → 
 all_follow s [] h = tt
 all_follow s (e ∷ es) (now, well, more) = follows_before s e es well.1 (all_follow (after_event s e) es more)
 
+-- the limit of a machine that has begun is that of the policy's text
+limit_of_text : {policy : List ℕ} {w : WorkloadState} {s : SimState} (x : IsBegun policy w s) → s.state.policy.timeout_ms ≡ x.file.timeout_ms
+limit_of_text {policy} {w} {s} x =
+    ap (λ (p : PolicyState). p.timeout_ms) (policy_started x.machine (idle w.groups w.homes) w.cpus s.state x.first.0) ∙ x.built.timeout
+
 -- the headline holds of a run through events that leave its machine in order after each
-pub headline_holds : {policy : List ℕ} {w : WorkloadState} {s : SimState} (x : IsBegun policy w s) (events : List Event) → StaysInOrder s events → IsOfHeadline x events
-headline_holds {policy} {w} {s} x events h =
+pub headline_holds : {policy : List ℕ} {w : WorkloadState} {s : SimState} (x : IsBegun policy w s) (events : List Event) → IsWorkload w → IsTimeout s.state.policy.timeout_ms → StaysInOrder s events → IsOfHeadline x events
+headline_holds {policy} {w} {s} x events whole limit_is h =
     let tree = idle w.groups w.homes in
     let limit : ℕ → Type 0 = λ n. NoneIsLate n (run_of x events) in
     record {
@@ -52,17 +61,21 @@ headline_holds {policy} {w} {s} x events h =
       timely = subst limit x.built.timeout (run_timely x.machine tree w.cpus events s x.first (all_follow s events h) (all_timely s events h));
       bounded = run_bounded x.machine tree w.cpus events s x.first (all_bounded s events h);
       follows = run_follows x.machine tree w.cpus events s x.first (all_follow s events h);
+      shape = shape_is_right w whole;
+      limit = subst IsTimeout (limit_of_text x) limit_is;
+      programs = x.built.as_callbacks;
+      machine = is_that_machine x.file w x.machine s events x.built x.first h;
     }
 
 -- up to where writing failed
 pub headline_cut : {policy : List ℕ} {w : WorkloadState} {s : SimState} (x : IsBegun policy w s) (events : List Event) (t : SimState) (old new : Option (List ℕ))
-    → StopsAtFailure (names_of w) events s t old new → IsCutOff x events old new
-headline_cut x events t old new h = record {
+    → IsWorkload w → IsTimeout s.state.policy.timeout_ms → StopsAtFailure (names_of w) events s t old new → IsCutOff x events old new
+headline_cut x events t old new whole limit_is h = record {
   done = h.done;
   event = h.event;
   rest = h.rest;
   whole = h.whole;
-  headline = headline_holds x (h.done ++ h.event ∷ []) h.in_order;
+  headline = headline_holds x (h.done ++ h.event ∷ []) whole limit_is h.in_order;
   lines = h.lines;
 }
 

@@ -1,5 +1,6 @@
 mod Shapes
 pub mod Running
 mod Passing
+mod Belonging
 mod Holding
 mod Causing

@@ -1,13 +1,14 @@
 -- What the texts of a policy file and of a workload file say together: a run, with its trace and
 -- its report, or why they are refused.
-use Rattle.std.specs.Prelude.{◌≡◌, ℕ, ℤ, List, [], ◌∷◌, ◌++◌, Option, ⊤, Ok, Err, IsOk, string_bytes}
+use Rattle.std.specs.Prelude.{◌≡◌, ℕ, ℤ, false, List, [], ◌∷◌, ◌++◌, Option, ⊤, Ok, Err, IsOk, string_bytes}
+use Rattle.std.specs.List.{AllByRecursion}
 use Rattle.scx_isa_semantics.specs.declared.callbacks.Callback as callbacks
 use Rattle.scx_verify.specs.declared.faults.Fault.{Fault}
 use Rattle.scx_weights.specs.Hierarchy.{Hierarchy, idle}
 use Rattle.scx_sched_machine.specs.declared.events.Event.{Event}
-use Rattle.scx_sched_machine.specs.Policy.{PolicyState}
+use Rattle.scx_sched_machine.specs.Policy.{PolicyState, IsTimeout, AreAs}
 use Rattle.scx_sched_machine.specs.Callbacks.{AreAnswered}
-use Rattle.scx_sched_machine.specs.Start.{first_state, start_calls}
+use Rattle.scx_sched_machine.specs.Start.{is_bad_shape, first_state, start_calls}
 use Rattle.scx_sched.specs.Sim.{SimState, IsFirstState}
 use Rattle.scx_isa_semantics.specs.Results.{◌>>=◌}
 use Rattle.scx_load_files.specs.Faults.{Reading}
@@ -25,6 +26,7 @@ use Rattle.scxsim_trace.specs.Runs.{IsCutIn}
 use Rattle.scxsim_trace.specs.Report as reports
 use Rattle.scxsim_commands.specs.declared.refusal.Refusal.{Refusal}
 use Rattle.scxsim_commands.specs.declared.refusal.Refusal.TheVariants.{NoMemory, Policy, Workload, Callback, Init}
+use Rattle.scxsim_simulation.specs.Machines.{IsMachineOf}
 
 -- the policy that the text stands for begins with that state, on these processors and with these
 -- groups and tasks; no callback got stuck before the first event
@@ -73,7 +75,9 @@ run_of {policy} {w} {s} x events = machine_run x.machine (idle w.groups w.homes)
 -- exactly once on a processor or in a queue, each wait is counted, while the policy is in force
 -- no task has waited longer than the limit in the policy's text, and in no period does a group
 -- with a quota use as much as its quota and one millisecond for each processor. Each event does
--- what it alone decides.
+-- what it alone decides. The machine has a good shape, a limit of 1 to 30,000 milliseconds and
+-- programs that were verified as its callbacks, and these are, as it begins and after each event,
+-- those of the two texts.
 pub record IsOfHeadline {policy : List ℕ} {w : WorkloadState} {s : SimState}
     (x : IsBegun policy w s) (events : List Event) : Type 0 where
   pub notes : (run_of x events).notes ≡ notes_of_all s events
@@ -84,6 +88,10 @@ pub record IsOfHeadline {policy : List ℕ} {w : WorkloadState} {s : SimState}
   pub timely : NoneIsLate x.file.timeout_ms (run_of x events)
   pub bounded : EachUsageIsBounded (run_of x events)
   pub follows : EachFollows events (run_of x events).states
+  pub shape : is_bad_shape (idle w.groups w.homes) w.cpus ≡ false
+  pub limit : IsTimeout x.file.timeout_ms
+  pub programs : AreAs x.machine.callbacks
+  pub machine : AllByRecursion (IsMachineOf x.file w) (run_of x events).states
 
 -- The machine took these events up to the first one of which a line wasn't written whole, and
 -- none behind it.

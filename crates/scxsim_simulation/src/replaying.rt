@@ -71,6 +71,8 @@ pub fn replay<L: Listener, W: Out>(
         → HasFailed (W.failure_count out.old) (W.failure_count out.new) }
 {
     let run = prepare_replay(alloc, policy, events)?;
+    run.workload.is_whole();
+    run.sim.is_sound();
     let ReplayRun {
         workload,
         replayer,

@@ -49,6 +49,8 @@ pub fn report<L: Listener, W: Out>(
         → HasFailed (W.failure_count out.old) (W.failure_count out.new) }
 {
     let run = prepare(alloc, policy, workload)?;
+    run.workload.is_whole();
+    run.sim.is_sound();
     write_end(run, listener, out)?;
     Ok(true)
 }

@@ -53,6 +53,8 @@ pub fn simulate<L: Listener, W: Out>(
         → HasFailed (W.failure_count out.old) (W.failure_count out.new) }
 {
     let run = prepare(alloc, policy, workload)?;
+    run.workload.is_whole();
+    run.sim.is_sound();
     write_trace(run, listener, out)?;
     Ok(true)
 }
