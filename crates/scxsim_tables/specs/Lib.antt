@@ -1,1 +1,4 @@
+pub mod Cells
+pub mod Figures
+pub mod Values
 pub mod Tables

@@ -1,18 +1,160 @@
--- What `stats` and `stats-csv` write: a line that says what stands below it, and then the figures.
-use Rattle.std.specs.Prelude.{ℕ, Bool, true, false, List, ◌++◌, codes, Option, Some, None}
+-- The figures of a run as tables for people, with a line of heads above each.
+use Rattle.std.specs.Prelude.{ℕ, Bool, true, false, if◌then◌else◌, List, [], ◌∷◌, ◌++◌, codes, decimal, length, Option, Some, None}
+use Rattle.scx_sched_world.specs.Faults.{fault_number}
 use Rattle.scx_sched_world.specs.declared.eject.Eject.{Eject}
 use Rattle.scx_sched_world.specs.declared.eject.Eject.TheVariants as cause
+use Rattle.scxsim_statistics.specs.Lengths.{Lengths, mean, percentile}
+use Rattle.scxsim_statistics.specs.declared.gathering.Figures.{Figures}
+use Rattle.scxsim_statistics.specs.declared.groups.GroupFigures.{GroupFigures}
+use Rattle.scxsim_statistics.specs.declared.quotas.QuotaFigures.{QuotaFigures}
+use Rattle.scxsim_statistics.specs.declared.tally.CpuFigures.{CpuFigures}
+use Rattle.scxsim_statistics.specs.declared.tally.TaskFigures.{TaskFigures}
+use Rattle.scxsim_tables.specs.Cells.{left, right, numbers_right, hundredths_right, all_below}
+use Rattle.scxsim_tables.specs.Figures.{task_name, group_name, of_task, of_cpu, of_group, quota_of, has_quota}
 
--- what `stats` writes: the heads of columns above the tasks' figures, and then all the rest
-abbrev pub tables : List ℕ → List ℕ
-tables rows =
+-- ---- tasks
+
+-- how long waits were: in the mean, 99 of 100 of them, the longest, and when that began
+unfoldable pub wait_cells : Lengths → List ℕ
+wait_cells x =
+    hundredths_right 12 (mean x)
+    ++ numbers_right (percentile 99 x ∷ x.longest ∷ x.longest_since ∷ [])
+
+-- the cells of a task: its name, how long it ran, its waits, and how often it woke and stopped
+unfoldable pub task_cells : List ℕ → TaskFigures → List ℕ
+task_cells name x =
+    left 16 name ++ numbers_right (x.run ∷ x.waits.count ∷ []) ++ wait_cells x.waits
+    ++ numbers_right (x.wakes ∷ x.stopped ∷ [])
+
+-- for how long it was parked, where a group has a quota
+unfoldable pub parked_cell : Bool → TaskFigures → List ℕ
+parked_cell parked x = if parked then numbers_right (x.parked ∷ []) else []
+
+-- the line of the task of that number
+unfoldable pub task_row : Figures → ℕ → List ℕ
+task_row f t =
+    task_cells (task_name f t) (of_task f t) ++ parked_cell (has_quota f) (of_task f t)
+    ++ codes "\n"
+
+-- the end of the line of heads above the tasks
+unfoldable pub task_heads : Figures → List ℕ
+task_heads f = (if has_quota f then codes "   parked" else []) ++ codes "\n"
+
+-- the tasks, from the end of the line of their heads on
+unfoldable pub task_table : Figures → List ℕ
+task_table f = task_heads f ++ all_below (task_row f) (length f.tasks.items)
+
+-- ---- processors
+
+-- the line of a processor
+unfoldable pub cpu_line : ℕ → CpuFigures → List ℕ
+cpu_line c x =
+    left 16 (decimal c) ++ numbers_right (x.busy ∷ x.idle ∷ []) ++ right 12 (decimal x.changes)
+    ++ codes "\n"
+
+-- the line of the processor of that number
+abbrev pub cpu_row : Figures → ℕ → List ℕ
+cpu_row f c = cpu_line c (of_cpu f c)
+
+-- the processors
+unfoldable pub cpu_table : Figures → List ℕ
+cpu_table f =
+    codes "cpu                  busy     idle     changes\n"
+    ++ all_below (cpu_row f) (length f.cpus.items)
+
+-- ---- groups
+
+-- the line of a group: the share that it reached, and the one that was due to it
+unfoldable pub group_line : List ℕ → GroupFigures → List ℕ
+group_line name x =
+    left 16 name ++ hundredths_right 8 x.reached ++ codes "%" ++ hundredths_right 8 x.due
+    ++ codes "%\n"
+
+-- the line of the group of that number
+abbrev pub group_row : Figures → ℕ → List ℕ
+group_row f g = group_line (group_name f g) (of_group f g)
+
+-- the groups
+unfoldable pub group_table : Figures → List ℕ
+group_table f =
+    codes "group               share      due\n"
+    ++ all_below (group_row f) (length f.groups.items)
+
+-- ---- quotas
+
+-- the line of a group with that quota
+unfoldable pub quota_cells : List ℕ → ℕ → QuotaFigures → List ℕ
+quota_cells name quota x =
+    left 16 name ++ numbers_right (quota ∷ x.period_ms ∷ x.most ∷ x.periods ∷ [])
+    ++ right 12 (decimal x.throttled_periods) ++ right 9 (decimal x.throttled) ++ codes "\n"
+
+-- the line of a group's quota; none where it has no quota
+unfoldable pub quota_line : List ℕ → Option ℕ → QuotaFigures → List ℕ
+quota_line name None x = []
+quota_line name (Some quota) x = quota_cells name quota x
+
+-- the line of what is there
+abbrev pub quota_line_of : List ℕ → Option QuotaFigures → List ℕ
+quota_line_of name None = []
+quota_line_of name (Some x) = quota_line name x.quota_ms x
+
+-- the line of the quota of the group of that number
+abbrev pub quota_row : Figures → ℕ → List ℕ
+quota_row f g = quota_line_of (group_name f g) (quota_of f g)
+
+-- the groups that have a quota, after an empty line
+unfoldable pub quota_rows : Figures → List ℕ
+quota_rows f =
+    codes "\ngroup               quota   period     most  periods   throttled      for\n"
+    ++ all_below (quota_row f) (length f.quotas.groups.items)
+
+-- the groups that have a quota; nothing where none has one
+unfoldable pub quota_table : Figures → List ℕ
+quota_table f = if has_quota f then quota_rows f else []
+
+-- ---- the policy
+
+-- when the policy was ejected
+unfoldable pub when_ejected : ℕ → List ℕ
+when_ejected clock = codes "ejected at " ++ decimal clock ++ codes " ms: "
+
+-- when the policy was ejected, and which task waited too long
+unfoldable pub stall_end : List ℕ → ℕ → List ℕ
+stall_end name clock = when_ejected clock ++ codes "stall " ++ name ++ codes "\n"
+
+-- when the policy was ejected, for which fault, and words to that
+unfoldable pub fault_end : ℕ → ℕ → List ℕ → List ℕ
+fault_end number clock words = when_ejected clock ++ codes "fault " ++ decimal number ++ words
+
+-- whether the policy is in force at the end, or when and why it was ejected; of a fault with these
+-- words to it
+abbrev pub policy_end : Figures → Option Eject → List ℕ → List ℕ
+policy_end f None words = codes "in force\n"
+policy_end f (Some (cause.Stall t clock)) words = stall_end (task_name f t) clock
+policy_end f (Some (cause.Fault k clock)) words = fault_end (fault_number k) clock words
+
+-- the line of the policy
+unfoldable pub policy_row : Figures → List ℕ → List ℕ
+policy_row f words = codes "policy  " ++ policy_end f f.ejected words
+
+-- ---- all of them
+
+-- the tables of groups and quotas, and the line of the policy, with these words to a fault
+unfoldable pub lower_rows : Figures → List ℕ → List ℕ
+lower_rows f words = group_table f ++ quota_table f ++ codes "\n" ++ policy_row f words
+
+-- the tables of all figures, from the end of the first line on
+unfoldable pub table_rows : Figures → List ℕ → List ℕ
+table_rows f words =
+    task_table f ++ codes "\n" ++ cpu_table f ++ codes "\n" ++ lower_rows f words
+
+-- what `stats` writes of these figures: the heads of columns above the tasks' figures, and then all
+-- the rest
+abbrev pub tables : Figures → List ℕ → List ℕ
+tables f words =
     codes
     "task                  run    waits        mean      99%  longest    since    wakes  stopped"
-    ++ rows
-
--- what `stats-csv` writes: the line that names the columns, and then the lines of values
-abbrev pub values : List ℕ → List ℕ
-values rows = codes "kind,name,figure,value\n" ++ rows
+    ++ table_rows f words
 
 -- the policy was ejected for a fault of a callback
 abbrev pub is_for_fault : Option Eject → Bool

@@ -1,8 +1,17 @@
-use crate::names::{group_name, task_name};
-use crate::numbers::hundredths;
+ghost use Rattle.std.specs.Prelude.{◌<◌, length, Bool};
+ghost use Rattle.scxsim_text.specs.Texts.{Puts};
+ghost use Rattle.scxsim_tables.specs.Cells.{all_below};
+ghost use Rattle.scxsim_tables.specs.Tables.{wait_cells, task_cells, parked_cell, task_row, task_heads, task_table, cpu_line, cpu_row, cpu_table, group_line, group_row, group_table, quota_cells, quota_line, quota_line_of, quota_row, quota_rows, quota_table, when_ejected, stall_end, fault_end, policy_end, policy_row, lower_rows, table_rows};
+
+use crate::names::{group_name, has_quota, task_name};
+use crate::numbers::{
+    write_hundredths_right, write_left, write_number_left, write_number_right, write_numbers,
+};
 use scx_sched::{Eject, Fault};
 use scxsim_faults::{FaultPlace, write_call, write_reason};
-use scxsim_statistics::{CpuFigures, Figures, GroupFigures, QuotaFigures, TaskFigures};
+use scxsim_statistics::{
+    CpuFigures, Figures, GroupFigures, LengthCounts, QuotaFigures, TaskFigures,
+};
 use scxsim_text::Text;
 use scxsim_views::fault_words;
 
@@ -17,49 +26,97 @@ const CPUS: &str = "cpu                  busy     idle     changes\n";
 
 const GROUPS: &str = "group               share      due\n";
 
-const QUOTAS: &str = "group               quota   period     most  periods   throttled      for\n";
+const QUOTAS: &str =
+    "\ngroup               quota   period     most  periods   throttled      for\n";
 
-/// Makes the figures tables for people, from the end of the first line on.
-pub(crate) fn write_tables(figures: &Figures, place: Option<FaultPlace>, page: &mut Text) {
+/// Makes the figures tables for people, from the end of the first line on, with these words to the fault for
+/// which the policy was ejected, if it was for one.
+#[tactic(auto, unfolding(crate::specs::Tables::table_rows))]
+pub(crate) fn write_tables(figures: &Figures, words: &str, page: &mut Text)
+    ensures { Puts page.old (table_rows figures.now words.now) page.new }
+{
     write_tasks(figures, page);
     page.push("\n");
-    write_cpus(figures.cpus.as_slice(), page);
+    write_cpus(figures, page);
     page.push("\n");
+    write_lower(figures, words, page);
+}
+
+/// Writes the tables of groups and quotas, and the line of the policy.
+#[tactic(auto, unfolding(crate::specs::Tables::lower_rows))]
+fn write_lower(figures: &Figures, words: &str, page: &mut Text)
+    ensures { Puts page.old (lower_rows figures.now words.now) page.new }
+{
     write_groups(figures, page);
-    if figures.quotas.are_some() {
-        page.push("\n");
-        write_quotas(figures, page);
-    }
+    write_quotas(figures, page);
     page.push("\n");
-    write_policy(figures, place, page);
+    write_policy(figures, words, page);
 }
 
 /// Writes whether the policy is in force at the end, or when and why it was ejected.
-fn write_policy(figures: &Figures, place: Option<FaultPlace>, page: &mut Text) {
+#[tactic(auto, unfolding(crate::specs::Tables::policy_row))]
+fn write_policy(figures: &Figures, words: &str, page: &mut Text)
+    ensures { Puts page.old (policy_row figures.now words.now) page.new }
+{
     page.push("policy  ");
-    let ejected = figures.ejected;
+    write_end(figures, figures.ejected, words, page);
+}
+
+fn write_end(figures: &Figures, ejected: Option<Eject>, words: &str, page: &mut Text)
+    ensures { Puts page.old (policy_end figures.now ejected words.now) page.new }
+{
     match ejected {
         None => page.push("in force\n"),
         Some(Eject::Stall(task, clock)) => {
-            page.number("ejected at ", clock);
-            page.push(" ms: stall ");
-            page.push(task_name(figures, task as usize));
-            page.push("\n");
+            write_stall(task_name(figures, task as usize), clock, page);
         }
-        Some(Eject::Fault(fault, clock)) => {
-            page.number("ejected at ", clock);
-            page.number(" ms: fault ", u64::from(fault.number()));
-            match place {
-                Some(place) => write_fault(figures, place, page),
-                None => write_words(fault, page),
-            }
-        }
+        Some(Eject::Fault(fault, clock)) => write_fault_end(fault.number(), clock, words, page),
+    }
+}
+
+#[tactic(auto, unfolding(crate::specs::Tables::stall_end))]
+fn write_stall(name: &str, clock: u64, page: &mut Text)
+    ensures { Puts page.old (stall_end name.now clock) page.new }
+{
+    write_when(clock, page);
+    page.push("stall ");
+    page.push(name);
+    page.push("\n");
+}
+
+#[tactic(auto, unfolding(crate::specs::Tables::fault_end))]
+fn write_fault_end(number: u8, clock: u64, words: &str, page: &mut Text)
+    ensures { Puts page.old (fault_end number clock words.now) page.new }
+{
+    write_when(clock, page);
+    page.number("fault ", u64::from(number));
+    page.push(words);
+}
+
+#[tactic(auto, unfolding(crate::specs::Tables::when_ejected))]
+fn write_when(clock: u64, page: &mut Text)
+    ensures { Puts page.old (when_ejected clock) page.new }
+{
+    page.number("ejected at ", clock);
+    page.push(" ms: ");
+}
+
+/// Writes what is said of the fault for which the policy was ejected: where it came, if that is known, and what
+/// it is.
+pub(crate) fn write_fault(figures: &Figures, place: Option<FaultPlace>, words: &mut Text) {
+    let ejected = figures.ejected;
+    match ejected {
+        None | Some(Eject::Stall(_, _)) => {}
+        Some(Eject::Fault(fault, _)) => match place {
+            Some(place) => write_place(figures, place, words),
+            None => write_words(fault, words),
+        },
     }
 }
 
 /// Writes in which callback and at which slot a fault came, and what it is: of a call in a few words, of an
 /// answer which one it was.
-fn write_fault(figures: &Figures, place: FaultPlace, page: &mut Text) {
+fn write_place(figures: &Figures, place: FaultPlace, page: &mut Text) {
     page.push(" in ");
     page.push(place.callback.name());
     page.number(" at slot ", place.slot as u64);
@@ -80,77 +137,205 @@ fn write_words(fault: Fault, page: &mut Text) {
     page.push(")\n");
 }
 
-fn write_tasks(figures: &Figures, page: &mut Text) {
-    let are_parked = figures.quotas.are_some();
-    if are_parked {
+#[tactic(auto, unfolding(crate::specs::Tables::task_table))]
+fn write_tasks(figures: &Figures, page: &mut Text)
+    ensures { Puts page.old (task_table figures.now) page.new }
+{
+    write_heads(figures, page);
+    write_task_rows(figures, page);
+}
+
+/// Writes the end of the heads above the tasks.
+#[tactic(auto, unfolding(crate::specs::Tables::task_heads))]
+fn write_heads(figures: &Figures, page: &mut Text)
+    ensures { Puts page.old (task_heads figures.now) page.new }
+{
+    if has_quota(figures) {
         page.push(PARKED);
-    }
-    page.push("\n");
-    for (number, task) in figures.tasks.iter().enumerate() {
-        write_task(task_name(figures, number), task, page);
-        if are_parked {
-            write_numbers(&[task.parked], page);
-        }
+        page.push("\n");
+    } else {
         page.push("\n");
     }
 }
 
-fn write_task(name: &str, task: &TaskFigures, page: &mut Text) {
-    let waits = &task.waits;
-    page.left(name, 16);
-    write_numbers(&[task.run, waits.count()], page);
-    page.right(hundredths(waits.mean()).as_str(), 12);
-    let waited = [waits.percentile(99), waits.longest(), waits.longest_since()];
-    write_numbers(&waited, page);
+#[tactic(auto, using(crate::proofs::Rows::puts_next))]
+fn write_task_rows(figures: &Figures, page: &mut Text)
+    ensures { Puts page.old
+        (all_below (task_row figures.now) (length figures.now.tasks.items)) page.new }
+{
+    for number in 0..figures.tasks.len() {
+        write_task(figures, number, page);
+    }
+}
+
+/// Writes the line of the task of that number.
+#[tactic(auto, unfolding(crate::specs::Tables::task_row))]
+fn write_task(figures: &Figures, number: usize, page: &mut Text)
+    requires { number < length figures.now.tasks.items }
+    ensures { Puts page.old (task_row figures.now number) page.new }
+{
+    let task = &figures.tasks[number];
+    write_cells(task_name(figures, number), task, page);
+    write_parked(has_quota(figures), task, page);
+    page.push("\n");
+}
+
+#[tactic(auto, unfolding(crate::specs::Tables::task_cells))]
+fn write_cells(name: &str, task: &TaskFigures, page: &mut Text)
+    ensures { Puts page.old (task_cells name.now task.now) page.new }
+{
+    write_left(name, 16, page);
+    write_numbers(&[task.run, task.waits.count()], page);
+    write_waits(&task.waits, page);
     write_numbers(&[task.wakes, task.stopped], page);
 }
 
-fn write_numbers(numbers: &[u64], page: &mut Text) {
-    for number in numbers {
-        page.number_right(*number, 9);
+/// Writes how long a task's waits were.
+#[tactic(auto, unfolding(crate::specs::Tables::wait_cells))]
+fn write_waits(waits: &LengthCounts, page: &mut Text)
+    ensures { Puts page.old (wait_cells waits.now) page.new }
+{
+    write_hundredths_right(waits.mean(), 12, page);
+    let waited = [waits.percentile(99), waits.longest(), waits.longest_since()];
+    write_numbers(&waited, page);
+}
+
+/// Writes for how long a task was parked, where a group has a quota.
+#[tactic(auto, unfolding(crate::specs::Tables::parked_cell), using(scxsim_text::proofs::Pieces::puts_nothing))]
+fn write_parked(are_parked: bool, task: &TaskFigures, page: &mut Text)
+    ensures { Puts page.old (parked_cell are_parked task.now) page.new }
+{
+    if are_parked {
+        write_numbers(&[task.parked], page);
     }
 }
 
-fn write_cpus(cpus: &[CpuFigures], page: &mut Text) {
+#[tactic(auto, unfolding(crate::specs::Tables::cpu_table))]
+fn write_cpus(figures: &Figures, page: &mut Text)
+    ensures { Puts page.old (cpu_table figures.now) page.new }
+{
     page.push(CPUS);
-    for (number, cpu) in cpus.iter().enumerate() {
-        page.number_left(number as u64, 16);
-        write_numbers(&[cpu.busy, cpu.idle], page);
-        page.number_right(cpu.changes, 12);
-        page.push("\n");
+    write_cpu_rows(figures, page);
+}
+
+#[tactic(auto, using(crate::proofs::Rows::puts_next))]
+fn write_cpu_rows(figures: &Figures, page: &mut Text)
+    ensures { Puts page.old
+        (all_below (cpu_row figures.now) (length figures.now.cpus.items)) page.new }
+{
+    for number in 0..figures.cpus.len() {
+        write_cpu(number as u64, figures.cpus[number], page);
     }
 }
 
-fn write_groups(figures: &Figures, page: &mut Text) {
+#[tactic(auto, unfolding(crate::specs::Tables::cpu_line))]
+fn write_cpu(number: u64, cpu: CpuFigures, page: &mut Text)
+    ensures { Puts page.old (cpu_line number cpu) page.new }
+{
+    write_number_left(number, 16, page);
+    write_numbers(&[cpu.busy, cpu.idle], page);
+    write_number_right(cpu.changes, 12, page);
+    page.push("\n");
+}
+
+#[tactic(auto, unfolding(crate::specs::Tables::group_table))]
+fn write_groups(figures: &Figures, page: &mut Text)
+    ensures { Puts page.old (group_table figures.now) page.new }
+{
     page.push(GROUPS);
-    for (number, group) in figures.groups.iter().enumerate() {
-        write_group(group_name(figures, number), group, page);
+    write_group_rows(figures, page);
+}
+
+#[tactic(auto, using(crate::proofs::Rows::puts_next))]
+fn write_group_rows(figures: &Figures, page: &mut Text)
+    ensures { Puts page.old
+        (all_below (group_row figures.now) (length figures.now.groups.items)) page.new }
+{
+    for number in 0..figures.groups.len() {
+        write_group(group_name(figures, number), figures.groups[number], page);
     }
 }
 
-fn write_group(name: &str, group: &GroupFigures, page: &mut Text) {
-    page.left(name, 16);
-    page.right(hundredths(group.reached).as_str(), 8);
+#[tactic(auto, unfolding(crate::specs::Tables::group_line))]
+fn write_group(name: &str, group: GroupFigures, page: &mut Text)
+    ensures { Puts page.old (group_line name.now group) page.new }
+{
+    write_left(name, 16, page);
+    write_hundredths_right(group.reached, 8, page);
     page.push("%");
-    page.right(hundredths(group.due).as_str(), 8);
+    write_hundredths_right(group.due, 8, page);
     page.push("%\n");
 }
 
-/// Writes a line for each group that has a quota.
-fn write_quotas(figures: &Figures, page: &mut Text) {
-    page.push(QUOTAS);
-    for (number, group) in figures.quotas.groups.iter().enumerate() {
-        if let Some(quota_ms) = group.quota_ms {
-            write_quota(group_name(figures, number), quota_ms, group, page);
-        }
+/// Writes a line for each group that has a quota, where one has.
+#[tactic(auto, unfolding(crate::specs::Tables::quota_table), using(scxsim_text::proofs::Pieces::puts_nothing))]
+fn write_quotas(figures: &Figures, page: &mut Text)
+    ensures { Puts page.old (quota_table figures.now) page.new }
+{
+    if has_quota(figures) {
+        write_quota_table(figures, page);
     }
 }
 
-fn write_quota(name: &str, quota_ms: u32, group: &QuotaFigures, page: &mut Text) {
-    page.left(name, 16);
-    write_numbers(&[u64::from(quota_ms), u64::from(group.period_ms)], page);
-    write_numbers(&[group.most, group.periods], page);
-    page.number_right(group.throttled_periods, 12);
-    page.number_right(group.throttled, 9);
+#[tactic(auto, unfolding(crate::specs::Tables::quota_rows))]
+fn write_quota_table(figures: &Figures, page: &mut Text)
+    ensures { Puts page.old (quota_rows figures.now) page.new }
+{
+    page.push(QUOTAS);
+    write_quota_rows(figures, page);
+}
+
+#[tactic(auto, using(crate::proofs::Rows::puts_next))]
+fn write_quota_rows(figures: &Figures, page: &mut Text)
+    ensures { Puts page.old
+        (all_below (quota_row figures.now) (length figures.now.quotas.groups.items)) page.new }
+{
+    for number in 0..figures.quotas.groups.len() {
+        write_quota_at(figures, number, page);
+    }
+}
+
+/// Writes the line of the quota of the group of that number.
+fn write_quota_at(figures: &Figures, number: usize, page: &mut Text)
+    ensures { Puts page.old (quota_row figures.now number) page.new }
+{
+    let quota = figures.quotas.groups.get(number).copied();
+    write_quota_of(group_name(figures, number), quota, page);
+}
+
+/// Writes the line of a quota, if its figures are there.
+#[tactic(auto, using(scxsim_text::proofs::Pieces::puts_nothing))]
+fn write_quota_of(name: &str, quota: Option<QuotaFigures>, page: &mut Text)
+    ensures { Puts page.old (quota_line_of name.now quota) page.new }
+{
+    if let Some(quota) = quota {
+        write_quota(name, quota, page);
+    }
+}
+
+/// Writes the line of a group's quota, if it has one.
+#[tactic(auto, unfolding(crate::specs::Tables::quota_line), using(scxsim_text::proofs::Pieces::puts_nothing))]
+fn write_quota(name: &str, group: QuotaFigures, page: &mut Text)
+    ensures { Puts page.old (quota_line name.now group.quota_ms group) page.new }
+{
+    if let Some(quota_ms) = group.quota_ms {
+        write_quota_cells(name, quota_ms, group, page);
+    }
+}
+
+#[tactic(auto, unfolding(crate::specs::Tables::quota_cells))]
+fn write_quota_cells(name: &str, quota_ms: u32, group: QuotaFigures, page: &mut Text)
+    ensures { Puts page.old (quota_cells name.now quota_ms group) page.new }
+{
+    let limits = [
+        u64::from(quota_ms),
+        u64::from(group.period_ms),
+        group.most,
+        group.periods,
+    ];
+    write_left(name, 16, page);
+    write_numbers(&limits, page);
+    write_number_right(group.throttled_periods, 12, page);
+    write_number_right(group.throttled, 9, page);
     page.push("\n");
 }

@@ -1,13 +1,16 @@
-ghost use Rattle.std.specs.Prelude.{◌≡◌, ◌++◌, ℕ, List, true, is_some, Err, IfOk, IfErr, OnOk, OnErr};
+ghost use Rattle.std.specs.Prelude.{◌≡◌, ◌++◌, ℕ, List, true, is_some, Err, IfOk, IfErr, OnOk, OnErr, string_bytes};
 ghost use Rattle.std.specs.Io.KnownBytes.{Appends};
-ghost use Rattle.scxsim_output.specs.Output.{HasFailed};
+ghost use Rattle.scxsim_output.specs.Output.{HasFailed, AppendsBeginning};
 ghost use Rattle.scxsim_commands.specs.Outcome.{IfRefused, IsRefused};
 ghost use Rattle.scxsim_simulation.specs.Runs.{IsCause};
 ghost use Rattle.scxsim_simulation.specs.Replays.{IsReplayCause};
-ghost use Rattle.scxsim_tables.specs.Tables.{tables, values, is_for_fault};
+ghost use Rattle.scxsim_statistics.specs.Figures.{AreOfTexts, AreOfEvents};
+ghost use Rattle.scxsim_statistics.specs.declared.gathering.Figures.{Figures as AllFigures};
+ghost use Rattle.scxsim_tables.specs.Tables.{table_rows, tables, is_for_fault};
+ghost use Rattle.scxsim_tables.specs.Values.{value_rows, values};
 
 use crate::listing::{COLUMNS, write_list};
-use crate::tables::{TASKS, write_tables};
+use crate::tables::{TASKS, write_fault, write_tables};
 use scx_sched::Eject;
 use scxsim_commands::{Fault, Refusal};
 use scxsim_faults::{FaultPlace, find_fault};
@@ -30,13 +33,20 @@ pub fn stats<L: Listener, W: Out>(
     listener: &mut L,
     out: &mut W,
 ) -> Result<bool, Fault>
-    ensures done { IfOk result (λ answer. (answer ≡ true) × (rows : List ℕ)
-        × Appends (W.contents out.old) (W.contents out.new) (tables rows)) }
+    // The tables are those of the run's figures, with some words to a fault.
+    ensures done { IfOk result (λ answer. (answer ≡ true)
+        × (f : AllFigures) × AreOfTexts policy.now workload.now f × (words : List ℕ)
+        × Appends (W.contents out.old) (W.contents out.new) (tables f words)) }
     ensures unfailed { OnOk result (W.failure_count out.new ≡ W.failure_count out.old) }
 
     // A refusal has its cause in the texts, and comes before any byte is written.
     ensures refused { IfRefused result (IsCause policy.now workload.now) }
     ensures quiet { IsRefused result → out.new ≡ out.old }
+
+    // The tables are cut off where writing fails.
+    ensures cut { result ≡ Err Fault.WriteFailed
+        → (f : AllFigures) × AreOfTexts policy.now workload.now f × (words : List ℕ)
+        × AppendsBeginning (W.contents out.old) (W.contents out.new) (tables f words) }
     ensures counted { result ≡ Err Fault.WriteFailed
         → HasFailed (W.failure_count out.old) (W.failure_count out.new) }
 {
@@ -57,13 +67,20 @@ pub fn stats_csv<L: Listener, W: Out>(
     listener: &mut L,
     out: &mut W,
 ) -> Result<bool, Fault>
-    ensures done { IfOk result (λ answer. (answer ≡ true) × (rows : List ℕ)
-        × Appends (W.contents out.old) (W.contents out.new) (values rows)) }
+    // The values are those of the run's figures.
+    ensures done { IfOk result (λ answer. (answer ≡ true)
+        × (f : AllFigures) × AreOfTexts policy.now workload.now f
+        × Appends (W.contents out.old) (W.contents out.new) (values f)) }
     ensures unfailed { OnOk result (W.failure_count out.new ≡ W.failure_count out.old) }
 
     // A refusal has its cause in the texts, and comes before any byte is written.
     ensures refused { IfRefused result (IsCause policy.now workload.now) }
     ensures quiet { IsRefused result → out.new ≡ out.old }
+
+    // The values are cut off where writing fails.
+    ensures cut { result ≡ Err Fault.WriteFailed
+        → (f : AllFigures) × AreOfTexts policy.now workload.now f
+        × AppendsBeginning (W.contents out.old) (W.contents out.new) (values f) }
     ensures counted { result ≡ Err Fault.WriteFailed
         → HasFailed (W.failure_count out.old) (W.failure_count out.new) }
 {
@@ -85,13 +102,20 @@ pub fn replay_csv<L: Listener, W: Out>(
     listener: &mut L,
     out: &mut W,
 ) -> Result<bool, Fault>
-    ensures done { IfOk result (λ answer. (answer ≡ true) × (rows : List ℕ)
-        × Appends (W.contents out.old) (W.contents out.new) (values rows)) }
+    // The values are those of the run's figures.
+    ensures done { IfOk result (λ answer. (answer ≡ true)
+        × (f : AllFigures) × AreOfEvents policy.now events.now f
+        × Appends (W.contents out.old) (W.contents out.new) (values f)) }
     ensures unfailed { OnOk result (W.failure_count out.new ≡ W.failure_count out.old) }
 
     // A refusal has its cause in the texts, and comes before any byte is written.
     ensures refused { IfRefused result (IsReplayCause policy.now events.now) }
     ensures quiet { IsRefused result → out.new ≡ out.old }
+
+    // The values are cut off where writing fails.
+    ensures cut { result ≡ Err Fault.WriteFailed
+        → (f : AllFigures) × AreOfEvents policy.now events.now f
+        × AppendsBeginning (W.contents out.old) (W.contents out.new) (values f) }
     ensures counted { result ≡ Err Fault.WriteFailed
         → HasFailed (W.failure_count out.old) (W.failure_count out.new) }
 {
@@ -107,7 +131,9 @@ fn replay_values<L: Listener>(
     events: &str,
     listener: &mut L,
 ) -> Result<String, Refusal>
-    ensures { IfErr result (IsReplayCause policy.now events.now) }
+    ensures rows { IfOk result (λ rows. (f : AllFigures) × AreOfEvents policy.now events.now f
+        × (string_bytes rows ≡ value_rows f)) }
+    ensures refused { IfErr result (IsReplayCause policy.now events.now) }
 {
     let all = replay_figures(alloc, policy, events, listener)?;
     let rows = value_rows(alloc, &all);
@@ -120,6 +146,8 @@ fn write_rows<W: Out>(head: &str, rows: &str, out: &mut W) -> Result<(), Failed>
     ensures ok { OnOk result
         (Appends (W.contents out.old) (W.contents out.new) (head.now ++ rows.now)) }
     ensures ok_failures { OnOk result (W.failure_count out.new ≡ W.failure_count out.old) }
+    ensures err { OnErr result
+        (AppendsBeginning (W.contents out.old) (W.contents out.new) (head.now ++ rows.now)) }
     ensures err_failures { OnErr result
         (HasFailed (W.failure_count out.old) (W.failure_count out.new)) }
 {
@@ -134,7 +162,9 @@ fn tables_of<L: Listener>(
     workload: &str,
     listener: &mut L,
 ) -> Result<String, Refusal>
-    ensures { IfErr result (IsCause policy.now workload.now) }
+    ensures rows { IfOk result (λ rows. (f : AllFigures) × AreOfTexts policy.now workload.now f
+        × (words : List ℕ) × (string_bytes rows ≡ table_rows f words)) }
+    ensures refused { IfErr result (IsCause policy.now workload.now) }
 {
     let all = figures(alloc, policy, workload, listener)?;
     let rows = table_rows(alloc, policy, &all);
@@ -142,11 +172,23 @@ fn tables_of<L: Listener>(
     Ok(rows?)
 }
 
-fn table_rows(alloc: Global, policy: &str, figures: &Figures) -> Result<String, AllocError> {
-    let place = place_of_fault(alloc, policy, figures)?;
+fn table_rows(alloc: Global, policy: &str, figures: &Figures) -> Result<String, AllocError>
+    ensures { IfOk result (λ rows. (words : List ℕ)
+        × (string_bytes rows ≡ table_rows figures.now words)) }
+{
+    let words = words_of_fault(alloc, policy, figures)?;
     let mut rows = Text::new(alloc);
-    write_tables(figures, place, &mut rows);
+    write_tables(figures, words.as_str(), &mut rows);
+    drop(words);
     rows.finish()
+}
+
+/// What is said of the fault for which the policy was ejected, if it was ejected for one.
+fn words_of_fault(alloc: Global, policy: &str, figures: &Figures) -> Result<String, AllocError> {
+    let place = place_of_fault(alloc, policy, figures)?;
+    let mut words = Text::new(alloc);
+    write_fault(figures, place, &mut words);
+    words.finish()
 }
 
 /// Where the fault came for which the policy was ejected, if it was ejected for one.
@@ -175,7 +217,9 @@ fn values_of<L: Listener>(
     workload: &str,
     listener: &mut L,
 ) -> Result<String, Refusal>
-    ensures { IfErr result (IsCause policy.now workload.now) }
+    ensures rows { IfOk result (λ rows. (f : AllFigures) × AreOfTexts policy.now workload.now f
+        × (string_bytes rows ≡ value_rows f)) }
+    ensures refused { IfErr result (IsCause policy.now workload.now) }
 {
     let all = figures(alloc, policy, workload, listener)?;
     let rows = value_rows(alloc, &all);
@@ -183,7 +227,9 @@ fn values_of<L: Listener>(
     Ok(rows?)
 }
 
-fn value_rows(alloc: Global, figures: &Figures) -> Result<String, AllocError> {
+fn value_rows(alloc: Global, figures: &Figures) -> Result<String, AllocError>
+    ensures { IfOk result (λ rows. string_bytes rows ≡ value_rows figures.now) }
+{
     let mut rows = Text::new(alloc);
     write_list(figures, &mut rows);
     rows.finish()

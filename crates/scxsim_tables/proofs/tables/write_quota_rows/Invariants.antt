@@ -1,0 +1,7 @@
+use Rattle.scxsim_text.specs.Texts.{Puts}
+use Rattle.scxsim_tables.specs.Cells.{all_below}
+use Rattle.scxsim_tables.specs.Tables.{quota_row}
+use Rattle.scxsim_tables.proofs.tables.write_quota_rows.Given as goal
+
+abbrev pub invariant-loop-number : goal.invariant-loop-number
+invariant-loop-number l = Puts l.initial.page (all_below (quota_row l.figures) l.number) l.page

@@ -1,0 +1,198 @@
+-- The figures of a run as comma-separated values, a line each: a kind, a name, which figure it is,
+-- and its value.
+use Rattle.std.specs.Prelude.{ℕ, ◌==◌, if◌then◌else◌, List, [], ◌++◌, codes, decimal, length, Option, Some, None, string_bytes}
+use Rattle.scx_sched_world.specs.Faults.{fault_number}
+use Rattle.scx_sched_world.specs.declared.eject.Eject.{Eject}
+use Rattle.scx_sched_world.specs.declared.eject.Eject.TheVariants as cause
+use Rattle.scxsim_statistics.specs.Bursts.{slowdown}
+use Rattle.scxsim_statistics.specs.Lengths.{mean, percentile}
+use Rattle.scxsim_statistics.specs.declared.bursts.BurstFigures.{BurstFigures}
+use Rattle.scxsim_statistics.specs.declared.gathering.Figures.{Figures}
+use Rattle.scxsim_statistics.specs.declared.groups.GroupFigures.{GroupFigures}
+use Rattle.scxsim_statistics.specs.declared.quotas.QuotaFigures.{QuotaFigures}
+use Rattle.scxsim_statistics.specs.declared.tally.CpuFigures.{CpuFigures}
+use Rattle.scxsim_statistics.specs.declared.tally.TaskFigures.{TaskFigures}
+use Rattle.scxsim_tables.specs.Cells.{hundredths, all_below}
+use Rattle.scxsim_tables.specs.Figures.{task_name, group_name, of_task, bursts_of, of_cpu, lost_of, of_group, quota_of, has_quota}
+
+-- what stands before a value, each with a comma after it
+unfoldable pub start : List ℕ → List ℕ → List ℕ → List ℕ
+start kind name figure = kind ++ codes "," ++ name ++ codes "," ++ figure ++ codes ","
+
+-- the line of a figure
+unfoldable pub line : List ℕ → List ℕ → List ℕ → List ℕ → List ℕ
+line kind name figure value = start kind name figure ++ value ++ codes "\n"
+
+-- ---- tasks
+
+-- how long a task ran, how often it waited, and for how long in the mean and in 99 of 100 waits
+unfoldable pub wait_lines : List ℕ → TaskFigures → List ℕ
+wait_lines name x =
+    line (codes "task") name (codes "run_ms") (decimal x.run)
+    ++ line (codes "task") name (codes "waits") (decimal x.waits.count)
+    ++ line (codes "task") name (codes "mean_wait_ms") (hundredths (mean x.waits))
+    ++ line (codes "task") name (codes "wait_99_percent_ms") (decimal (percentile 99 x.waits))
+
+-- its longest wait, and when that began
+unfoldable pub longest_lines : List ℕ → TaskFigures → List ℕ
+longest_lines name x =
+    line (codes "task") name (codes "longest_wait_ms") (decimal x.waits.longest)
+    ++ line (codes "task") name (codes "longest_wait_since_ms") (decimal x.waits.longest_since)
+
+-- its longest wait, how often it woke, and how often it had to stop
+unfoldable pub stop_lines : List ℕ → TaskFigures → List ℕ
+stop_lines name x =
+    longest_lines name x ++ line (codes "task") name (codes "wakes") (decimal x.wakes)
+    ++ line (codes "task") name (codes "stopped") (decimal x.stopped)
+
+-- which lengths 90 and 99 of 100 bursts of a task don't exceed
+unfoldable pub most_lines : List ℕ → BurstFigures → List ℕ
+most_lines name x =
+    line (codes "task") name (codes "burst_90_percent_ms") (decimal (percentile 90 x.lengths))
+    ++ line (codes "task") name (codes "burst_99_percent_ms") (decimal (percentile 99 x.lengths))
+
+-- which lengths 50, 90 and 99 of 100 don't exceed
+unfoldable pub percent_lines : List ℕ → BurstFigures → List ℕ
+percent_lines name x =
+    line (codes "task") name (codes "burst_50_percent_ms") (decimal (percentile 50 x.lengths))
+    ++ most_lines name x
+
+-- how long its bursts were
+unfoldable pub length_lines : List ℕ → BurstFigures → List ℕ
+length_lines name x =
+    line (codes "task") name (codes "mean_burst_ms") (hundredths (mean x.lengths))
+    ++ percent_lines name x
+    ++ line (codes "task") name (codes "longest_burst_ms") (decimal x.lengths.longest)
+    ++ line (codes "task") name (codes "slowdown") (hundredths (slowdown x))
+
+-- how many bursts of a task finished and, if there are some, how long they were
+unfoldable pub burst_lines : List ℕ → BurstFigures → List ℕ
+burst_lines name x =
+    line (codes "task") name (codes "bursts") (decimal x.lengths.count)
+    ++ (if x.lengths.count == 0 then [] else length_lines name x)
+
+-- the lines of its bursts, if they are there
+abbrev pub burst_lines_of : List ℕ → Option BurstFigures → List ℕ
+burst_lines_of name None = []
+burst_lines_of name (Some x) = burst_lines name x
+
+-- the lines of the task of that number
+unfoldable pub task_values : Figures → ℕ → List ℕ
+task_values f t =
+    wait_lines (task_name f t) (of_task f t) ++ stop_lines (task_name f t) (of_task f t)
+    ++ burst_lines_of (task_name f t) (bursts_of f t)
+
+-- ---- processors
+
+-- for how long a processor ran tasks and ran none, and how often another task began on it
+unfoldable pub cpu_lines : List ℕ → CpuFigures → List ℕ
+cpu_lines name x =
+    line (codes "cpu") name (codes "busy_ms") (decimal x.busy)
+    ++ line (codes "cpu") name (codes "idle_ms") (decimal x.idle)
+    ++ line (codes "cpu") name (codes "changes") (decimal x.changes)
+
+-- for how long it was idle while a task waited, if that is there
+unfoldable pub lost_line : List ℕ → Option ℕ → List ℕ
+lost_line name None = []
+lost_line name (Some ms) = line (codes "cpu") name (codes "idle_while_waiting_ms") (decimal ms)
+
+-- the lines of the processor of that number
+unfoldable pub cpu_values : Figures → ℕ → List ℕ
+cpu_values f c = cpu_lines (decimal c) (of_cpu f c) ++ lost_line (decimal c) (lost_of f c)
+
+-- ---- groups
+
+-- the share that a group reached, and the one that was due to it
+unfoldable pub group_lines : List ℕ → GroupFigures → List ℕ
+group_lines name x =
+    line (codes "group") name (codes "share_percent") (hundredths x.reached)
+    ++ line (codes "group") name (codes "due_percent") (hundredths x.due)
+
+-- the lines of the group of that number
+abbrev pub group_values : Figures → ℕ → List ℕ
+group_values f g = group_lines (group_name f g) (of_group f g)
+
+-- ---- quotas
+
+-- for how long the task of that number was parked
+abbrev pub parked_value : Figures → ℕ → List ℕ
+parked_value f t =
+    line (codes "task") (task_name f t) (codes "parked_ms") (decimal (of_task f t).parked)
+
+-- how much a group may run in a period, and the most that it ran in one
+unfoldable pub use_lines : List ℕ → ℕ → QuotaFigures → List ℕ
+use_lines name quota x =
+    line (codes "group") name (codes "quota_ms") (decimal quota)
+    ++ line (codes "group") name (codes "period_ms") (decimal x.period_ms)
+    ++ line (codes "group") name (codes "most_in_a_period_ms") (decimal x.most)
+
+-- in how many periods the quota was used up, and for how long
+unfoldable pub throttle_lines : List ℕ → QuotaFigures → List ℕ
+throttle_lines name x =
+    line (codes "group") name (codes "throttled_periods") (decimal x.throttled_periods)
+    ++ line (codes "group") name (codes "throttled_ms") (decimal x.throttled)
+
+-- how many periods there were, in how many of them the quota was used up, and for how long
+unfoldable pub period_lines : List ℕ → QuotaFigures → List ℕ
+period_lines name x =
+    line (codes "group") name (codes "periods") (decimal x.periods) ++ throttle_lines name x
+
+-- the lines of a group's quota; none where it has no quota
+unfoldable pub quota_lines : List ℕ → Option ℕ → QuotaFigures → List ℕ
+quota_lines name None x = []
+quota_lines name (Some quota) x = use_lines name quota x ++ period_lines name x
+
+-- the lines of what is there
+abbrev pub quota_lines_of : List ℕ → Option QuotaFigures → List ℕ
+quota_lines_of name None = []
+quota_lines_of name (Some x) = quota_lines name x.quota_ms x
+
+-- the lines of the quota of the group of that number
+abbrev pub quota_values : Figures → ℕ → List ℕ
+quota_values f g = quota_lines_of (group_name f g) (quota_of f g)
+
+-- how long each task was parked, and what became of each quota; nothing where no group has one
+unfoldable pub limit_values : Figures → List ℕ
+limit_values f =
+    if has_quota f then
+    all_below (parked_value f) (length f.tasks.items)
+    ++ all_below (quota_values f) (length f.quotas.groups.items)
+    else []
+
+-- ---- the policy
+
+-- whether the policy is in force at the end, or for which task or fault it was ejected
+abbrev pub ending : Figures → Option Eject → List ℕ
+ending f None = codes "in force"
+ending f (Some (cause.Stall t clock)) = codes "stall " ++ task_name f t
+ending f (Some (cause.Fault k clock)) = codes "fault " ++ decimal (fault_number k)
+
+-- when it was ejected, if it was
+unfoldable pub ejected_line : List ℕ → Option Eject → List ℕ
+ejected_line name None = []
+ejected_line name (Some (cause.Stall t clock)) =
+    line (codes "policy") name (codes "ejected_at_ms") (decimal clock)
+ejected_line name (Some (cause.Fault k clock)) =
+    line (codes "policy") name (codes "ejected_at_ms") (decimal clock)
+
+-- for how long some processor was idle while a task waited, and how the policy ended
+unfoldable pub policy_values : Figures → List ℕ
+policy_values f =
+    line (codes "policy") (string_bytes f.policy_name) (codes "idle_while_waiting_ms")
+    (decimal f.losses.anywhere)
+    ++ line (codes "policy") (string_bytes f.policy_name) (codes "ended") (ending f f.ejected)
+    ++ ejected_line (string_bytes f.policy_name) f.ejected
+
+-- ---- all of them
+
+-- the lines of all figures
+unfoldable pub value_rows : Figures → List ℕ
+value_rows f =
+    all_below (task_values f) (length f.tasks.items)
+    ++ all_below (cpu_values f) (length f.cpus.items)
+    ++ all_below (group_values f) (length f.groups.items)
+    ++ limit_values f ++ policy_values f
+
+-- what `stats-csv` writes of these figures: the line that names the columns, and then their lines
+abbrev pub values : Figures → List ℕ
+values f = codes "kind,name,figure,value\n" ++ value_rows f
