@@ -506,8 +506,14 @@ INSTEAD u32 bpf_get_prandom_u32(void)
  * A map that is a queue or a stack is an array map with an element more. Element 0 counts what was taken and what was
  * put; the others are a ring. The last of a stack is taken by one step back of what was put.
  */
-#define HOST_ENTRIES(map) (sizeof(*(map)->max_entries) / sizeof(int))
-#define HOST_IS_STACK(map) (sizeof(*(map)->type) / sizeof(int) == BPF_MAP_TYPE_STACK)
+struct host_any_map {
+	int (*type)[BPF_MAP_TYPE_QUEUE];
+	int (*max_entries)[1];
+};
+/* A map that a map of maps gave is a void pointer, and build refuses that map. */
+#define HOST_MAP(map) ((__typeof__(_Generic((map), void *: (struct host_any_map *)NULL, default: (map))))(map))
+#define HOST_ENTRIES(map) (sizeof(*HOST_MAP(map)->max_entries) / sizeof(int))
+#define HOST_IS_STACK(map) (sizeof(*HOST_MAP(map)->type) / sizeof(int) == BPF_MAP_TYPE_STACK)
 #define bpf_map_push_elem(map, value, flags) \
 	({ \
 		u32 at_ = 0; \
