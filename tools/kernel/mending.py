@@ -16,7 +16,7 @@ SUBTRACT, DIVIDE, MODULO, SHIFTS = 0x10, 0x30, 0x90, (0x60, 0x70, 0xc0)
 
 def explained(scxsim, policy):
     """What explain writes of a policy file; NoCounterpart where the file or a callback is refused."""
-    done = subprocess.run([scxsim, "explain", policy], stdout=subprocess.PIPE, text=True)
+    done = subprocess.run([scxsim, "explain", policy], capture_output=True, text=True)
     if done.returncode not in (0, 1):
         raise OSError(f"{policy} can't be read")
     refused = [line for line in done.stdout.splitlines() if re.match(r"(refused: |\w+ refused \d)", line)]

@@ -8,7 +8,7 @@ from random import Random
 
 from kernel_types import NoCounterpart
 from mending import callbacks_of, explained, findings, mended
-from translate import code_of, known, ops_lines, program_line, translated
+from translate import code_of, known, ops_lines, program_line, shapes_of_maps, translated
 
 sys.path.append(str(Path(__file__).resolve().parents[2] / "tests"))
 from generator.pairs import SORTS
@@ -26,6 +26,7 @@ class Program:
 
     def __init__(self, label, name, path, callback, refusal):
         self.label, self.name, self.path, self.callback, self.refusal = label, name, path, callback, refusal
+        self.reason = ""
         self.there, self.mended_there, self.no_counterpart = None, None, ""
 
     def is_accepted_here_alone(self):
@@ -60,12 +61,18 @@ def case_lines(types, scxsim, path, callback):
     """The lines that ask the guest for its verdict on one callback."""
     policy = tomllib.loads(Path(path).read_text())
     program = translated(types, callback, code_of(scxsim, policy, callback), known(scxsim, path))
-    return "\n".join(["case -", *ops_lines(types, policy), program_line(types, callback, program), "load"]) + "\n"
+    return "\n".join(["case -", *ops_lines(types, policy, shapes_of_maps(policy)), program_line(types, callback, program), "load"]) + "\n"
+
+
+def reasons_here(scxsim, path):
+    """For each refused callback of a policy file, the reason that explain gives."""
+    said = subprocess.run([scxsim, "explain", path], capture_output=True, text=True, errors="replace").stdout
+    return dict(re.findall(r"^(\w+) refused [^\n]*\n(?:.+\n)*? += (.*)$", said, re.M))
 
 
 def verdicts_here(scxsim, path):
     """Of each callback of a policy file the name of its refusal, or ""; nothing where the file itself is refused."""
-    said = subprocess.run([scxsim, "verify", path], stdout=subprocess.PIPE).stdout.decode(errors="replace")
+    said = subprocess.run([scxsim, "verify", path], capture_output=True).stdout.decode(errors="replace")
     found = re.findall(r"^(\w+) (?:ok \d+|refused \d+ (\S+).*)$", said, re.M)
     return {} if said.startswith("refused:") else dict(found)
 
@@ -86,11 +93,14 @@ def of_files(scxsim, paths, folder):
     number = 0
     for path in paths:
         open(path).close()
-        if not verdicts_here(scxsim, path):
+        verdicts, reasons = verdicts_here(scxsim, path), reasons_here(scxsim, path)
+        if not verdicts:
             print(f"{path}: no callbacks, or no policy file")
-        for callback, refusal in verdicts_here(scxsim, path).items():
+        for callback, refusal in verdicts.items():
             number += 1
-            yield Program("of the files", f"{path} {callback}", alone(path, callback, folder, number), callback, refusal)
+            program = Program("of the files", f"{path} {callback}", alone(path, callback, folder, number), callback, refusal)
+            program.reason = reasons.get(callback, "")
+            yield program
 
 
 def some_callback(random, verdicts):

@@ -14,7 +14,8 @@ ERRORS = 1024		# exits of this kind and above are errors
 def here(policy, workload):
     """What scxsim does: milliseconds and turns of each task, and how the policy ended. No tasks where it is refused."""
     report = subprocess.run([SCXSIM, "report", policy, workload], stdout=subprocess.PIPE, text=True)
-    trace = subprocess.run([SCXSIM, "run", policy, workload], stdout=subprocess.PIPE, text=True).stdout
+    # What is said on standard error was said by report.
+    trace = subprocess.run([SCXSIM, "run", policy, workload], capture_output=True, text=True).stdout
     if report.returncode == 1 and report.stdout.startswith("refused"):
         return {}, report.stdout.strip()
     tasks = {name: (int(ms), 0) for name, ms in re.findall(r"^task (\S+) run (\d+)", report.stdout, re.M)}

@@ -194,12 +194,12 @@ def code_of(scxsim, policy, callback):
         return subprocess.run([scxsim, "asm", file.name], stdout=subprocess.PIPE).stdout
 
 
-def ops_lines(types, policy):
-    """The lines for a policy before its programs."""
+def ops_lines(types, policy, maps):
+    """The lines for a policy before its programs, with these maps."""
     start = types.offset("bpf_struct_ops_sched_ext_ops", "data")
     members = dict(types.members("sched_ext_ops"))
     yield f"ops {types.struct('bpf_struct_ops_sched_ext_ops')} {types.size('bpf_struct_ops_sched_ext_ops')} {types.struct('sched_ext_ops')}"
-    for entries, size in [*shapes_of_maps(policy), (1, EXIT_VALUE)]:
+    for entries, size in maps:
         yield f"map {entries} {size}"
     yield f"set {start + members['flags']} 8 {types.flag('SCX_OPS_SWITCH_PARTIAL')}"
     yield f"set {start + members['timeout_ms']} 4 {policy.get('timeout_ms', 0)}"
@@ -228,7 +228,7 @@ def translated(types, callback, code, facts):
 def policy_lines(types, scxsim, path):
     """The lines for a policy with all its callbacks."""
     policy, facts = tomllib.loads(Path(path).read_text()), known(scxsim, path)
-    yield from ops_lines(types, policy)
+    yield from ops_lines(types, policy, [*shapes_of_maps(policy), (1, EXIT_VALUE)])
     for callback in ARGUMENTS:
         code = code_of(scxsim, policy, callback)
         if code is not None:

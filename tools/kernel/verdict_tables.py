@@ -49,10 +49,22 @@ def print_mended(programs):
             print(f"{program.name}: {program.there}; without what portable names: {program.mended_there or 'it names nothing'}")
 
 
+def print_side_by_side(programs):
+    """Both verdicts of each callback of a file that one verifier refuses, in the words of each."""
+    refused = [one for one in programs if one.label == "of the files" and (one.refusal or one.there or one.no_counterpart)]
+    if refused:
+        print("\n| Callback | Here | In the kernel |\n|---|---|---|")
+    for one in refused:
+        here = ": ".join(text for text in (one.refusal, one.reason) if text) or "accepted"
+        there = f"no counterpart: {one.no_counterpart}" if one.no_counterpart else one.there or "accepted"
+        print(f"| {one.name} | {here} | {there} |")
+
+
 def print_tables(programs):
+    print_side_by_side(programs)
     print_counts(programs)
     print_kinds(programs)
     print_mended(programs)
     for program in programs:
-        if column_of(program) in COLUMNS[4:]:
+        if column_of(program) in COLUMNS[4:] and program.label != "of the files":
             print(f"{program.name}: {program.no_counterpart or program.there}")
