@@ -5,8 +5,8 @@
 //! the policy's maps and a host, an `Env`, which answers its helpers and holds the records of tasks.
 //! It shows each instruction to a `Watch` before it does it: so `scxsim step` prints callbacks. It says
 //! how the run ended: with an answer at an `exit`, or stuck at an instruction that has no meaning in the
-//! state there, as one that reads an unset register. It also says at which slot what the watch awaits of
-//! the host came about: so the slot of a fault is found. Its contract says that the run is the one that
+//! state there, as one that reads an unset register. It also says by which instruction what the watch awaits
+//! of the host came about: so the place of a fault is found. Its contract says that the run is the one that
 //! the definitions of `scx_isa_semantics` give the program, and that it takes no more steps than there
 //! are instructions. `try_run` does the same run without a watch; tests compare `scx_vm_run` with it.
 //!
@@ -29,6 +29,6 @@ mod state;
 mod values;
 mod watch;
 
-pub use run::{Ran, Watched, run_watched, try_run};
+pub use run::{Ran, Site, Watched, run_watched, try_run};
 pub use state::Core;
 pub use watch::Watch;

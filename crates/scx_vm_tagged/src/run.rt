@@ -10,13 +10,13 @@ ghost use Rattle.scx_vm.specs.Host.{host, answer_to, after_query};
 ghost use Rattle.scx_vm_tagged.specs.Outcome.{answer_of};
 ghost use Rattle.scx_vm_tagged.specs.Run.{StepsTo, LeadsNearer, IfDone, IfStuck, GetsStuckAt};
 ghost use Rattle.scx_vm_tagged.specs.State.{seen};
-ghost use Rattle.scx_vm_tagged.specs.Watched.{CameAt, came_at};
+ghost use Rattle.scx_vm_tagged.specs.Watched.{Came, EndsAt, came_at};
 
 use crate::effect::Effect;
 use crate::execute::execute;
 use crate::state::Core;
 use crate::watch::{Nobody, Watch};
-use scx_isa::{Callback, MAX_SLOTS, Program, target};
+use scx_isa::{Callback, MAX_SLOTS, Program, Value, target};
 use scx_maps::Maps;
 use scx_vm::{Args, Done, Env};
 
@@ -34,12 +34,23 @@ pub enum Ran {
     Stuck(usize),
 }
 
-/// How a watched run ended.
-#[derive(Clone, Copy, Debug, PartialEq, Eq)]
+/// An instruction of a run, before it is done.
+#[derive(Clone, Copy)]
+pub struct Site {
+    /// Counted from 0.
+    pub slot: usize,
+    /// The values of r1 to r5.
+    pub arguments: [Value; 5],
+}
+
+/// The end of a run that a `Watch` was shown.
+#[derive(Clone, Copy)]
 pub struct Watched {
     pub ran: Ran,
-    /// The slot at which what the watch awaits came about, if it did in this run.
-    pub slot: Option<usize>,
+    /// The instruction by which what was awaited came about.
+    pub came: Option<Site>,
+    /// The slot at which the run ended or got stuck.
+    pub last: usize,
 }
 
 /// Where a step led.
@@ -107,11 +118,14 @@ pub fn run_watched<E: Env, W: Watch<E>>(
     ensures shapes { lengths_of maps.new ≡ lengths_of maps.old }
     ensures room { E.room env.old ≤ E.room env.new + instruction_count program.now }
     ensures spent { E.spent env.new ≤ E.spent env.old + instruction_count program.now }
-    ensures came { IfSome result.slot
-        (CameAt (host E.functions) W.awaited callback program.now (program_arguments arguments) maps.old
-        env.old) }
-    ensures did_not_come { result.slot ≡ None
+    ensures came { IfSome result.came
+        (Came (host E.functions) W.awaited callback program.now (program_arguments arguments) maps.old
+        env.old env.new) }
+    ensures did_not_come { result.came ≡ None
         → W.awaited env.old ≡ false → W.awaited env.new ≡ false }
+    ensures last { IfDone result.ran
+        (λ done. EndsAt (host E.functions) callback program.now (program_arguments arguments) maps.old
+        env.old done.r0 env.new result.last) }
 {
     walk(program, callback, arguments, maps, env, watch)
 }
@@ -137,25 +151,33 @@ fn walk<E: Env, W: Watch<E>>(
     ensures shapes { lengths_of maps.new ≡ lengths_of maps.old }
     ensures room { E.room env.old ≤ E.room env.new + instruction_count program.now }
     ensures spent { E.spent env.new ≤ E.spent env.old + instruction_count program.now }
-    ensures came { IfSome result.slot
-        (CameAt (host E.functions) W.awaited callback program.now (program_arguments arguments) maps.old
-        env.old) }
-    ensures did_not_come { result.slot ≡ None
+    ensures came { IfSome result.came
+        (Came (host E.functions) W.awaited callback program.now (program_arguments arguments) maps.old
+        env.old env.new) }
+    ensures did_not_come { result.came ≡ None
         → W.awaited env.old ≡ false → W.awaited env.new ≡ false }
+    ensures last { IfDone result.ran
+        (λ done. EndsAt (host E.functions) callback program.now (program_arguments arguments) maps.old
+        env.old done.r0 env.new result.last) }
 {
     let mut core = Core::start(arguments);
     let mut slot = 0;
     let mut found = None;
     for steps in 0..program.slots() {
         watch.see(slot, &core, env);
+        let site = Site {
+            slot,
+            arguments: core.arguments(),
+        };
         let had_come = watch.has_come(env);
         match step(program, slot, callback, &mut core, maps, env) {
             Outcome::Stuck => return Watched {
                 ran: Ran::Stuck(slot),
-                slot: found,
+                came: found,
+                last: slot,
             },
             Outcome::At(next) => {
-                found = came_at(found, had_come, watch.has_come(env), slot);
+                found = came_at(found, had_come, watch.has_come(env), site);
                 slot = next;
             }
             Outcome::Ended(r0) => return Watched {
@@ -163,23 +185,25 @@ fn walk<E: Env, W: Watch<E>>(
                     r0,
                     steps: steps + 1,
                 }),
-                slot: found,
+                came: found,
+                last: slot,
             },
         }
     }
     // As many steps as there are slots leave no instruction from this slot on.
     Watched {
         ran: Ran::Stuck(slot),
-        slot: found,
+        came: found,
+        last: slot,
     }
 }
 
-/// Where it came first: as it was found before, else at that slot, if it has come there.
-fn came_at(found: Option<usize>, had_come: bool, has_come: bool, slot: usize) -> Option<usize>
-    ensures { result ≡ came_at found had_come has_come slot }
+/// The first site: the one that was found before, else this one, if it came about here.
+fn came_at(found: Option<Site>, had_come: bool, has_come: bool, site: Site) -> Option<Site>
+    ensures { result ≡ came_at found had_come has_come site }
 {
     if found.is_none() && !had_come && has_come {
-        Some(slot)
+        Some(site)
     } else {
         found
     }

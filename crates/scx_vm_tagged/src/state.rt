@@ -6,6 +6,7 @@ ghost use Rattle.scx_isa_semantics.specs.Elements.{Maps};
 ghost use Rattle.scx_isa_semantics.specs.Registers.{number};
 ghost use Rattle.scx_vm.specs.Arguments.{program_arguments};
 ghost use Rattle.scx_vm_tagged.specs.Execute.{effect_of};
+ghost use Rattle.scx_vm_tagged.specs.Watched.{held};
 
 use crate::arguments::argument_value;
 use crate::effect::Effect;
@@ -43,6 +44,19 @@ impl Core {
         ensures { result ≡ register_value self.now (number register) }
     {
         self.registers[register.number() as usize]
+    }
+
+    /// The values of r1 to r5.
+    pub fn arguments(&self) -> [Value; 5]
+        ensures { (maps : Maps) → result ≡ held (seen self.now maps) }
+    {
+        [
+            self.read(Register::R1),
+            self.read(Register::R2),
+            self.read(Register::R3),
+            self.read(Register::R4),
+            self.read(Register::R5),
+        ]
     }
 
     /// Puts a value into the register, be it r10.

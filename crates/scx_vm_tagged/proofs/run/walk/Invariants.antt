@@ -17,6 +17,6 @@ invariant-loop-steps g l = record {
   shapes : lengths_of l.maps ≡ lengths_of l.fn.maps;
   room : g.E.Env.room l.fn.env ≤ g.E.Env.room l.env + l.steps;
   spent : g.E.Env.spent l.env ≤ g.E.Env.spent l.fn.env + l.steps;
-  came : IfSome l.found (CameAt (host g.E.Env.functions) g.W.Watch.awaited l.callback l.program (program_arguments l.fn.arguments) l.fn.maps l.fn.env);
+  came : IfSome l.found (λ site. CameAt (host g.E.Env.functions) g.W.Watch.awaited l.callback l.program (program_arguments l.fn.arguments) l.fn.maps l.fn.env site l.slot (seen l.core l.maps) l.env);
   did_not_come : l.found ≡ None → g.W.Watch.awaited l.fn.env ≡ false → g.W.Watch.awaited l.env ≡ false;
 }
