@@ -1,12 +1,10 @@
 -- What a run of a verified program comes to, by what the machine of the definitions says of it.
-use Rattle.std.proofs.Common.{◌≡◌, ℕ, ◌≤◌, Option, Some, None}
-use Rattle.scx_isa_semantics.specs.declared.values.Value.{Value}
+use Rattle.std.proofs.Common.{◌≡◌, ℕ, ◌≤◌, Some, None, subst}
 use Rattle.scx_isa_semantics.specs.Code.{Code, instruction_count}
-use Rattle.scx_isa_semantics.specs.Effects.{Query}
 use Rattle.scx_isa_semantics.specs.Elements.{Maps}
 use Rattle.scx_isa_semantics.specs.Machine.{Arguments, start}
 use Rattle.scx_isa_semantics.specs.Arguments.{FitsCallback}
-use Rattle.scx_isa_semantics.specs.Runs.{Runs, graph}
+use Rattle.scx_isa_semantics.specs.Runs.{Runs}
 use Rattle.scx_maps.specs.Contents.{HasShapes}
 use Rattle.scx_vm.specs.declared.arguments.Args.{Args}
 use Rattle.scx_vm.specs.declared.context.Context.{Context}
@@ -22,7 +20,10 @@ use Rattle.scx_vm_tagged.specs.Outcome.{answer_of}
 use Rattle.scx_vm_tagged.specs.Run.{IfDone, IfStuck, GetsStuckAt}
 use Rattle.scx_sched_world.specs.World.{WorldState}
 use Rattle.scx_sched_world.specs.Helpers.{world_functions}
+use Rattle.scx_vm_tagged.specs.Watched.{EndsAt}
 use Rattle.scx_sched_machine.specs.Callbacks.{IsAnswered}
+use Rattle.scx_sched_machine.specs.Steps.{CallMade}
+use Rattle.scx_sched.specs.Causes.{EndsIn}
 
 -- it is never stuck
 pub is_not_stuck : (c : Context) (code : Code) (a : Arguments) (maps : Maps) (w : WorldState) (r : Ran) (maps' : Maps) (w' : WorldState) → IsSafe c code → HasShapes c.defs maps → FitsCallback c.callback a
@@ -46,3 +47,24 @@ pub is_answered : (p : VerifiedProgram) (a : Args) (maps : Maps) (w : WorldState
     → IsAnswered (record { callback = p.context.callback; program = p; arguments = a; maps = maps; world = w })
 is_answered p a maps w (ran.Stuck slot) n maps' w' e h bound = let bad : None ≡ Some n = e in absurd (cc)
 is_answered p a maps w (ran.Done d) n maps' w' e h bound = record { answer = d.r0; steps = d.steps; maps = maps'; world = w'; run = h; in_bound = bound }
+
+same_answer : (k n : ℕ) → Some k ≡ Some n → k ≡ n
+same_answer k n e = cc
+
+-- it ends with that answer in that world
+pub ends_in : (p : VerifiedProgram) (a : Args) (maps : Maps) (w : WorldState) (r : Ran) (n : ℕ) (maps' : Maps) (w' : WorldState) → answer_of r ≡ Some n
+    → IfDone r (λ done. Runs (host world_functions) p.context.callback p.code (program_arguments a) maps w done.r0 done.steps maps' w') → IfDone r (λ done. done.steps ≤ instruction_count p.code)
+    → EndsIn (record { callback = p.context.callback; program = p; arguments = a; maps = maps; world = w }) n w'
+ends_in p a maps w (ran.Stuck slot) n maps' w' e h bound = let bad : None ≡ Some n = e in absurd (cc)
+ends_in p a maps w (ran.Done d) n maps' w' e h bound =
+    let m : CallMade = record { callback = p.context.callback; program = p; arguments = a; maps = maps; world = w } in
+    let To : ℕ → Type 0 = λ k. EndsIn m k w' in
+    subst To (same_answer d.r0 n e) (record { steps = d.steps; maps = maps'; run = h; in_bound = bound })
+
+-- and at that slot
+pub ends_at : (p : VerifiedProgram) (a : Arguments) (maps : Maps) (w : WorldState) (r : Ran) (n : ℕ) (w' : WorldState) (slot : ℕ) → answer_of r ≡ Some n
+    → IfDone r (λ done. EndsAt (host world_functions) p.context.callback p.code a maps w done.r0 w' slot) → EndsAt (host world_functions) p.context.callback p.code a maps w n w' slot
+ends_at p a maps w (ran.Stuck s) n w' slot e h = let bad : None ≡ Some n = e in absurd (cc)
+ends_at p a maps w (ran.Done d) n w' slot e h =
+    let To : ℕ → Type 0 = λ k. EndsAt (host world_functions) p.context.callback p.code a maps w k w' slot in
+    subst To (same_answer d.r0 n e) h

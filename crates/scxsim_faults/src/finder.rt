@@ -1,36 +1,209 @@
-ghost use Rattle.std.specs.Prelude.{◌≡◌, false};
+ghost use Rattle.std.specs.Prelude.{◌≡◌, ◌≤◌, ⊤, false, true, is_some, Some, None, IfSome};
+ghost use Rattle.scx_isa_semantics.specs.declared.callbacks.Callback.TheVariants.{SelectCpu};
+ghost use Rattle.scx_isa_semantics.specs.declared.instructions.Insn.TheVariants.{Call};
+ghost use Rattle.scx_isa_semantics.specs.Code.{at};
+ghost use Rattle.scx_isa_semantics.specs.HostTables.{helper_at};
+ghost use Rattle.scx_sched_world.specs.declared.faults.Fault.TheVariants.{NoSuchCpu};
+ghost use Rattle.scxsim_faults.specs.Finding.{IsCallAt, IsToldAt, IsTold, Finds, IsForFault};
+ghost use Rattle.scxsim_faults.specs.declared.finder.Finder.{Finder};
 
 use crate::created::Created;
-use crate::look::Look;
-use crate::place::FaultPlace;
+use crate::look::{FirstFault, Look};
+use crate::place::{FaultPlace, HelperCall};
 use crate::running::{Answered, run_seen};
-use scx_isa::Callback;
+use scx_isa::{Callback, Helper, Insn, Program};
 use scx_maps::Maps;
-use scx_sched::{Fault, Note, Sink};
+use scx_sched::{Eject, Fault, Hearer, Note, Sink};
 use scx_sched_world::World;
 use scx_verify::Verified;
 use scx_vm::Args;
 use scx_vm_run::Core;
+use scx_vm_tagged::Site;
 use std::marker::Model;
 
-/// A sink that runs the programs of a policy instruction by instruction, and keeps where the first fault came.
-///
-/// In a contract it is nothing: whatever it keeps, runs are the same.
+/// Runs the callbacks of events instruction by instruction, and keeps where the first fault came in the last one.
 #[derive(Drop)]
 pub(crate) struct Finder {
     found: Option<FaultPlace>,
     queues: Created,
 }
 
-impl Model for Finder {
+impl Finder {
+    /// A finder that has heard no callback, of a policy that has these queues.
+    pub(crate) fn new(queues: Created) -> Finder {
+        Finder {
+            found: None,
+            queues,
+        }
+    }
+
+    /// The place of that fault, if the last callback had it.
+    fn found_of(&self, fault: Fault) -> Option<FaultPlace>
+        ensures kept { IfSome result (λ p. self.now.found ≡ Some p) }
+        ensures fault { IfSome result (λ p. p.fault ≡ fault) }
+    {
+        let found = self.found?;
+        if found.fault == fault {
+            Some(found)
+        } else {
+            None
+        }
+    }
+
+    /// The place of the fault of that ejection, if the last callback had it.
+    pub(crate) fn found_for(&self, why: Eject) -> Option<FaultPlace>
+        ensures kept { IfSome result (λ p. self.now.found ≡ Some p) }
+        ensures fault { IfSome result (λ p. IsForFault p.fault why) }
+    {
+        match why {
+            Eject::Fault(fault, _) => self.found_of(fault),
+            Eject::Stall(_, _) => None,
+        }
+    }
+}
+
+/// The slot, the fault and the helper's call of the first fault of a callback.
+#[derive(Clone, Copy)]
+struct Told {
+    slot: usize,
+    fault: Fault,
+    call: Option<HelperCall>,
+}
+
+/// The place of the first fault of a callback that was run so, if it had one.
+fn place_of(
+    program: &Verified,
+    arguments: Args,
+    ran: Answered,
+    world: &World,
+    queues: Created,
+) -> Option<FaultPlace>
+    ensures { IfSome result (IsTold program.now arguments ran world.now queues) }
+{
+    let told = told_of(program, ran, world)?;
+    Some(FaultPlace {
+        callback: program.callback(),
+        slot: told.slot,
+        fault: told.fault,
+        call: told.call,
+        answer: ran.answer,
+        given: arguments.first,
+        cpus: world.cpus(),
+        queues,
+    })
+}
+
+/// The first fault of a callback that was run so.
+fn told_of(program: &Verified, ran: Answered, world: &World) -> Option<Told>
+    ensures { IfSome result
+        (λ told. IsToldAt program.now ran world.now told.fault told.slot told.call) }
+{
+    match world.first_fault() {
+        Some(fault) => told_of_call(program, ran, fault),
+        None => told_of_answer(program.callback(), ran, world.cpus()),
+    }
+}
+
+/// That fault, at the call at which it came.
+fn told_of_call(program: &Verified, ran: Answered, fault: Fault) -> Option<Told>
+    ensures fault { IfSome result (λ told. told.fault ≡ fault) }
+    ensures call { IfSome result (λ told. IfSome told.call (IsCallAt program.now ran told.slot)) }
+    ensures some { IfSome result (λ told. is_some told.call ≡ true) }
+{
+    let site = ran.came?;
+    let call = call_at(program.program(), site)?;
+    Some(Told {
+        slot: site.slot,
+        fault,
+        call: Some(call),
+    })
+}
+
+/// The fault of an answer that is no CPU, at the exit.
+fn told_of_answer(callback: Callback, ran: Answered, cpus: u32) -> Option<Told>
+    ensures none { IfSome result (λ told. told.call ≡ None) }
+    ensures fault { IfSome result (λ told. told.fault ≡ NoSuchCpu) }
+    ensures slot { IfSome result (λ told. told.slot ≡ ran.last) }
+    ensures callback { IfSome result (λ told. callback ≡ SelectCpu) }
+    ensures past { IfSome result (λ told. cpus ≤ ran.answer) }
+{
+    if callback == Callback::SelectCpu && ran.answer >= u64::from(cpus) {
+        Some(Told {
+            slot: ran.last,
+            fault: Fault::NoSuchCpu,
+            call: None,
+        })
+    } else {
+        None
+    }
+}
+
+/// The helper's call at that site.
+fn call_at(program: &Program, site: Site) -> Option<HelperCall>
+    ensures number { IfSome result (λ call. at program.now site.slot ≡ Some (Call call.number)) }
+    ensures helper { IfSome result (λ call. helper_at call.number ≡ Some call.helper) }
+    ensures arguments { IfSome result (λ call. call.arguments ≡ site.arguments) }
+{
+    let Some(Insn::Call(number)) = program.at(site.slot) else {
+        return None;
+    };
+    let helper = Helper::new(number)?;
+    let arguments = site.arguments;
+    Some(HelperCall {
+        helper,
+        number,
+        arguments,
+    })
+}
+
+impl Hearer for Finder {
+    ghost Noted = { ⊤ };
+
+    ghost noted = { λ s. tt };
+
+    ghost takes = { λ s n t. ⊤ };
+
+    ghost Told = { Finder };
+
+    ghost told = { λ s. s };
+
+    ghost hears = { Finds };
+
+    fn note(&mut self, _note: Note) {}
+
+    fn call(
+        &mut self,
+        _core: &mut Core,
+        program: &Verified,
+        arguments: Args,
+        maps: &mut Maps,
+        world: &mut World,
+    ) -> u64 {
+        let ran = run_seen(program, arguments, maps, world, &mut FirstFault);
+        self.found = place_of(program, arguments, ran, world, self.queues);
+        ran.answer
+    }
+}
+
+/// A sink that runs init and enable instruction by instruction. It keeps the queues that are created, and where
+/// the first fault came.
+///
+/// In a contract it is nothing: whatever it keeps, runs are the same.
+#[derive(Drop)]
+pub(crate) struct Starter {
+    pub(crate) found: Option<FaultPlace>,
+    pub(crate) queues: Created,
+}
+
+impl Model for Starter {
     ghost Value = { Unit {0} };
 
     ghost view = { λ f. tt };
 }
 
-impl Finder {
-    pub(crate) fn new() -> Finder {
-        Finder {
+impl Starter {
+    pub(crate) fn new() -> Starter {
+        Starter {
             found: None,
             queues: Created::NONE,
         }
@@ -40,46 +213,20 @@ impl Finder {
         self.found
     }
 
-    /// Keeps where the fault came that a run had, if it had one.
-    fn keep(
-        &mut self,
-        callback: Callback,
-        arguments: Args,
-        look: &Look<'_>,
-        ran: Answered,
-        world: &World,
-    ) {
-        self.queues = look.queues;
-        if self.found.is_some() {
-            return;
+    pub(crate) fn queues(&self) -> Created {
+        self.queues
+    }
+
+    /// Keeps the queues that were created, and the place of a fault, if it is the first one.
+    fn keep(&mut self, queues: Created, place: Option<FaultPlace>) {
+        self.queues = queues;
+        if self.found.is_none() {
+            self.found = place;
         }
-        let Answered { answer, slot } = ran;
-        let (fault, slot, call) = match (world.first_fault(), slot, look.next) {
-            (Some(fault), Some(slot), _) => (fault, slot, look.call()),
-            (None, _, Some(next)) if is_past(callback, answer, world.cpus()) => {
-                (Fault::NoSuchCpu, next.slot, None)
-            }
-            _ => return,
-        };
-        self.found = Some(FaultPlace {
-            callback,
-            slot,
-            fault,
-            call,
-            answer,
-            given: arguments.first,
-            cpus: world.cpus(),
-            queues: self.queues,
-        });
     }
 }
 
-/// Whether a callback answers a processor that isn't there.
-fn is_past(callback: Callback, answer: u64, cpus: u32) -> bool {
-    callback == Callback::SelectCpu && answer >= u64::from(cpus)
-}
-
-impl Sink for Finder {
+impl Sink for Starter {
     ghost takes = { λ s n t. t ≡ s };
 
     ghost has_failed = { λ s. false };
@@ -102,7 +249,10 @@ impl Sink for Finder {
     ) -> u64 {
         let mut look = Look::new(program.program(), self.queues);
         let ran = run_seen(program, arguments, maps, world, &mut look);
-        self.keep(program.callback(), arguments, &look, ran, world);
+        self.keep(
+            look.queues,
+            place_of(program, arguments, ran, world, look.queues),
+        );
         ran.answer
     }
 }

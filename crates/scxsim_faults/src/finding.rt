@@ -1,15 +1,26 @@
-use crate::finder::Finder;
+ghost use Rattle.std.specs.Prelude.{◌≡◌, false, None, IfOk, IfSome};
+ghost use Rattle.scx_weights.specs.Hierarchy.{idle};
+ghost use Rattle.scx_load_driver.specs.Driver.{remaining};
+ghost use Rattle.scx_load_driver.specs.Events.{workload_events};
+ghost use Rattle.scx_load_policies.specs.Building.{IsBuilt};
+ghost use Rattle.scx_sched.specs.Sim.{after_event};
+ghost use Rattle.scxsim_faults.specs.Finding.{is_init_failed, IsUnderAny};
+ghost use Rattle.scxsim_faults.specs.Places.{IsPlaceAt, IsPlaceIn, IsPlaceUnder, IsPolicyOf, IsPlaceFound};
+
+use crate::created::Created;
+use crate::finder::{Finder, Starter};
 use crate::place::FaultPlace;
 use scx_load_driver::Driver;
 use scx_load_files::LoadError;
 use scx_load_policies::{BuildError, PolicyText, build, read_policy};
 use scx_load_workloads::Workload;
-use scx_sched::{MAX_EVENTS, NewError, Policy, Sim, Unseen};
+use scx_sched::{Event, MAX_EVENTS, NewError, Policy, Sim, Unseen};
 use scx_weights::Tree;
 use std::alloc::{AllocError, Global};
 
-/// Where the first fault of a callback came, in the run of a workload under a policy that was ejected at that
-/// clock, or in init or enable. None where there is none, or the policy's text is refused.
+/// The place of the first fault of the callback for which a policy was ejected at that clock, in the run of a
+/// workload, or of the first fault in init or enable. None if there was no such fault, or the policy's text is
+/// refused.
 ///
 /// # Errors
 ///
@@ -19,14 +30,32 @@ pub fn find_fault(
     policy: &str,
     workload: &Workload,
     clock: u64,
-) -> Result<Option<FaultPlace>, AllocError> {
-    match policy_of(alloc, policy)? {
+) -> Result<Option<FaultPlace>, AllocError>
+    ensures { IfOk result (λ found. IfSome found (IsPlaceFound policy.now workload.now)) }
+{
+    let policy = policy_of(alloc, policy)?;
+    find_under_any(alloc, policy, workload, clock)
+}
+
+/// The place of the fault in the run under that policy, if there is one.
+fn find_under_any(
+    alloc: Global,
+    policy: Option<Policy>,
+    workload: &Workload,
+    clock: u64,
+) -> Result<Option<FaultPlace>, AllocError>
+    ensures { IfOk result (λ found. IfSome found (IsUnderAny policy workload.now)) }
+{
+    match policy {
         Some(policy) => find_under(alloc, policy, workload, clock),
         None => Ok(None),
     }
 }
 
-fn policy_of(alloc: Global, text: &str) -> Result<Option<Policy>, AllocError> {
+/// The policy of a file; none if the file is refused.
+fn policy_of(alloc: Global, text: &str) -> Result<Option<Policy>, AllocError>
+    ensures { IfOk result (λ policy. IfSome policy (IsPolicyOf text.now)) }
+{
     match read_policy(alloc, text) {
         Ok(text) => built(alloc, text),
         Err(LoadError::NoMemory) => Err(AllocError),
@@ -34,26 +63,26 @@ fn policy_of(alloc: Global, text: &str) -> Result<Option<Policy>, AllocError> {
     }
 }
 
-fn built(alloc: Global, text: PolicyText) -> Result<Option<Policy>, AllocError> {
+/// The policy of a file that was read; none if a program of it is refused.
+fn built(alloc: Global, text: PolicyText) -> Result<Option<Policy>, AllocError>
+    ensures { IfOk result (λ policy. IfSome policy (IsBuilt text)) }
+{
     match build(alloc, text) {
         Ok(policy) => Ok(Some(policy)),
-        Err(error) => not_built(error),
+        Err(BuildError::NoMemory) => Err(AllocError),
+        Err(BuildError::Refused { .. }) => Ok(None),
     }
 }
 
-fn not_built(error: BuildError) -> Result<Option<Policy>, AllocError> {
-    match error {
-        BuildError::NoMemory => Err(AllocError),
-        BuildError::Refused { .. } => Ok(None),
-    }
-}
-
+/// The place of the fault in the run under that policy.
 fn find_under(
     alloc: Global,
     policy: Policy,
     workload: &Workload,
     clock: u64,
-) -> Result<Option<FaultPlace>, AllocError> {
+) -> Result<Option<FaultPlace>, AllocError>
+    ensures { IfOk result (λ found. IfSome found (IsPlaceUnder policy workload.now)) }
+{
     match Tree::new(alloc, workload.groups(), workload.tasks()) {
         Ok(tree) => find_with(alloc, policy, tree, workload, clock),
         Err(_) => {
@@ -63,54 +92,99 @@ fn find_under(
     }
 }
 
+/// The place of the fault in the run of these groups and tasks.
 fn find_with(
     alloc: Global,
     policy: Policy,
     tree: Tree,
     workload: &Workload,
     clock: u64,
-) -> Result<Option<FaultPlace>, AllocError> {
-    let mut finder = Finder::new();
-    match Sim::new_seen(alloc, policy, tree, workload.cpus(), &mut finder) {
+) -> Result<Option<FaultPlace>, AllocError>
+    requires { tree ≡ idle workload.now.groups workload.now.homes }
+    ensures { IfOk result (λ found. IfSome found (IsPlaceUnder policy workload.now)) }
+{
+    let mut starter = Starter::new();
+    match Sim::new_seen(alloc, policy, tree, workload.cpus(), &mut starter) {
         Ok(mut sim) => {
-            let gone = go_through(alloc, workload, &mut sim, clock, &mut finder);
+            let found = find_in(alloc, workload, &mut sim, clock, starter.queues());
             drop(sim);
-            gone?;
+            found
         }
-        Err(NewError::OutOfMemory) => return Err(AllocError),
-        Err(_) => {}
+        Err(error) => not_begun(error, starter.found()),
     }
-    Ok(finder.found())
 }
 
-/// Gives the machine its events, up to the ejection.
-fn go_through(
+/// The place of the fault in init or enable, if one of them failed.
+fn not_begun(error: NewError, found: Option<FaultPlace>) -> Result<Option<FaultPlace>, AllocError>
+    ensures { is_init_failed error ≡ false → IfOk result (λ found. found ≡ None) }
+{
+    match error {
+        NewError::InitFailed(_) => Ok(found),
+        NewError::OutOfMemory => Err(AllocError),
+        NewError::BadShape => Ok(None),
+    }
+}
+
+/// The place of the fault in the run that begins with that machine.
+fn find_in(
     alloc: Global,
     workload: &Workload,
     sim: &mut Sim,
     clock: u64,
-    finder: &mut Finder,
-) -> Result<(), AllocError> {
+    queues: Created,
+) -> Result<Option<FaultPlace>, AllocError>
+    requires { sim.old.state.world.ejected ≡ None }
+    ensures { IfOk result (λ found.
+        IfSome found (IsPlaceIn sim.old (workload_events workload.now sim.old))) }
+{
     let mut driver = Driver::new(alloc, workload)?;
-    go_on(&mut driver, sim, clock, finder);
+    let found = go_through(&mut driver, sim, clock, queues);
     drop(driver);
-    Ok(())
+    Ok(found)
 }
 
-/// The same with events that are at hand. An event of the clock is at the clock that it ends at, so the finder
-/// looks on from a millisecond before.
-fn go_on(driver: &mut Driver, sim: &mut Sim, clock: u64, finder: &mut Finder) {
+/// Gives the machine the events that are left, up to the ejection.
+fn go_through(driver: &mut Driver, sim: &mut Sim, clock: u64, queues: Created) -> Option<FaultPlace>
+    requires { sim.old.state.world.ejected ≡ None }
+    ensures { IfSome result (IsPlaceIn sim.old (remaining driver.old sim.old)) }
+{
     for _ in 0..MAX_EVENTS {
         let Some(event) = driver.next(sim) else {
-            return;
+            return None;
         };
-        let _ = if sim.clock().saturating_add(1) < clock {
-            sim.step(event, &mut Unseen)
-        } else {
-            sim.step(event, finder)
-        };
+        let found = step(sim, event, clock, queues);
         if sim.ejected().is_some() {
-            return;
+            return found;
         }
+    }
+    None
+}
+
+/// Gives the machine one event, and answers where the fault came if it ejects the policy. An event of the clock
+/// is at the clock that it ends at, so callbacks are heard from a millisecond before that clock on.
+fn step(sim: &mut Sim, event: Event, clock: u64, queues: Created) -> Option<FaultPlace>
+    requires { sim.old.state.world.ejected ≡ None }
+    ensures state { sim.new ≡ after_event sim.old event }
+    ensures place { IfSome result (IsPlaceAt sim.old event) }
+{
+    if sim.clock().saturating_add(1) < clock {
+        let _ = sim.step(event, &mut Unseen);
+        None
+    } else {
+        hear(sim, event, queues)
+    }
+}
+
+/// Gives the machine one event, and hears its callbacks.
+fn hear(sim: &mut Sim, event: Event, queues: Created) -> Option<FaultPlace>
+    requires { sim.old.state.world.ejected ≡ None }
+    ensures state { sim.new ≡ after_event sim.old event }
+    ensures place { IfSome result (IsPlaceAt sim.old event) }
+{
+    let mut finder = Finder::new(queues);
+    let _ = sim.step_heard(event, &mut finder);
+    match sim.ejected() {
+        Some(why) => finder.found_for(why),
+        None => None,
     }
 }

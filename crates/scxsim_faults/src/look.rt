@@ -1,23 +1,30 @@
 ghost use Rattle.std.specs.Prelude.{◌≡◌, is_some};
 
 use crate::created::Created;
-use crate::place::HelperCall;
 use scx_isa::{Helper, Insn, Program, Register, Value};
 use scx_sched_world::World;
 use scx_vm_tagged::{Core, Watch};
 
-/// The instruction that is done next, and r1 to r5 before it.
-#[derive(Clone, Copy)]
-pub(crate) struct Next {
-    pub(crate) slot: usize,
-    pub(crate) arguments: [Value; 5],
+/// Awaits the first fault of a callback.
+#[derive(Drop)]
+pub(crate) struct FirstFault;
+
+impl Watch<World> for FirstFault {
+    ghost awaited = { λ w. is_some w.call.fault };
+
+    fn has_come(&self, env: &World) -> bool {
+        env.first_fault().is_some()
+    }
+
+    fn see(&mut self, _slot: usize, _core: &Core, _env: &World) {}
 }
 
-/// What is seen of one run of a program, up to its first fault.
+/// Awaits the first fault of a callback, and keeps the queues that were created before it.
 #[derive(Drop)]
 pub(crate) struct Look<'a> {
     program: &'a Program,
-    pub(crate) next: Option<Next>,
+    /// The queue that the instruction before is to create.
+    wanted: Option<u64>,
     pub(crate) queues: Created,
 }
 
@@ -25,33 +32,27 @@ impl<'a> Look<'a> {
     pub(crate) fn new(program: &'a Program, queues: Created) -> Look<'a> {
         Look {
             program,
-            next: None,
+            wanted: None,
             queues,
         }
     }
 
-    /// The helper that is called next.
-    pub(crate) fn call(&self) -> Option<HelperCall> {
-        let Next { slot, arguments } = self.next?;
-        let Some(Insn::Call(number)) = self.program.at(slot) else {
-            return None;
-        };
-        let helper = Helper::new(number)?;
-        Some(HelperCall {
-            helper,
-            number,
-            arguments,
-        })
-    }
-
-    /// Keeps a queue that the call before has created.
+    /// Keeps the queue that the instruction before has created, if it has.
     fn keep_created(&mut self, answer: Value) {
-        let Some(call) = self.call() else {
-            return;
-        };
-        if let (Helper::CreateDsq, Value::Number(0)) = (call.helper, answer) {
-            self.queues.add(call.number_at(0));
+        if let (Some(queue), Value::Number(0)) = (self.wanted, answer) {
+            self.queues.add(queue);
         }
+    }
+}
+
+/// The queue that the instruction at that slot is to create.
+fn wanted_at(program: &Program, slot: usize, core: &Core) -> Option<u64> {
+    let Some(Insn::Call(number)) = program.at(slot) else {
+        return None;
+    };
+    match (Helper::new(number), core.read(Register::R1)) {
+        (Some(Helper::CreateDsq), Value::Number(queue)) => Some(queue),
+        _ => None,
     }
 }
 
@@ -67,15 +68,6 @@ impl Watch<World> for Look<'_> {
             return;
         }
         self.keep_created(core.read(Register::R0));
-        self.next = Some(Next {
-            slot,
-            arguments: [
-                core.read(Register::R1),
-                core.read(Register::R2),
-                core.read(Register::R3),
-                core.read(Register::R4),
-                core.read(Register::R5),
-            ],
-        });
+        self.wanted = wanted_at(self.program, slot, core);
     }
 }

@@ -6,23 +6,26 @@ ghost use Rattle.scx_vm.specs.Arguments.{program_arguments};
 ghost use Rattle.scx_vm.specs.Host.{host, answer_to, after_query};
 ghost use Rattle.scx_vm_tagged.specs.Outcome.{answer_of};
 ghost use Rattle.scx_vm_tagged.specs.Run.{IfStuck};
-ghost use Rattle.scx_vm_tagged.specs.Watched.{CameAt};
+ghost use Rattle.scx_vm_tagged.specs.Watched.{Came, EndsAt};
 ghost use Rattle.scx_sched_world.specs.Helpers.{world_functions};
 ghost use Rattle.scx_sched_machine.specs.Budgets.{CanPush, program_pushes};
 ghost use Rattle.scx_sched_machine.specs.Callbacks.{IsAnswered};
+ghost use Rattle.scx_sched.specs.Causes.{EndsIn};
 
 use scx_maps::Maps;
 use scx_sched_world::World;
 use scx_verify::Verified;
 use scx_vm::Args;
-use scx_vm_tagged::{Ran, Watch, run_watched};
+use scx_vm_tagged::{Ran, Site, Watch, run_watched};
 
-/// What a run on which somebody looked came to.
+/// The end of a callback that a `Watch` was shown.
 #[derive(Clone, Copy)]
 pub struct Answered {
     pub answer: u64,
-    /// The slot at which what was awaited came about.
-    pub slot: Option<usize>,
+    /// The instruction by which what was awaited came about.
+    pub came: Option<Site>,
+    /// The slot of the exit.
+    pub last: usize,
 }
 
 /// Runs a program as the callback that it was verified for, instruction by instruction.
@@ -50,9 +53,19 @@ pub fn run_seen<W: Watch<World>>(
         }) }
     ensures shapes { HasShapes program.now.context.defs maps.new }
     ensures few { world.new.queues.pushes ≤ world.old.queues.pushes + program_pushes }
-    ensures came { IfSome result.slot
-        (CameAt (host world_functions) W.awaited program.now.context.callback program.now.code
-        (program_arguments arguments) maps.old world.old) }
+    ensures ends { EndsIn
+        (record {
+          callback = program.now.context.callback;
+          program = program.now;
+          arguments = arguments;
+          maps = maps.old;
+          world = world.old;
+        }) result.answer world.new }
+    ensures came { IfSome result.came
+        (Came (host world_functions) W.awaited program.now.context.callback program.now.code
+        (program_arguments arguments) maps.old world.old world.new) }
+    ensures last { EndsAt (host world_functions) program.now.context.callback program.now.code
+        (program_arguments arguments) maps.old world.old result.answer world.new result.last }
 {
     let _code = program.code();
     let _short = program.instructions();
@@ -66,7 +79,8 @@ pub fn run_seen<W: Watch<World>>(
     );
     Answered {
         answer: answer_of(watched.ran),
-        slot: watched.slot,
+        came: watched.came,
+        last: watched.last,
     }
 }
 

@@ -1,0 +1,133 @@
+-- The place in a run in which a policy is ejected.
+use Rattle.std.proofs.Common.{◌≡◌, ℕ, false, List, [], ◌∷◌, Option, Some, None, Result, Ok, Err, refl, sym, ap, ◌∙◌, subst}
+use Rattle.std.specs.Prelude.{IfSome, IfOk, OnOk, OnErr}
+use Rattle.scx_sched_world.specs.declared.eject.Eject.{Eject}
+use Rattle.scx_sched_world.specs.declared.eject.Eject.TheVariants as cause
+use Rattle.scx_sched_world.specs.declared.faults.Fault.{Fault}
+use Rattle.scx_sched_machine.specs.declared.events.Event.{Event}
+use Rattle.scx_sched_machine.specs.Hearing.{Hears}
+use Rattle.scx_sched_machine.specs.Steps.{CallMade}
+use Rattle.scx_sched_machine.specs.Policy.{PolicyState}
+use Rattle.scx_sched.specs.Causes.{IsLast, IsCause, Waited, Went_wrong, EjectsOnce}
+use Rattle.scx_sched_machine.specs.Start.{first_state, IsRefusal}
+use Rattle.scx_sched_machine.specs.declared.start.NewError.{NewError}
+use Rattle.scx_sched_machine.specs.declared.start.NewError.TheVariants as start
+use Rattle.scx_sched.specs.Sim.{SimState, IsFirstState, after_event, calls_of}
+use Rattle.scx_weights.specs.Hierarchy.{Hierarchy, idle}
+use Rattle.scx_load_driver.specs.Driver.{DriverState, remaining}
+use Rattle.scx_load_driver.specs.Events.{workload_events}
+use Rattle.scx_load_workloads.specs.Workload.{WorkloadState}
+use Rattle.scxsim_faults.specs.declared.finder.Finder.{Finder}
+use Rattle.scxsim_faults.specs.declared.place.FaultPlace.{FaultPlace}
+use Rattle.scxsim_faults.specs.Places.{IsPlaceOf, IsPlaceAt, IsPlaceIn, IsPlaceUnder, In_event, At_start, IsPolicyOf, IsPlaceFound}
+use Rattle.scxsim_faults.specs.Finding.{Finds, IsForFault, is_init_failed, IsUnderAny}
+use Rattle.scxsim_faults.proofs.Telling.{at_some}
+use Rattle.scxsim_faults.proofs.Heard.{last_heard}
+
+-- an ejection for a fault is that of the last call
+last_of : (s : SimState) (e : Event) (x : Eject) (f : Fault) (n : ℕ) → IsCause s e x → x ≡ cause.Fault f n → (m : CallMade) × IsLast m (calls_of s e)
+last_of s e _ f n (Waited t at over) same = absurd (cc)
+last_of s e _ f n (Went_wrong m g last has) same = (m, last)
+
+-- the place that is kept of an event in which the policy was ejected for that fault
+pub place_at : (s t : SimState) (e : Event) (f g : Finder) (fault : Fault) (n : ℕ) (p : FaultPlace)
+    → s.state.world.ejected ≡ None → t ≡ after_event s e → EjectsOnce s e t → t.state.world.ejected ≡ Some (cause.Fault fault n)
+    → Hears Finds f (calls_of s e) g → g.found ≡ Some p → p.fault ≡ fault → IsPlaceAt s e p
+place_at s t e f g fault n p in_force to once ejected hears found same =
+    let last = last_of s e (cause.Fault fault n) fault n (once.cause (cause.Fault fault n) in_force ejected) refl in
+    let Out : SimState → Type 0 = λ x. x.state.world.ejected ≡ Some (cause.Fault p.fault n) in
+    record {
+      in_force = in_force;
+      clock = n;
+      ejected = subst Out to (rw same ejected);
+      ejecting = last.0;
+      last = last.1;
+      place = at_some (IsPlaceOf last.0) g.found p found (last_heard (calls_of s e) last.0 f g hears last.1);
+    }
+
+-- and what is found of it, whether it was accepted or not
+pub places_at : {A E : Type 0} (r : Result A E) (s t : SimState) (e : Event) (f g : Finder) (fault : Fault) (n : ℕ) (o : Option FaultPlace)
+    → s.state.world.ejected ≡ None → t ≡ after_event s e → OnOk r (EjectsOnce s e t) → OnErr r (t ≡ s) → t.state.world.ejected ≡ Some (cause.Fault fault n)
+    → Hears Finds f (calls_of s e) g → IfSome o (λ p. g.found ≡ Some p) → IfSome o (λ p. p.fault ≡ fault) → IfSome o (IsPlaceAt s e)
+places_at r s t e f g fault n None in_force to once stays ejected hears found same = tt
+places_at (Ok x) s t e f g fault n (Some p) in_force to once stays ejected hears found same = place_at s t e f g fault n p in_force to once ejected hears found same
+places_at (Err x) s t e f g fault n (Some p) in_force to once stays ejected hears found same =
+    let Out : SimState → Type 0 = λ x. x.state.world.ejected ≡ Some (cause.Fault fault n) in
+    let bad : None ≡ Some (cause.Fault fault n) = sym in_force ∙ subst Out stays ejected in
+    absurd (cc)
+
+-- and of any ejection
+pub places_for : {A E : Type 0} (r : Result A E) (s t : SimState) (e : Event) (f g : Finder) (why : Eject) (o : Option FaultPlace)
+    → s.state.world.ejected ≡ None → t ≡ after_event s e → OnOk r (EjectsOnce s e t) → OnErr r (t ≡ s) → t.state.world.ejected ≡ Some why
+    → Hears Finds f (calls_of s e) g → IfSome o (λ p. g.found ≡ Some p) → IfSome o (λ p. IsForFault p.fault why) → IfSome o (IsPlaceAt s e)
+places_for r s t e f g why None in_force to once stays ejected hears found same = tt
+places_for r s t e f g (cause.Fault fault n) (Some p) in_force to once stays ejected hears found same =
+    places_at r s t e f g fault n (Some p) in_force to once stays ejected hears found same
+places_for r s t e f g (cause.Stall u n) (Some p) in_force to once stays ejected hears found same = absurd same
+
+-- in the first event
+pub place_first : (s : SimState) (e : Event) (es : List Event) (p : FaultPlace) → IsPlaceAt s e p → IsPlaceIn s (e ∷ es) p
+place_first s e es p at = record { done = []; event = e; rest = es; whole = refl; place = at }
+
+-- in an event after the first
+pub place_later : (s : SimState) (e : Event) (es : List Event) (p : FaultPlace) → IsPlaceIn (after_event s e) es p → IsPlaceIn s (e ∷ es) p
+place_later s e es p in_rest = record {
+  done = e ∷ in_rest.done;
+  event = in_rest.event;
+  rest = in_rest.rest;
+  whole = ap (λ xs. e ∷ xs) in_rest.whole;
+  place = in_rest.place;
+}
+
+-- a machine that took the first event has the places of the others
+pub place_back : (d : DriverState) (s t : SimState) (e : Event) (es : List Event) (p : FaultPlace) → es ≡ e ∷ remaining d (after_event s e) → t ≡ after_event s e
+    → IsPlaceIn t (remaining d t) p → IsPlaceIn s es p
+place_back d s t e es p whole to there =
+    let From : SimState → Type 0 = λ x. IsPlaceIn x (remaining d x) p in
+    let In : List Event → Type 0 = λ xs. IsPlaceIn s xs p in
+    subst In (sym whole) (place_later s e (remaining d (after_event s e)) p (subst From to there))
+
+-- what is found in the first event is found in all
+pub places_first : (s : SimState) (e : Event) (es rest : List Event) (o : Option FaultPlace) → es ≡ e ∷ rest → IfSome o (IsPlaceAt s e) → IfSome o (IsPlaceIn s es)
+places_first s e es rest None whole there = tt
+places_first s e es rest (Some p) whole there =
+    let In : List Event → Type 0 = λ xs. IsPlaceIn s xs p in
+    subst In (sym whole) (place_first s e rest p there)
+
+-- what holds of each place holds of the one that is found
+pub if_found : (P Q : FaultPlace → Type 0) (o : Option FaultPlace) → ((p : FaultPlace) → P p → Q p) → IfSome o P → IfSome o Q
+if_found P Q None h there = tt
+if_found P Q (Some p) h there = h p there
+
+-- and of an answer
+pub if_found_in : {E : Type 0} (P Q : FaultPlace → Type 0) (r : Result (Option FaultPlace) E) → ((p : FaultPlace) → P p → Q p) → IfOk r (λ o. IfSome o P) → IfOk r (λ o. IfSome o Q)
+if_found_in P Q (Ok o) h there = if_found P Q o h there
+if_found_in P Q (Err e) h there = tt
+
+-- ---- the run under a policy
+
+-- in an event
+pub in_event : {E : Type 0} (policy : PolicyState) (w : WorkloadState) (tree : Hierarchy) (cpus : ℕ) (s : SimState) (r : Result (Option FaultPlace) E) → tree ≡ idle w.groups w.homes → cpus ≡ w.cpus
+    → IsFirstState policy tree cpus s → IfOk r (λ o. IfSome o (IsPlaceIn s (workload_events w s))) → IfOk r (λ o. IfSome o (IsPlaceUnder policy w))
+in_event policy w tree cpus s r same count first there =
+    let First : Hierarchy → Type 0 = λ t. IsFirstState policy t w.cpus s in
+    let On : ℕ → Type 0 = λ n. IsFirstState policy tree n s in
+    if_found_in (IsPlaceIn s (workload_events w s)) (IsPlaceUnder policy w) r (λ p x. In_event s (subst First same (subst On count first)) x) there
+
+-- where the machine can't begin
+pub at_start : {E : Type 0} (policy : PolicyState) (w : WorkloadState) (tree : Hierarchy) (cpus : ℕ) (e : NewError) (r : Result (Option FaultPlace) E) → tree ≡ idle w.groups w.homes → cpus ≡ w.cpus
+    → IsRefusal policy tree cpus e → (is_init_failed e ≡ false → IfOk r (λ o. o ≡ None)) → IfOk r (λ o. IfSome o (IsPlaceUnder policy w))
+at_start policy w tree cpus e (Err x) same count refused none = tt
+at_start policy w tree cpus e (Ok None) same count refused none = tt
+at_start policy w tree cpus (start.InitFailed n) (Ok (Some p)) same count refused none =
+    let Fails : Hierarchy → Type 0 = λ t. first_state policy t w.cpus ≡ Err n in
+    let On : ℕ → Type 0 = λ k. first_state policy tree k ≡ Err n in
+    At_start n (subst Fails same (subst On count refused.1))
+at_start policy w tree cpus start.BadShape (Ok (Some p)) same count refused none = let bad : Some p ≡ None = none refl in absurd (cc)
+at_start policy w tree cpus start.OutOfMemory (Ok (Some p)) same count refused none = let bad : Some p ≡ None = none refl in absurd (cc)
+
+-- of the policy that a text stands for
+pub under_text : {E : Type 0} (text : List ℕ) (policy : Option PolicyState) (w : WorkloadState) (r : Result (Option FaultPlace) E) → IfSome policy (IsPolicyOf text)
+    → IfOk r (λ o. IfSome o (IsUnderAny policy w)) → IfOk r (λ o. IfSome o (IsPlaceFound text w))
+under_text text None w r reads there = if_found_in (IsUnderAny None w) (IsPlaceFound text w) r (λ p x. absurd x) there
+under_text text (Some policy) w r reads there = if_found_in (IsPlaceUnder policy w) (IsPlaceFound text w) r (λ p x. record { policy = policy; reads = reads; there = x }) there

@@ -1,0 +1,104 @@
+-- The first fault of a callback stays its first fault, and a run can go one way only.
+use Rattle.std.proofs.Common.{◌≡◌, ℕ, zero, suc, ◌+◌, ◌-◌, ◌≤◌, nat_lt, List, length, map, Option, Some, None, refl, sym, ap, ◌∙◌, subst, arith}
+use Rattle.scx_dsq.specs.Queues.{front_of}
+use Rattle.scx_isa_semantics.specs.declared.callbacks.Callback.{Callback}
+use Rattle.scx_isa_semantics.specs.declared.host_tables.Helper.{Helper}
+use Rattle.scx_isa_semantics.specs.Code.{Code}
+use Rattle.scx_isa_semantics.specs.Effects.{Query, Call, Load, Store}
+use Rattle.scx_isa_semantics.specs.Machine.{Machine}
+use Rattle.scx_isa_semantics.specs.Runs.{LeadsTo, Leads}
+use Rattle.scx_isa_semantics.specs.Steps.{Outcome, Stuck, Goes, Asks, Ends, step}
+use Rattle.scx_vm.specs.Arguments.{argument_of}
+use Rattle.scx_vm.specs.declared.arguments.Arg.{Arg}
+use Rattle.scx_vm.specs.Host.{host, after_query}
+use Rattle.scx_sched_world.specs.declared.call.Insert.{Insert}
+use Rattle.scx_sched_world.specs.declared.faults.Fault.{Fault}
+use Rattle.scx_sched_world.specs.World.{WorldState}
+use Rattle.scx_sched_world.specs.Tasks.{after_leave, after_enter, for_cpu}
+use Rattle.scx_sched_world.specs.Helpers.{with_fault, is_dispatch, with_insert, after_release, insert_or_fault, front_moved_to_local, helper_after, world_functions}
+use Rattle.scx_sched_machine.proofs.Choices.{keeps_if}
+use Rattle.scx_sched_machine.proofs.HelperCalls.{by_helper}
+
+module _ (f : Fault) where
+  abbrev Has : WorldState → Type 0
+  Has w = w.call.fault ≡ Some f
+
+  has_faulted : (w : WorldState) (g : Fault) → Has w → Has (with_fault w g)
+  has_faulted w g h = rw h refl
+
+  has_entered : (w : WorldState) (t : ℕ) (i : Insert) → Has w → Has (after_enter w t i)
+  has_entered w t i h = keeps_if Has (nat_lt t (length w.tasks)) _ w h h
+
+  has_released : (w : WorldState) (t : Option ℕ) (i : Insert) → Has w → Has (after_release w t i)
+  has_released w None i h = h
+  has_released w (Some t) i h = has_entered (after_leave w t) t i h
+
+  has_inserted : (w : WorldState) (t : Option ℕ) (i : Insert) → Has w → Has (insert_or_fault w None t i)
+  has_inserted w t i h = keeps_if Has (is_dispatch w.call.callback) (after_release w t (for_cpu w.call.cpu i)) (with_insert w i) (has_released w t (for_cpu w.call.cpu i) h) h
+
+  has_moved : (w : WorldState) (o : Option ℕ) (q : ℕ) → Has w → Has (front_moved_to_local w o q)
+  has_moved w None q h = h
+  has_moved w (Some t) q h = h
+
+  has_helper : (w : WorldState) (x : Helper) (a : List Arg) → Has w → Has (helper_after w x a)
+  has_helper w x a h = by_helper Has w (record {
+    same = h;
+    faulty = λ g other. has_faulted w g h;
+    created = λ q. h;
+    inserted = λ t i flags none. has_inserted w t i h;
+    moved = λ q here low. has_moved w (front_of w.queues q) q h;
+  }) x a
+
+  has_query : (w : WorldState) (q : Query) → Has w → Has (after_query world_functions w q)
+  has_query w (Call x a) h = has_helper w x (map argument_of a) h
+  has_query w (Load t x) h = h
+  has_query w (Store t x k) h = h
+
+  has_step : (o : Outcome) (w : WorldState) (t : ℕ) (k : Machine) (v : WorldState) → LeadsTo (host world_functions) o w t k v → Has w → Has v
+  has_step Stuck w t k v l h = absurd l
+  has_step (Goes u x) w t k v (l₀, l₁, l₂) h = subst Has (sym l₂) h
+  has_step (Asks q u go) w t k v (x, (a₀, a₁, a₂), l₁, l₂) h = subst Has (sym a₁) (has_query w q h)
+  has_step (Ends x) w t k v l h = absurd l
+
+  -- through any number of steps
+  pub has_run : (c : Callback) (code : Code) (n s : ℕ) (m : Machine) (w : WorldState) (s' : ℕ) (m' : Machine) (w' : WorldState) → Leads (host world_functions) c code n s m w s' m' w' → Has w → Has w'
+  has_run c code zero s m w s' m' w' (es, em, ew) h = subst Has (sym ew) h
+  has_run c code (suc n) s m w s' m' w' (t, k, v, first, more) h = has_run c code n t k v s' m' w' more (has_step (step c code s m) w t k v first h)
+
+-- ---- the run goes one way
+
+only_step : (o : Outcome) (w : WorldState) (t : ℕ) (k : Machine) (v : WorldState) (t' : ℕ) (k' : Machine) (v' : WorldState)
+    → LeadsTo (host world_functions) o w t k v → LeadsTo (host world_functions) o w t' k' v' → (t' ≡ t) × (k' ≡ k) × (v' ≡ v)
+only_step Stuck w t k v t' k' v' l l' = absurd l
+only_step (Goes u x) w t k v t' k' v' (a, b, c) (a', b', c') = (a' ∙ sym a, b' ∙ sym b, c' ∙ sym c)
+only_step (Asks q u go) w t k v t' k' v' (x, (a, b, c), d, e) (x', (a', b', c'), d', e') =
+    (d' ∙ sym d, e' ∙ ap go (a' ∙ sym a) ∙ sym e, b' ∙ sym b)
+only_step (Ends x) w t k v t' k' v' l l' = absurd l
+
+same : (k j : ℕ) → j ≡ 0 + k → j ≡ k
+same k j e = omega (arith, e)
+
+module _ (c : Callback) (code : Code) where
+  abbrev To : ℕ → ℕ → Machine → WorldState → ℕ → Machine → WorldState → Type 0
+  To n s m w s' m' w' = Leads (host world_functions) c code n s m w s' m' w'
+
+  -- what is left of a run after its first steps
+  rest_of : (n k j s : ℕ) (m : Machine) (w : WorldState) (s₁ : ℕ) (m₁ : Machine) (w₁ : WorldState) (s₂ : ℕ) (m₂ : Machine) (w₂ : WorldState)
+      → j ≡ n + k → To n s m w s₁ m₁ w₁ → To j s m w s₂ m₂ w₂ → To k s₁ m₁ w₁ s₂ m₂ w₂
+  rest_of zero k j s m w s₁ m₁ w₁ s₂ m₂ w₂ e (es, em, ew) long = rw (es, em, ew) (subst (λ x. To x s m w s₂ m₂ w₂) (same k j e) long)
+  rest_of (suc n) k zero s m w s₁ m₁ w₁ s₂ m₂ w₂ e short long = absurd (omega (arith, e))
+  rest_of (suc n) k (suc i) s m w s₁ m₁ w₁ s₂ m₂ w₂ e (t, x, v, first, more) (t', x', v', first', more') =
+      let only = only_step (step c code s m) w t x v t' x' v' first first' in
+      rest_of n k i t x v s₁ m₁ w₁ s₂ m₂ w₂ (omega (arith, e)) more (rw (← only.0, ← only.1, ← only.2) more')
+
+  -- while the callback has no fault it had none before
+  pub none_up_to : (n j s : ℕ) (m : Machine) (w : WorldState) (s₁ : ℕ) (m₁ : Machine) (w₁ : WorldState) (s₂ : ℕ) (m₂ : Machine) (w₂ : WorldState)
+      → w₂.call.fault ≡ None → To j s m w s₂ m₂ w₂ → n ≤ j → To n s m w s₁ m₁ w₁ → w₁.call.fault ≡ None
+  none_up_to n j s m w s₁ m₁ w₁ s₂ m₂ w₂ none long few short = go w₁.call.fault refl
+    where
+      rest : To (j - n) s₁ m₁ w₁ s₂ m₂ w₂
+      rest = rest_of n (j - n) j s m w s₁ m₁ w₁ s₂ m₂ w₂ (omega (arith, few)) short long
+
+      go : (o : Option Fault) → w₁.call.fault ≡ o → w₁.call.fault ≡ None
+      go None e = e
+      go (Some f) e = let bad : None ≡ Some f = sym none ∙ has_run f c code (j - n) s₁ m₁ w₁ s₂ m₂ w₂ rest e in absurd (cc)

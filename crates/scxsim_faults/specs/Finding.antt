@@ -1,0 +1,80 @@
+-- What a finder keeps of each callback that it hears, and what is made of it. No public clause cites
+-- it.
+use Rattle.std.specs.Prelude.{◌≡◌, ℕ, ◌≤◌, Bool, true, false, length, Option, Some, None, IfSome}
+use Rattle.scx_isa_semantics.specs.declared.callbacks.Callback.TheVariants.{SelectCpu}
+use Rattle.scx_isa_semantics.specs.declared.instructions.Insn.TheVariants as insn
+use Rattle.scx_isa_semantics.specs.Code.{at}
+use Rattle.scx_isa_semantics.specs.HostTables.{helper_at}
+use Rattle.scx_vm.specs.Programs.{VerifiedProgram}
+use Rattle.scx_vm.specs.declared.arguments.Args.{Args}
+use Rattle.scx_sched_world.specs.declared.faults.Fault.{Fault}
+use Rattle.scx_sched_world.specs.declared.faults.Fault.TheVariants.{NoSuchCpu}
+use Rattle.scx_sched_world.specs.declared.eject.Eject.{Eject}
+use Rattle.scx_sched_world.specs.declared.eject.Eject.TheVariants as cause
+use Rattle.scx_sched_world.specs.World.{WorldState}
+use Rattle.scx_sched_machine.specs.declared.start.NewError.{NewError}
+use Rattle.scx_sched_machine.specs.declared.start.NewError.TheVariants as start
+use Rattle.scx_sched_machine.specs.Policy.{PolicyState}
+use Rattle.scx_load_workloads.specs.Workload.{WorkloadState}
+use Rattle.scx_sched_machine.specs.Steps.{CallMade}
+use Rattle.scxsim_faults.specs.declared.created.Created.{Created}
+use Rattle.scxsim_faults.specs.declared.finder.Finder.{Finder}
+use Rattle.scxsim_faults.specs.declared.place.FaultPlace.{FaultPlace}
+use Rattle.scxsim_faults.specs.declared.place.HelperCall.{HelperCall}
+use Rattle.scxsim_faults.specs.declared.running.Answered.{Answered}
+use Rattle.scxsim_faults.specs.Places.{IsPlaceOf, IsPlaceUnder}
+
+-- the run came to a call of that helper at that slot, with these values in r1 to r5, by which what
+-- was awaited came about
+pub record IsCallAt (program : VerifiedProgram) (ran : Answered) (slot : ℕ) (call : HelperCall)
+    : Type 0 where
+  pub came : ran.came ≡ Some (record { slot = slot; arguments = call.arguments })
+  pub calls : at program.code slot ≡ Some (insn.Call call.number)
+  pub helper : helper_at call.number ≡ Some call.helper
+
+-- select_cpu answered no CPU, and had no fault before; the slot is that of its exit
+pub record IsAnswerAt (program : VerifiedProgram) (ran : Answered) (w : WorldState) (fault : Fault)
+    (slot : ℕ) : Type 0 where
+  pub none : w.call.fault ≡ None
+  pub fault_is : fault ≡ NoSuchCpu
+  pub slot_is : slot ≡ ran.last
+  pub select_cpu : program.context.callback ≡ SelectCpu
+  pub past : length w.cpus ≤ ran.answer
+
+-- that slot, that fault and that call are told of a run that ended in that world
+abbrev pub IsToldAt :
+    VerifiedProgram → Answered → WorldState → Fault → ℕ → Option HelperCall → Type 0
+IsToldAt program ran w fault slot None = IsAnswerAt program ran w fault slot
+IsToldAt program ran w fault slot (Some call) =
+    (w.call.fault ≡ Some fault) × IsCallAt program ran slot call
+
+-- all that is told of a run
+pub record IsTold (program : VerifiedProgram) (a : Args) (ran : Answered) (w : WorldState)
+    (queues : Created) (p : FaultPlace) : Type 0 where
+  pub callback : p.callback ≡ program.context.callback
+  pub given : p.given ≡ a.first
+  pub answer : p.answer ≡ ran.answer
+  pub cpus : p.cpus ≡ length w.cpus
+  pub queues_are : p.queues ≡ queues
+  pub told_at : IsToldAt program ran w p.fault p.slot p.call
+
+-- the finder keeps the policy's queues, and the place of the call's first fault if it had one
+pub record Finds (f : Finder) (m : CallMade) (g : Finder) : Type 0 where
+  pub queues : g.queues ≡ f.queues
+  pub place : IfSome g.found (IsPlaceOf m)
+  pub with_queues : IfSome g.found (λ p. p.queues ≡ f.queues)
+
+-- the ejection is for that fault
+abbrev pub IsForFault : Fault → Eject → Type 0
+IsForFault f (cause.Fault g clock) = f ≡ g
+IsForFault f (cause.Stall t clock) = ⊥
+
+-- whether a machine can't begin because init or enable fails
+abbrev pub is_init_failed : NewError → Bool
+is_init_failed (start.InitFailed n) = true
+is_init_failed e = false
+
+-- the place is found under that policy; there is none without a policy
+abbrev pub IsUnderAny : Option PolicyState → WorkloadState → FaultPlace → Type 0
+IsUnderAny None w p = ⊥
+IsUnderAny (Some policy) w p = IsPlaceUnder policy w p

@@ -1,0 +1,127 @@
+-- Where the fault of a policy came: at which call of a helper, and in which event of a run.
+use Rattle.std.specs.Prelude.{◌≡◌, ℕ, ℤ, ◌≤◌, List, ◌∷◌, ◌++◌, length, Option, Some, None, Ok, Err}
+use Rattle.scx_isa_semantics.specs.declared.callbacks.Callback.TheVariants.{SelectCpu}
+use Rattle.scx_isa_semantics.specs.declared.instructions.Insn.TheVariants as insn
+use Rattle.scx_isa_semantics.specs.Code.{at}
+use Rattle.scx_isa_semantics.specs.HostTables.{helper_at}
+use Rattle.scx_isa_semantics.specs.Machine.{Machine, start}
+use Rattle.scx_isa_semantics.specs.Steps.{step}
+use Rattle.scx_isa_semantics.specs.Runs.{Leads, LeadsTo}
+use Rattle.scx_vm.specs.Arguments.{program_arguments}
+use Rattle.scx_vm.specs.Host.{host}
+use Rattle.scx_vm_tagged.specs.Watched.{held, EndsAt}
+use Rattle.scx_weights.specs.Hierarchy.{idle}
+use Rattle.scx_sched_world.specs.declared.eject.Eject.TheVariants as cause
+use Rattle.scx_sched_world.specs.declared.faults.Fault.{Fault}
+use Rattle.scx_sched_world.specs.declared.faults.Fault.TheVariants.{NoSuchCpu}
+use Rattle.scx_sched_world.specs.World.{WorldState}
+use Rattle.scx_sched_world.specs.Helpers.{world_functions}
+use Rattle.scx_sched_machine.specs.declared.events.Event.{Event}
+use Rattle.scx_sched_machine.specs.Policy.{PolicyState}
+use Rattle.scx_sched_machine.specs.Start.{first_state}
+use Rattle.scx_sched_machine.specs.Steps.{CallMade}
+use Rattle.scx_sched.specs.Causes.{EndsIn, IsLast}
+use Rattle.scx_sched.specs.Sim.{SimState, IsFirstState, after_event, calls_of}
+use Rattle.scx_load_policies.specs.Policies.{PolicyFile}
+use Rattle.scx_load_policies.specs.Reading.{policy_text}
+use Rattle.scx_load_policies.specs.Building.{IsBuilt}
+use Rattle.scx_load_workloads.specs.Workload.{WorkloadState}
+use Rattle.scx_load_driver.specs.Runs.{stepped_all}
+use Rattle.scx_load_driver.specs.Events.{workload_events}
+use Rattle.scxsim_faults.specs.declared.place.FaultPlace.{FaultPlace}
+use Rattle.scxsim_faults.specs.declared.place.HelperCall.{HelperCall}
+
+-- ---- in the run of one callback
+
+-- The run of the callback's program, from its start, comes to a call of this helper at this slot,
+-- with these values in r1 to r5. Up to this call the callback has no fault. After it, it has that
+-- one.
+pub record IsFirstFault (m : CallMade) (fault : Fault) (slot : ℕ) (call : HelperCall)
+    : Type 0 where
+  pub steps : ℕ
+  pub state : Machine
+  pub before : WorldState
+  pub leads : Leads (host world_functions) m.callback m.program.code steps 0
+      (start (program_arguments m.arguments) m.maps) m.world slot state before
+  pub calls : at m.program.code slot ≡ Some (insn.Call call.number)
+  pub helper : helper_at call.number ≡ Some call.helper
+  pub registers : call.arguments ≡ held state
+  pub none_before : (n s : ℕ) (k : Machine) (w : WorldState) → n ≤ steps
+      → Leads (host world_functions) m.callback m.program.code n 0
+      (start (program_arguments m.arguments) m.maps) m.world s k w
+      → w.call.fault ≡ None
+  pub next_slot : ℕ
+  pub next_state : Machine
+  pub after : WorldState
+  pub does : LeadsTo (host world_functions) (step m.callback m.program.code slot state) before
+      next_slot next_state after
+  pub faults : after.call.fault ≡ Some fault
+
+-- No helper call of the run has a fault, and select_cpu ends at this slot with an answer that is no
+-- CPU.
+pub record IsWrongAnswer (m : CallMade) (fault : Fault) (slot answer : ℕ) : Type 0 where
+  pub world : WorldState
+  pub ends : EndsAt (host world_functions) m.callback m.program.code (program_arguments m.arguments)
+      m.maps m.world answer world slot
+  pub none_before : world.call.fault ≡ None
+  pub select_cpu : m.callback ≡ SelectCpu
+  pub past : length world.cpus ≤ answer
+  pub fault_is : fault ≡ NoSuchCpu
+
+-- a place with a helper's call is the first that has a fault; one without is that of a wrong answer
+abbrev pub IsFaultAt : CallMade → FaultPlace → Option HelperCall → Type 0
+IsFaultAt m p None = IsWrongAnswer m p.fault p.slot p.answer
+IsFaultAt m p (Some call) = IsFirstFault m p.fault p.slot call
+
+-- the callback comes to that answer, on so many CPUs
+pub record HasAnswered (m : CallMade) (answer cpus : ℕ) : Type 0 where
+  pub world : WorldState
+  pub ends : EndsIn m answer world
+  pub count : cpus ≡ length world.cpus
+
+-- the place is where the first fault of that callback came
+pub record IsPlaceOf (m : CallMade) (p : FaultPlace) : Type 0 where
+  pub callback : p.callback ≡ m.callback
+  pub given : p.given ≡ m.arguments.first
+  pub answered : HasAnswered m p.answer p.cpus
+  pub fault_at : IsFaultAt m p p.call
+
+-- ---- in a run of the machine
+
+-- In this event the policy is ejected for that fault. The callback that ejects it is the last one
+-- of the event, and the place is its.
+pub record IsPlaceAt (s : SimState) (event : Event) (p : FaultPlace) : Type 0 where
+  pub in_force : s.state.world.ejected ≡ None
+  pub clock : ℕ
+  pub ejected : (after_event s event).state.world.ejected ≡ Some (cause.Fault p.fault clock)
+  pub ejecting : CallMade
+  pub last : IsLast ejecting (calls_of s event)
+  pub place : IsPlaceOf ejecting p
+
+-- in one of these events the policy is ejected there
+pub record IsPlaceIn (s : SimState) (events : List Event) (p : FaultPlace) : Type 0 where
+  pub done : List Event
+  pub event : Event
+  pub rest : List Event
+  pub whole : events ≡ done ++ event ∷ rest
+  pub place : IsPlaceAt (stepped_all s done) event p
+
+-- In the run of the workload under the policy the place is where it was ejected. If the machine
+-- can't begin, since init or enable fails, nothing is said of the place.
+pub data IsPlaceUnder (policy : PolicyState) (w : WorkloadState) (p : FaultPlace) : Type 0 where
+  In_event : (s : SimState) → IsFirstState policy (idle w.groups w.homes) w.cpus s
+      → IsPlaceIn s (workload_events w s) p → IsPlaceUnder policy w p
+  At_start : (answer : ℤ) → first_state policy (idle w.groups w.homes) w.cpus ≡ Err answer
+      → IsPlaceUnder policy w p
+
+-- the text stands for that policy
+pub record IsPolicyOf (text : List ℕ) (policy : PolicyState) : Type 0 where
+  pub file : PolicyFile
+  pub read : policy_text text ≡ Ok file
+  pub built : IsBuilt file policy
+
+-- the place is where the policy of that text was ejected
+pub record IsPlaceFound (text : List ℕ) (w : WorkloadState) (p : FaultPlace) : Type 0 where
+  pub policy : PolicyState
+  pub reads : IsPolicyOf text policy
+  pub there : IsPlaceUnder policy w p
