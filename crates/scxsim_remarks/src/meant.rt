@@ -2,57 +2,99 @@ use scx_isa::CALLBACKS;
 use std::alloc::{AllocError, Global};
 use strsim::levenshtein;
 
-/// The keys of policies, workloads and files of events, but for the names of callbacks.
-const KEYS: [&str; 20] = [
-    "at",
-    "change",
-    "code",
-    "cpu_max",
-    "cpus",
-    "entries",
-    "events",
-    "group",
-    "map",
-    "ms",
-    "name",
-    "parent",
-    "run",
-    "sleep",
-    "slots",
-    "start",
-    "task",
-    "timeout_ms",
-    "value_size",
-    "weight",
-];
+/// The format of a file, which decides the keys that its tables take.
+#[derive(Clone, Copy)]
+pub(crate) enum Format {
+    Policy,
+    Workload,
+    Events,
+}
 
-/// How many letters of a key may be others, more or less.
+/// A table of a file, in any format.
+#[derive(Clone, Copy)]
+enum Table {
+    Top,
+    Map,
+    /// `code` or `slots`.
+    Programs,
+    Group,
+    Task,
+    Change,
+}
+
+/// A key, and the table that it stands in.
+#[derive(Clone, Copy)]
+struct Key<'a> {
+    table: Table,
+    word: &'a str,
+}
+
+/// The greatest number of letters that a near key may have changed, added or left out.
 const FEW: usize = 2;
 
-/// The known key that is nearest so far, and how many letters make the difference.
+/// The nearest key that was met, and its distance in letters.
 #[derive(Clone, Copy)]
 struct Nearest {
     known: Option<&'static str>,
     distance: usize,
 }
 
-/// The known key that is nearest to the last one of a path, if one is near.
-pub(crate) fn nearest_key(alloc: Global, path: &str) -> Option<&'static str> {
-    let key = last_key(path);
+/// The key of the same table that is nearest to the key at the end of a path, if one is near.
+pub(crate) fn nearest_key(alloc: Global, format: Format, path: &str) -> Option<&'static str> {
+    let key = key_of(path);
     let mut nearest = Nearest {
         known: None,
         distance: FEW.saturating_add(1),
     };
-    for known in KEYS {
-        nearest = nearer(alloc, nearest, key, known).ok()?;
+    for known in keys_of(format, key.table) {
+        nearest = nearer(alloc, nearest, key.word, known).ok()?;
     }
-    for callback in CALLBACKS {
-        nearest = nearer(alloc, nearest, key, callback.name()).ok()?;
+    if let (Format::Policy, Table::Programs) = (format, key.table) {
+        for callback in CALLBACKS {
+            nearest = nearer(alloc, nearest, key.word, callback.name()).ok()?;
+        }
     }
     nearest.known
 }
 
-/// This key, where it is nearer than the nearest so far and has a letter in common.
+/// The keys that the table takes, but for callbacks. None if the format has no such table.
+fn keys_of(format: Format, table: Table) -> &'static [&'static str] {
+    match format {
+        Format::Policy => policy_keys(table),
+        Format::Workload => workload_keys(table),
+        Format::Events => events_keys(table),
+    }
+}
+
+fn policy_keys(table: Table) -> &'static [&'static str] {
+    match table {
+        Table::Top => &["name", "timeout_ms", "map", "code", "slots"],
+        Table::Map => &["entries", "value_size"],
+        Table::Programs | Table::Group | Table::Task | Table::Change => &[],
+    }
+}
+
+fn workload_keys(table: Table) -> &'static [&'static str] {
+    match table {
+        Table::Top => &["cpus", "ms", "group", "task", "change"],
+        Table::Group => &["name", "weight", "parent", "cpu_max"],
+        Table::Task => &["name", "group", "start", "run", "sleep"],
+        Table::Change => &["at", "group", "weight"],
+        Table::Map | Table::Programs => &[],
+    }
+}
+
+fn events_keys(table: Table) -> &'static [&'static str] {
+    match table {
+        Table::Top => &["cpus", "ms", "group", "task", "events"],
+        Table::Group => &["name", "weight", "parent", "cpu_max"],
+        Table::Task => &["name", "group"],
+        Table::Map | Table::Programs | Table::Change => &[],
+    }
+}
+
+/// This key, if it is nearer than the nearest so far, isn't the same word, and shares at least half of its
+/// letters.
 fn nearer(
     alloc: Global,
     nearest: Nearest,
@@ -60,7 +102,7 @@ fn nearer(
     known: &'static str,
 ) -> Result<Nearest, AllocError> {
     let distance = levenshtein(alloc, key, known)?;
-    if distance < nearest.distance && distance < known.len() {
+    if distance != 0 && distance < nearest.distance && distance <= known.len() / 2 {
         return Ok(Nearest {
             known: Some(known),
             distance,
@@ -69,9 +111,42 @@ fn nearer(
     Ok(nearest)
 }
 
-fn last_key(path: &str) -> &str {
-    match path.rsplit_once('.') {
-        Some((_table, key)) => key,
-        None => path,
+/// The key at the end of a path. A path is `KEY`, `code.KEY`, `slots.KEY` or `ARRAY.NUMBER.KEY`.
+fn key_of(path: &str) -> Key<'_> {
+    let Some((first, rest)) = path.split_once('.') else {
+        return top(path);
+    };
+    if first == "code" || first == "slots" {
+        return Key {
+            table: Table::Programs,
+            word: rest,
+        };
+    }
+    match (array_of(first), rest.split_once('.')) {
+        (Some(table), Some((_number, word))) => Key { table, word },
+        _ => top(path),
+    }
+}
+
+/// A key at the top of a file.
+fn top(word: &str) -> Key<'_> {
+    Key {
+        table: Table::Top,
+        word,
+    }
+}
+
+/// The table of each element of the array at that key, if an array may stand there.
+fn array_of(key: &str) -> Option<Table> {
+    if key == "map" {
+        Some(Table::Map)
+    } else if key == "group" {
+        Some(Table::Group)
+    } else if key == "task" {
+        Some(Table::Task)
+    } else if key == "change" {
+        Some(Table::Change)
+    } else {
+        None
     }
 }

@@ -1,5 +1,5 @@
 use crate::faults::remark_on_fault;
-use crate::meant::nearest_key;
+use crate::meant::{Format, nearest_key};
 use crate::named_text::NamedText;
 use scx_asm::AsmFault;
 use scx_isa::Callback;
@@ -21,8 +21,12 @@ pub fn remark_on_run(
 ) -> Option<String> {
     match refusal {
         Refusal::Policy { path, cause } => remark_on_policy(alloc, policy, path, *cause),
-        Refusal::Workload { path, cause } => remark_on_key(alloc, workload, path, *cause),
-        Refusal::Events { path, cause } => remark_on_key(alloc, workload, path, *cause),
+        Refusal::Workload { path, cause } => {
+            remark_on_key(alloc, workload, Format::Workload, path, *cause)
+        }
+        Refusal::Events { path, cause } => {
+            remark_on_key(alloc, workload, Format::Events, path, *cause)
+        }
         Refusal::Callback {
             callback,
             fault,
@@ -68,7 +72,7 @@ fn remark_on_policy(
             drop(workload);
             hint_at_workload(alloc, policy.path).ok()
         }
-        Err(_) => remark_on_key(alloc, policy, path, cause),
+        Err(_) => remark_on_key(alloc, policy, Format::Policy, path, cause),
     }
 }
 
@@ -81,10 +85,16 @@ fn hint_at_workload(alloc: Global, path: &str) -> Result<String, AllocError> {
 }
 
 /// Of a key of a file.
-fn remark_on_key(alloc: Global, file: NamedText<'_>, path: &str, cause: Cause) -> Option<String> {
+fn remark_on_key(
+    alloc: Global,
+    file: NamedText<'_>,
+    format: Format,
+    path: &str,
+    cause: Cause,
+) -> Option<String> {
     match cause {
         Cause::NotToml => remark_on_toml(alloc, file),
-        Cause::Unknown => remark_on_unknown(alloc, file, path),
+        Cause::Unknown => remark_on_unknown(alloc, file, format, path),
         Cause::Asm { line, .. } => {
             let place = place_of_line(alloc, file.text, path, line);
             remark_at(alloc, file, place, path, cause)
@@ -122,13 +132,18 @@ fn remark_on_toml(alloc: Global, file: NamedText<'_>) -> Option<String> {
     file.error_at(alloc, fault.place, &what).ok()
 }
 
-/// Of a key that the format doesn't have.
-fn remark_on_unknown(alloc: Global, file: NamedText<'_>, path: &str) -> Option<String> {
+/// A remark on a key that its table doesn't take.
+fn remark_on_unknown(
+    alloc: Global,
+    file: NamedText<'_>,
+    format: Format,
+    path: &str,
+) -> Option<String> {
     let place = place_of_key(alloc, file.text, path)?;
     let mut what = Text::new(alloc);
     what.push(path);
     what.push(": unknown");
-    if let Some(known) = nearest_key(alloc, path) {
+    if let Some(known) = nearest_key(alloc, format, path) {
         what.push("; is ");
         what.push(known);
         what.push(" meant?");
