@@ -35,10 +35,10 @@ end_lines (Ok x) starts n a b c d first (counts, next) end = (starts, counts, Ap
 end_lines (Err x) starts n a b c d first next end = end
 
 -- what stands at the end
-pub ended : {A E : Type 0} (r : Result A E) (policy : List ℕ) (w : WorkloadState) (s : SimState) (n : Nones) (a b : Option (List ℕ))
-    → IfSome n.again (IsGoneThrough policy w s n) → OnOk r (AreEndLines n a b) → OnOk r (IsEnded policy w s a b)
-ended (Ok x) policy w s n a b again lines = record { nones = n; lines = lines; again = again }
-ended (Err x) policy w s n a b again lines = lines
+pub ended : {A E : Type 0} (r : Result A E) (policy : List ℕ) (w : WorkloadState) (s : SimState) (bounds : Bounds) (n : Nones) (a b : Option (List ℕ))
+    → n.bounds ≡ bounds → IfSome n.again (IsGoneThrough policy w s n) → OnOk r (AreEndLines n a b) → OnOk r (IsEnded policy w s bounds a b)
+ended (Ok x) policy w s bounds n a b within again lines = record { nones = n; bounds = within; lines = lines; again = again }
+ended (Err x) policy w s bounds n a b within again lines = lines
 
 -- states weren't gone through once more
 pub not_looked : (policy : List ℕ) (w : WorkloadState) (s : SimState) (n : Nones) → n.again ≡ None → IfSome n.again (IsGoneThrough policy w s n)

@@ -17,38 +17,45 @@ use Rattle.scx_explore_audit.specs.declared.table.Moves.{Moves}
 use Rattle.scx_explore_audit.specs.declared.table.Moves.TheVariants as moves
 use Rattle.scx_explore_audit.specs.Closed.{Respects}
 use Rattle.scx_explore_audit.specs.Laws.{NoneIn}
+use Rattle.scx_explore_workloads.specs.Files.{IsFileOf}
 use Rattle.scx_explore.specs.declared.starts.Starts.{Starts}
 use Rattle.scx_explore.specs.Forms.{IsFormOf}
 use Rattle.scxsim_simulation.specs.Runs.{IsRun}
 use Rattle.scxsim_explore.specs.declared.limits.Limit.{Limit}
+use Rattle.scxsim_explore.specs.declared.limits.Lists.{Lists}
+use Rattle.scxsim_explore.specs.Words.{IsBoundsOf, IsPast, IsPastTexts, IsWithin}
 use Rattle.scxsim_explore.specs.Lists.{Counts, Nones, count_lines, end_text, file_text, limit_line, told_text}
 
--- what may stand behind the trace of a list is written
-abbrev pub IsBehind : Option (List ℕ) → Option (List ℕ) → Type 0
-IsBehind old new = (file : Option (List ℕ)) × Appends old new (file_text file)
+-- What may stand behind the trace of a list: where lists are of milliseconds, the file of a workload
+-- with the same parts, whose events begin with the list.
+abbrev pub HasFile : Mode → WorkloadState → SimState → List Event → Option (List ℕ) → Type 0
+HasFile m w s events None = ⊤
+HasFile mode.Events w s events (Some text) = ⊥
+HasFile mode.Milliseconds w s events (Some text) = IsFileOf w s events text
+HasFile mode.Workloads w s events (Some text) = IsFileOf w s events text
 
--- A list of events, what is said to be found in it after so many of them, or after so many
--- milliseconds, and the workload file behind its trace, if there is one.
+-- A list of events, what is said to be found in it, and the workload file behind its trace, if there
+-- is one.
 pub record ToldList : Type 0 where
   pub finding : Finding
-  pub mode : Mode
-  pub depth : ℕ
   pub events : List Event
   pub file : Option (List ℕ)
 
--- the machine shows each of the lists, and they are written one after another
+-- the machine shows each of the lists, and they are written one after another, each with its length
+-- in that mode and its own file, if it has one
 abbrev pub AreTold :
-    WorkloadState → SimState → List ToldList → Option (List ℕ) → Option (List ℕ) → Type 0
-AreTold w s [] old new = new ≡ old
-AreTold w s (t ∷ ts) old new =
+    Mode → WorkloadState → SimState → List ToldList → Option (List ℕ) → Option (List ℕ) → Type 0
+AreTold m w s [] old new = new ≡ old
+AreTold m w s (t ∷ ts) old new =
     (between : Option (List ℕ)) × Shows w.homes s t.events t.finding
+    × HasFile m w s t.events t.file
     × Appends old between
-    (told_text (names_of w) s t.finding t.mode t.depth t.events ++ file_text t.file)
-    × AreTold w s ts between new
+    (told_text (names_of w) s t.finding m t.events ++ file_text t.file)
+    × AreTold m w s ts between new
 
 -- lists are written, each of which the machine shows
-abbrev pub HasTold : WorkloadState → SimState → Option (List ℕ) → Option (List ℕ) → Type 0
-HasTold w s old new = (told : List ToldList) × AreTold w s told old new
+abbrev pub HasTold : Mode → WorkloadState → SimState → Option (List ℕ) → Option (List ℕ) → Type 0
+HasTold m w s old new = (told : List ToldList) × AreTold m w s told old new
 
 -- ---- what is in none of the lists
 
@@ -103,12 +110,14 @@ abbrev pub AreEndLines : Nones → Option (List ℕ) → Option (List ℕ) → T
 AreEndLines n old new =
     (starts : Starts) × (counts : Counts) × Appends old new (end_text starts counts n)
 
--- that is written; and where it says that states were gone through once more, what the lines below it
--- say holds
+-- that is written of lists within the bounds; and where it says that states were gone through once
+-- more, what the lines below it say holds
 pub record IsEnded
-    (policy : List ℕ) (w : WorkloadState) (first : SimState) (old new : Option (List ℕ)) : Type 0
+    (policy : List ℕ) (w : WorkloadState) (first : SimState) (b : Bounds)
+    (old new : Option (List ℕ)) : Type 0
   where
     pub nones : Nones
+    pub bounds : nones.bounds ≡ b
     pub lines : AreEndLines nones old new
     pub again : IfSome nones.again (IsGoneThrough policy w first nones)
 
@@ -116,25 +125,34 @@ pub record IsEnded
 
 -- lists are written, each of which the machine shows, and behind them what stands at the end
 abbrev pub IsTold :
-    List ℕ → WorkloadState → SimState → Option (List ℕ) → Option (List ℕ) → Type 0
-IsTold policy w s old new =
-    (between : Option (List ℕ)) × HasTold w s old between × IsEnded policy w s between new
+    List ℕ → WorkloadState → SimState → Bounds → Option (List ℕ) → Option (List ℕ) → Type 0
+IsTold policy w s b old new =
+    (between : Option (List ℕ)) × HasTold b.mode w s old between
+    × IsEnded policy w s b between new
 
--- Lists are written of which the machine that the texts stand for shows that they are accepted and
--- end in what is said of them, each with its events and its trace, and behind them how far the search
--- came and what it has found in no list.
-pub record IsExplored (policy workload : List ℕ) (old new : Option (List ℕ)) : Type 0 where
-  pub of_workload : WorkloadState
-  pub first : SimState
-  pub run : IsRun policy workload of_workload first
-  pub told : IsTold policy of_workload first old new
+-- Lists within the bounds are written of which the machine that the texts stand for shows that they
+-- are accepted and end in what is said of them, each with its events and its trace, and behind them
+-- how far the search came and what it has found in no list. The machine is past no limit.
+pub record IsExplored (policy workload : List ℕ) (b : Bounds) (old new : Option (List ℕ)) : Type 0
+  where
+    pub of_workload : WorkloadState
+    pub first : SimState
+    pub run : IsRun policy workload of_workload first
+    pub within : IsWithin b of_workload first
+    pub told : IsTold policy of_workload first b old new
 
--- a line says what isn't explored
-abbrev pub IsLimited : Option (List ℕ) → Option (List ℕ) → Type 0
-IsLimited old new = (past : Limit) × Appends old new (limit_line past)
+-- what is written where the answer is that, of lists within bounds that words named
+abbrev pub IsAnswerWithin :
+    Bool → List ℕ → List ℕ → Bounds → Option (List ℕ) → Option (List ℕ) → Type 0
+IsAnswerWithin true policy workload b old new = IsExplored policy workload b old new
+IsAnswerWithin false policy workload b old new =
+    (past : Limit) × IsPastTexts policy workload b past × Appends old new (limit_line past)
 
--- what is written where the answer is that
+-- What is written where the answer is that: true is of lists within the bounds that the words name,
+-- and false of the limit that a word or the machine is past.
 abbrev pub IsAnswer :
-    Bool → List ℕ → List ℕ → Option (List ℕ) → Option (List ℕ) → Type 0
-IsAnswer true policy workload old new = IsExplored policy workload old new
-IsAnswer false policy workload old new = IsLimited old new
+    Bool → List ℕ → List ℕ → Lists → Option (List ℕ) → Option (List ℕ) → Type 0
+IsAnswer true policy workload l old new =
+    (b : Bounds) × IsBoundsOf l b × IsExplored policy workload b old new
+IsAnswer false policy workload l old new =
+    (past : Limit) × IsPast policy workload l past × Appends old new (limit_line past)

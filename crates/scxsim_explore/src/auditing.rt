@@ -51,7 +51,8 @@ pub(crate) fn look_again<'a>(
     unfound: Unfound<'a>,
 ) -> Unfound<'a>
     requires { IsFresh texts.policy.now texts.workload.now begun.now.machines }
-    ensures { IfSome result.again
+    ensures bounds { result.bounds ≡ unfound.entry.bounds }
+    ensures again { IfSome result.again
         (IsGoneThrough texts.entry.policy.now about.now begun.now.machines (nones_of result)) }
 {
     let Some(moves) = moves_again(&begun.search, about, end, unfound) else {
@@ -65,7 +66,8 @@ pub(crate) fn look_again<'a>(
 }
 
 fn unlooked<'a>(unfound: Unfound<'a>, reach: Option<usize>) -> Unfound<'a>
-    ensures { result.again ≡ None }
+    ensures bounds { result.bounds ≡ unfound.entry.bounds }
+    ensures again { result.again ≡ None }
 {
     Unfound {
         reach,

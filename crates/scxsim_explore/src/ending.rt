@@ -1,5 +1,6 @@
-ghost use Rattle.std.specs.Prelude.{◌≡◌, ◌≤◌, ◌++◌, OnOk, flat_map, length};
+ghost use Rattle.std.specs.Prelude.{◌≡◌, ◌≤◌, ◌++◌, OnOk, OnErr, flat_map, length};
 ghost use Rattle.std.specs.Io.KnownBytes.{Appends};
+ghost use Rattle.scxsim_output.specs.Output.{HasFailed};
 ghost use Rattle.scxsim_explore.specs.Lists.{kept_line, none_lines, overtaken_line, nones_text};
 ghost use Rattle.scxsim_explore.specs.Machines.{IsFresh};
 ghost use Rattle.scxsim_explore.specs.Telling.{AreCounted, AreEndLines, IsEnded};
@@ -22,8 +23,11 @@ pub(crate) fn write_end<W: Out>(
     out: &mut W,
 ) -> Result<(), Failed>
     requires { IsFresh texts.policy.now texts.workload.now begun.now.machines }
-    ensures { OnOk result (IsEnded texts.entry.policy.now about.now begun.now.machines
-        (W.contents out.old) (W.contents out.new)) }
+    ensures ok { OnOk result (IsEnded texts.entry.policy.now about.now begun.now.machines
+        course.now.bounds (W.contents out.old) (W.contents out.new)) }
+    ensures ok_failures { OnOk result (W.failure_count out.new ≡ W.failure_count out.old) }
+    ensures err_failures { OnErr result
+        (HasFailed (W.failure_count out.old) (W.failure_count out.new)) }
 {
     let mut places = SORTS;
     let count = gather_unfound(&begun.search, course.bounds.mode, &mut places);
@@ -87,8 +91,11 @@ fn write_lines<W: Out>(
     unfound: Unfound<'_>,
     out: &mut W,
 ) -> Result<(), Failed>
-    ensures { OnOk result (AreEndLines (nones_of unfound.entry)
+    ensures ok { OnOk result (AreEndLines (nones_of unfound.entry)
         (W.contents out.old) (W.contents out.new)) }
+    ensures ok_failures { OnOk result (W.failure_count out.new ≡ W.failure_count out.old) }
+    ensures err_failures { OnErr result
+        (HasFailed (W.failure_count out.old) (W.failure_count out.new)) }
 {
     write_starts(begun.starts, out)?;
     write_counts(&begun.search, unfound.bounds.mode, course, end, out)?;
@@ -103,10 +110,13 @@ fn write_counts<W: Out>(
     end: End,
     out: &mut W,
 ) -> Result<(), Failed>
-    ensures { OnOk result (AreCounted mode (W.contents out.old) (W.contents out.new)) }
+    ensures ok { OnOk result (AreCounted mode (W.contents out.old) (W.contents out.new)) }
+    ensures ok_failures { OnOk result (W.failure_count out.new ≡ W.failure_count out.old) }
+    ensures err_failures { OnErr result
+        (HasFailed (W.failure_count out.old) (W.failure_count out.new)) }
 {
     write_alike(search.are_tasks_alike(), out)?;
-    write_depths(mode, course.levels(), course.last(), out)?;
+    write_depths(mode, course.levels(), course.last, out)?;
     write_misfit(mode, misfit_of(end), out)
 }
 
@@ -124,8 +134,11 @@ fn write_depths<W: Out>(
     last: Option<Level>,
     out: &mut W,
 ) -> Result<(), Failed>
-    ensures { OnOk result (Appends (W.contents out.old) (W.contents out.new)
+    ensures ok { OnOk result (Appends (W.contents out.old) (W.contents out.new)
         (flat_map (kept_line mode) levels.now ++ kept_line mode last)) }
+    ensures ok_failures { OnOk result (W.failure_count out.new ≡ W.failure_count out.old) }
+    ensures err_failures { OnErr result
+        (HasFailed (W.failure_count out.old) (W.failure_count out.new)) }
 {
     write_levels(mode, levels, out)?;
     write_kept(mode, last, out)
@@ -133,8 +146,11 @@ fn write_depths<W: Out>(
 
 #[tactic(auto, using(crate::proofs::Written::none_written))]
 fn write_levels<W: Out>(mode: Mode, levels: &[Option<Level>], out: &mut W) -> Result<(), Failed>
-    ensures { OnOk result (Appends (W.contents out.old) (W.contents out.new)
+    ensures ok { OnOk result (Appends (W.contents out.old) (W.contents out.new)
         (flat_map (kept_line mode) levels.now)) }
+    ensures ok_failures { OnOk result (W.failure_count out.new ≡ W.failure_count out.old) }
+    ensures err_failures { OnErr result
+        (HasFailed (W.failure_count out.old) (W.failure_count out.new)) }
 {
     for level in levels {
         write_kept(mode, *level, out)?;
@@ -144,8 +160,11 @@ fn write_levels<W: Out>(mode: Mode, levels: &[Option<Level>], out: &mut W) -> Re
 
 #[tactic(auto, using(crate::proofs::Written::none_written))]
 fn write_kept<W: Out>(mode: Mode, level: Option<Level>, out: &mut W) -> Result<(), Failed>
-    ensures { OnOk result (Appends (W.contents out.old) (W.contents out.new)
+    ensures ok { OnOk result (Appends (W.contents out.old) (W.contents out.new)
         (kept_line mode level)) }
+    ensures ok_failures { OnOk result (W.failure_count out.new ≡ W.failure_count out.old) }
+    ensures err_failures { OnErr result
+        (HasFailed (W.failure_count out.old) (W.failure_count out.new)) }
 {
     match level {
         Some(level) => write_level(mode, level, out),
@@ -155,8 +174,11 @@ fn write_kept<W: Out>(mode: Mode, level: Option<Level>, out: &mut W) -> Result<(
 
 /// Writes whether states were gone through once more, and a line for each sort.
 fn write_nones<W: Out>(unfound: Unfound<'_>, out: &mut W) -> Result<(), Failed>
-    ensures { OnOk result (Appends (W.contents out.old) (W.contents out.new)
+    ensures ok { OnOk result (Appends (W.contents out.old) (W.contents out.new)
         (nones_text (nones_of unfound.entry))) }
+    ensures ok_failures { OnOk result (W.failure_count out.new ≡ W.failure_count out.old) }
+    ensures err_failures { OnErr result
+        (HasFailed (W.failure_count out.old) (W.failure_count out.new)) }
 {
     write_again(unfound.again, out)?;
     write_sorts(unfound.bounds, unfound.reach, unfound.sorts, out)?;
@@ -170,8 +192,11 @@ fn write_sorts<W: Out>(
     sorts: &[Sort],
     out: &mut W,
 ) -> Result<(), Failed>
-    ensures { OnOk result (Appends (W.contents out.old) (W.contents out.new)
+    ensures ok { OnOk result (Appends (W.contents out.old) (W.contents out.new)
         (none_lines bounds reach sorts.now)) }
+    ensures ok_failures { OnOk result (W.failure_count out.new ≡ W.failure_count out.old) }
+    ensures err_failures { OnErr result
+        (HasFailed (W.failure_count out.old) (W.failure_count out.new)) }
 {
     for sort in sorts {
         write_none(bounds, reach, *sort, out)?;
@@ -181,8 +206,11 @@ fn write_sorts<W: Out>(
 
 #[tactic(auto, using(crate::proofs::Written::none_written))]
 fn write_overtaken<W: Out>(unfound: Unfound<'_>, out: &mut W) -> Result<(), Failed>
-    ensures { OnOk result (Appends (W.contents out.old) (W.contents out.new)
+    ensures ok { OnOk result (Appends (W.contents out.old) (W.contents out.new)
         (overtaken_line unfound.entry.bounds unfound.entry.reach unfound.entry.is_overtaken)) }
+    ensures ok_failures { OnOk result (W.failure_count out.new ≡ W.failure_count out.old) }
+    ensures err_failures { OnErr result
+        (HasFailed (W.failure_count out.old) (W.failure_count out.new)) }
 {
     if unfound.is_overtaken {
         write_none(unfound.bounds, unfound.reach, Sort::Overtaken, out)

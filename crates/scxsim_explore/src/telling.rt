@@ -1,6 +1,8 @@
-ghost use Rattle.std.specs.Prelude.{◌≡◌, OnOk};
+ghost use Rattle.std.specs.Prelude.{◌≡◌, IfSome, OnOk, OnErr, option_map, string_bytes};
+ghost use Rattle.scx_explore_workloads.specs.Files.{IsFileOf};
+ghost use Rattle.scxsim_output.specs.Output.{HasFailed};
 ghost use Rattle.scxsim_explore.specs.Machines.{IsFresh};
-ghost use Rattle.scxsim_explore.specs.Telling.{HasTold, IsTold};
+ghost use Rattle.scxsim_explore.specs.Telling.{HasFile, HasTold, IsTold};
 
 use crate::auditing::Texts;
 use crate::beginning::Begun;
@@ -29,8 +31,11 @@ pub(crate) fn tell<V: Watcher, W: Out>(
     out: &mut W,
 ) -> Result<(), Failed>
     requires { IsFresh texts.policy.now texts.workload.now begun.old.machines }
-    ensures { OnOk result (IsTold texts.entry.policy.now about.now begun.old.machines
+    ensures ok { OnOk result (IsTold texts.entry.policy.now about.now begun.old.machines bounds
         (W.contents out.old) (W.contents out.new)) }
+    ensures ok_failures { OnOk result (W.failure_count out.new ≡ W.failure_count out.old) }
+    ensures err_failures { OnErr result
+        (HasFailed (W.failure_count out.old) (W.failure_count out.new)) }
 {
     let mut course = Course::new(bounds);
     let end = search(begun, about, &mut course, watcher, out)?;
@@ -48,8 +53,12 @@ fn search<V: Watcher, W: Out>(
     out: &mut W,
 ) -> Result<End, Failed>
     ensures same { begun.new.machines ≡ begun.old.machines }
-    ensures told { OnOk result (HasTold about.now begun.old.machines
+    ensures bounds { course.new.bounds ≡ course.old.bounds }
+    ensures told { OnOk result (HasTold course.old.bounds.mode about.now begun.old.machines
         (W.contents out.old) (W.contents out.new)) }
+    ensures ok_failures { OnOk result (W.failure_count out.new ≡ W.failure_count out.old) }
+    ensures err_failures { OnErr result
+        (HasFailed (W.failure_count out.old) (W.failure_count out.new)) }
 {
     let mut shown = 0;
     for count in 0..u64::MAX {
@@ -81,8 +90,11 @@ fn write_new<V: Watcher, W: Out>(
     out: &mut W,
 ) -> Result<usize, Failed>
     ensures same { begun.new.machines ≡ begun.old.machines }
-    ensures told { OnOk result (HasTold about.now begun.old.machines
+    ensures told { OnOk result (HasTold mode about.now begun.old.machines
         (W.contents out.old) (W.contents out.new)) }
+    ensures ok_failures { OnOk result (W.failure_count out.new ≡ W.failure_count out.old) }
+    ensures err_failures { OnErr result
+        (HasFailed (W.failure_count out.old) (W.failure_count out.new)) }
 {
     for place in shown..SORTS.len() {
         let Some(found) = begun.search.found(place) else {
@@ -102,8 +114,11 @@ fn write_most<W: Out>(
     out: &mut W,
 ) -> Result<(), Failed>
     ensures same { begun.new.machines ≡ begun.old.machines }
-    ensures told { OnOk result (HasTold about.now begun.old.machines
+    ensures told { OnOk result (HasTold mode about.now begun.old.machines
         (W.contents out.old) (W.contents out.new)) }
+    ensures ok_failures { OnOk result (W.failure_count out.new ≡ W.failure_count out.old) }
+    ensures err_failures { OnErr result
+        (HasFailed (W.failure_count out.old) (W.failure_count out.new)) }
 {
     let wait = begun.search.longest_wait();
     write_if_found(begun, about, mode, wait, out)?;
@@ -117,8 +132,11 @@ fn write_instructions<W: Out>(
     out: &mut W,
 ) -> Result<(), Failed>
     ensures same { begun.new.machines ≡ begun.old.machines }
-    ensures told { OnOk result (HasTold about.now begun.old.machines
+    ensures told { OnOk result (HasTold mode about.now begun.old.machines
         (W.contents out.old) (W.contents out.new)) }
+    ensures ok_failures { OnOk result (W.failure_count out.new ≡ W.failure_count out.old) }
+    ensures err_failures { OnErr result
+        (HasFailed (W.failure_count out.old) (W.failure_count out.new)) }
 {
     for callback in CALLBACKS {
         let most = begun.search.most_instructions(callback);
@@ -136,8 +154,11 @@ fn write_if_found<W: Out>(
     out: &mut W,
 ) -> Result<(), Failed>
     ensures same { begun.new.machines ≡ begun.old.machines }
-    ensures told { OnOk result (HasTold about.now begun.old.machines
+    ensures told { OnOk result (HasTold mode about.now begun.old.machines
         (W.contents out.old) (W.contents out.new)) }
+    ensures ok_failures { OnOk result (W.failure_count out.new ≡ W.failure_count out.old) }
+    ensures err_failures { OnErr result
+        (HasFailed (W.failure_count out.old) (W.failure_count out.new)) }
 {
     match found {
         Some(found) => write_one(begun, about, mode, found, out),
@@ -154,8 +175,11 @@ fn write_one<W: Out>(
     out: &mut W,
 ) -> Result<(), Failed>
     ensures same { begun.new.machines ≡ begun.old.machines }
-    ensures told { OnOk result (HasTold about.now begun.old.machines
+    ensures told { OnOk result (HasTold mode about.now begun.old.machines
         (W.contents out.old) (W.contents out.new)) }
+    ensures ok_failures { OnOk result (W.failure_count out.new ≡ W.failure_count out.old) }
+    ensures err_failures { OnErr result
+        (HasFailed (W.failure_count out.old) (W.failure_count out.new)) }
 {
     begun.search.list_of(found, &mut begun.events);
     let events = begun.events.as_slice();
@@ -163,7 +187,6 @@ fn write_one<W: Out>(
     let told = Told {
         finding: found.finding,
         mode,
-        depth: found.depth,
         events,
         file: text_of(&file),
     };
@@ -172,7 +195,9 @@ fn write_one<W: Out>(
     written
 }
 
-fn text_of(file: &Option<String>) -> Option<&str> {
+fn text_of(file: &Option<String>) -> Option<&str>
+    ensures { option_map (λ text. text.now) result ≡ option_map string_bytes file.now }
+{
     match file {
         Some(text) => Some(text.as_str()),
         None => None,
@@ -186,7 +211,8 @@ fn file_in(
     about: &Workload,
     events: &[Event],
 ) -> Option<String>
-    ensures { machines.new ≡ machines.old }
+    ensures same { machines.new ≡ machines.old }
+    ensures file { HasFile mode about.now machines.old events.now (option_map string_bytes result) }
 {
     match mode {
         Mode::Events => None,
@@ -196,7 +222,9 @@ fn file_in(
 
 /// The workload file whose events begin with the list, where there is one. There is none where memory runs out.
 fn file_of(machines: &mut Machines, about: &Workload, events: &[Event]) -> Option<String>
-    ensures { machines.new ≡ machines.old }
+    ensures same { machines.new ≡ machines.old }
+    ensures file { IfSome result
+        (λ file. IsFileOf about.now machines.old events.now (string_bytes file)) }
 {
     let mut first = machines.take()?;
     let Some(mut second) = machines.take() else {
@@ -220,9 +248,14 @@ fn write_with<W: Out>(
     told: Told<'_>,
     out: &mut W,
 ) -> Result<(), Failed>
+    requires { HasFile told.mode about.now machines.old told.events.now
+        (option_map (λ file. file.now) told.file) }
     ensures same { machines.new ≡ machines.old }
-    ensures told { OnOk result (HasTold about.now machines.old
+    ensures told { OnOk result (HasTold told.entry.mode about.now machines.old
         (W.contents out.old) (W.contents out.new)) }
+    ensures ok_failures { OnOk result (W.failure_count out.new ≡ W.failure_count out.old) }
+    ensures err_failures { OnErr result
+        (HasFailed (W.failure_count out.old) (W.failure_count out.new)) }
 {
     let Some(first) = machines.take() else {
         return Ok(());
@@ -247,9 +280,14 @@ fn write_by<W: Out>(
 ) -> Result<(), Failed>
     requires first { first ≡ machines.old }
     requires second { second ≡ machines.old }
+    requires file { HasFile told.mode about.now machines.old told.events.now
+        (option_map (λ file. file.now) told.file) }
     ensures same { machines.new ≡ machines.old }
-    ensures told { OnOk result (HasTold about.now machines.old
+    ensures told { OnOk result (HasTold told.entry.mode about.now machines.old
         (W.contents out.old) (W.contents out.new)) }
+    ensures ok_failures { OnOk result (W.failure_count out.new ≡ W.failure_count out.old) }
+    ensures err_failures { OnErr result
+        (HasFailed (W.failure_count out.old) (W.failure_count out.new)) }
 {
     let mut first = first;
     let mut second = second;
