@@ -19,7 +19,7 @@ use Rattle.scxsim_explore.specs.declared.limits.Limit.{Limit}
 use Rattle.scxsim_explore.specs.declared.limits.Limit.TheVariants as limit
 use Rattle.scxsim_explore.specs.declared.limits.Lists.{Lists}
 use Rattle.scxsim_explore.specs.Machines.{IsFresh}
-use Rattle.scxsim_explore.specs.Lists.{file_text, limit_line, told_text}
+use Rattle.scxsim_explore.specs.Lists.{file_text, limit_line, memory_line, told_text}
 use Rattle.scxsim_explore.specs.Words.{HasManyChanges, IsBoundsOf, IsJudged, IsLarge, IsPastIn, IsPastTexts, IsPastWords, IsSmall, IsSmallRun}
 use Rattle.scxsim_explore.specs.Telling.{HasFile, ToldList, AreTold, HasTold, IsEnded, IsTold, IsExplored, IsAnswerWithin, IsAnswer}
 use Rattle.scxsim_explore.proofs.Same.{same_fresh}
@@ -48,10 +48,11 @@ pub told_then : {A E : Type 0} (r : Result A E) (m : Mode) (w : WorkloadState) (
 told_then (Ok x) m w s a b c first next = told_more m w s a b c first next
 told_then (Err x) m w s a b c first next = next
 
--- some, and then what stands at the end
-pub told_and_end : {A E : Type 0} (r : Result A E) (policy : List ℕ) (w : WorkloadState) (s : SimState) (bounds : Bounds) (a b c : Option (List ℕ)) → HasTold bounds.mode w s a b → OnOk r (IsEnded policy w s bounds b c) → OnOk r (IsTold policy w s bounds a c)
-told_and_end (Ok x) policy w s bounds a b c told end = (b, told, end)
-told_and_end (Err x) policy w s bounds a b c told end = end
+-- some, then what stands at the end, and the line behind it if there is one
+pub told_and_end : {E : Type 0} (r : Result Bool E) (policy : List ℕ) (w : WorkloadState) (s : SimState) (bounds : Bounds) (a b c d : Option (List ℕ))
+    → HasTold bounds.mode w s a b → IsEnded policy w s bounds b c → IfOk r (λ (whole : Bool). Appends c d (memory_line whole)) → IfOk r (λ (whole : Bool). IsTold policy w s bounds whole a d)
+told_and_end (Ok whole) policy w s bounds a b c d told end last = (b, c, told, end, last)
+told_and_end (Err x) policy w s bounds a b c d told end last = last
 
 -- a file behind a list of milliseconds
 pub has_file : (m : Mode) (w : WorkloadState) (s : SimState) (events : List Event) (file : Option (List ℕ)) → m ≢ mode.Events → IfSome file (IsFileOf w s events) → HasFile m w s events file
@@ -68,9 +69,9 @@ same_workload : {X E : Type 0} (r : Result X E) (x y : X) → r ≡ Ok x → r �
 same_workload r x y h k = cc
 
 -- what is told of a machine of the texts and of their workload
-pub explored : (policy workload : List ℕ) (w : WorkloadState) (s : SimState) (b : Bounds) (old new : Option (List ℕ))
-    → workload_of workload ≡ Ok w → IsFresh policy workload s → IsSmallRun policy workload → ¬ HasManyChanges b w → IsTold policy w s b old new → IsExplored policy workload b old new
-explored policy workload w s b old new read (v, run) (t, fresh, small) changes told =
+pub explored : (policy workload : List ℕ) (w : WorkloadState) (s : SimState) (b : Bounds) (whole : Bool) (old new : Option (List ℕ))
+    → workload_of workload ≡ Ok w → IsFresh policy workload s → IsSmallRun policy workload → ¬ HasManyChanges b w → IsTold policy w s b whole old new → IsExplored policy workload b whole old new
+explored policy workload w s b whole old new read (v, run) (t, fresh, small) changes told =
     let same : w ≡ v = same_workload (workload_of workload) w v read run.workload_read in
     let first : t ≡ s = same_fresh policy workload t s fresh (v, run) in
     record {
@@ -78,7 +79,7 @@ explored policy workload w s b old new read (v, run) (t, fresh, small) changes t
       first = s;
       run = run;
       within = record { small = subst IsSmall first small; changes = subst (λ (x : WorkloadState). ¬ HasManyChanges b x) same changes };
-      told = subst (λ (x : WorkloadState). IsTold policy x s b old new) same told;
+      told = subst (λ (x : WorkloadState). IsTold policy x s b whole old new) same told;
     }
 
 -- a machine of the texts that is too large
@@ -104,26 +105,27 @@ too_many policy workload b w read (s, (v, run), small) many =
 pub limited_within : (policy workload : List ℕ) (b : Bounds) (past : Limit) (old new : Option (List ℕ)) (r : Result Bool Fault) → IsPastTexts policy workload b past
     → IfOk r (λ (answer : Bool). (answer ≡ false) × Appends old new (limit_line past)) → IfOk r (λ (answer : Bool). IsAnswerWithin answer policy workload b old new)
 limited_within policy workload b past old new (Ok true) is (no, said) = absurd (cc)
-limited_within policy workload b past old new (Ok false) is (no, said) = (past, is, said)
+limited_within policy workload b past old new (Ok false) is (no, said) = inl (past, is, said)
 limited_within policy workload b past old new (Err x) is said = said
 
 -- and so are lists
 pub explored_within : (policy workload : List ℕ) (b : Bounds) (old new : Option (List ℕ)) (r : Result Bool Fault)
-    → IfOk r (λ (answer : Bool). (answer ≡ true) × IsExplored policy workload b old new) → IfOk r (λ (answer : Bool). IsAnswerWithin answer policy workload b old new)
-explored_within policy workload b old new (Ok true) (yes, told) = told
-explored_within policy workload b old new (Ok false) (yes, told) = absurd (cc)
+    → IfOk r (λ (answer : Bool). IsExplored policy workload b answer old new) → IfOk r (λ (answer : Bool). IsAnswerWithin answer policy workload b old new)
+explored_within policy workload b old new (Ok true) told = told
+explored_within policy workload b old new (Ok false) told = inr told
 explored_within policy workload b old new (Err x) told = told
 
 -- an answer of the bounds that the words name is one of the words
 pub answered : (policy workload : List ℕ) (l : Lists) (b : Bounds) (old new : Option (List ℕ)) (r : Result Bool Fault) → IsBoundsOf l b
     → IfOk r (λ (answer : Bool). IsAnswerWithin answer policy workload b old new) → IfOk r (λ (answer : Bool). IsAnswer answer policy workload l old new)
 answered policy workload l b old new (Ok true) named told = (b, named, told)
-answered policy workload l b old new (Ok false) named (past, is, said) = (past, inr (b, named, is), said)
+answered policy workload l b old new (Ok false) named (inl (past, is, said)) = inl (past, inr (b, named, is), said)
+answered policy workload l b old new (Ok false) named (inr told) = inr (b, named, told)
 answered policy workload l b old new (Err x) named told = told
 
 -- and so is the line of a limit that a word is past
 pub limited_words : (policy workload : List ℕ) (l : Lists) (past : Limit) (old new : Option (List ℕ)) (r : Result Bool Fault) → IsPastWords l past
     → IfOk r (λ (answer : Bool). (answer ≡ false) × Appends old new (limit_line past)) → IfOk r (λ (answer : Bool). IsAnswer answer policy workload l old new)
 limited_words policy workload l past old new (Ok true) is (no, said) = absurd (cc)
-limited_words policy workload l past old new (Ok false) is (no, said) = (past, inl is, said)
+limited_words policy workload l past old new (Ok false) is (no, said) = inl (past, inl is, said)
 limited_words policy workload l past old new (Err x) is said = said

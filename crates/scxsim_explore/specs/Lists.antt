@@ -179,8 +179,8 @@ misfit_line m None = []
 misfit_line m (Some depth) =
     (codes "depth " ++ decimal depth ++ depth_unit m) ++ codes " does not fit\n"
 
--- How far a search came: whether tasks of a group count as alike, what is told of depths, that of
--- the last one, and which one doesn't fit.
+-- How far a search came: whether tasks of a group count as alike, what is told of depths before the
+-- last one, that of the last one, and which one doesn't fit.
 pub record Counts : Type 0 where
   pub alike : Bool
   pub levels : List (Option Level)
@@ -249,6 +249,11 @@ abbrev pub nones_text : Nones → List ℕ
 nones_text n =
     again_line n.again ++ none_lines n.bounds n.reach n.sorts
     ++ overtaken_line n.bounds n.reach n.overtaken
+
+-- memory ran out behind the first line, so that lines are missing
+abbrev pub memory_line : Bool → List ℕ
+memory_line true = []
+memory_line false = codes "incomplete: out of memory\n"
 
 -- what is told at the end: what callbacks take before any event, how far the search came, and what
 -- was found in none of the lists

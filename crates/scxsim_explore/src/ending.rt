@@ -1,10 +1,11 @@
-ghost use Rattle.std.specs.Prelude.{◌≡◌, ◌≤◌, ◌++◌, OnOk, OnErr, flat_map, length};
+ghost use Rattle.std.specs.Prelude.{◌≡◌, ◌≤◌, ◌++◌, true, IfOk, OnOk, OnErr, flat_map, length};
 ghost use Rattle.std.specs.Io.KnownBytes.{Appends};
 ghost use Rattle.scxsim_output.specs.Output.{HasFailed};
 ghost use Rattle.scxsim_explore.specs.Lists.{kept_line, none_lines, overtaken_line, nones_text};
 ghost use Rattle.scxsim_explore.specs.Machines.{IsFresh};
-ghost use Rattle.scxsim_explore.specs.Telling.{AreCounted, AreEndLines, IsEnded};
-ghost use Rattle.scxsim_explore.specs.Unfound.{nones_of};
+ghost use Rattle.scx_explore.specs.Ends.{IsEndOf};
+ghost use Rattle.scxsim_explore.specs.Telling.{IsEnded};
+ghost use Rattle.scxsim_explore.specs.Unfound.{AreCounted, AreEndLines, misfit_of, nones_of, reach_of};
 
 use crate::auditing::{Texts, Unfound, look_again};
 use crate::beginning::Begun;
@@ -13,7 +14,8 @@ use scx_explore::{Bounds, Course, End, Level, Mode, SORTS, Search, Sort};
 use scx_load_workloads::Workload;
 use scxsim_output::{Failed, Out};
 
-/// Writes what callbacks took before any event, how far the search came, and what it found in none of the lists.
+/// Writes what callbacks took before any event, how far the search came, and what it found in none of the lists. The
+/// answer is false if memory has run out for this, or for a workload file.
 pub(crate) fn write_end<W: Out>(
     begun: &Begun,
     texts: Texts<'_>,
@@ -21,10 +23,12 @@ pub(crate) fn write_end<W: Out>(
     course: &Course,
     end: End,
     out: &mut W,
-) -> Result<(), Failed>
-    requires { IsFresh texts.policy.now texts.workload.now begun.now.machines }
+) -> Result<bool, Failed>
+    requires fresh { IsFresh texts.policy.now texts.workload.now begun.now.machines }
+    requires end { IsEndOf course.now.bounds course.now.last end }
     ensures ok { OnOk result (IsEnded texts.entry.policy.now about.now begun.now.machines
         course.now.bounds (W.contents out.old) (W.contents out.new)) }
+    ensures memory { IfOk result (λ whole. whole ≡ true → begun.now.is_whole ≡ true) }
     ensures ok_failures { OnOk result (W.failure_count out.new ≡ W.failure_count out.old) }
     ensures err_failures { OnErr result
         (HasFailed (W.failure_count out.old) (W.failure_count out.new)) }
@@ -39,12 +43,15 @@ pub(crate) fn write_end<W: Out>(
         again: None,
     };
     let looked = look_again(begun, texts, about, course, end, unfound);
-    write_lines(begun, course, end, looked, out)
+    write_lines(begun, course, end, looked.unfound, out)?;
+    Ok(looked.is_whole && begun.is_whole)
 }
 
 /// Where all lists of so many events or milliseconds were gone through, how many that is; none where it were those of
 /// any length.
-fn reach_of(end: End) -> Option<usize> {
+fn reach_of(end: End) -> Option<usize>
+    ensures { result ≡ reach_of end }
+{
     match end {
         End::Ended => None,
         End::At(depth) | End::Full(depth) => Some(depth),
@@ -91,8 +98,8 @@ fn write_lines<W: Out>(
     unfound: Unfound<'_>,
     out: &mut W,
 ) -> Result<(), Failed>
-    ensures ok { OnOk result (AreEndLines (nones_of unfound.entry)
-        (W.contents out.old) (W.contents out.new)) }
+    ensures ok { OnOk result (AreEndLines (nones_of unfound.entry) course.now.last
+        (misfit_of end) (W.contents out.old) (W.contents out.new)) }
     ensures ok_failures { OnOk result (W.failure_count out.new ≡ W.failure_count out.old) }
     ensures err_failures { OnErr result
         (HasFailed (W.failure_count out.old) (W.failure_count out.new)) }
@@ -110,7 +117,8 @@ fn write_counts<W: Out>(
     end: End,
     out: &mut W,
 ) -> Result<(), Failed>
-    ensures ok { OnOk result (AreCounted mode (W.contents out.old) (W.contents out.new)) }
+    ensures ok { OnOk result (AreCounted mode course.now.last (misfit_of end)
+        (W.contents out.old) (W.contents out.new)) }
     ensures ok_failures { OnOk result (W.failure_count out.new ≡ W.failure_count out.old) }
     ensures err_failures { OnErr result
         (HasFailed (W.failure_count out.old) (W.failure_count out.new)) }
@@ -121,7 +129,9 @@ fn write_counts<W: Out>(
 }
 
 /// Which depth doesn't fit, if one doesn't.
-fn misfit_of(end: End) -> Option<u64> {
+fn misfit_of(end: End) -> Option<u64>
+    ensures { result ≡ misfit_of end }
+{
     match end {
         End::Ended | End::At(_) => None,
         End::Full(depth) => Some((depth as u64).saturating_add(1)),

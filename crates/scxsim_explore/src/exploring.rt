@@ -24,11 +24,12 @@ use std::alloc::Global;
 
 /// Goes through all lists of events that the words name and that the machine of a policy file and of a workload file
 /// accepts, and writes what it finds. The answer is true; it is false where the words ask for what isn't
-/// explored, and then their refusal is written.
+/// explored, and then their refusal is written. It is also false if memory ran out after the first line was written,
+/// which the last one says.
 ///
 /// # Errors
 ///
-/// The texts are refused, or memory runs out, and then nothing is written, or writing fails.
+/// The texts are refused, or memory runs out before anything is written, or writing fails.
 pub fn explore<V: Watcher, W: Out>(
     alloc: Global,
     policy: &str,
@@ -38,7 +39,8 @@ pub fn explore<V: Watcher, W: Out>(
     out: &mut W,
 ) -> Result<bool, Fault>
     // Lists within the bounds that the words name are written that the machine of the texts shows, each with its
-    // trace, and then some text; or the first limit that the words or the machine are past.
+    // trace, and then what was found in none, and whether memory ran out; or the first limit that the words or the
+    // machine are past.
     ensures done { IfOk result (λ answer. IsAnswer answer policy.now workload.now lists.entry
         (W.contents out.old) (W.contents out.new)) }
     ensures unfailed { OnOk result (W.failure_count out.new ≡ W.failure_count out.old) }
@@ -168,8 +170,8 @@ fn explore_about<V: Watcher, W: Out>(
     requires read { workload_of workload.now ≡ Ok about.now }
     requires small { IsSmallRun policy.now workload.now }
     requires changes { ¬ HasManyChanges bounds about.now }
-    ensures done { IfOk result (λ answer. (answer ≡ true) × IsExplored policy.now workload.now
-        bounds (W.contents out.old) (W.contents out.new)) }
+    ensures done { IfOk result (λ answer. IsExplored policy.now workload.now bounds answer
+        (W.contents out.old) (W.contents out.new)) }
     ensures refused { IfRefused result (IsCause policy.now workload.now) }
     ensures quiet { IsRefused result → out.new ≡ out.old }
     ensures unfailed { OnOk result (W.failure_count out.new ≡ W.failure_count out.old) }
@@ -181,7 +183,7 @@ fn explore_about<V: Watcher, W: Out>(
     let told = tell(&mut begun, texts, about, bounds, watcher, out);
     drop(begun);
     match told {
-        Ok(()) => Ok(true),
+        Ok(is_whole) => Ok(is_whole),
         Err(Failed) => Err(Fault::WriteFailed),
     }
 }

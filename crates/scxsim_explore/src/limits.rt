@@ -73,12 +73,7 @@ impl Limit {
 /// # Errors
 ///
 /// A word is wrong. Of several the first one is named.
-#[tactic(auto, using(
-    crate::proofs::Named::is_named,
-    crate::proofs::Named::past_mode,
-    crate::proofs::Named::past_depth,
-    crate::proofs::Named::past_few,
-))]
+#[tactic(auto, using(crate::proofs::Named::is_named, crate::proofs::Named::past_mode, crate::proofs::Named::past_depth, crate::proofs::Named::past_few,))]
 pub(crate) fn bounds_of(lists: Lists<'_>) -> Result<Bounds, Limit>
     ensures bounds { IfOk result (IsBoundsOf lists.entry) }
     ensures past { IfErr result (IsPastWords lists.entry) }
@@ -105,12 +100,7 @@ fn mode_of(word: &str) -> Result<Mode, Limit>
     }
 }
 
-#[tactic(auto, using(
-    crate::proofs::Named::is_depth,
-    crate::proofs::Named::no_number,
-    crate::proofs::Named::no_zero,
-    crate::proofs::Named::no_deeper,
-))]
+#[tactic(auto, using(crate::proofs::Named::is_depth, crate::proofs::Named::no_number, crate::proofs::Named::no_zero, crate::proofs::Named::no_deeper,))]
 fn depth_of(mode: Mode, word: &str) -> Result<usize, Limit>
     ensures depth { IfOk result (IsDepth mode word.now) }
     ensures past { IfErr result (λ past. (past ≡ Limit.Depth) × IsNoDepth mode word.now) }

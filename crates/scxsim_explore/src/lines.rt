@@ -1,9 +1,9 @@
-ghost use Rattle.std.specs.Prelude.{◌≡◌, ◌++◌, OnOk, OnErr, decimal};
+ghost use Rattle.std.specs.Prelude.{◌≡◌, ◌++◌, true, IfOk, OnOk, OnErr, decimal};
 ghost use Rattle.std.specs.Io.KnownBytes.{Appends};
 ghost use Rattle.scxsim_output.specs.Output.{HasFailed};
 ghost use Rattle.scxsim_trace.specs.Lines.{task_name, group_name, names_of};
 ghost use Rattle.scxsim_explore.specs.Lists.{event_line, event_lines, found_line, finding_words, idle_words, most_words, overtaken_words, wait_words, weight_line, unit};
-ghost use Rattle.scxsim_explore.specs.Lists.{run_line, start_line, start_lines, alike_line, depth_unit, tried_words, length_in, level_line, misfit_line, sort_words, reach_words, few_words, none_line, again_line};
+ghost use Rattle.scxsim_explore.specs.Lists.{run_line, start_line, start_lines, alike_line, depth_unit, tried_words, length_in, level_line, memory_line, misfit_line, sort_words, reach_words, few_words, none_line, again_line};
 
 use crate::lengths::length_in;
 use itoa::Buffer;
@@ -165,7 +165,8 @@ fn write_weight<W: Out>(
 
 /// The most instructions of the callbacks that ran before any event.
 pub(crate) fn write_starts<W: Out>(starts: Starts, out: &mut W) -> Result<(), Failed>
-    ensures ok { OnOk result (Appends (W.contents out.old) (W.contents out.new) (start_lines starts)) }
+    ensures ok { OnOk result
+        (Appends (W.contents out.old) (W.contents out.new) (start_lines starts)) }
     ensures ok_failures { OnOk result (W.failure_count out.new ≡ W.failure_count out.old) }
     ensures err_failures { OnErr result
         (HasFailed (W.failure_count out.old) (W.failure_count out.new)) }
@@ -302,7 +303,8 @@ fn write_misfit_at<W: Out>(mode: Mode, depth: u64, out: &mut W) -> Result<(), Fa
 /// Says so, where states were gone through once more, and for what.
 #[tactic(auto, using(crate::proofs::Written::none_written))]
 pub(crate) fn write_again<W: Out>(again: Option<Moves>, out: &mut W) -> Result<(), Failed>
-    ensures ok { OnOk result (Appends (W.contents out.old) (W.contents out.new) (again_line again)) }
+    ensures ok { OnOk result
+        (Appends (W.contents out.old) (W.contents out.new) (again_line again)) }
     ensures ok_failures { OnOk result (W.failure_count out.new ≡ W.failure_count out.old) }
     ensures err_failures { OnErr result
         (HasFailed (W.failure_count out.old) (W.failure_count out.new)) }
@@ -320,6 +322,23 @@ fn again_text(moves: Moves) -> &'static str
         Moves::Events => "gone through once more for faults and idle processors\n",
         Moves::Milliseconds => "gone through once more for faults, stalls and idle processors\n",
     }
+}
+
+/// Writes that memory ran out, unless all is whole. The answer is the flag.
+#[tactic(auto, using(crate::proofs::Written::none_written))]
+pub(crate) fn write_memory<W: Out>(is_whole: bool, out: &mut W) -> Result<bool, Failed>
+    ensures ok { IfOk result (λ whole.
+        Appends (W.contents out.old) (W.contents out.new) (memory_line whole)) }
+    ensures whole { IfOk result (λ whole. whole ≡ is_whole) }
+    ensures ok_failures { OnOk result (W.failure_count out.new ≡ W.failure_count out.old) }
+    ensures err_failures { OnErr result
+        (HasFailed (W.failure_count out.old) (W.failure_count out.new)) }
+{
+    if is_whole {
+        return Ok(true);
+    }
+    write_text(out, "incomplete: out of memory\n")?;
+    Ok(false)
 }
 
 /// In which lists a sort isn't there that wasn't found: in any, or in those of so many events or milliseconds.

@@ -1,4 +1,5 @@
-ghost use Rattle.std.specs.Prelude.{◌≡◌, IfSome, OnOk, OnErr, option_map, string_bytes};
+ghost use Rattle.std.specs.Prelude.{◌≡◌, false, None, IfSome, IfOk, IsOk, IsErr, OnOk, OnErr, option_map, string_bytes};
+ghost use Rattle.scx_explore.specs.Ends.{IsEndOf};
 ghost use Rattle.scx_explore_workloads.specs.Files.{IsFileOf};
 ghost use Rattle.scxsim_output.specs.Output.{HasFailed};
 ghost use Rattle.scxsim_explore.specs.Machines.{IsFresh};
@@ -7,6 +8,7 @@ ghost use Rattle.scxsim_explore.specs.Telling.{HasFile, HasTold, IsTold};
 use crate::auditing::Texts;
 use crate::beginning::Begun;
 use crate::ending::write_end;
+use crate::lines::write_memory;
 use crate::machines::Machines;
 use crate::showing::{Told, write_if_shown};
 use crate::watcher::Watcher;
@@ -21,7 +23,8 @@ use std::alloc::AllocError;
 /// After how many states a watcher is told of them.
 const PACE: u64 = 1024;
 
-/// Writes what the search finds, as it does, and at its end how far it came. The texts are those of the machines.
+/// Writes what the search finds, as it does, and at its end how far it came. The texts are those of the machines. The
+/// answer is false if memory ran out meanwhile, which the last line says.
 pub(crate) fn tell<V: Watcher, W: Out>(
     begun: &mut Begun,
     texts: Texts<'_>,
@@ -29,10 +32,10 @@ pub(crate) fn tell<V: Watcher, W: Out>(
     bounds: Bounds,
     watcher: &mut V,
     out: &mut W,
-) -> Result<(), Failed>
+) -> Result<bool, Failed>
     requires { IsFresh texts.policy.now texts.workload.now begun.old.machines }
-    ensures ok { OnOk result (IsTold texts.entry.policy.now about.now begun.old.machines bounds
-        (W.contents out.old) (W.contents out.new)) }
+    ensures ok { IfOk result (λ whole. IsTold texts.entry.policy.now about.now begun.old.machines
+        bounds whole (W.contents out.old) (W.contents out.new)) }
     ensures ok_failures { OnOk result (W.failure_count out.new ≡ W.failure_count out.old) }
     ensures err_failures { OnErr result
         (HasFailed (W.failure_count out.old) (W.failure_count out.new)) }
@@ -41,7 +44,8 @@ pub(crate) fn tell<V: Watcher, W: Out>(
     let end = search(begun, about, &mut course, watcher, out)?;
     watcher.pause();
     write_most(begun, about, bounds.mode, out)?;
-    write_end(begun, texts, about, &course, end, out)
+    let is_whole = write_end(begun, texts, about, &course, end, out)?;
+    write_memory(is_whole, out)
 }
 
 /// Goes through the lists, and writes what is found.
@@ -54,6 +58,7 @@ fn search<V: Watcher, W: Out>(
 ) -> Result<End, Failed>
     ensures same { begun.new.machines ≡ begun.old.machines }
     ensures bounds { course.new.bounds ≡ course.old.bounds }
+    ensures end { IfOk result (IsEndOf course.new.bounds course.new.last) }
     ensures told { OnOk result (HasTold course.old.bounds.mode about.now begun.old.machines
         (W.contents out.old) (W.contents out.new)) }
     ensures ok_failures { OnOk result (W.failure_count out.new ≡ W.failure_count out.old) }
@@ -183,7 +188,8 @@ fn write_one<W: Out>(
 {
     begun.search.list_of(found, &mut begun.events);
     let events = begun.events.as_slice();
-    let file = file_in(mode, &mut begun.machines, about, events);
+    let found_file = file_in(mode, &mut begun.machines, about, events);
+    let file = file_or_none(found_file, &mut begun.is_whole);
     let told = Told {
         finding: found.finding,
         mode,
@@ -193,6 +199,22 @@ fn write_one<W: Out>(
     let written = write_with(&mut begun.machines, about, told, out);
     drop(file);
     written
+}
+
+/// Returns the file if there is one. If memory ran out for it, `is_whole` becomes false.
+fn file_or_none(file: Result<Option<String>, AllocError>, is_whole: &mut bool) -> Option<String>
+    ensures found { IfOk file (λ found. result ≡ found) }
+    ensures none { IsErr file → result ≡ None }
+    ensures whole { IsOk file → is_whole.new ≡ is_whole.old }
+    ensures memory { IsErr file → is_whole.new ≡ false }
+{
+    match file {
+        Ok(file) => file,
+        Err(AllocError) => {
+            *is_whole = false;
+            None
+        }
+    }
 }
 
 fn text_of(file: &Option<String>) -> Option<&str>
@@ -210,34 +232,42 @@ fn file_in(
     machines: &mut Machines,
     about: &Workload,
     events: &[Event],
-) -> Option<String>
+) -> Result<Option<String>, AllocError>
     ensures same { machines.new ≡ machines.old }
-    ensures file { HasFile mode about.now machines.old events.now (option_map string_bytes result) }
+    ensures file { IfOk result (λ file.
+        HasFile mode about.now machines.old events.now (option_map string_bytes file)) }
 {
     match mode {
-        Mode::Events => None,
+        Mode::Events => Ok(None),
         Mode::Milliseconds | Mode::Workloads => file_of(machines, about, events),
     }
 }
 
-/// The workload file whose events begin with the list, where there is one. There is none where memory runs out.
-fn file_of(machines: &mut Machines, about: &Workload, events: &[Event]) -> Option<String>
+/// Returns the workload file whose events begin with the list, if there is one.
+///
+/// # Errors
+///
+/// Memory runs out.
+fn file_of(
+    machines: &mut Machines,
+    about: &Workload,
+    events: &[Event],
+) -> Result<Option<String>, AllocError>
     ensures same { machines.new ≡ machines.old }
-    ensures file { IfSome result
-        (λ file. IsFileOf about.now machines.old events.now (string_bytes file)) }
+    ensures file { IfOk result (λ file. IfSome file
+        (λ text. IsFileOf about.now machines.old events.now (string_bytes text))) }
 {
-    let mut first = machines.take()?;
+    let Some(mut first) = machines.take() else {
+        return Err(AllocError);
+    };
     let Some(mut second) = machines.take() else {
         drop(first);
-        return None;
+        return Err(AllocError);
     };
     let file = workload_file(machines.alloc(), about, &mut first, &mut second, events);
     drop(first);
     drop(second);
-    match file {
-        Ok(file) => file,
-        Err(AllocError) => None,
-    }
+    file
 }
 
 /// The same, with two machines, of which there are enough.

@@ -4,5 +4,6 @@ use Rattle.scxsim_explore.proofs.ending.write_end.Goals as goal
 
 pub returns-clause-ok : goal.returns-clause-ok
 returns-clause-ok g c =
-    ended c.write_lines.result c.args.texts.policy.now c.args.about.now c.args.begun.now.machines c.args.course.now.bounds (nones_of c.look_again-looked.result) _ _
-    c.look_again-looked.ensures.bounds c.look_again-looked.ensures.again c.write_lines.ensures.ok
+    let looked = c.look_again-looked.ensures in
+    ended c.args.texts.policy.now c.args.about.now c.args.begun.now.machines c.args.course.now.bounds (nones_of c.look_again-looked.result.unfound) c.args.course.now.last c.args.end _ _
+    c.requires.end looked.bounds looked.again (rw c.reach_of.ensures at looked.any) looked.looked (rw c.reach_of.ensures at looked.some) c.in_ok-write_lines.ensures.ok
