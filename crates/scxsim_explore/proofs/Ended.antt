@@ -35,7 +35,7 @@ counted r m alike levels last misfit a b c d first next end =
 -- all lines at the end
 pub end_lines : {A E : Type 0} (r : Result A E) (starts : Starts) (n : Nones) (last : Option Level) (misfit : Option ℕ) (a b c d : Option (List ℕ))
     → Appends a b (start_lines starts) → AreCounted n.bounds.mode last misfit b c → OnOk r (Appends c d (nones_text n)) → OnOk r (AreEndLines n last misfit a d)
-end_lines (Ok x) starts n last misfit a b c d first (counts, of, next) end = (starts, counts, of, Appends-trans a c d _ _ (Appends-trans a b c _ _ first next) end)
+end_lines (Ok x) starts n last misfit a b c d first (counts, same, next) end = (starts, counts, same, Appends-trans a c d _ _ (Appends-trans a b c _ _ first next) end)
 end_lines (Err x) starts n last misfit a b c d first next end = end
 
 -- ---- of which lists it is said
@@ -87,14 +87,14 @@ pub ended : (policy : List ℕ) (w : WorkloadState) (s : SimState) (bounds : Bou
     → (n.reach ≡ None → reach_of end ≡ None) → (n.reach ≡ None → IsSome n.again ⊎ CantBeLooked bounds w)
     → IfSome n.reach (λ depth. (reach_of end ≡ Some depth) ⊎ ((reach_of end ≡ None) × (depth ≡ done_of last)))
     → AreEndLines n last (misfit_of end) a b → IsEnded policy w s bounds a b
-ended policy w s bounds n last end a b is within again any looked some (starts, counts, of, text) = record {
+ended policy w s bounds n last end a b is within again any looked some (starts, counts, same, text) = record {
   starts = starts;
   counts = counts;
   nones = n;
   bounds = within;
   lines = text;
-  reach = reach_is bounds w counts n end of.misfit (subst (λ (l : Option Level). IsEndOf bounds l end) (sym of.last) is) any looked
-      (subst (λ (l : Option Level). IfSome n.reach (λ depth. (reach_of end ≡ Some depth) ⊎ ((reach_of end ≡ None) × (depth ≡ done_of l)))) (sym of.last) some);
+  reach = reach_is bounds w counts n end same.misfit (subst (λ (l : Option Level). IsEndOf bounds l end) (sym same.last) is) any looked
+      (subst (λ (l : Option Level). IfSome n.reach (λ depth. (reach_of end ≡ Some depth) ⊎ ((reach_of end ≡ None) × (depth ≡ done_of l)))) (sym same.last) some);
   again = again;
 }
 
