@@ -74,7 +74,7 @@ reach_is b w c n end misfit is any looked some = record {
 }
   where
     of_any : n.reach ≡ None → IsSome n.again ⊎ CantBeLooked b w → IsSome n.again ⊎ (CantBeLooked b w × HasNoNew c.last)
-    of_any none (inl yes) = inl yes
+    of_any none (inl looked) = inl looked
     of_any none (inr cant) = inr (cant, at_end b c.last end (any none) is)
 
     of_some : (depth : ℕ) → (reach_of end ≡ Some depth) ⊎ ((reach_of end ≡ None) × (depth ≡ done_of c.last)) → (depth ≡ done_of c.last) × IsThrough b c depth

@@ -17,7 +17,7 @@ pub is_word : (word text : List ℕ) → bytes_eq word text ≡ true → word �
 is_word word text is = (bytes_eq-Decides word text).0 is
 
 not_word : (word text : List ℕ) → bytes_eq word text ≡ false → word ≢ text
-not_word word text no = λ is. true≢false (sym ((bytes_eq-Decides word text).1 is) ∙ no)
+not_word word text differs = λ is. true≢false (sym ((bytes_eq-Decides word text).1 is) ∙ differs)
 
 -- a word that is that of no mode
 pub no_mode : (word : List ℕ) → bytes_eq word (codes "events") ≡ false → bytes_eq word (codes "ms") ≡ false → bytes_eq word (codes "workloads") ≡ false → IsNoMode word
@@ -73,15 +73,15 @@ is_named l m depth few mode deep bound = record { mode = mode; depth = deep; few
 
 -- the first word is wrong
 pub past_mode : (l : Lists) (past : Limit) → (past ≡ limit.Mode) × IsNoMode l.mode.now → IsPastWords l past
-past_mode l past (is, no) = subst (IsPastWords l) (sym is) no
+past_mode l past (is, wrong) = subst (IsPastWords l) (sym is) wrong
 
 -- the second one
 pub past_depth : (l : Lists) (m : Mode) (past : Limit) → l.mode.now ≡ mode_word m → (past ≡ limit.Depth) × IsNoDepth m l.depth.now → IsPastWords l past
-past_depth l m past mode (is, no) = subst (IsPastWords l) (sym is) (m, mode, no)
+past_depth l m past mode (is, wrong) = subst (IsPastWords l) (sym is) (m, mode, wrong)
 
 -- the last one
 pub past_few : (l : Lists) (m : Mode) (depth : ℕ) (past : Limit) → l.mode.now ≡ mode_word m → IsDepth m l.depth.now depth → (past ≡ limit.Few) × IsNoFew (few_word l) → IsPastWords l past
-past_few l m depth past mode deep (is, no) = subst (IsPastWords l) (sym is) (m, mode, depth, deep, no)
+past_few l m depth past mode deep (is, wrong) = subst (IsPastWords l) (sym is) (m, mode, depth, deep, wrong)
 
 -- a machine that is small enough
 pub is_small : (s : SimState) → length s.state.world.tasks ≤ 8 → length s.state.world.cpus ≤ 4 → length (all_bytes s.state.maps) ≤ 4096 → IsSmall s

@@ -104,8 +104,8 @@ too_many policy workload b w read (s, (v, run), small) many =
 -- the line of a limit that the texts are past is an answer
 pub limited_within : (policy workload : List ℕ) (b : Bounds) (past : Limit) (old new : Option (List ℕ)) (r : Result Bool Fault) → IsPastTexts policy workload b past
     → IfOk r (λ (answer : Bool). (answer ≡ false) × Appends old new (limit_line past)) → IfOk r (λ (answer : Bool). IsAnswerWithin answer policy workload b old new)
-limited_within policy workload b past old new (Ok true) is (no, said) = absurd (cc)
-limited_within policy workload b past old new (Ok false) is (no, said) = inl (past, is, said)
+limited_within policy workload b past old new (Ok true) is (isnt, said) = absurd (cc)
+limited_within policy workload b past old new (Ok false) is (isnt, said) = inl (past, is, said)
 limited_within policy workload b past old new (Err x) is said = said
 
 -- and so are lists
@@ -126,6 +126,6 @@ answered policy workload l b old new (Err x) named told = told
 -- and so is the line of a limit that a word is past
 pub limited_words : (policy workload : List ℕ) (l : Lists) (past : Limit) (old new : Option (List ℕ)) (r : Result Bool Fault) → IsPastWords l past
     → IfOk r (λ (answer : Bool). (answer ≡ false) × Appends old new (limit_line past)) → IfOk r (λ (answer : Bool). IsAnswer answer policy workload l old new)
-limited_words policy workload l past old new (Ok true) is (no, said) = absurd (cc)
-limited_words policy workload l past old new (Ok false) is (no, said) = inl (past, inl is, said)
+limited_words policy workload l past old new (Ok true) is (isnt, said) = absurd (cc)
+limited_words policy workload l past old new (Ok false) is (isnt, said) = inl (past, inl is, said)
 limited_words policy workload l past old new (Err x) is said = said
