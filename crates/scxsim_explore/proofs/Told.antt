@@ -1,7 +1,7 @@
 -- Lists that are told, one after another.
-use Rattle.std.proofs.Common.{◌≡◌, ◌≢◌, ℕ, List, [], ◌∷◌, ◌++◌, Bool, true, false, Option, Some, None, Result, Ok, Err, inl, inr, refl, subst}
+use Rattle.std.proofs.Common.{◌≡◌, ◌≢◌, ℕ, List, [], ◌∷◌, ◌++◌, Bool, true, false, Option, Some, None, Result, Ok, Err, inl, inr, option_map, refl, sym, subst}
 use Rattle.std.proofs.KnownBytes.{Appends-trans}
-use Rattle.std.specs.Prelude.{OnOk, IfOk, IfSome}
+use Rattle.std.specs.Prelude.{OnOk, IfOk, IfSome, IsErr}
 use Rattle.std.specs.Io.KnownBytes.{Appends}
 use Rattle.scxsim_commands.specs.declared.refusal.Fault.{Fault}
 use Rattle.scx_load_workloads.specs.Workload.{WorkloadState}
@@ -56,14 +56,21 @@ told_and_end (Err x) policy w s bounds a b c d told end last = last
 
 -- a file behind a list of milliseconds
 pub has_file : (m : Mode) (w : WorkloadState) (s : SimState) (events : List Event) (file : Option (List ℕ)) → m ≢ mode.Events → IfSome file (IsFileOf w s events) → HasFile m w s events file
-has_file m w s events None is file = tt
-has_file mode.Events w s events (Some text) is file = is refl
-has_file mode.Milliseconds w s events (Some text) is file = file
-has_file mode.Workloads w s events (Some text) is file = file
+has_file mode.Events w s events file is behind = absurd (is refl)
+has_file mode.Milliseconds w s events file is behind = behind
+has_file mode.Workloads w s events file is behind = behind
 
 -- and none
 pub no_file : (m : Mode) (w : WorkloadState) (s : SimState) (events : List Event) → HasFile m w s events None
-no_file m w s events = tt
+no_file mode.Events w s events = refl
+no_file mode.Milliseconds w s events = tt
+no_file mode.Workloads w s events = tt
+
+-- what is kept of a file that was looked for, where memory may have run out for it
+pub file_kept : {X E : Type 0} (bytes : X → List ℕ) (m : Mode) (w : WorkloadState) (s : SimState) (events : List Event) (r : Result (Option X) E) (file : Option X)
+    → IfOk r (λ (found : Option X). HasFile m w s events (option_map bytes found)) → IfOk r (λ (found : Option X). file ≡ found) → (IsErr r → file ≡ None) → HasFile m w s events (option_map bytes file)
+file_kept {X} bytes m w s events (Ok found) file has is none = subst (λ (x : Option X). HasFile m w s events (option_map bytes x)) (sym is) has
+file_kept {X} bytes m w s events (Err e) file has is none = subst (λ (x : Option X). HasFile m w s events (option_map bytes x)) (sym (none tt)) (no_file m w s events)
 
 same_workload : {X E : Type 0} (r : Result X E) (x y : X) → r ≡ Ok x → r ≡ Ok y → x ≡ y
 same_workload r x y h k = cc

@@ -30,10 +30,9 @@ use Rattle.scxsim_explore.specs.Lists.{Counts, Nones, end_text, file_text, limit
 -- The text after the trace of a list, if there is one. Where lists are of milliseconds it is the file
 -- of a workload with the same parts, whose events begin with the list.
 abbrev pub HasFile : Mode → WorkloadState → SimState → List Event → Option (List ℕ) → Type 0
-HasFile m w s events None = ⊤
-HasFile mode.Events w s events (Some text) = ⊥
-HasFile mode.Milliseconds w s events (Some text) = IsFileOf w s events text
-HasFile mode.Workloads w s events (Some text) = IsFileOf w s events text
+HasFile mode.Events w s events file = file ≡ None
+HasFile mode.Milliseconds w s events file = IfSome file (IsFileOf w s events)
+HasFile mode.Workloads w s events file = IfSome file (IsFileOf w s events)
 
 -- a list of events, what is said to be found in it, and the workload file after its trace, if there
 -- is one

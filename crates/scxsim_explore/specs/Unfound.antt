@@ -40,9 +40,9 @@ misfit_of (At depth) = None
 misfit_of (Full depth) = Some (min (depth + 1) (2 ^ 64 - 1))
 
 -- these are the last level and the depth that doesn't fit
-pub record AreOf (c : Counts) (last : Option Level) (misfit : Option ℕ) : Type 0 where
-  pub last : c.last ≡ last
-  pub misfit : c.misfit ≡ misfit
+pub record AreOf (c : Counts) (l : Option Level) (depth : Option ℕ) : Type 0 where
+  pub last : c.last ≡ l
+  pub misfit : c.misfit ≡ depth
 
 -- lines of such counts are written
 abbrev pub AreCounted :

@@ -41,7 +41,7 @@ pub(crate) struct Unfound<'a> {
 
 /// What was found in none of the lists, after an audit of the states if there was one.
 #[derive(Clone, Copy)]
-pub(crate) struct Looked<'a> {
+pub(crate) struct Audited<'a> {
     pub(crate) unfound: Unfound<'a>,
     /// True unless memory ran out for the audit.
     pub(crate) is_whole: bool,
@@ -56,7 +56,7 @@ pub(crate) fn look_again<'a>(
     course: &Course,
     end: End,
     unfound: Unfound<'a>,
-) -> Looked<'a>
+) -> Audited<'a>
     requires { IsFresh texts.policy.now texts.workload.now begun.now.machines }
     ensures bounds { result.unfound.bounds ≡ unfound.entry.bounds }
     ensures again { IfSome result.unfound.again
@@ -70,7 +70,7 @@ pub(crate) fn look_again<'a>(
 {
     match moves_within(unfound.bounds, about) {
         Some(moves) => look_by(begun, texts, about, course, end, unfound, moves),
-        None => Looked {
+        None => Audited {
             unfound: unlooked(unfound, unfound.reach),
             is_whole: true,
         },
@@ -86,7 +86,7 @@ fn look_by<'a>(
     end: End,
     unfound: Unfound<'a>,
     moves: Moves,
-) -> Looked<'a>
+) -> Audited<'a>
     requires fresh { IsFresh texts.policy.now texts.workload.now begun.now.machines }
     requires may { MayBeLooked unfound.bounds about.now moves }
     ensures bounds { result.unfound.bounds ≡ unfound.entry.bounds }
@@ -108,7 +108,7 @@ fn concluded<'a>(
     done: usize,
     moves: Moves,
     unfound: Unfound<'a>,
-) -> Looked<'a>
+) -> Audited<'a>
     ensures nones { nones_of result.unfound
         ≡ concluded closed done moves (nones_of unfound.entry) }
     ensures memory { IsErr closed → result.is_whole ≡ false }
@@ -116,15 +116,15 @@ fn concluded<'a>(
 {
     let searched = unlooked(unfound, Some(unfound.reach.unwrap_or(done)));
     match closed {
-        Ok(true) => Looked {
+        Ok(true) => Audited {
             unfound: looked(unfound, moves),
             is_whole: true,
         },
-        Ok(false) => Looked {
+        Ok(false) => Audited {
             unfound: searched,
             is_whole: true,
         },
-        Err(AllocError) => Looked {
+        Err(AllocError) => Audited {
             unfound: searched,
             is_whole: false,
         },
