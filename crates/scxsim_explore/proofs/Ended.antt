@@ -153,8 +153,10 @@ pub not_looked : (policy : List ℕ) (w : WorkloadState) (s : SimState) (n m : N
 not_looked policy w s n m reach is = subst (λ (x : Nones). IfSome x.again (IsGoneThrough policy w s x)) (sym is) tt
 
 -- lists of a mode that aren't bounded otherwise, and in which no weight changes
-pub may_be_looked : (b : Bounds) (w : WorkloadState) (moves : Moves) → b.few ≡ None → moves_of b.mode ≡ Some moves → HasNoChanges b.mode w → MayBeLooked b w moves
-may_be_looked b w moves all of_mode changes = record { of_mode = of_mode; all = all; changes = changes }
+pub may_be_looked : (b : Bounds) (w : WorkloadState) (r : Option Moves) → b.few ≡ None → IfSome r (λ (moves : Moves). moves_of b.mode ≡ Some moves) → IfSome r (λ (moves : Moves). HasNoChanges b.mode w)
+    → IfSome r (MayBeLooked b w)
+may_be_looked b w None all of_mode changes = tt
+may_be_looked b w (Some moves) all of_mode changes = record { of_mode = of_mode; all = all; changes = changes }
 
 -- lists with few wakes and sleeps
 pub few_cant_be : (b : Bounds) (w : WorkloadState) (few : ℕ) → b.few ≡ Some few → CantBeLooked b w
@@ -164,8 +166,8 @@ few_cant_be b w few is moves may = go b.few is may.all
     go o some none = absurd (cc)
 
 -- lists of a mode in which weights change, or that isn't one of such moves
-pub mode_cant_be : (b : Bounds) (w : WorkloadState) → (IsSome (moves_of b.mode) → ¬ HasNoChanges b.mode w) → CantBeLooked b w
-mode_cant_be b w none moves may = none (subst IsSome (sym may.of_mode) tt) may.changes
+pub mode_cant_be : (b : Bounds) (w : WorkloadState) (r : Option Moves) → (r ≡ None → IsSome (moves_of b.mode) → ¬ HasNoChanges b.mode w) → r ≡ None → CantBeLooked b w
+mode_cant_be b w r none is moves may = none is (subst IsSome (sym may.of_mode) tt) may.changes
 
 -- what is sure of one machine of the texts is so of any
 pub sure_of : (policy workload : List ℕ) (b : Bounds) (moves : Moves) (limit : Option ℕ) (sorts : List Sort) (s t : SimState)

@@ -66,6 +66,13 @@ no_file mode.Events w s events = refl
 no_file mode.Milliseconds w s events = tt
 no_file mode.Workloads w s events = tt
 
+-- a file that was looked for behind a list of milliseconds
+pub files_of : {X E : Type 0} (bytes : X → List ℕ) (m : Mode) (w : WorkloadState) (s : SimState) (events : List Event) (r : Result (Option X) E) → m ≢ mode.Events
+    → IfOk r (λ (file : Option X). IfSome file (λ (x : X). IsFileOf w s events (bytes x))) → IfOk r (λ (file : Option X). HasFile m w s events (option_map bytes file))
+files_of bytes m w s events (Ok None) is behind = no_file m w s events
+files_of bytes m w s events (Ok (Some x)) is behind = has_file m w s events (Some (bytes x)) is behind
+files_of bytes m w s events (Err e) is behind = behind
+
 -- what is kept of a file that was looked for, where memory may have run out for it
 pub file_kept : {X E : Type 0} (bytes : X → List ℕ) (m : Mode) (w : WorkloadState) (s : SimState) (events : List Event) (r : Result (Option X) E) (file : Option X)
     → IfOk r (λ (found : Option X). HasFile m w s events (option_map bytes found)) → IfOk r (λ (found : Option X). file ≡ found) → (IsErr r → file ≡ None) → HasFile m w s events (option_map bytes file)
@@ -88,6 +95,11 @@ explored policy workload w s b whole old new read (v, run) (t, fresh, small) cha
       within = record { small = subst IsSmall first small; changes = subst (λ (x : WorkloadState). ¬ HasManyChanges b x) same changes };
       told = subst (λ (x : WorkloadState). IsTold policy x s b whole old new) same told;
     }
+
+-- what is judged of one machine of the texts
+pub judged : (policy workload : List ℕ) (s : SimState) (r : Option Limit) → IsFresh policy workload s → (r ≡ None → IsSmall s) → IfSome r (IsLarge s) → IsJudged policy workload r
+judged policy workload s None fresh small large = (s, fresh, small refl)
+judged policy workload s (Some past) fresh small large = (s, fresh, large)
 
 -- a machine of the texts that is too large
 pub too_large : (policy workload : List ℕ) (b : Bounds) (past : Limit) → IsJudged policy workload (Some past) → IsPastTexts policy workload b past

@@ -27,8 +27,8 @@ use Rattle.scxsim_explore.specs.declared.limits.Lists.{Lists}
 use Rattle.scxsim_explore.specs.Words.{IsBoundsOf, IsPast, IsPastTexts, IsWithin}
 use Rattle.scxsim_explore.specs.Lists.{Counts, Nones, end_text, file_text, limit_line, memory_line, told_text}
 
--- The text after the trace of a list, if there is one. Where lists are of milliseconds it is the file
--- of a workload with the same parts, whose events begin with the list.
+-- The text after the trace of a list, if there is one. A list of `events` has none. In the other modes
+-- it is the file of a workload with the same parts, whose events begin with the list.
 abbrev pub HasFile : Mode → WorkloadState → SimState → List Event → Option (List ℕ) → Type 0
 HasFile mode.Events w s events file = file ≡ None
 HasFile mode.Milliseconds w s events file = IfSome file (IsFileOf w s events)

@@ -159,7 +159,6 @@ fn is_kept_whole(search: &Search, end: End) -> bool {
 }
 
 /// The moves that an audit tries, if all lists within the bounds are made of them.
-#[tactic(auto, using(crate::proofs::Ended::may_be_looked, crate::proofs::Ended::few_cant_be))]
 fn moves_within(bounds: Bounds, about: &Workload) -> Option<Moves>
     ensures may { IfSome result (MayBeLooked bounds about.now) }
     ensures cant { result ≡ None → CantBeLooked bounds about.now }
