@@ -1,4 +1,4 @@
-ghost use Rattle.std.specs.Prelude.{◌≡◌, ◌+◌, ◌<◌, ◌^◌, ◌-◌, true, if◌then◌else◌};
+ghost use Rattle.std.specs.Prelude.{◌≡◌, ◌+◌, ◌<◌, ◌≤◌, ◌^◌, ◌-◌, true, if◌then◌else◌};
 ghost use Rattle.scxsim_explore.specs.Lists.{is_clock, length_in, ms_begun};
 
 use scx_explore::Mode;
@@ -29,7 +29,8 @@ fn ms_begun(events: &[Event]) -> usize
 
 fn with_one(count: usize, is_one: bool) -> usize
     requires { count < 2 ^ 64 - 1 }
-    ensures { result ≡ (if is_one then count + 1 else count) }
+    ensures one { result ≡ (if is_one then count + 1 else count) }
+    ensures most { result ≤ count + 1 }
 {
     if is_one { count + 1 } else { count }
 }
