@@ -152,6 +152,10 @@ concluded_again (Err e) done moves policy w s n m is may sure = subst (λ (x : N
 pub not_looked : (policy : List ℕ) (w : WorkloadState) (s : SimState) (n m : Nones) (reach : Option ℕ) → m ≡ record n { again = None; reach = reach } → IfSome m.again (IsGoneThrough policy w s m)
 not_looked policy w s n m reach is = subst (λ (x : Nones). IfSome x.again (IsGoneThrough policy w s x)) (sym is) tt
 
+-- nor is more said of lists then than the search did
+pub unlooked_some : (done : ℕ) (n m : Nones) → m ≡ record n { again = None; reach = n.reach } → IfSome m.reach (λ depth. (n.reach ≡ Some depth) ⊎ ((n.reach ≡ None) × (depth ≡ done)))
+unlooked_some done n m is = subst (λ (x : Nones). IfSome x.reach (λ depth. (n.reach ≡ Some depth) ⊎ ((n.reach ≡ None) × (depth ≡ done)))) (sym is) (of_searched done n.reach)
+
 -- lists of a mode that aren't bounded otherwise, and in which no weight changes
 pub may_be_looked : (b : Bounds) (w : WorkloadState) (r : Option Moves) → b.few ≡ None → IfSome r (λ (moves : Moves). moves_of b.mode ≡ Some moves) → IfSome r (λ (moves : Moves). HasNoChanges b.mode w)
     → IfSome r (MayBeLooked b w)

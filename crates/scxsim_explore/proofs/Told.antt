@@ -1,5 +1,5 @@
 -- Lists that are told, one after another.
-use Rattle.std.proofs.Common.{◌≡◌, ◌≢◌, ℕ, List, [], ◌∷◌, ◌++◌, Bool, true, false, Option, Some, None, Result, Ok, Err, inl, inr, option_map, refl, sym, subst}
+use Rattle.std.proofs.Common.{◌≡◌, ℕ, List, [], ◌∷◌, ◌++◌, Bool, true, false, Option, Some, None, Result, Ok, Err, inl, inr, option_map, refl, sym, subst}
 use Rattle.std.proofs.KnownBytes.{Appends-trans}
 use Rattle.std.specs.Prelude.{OnOk, IfOk, IfSome, IsErr}
 use Rattle.std.specs.Io.KnownBytes.{Appends}
@@ -54,24 +54,18 @@ pub told_and_end : {E : Type 0} (r : Result Bool E) (policy : List ℕ) (w : Wor
 told_and_end (Ok whole) policy w s bounds a b c d told end last = (b, c, told, end, last)
 told_and_end (Err x) policy w s bounds a b c d told end last = last
 
--- a file behind a list of milliseconds
-pub has_file : (m : Mode) (w : WorkloadState) (s : SimState) (events : List Event) (file : Option (List ℕ)) → m ≢ mode.Events → IfSome file (IsFileOf w s events) → HasFile m w s events file
-has_file mode.Events w s events file is behind = absurd (is refl)
-has_file mode.Milliseconds w s events file is behind = behind
-has_file mode.Workloads w s events file is behind = behind
-
--- and none
+-- no file
 pub no_file : (m : Mode) (w : WorkloadState) (s : SimState) (events : List Event) → HasFile m w s events None
 no_file mode.Events w s events = refl
 no_file mode.Milliseconds w s events = tt
 no_file mode.Workloads w s events = tt
 
--- a file that was looked for behind a list of milliseconds
-pub files_of : {X E : Type 0} (bytes : X → List ℕ) (m : Mode) (w : WorkloadState) (s : SimState) (events : List Event) (r : Result (Option X) E) → m ≢ mode.Events
-    → IfOk r (λ (file : Option X). IfSome file (λ (x : X). IsFileOf w s events (bytes x))) → IfOk r (λ (file : Option X). HasFile m w s events (option_map bytes file))
-files_of bytes m w s events (Ok None) is behind = no_file m w s events
-files_of bytes m w s events (Ok (Some x)) is behind = has_file m w s events (Some (bytes x)) is behind
-files_of bytes m w s events (Err e) is behind = behind
+-- the text of a file, if there is one
+pub file_bytes : {X E : Type 0} (bytes : X → List ℕ) (P : List ℕ → Type 0) (r : Result (Option X) E) → IfOk r (λ (file : Option X). IfSome file (λ (x : X). P (bytes x)))
+    → IfOk r (λ (file : Option X). IfSome (option_map bytes file) P)
+file_bytes bytes P (Ok None) behind = behind
+file_bytes bytes P (Ok (Some x)) behind = behind
+file_bytes bytes P (Err e) behind = behind
 
 -- what is kept of a file that was looked for, where memory may have run out for it
 pub file_kept : {X E : Type 0} (bytes : X → List ℕ) (m : Mode) (w : WorkloadState) (s : SimState) (events : List Event) (r : Result (Option X) E) (file : Option X)

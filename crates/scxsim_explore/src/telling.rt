@@ -248,14 +248,15 @@ fn file_in(
 /// # Errors
 ///
 /// Memory runs out.
+#[tactic(auto, using(crate::proofs::Told::file_bytes))]
 fn file_of(
     machines: &mut Machines,
     about: &Workload,
     events: &[Event],
 ) -> Result<Option<String>, AllocError>
     ensures same { machines.new ≡ machines.old }
-    ensures file { IfOk result (λ file. IfSome file
-        (λ text. IsFileOf about.now machines.old events.now (string_bytes text))) }
+    ensures file { IfOk result (λ file. IfSome (option_map string_bytes file)
+        (IsFileOf about.now machines.old events.now)) }
 {
     let Some(mut first) = machines.take() else {
         return Err(AllocError);
