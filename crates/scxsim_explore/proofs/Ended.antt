@@ -52,7 +52,7 @@ at_depth b c (At deep) depth misfit (done, far) some =
     (sym same ∙ done, inl (subst (λ n. b.depth ≤ n) same far))
 at_depth b c (Full deep) depth misfit done some =
     let same : deep ≡ depth = ap (λ (o : Option ℕ). unwrap_or o 0) some in
-    (sym same ∙ done, inr (inl (subst IsSome (sym misfit) tt)))
+    (sym same ∙ done, inr (inl (subst IsSome (sym misfit) refl)))
 
 misfit_at : (b : Bounds) (c : Counts) (end : End) → c.misfit ≡ misfit_of end → IsEndOf b c.last end → IfSome c.misfit (λ depth. depth ≡ min (done_of c.last + 1) (2 ^ 64 - 1))
 misfit_at b c Ended misfit is = subst (λ (o : Option ℕ). IfSome o (λ depth. depth ≡ min (done_of c.last + 1) (2 ^ 64 - 1))) (sym misfit) tt
@@ -117,7 +117,7 @@ concluded_any (Err e) done moves n m is none = absurd (no_reach m.reach _ (ap (�
 
 -- and where states were gone through once more
 pub concluded_looked : {E : Type 0} (r : Result Bool E) (done : ℕ) (moves : Moves) (n m : Nones) → m ≡ concluded r done moves n → m.reach ≡ None → IsSome m.again
-concluded_looked (Ok true) done moves n m is none = subst IsSome (sym (ap (λ (x : Nones). x.again) is)) tt
+concluded_looked (Ok true) done moves n m is none = subst IsSome (sym (ap (λ (x : Nones). x.again) is)) refl
 concluded_looked (Ok false) done moves n m is none = absurd (no_reach m.reach _ (ap (λ (x : Nones). x.reach) is) none)
 concluded_looked (Err e) done moves n m is none = absurd (no_reach m.reach _ (ap (λ (x : Nones). x.reach) is) none)
 
@@ -171,7 +171,7 @@ few_cant_be b w few is moves may = go b.few is may.all
 
 -- lists of a mode in which weights change, or that isn't one of such moves
 pub mode_cant_be : (b : Bounds) (w : WorkloadState) (r : Option Moves) → (r ≡ None → IsSome (moves_of b.mode) → ¬ HasNoChanges b.mode w) → r ≡ None → CantBeLooked b w
-mode_cant_be b w r none is moves may = none is (subst IsSome (sym may.of_mode) tt) may.changes
+mode_cant_be b w r none is moves may = none is (subst IsSome (sym may.of_mode) refl) may.changes
 
 -- what is sure of one machine of the texts is so of any
 pub sure_of : (policy workload : List ℕ) (b : Bounds) (moves : Moves) (limit : Option ℕ) (sorts : List Sort) (s t : SimState)

@@ -71,7 +71,7 @@ file_bytes bytes P (Err e) behind = behind
 pub file_kept : {X E : Type 0} (bytes : X → List ℕ) (m : Mode) (w : WorkloadState) (s : SimState) (events : List Event) (r : Result (Option X) E) (file : Option X)
     → IfOk r (λ (found : Option X). HasFile m w s events (option_map bytes found)) → IfOk r (λ (found : Option X). file ≡ found) → (IsErr r → file ≡ None) → HasFile m w s events (option_map bytes file)
 file_kept {X} bytes m w s events (Ok found) file has is none = subst (λ (x : Option X). HasFile m w s events (option_map bytes x)) (sym is) has
-file_kept {X} bytes m w s events (Err e) file has is none = subst (λ (x : Option X). HasFile m w s events (option_map bytes x)) (sym (none tt)) (no_file m w s events)
+file_kept {X} bytes m w s events (Err e) file has is none = subst (λ (x : Option X). HasFile m w s events (option_map bytes x)) (sym (none refl)) (no_file m w s events)
 
 same_workload : {X E : Type 0} (r : Result X E) (x y : X) → r ≡ Ok x → r ≡ Ok y → x ≡ y
 same_workload r x y h k = cc
