@@ -1,3 +1,6 @@
+ghost use Rattle.std.specs.Prelude.{IfSome, Some};
+ghost use Rattle.scx_explore.specs.Ends.{IsEndOf};
+
 use crate::progress::{Level, Progress};
 use scx_explore_machines::Bounds;
 
@@ -22,66 +25,89 @@ pub enum End {
 #[derive(Clone, Copy)]
 pub struct Course {
     pub bounds: Bounds,
-    /// Lists of so many steps were gone through.
-    done: usize,
     levels: [Option<Level>; FIRST + DOUBLED],
-    last: Option<Level>,
+    /// The last depth of which all lists were gone through, if there is one.
+    pub last: Option<Level>,
 }
 
 impl Course {
+    ghost use Rattle.std.specs.Prelude.{◌≡◌, IfSome, None, Some};
+    ghost use Rattle.scx_explore.specs.Ends.{IsEndOf, done_of, level_after};
+
     /// It is to go so far.
-    pub fn new(bounds: Bounds) -> Course {
+    pub fn new(bounds: Bounds) -> Course
+        ensures bounds { result.bounds ≡ bounds }
+        ensures last { result.last ≡ None }
+    {
         Course {
             bounds,
-            done: 0,
             levels: [None; FIRST + DOUBLED],
             last: None,
         }
     }
 
-    /// The depths that are told, but for the last one where that is none of them.
+    /// The depths that are told before the last one.
     pub fn levels(&self) -> &[Option<Level>] {
         &self.levels
     }
 
-    /// The last depth, where it is none of those.
-    pub fn last(&self) -> Option<Level> {
-        let last = self.last?;
-        match place_of(last.depth) {
-            Some(_) => None,
-            None => Some(last),
-        }
-    }
-
     /// Lists of so many steps were gone through.
-    pub fn done(&self) -> usize {
-        self.done
+    pub fn done(&self) -> usize
+        ensures { result ≡ done_of self.now.last }
+    {
+        match self.last {
+            Some(level) => level.depth,
+            None => 0,
+        }
     }
 
     /// How the search has ended behind what it did at last, if it has.
-    pub fn end_after(&mut self, progress: Progress) -> Option<End> {
+    pub fn end_after(&mut self, progress: Progress) -> Option<End>
+        ensures bounds { self.new.bounds ≡ self.old.bounds }
+        ensures last { self.new.last ≡ level_after self.old.last progress }
+        ensures end { IfSome result (IsEndOf self.new.bounds self.new.last) }
+    {
         match progress {
             Progress::Going => None,
-            Progress::Full => Some(End::Full(self.done)),
-            Progress::Level(level) => self.end_at(level),
+            Progress::Full => Some(End::Full(self.done())),
+            Progress::Level(level) => {
+                self.go_on_to(level);
+                end_at(level, self.bounds)
+            }
         }
     }
 
-    fn end_at(&mut self, level: Level) -> Option<End> {
-        if let Some(place) = place_of(level.depth) {
-            if let Some(kept) = self.levels.get_mut(place) {
-                *kept = Some(level);
-            }
+    /// That is the last depth now.
+    fn go_on_to(&mut self, level: Level)
+        ensures bounds { self.new.bounds ≡ self.old.bounds }
+        ensures last { self.new.last ≡ Some level }
+    {
+        if let Some(last) = self.last {
+            keep(&mut self.levels, last);
         }
         self.last = Some(level);
-        self.done = level.depth;
-        if level.ended {
-            Some(End::Ended)
-        } else if level.depth >= self.bounds.depth {
-            Some(End::At(level.depth))
-        } else {
-            None
+    }
+}
+
+/// Keeps the level where its depth is told behind a further one.
+fn keep(levels: &mut [Option<Level>], level: Level) {
+    if let Some(place) = place_of(level.depth) {
+        if let Some(kept) = levels.get_mut(place) {
+            *kept = Some(level);
         }
+    }
+}
+
+/// How a search has ended that has come to that level, if it has.
+fn end_at(level: Level, bounds: Bounds) -> Option<End>
+    ensures { IfSome result (IsEndOf bounds (Some level)) }
+{
+    if level.ended {
+        Some(End::Ended)
+    } else if level.depth >= bounds.depth {
+        Some(End::At(level.depth))
+    } else {
+        None
     }
 }
 

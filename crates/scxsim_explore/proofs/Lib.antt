@@ -1,4 +1,6 @@
+mod Clocks
 mod Ended
+mod Named
 mod Rest
 mod Same
 mod Told

@@ -1,6 +1,6 @@
 -- The texts of lists of events in which something was found, of what was found in none, and of what
 -- isn't explored.
-use Rattle.std.specs.Prelude.{ℕ, List, [], ◌++◌, Bool, true, false, Option, Some, None, codes, decimal, flat_map}
+use Rattle.std.specs.Prelude.{ℕ, ◌+◌, List, [], ◌∷◌, ◌++◌, length, Bool, true, false, Option, Some, None, codes, decimal, flat_map}
 use Rattle.scx_isa_semantics.specs.declared.callbacks.Callback.{Callback}
 use Rattle.scx_isa_semantics.specs.declared.callbacks.Callback.TheVariants.{Init, Enable}
 use Rattle.scx_isa_semantics.specs.Callbacks.{callback_name}
@@ -73,6 +73,28 @@ finding_words x (Overtaken p) = overtaken_words x p.waits p.runs
 finding_words x (Waits t ms) = wait_words x t ms
 finding_words x (Takes b n) = most_words b n
 
+-- the clock grows
+abbrev pub is_clock : Event → Bool
+is_clock (Wake t) = false
+is_clock (Sleep t) = false
+is_clock (Tick c) = false
+is_clock Clock = true
+is_clock (SetWeight g w) = false
+
+-- how many milliseconds a list begins, where its first event begins one or doesn't; an event after
+-- a clock begins one
+abbrev pub ms_begun : List Event → Bool → ℕ
+ms_begun [] first = 0
+ms_begun (e ∷ es) true = 1 + ms_begun es (is_clock e)
+ms_begun (e ∷ es) false = ms_begun es (is_clock e)
+
+-- how long a list is: how many events it has or, in the other modes, how many milliseconds it
+-- begins
+abbrev pub length_in : Mode → List Event → ℕ
+length_in mode.Events es = length es
+length_in mode.Milliseconds es = ms_begun es true
+length_in mode.Workloads es = ms_begun es true
+
 -- the line of what was found after so many events or milliseconds
 abbrev pub found_line : NameLists → Finding → Mode → ℕ → List ℕ
 found_line x f m depth = finding_words x f ++ (codes " after " ++ decimal depth ++ unit m)
@@ -95,9 +117,9 @@ abbrev pub event_lines : NameLists → List Event → List ℕ
 event_lines x events = flat_map (event_line x) events
 
 -- what was found in a list that a machine is given, its events, and their trace
-abbrev pub told_text : NameLists → SimState → Finding → Mode → ℕ → List Event → List ℕ
-told_text x s f m depth events =
-    found_line x f m depth ++ event_lines x events
+abbrev pub told_text : NameLists → SimState → Finding → Mode → List Event → List ℕ
+told_text x s f m events =
+    found_line x f m (length_in m events) ++ event_lines x events
     ++ (codes "trace\n" ++ note_lines x (notes_of_all s events))
 
 -- what stands behind the trace of a list: a workload file whose events begin with it, if there is
@@ -157,8 +179,8 @@ misfit_line m None = []
 misfit_line m (Some depth) =
     (codes "depth " ++ decimal depth ++ depth_unit m) ++ codes " does not fit\n"
 
--- How far a search came: whether tasks of a group count as alike, what is told of depths, that of
--- the last one, and which one doesn't fit.
+-- How far a search came: whether tasks of a group count as alike, what is told of depths before the
+-- last one, that of the last one, and which one doesn't fit.
 pub record Counts : Type 0 where
   pub alike : Bool
   pub levels : List (Option Level)
@@ -227,6 +249,11 @@ abbrev pub nones_text : Nones → List ℕ
 nones_text n =
     again_line n.again ++ none_lines n.bounds n.reach n.sorts
     ++ overtaken_line n.bounds n.reach n.overtaken
+
+-- memory ran out behind the first line, so that lines are missing
+abbrev pub memory_line : Bool → List ℕ
+memory_line true = []
+memory_line false = codes "incomplete: out of memory\n"
 
 -- what is told at the end: what callbacks take before any event, how far the search came, and what
 -- was found in none of the lists

@@ -1,5 +1,5 @@
 -- What is written of all lists of events.
-use Rattle.std.specs.Prelude.{◌≡◌, ℕ, ◌≤◌, ⊤, length, Bool, true, false, List, [], ◌∷◌, ◌++◌, Option, Some, None, IfSome}
+use Rattle.std.specs.Prelude.{◌≡◌, ℕ, ◌+◌, ◌-◌, ◌^◌, ◌≤◌, min, ⊤, ◌⊎◌, length, Bool, true, false, List, [], ◌∷◌, ◌++◌, Option, Some, None, IfSome, IsSome}
 use Rattle.std.specs.Io.KnownBytes.{Appends}
 use Rattle.scx_load_workloads.specs.Workload.{WorkloadState}
 use Rattle.scx_sched_machine.specs.declared.events.Event.{Event}
@@ -17,38 +17,45 @@ use Rattle.scx_explore_audit.specs.declared.table.Moves.{Moves}
 use Rattle.scx_explore_audit.specs.declared.table.Moves.TheVariants as moves
 use Rattle.scx_explore_audit.specs.Closed.{Respects}
 use Rattle.scx_explore_audit.specs.Laws.{NoneIn}
+use Rattle.scx_explore_workloads.specs.Files.{IsFileOf}
 use Rattle.scx_explore.specs.declared.starts.Starts.{Starts}
 use Rattle.scx_explore.specs.Forms.{IsFormOf}
+use Rattle.scx_explore.specs.Ends.{HasNoNew, done_of}
 use Rattle.scxsim_simulation.specs.Runs.{IsRun}
 use Rattle.scxsim_explore.specs.declared.limits.Limit.{Limit}
-use Rattle.scxsim_explore.specs.Lists.{Counts, Nones, count_lines, end_text, file_text, limit_line, told_text}
+use Rattle.scxsim_explore.specs.declared.limits.Lists.{Lists}
+use Rattle.scxsim_explore.specs.Words.{IsBoundsOf, IsPast, IsPastTexts, IsWithin}
+use Rattle.scxsim_explore.specs.Lists.{Counts, Nones, end_text, file_text, limit_line, memory_line, told_text}
 
--- what may stand behind the trace of a list is written
-abbrev pub IsBehind : Option (List ℕ) → Option (List ℕ) → Type 0
-IsBehind old new = (file : Option (List ℕ)) × Appends old new (file_text file)
+-- The text after the trace of a list, if there is one. A list of `events` has none. In the other modes
+-- it is the file of a workload with the same parts, whose events begin with the list.
+abbrev pub HasFile : Mode → WorkloadState → SimState → List Event → Option (List ℕ) → Type 0
+HasFile mode.Events w s events file = file ≡ None
+HasFile mode.Milliseconds w s events file = IfSome file (IsFileOf w s events)
+HasFile mode.Workloads w s events file = IfSome file (IsFileOf w s events)
 
--- A list of events, what is said to be found in it after so many of them, or after so many
--- milliseconds, and the workload file behind its trace, if there is one.
+-- a list of events, what is said to be found in it, and the workload file after its trace, if there
+-- is one
 pub record ToldList : Type 0 where
   pub finding : Finding
-  pub mode : Mode
-  pub depth : ℕ
   pub events : List Event
   pub file : Option (List ℕ)
 
--- the machine shows each of the lists, and they are written one after another
+-- the machine shows each of the lists, and they are written one after another, each with its length
+-- in that mode and its own file, if it has one
 abbrev pub AreTold :
-    WorkloadState → SimState → List ToldList → Option (List ℕ) → Option (List ℕ) → Type 0
-AreTold w s [] old new = new ≡ old
-AreTold w s (t ∷ ts) old new =
+    Mode → WorkloadState → SimState → List ToldList → Option (List ℕ) → Option (List ℕ) → Type 0
+AreTold m w s [] old new = new ≡ old
+AreTold m w s (t ∷ ts) old new =
     (between : Option (List ℕ)) × Shows w.homes s t.events t.finding
+    × HasFile m w s t.events t.file
     × Appends old between
-    (told_text (names_of w) s t.finding t.mode t.depth t.events ++ file_text t.file)
-    × AreTold w s ts between new
+    (told_text (names_of w) s t.finding m t.events ++ file_text t.file)
+    × AreTold m w s ts between new
 
 -- lists are written, each of which the machine shows
-abbrev pub HasTold : WorkloadState → SimState → Option (List ℕ) → Option (List ℕ) → Type 0
-HasTold w s old new = (told : List ToldList) × AreTold w s told old new
+abbrev pub HasTold : Mode → WorkloadState → SimState → Option (List ℕ) → Option (List ℕ) → Type 0
+HasTold m w s old new = (told : List ToldList) × AreTold m w s told old new
 
 -- ---- what is in none of the lists
 
@@ -94,47 +101,90 @@ pub record IsGoneThrough
     pub changes : HasNoChanges n.bounds.mode w
     pub sure : IsSure policy n.bounds moves n.reach n.sorts first
 
--- lines of some counts are written
-abbrev pub AreCounted : Mode → Option (List ℕ) → Option (List ℕ) → Type 0
-AreCounted m old new = (counts : Counts) × Appends old new (count_lines m counts)
+-- all lists within the bounds are made of such moves, so that they may be gone through once more
+pub record MayBeLooked (b : Bounds) (w : WorkloadState) (moves : Moves) : Type 0 where
+  pub of_mode : moves_of b.mode ≡ Some moves
+  pub all : b.few ≡ None
+  pub changes : HasNoChanges b.mode w
 
--- what stands at the end is written, with these lines of what was found in none of the lists
-abbrev pub AreEndLines : Nones → Option (List ℕ) → Option (List ℕ) → Type 0
-AreEndLines n old new =
-    (starts : Starts) × (counts : Counts) × Appends old new (end_text starts counts n)
+-- the lists within the bounds are made of no such moves
+abbrev pub CantBeLooked : Bounds → WorkloadState → Type 0
+CantBeLooked b w = (moves : Moves) → ¬ MayBeLooked b w moves
 
--- that is written; and where it says that states were gone through once more, what the lines below it
--- say holds
+-- the search went as far as the bounds ask, or a depth doesn't fit, or the last one has no new state
+abbrev pub IsThrough : Bounds → Counts → ℕ → Type 0
+IsThrough b c depth = (b.depth ≤ depth) ⊎ (IsSome c.misfit ⊎ HasNoNew c.last)
+
+-- Of which lists it is said that nothing was found in them. Of lists of any length only where they
+-- were gone through once more; where they can't be, the search says it, and then its last depth has
+-- no new state. Otherwise of lists up to the last depth.
+pub record IsReach (b : Bounds) (w : WorkloadState) (c : Counts) (n : Nones) : Type 0 where
+  pub any : n.reach ≡ None → IsSome n.again ⊎ (CantBeLooked b w × HasNoNew c.last)
+  pub some : IfSome n.reach (λ depth. (depth ≡ done_of c.last) × IsThrough b c depth)
+  pub misfit : IfSome c.misfit (λ depth. depth ≡ min (done_of c.last + 1) (2 ^ 64 - 1))
+
+-- The end is written of lists within the bounds: how far the search came, and what it found in none
+-- of these lists. If a line says that states were gone through once more, what the lines below it say
+-- holds. Otherwise they are only what the search says.
 pub record IsEnded
-    (policy : List ℕ) (w : WorkloadState) (first : SimState) (old new : Option (List ℕ)) : Type 0
+    (policy : List ℕ) (w : WorkloadState) (first : SimState) (b : Bounds)
+    (old new : Option (List ℕ)) : Type 0
   where
+    pub starts : Starts
+    pub counts : Counts
     pub nones : Nones
-    pub lines : AreEndLines nones old new
+    pub bounds : nones.bounds ≡ b
+    pub lines : Appends old new (end_text starts counts nones)
+    pub reach : IsReach b w counts nones
     pub again : IfSome nones.again (IsGoneThrough policy w first nones)
 
 -- ---- all of it
 
--- lists are written, each of which the machine shows, and behind them what stands at the end
+-- lists are written, each of which the machine shows, then the end, and then a line if memory ran out
 abbrev pub IsTold :
-    List ℕ → WorkloadState → SimState → Option (List ℕ) → Option (List ℕ) → Type 0
-IsTold policy w s old new =
-    (between : Option (List ℕ)) × HasTold w s old between × IsEnded policy w s between new
+    List ℕ → WorkloadState → SimState → Bounds → Bool → Option (List ℕ) → Option (List ℕ) → Type 0
+IsTold policy w s b whole old new =
+    (between : Option (List ℕ)) × (end : Option (List ℕ)) × HasTold b.mode w s old between
+    × IsEnded policy w s b between end × Appends end new (memory_line whole)
 
--- Lists are written of which the machine that the texts stand for shows that they are accepted and
--- end in what is said of them, each with its events and its trace, and behind them how far the search
--- came and what it has found in no list.
-pub record IsExplored (policy workload : List ℕ) (old new : Option (List ℕ)) : Type 0 where
-  pub of_workload : WorkloadState
-  pub first : SimState
-  pub run : IsRun policy workload of_workload first
-  pub told : IsTold policy of_workload first old new
+-- Lists within the bounds are written of which the machine that the texts stand for shows that they
+-- are accepted and end in what is said of them, each with its events and its trace, and behind them
+-- how far the search came and what it has found in no list. The machine is past no limit. The last
+-- line says whether memory ran out meanwhile.
+pub record IsExplored
+    (policy workload : List ℕ) (b : Bounds) (whole : Bool) (old new : Option (List ℕ)) : Type 0
+  where
+    pub of_workload : WorkloadState
+    pub first : SimState
+    pub run : IsRun policy workload of_workload first
+    pub within : IsWithin b of_workload first
+    pub told : IsTold policy of_workload first b whole old new
 
--- a line says what isn't explored
-abbrev pub IsLimited : Option (List ℕ) → Option (List ℕ) → Type 0
-IsLimited old new = (past : Limit) × Appends old new (limit_line past)
+-- the line of a limit is written that the run of the texts is past
+abbrev pub IsLimitedIn :
+    List ℕ → List ℕ → Bounds → Option (List ℕ) → Option (List ℕ) → Type 0
+IsLimitedIn policy workload b old new =
+    (past : Limit) × IsPastTexts policy workload b past × Appends old new (limit_line past)
 
--- what is written where the answer is that
+-- what is written where the answer is that, of lists within bounds that words named
+abbrev pub IsAnswerWithin :
+    Bool → List ℕ → List ℕ → Bounds → Option (List ℕ) → Option (List ℕ) → Type 0
+IsAnswerWithin true policy workload b old new = IsExplored policy workload b true old new
+IsAnswerWithin false policy workload b old new =
+    IsLimitedIn policy workload b old new ⊎ IsExplored policy workload b false old new
+
+-- the line of a limit is written that a word or the run of the texts is past
+abbrev pub IsLimited :
+    List ℕ → List ℕ → Lists → Option (List ℕ) → Option (List ℕ) → Type 0
+IsLimited policy workload l old new =
+    (past : Limit) × IsPast policy workload l past × Appends old new (limit_line past)
+
+-- What is written if that is the answer: lists within the bounds that the words name. The answer is
+-- false if a word or the machine is past a limit, and if memory ran out meanwhile.
 abbrev pub IsAnswer :
-    Bool → List ℕ → List ℕ → Option (List ℕ) → Option (List ℕ) → Type 0
-IsAnswer true policy workload old new = IsExplored policy workload old new
-IsAnswer false policy workload old new = IsLimited old new
+    Bool → List ℕ → List ℕ → Lists → Option (List ℕ) → Option (List ℕ) → Type 0
+IsAnswer true policy workload l old new =
+    (b : Bounds) × IsBoundsOf l b × IsExplored policy workload b true old new
+IsAnswer false policy workload l old new =
+    IsLimited policy workload l old new
+    ⊎ ((b : Bounds) × IsBoundsOf l b × IsExplored policy workload b false old new)

@@ -1,9 +1,9 @@
-ghost use Rattle.std.specs.Prelude.{◌≡◌, ◌≤◌, true, [], length, Some, None, All, IfSome};
+ghost use Rattle.std.specs.Prelude.{◌≡◌, ◌≢◌, ◌≤◌, ◌⊎◌, true, false, [], length, Some, None, Ok, IfSome, IfOk, IsSome, IsOk, IsErr};
 ghost use Rattle.scx_explore_machines.specs.Events.{most_events};
-ghost use Rattle.scx_explore_path.specs.Path.{IsAs};
 ghost use Rattle.scxsim_explore.specs.Machines.{IsFresh};
-ghost use Rattle.scxsim_explore.specs.Telling.{HasNoChanges, IsGoneThrough, IsSure, IsSureBy, moves_of};
-ghost use Rattle.scxsim_explore.specs.Unfound.{nones_of};
+ghost use Rattle.scx_explore.specs.Ends.{done_of};
+ghost use Rattle.scxsim_explore.specs.Telling.{CantBeLooked, HasNoChanges, IsGoneThrough, IsSure, IsSureBy, MayBeLooked, moves_of};
+ghost use Rattle.scxsim_explore.specs.Unfound.{concluded, nones_of};
 
 use crate::beginning::Begun;
 use crate::machines::{fresh, make_machines};
@@ -39,9 +39,16 @@ pub(crate) struct Unfound<'a> {
     pub(crate) again: Option<Moves>,
 }
 
-/// The same, once the states were gone through once more, where they can be. Where something is shown then, or a state
-/// is missing, it only holds of lists as long as those that were searched.
-#[tactic(auto, using(crate::proofs::Ended::not_looked, crate::proofs::Ended::is_looked))]
+/// What was found in none of the lists, after an audit of the states if there was one.
+#[derive(Clone, Copy)]
+pub(crate) struct Audited<'a> {
+    pub(crate) unfound: Unfound<'a>,
+    /// True unless memory ran out for the audit.
+    pub(crate) is_whole: bool,
+}
+
+/// Audits the states if all lists are made of the moves that an audit tries. If something is shown then, a state is
+/// missing, or the audit has no room, the answer is only about lists as long as those that were searched.
 pub(crate) fn look_again<'a>(
     begun: &Begun,
     texts: Texts<'_>,
@@ -49,23 +56,83 @@ pub(crate) fn look_again<'a>(
     course: &Course,
     end: End,
     unfound: Unfound<'a>,
-) -> Unfound<'a>
+) -> Audited<'a>
     requires { IsFresh texts.policy.now texts.workload.now begun.now.machines }
-    ensures { IfSome result.again
-        (IsGoneThrough texts.entry.policy.now about.now begun.now.machines (nones_of result)) }
+    ensures bounds { result.unfound.bounds ≡ unfound.entry.bounds }
+    ensures again { IfSome result.unfound.again
+        (IsGoneThrough texts.entry.policy.now about.now begun.now.machines
+        (nones_of result.unfound)) }
+    ensures any { result.unfound.reach ≡ None → unfound.entry.reach ≡ None }
+    ensures looked { result.unfound.reach ≡ None
+        → IsSome result.unfound.again ⊎ CantBeLooked unfound.entry.bounds about.now }
+    ensures some { IfSome result.unfound.reach (λ depth. (unfound.entry.reach ≡ Some depth)
+        ⊎ ((unfound.entry.reach ≡ None) × (depth ≡ done_of course.now.last))) }
 {
-    let Some(moves) = moves_again(&begun.search, about, end, unfound) else {
-        return unlooked(unfound, unfound.reach);
-    };
-    match is_closed(begun, texts, about, course, moves, unfound) {
-        Some(true) => looked(unfound, moves),
-        Some(false) => unlooked(unfound, Some(unfound.reach.unwrap_or(course.done()))),
-        None => unlooked(unfound, unfound.reach),
+    match moves_within(unfound.bounds, about) {
+        Some(moves) => look_by(begun, texts, about, course, end, unfound, moves),
+        None => Audited {
+            unfound: unlooked(unfound, unfound.reach),
+            is_whole: true,
+        },
+    }
+}
+
+/// Audits the states by these moves.
+fn look_by<'a>(
+    begun: &Begun,
+    texts: Texts<'_>,
+    about: &Workload,
+    course: &Course,
+    end: End,
+    unfound: Unfound<'a>,
+    moves: Moves,
+) -> Audited<'a>
+    requires fresh { IsFresh texts.policy.now texts.workload.now begun.now.machines }
+    requires may { MayBeLooked unfound.bounds about.now moves }
+    ensures bounds { result.unfound.bounds ≡ unfound.entry.bounds }
+    ensures again { IfSome result.unfound.again
+        (IsGoneThrough texts.entry.policy.now about.now begun.now.machines
+        (nones_of result.unfound)) }
+    ensures any { result.unfound.reach ≡ None → unfound.entry.reach ≡ None }
+    ensures looked { result.unfound.reach ≡ None → IsSome result.unfound.again }
+    ensures some { IfSome result.unfound.reach (λ depth. (unfound.entry.reach ≡ Some depth)
+        ⊎ ((unfound.entry.reach ≡ None) × (depth ≡ done_of course.now.last))) }
+{
+    let closed = is_closed(begun, texts, about, course, end, moves, unfound);
+    concluded(closed, course.done(), moves, unfound)
+}
+
+/// Puts the answer of an audit into what was found in none of the lists. All lists of `done` steps were searched.
+fn concluded<'a>(
+    closed: Result<bool, AllocError>,
+    done: usize,
+    moves: Moves,
+    unfound: Unfound<'a>,
+) -> Audited<'a>
+    ensures nones { nones_of result.unfound
+        ≡ concluded closed done moves (nones_of unfound.entry) }
+    ensures memory { IsErr closed → result.is_whole ≡ false }
+    ensures whole { IsOk closed → result.is_whole ≡ true }
+{
+    let searched = unlooked(unfound, Some(unfound.reach.unwrap_or(done)));
+    match closed {
+        Ok(true) => Audited {
+            unfound: looked(unfound, moves),
+            is_whole: true,
+        },
+        Ok(false) => Audited {
+            unfound: searched,
+            is_whole: true,
+        },
+        Err(AllocError) => Audited {
+            unfound: searched,
+            is_whole: false,
+        },
     }
 }
 
 fn unlooked<'a>(unfound: Unfound<'a>, reach: Option<usize>) -> Unfound<'a>
-    ensures { result.again ≡ None }
+    ensures { nones_of result ≡ record (nones_of unfound.entry) { again = None; reach = reach } }
 {
     Unfound {
         reach,
@@ -83,23 +150,6 @@ fn looked<'a>(unfound: Unfound<'a>, moves: Moves) -> Unfound<'a>
     }
 }
 
-/// By which moves the states are gone through once more: where each state is kept that was met, and the lists are all
-/// that are made of such moves. None where they aren't, or nothing is asked about.
-fn moves_again(search: &Search, about: &Workload, end: End, unfound: Unfound<'_>) -> Option<Moves>
-    ensures of_mode { IfSome result (λ moves. moves_of unfound.entry.bounds.mode ≡ Some moves) }
-    ensures all { IfSome result (λ moves. unfound.entry.bounds.few ≡ None) }
-    ensures changes { IfSome result
-        (λ moves. HasNoChanges unfound.entry.bounds.mode about.now) }
-{
-    if unfound.sorts.is_empty() || !is_kept_whole(search, end) {
-        return None;
-    }
-    match unfound.bounds.few {
-        Some(_) => None,
-        None => moves_in(unfound.bounds.mode, about),
-    }
-}
-
 /// Whether each state is kept that was met.
 fn is_kept_whole(search: &Search, end: End) -> bool {
     match end {
@@ -108,10 +158,22 @@ fn is_kept_whole(search: &Search, end: End) -> bool {
     }
 }
 
+/// The moves that an audit tries, if all lists within the bounds are made of them.
+fn moves_within(bounds: Bounds, about: &Workload) -> Option<Moves>
+    ensures may { IfSome result (MayBeLooked bounds about.now) }
+    ensures cant { result ≡ None → CantBeLooked bounds about.now }
+{
+    match bounds.few {
+        Some(_) => None,
+        None => moves_in(bounds.mode, about),
+    }
+}
+
 /// The moves of lists of the mode, where no weight changes in them.
 fn moves_in(mode: Mode, about: &Workload) -> Option<Moves>
     ensures of_mode { IfSome result (λ moves. moves_of mode ≡ Some moves) }
     ensures changes { IfSome result (λ moves. HasNoChanges mode about.now) }
+    ensures none { result ≡ None → IsSome (moves_of mode) → ¬ HasNoChanges mode about.now }
 {
     match mode {
         Mode::Events => event_moves(about),
@@ -123,6 +185,7 @@ fn moves_in(mode: Mode, about: &Workload) -> Option<Moves>
 fn event_moves(about: &Workload) -> Option<Moves>
     ensures of_mode { IfSome result (λ moves. moves ≡ Moves.Events) }
     ensures changes { IfSome result (λ moves. about.now.changes ≡ []) }
+    ensures none { result ≡ None → about.now.changes ≢ [] }
 {
     if about.changes().is_empty() {
         Some(Moves::Events)
@@ -131,21 +194,29 @@ fn event_moves(about: &Workload) -> Option<Moves>
     }
 }
 
-/// Whether nothing of the sorts is shown by any list, and no state is missing; none where there is no memory for it, or
-/// lists may be too long.
+/// Returns whether each state is kept that was met, no state is missing, and no list shows anything of the sorts. The
+/// answer is also false if nothing is asked about, or if lists may have more events than there may be machines.
+///
+/// # Errors
+///
+/// Memory runs out.
 fn is_closed(
     begun: &Begun,
     texts: Texts<'_>,
     about: &Workload,
     course: &Course,
+    end: End,
     moves: Moves,
     unfound: Unfound<'_>,
-) -> Option<bool>
+) -> Result<bool, AllocError>
     requires { IsFresh texts.policy.now texts.workload.now begun.now.machines }
-    ensures { result ≡ Some true → IsSure texts.entry.policy.now unfound.entry.bounds moves
+    ensures { result ≡ Ok true → IsSure texts.entry.policy.now unfound.entry.bounds moves
         unfound.entry.reach unfound.entry.sorts.now begun.now.machines }
 {
-    let count = machines_of(course, begun.machines.first())?;
+    let count = machines_of(course, begun.machines.first());
+    if unfound.sorts.is_empty() || count > MOST_MACHINES || !is_kept_whole(&begun.search, end) {
+        return Ok(false);
+    }
     let mut path = path_in(begun.machines.alloc(), texts, count)?;
     let closed = is_closed_along(begun, texts.policy, about, moves, unfound, &mut path);
     drop(path);
@@ -153,45 +224,34 @@ fn is_closed(
 }
 
 /// How many machines it takes: one for each event of the longest list that was searched, or of the longest one of a
-/// state and one move more. None where they are too many.
-fn machines_of(course: &Course, sim: &Sim) -> Option<usize> {
+/// state and one move more.
+fn machines_of(course: &Course, sim: &Sim) -> usize {
     let searched = Bounds {
         depth: course.done(),
         ..course.bounds
     };
-    let count = Search::most_events(searched, sim);
-    if count <= MOST_MACHINES {
-        Some(count)
-    } else {
-        None
-    }
+    Search::most_events(searched, sim)
 }
 
-/// A path along lists of so many events of the machine of the texts; none where there is no memory for it.
-fn path_in(alloc: Global, texts: Texts<'_>, count: usize) -> Option<Path>
-    ensures { IfSome result
+/// A path along lists of so many events of the machine of the texts.
+///
+/// # Errors
+///
+/// Memory runs out.
+fn path_in(alloc: Global, texts: Texts<'_>, count: usize) -> Result<Path, AllocError>
+    ensures { IfOk result
         (λ path. IsFresh texts.entry.policy.now texts.entry.workload.now path.root) }
 {
     let Ok(sims) = make_machines(alloc, texts.policy, texts.workload, count) else {
-        return None;
+        return Err(AllocError);
     };
     match fresh(alloc, texts.policy, texts.workload) {
-        Ok(root) => path_from(alloc, root, sims),
+        Ok(root) => Path::new(alloc, root, sims),
         Err(refusal) => {
             drop(refusal);
             drop(sims);
-            None
+            Err(AllocError)
         }
-    }
-}
-
-fn path_from(alloc: Global, root: Sim, sims: Vec<Sim>) -> Option<Path>
-    requires { All (IsAs root) sims.items }
-    ensures { IfSome result (λ path. path.root ≡ root) }
-{
-    match Path::new(alloc, root, sims) {
-        Ok(path) => Some(path),
-        Err(AllocError) => None,
     }
 }
 
@@ -203,15 +263,13 @@ fn is_closed_along(
     moves: Moves,
     unfound: Unfound<'_>,
     path: &mut Path,
-) -> Option<bool>
-    ensures { result ≡ Some true → IsSure policy.now unfound.entry.bounds moves
+) -> Result<bool, AllocError>
+    ensures { result ≡ Ok true → IsSure policy.now unfound.entry.bounds moves
         unfound.entry.reach unfound.entry.sorts.now path.old.root }
 {
-    let Ok(form) = form_of(begun.machines.alloc(), policy, unfound.bounds) else {
-        return None;
-    };
+    let form = form_of(begun.machines.alloc(), policy, unfound.bounds)?;
     if !is_within(path, unfound.bounds) {
-        return None;
+        return Ok(false);
     }
     is_closed_by(begun, form, about, moves, unfound, path)
 }
@@ -232,8 +290,8 @@ fn is_closed_by(
     moves: Moves,
     unfound: Unfound<'_>,
     path: &mut Path,
-) -> Option<bool>
-    ensures { result ≡ Some true → IsSureBy form moves unfound.entry.reach
+) -> Result<bool, AllocError>
+    ensures { result ≡ Ok true → IsSureBy form moves unfound.entry.reach
         unfound.entry.sorts.now path.old.root path.old.room }
 {
     let table = Table {
@@ -244,8 +302,5 @@ fn is_closed_by(
         moves,
         limit: unfound.reach,
     };
-    match none_in_lists(begun.machines.alloc(), table, about.tasks(), path) {
-        Ok(closed) => Some(closed),
-        Err(AllocError) => None,
-    }
+    none_in_lists(begun.machines.alloc(), table, about.tasks(), path)
 }

@@ -47,6 +47,8 @@ pub(crate) struct Begun {
     pub(crate) machines: Machines,
     /// The list at hand.
     pub(crate) events: Vec<Event>,
+    /// True unless memory ran out for the workload file of a list.
+    pub(crate) is_whole: bool,
 }
 
 /// The workload of a text that was read before.
@@ -91,6 +93,7 @@ pub(crate) fn begin(
             starts,
             machines,
             events,
+            is_whole: true,
         }),
         Err(refusal) => {
             drop(machines);

@@ -1,9 +1,11 @@
-ghost use Rattle.std.specs.Prelude.{◌≡◌, ◌≤◌, ◌++◌, OnOk, flat_map, length};
+ghost use Rattle.std.specs.Prelude.{◌≡◌, ◌≤◌, ◌++◌, true, IfOk, OnOk, OnErr, flat_map, length};
 ghost use Rattle.std.specs.Io.KnownBytes.{Appends};
+ghost use Rattle.scxsim_output.specs.Output.{HasFailed};
 ghost use Rattle.scxsim_explore.specs.Lists.{kept_line, none_lines, overtaken_line, nones_text};
 ghost use Rattle.scxsim_explore.specs.Machines.{IsFresh};
-ghost use Rattle.scxsim_explore.specs.Telling.{AreCounted, AreEndLines, IsEnded};
-ghost use Rattle.scxsim_explore.specs.Unfound.{nones_of};
+ghost use Rattle.scx_explore.specs.Ends.{IsEndOf};
+ghost use Rattle.scxsim_explore.specs.Telling.{IsEnded};
+ghost use Rattle.scxsim_explore.specs.Unfound.{AreCounted, AreEndLines, misfit_of, nones_of, reach_of};
 
 use crate::auditing::{Texts, Unfound, look_again};
 use crate::beginning::Begun;
@@ -12,7 +14,8 @@ use scx_explore::{Bounds, Course, End, Level, Mode, SORTS, Search, Sort};
 use scx_load_workloads::Workload;
 use scxsim_output::{Failed, Out};
 
-/// Writes what callbacks took before any event, how far the search came, and what it found in none of the lists.
+/// Writes what callbacks took before any event, how far the search came, and what it found in none of the lists. The
+/// answer is false if memory has run out for this, or for a workload file.
 pub(crate) fn write_end<W: Out>(
     begun: &Begun,
     texts: Texts<'_>,
@@ -20,10 +23,15 @@ pub(crate) fn write_end<W: Out>(
     course: &Course,
     end: End,
     out: &mut W,
-) -> Result<(), Failed>
-    requires { IsFresh texts.policy.now texts.workload.now begun.now.machines }
-    ensures { OnOk result (IsEnded texts.entry.policy.now about.now begun.now.machines
-        (W.contents out.old) (W.contents out.new)) }
+) -> Result<bool, Failed>
+    requires fresh { IsFresh texts.policy.now texts.workload.now begun.now.machines }
+    requires end { IsEndOf course.now.bounds course.now.last end }
+    ensures ok { OnOk result (IsEnded texts.entry.policy.now about.now begun.now.machines
+        course.now.bounds (W.contents out.old) (W.contents out.new)) }
+    ensures memory { IfOk result (λ whole. whole ≡ true → begun.now.is_whole ≡ true) }
+    ensures ok_failures { OnOk result (W.failure_count out.new ≡ W.failure_count out.old) }
+    ensures err_failures { OnErr result
+        (HasFailed (W.failure_count out.old) (W.failure_count out.new)) }
 {
     let mut places = SORTS;
     let count = gather_unfound(&begun.search, course.bounds.mode, &mut places);
@@ -35,12 +43,15 @@ pub(crate) fn write_end<W: Out>(
         again: None,
     };
     let looked = look_again(begun, texts, about, course, end, unfound);
-    write_lines(begun, course, end, looked, out)
+    write_lines(begun, course, end, looked.unfound, out)?;
+    Ok(looked.is_whole && begun.is_whole)
 }
 
 /// Where all lists of so many events or milliseconds were gone through, how many that is; none where it were those of
 /// any length.
-fn reach_of(end: End) -> Option<usize> {
+fn reach_of(end: End) -> Option<usize>
+    ensures { result ≡ reach_of end }
+{
     match end {
         End::Ended => None,
         End::At(depth) | End::Full(depth) => Some(depth),
@@ -87,8 +98,11 @@ fn write_lines<W: Out>(
     unfound: Unfound<'_>,
     out: &mut W,
 ) -> Result<(), Failed>
-    ensures { OnOk result (AreEndLines (nones_of unfound.entry)
-        (W.contents out.old) (W.contents out.new)) }
+    ensures ok { OnOk result (AreEndLines (nones_of unfound.entry) course.now.last
+        (misfit_of end) (W.contents out.old) (W.contents out.new)) }
+    ensures ok_failures { OnOk result (W.failure_count out.new ≡ W.failure_count out.old) }
+    ensures err_failures { OnErr result
+        (HasFailed (W.failure_count out.old) (W.failure_count out.new)) }
 {
     write_starts(begun.starts, out)?;
     write_counts(&begun.search, unfound.bounds.mode, course, end, out)?;
@@ -103,15 +117,21 @@ fn write_counts<W: Out>(
     end: End,
     out: &mut W,
 ) -> Result<(), Failed>
-    ensures { OnOk result (AreCounted mode (W.contents out.old) (W.contents out.new)) }
+    ensures ok { OnOk result (AreCounted mode course.now.last (misfit_of end)
+        (W.contents out.old) (W.contents out.new)) }
+    ensures ok_failures { OnOk result (W.failure_count out.new ≡ W.failure_count out.old) }
+    ensures err_failures { OnErr result
+        (HasFailed (W.failure_count out.old) (W.failure_count out.new)) }
 {
     write_alike(search.are_tasks_alike(), out)?;
-    write_depths(mode, course.levels(), course.last(), out)?;
+    write_depths(mode, course.levels(), course.last, out)?;
     write_misfit(mode, misfit_of(end), out)
 }
 
 /// Which depth doesn't fit, if one doesn't.
-fn misfit_of(end: End) -> Option<u64> {
+fn misfit_of(end: End) -> Option<u64>
+    ensures { result ≡ misfit_of end }
+{
     match end {
         End::Ended | End::At(_) => None,
         End::Full(depth) => Some((depth as u64).saturating_add(1)),
@@ -124,8 +144,11 @@ fn write_depths<W: Out>(
     last: Option<Level>,
     out: &mut W,
 ) -> Result<(), Failed>
-    ensures { OnOk result (Appends (W.contents out.old) (W.contents out.new)
+    ensures ok { OnOk result (Appends (W.contents out.old) (W.contents out.new)
         (flat_map (kept_line mode) levels.now ++ kept_line mode last)) }
+    ensures ok_failures { OnOk result (W.failure_count out.new ≡ W.failure_count out.old) }
+    ensures err_failures { OnErr result
+        (HasFailed (W.failure_count out.old) (W.failure_count out.new)) }
 {
     write_levels(mode, levels, out)?;
     write_kept(mode, last, out)
@@ -133,8 +156,11 @@ fn write_depths<W: Out>(
 
 #[tactic(auto, using(crate::proofs::Written::none_written))]
 fn write_levels<W: Out>(mode: Mode, levels: &[Option<Level>], out: &mut W) -> Result<(), Failed>
-    ensures { OnOk result (Appends (W.contents out.old) (W.contents out.new)
+    ensures ok { OnOk result (Appends (W.contents out.old) (W.contents out.new)
         (flat_map (kept_line mode) levels.now)) }
+    ensures ok_failures { OnOk result (W.failure_count out.new ≡ W.failure_count out.old) }
+    ensures err_failures { OnErr result
+        (HasFailed (W.failure_count out.old) (W.failure_count out.new)) }
 {
     for level in levels {
         write_kept(mode, *level, out)?;
@@ -144,8 +170,11 @@ fn write_levels<W: Out>(mode: Mode, levels: &[Option<Level>], out: &mut W) -> Re
 
 #[tactic(auto, using(crate::proofs::Written::none_written))]
 fn write_kept<W: Out>(mode: Mode, level: Option<Level>, out: &mut W) -> Result<(), Failed>
-    ensures { OnOk result (Appends (W.contents out.old) (W.contents out.new)
+    ensures ok { OnOk result (Appends (W.contents out.old) (W.contents out.new)
         (kept_line mode level)) }
+    ensures ok_failures { OnOk result (W.failure_count out.new ≡ W.failure_count out.old) }
+    ensures err_failures { OnErr result
+        (HasFailed (W.failure_count out.old) (W.failure_count out.new)) }
 {
     match level {
         Some(level) => write_level(mode, level, out),
@@ -155,8 +184,11 @@ fn write_kept<W: Out>(mode: Mode, level: Option<Level>, out: &mut W) -> Result<(
 
 /// Writes whether states were gone through once more, and a line for each sort.
 fn write_nones<W: Out>(unfound: Unfound<'_>, out: &mut W) -> Result<(), Failed>
-    ensures { OnOk result (Appends (W.contents out.old) (W.contents out.new)
+    ensures ok { OnOk result (Appends (W.contents out.old) (W.contents out.new)
         (nones_text (nones_of unfound.entry))) }
+    ensures ok_failures { OnOk result (W.failure_count out.new ≡ W.failure_count out.old) }
+    ensures err_failures { OnErr result
+        (HasFailed (W.failure_count out.old) (W.failure_count out.new)) }
 {
     write_again(unfound.again, out)?;
     write_sorts(unfound.bounds, unfound.reach, unfound.sorts, out)?;
@@ -170,8 +202,11 @@ fn write_sorts<W: Out>(
     sorts: &[Sort],
     out: &mut W,
 ) -> Result<(), Failed>
-    ensures { OnOk result (Appends (W.contents out.old) (W.contents out.new)
+    ensures ok { OnOk result (Appends (W.contents out.old) (W.contents out.new)
         (none_lines bounds reach sorts.now)) }
+    ensures ok_failures { OnOk result (W.failure_count out.new ≡ W.failure_count out.old) }
+    ensures err_failures { OnErr result
+        (HasFailed (W.failure_count out.old) (W.failure_count out.new)) }
 {
     for sort in sorts {
         write_none(bounds, reach, *sort, out)?;
@@ -181,8 +216,11 @@ fn write_sorts<W: Out>(
 
 #[tactic(auto, using(crate::proofs::Written::none_written))]
 fn write_overtaken<W: Out>(unfound: Unfound<'_>, out: &mut W) -> Result<(), Failed>
-    ensures { OnOk result (Appends (W.contents out.old) (W.contents out.new)
+    ensures ok { OnOk result (Appends (W.contents out.old) (W.contents out.new)
         (overtaken_line unfound.entry.bounds unfound.entry.reach unfound.entry.is_overtaken)) }
+    ensures ok_failures { OnOk result (W.failure_count out.new ≡ W.failure_count out.old) }
+    ensures err_failures { OnErr result
+        (HasFailed (W.failure_count out.old) (W.failure_count out.new)) }
 {
     if unfound.is_overtaken {
         write_none(unfound.bounds, unfound.reach, Sort::Overtaken, out)

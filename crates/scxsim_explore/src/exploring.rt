@@ -1,8 +1,13 @@
-ghost use Rattle.std.specs.Prelude.{◌≡◌, true, false, Ok, IfOk, IfErr};
+ghost use Rattle.std.specs.Prelude.{◌≡◌, true, false, Ok, Err, None, IfOk, IfErr, OnOk};
+ghost use Rattle.std.specs.Io.KnownBytes.{Appends};
+ghost use Rattle.scxsim_output.specs.Output.{HasFailed};
+ghost use Rattle.scx_explore_machines.specs.declared.bounds.Bounds.{Bounds};
 ghost use Rattle.scx_load_workloads.specs.Reading.{workload_of};
 ghost use Rattle.scxsim_commands.specs.Outcome.{IfRefused, IsRefused};
 ghost use Rattle.scxsim_simulation.specs.Runs.{IsCause};
-ghost use Rattle.scxsim_explore.specs.Telling.{IsExplored, IsLimited, IsAnswer};
+ghost use Rattle.scxsim_explore.specs.Lists.{limit_line};
+ghost use Rattle.scxsim_explore.specs.Telling.{IsAnswer, IsAnswerWithin, IsExplored};
+ghost use Rattle.scxsim_explore.specs.Words.{HasManyChanges, IsBoundsOf, IsJudged, IsSmallRun};
 
 use crate::auditing::Texts;
 use crate::beginning::{begin, workload_in};
@@ -19,11 +24,12 @@ use std::alloc::Global;
 
 /// Goes through all lists of events that the words name and that the machine of a policy file and of a workload file
 /// accepts, and writes what it finds. The answer is true; it is false where the words ask for what isn't
-/// explored, and then their refusal is written.
+/// explored, and then their refusal is written. It is also false if memory ran out after the first line was written,
+/// which the last one says.
 ///
 /// # Errors
 ///
-/// The texts are refused, or memory runs out, and then nothing is written, or writing fails.
+/// The texts are refused, or memory runs out before anything is written, or writing fails.
 pub fn explore<V: Watcher, W: Out>(
     alloc: Global,
     policy: &str,
@@ -32,13 +38,19 @@ pub fn explore<V: Watcher, W: Out>(
     watcher: &mut V,
     out: &mut W,
 ) -> Result<bool, Fault>
-    // Lists are written that the machine of the texts shows, each with its trace, and then some text.
-    ensures done { IfOk result (λ answer. IsAnswer answer policy.now workload.now
+    // Lists within the bounds that the words name are written that the machine of the texts shows, each with its
+    // trace, and then what was found in none, and whether memory ran out; or the first limit that the words or the
+    // machine are past.
+    ensures done { IfOk result (λ answer. IsAnswer answer policy.now workload.now lists.entry
         (W.contents out.old) (W.contents out.new)) }
+    ensures unfailed { OnOk result (W.failure_count out.new ≡ W.failure_count out.old) }
 
-    // A refusal has its cause in the texts, and comes before any byte is written.
+    // A refusal has its cause in the texts, and comes before any byte is written, where the words name bounds.
     ensures refused { IfRefused result (IsCause policy.now workload.now) }
+    ensures named { IsRefused result → (b : Bounds) × IsBoundsOf lists.entry b }
     ensures quiet { IsRefused result → out.new ≡ out.old }
+    ensures counted { result ≡ Err Fault.WriteFailed
+        → HasFailed (W.failure_count out.old) (W.failure_count out.new) }
 {
     match bounds_of(lists) {
         Ok(bounds) => explore_to(alloc, policy, workload, bounds, watcher, out),
@@ -48,8 +60,11 @@ pub fn explore<V: Watcher, W: Out>(
 
 fn refuse<W: Out>(limit: Limit, out: &mut W) -> Result<bool, Fault>
     ensures done { IfOk result (λ answer. (answer ≡ false)
-        × IsLimited (W.contents out.old) (W.contents out.new)) }
+        × Appends (W.contents out.old) (W.contents out.new) (limit_line limit)) }
+    ensures unfailed { OnOk result (W.failure_count out.new ≡ W.failure_count out.old) }
     ensures refused { ¬ IsRefused result }
+    ensures counted { result ≡ Err Fault.WriteFailed
+        → HasFailed (W.failure_count out.old) (W.failure_count out.new) }
 {
     match write_text(out, limit.line()) {
         Ok(()) => Ok(false),
@@ -66,10 +81,13 @@ fn explore_to<V: Watcher, W: Out>(
     watcher: &mut V,
     out: &mut W,
 ) -> Result<bool, Fault>
-    ensures done { IfOk result (λ answer. IsAnswer answer policy.now workload.now
+    ensures done { IfOk result (λ answer. IsAnswerWithin answer policy.now workload.now bounds
         (W.contents out.old) (W.contents out.new)) }
     ensures refused { IfRefused result (IsCause policy.now workload.now) }
     ensures quiet { IsRefused result → out.new ≡ out.old }
+    ensures unfailed { OnOk result (W.failure_count out.new ≡ W.failure_count out.old) }
+    ensures counted { result ≡ Err Fault.WriteFailed
+        → HasFailed (W.failure_count out.old) (W.failure_count out.new) }
 {
     let limit = limit_in(alloc, policy, workload)?;
     match limit {
@@ -80,7 +98,8 @@ fn explore_to<V: Watcher, W: Out>(
 
 /// Which limit the machine of the texts is past, if it is past one.
 fn limit_in(alloc: Global, policy: &str, workload: &str) -> Result<Option<Limit>, Refusal>
-    ensures { IfErr result (IsCause policy.now workload.now) }
+    ensures judged { IfOk result (IsJudged policy.now workload.now) }
+    ensures refused { IfErr result (IsCause policy.now workload.now) }
 {
     let sim = fresh(alloc, policy, workload)?;
     let limit = limit_of(&sim);
@@ -97,10 +116,14 @@ fn explore_from<V: Watcher, W: Out>(
     watcher: &mut V,
     out: &mut W,
 ) -> Result<bool, Fault>
-    ensures done { IfOk result (λ answer. IsAnswer answer policy.now workload.now
+    requires { IsSmallRun policy.now workload.now }
+    ensures done { IfOk result (λ answer. IsAnswerWithin answer policy.now workload.now bounds
         (W.contents out.old) (W.contents out.new)) }
     ensures refused { IfRefused result (IsCause policy.now workload.now) }
     ensures quiet { IsRefused result → out.new ≡ out.old }
+    ensures unfailed { OnOk result (W.failure_count out.new ≡ W.failure_count out.old) }
+    ensures counted { result ≡ Err Fault.WriteFailed
+        → HasFailed (W.failure_count out.old) (W.failure_count out.new) }
 {
     let about = workload_in(alloc, workload)?;
     let explored = explore_within(alloc, policy, workload, &about, bounds, watcher, out);
@@ -118,13 +141,17 @@ fn explore_within<V: Watcher, W: Out>(
     watcher: &mut V,
     out: &mut W,
 ) -> Result<bool, Fault>
-    requires { workload_of workload.now ≡ Ok about.now }
-    ensures done { IfOk result (λ answer. IsAnswer answer policy.now workload.now
+    requires read { workload_of workload.now ≡ Ok about.now }
+    requires small { IsSmallRun policy.now workload.now }
+    ensures done { IfOk result (λ answer. IsAnswerWithin answer policy.now workload.now bounds
         (W.contents out.old) (W.contents out.new)) }
     ensures refused { IfRefused result (IsCause policy.now workload.now) }
     ensures quiet { IsRefused result → out.new ≡ out.old }
+    ensures unfailed { OnOk result (W.failure_count out.new ≡ W.failure_count out.old) }
+    ensures counted { result ≡ Err Fault.WriteFailed
+        → HasFailed (W.failure_count out.old) (W.failure_count out.new) }
 {
-    if is_past_changes(about, bounds.mode) {
+    if is_past_changes(about, bounds) {
         refuse(Limit::Changes, out)
     } else {
         explore_about(alloc, policy, workload, about, bounds, watcher, out)
@@ -140,18 +167,23 @@ fn explore_about<V: Watcher, W: Out>(
     watcher: &mut V,
     out: &mut W,
 ) -> Result<bool, Fault>
-    requires { workload_of workload.now ≡ Ok about.now }
-    ensures done { IfOk result (λ answer. (answer ≡ true) × IsExplored policy.now workload.now
+    requires read { workload_of workload.now ≡ Ok about.now }
+    requires small { IsSmallRun policy.now workload.now }
+    requires changes { ¬ HasManyChanges bounds about.now }
+    ensures done { IfOk result (λ answer. IsExplored policy.now workload.now bounds answer
         (W.contents out.old) (W.contents out.new)) }
     ensures refused { IfRefused result (IsCause policy.now workload.now) }
     ensures quiet { IsRefused result → out.new ≡ out.old }
+    ensures unfailed { OnOk result (W.failure_count out.new ≡ W.failure_count out.old) }
+    ensures counted { result ≡ Err Fault.WriteFailed
+        → HasFailed (W.failure_count out.old) (W.failure_count out.new) }
 {
     let mut begun = begin(alloc, policy, workload, about, bounds)?;
     let texts = Texts { policy, workload };
     let told = tell(&mut begun, texts, about, bounds, watcher, out);
     drop(begun);
     match told {
-        Ok(()) => Ok(true),
+        Ok(is_whole) => Ok(is_whole),
         Err(Failed) => Err(Fault::WriteFailed),
     }
 }

@@ -7,6 +7,7 @@ mod auditing;
 mod beginning;
 mod ending;
 mod exploring;
+mod lengths;
 mod limits;
 mod lines;
 mod listed;

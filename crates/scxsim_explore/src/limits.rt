@@ -1,5 +1,6 @@
-ghost use Rattle.std.specs.Prelude.{◌≡◌};
+ghost use Rattle.std.specs.Prelude.{◌≡◌, true, false, IfOk, IfErr, IfSome, Some, None, option_map};
 ghost use Rattle.scxsim_explore.specs.Lists.{limit_line};
+ghost use Rattle.scxsim_explore.specs.Words.{HasManyChanges, IsBoundsOf, IsDepth, IsFew, IsLarge, IsNoDepth, IsNoFew, IsNoMode, IsPastWords, IsSmall, mode_word, most_depth};
 
 use scx_explore::{Bounds, MOST_CHANGES, MOST_TASKS, Mode};
 use scx_load_workloads::{Workload, numeral};
@@ -68,14 +69,26 @@ impl Limit {
 }
 
 /// How far the search goes, as the words say it.
-pub(crate) fn bounds_of(lists: Lists<'_>) -> Result<Bounds, Limit> {
+///
+/// # Errors
+///
+/// A word is wrong. Of several the first one is named.
+#[tactic(auto, using(crate::proofs::Named::is_named, crate::proofs::Named::past_mode, crate::proofs::Named::past_depth, crate::proofs::Named::past_few,))]
+pub(crate) fn bounds_of(lists: Lists<'_>) -> Result<Bounds, Limit>
+    ensures bounds { IfOk result (IsBoundsOf lists.entry) }
+    ensures past { IfErr result (IsPastWords lists.entry) }
+{
     let mode = mode_of(lists.mode)?;
     let depth = depth_of(mode, lists.depth)?;
     let few = few_of(lists.few)?;
     Ok(Bounds { mode, depth, few })
 }
 
-fn mode_of(word: &str) -> Result<Mode, Limit> {
+#[tactic(auto, using(crate::proofs::Named::is_word, crate::proofs::Named::no_mode))]
+fn mode_of(word: &str) -> Result<Mode, Limit>
+    ensures mode { IfOk result (λ m. word.now ≡ mode_word m) }
+    ensures past { IfErr result (λ past. (past ≡ Limit.Mode) × IsNoMode word.now) }
+{
     if word == "events" {
         Ok(Mode::Events)
     } else if word == "ms" {
@@ -87,29 +100,61 @@ fn mode_of(word: &str) -> Result<Mode, Limit> {
     }
 }
 
-fn depth_of(mode: Mode, word: &str) -> Result<usize, Limit> {
-    let most = match mode {
+#[tactic(auto, using(crate::proofs::Named::is_depth, crate::proofs::Named::no_number, crate::proofs::Named::no_zero, crate::proofs::Named::no_deeper,))]
+fn depth_of(mode: Mode, word: &str) -> Result<usize, Limit>
+    ensures depth { IfOk result (IsDepth mode word.now) }
+    ensures past { IfErr result (λ past. (past ≡ Limit.Depth) × IsNoDepth mode word.now) }
+{
+    let Some(depth) = numeral(word) else {
+        return Err(Limit::Depth);
+    };
+    if depth == 0 || depth > most_depth(mode) {
+        return Err(Limit::Depth);
+    }
+    Ok(depth as usize)
+}
+
+/// The greatest DEPTH.
+fn most_depth(mode: Mode) -> u32
+    ensures { result ≡ most_depth mode }
+{
+    match mode {
         Mode::Events => MOST_EVENTS,
         Mode::Milliseconds | Mode::Workloads => MOST_MS,
-    };
-    match numeral(word) {
-        Some(depth) if 1 <= depth && depth <= most => Ok(depth as usize),
-        _ => Err(Limit::Depth),
     }
 }
 
-fn few_of(word: Option<&str>) -> Result<Option<u8>, Limit> {
-    let Some(word) = word else {
-        return Ok(None);
-    };
-    match numeral(word) {
-        Some(few) if few <= MOST_FEW => Ok(Some(few as u8)),
-        _ => Err(Limit::Few),
+fn few_of(word: Option<&str>) -> Result<Option<u8>, Limit>
+    ensures few { IfOk result (IsFew (option_map (λ w. w.now) word.entry)) }
+    ensures past { IfErr result (λ past. (past ≡ Limit.Few)
+        × IsNoFew (option_map (λ w. w.now) word.entry)) }
+{
+    match word {
+        Some(word) => few_in(word),
+        None => Ok(None),
     }
+}
+
+#[tactic(auto, using(crate::proofs::Named::no_few, crate::proofs::Named::no_more))]
+fn few_in(word: &str) -> Result<Option<u8>, Limit>
+    ensures few { IfOk result (IsFew (Some word.now)) }
+    ensures past { IfErr result (λ past. (past ≡ Limit.Few) × IsNoFew (Some word.now)) }
+{
+    let Some(few) = numeral(word) else {
+        return Err(Limit::Few);
+    };
+    if few > MOST_FEW {
+        return Err(Limit::Few);
+    }
+    Ok(Some(few as u8))
 }
 
 /// Which limit the machine is past, if it is past one.
-pub(crate) fn limit_of(sim: &Sim) -> Option<Limit> {
+#[tactic(auto, using(crate::proofs::Named::is_small))]
+pub(crate) fn limit_of(sim: &Sim) -> Option<Limit>
+    ensures small { result ≡ None → IsSmall sim.now }
+    ensures large { IfSome result (IsLarge sim.now) }
+{
     if usize::from(sim.tasks()) > MOST_TASKS {
         return Some(Limit::Tasks);
     }
@@ -123,6 +168,12 @@ pub(crate) fn limit_of(sim: &Sim) -> Option<Limit> {
 }
 
 /// Whether the workload changes weights more often than such a search can try.
-pub(crate) fn is_past_changes(about: &Workload, mode: Mode) -> bool {
-    mode == Mode::Events && about.changes().len() > MOST_CHANGES
+pub(crate) fn is_past_changes(about: &Workload, bounds: Bounds) -> bool
+    ensures few { result ≡ false → ¬ HasManyChanges bounds about.now }
+    ensures many { result ≡ true → HasManyChanges bounds about.now }
+{
+    match bounds.mode {
+        Mode::Events => about.changes().len() > MOST_CHANGES,
+        Mode::Milliseconds | Mode::Workloads => false,
+    }
 }

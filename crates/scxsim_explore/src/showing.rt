@@ -1,11 +1,12 @@
-ghost use Rattle.std.specs.Prelude.{◌≡◌, ◌++◌, true, OnOk, codes};
+ghost use Rattle.std.specs.Prelude.{◌≡◌, ◌++◌, true, OnOk, OnErr, codes, option_map};
 ghost use Rattle.std.specs.Io.KnownBytes.{Appends};
+ghost use Rattle.scxsim_output.specs.Output.{HasFailed};
 ghost use Rattle.scx_load_driver.specs.Runs.{notes_of_all, stepped_all};
 ghost use Rattle.scx_explore_path.specs.Path.{IsAs};
 ghost use Rattle.scxsim_trace.specs.Lines.{note_lines, names_of};
 ghost use Rattle.scx_explore_findings.specs.Findings.{Shows};
 ghost use Rattle.scxsim_explore.specs.Lists.{file_text, told_text};
-ghost use Rattle.scxsim_explore.specs.Telling.{HasTold, IsBehind};
+ghost use Rattle.scxsim_explore.specs.Telling.{HasFile, HasTold};
 
 use crate::lines::{write_events, write_found, write_text};
 use crate::listed::Listed;
@@ -15,12 +16,11 @@ use scx_sched::{Event, Sim};
 use scxsim_output::{Failed, Out};
 use scxsim_trace::write_run;
 
-/// What is said to be found at the end of a list, after so many events or milliseconds.
+/// What is said to be found at the end of a list of that mode.
 #[derive(Clone, Copy)]
 pub(crate) struct Told<'a> {
     pub(crate) finding: Finding,
     pub(crate) mode: Mode,
-    pub(crate) depth: usize,
     pub(crate) events: &'a [Event],
     /// The workload file whose events begin with the list, if there is one.
     pub(crate) file: Option<&'a str>,
@@ -35,11 +35,16 @@ pub(crate) fn write_if_shown<W: Out>(
     told: Told<'_>,
     out: &mut W,
 ) -> Result<(), Failed>
-    requires { first.old ≡ second.old }
+    requires same { first.old ≡ second.old }
+    requires file { HasFile told.mode about.now second.old told.events.now
+        (option_map (λ file. file.now) told.file) }
     ensures told { OnOk result
-        (HasTold about.now second.old (W.contents out.old) (W.contents out.new)) }
+        (HasTold told.entry.mode about.now second.old (W.contents out.old) (W.contents out.new)) }
     ensures first { IsAs first.old first.new }
     ensures second { OnOk result (IsAs second.old second.new) }
+    ensures ok_failures { OnOk result (W.failure_count out.new ≡ W.failure_count out.old) }
+    ensures err_failures { OnErr result
+        (HasFailed (W.failure_count out.old) (W.failure_count out.new)) }
 {
     let is_shown = does_show(first, about.tasks(), told.events, told.finding);
     write_where(is_shown, second, about, told, out)
@@ -65,9 +70,14 @@ fn write_where<W: Out>(
     requires shown { is_shown ≡ true
         → Shows about.now.homes sim.old told.events.now told.finding }
     requires alike { is_shown ≡ true → IsAs sim.old (stepped_all sim.old told.events.now) }
+    requires file { HasFile told.mode about.now sim.old told.events.now
+        (option_map (λ file. file.now) told.file) }
     ensures told { OnOk result
-        (HasTold about.now sim.old (W.contents out.old) (W.contents out.new)) }
+        (HasTold told.entry.mode about.now sim.old (W.contents out.old) (W.contents out.new)) }
     ensures alike { OnOk result (IsAs sim.old sim.new) }
+    ensures ok_failures { OnOk result (W.failure_count out.new ≡ W.failure_count out.old) }
+    ensures err_failures { OnErr result
+        (HasFailed (W.failure_count out.old) (W.failure_count out.new)) }
 {
     if is_shown {
         write_shown(sim, about, told, out)
@@ -82,10 +92,15 @@ fn write_shown<W: Out>(
     told: Told<'_>,
     out: &mut W,
 ) -> Result<(), Failed>
-    requires { Shows about.now.homes sim.old told.events.now told.finding }
+    requires shown { Shows about.now.homes sim.old told.events.now told.finding }
+    requires file { HasFile told.mode about.now sim.old told.events.now
+        (option_map (λ file. file.now) told.file) }
     ensures told { OnOk result
-        (HasTold about.now sim.old (W.contents out.old) (W.contents out.new)) }
+        (HasTold told.entry.mode about.now sim.old (W.contents out.old) (W.contents out.new)) }
     ensures there { OnOk result (sim.new ≡ stepped_all sim.old told.entry.events.now) }
+    ensures ok_failures { OnOk result (W.failure_count out.new ≡ W.failure_count out.old) }
+    ensures err_failures { OnErr result
+        (HasFailed (W.failure_count out.old) (W.failure_count out.new)) }
 {
     write_list(sim, about, told, out)?;
     write_behind(told.file, out)
@@ -93,7 +108,11 @@ fn write_shown<W: Out>(
 
 /// Writes the workload file, if there is one, and an empty line.
 fn write_behind<W: Out>(file: Option<&str>, out: &mut W) -> Result<(), Failed>
-    ensures { OnOk result (IsBehind (W.contents out.old) (W.contents out.new)) }
+    ensures ok { OnOk result (Appends (W.contents out.old) (W.contents out.new)
+        (file_text (option_map (λ text. text.now) file.entry))) }
+    ensures ok_failures { OnOk result (W.failure_count out.new ≡ W.failure_count out.old) }
+    ensures err_failures { OnErr result
+        (HasFailed (W.failure_count out.old) (W.failure_count out.new)) }
 {
     match file {
         Some(text) => write_file(text, out),
@@ -102,8 +121,11 @@ fn write_behind<W: Out>(file: Option<&str>, out: &mut W) -> Result<(), Failed>
 }
 
 fn write_file<W: Out>(text: &str, out: &mut W) -> Result<(), Failed>
-    ensures { OnOk result (Appends (W.contents out.old) (W.contents out.new)
+    ensures ok { OnOk result (Appends (W.contents out.old) (W.contents out.new)
         (file_text (Some text.now))) }
+    ensures ok_failures { OnOk result (W.failure_count out.new ≡ W.failure_count out.old) }
+    ensures err_failures { OnErr result
+        (HasFailed (W.failure_count out.old) (W.failure_count out.new)) }
 {
     write_text(out, "workload\n")?;
     write_text(out, text)?;
@@ -119,10 +141,13 @@ fn write_list<W: Out>(
 ) -> Result<(), Failed>
     ensures text { OnOk result (Appends (W.contents out.old) (W.contents out.new)
         (told_text (names_of about.now) sim.old told.entry.finding told.entry.mode
-        told.entry.depth told.entry.events.now)) }
+        told.entry.events.now)) }
     ensures there { OnOk result (sim.new ≡ stepped_all sim.old told.entry.events.now) }
+    ensures ok_failures { OnOk result (W.failure_count out.new ≡ W.failure_count out.old) }
+    ensures err_failures { OnErr result
+        (HasFailed (W.failure_count out.old) (W.failure_count out.new)) }
 {
-    write_found(about, told.finding, told.mode, told.depth, out)?;
+    write_found(about, told.finding, told.mode, told.events, out)?;
     write_events(about, told.events, out)?;
     write_trace(sim, about, told.events, out)
 }
@@ -137,6 +162,9 @@ fn write_trace<W: Out>(
     ensures text { OnOk result (Appends (W.contents out.old) (W.contents out.new)
         (codes "trace\n" ++ note_lines (names_of about.now) (notes_of_all sim.old events.now))) }
     ensures there { OnOk result (sim.new ≡ stepped_all sim.old events.now) }
+    ensures ok_failures { OnOk result (W.failure_count out.new ≡ W.failure_count out.old) }
+    ensures err_failures { OnErr result
+        (HasFailed (W.failure_count out.old) (W.failure_count out.new)) }
 {
     write_text(out, "trace\n")?;
     write_run(sim, &mut Listed::new(events), about, out)

@@ -1,10 +1,14 @@
-ghost use Rattle.std.specs.Prelude.{◌≡◌, OnOk};
+ghost use Rattle.std.specs.Prelude.{◌≡◌, false, None, IfSome, IfOk, IsOk, IsErr, OnOk, OnErr, option_map, string_bytes};
+ghost use Rattle.scx_explore.specs.Ends.{IsEndOf};
+ghost use Rattle.scx_explore_workloads.specs.Files.{IsFileOf};
+ghost use Rattle.scxsim_output.specs.Output.{HasFailed};
 ghost use Rattle.scxsim_explore.specs.Machines.{IsFresh};
-ghost use Rattle.scxsim_explore.specs.Telling.{HasTold, IsTold};
+ghost use Rattle.scxsim_explore.specs.Telling.{HasFile, HasTold, IsTold};
 
 use crate::auditing::Texts;
 use crate::beginning::Begun;
 use crate::ending::write_end;
+use crate::lines::write_memory;
 use crate::machines::Machines;
 use crate::showing::{Told, write_if_shown};
 use crate::watcher::Watcher;
@@ -19,7 +23,8 @@ use std::alloc::AllocError;
 /// After how many states a watcher is told of them.
 const PACE: u64 = 1024;
 
-/// Writes what the search finds, as it does, and at its end how far it came. The texts are those of the machines.
+/// Writes what the search finds, as it does, and at its end how far it came. The texts are those of the machines. The
+/// answer is false if memory ran out meanwhile, which the last line says.
 pub(crate) fn tell<V: Watcher, W: Out>(
     begun: &mut Begun,
     texts: Texts<'_>,
@@ -27,16 +32,20 @@ pub(crate) fn tell<V: Watcher, W: Out>(
     bounds: Bounds,
     watcher: &mut V,
     out: &mut W,
-) -> Result<(), Failed>
+) -> Result<bool, Failed>
     requires { IsFresh texts.policy.now texts.workload.now begun.old.machines }
-    ensures { OnOk result (IsTold texts.entry.policy.now about.now begun.old.machines
-        (W.contents out.old) (W.contents out.new)) }
+    ensures ok { IfOk result (λ whole. IsTold texts.entry.policy.now about.now begun.old.machines
+        bounds whole (W.contents out.old) (W.contents out.new)) }
+    ensures ok_failures { OnOk result (W.failure_count out.new ≡ W.failure_count out.old) }
+    ensures err_failures { OnErr result
+        (HasFailed (W.failure_count out.old) (W.failure_count out.new)) }
 {
     let mut course = Course::new(bounds);
     let end = search(begun, about, &mut course, watcher, out)?;
     watcher.pause();
     write_most(begun, about, bounds.mode, out)?;
-    write_end(begun, texts, about, &course, end, out)
+    let is_whole = write_end(begun, texts, about, &course, end, out)?;
+    write_memory(is_whole, out)
 }
 
 /// Goes through the lists, and writes what is found.
@@ -48,8 +57,13 @@ fn search<V: Watcher, W: Out>(
     out: &mut W,
 ) -> Result<End, Failed>
     ensures same { begun.new.machines ≡ begun.old.machines }
-    ensures told { OnOk result (HasTold about.now begun.old.machines
+    ensures bounds { course.new.bounds ≡ course.old.bounds }
+    ensures end { IfOk result (IsEndOf course.new.bounds course.new.last) }
+    ensures told { OnOk result (HasTold course.old.bounds.mode about.now begun.old.machines
         (W.contents out.old) (W.contents out.new)) }
+    ensures ok_failures { OnOk result (W.failure_count out.new ≡ W.failure_count out.old) }
+    ensures err_failures { OnErr result
+        (HasFailed (W.failure_count out.old) (W.failure_count out.new)) }
 {
     let mut shown = 0;
     for count in 0..u64::MAX {
@@ -81,8 +95,11 @@ fn write_new<V: Watcher, W: Out>(
     out: &mut W,
 ) -> Result<usize, Failed>
     ensures same { begun.new.machines ≡ begun.old.machines }
-    ensures told { OnOk result (HasTold about.now begun.old.machines
+    ensures told { OnOk result (HasTold mode about.now begun.old.machines
         (W.contents out.old) (W.contents out.new)) }
+    ensures ok_failures { OnOk result (W.failure_count out.new ≡ W.failure_count out.old) }
+    ensures err_failures { OnErr result
+        (HasFailed (W.failure_count out.old) (W.failure_count out.new)) }
 {
     for place in shown..SORTS.len() {
         let Some(found) = begun.search.found(place) else {
@@ -102,8 +119,11 @@ fn write_most<W: Out>(
     out: &mut W,
 ) -> Result<(), Failed>
     ensures same { begun.new.machines ≡ begun.old.machines }
-    ensures told { OnOk result (HasTold about.now begun.old.machines
+    ensures told { OnOk result (HasTold mode about.now begun.old.machines
         (W.contents out.old) (W.contents out.new)) }
+    ensures ok_failures { OnOk result (W.failure_count out.new ≡ W.failure_count out.old) }
+    ensures err_failures { OnErr result
+        (HasFailed (W.failure_count out.old) (W.failure_count out.new)) }
 {
     let wait = begun.search.longest_wait();
     write_if_found(begun, about, mode, wait, out)?;
@@ -117,8 +137,11 @@ fn write_instructions<W: Out>(
     out: &mut W,
 ) -> Result<(), Failed>
     ensures same { begun.new.machines ≡ begun.old.machines }
-    ensures told { OnOk result (HasTold about.now begun.old.machines
+    ensures told { OnOk result (HasTold mode about.now begun.old.machines
         (W.contents out.old) (W.contents out.new)) }
+    ensures ok_failures { OnOk result (W.failure_count out.new ≡ W.failure_count out.old) }
+    ensures err_failures { OnErr result
+        (HasFailed (W.failure_count out.old) (W.failure_count out.new)) }
 {
     for callback in CALLBACKS {
         let most = begun.search.most_instructions(callback);
@@ -136,8 +159,11 @@ fn write_if_found<W: Out>(
     out: &mut W,
 ) -> Result<(), Failed>
     ensures same { begun.new.machines ≡ begun.old.machines }
-    ensures told { OnOk result (HasTold about.now begun.old.machines
+    ensures told { OnOk result (HasTold mode about.now begun.old.machines
         (W.contents out.old) (W.contents out.new)) }
+    ensures ok_failures { OnOk result (W.failure_count out.new ≡ W.failure_count out.old) }
+    ensures err_failures { OnErr result
+        (HasFailed (W.failure_count out.old) (W.failure_count out.new)) }
 {
     match found {
         Some(found) => write_one(begun, about, mode, found, out),
@@ -154,16 +180,19 @@ fn write_one<W: Out>(
     out: &mut W,
 ) -> Result<(), Failed>
     ensures same { begun.new.machines ≡ begun.old.machines }
-    ensures told { OnOk result (HasTold about.now begun.old.machines
+    ensures told { OnOk result (HasTold mode about.now begun.old.machines
         (W.contents out.old) (W.contents out.new)) }
+    ensures ok_failures { OnOk result (W.failure_count out.new ≡ W.failure_count out.old) }
+    ensures err_failures { OnErr result
+        (HasFailed (W.failure_count out.old) (W.failure_count out.new)) }
 {
     begun.search.list_of(found, &mut begun.events);
     let events = begun.events.as_slice();
-    let file = file_in(mode, &mut begun.machines, about, events);
+    let found_file = file_in(mode, &mut begun.machines, about, events);
+    let file = file_or_none(found_file, &mut begun.is_whole);
     let told = Told {
         finding: found.finding,
         mode,
-        depth: found.depth,
         events,
         file: text_of(&file),
     };
@@ -172,7 +201,25 @@ fn write_one<W: Out>(
     written
 }
 
-fn text_of(file: &Option<String>) -> Option<&str> {
+/// Returns the file if there is one. If memory ran out for it, `is_whole` becomes false.
+fn file_or_none(file: Result<Option<String>, AllocError>, is_whole: &mut bool) -> Option<String>
+    ensures found { IfOk file (λ found. result ≡ found) }
+    ensures none { IsErr file → result ≡ None }
+    ensures whole { IsOk file → is_whole.new ≡ is_whole.old }
+    ensures memory { IsErr file → is_whole.new ≡ false }
+{
+    match file {
+        Ok(file) => file,
+        Err(AllocError) => {
+            *is_whole = false;
+            None
+        }
+    }
+}
+
+fn text_of(file: &Option<String>) -> Option<&str>
+    ensures { option_map (λ text. text.now) result ≡ option_map string_bytes file.now }
+{
     match file {
         Some(text) => Some(text.as_str()),
         None => None,
@@ -185,31 +232,43 @@ fn file_in(
     machines: &mut Machines,
     about: &Workload,
     events: &[Event],
-) -> Option<String>
-    ensures { machines.new ≡ machines.old }
+) -> Result<Option<String>, AllocError>
+    ensures same { machines.new ≡ machines.old }
+    ensures file { IfOk result (λ file.
+        HasFile mode about.now machines.old events.now (option_map string_bytes file)) }
 {
     match mode {
-        Mode::Events => None,
+        Mode::Events => Ok(None),
         Mode::Milliseconds | Mode::Workloads => file_of(machines, about, events),
     }
 }
 
-/// The workload file whose events begin with the list, where there is one. There is none where memory runs out.
-fn file_of(machines: &mut Machines, about: &Workload, events: &[Event]) -> Option<String>
-    ensures { machines.new ≡ machines.old }
+/// Returns the workload file whose events begin with the list, if there is one.
+///
+/// # Errors
+///
+/// Memory runs out.
+#[tactic(auto, using(crate::proofs::Told::file_bytes))]
+fn file_of(
+    machines: &mut Machines,
+    about: &Workload,
+    events: &[Event],
+) -> Result<Option<String>, AllocError>
+    ensures same { machines.new ≡ machines.old }
+    ensures file { IfOk result (λ file. IfSome (option_map string_bytes file)
+        (IsFileOf about.now machines.old events.now)) }
 {
-    let mut first = machines.take()?;
+    let Some(mut first) = machines.take() else {
+        return Err(AllocError);
+    };
     let Some(mut second) = machines.take() else {
         drop(first);
-        return None;
+        return Err(AllocError);
     };
     let file = workload_file(machines.alloc(), about, &mut first, &mut second, events);
     drop(first);
     drop(second);
-    match file {
-        Ok(file) => file,
-        Err(AllocError) => None,
-    }
+    file
 }
 
 /// The same, with two machines, of which there are enough.
@@ -220,9 +279,14 @@ fn write_with<W: Out>(
     told: Told<'_>,
     out: &mut W,
 ) -> Result<(), Failed>
+    requires { HasFile told.mode about.now machines.old told.events.now
+        (option_map (λ file. file.now) told.file) }
     ensures same { machines.new ≡ machines.old }
-    ensures told { OnOk result (HasTold about.now machines.old
+    ensures told { OnOk result (HasTold told.entry.mode about.now machines.old
         (W.contents out.old) (W.contents out.new)) }
+    ensures ok_failures { OnOk result (W.failure_count out.new ≡ W.failure_count out.old) }
+    ensures err_failures { OnErr result
+        (HasFailed (W.failure_count out.old) (W.failure_count out.new)) }
 {
     let Some(first) = machines.take() else {
         return Ok(());
@@ -247,9 +311,14 @@ fn write_by<W: Out>(
 ) -> Result<(), Failed>
     requires first { first ≡ machines.old }
     requires second { second ≡ machines.old }
+    requires file { HasFile told.mode about.now machines.old told.events.now
+        (option_map (λ file. file.now) told.file) }
     ensures same { machines.new ≡ machines.old }
-    ensures told { OnOk result (HasTold about.now machines.old
+    ensures told { OnOk result (HasTold told.entry.mode about.now machines.old
         (W.contents out.old) (W.contents out.new)) }
+    ensures ok_failures { OnOk result (W.failure_count out.new ≡ W.failure_count out.old) }
+    ensures err_failures { OnErr result
+        (HasFailed (W.failure_count out.old) (W.failure_count out.new)) }
 {
     let mut first = first;
     let mut second = second;

@@ -3,4 +3,5 @@ use Rattle.scxsim_explore.proofs.showing.write_shown.Goals as goal
 
 pub returns-clause-told : goal.returns-clause-told
 returns-clause-told g c =
-    told_one c.write_behind.result c.args.about.now c.args.sim.now c.args.told.finding c.args.told.mode c.args.told.depth c.args.told.events.now _ _ _ c.requires c.in_ok-write_list.ensures.text c.write_behind.ensures
+    told_one c.write_behind.result c.args.told.mode c.args.about.now c.args.sim.now c.args.told.finding c.args.told.events.now _ _ _ _
+    c.requires.shown c.requires.file c.in_ok-write_list.ensures.text c.write_behind.ensures.ok
