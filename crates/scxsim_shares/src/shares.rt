@@ -1,9 +1,13 @@
+ghost use Rattle.std.specs.Prelude.{◌≡◌, ◌≤◌};
+ghost use Rattle.scxsim_shares.specs.Parts.{part};
+
 use crate::paths::path_of;
 use scx_weights::Group;
 use std::alloc::{AllocError, Global};
 
-/// A share of all, in parts of this many.
-pub const WHOLE: u64 = 1_000_000_000;
+/// A share of all, in parts of this many. A share is rounded up, by less than one part for each level of the tree,
+/// so that sums of shares that are exact to the last digit printed aren't written as less.
+pub const WHOLE: u128 = 10_000_000_000_000_000_000_000_000_000;
 
 /// The share that is due to each group by its weight.
 ///
@@ -14,7 +18,7 @@ pub struct Shares {
     groups: Vec<Group>,
     /// How many tasks in each are runnable, also in groups within it.
     active: Vec<u32>,
-    shares: Vec<u64>,
+    shares: Vec<u128>,
     /// The sum of the weights of active groups at the top, and then of those in each group.
     sums: Vec<u64>,
     is_stale: bool,
@@ -82,7 +86,7 @@ impl Shares {
     }
 
     /// The shares as of the last time that they were renewed, in parts of `WHOLE`.
-    pub fn as_slice(&self) -> &[u64] {
+    pub fn as_slice(&self) -> &[u128] {
         self.shares.as_slice()
     }
 
@@ -119,7 +123,7 @@ impl Shares {
     }
 
     /// The share of a group whose parent has its share.
-    fn share_now(&self, group: usize) -> u64 {
+    fn share_now(&self, group: usize) -> u128 {
         match (self.groups.get(group), self.active.get(group)) {
             (Some(group), Some(active)) if 0 < *active => {
                 part(
@@ -133,11 +137,13 @@ impl Shares {
     }
 
     /// The share of a group, or of all of them.
-    fn share_of(&self, group: Option<u32>) -> u64 {
+    fn share_of(&self, group: Option<u32>) -> u128
+        ensures { result ≤ WHOLE }
+    {
         match group {
             None => WHOLE,
             Some(group) => match self.shares.get(group as usize) {
-                Some(share) => *share,
+                Some(share) => (*share).min(WHOLE),
                 None => 0,
             },
         }
@@ -159,10 +165,14 @@ fn place(parent: Option<u32>) -> usize {
     }
 }
 
-/// The part of a whole that a weight has of a sum of weights.
-fn part(whole: u64, weight: u32, sum: u64) -> u64 {
+/// The part of a whole that a weight has of a sum of weights, rounded up; 0 where that sum is.
+fn part(whole: u128, weight: u32, sum: u64) -> u128
+    requires { whole ≤ WHOLE }
+    ensures { result ≡ part whole weight sum }
+{
     if sum == 0 {
         return 0;
     }
-    whole.saturating_mul(u64::from(weight)) / sum
+    let sum = u128::from(sum);
+    (whole * u128::from(weight) + (sum - 1)) / sum
 }

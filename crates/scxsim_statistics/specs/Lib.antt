@@ -4,3 +4,4 @@ pub mod Percentiles
 pub mod Bursts
 pub mod Losses
 pub mod Counting
+pub mod Shares

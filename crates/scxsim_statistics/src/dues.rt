@@ -1,4 +1,3 @@
-use crate::groups::add_at;
 use crate::quotas::Quotas;
 use scx_load_workloads::Workload;
 use scxsim_shares::Shares;
@@ -9,7 +8,7 @@ use std::alloc::{AllocError, Global};
 pub(crate) struct Dues {
     pub(crate) shares: Shares,
     /// What was due to each group so far: for each millisecond that a processor ran, its share.
-    pub(crate) due: Vec<u64>,
+    pub(crate) due: Vec<u128>,
     pub(crate) quotas: Quotas,
     /// How many processors ran in the millisecond at hand, for which nothing is due yet.
     busy: u64,
@@ -19,7 +18,7 @@ impl Dues {
     pub(crate) fn new(alloc: Global, workload: &Workload) -> Result<Dues, AllocError> {
         Ok(Dues {
             shares: Shares::new(alloc, workload.groups())?,
-            due: vec![in alloc; 0; workload.groups().len()]?,
+            due: vec![in alloc; 0u128; workload.groups().len()]?,
             quotas: Quotas::new(alloc, workload)?,
             busy: 0,
         })
@@ -51,8 +50,15 @@ impl Dues {
 }
 
 /// So many processors ran for a millisecond while shares were these.
-fn add_shares(due: &mut [u64], shares: &[u64], processors: u64) {
+fn add_shares(due: &mut [u128], shares: &[u128], processors: u64) {
     for (group, share) in shares.iter().enumerate() {
-        add_at(due, group, share.saturating_mul(processors));
+        add_share(due, group, share.saturating_mul(u128::from(processors)));
+    }
+}
+
+/// So much more is due to that group.
+fn add_share(due: &mut [u128], group: usize, more: u128) {
+    if let Some(due) = due.get_mut(group) {
+        *due = due.saturating_add(more);
     }
 }

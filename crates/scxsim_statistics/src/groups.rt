@@ -1,3 +1,6 @@
+ghost use Rattle.std.specs.Prelude.{◌≡◌};
+ghost use Rattle.scxsim_statistics.specs.Shares.{percent, due_percent};
+
 use crate::tally::TaskFigures;
 use scx_load_workloads::Workload;
 use scxsim_shares::{WHOLE, path_of};
@@ -15,7 +18,7 @@ pub(crate) fn group_figures(
     alloc: Global,
     workload: &Workload,
     tasks: &[TaskFigures],
-    due: &[u64],
+    due: &[u128],
 ) -> Result<Vec<GroupFigures>, AllocError> {
     let runs = group_runs(alloc, workload, tasks)?;
     let total = total_run(tasks);
@@ -52,7 +55,9 @@ fn total_run(tasks: &[TaskFigures]) -> u64 {
 }
 
 /// A part of a whole in hundredths of a percent, rounded down; 0 of nothing.
-fn percent(part: u64, whole: u64) -> u64 {
+fn percent(part: u64, whole: u64) -> u64
+    ensures { result ≡ percent part whole }
+{
     if whole == 0 {
         return 0;
     }
@@ -60,11 +65,14 @@ fn percent(part: u64, whole: u64) -> u64 {
 }
 
 /// What was due of a total, in hundredths of a percent, rounded down; 0 of nothing.
-fn due_percent(due: u64, total: u64) -> u64 {
+fn due_percent(due: u128, total: u64) -> u64
+    ensures { result ≡ due_percent due total }
+{
     if total == 0 {
         return 0;
     }
-    due / total.saturating_mul(WHOLE / 10_000).max(1)
+    let parts = due / (WHOLE / 10_000) / u128::from(total);
+    parts.min(u128::from(u64::MAX)) as u64
 }
 
 /// A task of the group ran for so long, so each group that it lies in did.
@@ -77,7 +85,7 @@ fn add_run(workload: &Workload, runs: &mut [u64], group: u32, run: u64) {
 }
 
 /// So much more for that group.
-pub(crate) fn add_at(sums: &mut [u64], group: usize, more: u64) {
+fn add_at(sums: &mut [u64], group: usize, more: u64) {
     if let Some(sum) = sums.get_mut(group) {
         *sum = sum.saturating_add(more);
     }
