@@ -1,5 +1,5 @@
--- What a finder keeps of each callback that it hears, and what is made of it. No public clause cites
--- it.
+-- What a finder keeps of each callback that it hears, and what is made of it. No public clause
+-- cites it.
 use Rattle.std.specs.Prelude.{◌≡◌, ℕ, ◌≤◌, Bool, true, false, length, Option, Some, None, IfSome}
 use Rattle.scx_isa_semantics.specs.declared.callbacks.Callback.TheVariants.{SelectCpu}
 use Rattle.scx_isa_semantics.specs.declared.instructions.Insn.TheVariants as insn
