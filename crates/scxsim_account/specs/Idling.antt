@@ -1,8 +1,9 @@
--- When processors are idle while somebody waits: what is kept of it as the events and notes of
--- a run come.
-use Rattle.std.specs.Prelude.{ℕ, ◌≡◌, ◌+◌, ◌-◌, ◌^◌, min, ◌==◌, ◌&&◌, if◌then◌else◌, not, Bool, false, List, length, replicate, Option, Some, None, is_some, slice_index_or, slice_set}
-use Rattle.std.specs.List.{list_any}
+-- When processors are idle while a task waits, and which tasks have begun to run: what is kept of
+-- it as the events and notes of a run come.
+use Rattle.std.specs.Prelude.{ℕ, zero, suc, ◌≡◌, ◌+◌, ◌-◌, ◌^◌, min, ◌==◌, ◌&&◌, ◌||◌, if◌then◌else◌, not, Bool, true, false, List, length, replicate, Option, Some, None, is_some, slice_index_or, slice_set}
 use Rattle.scx_sched_world.specs.declared.notes.What.{What}
+use Rattle.scx_sched_world.specs.declared.notes.What.TheVariants.{Wake, Sleep, Insert, Move, Run, Stop, Weight, Stall, Fault}
+use Rattle.scx_sched_world.specs.declared.notes.What.TheVariants as note
 use Rattle.scx_sched_world.specs.World.{running}
 use Rattle.scx_sched_machine.specs.declared.events.Event.{Event}
 use Rattle.scx_sched_machine.specs.declared.events.Event.TheVariants as event
@@ -12,7 +13,7 @@ use Rattle.scxsim_views.specs.declared.pauses.Doing.TheVariants.{Sleeps}
 use Rattle.scxsim_views.specs.declared.pauses.Pause.{Pause}
 use Rattle.scxsim_views.specs.declared.pauses.PauseKind.{PauseKind}
 use Rattle.scxsim_views.specs.declared.pauses.PauseKind.TheVariants as kind
-use Rattle.scxsim_views.specs.Pauses.{waits, doing_after, open_pause}
+use Rattle.scxsim_views.specs.Pauses.{doing_after, open_pause}
 use Rattle.scxsim_views.specs.Watching.{kept_of_all}
 use Rattle.scxsim_account.specs.declared.idling.IdleFigures.{IdleFigures}
 
@@ -34,12 +35,34 @@ wait_since (Some p) = since_of p.kind p.since
 abbrev pub waits_since : List Doing → ℕ → Option ℕ
 waits_since ds t = wait_since (open_pause 0 ds t)
 
--- what each task does, whether one waited as the ticks of the millisecond at
--- hand began, since when each processor has been idle while one did, how often that began, and for
--- how many milliseconds in all
+-- the first of that many tasks that waits for a processor, from this one on in their order
+abbrev pub first_waiting : ℕ → ℕ → List Doing → Option ℕ
+first_waiting zero t ds = None
+first_waiting (suc n) t ds =
+    if is_some (waits_since ds t) then Some t else first_waiting n (t + 1) ds
+
+-- the tasks that have begun to run, after a note
+abbrev pub begun_after : What → List Bool → List Bool
+begun_after (Wake t) bs = bs
+begun_after (Sleep t) bs = bs
+begun_after (Insert t q) bs = bs
+begun_after (Move t c) bs = bs
+begun_after (Run t c) bs = slice_set bs t true
+begun_after (Stop t c) bs = bs
+begun_after (note.Idle c) bs = bs
+begun_after (Weight g x) bs = bs
+begun_after (Stall t) bs = bs
+begun_after (Fault f) bs = bs
+
+-- what each task does, the first task that waited as the ticks of the current millisecond began,
+-- whether there was one in some millisecond, whether each task has begun to run, since when each
+-- processor has been idle while a task waited, how often that began, and for how many milliseconds
+-- in all
 pub record Idle : Type 0 where
   pub doing : List Doing
-  pub waited : Bool
+  pub waiting : Option ℕ
+  pub has_waited : Bool
+  pub begun : List Bool
   pub since : List (Option ℕ)
   pub count : ℕ
   pub lost : ℕ
@@ -48,11 +71,16 @@ pub record Idle : Type 0 where
 abbrev pub since_at : List (Option ℕ) → ℕ → Option ℕ
 since_at xs c = slice_index_or xs c None
 
--- the ticks of a millisecond begin with that of the first processor: who waits then waited in it
-abbrev pub ticks_begin : ℕ → Idle → Idle
-ticks_begin c k = if c == 0 then record k { waited = list_any waits k.doing } else k
+-- with that one, a task has waited in some millisecond
+abbrev pub noticed : Option ℕ → Idle → Idle
+noticed first k = record k { waiting = first; has_waited = k.has_waited || is_some first }
 
--- a processor is idle for a millisecond while somebody waits: a stretch goes on, or begins
+-- the ticks of a millisecond begin with that of the first processor: a task that waits then
+-- waited in that millisecond
+abbrev pub ticks_begin : ℕ → ℕ → Idle → Idle
+ticks_begin tasks c k = if c == 0 then noticed (first_waiting tasks 0 k.doing) k else k
+
+-- a processor is idle for a millisecond while a task waits: a stretch goes on, or begins
 abbrev pub one_lost : ℕ → ℕ → Idle → Idle
 one_lost clock c k =
     if is_some (since_at k.since c) then record k { lost = one_more k.lost }
@@ -65,12 +93,13 @@ closed c k = record k { since = slice_set k.since c None }
 -- a processor's tick: a millisecond is lost, or no stretch of it goes on
 abbrev pub ticked : ℕ → ℕ → Bool → Idle → Idle
 ticked clock c is_idle k =
-    if k.waited && is_idle then one_lost clock c k else closed c k
+    if is_some k.waiting && is_idle then one_lost clock c k else closed c k
 
 -- what is kept behind an event, before its notes: a tick is of a processor that runs a task or none
 abbrev pub idle_after_event : SimState → Event → Idle → Idle
 idle_after_event s (event.Tick c) k =
-    ticked s.state.world.clock c (not (is_some (running s.state.world c))) (ticks_begin c k)
+    ticked s.state.world.clock c (not (is_some (running s.state.world c)))
+    (ticks_begin (length s.state.world.tasks) c k)
 idle_after_event s (event.Wake t) k = k
 idle_after_event s (event.Sleep t) k = k
 idle_after_event s event.Clock k = k
@@ -78,13 +107,16 @@ idle_after_event s (event.SetWeight g x) k = k
 
 -- what is kept behind a note
 abbrev pub idle_after_note : ℕ → What → Idle → Idle
-idle_after_note clock what k = record k { doing = doing_after clock what k.doing }
+idle_after_note clock what k =
+    record k { doing = doing_after clock what k.doing; begun = begun_after what k.begun }
 
 -- what is kept before a run
 abbrev pub none_idle : ℕ → ℕ → Idle
 none_idle tasks cpus = record {
   doing = replicate tasks Sleeps;
-  waited = false;
+  waiting = None;
+  has_waited = false;
+  begun = replicate tasks false;
   since = replicate cpus None;
   count = 0;
   lost = 0;
@@ -98,4 +130,4 @@ idle_of s es =
 
 -- what is told of it
 abbrev pub figures_of : Idle → IdleFigures
-figures_of k = record { count = k.count; lost = k.lost }
+figures_of k = record { count = k.count; lost = k.lost; has_waited = k.has_waited }

@@ -1,6 +1,6 @@
-ghost use Rattle.std.specs.Prelude.{◌≡◌, is_some, is_none, slice_set, IfOk};
+ghost use Rattle.std.specs.Prelude.{◌≡◌, length, false, is_some, is_none, slice_index_or, slice_set, IfOk};
 ghost use Rattle.scx_sched_world.specs.World.{running};
-ghost use Rattle.scxsim_account.specs.Idling.{none_idle, since_at, ticks_begin, one_lost, closed, ticked, idle_after_event, idle_after_note, figures_of, since_of, waits_since};
+ghost use Rattle.scxsim_account.specs.Idling.{none_idle, since_at, first_waiting, begun_after, ticks_begin, one_lost, closed, ticked, idle_after_event, idle_after_note, figures_of, since_of, waits_since};
 
 use scx_sched::{Event, Sim, What};
 use scxsim_views::{PauseKind, Pauses};
@@ -14,16 +14,22 @@ pub struct IdleFigures {
     pub count: u64,
     /// For how many milliseconds it was so, of all processors together.
     pub lost: u64,
+    /// True if a task waited in some millisecond, idle processor or not.
+    pub has_waited: bool,
 }
 
-/// Which processors are idle while somebody waits.
+/// The processors that are idle while a task waits, and the tasks that have begun to run.
 ///
 /// In a contract it is what is kept of that, with what each task does.
 #[derive(Drop)]
 pub struct Idling {
     pub(crate) pauses: Pauses,
-    /// Whether somebody waited as the ticks of the millisecond at hand began.
-    waited: bool,
+    /// The first task that waited as the ticks of the current millisecond began.
+    waiting: Option<u16>,
+    /// True if there was such a task in some millisecond.
+    has_waited: bool,
+    /// True for each task that has begun to run.
+    begun: Vec<bool>,
     /// Since when each processor has been idle while somebody waited.
     since: Vec<Option<u64>>,
     /// How many stretches have begun.
@@ -39,7 +45,9 @@ impl Model for Idling {
 
     ghost view = { λ i. record {
       doing = i.pauses;
-      waited = i.waited;
+      waiting = i.waiting;
+      has_waited = i.has_waited;
+      begun = i.begun.items;
       since = i.since.items;
       count = i.count;
       lost = i.lost;
@@ -53,7 +61,9 @@ impl Idling {
     {
         Ok(Idling {
             pauses: Pauses::new(alloc, tasks as usize)?,
-            waited: false,
+            waiting: None,
+            has_waited: false,
+            begun: vec![in alloc; false; tasks as usize]?,
             since: vec![in alloc; None; cpus as usize]?,
             count: 0,
             lost: 0,
@@ -66,7 +76,7 @@ impl Idling {
     {
         match event {
             Event::Tick(cpu) => {
-                self.begin_ticks(cpu);
+                self.begin_ticks(sim.tasks(), cpu);
                 self.tick(sim.clock(), cpu, running_on(sim, cpu).is_none());
             }
             Event::Wake(_) | Event::Sleep(_) | Event::Clock | Event::SetWeight(_, _) => {}
@@ -78,6 +88,24 @@ impl Idling {
         ensures { self.new ≡ idle_after_note clock what self.old }
     {
         let _ = self.pauses.show(clock, what);
+        note_run(&mut self.begun, what);
+    }
+
+    /// The first task in the workload's order that waited as the ticks of the current millisecond began.
+    pub(crate) fn waiting(&self) -> Option<u16>
+        ensures { result ≡ self.now.waiting }
+    {
+        self.waiting
+    }
+
+    /// True if the task has begun to run.
+    pub fn has_begun(&self, task: u16) -> bool
+        ensures { result ≡ slice_index_or self.now.begun task false }
+    {
+        match self.begun.get(task as usize) {
+            Some(begun) => *begun,
+            None => false,
+        }
     }
 
     /// Since when the processor has been idle while somebody waited, if it has.
@@ -94,22 +122,24 @@ impl Idling {
         IdleFigures {
             count: self.count,
             lost: self.lost,
+            has_waited: self.has_waited,
         }
     }
 
-    /// Who waits is settled before the first processor's tick, since ticks may stop tasks.
-    fn begin_ticks(&mut self, cpu: u32)
-        ensures { self.new ≡ ticks_begin cpu self.old }
+    /// Finds who waits, before the first processor's tick, since ticks may stop tasks.
+    fn begin_ticks(&mut self, tasks: u16, cpu: u32)
+        ensures { self.new ≡ ticks_begin tasks cpu self.old }
     {
         if cpu == 0 {
-            self.waited = self.pauses.somebody_waits();
+            self.waiting = first_waiting(&self.pauses, tasks);
+            self.has_waited = self.has_waited || self.waiting.is_some();
         }
     }
 
     fn tick(&mut self, clock: u64, cpu: u32, is_idle: bool)
         ensures { self.new ≡ ticked clock cpu is_idle self.old }
     {
-        if self.waited && is_idle {
+        if self.waiting.is_some() && is_idle {
             self.lose(clock, cpu);
         } else {
             self.close(cpu);
@@ -140,6 +170,30 @@ fn set(since: &mut Vec<Option<u64>>, cpu: u32, value: Option<u64>)
     if let Some(place) = since.get_mut(cpu as usize) {
         *place = value;
     }
+}
+
+/// Keeps that a task has begun to run, if that is what happens.
+fn note_run(begun: &mut Vec<bool>, what: What)
+    ensures { begun.new.items ≡ begun_after what begun.old.items }
+{
+    if let What::Run(task, _) = what {
+        if let Some(place) = begun.get_mut(task as usize) {
+            *place = true;
+        }
+    }
+}
+
+/// The first task in the workload's order that waits for a processor, if one of that many does.
+#[tactic(auto, using(crate::proofs::Waiting::first_here, crate::proofs::Waiting::first_later))]
+fn first_waiting(pauses: &Pauses, tasks: u16) -> Option<u16>
+    ensures { result ≡ first_waiting tasks 0 pauses.now }
+{
+    for task in 0..tasks {
+        if waits_since(pauses, task).is_some() {
+            return Some(task);
+        }
+    }
+    None
 }
 
 /// Since when the task has waited for a processor, if it does. One that is parked doesn't.

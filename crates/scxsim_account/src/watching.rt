@@ -29,7 +29,8 @@ pub struct Account {
     pub recent: Option<RecentNotes>,
     pub ejection: Option<Ejection>,
     moment: Moment,
-    tasks: u16,
+    /// The first task that waited as the ticks of the current millisecond began, and its queue.
+    stander: Option<Stander>,
     /// Whether there was memory for all.
     result: Result<(), AllocError>,
 }
@@ -61,7 +62,7 @@ impl Account {
                 event: Event::Clock,
                 running: None,
             },
-            tasks,
+            stander: None,
             result: Ok(()),
         })
     }
@@ -74,8 +75,19 @@ impl Account {
         self.moment.running = running_on(sim, cpu);
         let before = self.idling.since(cpu);
         self.idling.expect(sim, Event::Tick(cpu));
+        self.begin_ticks(cpu);
         self.change(cpu, before, sim.clock());
         self.waits.tick(sim.clock(), cpu, self.moment.running);
+    }
+
+    /// Finds who waits and where, before the first processor's tick, since ticks may move tasks.
+    fn begin_ticks(&mut self, cpu: u32)
+        ensures idling { self.new.idling ≡ self.old.idling }
+        ensures result { self.new.result ≡ self.old.result }
+    {
+        if cpu == 0 {
+            self.stander = self.first_stander();
+        }
     }
 
     /// Keeps that a stretch of the processor began or ended, if it did.
@@ -86,7 +98,7 @@ impl Account {
         match (before, self.idling.since(cpu)) {
             (None, Some(_)) => {
                 let beginning = Beginning {
-                    stander: self.first_stander(),
+                    stander: self.stander,
                     calls: self.calls.for_cpu(cpu),
                 };
                 self.stretches.begin(cpu, beginning);
@@ -100,17 +112,13 @@ impl Account {
         }
     }
 
-    /// The first task in the workload's order that waits, and where it stands.
+    /// The first task in the workload's order that waits in the current millisecond, and its queue.
     fn first_stander(&self) -> Option<Stander> {
-        for task in 0..self.tasks {
-            if waits_since(&self.idling.pauses, task).is_some() {
-                return Some(Stander {
-                    task,
-                    queue: self.queues.places.at(task),
-                });
-            }
-        }
-        None
+        let task = self.idling.waiting()?;
+        Some(Stander {
+            task,
+            queue: self.queues.places.at(task),
+        })
     }
 
     /// Since when that task waits, if one is given and it does.

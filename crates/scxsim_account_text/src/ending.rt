@@ -48,18 +48,27 @@ pub fn write_event(workload: &Workload, event: Event, page: &mut Text) {
     }
 }
 
-/// Writes who never ran.
-pub fn write_never(workload: &Workload, never_ran: &[u16], page: &mut Text) {
-    let mut before = "never ran: ";
-    for task in never_ran {
+/// Writes the tasks that never ran, and those that began to run and ran for 0 ms.
+pub fn write_never(workload: &Workload, never_ran: &[u16], ran_briefly: &[u16], page: &mut Text) {
+    write_names(workload, "never ran: ", never_ran, page);
+    if !never_ran.is_empty() && !ran_briefly.is_empty() {
+        page.push("; ");
+    }
+    write_names(workload, "ran for 0 ms: ", ran_briefly, page);
+    if never_ran.is_empty() && ran_briefly.is_empty() {
+        page.push("each task ran");
+    }
+    page.push("\n");
+}
+
+/// Writes the names of some tasks after these words, or nothing where there are none.
+fn write_names(workload: &Workload, words: &'static str, tasks: &[u16], page: &mut Text) {
+    let mut before = words;
+    for task in tasks {
         page.push(before);
         page.push(workload.task(*task));
         before = ", ";
     }
-    if never_ran.is_empty() {
-        page.push("each task ran");
-    }
-    page.push("\n");
 }
 
 /// Writes the last lines of the trace up to an ejection, of its task and its processor.

@@ -9,10 +9,21 @@ use scxsim_views::QueueName;
 use scxsim_waits::{Meanwhile, Station, Waits};
 use std::alloc::Global;
 
-/// Who waited longest, where, and who ran meanwhile.
-pub fn write_worst(alloc: Global, workload: &Workload, waits: &Waits, page: &mut Text) {
+/// Writes who waited longest, where, and who ran meanwhile. Where no wait took time by the clock, a task may still have
+/// waited for a millisecond and have begun to run as that ended.
+pub fn write_worst(
+    alloc: Global,
+    workload: &Workload,
+    waits: &Waits,
+    has_waited: bool,
+    page: &mut Text,
+) {
     let Some(wait) = waits.waits.as_slice().first() else {
-        page.push("no task waited\n");
+        page.push(if has_waited {
+            "no wait lasted beyond the millisecond in which it began\n"
+        } else {
+            "no task waited\n"
+        });
         return;
     };
     write_wait(workload, wait, page);

@@ -8,7 +8,6 @@ use scxsim_account_text::{
     write_stall, write_stretches, write_undrained, write_unplaced, write_waits, write_worst,
 };
 use scxsim_faults::{FaultPlace, write_call, write_policy_queues, write_reason};
-use scxsim_statistics::Figures;
 use scxsim_text::Text;
 use std::alloc::{AllocError, Global};
 
@@ -18,10 +17,10 @@ pub(crate) fn write_page(alloc: Global, found: &Findings, page: &mut Text) {
     let workload = &found.figures.workload;
     let has_dispatch = found.programs.get(Callback::Dispatch).is_some();
     write_ending(workload, account.ejection, found.fault, page);
-    write_worst(alloc, workload, &account.waits, page);
+    write_worst(alloc, workload, &account.waits, found.idle.has_waited, page);
     write_idle(workload, found.idle.lost, &account.stretches, page);
     write_undrained(&account.queues, page);
-    write_who_never_ran(alloc, &found.figures, page);
+    write_who_never_ran(alloc, found, page);
     write_up_to_ejection(alloc, workload, account, page);
     write_waits(alloc, workload, &account.waits, page);
     write_stretches(
@@ -75,19 +74,39 @@ fn write_fault(workload: &Workload, place: FaultPlace, event: Event, page: &mut 
     page.push("\n");
 }
 
-/// Writes who never ran.
-fn write_who_never_ran(alloc: Global, figures: &Figures, page: &mut Text) {
-    match never_ran(alloc, figures) {
-        Ok(tasks) => write_never(&figures.workload, tasks.as_slice(), page),
+/// The tasks that ran for no millisecond.
+#[derive(Drop)]
+struct Unrun {
+    /// The tasks that never began to run.
+    never: Vec<u16>,
+    /// The tasks that did, and were stopped before a tick of their processor, or were running as the run ended.
+    briefly: Vec<u16>,
+}
+
+/// Writes who never ran, or for 0 ms.
+fn write_who_never_ran(alloc: Global, found: &Findings, page: &mut Text) {
+    match tasks_without_time(alloc, found) {
+        Ok(tasks) => write_never(
+            &found.figures.workload,
+            tasks.never.as_slice(),
+            tasks.briefly.as_slice(),
+            page,
+        ),
         Err(_) => page.cut(),
     }
 }
 
-fn never_ran(alloc: Global, figures: &Figures) -> Result<Vec<u16>, AllocError> {
-    let mut tasks = Vec::new(alloc);
-    for (number, task) in figures.tasks.iter().enumerate() {
-        if task.run == 0 {
-            tasks.push(u16::try_from(number).unwrap_or(u16::MAX))?;
+fn tasks_without_time(alloc: Global, found: &Findings) -> Result<Unrun, AllocError> {
+    let mut tasks = Unrun {
+        never: Vec::new(alloc),
+        briefly: Vec::new(alloc),
+    };
+    for (number, figures) in found.figures.tasks.iter().enumerate() {
+        let task = u16::try_from(number).unwrap_or(u16::MAX);
+        if figures.run == 0 && found.account.idling.has_begun(task) {
+            tasks.briefly.push(task)?;
+        } else if figures.run == 0 {
+            tasks.never.push(task)?;
         }
     }
     Ok(tasks)
