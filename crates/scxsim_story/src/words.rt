@@ -66,18 +66,21 @@ fn write_sleep(of: Occurrence<'_>, words: &mut Text) {
 }
 
 fn write_insert(workload: &Workload, of: Occurrence<'_>, queue: u64, words: &mut Text) {
+    write_leaving(of.life, queue, words);
     if queue == PARKED {
         write_parked(workload, of, words);
     } else if queue == HELD {
         words.push("is held, since enqueue put it nowhere");
     } else {
-        write_leaving(of.life, words);
         write_coming(workload, of, queue, words);
     }
 }
 
-/// Writes that the task was parked or held up to now, if it was.
-fn write_leaving(life: Life, words: &mut Text) {
+/// Writes that the task was parked or held up to now, if it was and goes elsewhere.
+fn write_leaving(life: Life, queue: u64, words: &mut Text) {
+    if life.queue == Some(queue) {
+        return;
+    }
     if life.queue == Some(PARKED) {
         words.push("is let go, and ");
     } else if life.queue == Some(HELD) {
