@@ -20,8 +20,8 @@ pub(crate) struct Sums {
     pub(crate) waited: Grid,
     pub(crate) held: Grid,
     pub(crate) parked: Grid,
-    /// One row: how long tasks waited or were held.
-    pub(crate) waiting: Grid,
+    /// Rows of processors: how long each was idle while a task waited.
+    pub(crate) lost: Grid,
 }
 
 impl Sums {
@@ -32,7 +32,7 @@ impl Sums {
             waited: Grid::new(alloc, rows.of_tasks())?,
             held: Grid::new(alloc, rows.of_tasks())?,
             parked: Grid::new(alloc, rows.of_tasks())?,
-            waiting: Grid::new(alloc, 1)?,
+            lost: Grid::new(alloc, rows.cpus)?,
         })
     }
 }
@@ -150,6 +150,21 @@ impl<'a> Gathering<'a> {
         self.gathered.add(self.scale, stretch, row);
     }
 
+    /// Adds the current millisecond to each processor that runs nobody, if a task waits.
+    fn lose(&mut self, sim: &Sim) {
+        if !self.places.somebody_waits() {
+            return;
+        }
+        let clock = sim.clock();
+        let scale = self.scale;
+        let lost = &mut self.gathered.sums.lost;
+        for cpu in 0..sim.cpus() {
+            if sim.running(cpu).is_none() {
+                lost.add(cpu as usize, scale, clock, clock.saturating_add(1));
+            }
+        }
+    }
+
     /// Adds what tasks do at the end of the run.
     fn end(&mut self, sim: &Sim) {
         for task in 0..sim.tasks() {
@@ -175,14 +190,8 @@ impl Gathered {
                 sums.cpus.add(on_cpu, scale, since, until);
                 sums.ran.add(row, scale, since, until);
             }
-            Doing::Waits => {
-                sums.waited.add(row, scale, since, until);
-                sums.waiting.add(0, scale, since, until);
-            }
-            Doing::IsHeld => {
-                sums.held.add(row, scale, since, until);
-                sums.waiting.add(0, scale, since, until);
-            }
+            Doing::Waits => sums.waited.add(row, scale, since, until),
+            Doing::IsHeld => sums.held.add(row, scale, since, until),
             Doing::IsParked => sums.parked.add(row, scale, since, until),
         }
     }
@@ -193,7 +202,12 @@ impl View for Gathering<'_> {
 
     ghost has_failed = { λ _. false };
 
-    fn expect(&mut self, _sim: &Sim, _event: Event) {}
+    /// The ticks of a millisecond begin with that of processor 0.
+    fn expect(&mut self, sim: &Sim, event: Event) {
+        if let Event::Tick(0) = event {
+            self.lose(sim);
+        }
+    }
 
     fn show(&mut self, moment: u64, _clock: u64, what: What) {
         let stretch = self.places.show(moment, what);

@@ -14,7 +14,7 @@ impl Chart {
         if self.rows.by_group {
             let ran = self.sums.cpus.sum(cpu, cell);
             return match tenths(ran, self.scale.length(cell)) {
-                0 => self.idle_mark(cell),
+                0 => self.idle_mark(cpu, cell),
                 tenths => digit(tenths),
             };
         }
@@ -35,12 +35,13 @@ impl Chart {
         if is_half(total, length) {
             '*'
         } else {
-            self.idle_mark(cell)
+            self.idle_mark(cpu, cell)
         }
     }
 
-    fn idle_mark(&self, cell: usize) -> char {
-        if self.sums.waiting.sum(0, cell) > 0 {
+    /// The character of an idle processor: whether a task waited in a millisecond in which it was idle.
+    fn idle_mark(&self, cpu: usize, cell: usize) -> char {
+        if self.sums.lost.sum(cpu, cell) > 0 {
             '!'
         } else {
             '.'
@@ -57,19 +58,23 @@ impl Chart {
         }
     }
 
-    /// The character of a task: what it did for the most part.
+    /// The character of a task: what it did for the most part, but that it ran is shown unless it waited for longer.
     fn own_mark(&self, row: usize, cell: usize, ran: u64) -> char {
         let length = self.scale.length(cell);
+        let paused = self.paused(row, cell);
+        let slept = length.saturating_sub(ran).saturating_sub(paused);
         if ran > 0 && ran.saturating_mul(10) >= length.saturating_mul(9) {
-            return '#';
+            '#'
+        } else if paused > ran && paused >= slept {
+            self.pause_mark(row, cell)
+        } else if ran > 0 {
+            '+'
+        } else {
+            ' '
         }
-        if ran > 0 && (is_half(ran, length) || ran >= self.paused(row, cell)) {
-            return '+';
-        }
-        self.pause_mark(row, cell)
     }
 
-    /// The character of a task that ran for less time than it waited, was held or was parked.
+    /// The character of a task that waited, was held or was parked for the most part.
     fn pause_mark(&self, row: usize, cell: usize) -> char {
         let waited = self.sums.waited.sum(row, cell);
         let held = self.sums.held.sum(row, cell);
@@ -78,10 +83,8 @@ impl Chart {
             'p'
         } else if held > waited {
             'h'
-        } else if waited > 0 {
-            '-'
         } else {
-            ' '
+            '-'
         }
     }
 

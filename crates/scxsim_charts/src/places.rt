@@ -23,6 +23,16 @@ pub(crate) struct Stretch {
     pub(crate) until: u64,
 }
 
+impl Doing {
+    /// True if the task waits for a processor. One that is parked doesn't.
+    fn is_waiting(self) -> bool {
+        match self {
+            Doing::Waits | Doing::IsHeld => true,
+            Doing::Runs(_) | Doing::IsParked => false,
+        }
+    }
+}
+
 /// What a task does, and since which moment.
 #[derive(Clone, Copy)]
 struct Stay {
@@ -34,6 +44,8 @@ struct Stay {
 #[derive(Drop)]
 pub(crate) struct Places {
     stays: Vec<Option<Stay>>,
+    /// The number of tasks that wait for a processor.
+    waiting: usize,
 }
 
 impl Places {
@@ -41,6 +53,7 @@ impl Places {
     pub(crate) fn new(alloc: Global, tasks: usize) -> Result<Places, AllocError> {
         Ok(Places {
             stays: vec![in alloc; None; tasks]?,
+            waiting: 0,
         })
     }
 
@@ -62,12 +75,23 @@ impl Places {
         self.change(task, None, moment)
     }
 
+    /// True if a task waits for a processor.
+    pub(crate) fn somebody_waits(&self) -> bool {
+        0 < self.waiting
+    }
+
     /// The task does this from that moment on, or sleeps.
     fn change(&mut self, task: u16, doing: Option<Doing>, moment: u64) -> Option<Stretch> {
         let place = self.stays.get_mut(task as usize)?;
         let before = *place;
         *place = stay_of(doing, moment);
+        if is_waiting(doing) {
+            self.waiting = self.waiting.saturating_add(1);
+        }
         let stay = before?;
+        if stay.doing.is_waiting() {
+            self.waiting = self.waiting.saturating_sub(1);
+        }
         Some(Stretch {
             task,
             doing: stay.doing,
@@ -80,6 +104,14 @@ impl Places {
 fn stay_of(doing: Option<Doing>, since: u64) -> Option<Stay> {
     let doing = doing?;
     Some(Stay { doing, since })
+}
+
+/// True if a task that does this waits for a processor.
+fn is_waiting(doing: Option<Doing>) -> bool {
+    match doing {
+        Some(doing) => doing.is_waiting(),
+        None => false,
+    }
 }
 
 /// What a task does in the queue of that id.
