@@ -1,6 +1,7 @@
 "use strict";
 // The page of a run: it reads the stretches that stand in the page, and draws those that are in sight.
-// A stretch is 16 bytes: from, length (u32 ms), task (u16), processor (u8), why (u8), queue (u16), 2 spare.
+// A stretch is 16 bytes: from, length (u32 ms), task (u16), processor (u8), why (u8), queue (u16), 2 spare. The bits 64 and
+// 128 of why say that it began, and that it ended, as a millisecond ended: at a clock that is one less.
 // Times are counted from the beginning of what is shown, which need not be that of the run: see momentText.
 const NOWHERE = 255, GLOBAL = 16, HELD = 17, BUILTIN = 18, PARKED = 19, LOCAL = 20, NO_QUEUE = 65535;
 const WHY_RUN = ["the run was over", "it was stopped: its slice was used up and another came", "it went to sleep",
@@ -183,22 +184,26 @@ function sumDue({ groups, changes }, { cell, cells, row, ran, waited, due, busy 
 
 // Whether the next stretch of a task follows at once; one that was let go in between begins anew.
 const goesOn = ({ from, length, why }, i) => from[i] + length[i] === from[i + 1] && (why[i + 1] & 48) !== 48;
-// A wait is the stretches of waiting one behind another. The longest ones are kept.
+const clockFrom = ({ from, why }, i) => from[i] - (why[i] >> 6 & 1);
+const clockUntil = ({ from, length, why }, i) => from[i] + length[i] - (why[i] >> 7);
+// A wait is the stretches of waiting one after another. Its length is by the clock. The longest ones are kept.
 function findWaits(run) {
   const worst = [];
   run.longest = new Uint32Array(run.tasks.length);
+  run.waited = new Uint32Array(run.tasks.length);
   let total = 0, number = 0;
   for (let task = 0; task < run.tasks.length; task++) {
-    for (let i = run.taskStart[task], since = -1; i < run.taskStart[task + 1]; i++) {
-      if (run.cpu[i] !== NOWHERE || run.queue[i] === PARKED) { since = -1; continue; }
+    for (let i = run.taskStart[task], first = -1; i < run.taskStart[task + 1]; i++) {
+      if (run.cpu[i] !== NOWHERE || run.queue[i] === PARKED) { first = -1; continue; }
       const until = run.from[i] + run.length[i], last = i + 1 === run.taskStart[task + 1];
-      if (since < 0) since = run.from[i];
+      if (first < 0) first = i;
       if (!last && run.cpu[i + 1] === NOWHERE && run.queue[i + 1] !== PARKED && goesOn(run, i)) continue;
-      const wait = until - since; total += wait; number++;
+      const clock = clockFrom(run, first), wait = clockUntil(run, i) - clock; total += wait; number++;
+      run.waited[task] += wait;
       run.longest[task] = Math.max(run.longest[task], wait);
-      if (worst.length < 20 || wait > worst[19].length)
-        worst.push({ task, from: since, until, length: wait }) && worst.sort((one, other) => other.length - one.length).splice(20);
-      since = -1;
+      if (wait > 0 && (worst.length < 20 || wait > worst[19].length))
+        worst.push({ task, from: run.from[first], until, clock, length: wait }) && worst.sort((one, other) => other.length - one.length).splice(20);
+      first = -1;
     }
   }
   run.worst = worst;
@@ -803,7 +808,8 @@ function taskStretch(task, time, row) {
 function describe({ index, task, from, until }) {
   const ran = run.cpu[index] !== NOWHERE, queue = run.queue[index], why = run.why[index], began = BEGAN[why >> 4 & 3];
   const what = ran ? "ran on processor " + run.cpu[index] : queue === PARKED ? "was parked" : "waited";
-  const when = "from " + momentText(from) + " to " + momentText(until) + ", " + timeText(until - from);
+  const [begin, end] = ran ? [from, until] : [clockFrom(run, index), clockUntil(run, index)];
+  const when = "from " + momentText(begin) + " to " + momentText(end) + ", " + timeText(end - begin);
   const where = queue === NO_QUEUE ? "" : (ran ? "it came from " : "in ") + queueName(run, queue);
   const lines = [run.tasks[task].name + " " + what, when + (began && "; " + began), "then " + (ran ? WHY_RUN : WHY_WAIT)[why & 7], where];
   return lines.filter(Boolean);
@@ -823,13 +829,13 @@ function node(name, words, parent, attributes = {}) {
   return made;
 }
 
-// A wait's whole length counts, also where it went on in another queue.
+// From when to when a whole wait was, also where it went on in another queue, and its length by the clock.
 function wholeWait({ index, task }) {
   const isOwn = (i) => i >= run.taskStart[task] && i < run.taskStart[task + 1], waits = (i) => isOwn(i) && kindOf(i) === kindOf(index);
   let first = index, last = index;
   while (waits(first - 1) && goesOn(run, first - 1)) first--;
   while (waits(last + 1) && goesOn(run, last)) last++;
-  return [run.from[first], run.from[last] + run.length[last]];
+  return [run.from[first], run.from[last] + run.length[last], clockUntil(run, last) - clockFrom(run, first)];
 }
 
 function tellMeanwhile(stretch, lines) {
@@ -839,12 +845,14 @@ function tellMeanwhile(stretch, lines) {
   node("h2", lines[0], box);
   for (const line of lines.slice(1)) node("p", line, box);
   if (run.cpu[stretch.index] !== NOWHERE) return;
-  const [from, until] = wholeWait(stretch), found = whoRan(run, from, until);
+  const [from, until, waited] = wholeWait(stretch), found = whoRan(run, from, until);
   node("h3", "Who ran meanwhile, from " + momentText(from) + " to " + momentText(until), box);
   fillTable(node("table", "", box), ["cpu", "task", "ms", "part"], found.slice(0, 12).map(({ cpu, task, ran }) =>
     [cpu, task < 0 ? "nobody: idle" : run.tasks[task].name, ran, percent(ran / (until - from))]));
   const rest = found.slice(12).reduce((sum, one) => sum + one.ran, 0), more = rest ? found.length - 12 + " more: " + rest + " ms. " : "";
-  node("p", more + "Together " + (until - from) * run.processors + " ms: the wait times the processors.", box, { class: "faint" });
+  const why = until - from === waited ? "the wait times the processors."
+    : "run times go by ticks, so each processor's are a millisecond " + (until - from > waited ? "more" : "less") + " than the wait.";
+  node("p", more + "Together " + (until - from) * run.processors + " ms: " + why, box, { class: "faint" });
 }
 
 // A table; where there is something to do, the first cell of each line is a button for it.
@@ -865,13 +873,13 @@ function fillFigures() {
   const total = (before, start, i) => before[start[i + 1]] - before[start[i]];
   fillTable(element("groups"), ["group", "share", "due"], run.groups.map(({ name, share, due }) => [name, percent(share), percent(due)]));
   const tasks = run.tasks.map((task, number) =>
-    [task.name, total(run.ranBefore, run.taskStart, number), total(run.waitedBefore, run.taskStart, number), run.longest[number]]);
+    [task.name, total(run.ranBefore, run.taskStart, number), run.waited[number], run.longest[number]]);
   fillTable(element("tasks"), ["task", "run ms", "waited ms", "longest"], tasks, (name) => find(name));
   const busy = run.idle.map((_, cpu) => total(run.cpuBefore, run.cpuStart, cpu));
   const cpus = busy.map((ran, cpu) => [String(cpu), ran, run.duration - ran, run.idle[cpu]]);
   fillTable(element("cpus"), ["cpu", "busy ms", "idle ms", "of it somebody waited"], cpus);
   for (const wait of run.worst.slice(0, 5)) {
-    const words = wait.length + " ms " + run.tasks[wait.task].name + ", from " + momentText(wait.from);
+    const words = wait.length + " ms " + run.tasks[wait.task].name + ", from " + momentText(wait.clock);
     const button = node("button", words, node("li", "", element("waits")), { type: "button", class: wait.alarming ? "wrong" : "" });
     button.onclick = () => jump(wait);
   }

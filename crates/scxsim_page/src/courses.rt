@@ -36,25 +36,26 @@ impl Course {
 
     /// Adds the stretch that ends with what happens, if one does.
     #[inline(always)]
-    pub(crate) fn show(&mut self, moment: u64, what: What) {
+    pub(crate) fn show(&mut self, moment: u64, clock: u64, what: What) {
+        let now = moment.saturating_add(clock);
         let stopped = self.stopped;
         self.stopped = None;
         let stretch = match what {
             What::Wake(task) => {
-                self.tasks.wake(moment, task);
+                self.tasks.wake(now, task);
                 None
             }
-            What::Sleep(task) => self.tasks.sleep(moment, task),
+            What::Sleep(task) => self.tasks.sleep(now, task),
             What::Insert(task, id) => {
                 if id == PARKED && stopped == Some(task) {
                     self.lines.park_last();
                 }
                 let queue = self.queues.number(id);
-                self.tasks.enter(moment, task, queue)
+                self.tasks.enter(now, task, queue)
             }
-            What::Move(task, cpu) => self.tasks.enter(moment, task, local_number(cpu)),
-            What::Run(task, cpu) => self.tasks.run(moment, task, place_of(cpu)),
-            What::Stop(task, _) => self.tasks.stop(moment, task),
+            What::Move(task, cpu) => self.tasks.enter(now, task, local_number(cpu)),
+            What::Run(task, cpu) => self.tasks.run(now, task, place_of(cpu)),
+            What::Stop(task, _) => self.tasks.stop(now, task),
             What::Stall(task) => {
                 self.ended = Ended::Stall { moment, task };
                 None
@@ -71,7 +72,7 @@ impl Course {
 
     /// Adds what the task does as the run of the workload ends.
     pub(crate) fn end_task(&mut self, moment: u64, task: u16) {
-        let stretch = self.tasks.end(moment, task);
+        let stretch = self.tasks.end(moment.saturating_mul(2), task);
         self.add(stretch);
     }
 

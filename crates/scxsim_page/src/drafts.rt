@@ -237,11 +237,11 @@ impl<W: Out> View for Drawing<'_, W> {
 
     fn expect(&mut self, _sim: &Sim, _event: Event) {}
 
-    fn show(&mut self, moment: u64, _clock: u64, what: What) {
+    fn show(&mut self, moment: u64, clock: u64, what: What) {
         if self.failed {
             return;
         }
-        self.course.show(moment, what);
+        self.course.show(moment, clock, what);
         if write_if_full(self.course, self.out).is_err() {
             self.failed = true;
         }

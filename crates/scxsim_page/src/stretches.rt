@@ -64,6 +64,7 @@ impl Beginning {
 /// From one moment to another a task ran on a processor, or waited.
 #[derive(Clone, Copy)]
 pub(crate) struct Stretch {
+    /// Both are sums of a moment and its clock, which is one less where a millisecond ends: the sum is odd then.
     pub(crate) since: u64,
     pub(crate) until: u64,
     pub(crate) task: u16,
@@ -90,42 +91,43 @@ impl Stretch {
     /// What of it lies in the window, if some does.
     #[inline(always)]
     pub(crate) fn within(self, window: Window) -> Option<Stretch> {
-        let since = self.since.max(window.from);
-        let until = self.until.min(window.to);
-        if until <= since {
-            return None;
-        }
         let mut part = self;
-        part.since = since;
-        part.until = until;
-        if self.since < since {
+        if moment_of(self.since) < window.from {
+            part.since = window.from.saturating_mul(2);
             part.beginning = Beginning::GoesOn;
         }
-        if until < self.until {
+        if window.to < moment_of(self.until) {
+            part.until = window.to.saturating_mul(2);
             part.end = End::CutOff;
         }
-        Some(part)
+        (moment_of(part.since) < moment_of(part.until)).then_some(part)
     }
 
     /// When it began and its length, as a page has them: 4 bytes each, low byte first. The first byte is the
     /// highest one of the number.
     #[inline(always)]
     pub(crate) fn times(self) -> u64 {
-        let since = low(self.since).swap_bytes();
-        let length = low(self.until.saturating_sub(self.since)).swap_bytes();
-        (u64::from(since) << 32) | u64::from(length)
+        let since = moment_of(self.since);
+        let length = low(moment_of(self.until).saturating_sub(since)).swap_bytes();
+        (u64::from(low(since).swap_bytes()) << 32) | u64::from(length)
     }
 
-    /// The rest of it: the task, of 2 bytes, the processor, how it ended and began, the queue, of 2, and two that
-    /// are 0.
+    /// The rest of it: the task, of 2 bytes, the processor, how it ended and began, and whether a millisecond ended
+    /// then, the queue, of 2, and two that are 0.
     #[inline(always)]
     pub(crate) fn rest(self) -> u64 {
-        let why = self.end.code() | self.beginning.code();
+        let odd = (self.since % 2 * 64) as u8 | (self.until % 2 * 128) as u8;
+        let why = self.end.code() | self.beginning.code() | odd;
         (u64::from(self.task.swap_bytes()) << 48)
             | (u64::from(self.place) << 40)
             | (u64::from(why) << 32)
             | (u64::from(self.queue.swap_bytes()) << 16)
     }
+}
+
+/// The moment in a sum of a moment and its clock.
+pub(crate) fn moment_of(sum: u64) -> u64 {
+    sum.div_ceil(2)
 }
 
 /// A moment of a run, which is at most 1,000,000.

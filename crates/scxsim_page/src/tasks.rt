@@ -1,5 +1,5 @@
 use crate::queues::{LOCAL_NUMBER, NO_QUEUE, PARKED_NUMBER};
-use crate::stretches::{Beginning, End, NOWHERE, Stretch};
+use crate::stretches::{Beginning, End, NOWHERE, Stretch, moment_of};
 use std::alloc::{AllocError, Global};
 
 /// What a task does.
@@ -18,7 +18,7 @@ struct Task {
     queue: u16,
     beginning: Beginning,
     is_asleep: bool,
-    /// When it began to do what it does.
+    /// When it began to do what it does, as in a stretch.
     since: u64,
 }
 
@@ -30,7 +30,7 @@ const ASLEEP: Task = Task {
     since: 0,
 };
 
-/// What each task does.
+/// What each task does. Times are those of stretches.
 #[derive(Drop)]
 pub(crate) struct Tasks {
     tasks: Vec<Task>,
@@ -44,75 +44,75 @@ impl Tasks {
         })
     }
 
-    pub(crate) fn wake(&mut self, moment: u64, number: u16) {
+    pub(crate) fn wake(&mut self, now: u64, number: u16) {
         if let Some(task) = self.tasks.get_mut(number as usize) {
             task.is_asleep = false;
             task.beginning = Beginning::Woke;
-            task.begin(moment, Doing::Waits { queue: NO_QUEUE });
+            task.begin(now, Doing::Waits { queue: NO_QUEUE });
         }
     }
 
     /// The task sleeps from now on. Where it runs, that it stops is noted behind.
     #[inline(always)]
-    pub(crate) fn sleep(&mut self, moment: u64, number: u16) -> Option<Stretch> {
+    pub(crate) fn sleep(&mut self, now: u64, number: u16) -> Option<Stretch> {
         let task = self.tasks.get_mut(number as usize)?;
         task.is_asleep = true;
         task.waits_in()?;
-        task.end(number, moment, End::Slept)
+        task.end(number, now, End::Slept)
     }
 
     /// The task comes to a queue.
     #[inline(always)]
-    pub(crate) fn enter(&mut self, moment: u64, number: u16, queue: u16) -> Option<Stretch> {
+    pub(crate) fn enter(&mut self, now: u64, number: u16, queue: u16) -> Option<Stretch> {
         let task = self.tasks.get_mut(number as usize)?;
         let before = task.waits_in();
         let is_new = match before {
             Some(before) => before == NO_QUEUE,
             None => true,
         };
-        let stretch = task.leave(number, moment, before, queue);
+        let stretch = task.leave(number, now, before, queue);
         if is_new || queue < LOCAL_NUMBER {
             task.queue = queue;
         }
-        task.begin(moment, Doing::Waits { queue });
+        task.begin(now, Doing::Waits { queue });
         stretch
     }
 
     #[inline(always)]
-    pub(crate) fn run(&mut self, moment: u64, number: u16, place: u8) -> Option<Stretch> {
+    pub(crate) fn run(&mut self, now: u64, number: u16, place: u8) -> Option<Stretch> {
         let task = self.tasks.get_mut(number as usize)?;
         let stretch = match task.waits_in() {
-            Some(_) => task.end(number, moment, End::Ran),
+            Some(_) => task.end(number, now, End::Ran),
             None => None,
         };
-        task.begin(moment, Doing::Runs { place });
+        task.begin(now, Doing::Runs { place });
         stretch
     }
 
     /// The task leaves its processor. Whether it was parked isn't known yet.
     #[inline(always)]
-    pub(crate) fn stop(&mut self, moment: u64, number: u16) -> Option<Stretch> {
+    pub(crate) fn stop(&mut self, now: u64, number: u16) -> Option<Stretch> {
         let task = self.tasks.get_mut(number as usize)?;
         if task.is_asleep {
-            return task.end(number, moment, End::Slept);
+            return task.end(number, now, End::Slept);
         }
-        let stretch = task.end(number, moment, End::Stopped);
+        let stretch = task.end(number, now, End::Stopped);
         task.beginning = Beginning::WasStopped;
         stretch
     }
 
     /// The run of the workload ends.
-    pub(crate) fn end(&mut self, moment: u64, number: u16) -> Option<Stretch> {
+    pub(crate) fn end(&mut self, now: u64, number: u16) -> Option<Stretch> {
         let task = self.tasks.get_mut(number as usize)?;
-        task.end(number, moment, End::RunOver)
+        task.end(number, now, End::RunOver)
     }
 }
 
 impl Task {
     #[inline(always)]
-    fn begin(&mut self, moment: u64, doing: Doing) {
+    fn begin(&mut self, now: u64, doing: Doing) {
         self.doing = doing;
-        self.since = moment;
+        self.since = now;
     }
 
     /// The queue in which it waits, if it waits.
@@ -126,15 +126,9 @@ impl Task {
 
     /// Ends the wait in the queue in which it waited before, if it did, as it comes to another.
     #[inline(always)]
-    fn leave(
-        &mut self,
-        number: u16,
-        moment: u64,
-        before: Option<u16>,
-        queue: u16,
-    ) -> Option<Stretch> {
+    fn leave(&mut self, number: u16, now: u64, before: Option<u16>, queue: u16) -> Option<Stretch> {
         let before = before?;
-        let stretch = self.end(number, moment, end_of_wait(before, queue));
+        let stretch = self.end(number, now, end_of_wait(before, queue));
         if before == PARKED_NUMBER {
             self.beginning = Beginning::WasLetGo;
         }
@@ -143,21 +137,21 @@ impl Task {
 
     /// Ends what it does. There is no stretch of no time.
     #[inline(always)]
-    fn end(&mut self, number: u16, moment: u64, end: End) -> Option<Stretch> {
+    fn end(&mut self, number: u16, now: u64, end: End) -> Option<Stretch> {
         let (place, queue) = match self.doing {
             Doing::Neither => return None,
             Doing::Waits { queue } => (NOWHERE, queue),
             Doing::Runs { place } => (place, self.queue),
         };
         self.doing = Doing::Neither;
-        if moment <= self.since {
+        if moment_of(now) <= moment_of(self.since) {
             return None;
         }
         let beginning = self.beginning;
         self.beginning = Beginning::GoesOn;
         Some(Stretch {
             since: self.since,
-            until: moment,
+            until: now,
             task: number,
             queue,
             place,

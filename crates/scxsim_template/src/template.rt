@@ -92,7 +92,8 @@ header, .tools, .legend, aside { padding-left: 10px; padding-right: 10px; }\n\
 pub const CODE: &str = "<script>\n\
 \"use strict\";\n\
 // The page of a run: it reads the stretches that stand in the page, and draws those that are in sight.\n\
-// A stretch is 16 bytes: from, length (u32 ms), task (u16), processor (u8), why (u8), queue (u16), 2 spare.\n\
+// A stretch is 16 bytes: from, length (u32 ms), task (u16), processor (u8), why (u8), queue (u16), 2 spare. The bits 64 and\n\
+// 128 of why say that it began, and that it ended, as a millisecond ended: at a clock that is one less.\n\
 // Times are counted from the beginning of what is shown, which need not be that of the run: see momentText.\n\
 const NOWHERE = 255, GLOBAL = 16, HELD = 17, BUILTIN = 18, PARKED = 19, LOCAL = 20, NO_QUEUE = 65535;\n\
 const WHY_RUN = [\"the run was over\", \"it was stopped: its slice was used up and another came\", \"it went to sleep\",\n\
@@ -275,22 +276,26 @@ group.due = sum / (busy[cells] || 1);\n\
 \n\
 // Whether the next stretch of a task follows at once; one that was let go in between begins anew.\n\
 const goesOn = ({ from, length, why }, i) => from[i] + length[i] === from[i + 1] && (why[i + 1] & 48) !== 48;\n\
-// A wait is the stretches of waiting one behind another. The longest ones are kept.\n\
+const clockFrom = ({ from, why }, i) => from[i] - (why[i] >> 6 & 1);\n\
+const clockUntil = ({ from, length, why }, i) => from[i] + length[i] - (why[i] >> 7);\n\
+// A wait is the stretches of waiting one after another. Its length is by the clock. The longest ones are kept.\n\
 function findWaits(run) {\n\
 const worst = [];\n\
 run.longest = new Uint32Array(run.tasks.length);\n\
+run.waited = new Uint32Array(run.tasks.length);\n\
 let total = 0, number = 0;\n\
 for (let task = 0; task < run.tasks.length; task++) {\n\
-for (let i = run.taskStart[task], since = -1; i < run.taskStart[task + 1]; i++) {\n\
-if (run.cpu[i] !== NOWHERE || run.queue[i] === PARKED) { since = -1; continue; }\n\
+for (let i = run.taskStart[task], first = -1; i < run.taskStart[task + 1]; i++) {\n\
+if (run.cpu[i] !== NOWHERE || run.queue[i] === PARKED) { first = -1; continue; }\n\
 const until = run.from[i] + run.length[i], last = i + 1 === run.taskStart[task + 1];\n\
-if (since < 0) since = run.from[i];\n\
+if (first < 0) first = i;\n\
 if (!last && run.cpu[i + 1] === NOWHERE && run.queue[i + 1] !== PARKED && goesOn(run, i)) continue;\n\
-const wait = until - since; total += wait; number++;\n\
+const clock = clockFrom(run, first), wait = clockUntil(run, i) - clock; total += wait; number++;\n\
+run.waited[task] += wait;\n\
 run.longest[task] = Math.max(run.longest[task], wait);\n\
-if (worst.length < 20 || wait > worst[19].length)\n\
-worst.push({ task, from: since, until, length: wait }) && worst.sort((one, other) => other.length - one.length).splice(20);\n\
-since = -1;\n\
+if (wait > 0 && (worst.length < 20 || wait > worst[19].length))\n\
+worst.push({ task, from: run.from[first], until, clock, length: wait }) && worst.sort((one, other) => other.length - one.length).splice(20);\n\
+first = -1;\n\
 }\n\
 }\n\
 run.worst = worst;\n\
@@ -895,7 +900,8 @@ return { index: i, task, kind: row.kind, number: row.number, from: run.from[i], 
 function describe({ index, task, from, until }) {\n\
 const ran = run.cpu[index] !== NOWHERE, queue = run.queue[index], why = run.why[index], began = BEGAN[why >> 4 & 3];\n\
 const what = ran ? \"ran on processor \" + run.cpu[index] : queue === PARKED ? \"was parked\" : \"waited\";\n\
-const when = \"from \" + momentText(from) + \" to \" + momentText(until) + \", \" + timeText(until - from);\n\
+const [begin, end] = ran ? [from, until] : [clockFrom(run, index), clockUntil(run, index)];\n\
+const when = \"from \" + momentText(begin) + \" to \" + momentText(end) + \", \" + timeText(end - begin);\n\
 const where = queue === NO_QUEUE ? \"\" : (ran ? \"it came from \" : \"in \") + queueName(run, queue);\n\
 const lines = [run.tasks[task].name + \" \" + what, when + (began && \"; \" + began), \"then \" + (ran ? WHY_RUN : WHY_WAIT)[why & 7], where];\n\
 return lines.filter(Boolean);\n\
@@ -915,13 +921,13 @@ parent?.append(made);\n\
 return made;\n\
 }\n\
 \n\
-// A wait's whole length counts, also where it went on in another queue.\n\
+// From when to when a whole wait was, also where it went on in another queue, and its length by the clock.\n\
 function wholeWait({ index, task }) {\n\
 const isOwn = (i) => i >= run.taskStart[task] && i < run.taskStart[task + 1], waits = (i) => isOwn(i) && kindOf(i) === kindOf(index);\n\
 let first = index, last = index;\n\
 while (waits(first - 1) && goesOn(run, first - 1)) first--;\n\
 while (waits(last + 1) && goesOn(run, last)) last++;\n\
-return [run.from[first], run.from[last] + run.length[last]];\n\
+return [run.from[first], run.from[last] + run.length[last], clockUntil(run, last) - clockFrom(run, first)];\n\
 }\n\
 \n\
 function tellMeanwhile(stretch, lines) {\n\
@@ -931,12 +937,14 @@ box.replaceChildren();\n\
 node(\"h2\", lines[0], box);\n\
 for (const line of lines.slice(1)) node(\"p\", line, box);\n\
 if (run.cpu[stretch.index] !== NOWHERE) return;\n\
-const [from, until] = wholeWait(stretch), found = whoRan(run, from, until);\n\
+const [from, until, waited] = wholeWait(stretch), found = whoRan(run, from, until);\n\
 node(\"h3\", \"Who ran meanwhile, from \" + momentText(from) + \" to \" + momentText(until), box);\n\
 fillTable(node(\"table\", \"\", box), [\"cpu\", \"task\", \"ms\", \"part\"], found.slice(0, 12).map(({ cpu, task, ran }) =>\n\
 [cpu, task < 0 ? \"nobody: idle\" : run.tasks[task].name, ran, percent(ran / (until - from))]));\n\
 const rest = found.slice(12).reduce((sum, one) => sum + one.ran, 0), more = rest ? found.length - 12 + \" more: \" + rest + \" ms. \" : \"\";\n\
-node(\"p\", more + \"Together \" + (until - from) * run.processors + \" ms: the wait times the processors.\", box, { class: \"faint\" });\n\
+const why = until - from === waited ? \"the wait times the processors.\"\n\
+: \"run times go by ticks, so each processor's are a millisecond \" + (until - from > waited ? \"more\" : \"less\") + \" than the wait.\";\n\
+node(\"p\", more + \"Together \" + (until - from) * run.processors + \" ms: \" + why, box, { class: \"faint\" });\n\
 }\n\
 \n\
 // A table; where there is something to do, the first cell of each line is a button for it.\n\
@@ -957,13 +965,13 @@ function fillFigures() {\n\
 const total = (before, start, i) => before[start[i + 1]] - before[start[i]];\n\
 fillTable(element(\"groups\"), [\"group\", \"share\", \"due\"], run.groups.map(({ name, share, due }) => [name, percent(share), percent(due)]));\n\
 const tasks = run.tasks.map((task, number) =>\n\
-[task.name, total(run.ranBefore, run.taskStart, number), total(run.waitedBefore, run.taskStart, number), run.longest[number]]);\n\
+[task.name, total(run.ranBefore, run.taskStart, number), run.waited[number], run.longest[number]]);\n\
 fillTable(element(\"tasks\"), [\"task\", \"run ms\", \"waited ms\", \"longest\"], tasks, (name) => find(name));\n\
 const busy = run.idle.map((_, cpu) => total(run.cpuBefore, run.cpuStart, cpu));\n\
 const cpus = busy.map((ran, cpu) => [String(cpu), ran, run.duration - ran, run.idle[cpu]]);\n\
 fillTable(element(\"cpus\"), [\"cpu\", \"busy ms\", \"idle ms\", \"of it somebody waited\"], cpus);\n\
 for (const wait of run.worst.slice(0, 5)) {\n\
-const words = wait.length + \" ms \" + run.tasks[wait.task].name + \", from \" + momentText(wait.from);\n\
+const words = wait.length + \" ms \" + run.tasks[wait.task].name + \", from \" + momentText(wait.clock);\n\
 const button = node(\"button\", words, node(\"li\", \"\", element(\"waits\")), { type: \"button\", class: wait.alarming ? \"wrong\" : \"\" });\n\
 button.onclick = () => jump(wait);\n\
 }\n\
