@@ -5,7 +5,7 @@ use std::alloc::{AllocError, Global};
 use std::convert::AsStr;
 
 /// The version, which nothing else says: scripts ask the program for it.
-const VERSION: &str = "0.8.0";
+const VERSION: &str = "0.9.0";
 
 /// What the words ask for. `clap` refuses words that name no command and no file, so there is a
 /// request wherever it accepts the words.
