@@ -11,9 +11,10 @@ use Rattle.scx_explore_states.specs.Seen.{state_at}
 use Rattle.scx_explore_states.specs.Written.{IsWritten}
 use Rattle.scx_explore_audit.specs.declared.table.Moves.{Moves}
 use Rattle.scx_explore_audit.specs.declared.table.Moves.TheVariants.{Events}
-use Rattle.scx_explore_audit.specs.Claims.{IsTried, IsMove, ShowsNone, list_of}
+use Rattle.scx_explore_audit.specs.Claims.{IsTried, IsMove, ShowsNone, ShowsNoneAtFirst, list_of}
 use Rattle.scx_explore_audit.specs.Closed.{Claim, IsReached, IsMatched, IsSurvived, IsWithin, Respects, IsMet, LeadsBack, IsDone, IsClosed, depth_at}
 use Rattle.scx_explore_audit.specs.Laws.{ClosedTablesCover, ListsAreOfEvents}
+use Rattle.scx_explore_audit.proofs.Skipping.{NoneAtFirst, none_past}
 
 -- ---- events behind others
 
@@ -79,7 +80,7 @@ further moves root s es h move survived =
 -- ---- what is shown
 
 -- what leads back shows nothing
-leads_shows : (c : Claim) (n : ℕ) (s : SimState) (es : List Event) → LeadsBack c n s es → ShowsNone c.sorts s es
+leads_shows : (c : Claim) (n : ℕ) (s : SimState) (es : List Event) → LeadsBack c n s es → ShowsNoneAtFirst c.sorts s es
 leads_shows c n s [] leads = tt
 leads_shows c n s (e ∷ es) leads = λ fine. (
   (leads fine).0,
@@ -93,7 +94,7 @@ leads_met c n s (e ∷ es) leads survived within =
     leads_met c n (after_event s e) es ((leads survived.0).1 survived.1) survived.2 within
 
 -- a list shows nothing if its beginning doesn't, and nor does what is behind it
-shows_append : (sorts : List Sort) (s : SimState) (es rest : List Event) → ShowsNone sorts s es → (IsSurvived s es → ShowsNone sorts (stepped_all s es) rest) → ShowsNone sorts s (es ++ rest)
+shows_append : (sorts : List Sort) (s : SimState) (es rest : List Event) → ShowsNoneAtFirst sorts s es → (IsSurvived s es → ShowsNoneAtFirst sorts (stepped_all s es) rest) → ShowsNoneAtFirst sorts s (es ++ rest)
 shows_append sorts s [] rest first second = second tt
 shows_append sorts s (e ∷ es) rest first second = λ fine. (
   (first fine).0,
@@ -145,7 +146,7 @@ met_as c d n s t few written there within =
       written = written (state_at c.kept m.number) m.written;
     }
 
-covers : (c : Claim) (root : SimState) (room : ℕ) → Respects c.form c.ids c.moves c.sorts root room → IsClosed c root room → (list : List (List Event)) (n : ℕ) (s : SimState) → IsReached c.moves root s → (IsWithin c.limit n → IsMet c n s) → All (IsMove c.moves root) list → IfSome c.limit (λ most. n + length list ≤ most) → ShowsNone c.sorts s (list_of list)
+covers : (c : Claim) (root : SimState) (room : ℕ) → Respects c.form c.ids c.moves c.sorts root room → IsClosed c root room → (list : List (List Event)) (n : ℕ) (s : SimState) → IsReached c.moves root s → (IsWithin c.limit n → IsMet c n s) → All (IsMove c.moves root) list → IfSome c.limit (λ most. n + length list ≤ most) → ShowsNoneAtFirst c.sorts s (list_of list)
 covers c root room respects closed [] n s reached met moves few = tt
 covers c root room respects closed (es ∷ list) n s reached met moves few =
     let within : IsWithin c.limit n = within_more c.limit n (length list) few in
@@ -167,11 +168,16 @@ covers c root room respects closed (es ∷ list) n s reached met moves few =
     (All-tail (IsMove c.moves root) es list moves)
     (one_came c.limit n (length list) few))
 
--- from the first state on
-pub closed_tables_cover : ClosedTablesCover
-closed_tables_cover c root room respects closed list moves few =
+-- from the first state on, as far as events are accepted
+covered : (c : Claim) (root : SimState) (room : ℕ) → Respects c.form c.ids c.moves c.sorts root room → IsClosed c root room → NoneAtFirst c.moves c.limit c.sorts root
+covered c root room respects closed list moves few =
     covers c root room respects closed list 0 root (reached_first c.moves root closed.force) closed.first moves
     (none_came c.limit (length list) few)
+
+-- and past those that are refused
+pub closed_tables_cover : ClosedTablesCover
+closed_tables_cover c root room respects closed =
+    none_past c.moves c.limit c.sorts root (covered c root room respects closed)
 
 -- ---- lists of events
 

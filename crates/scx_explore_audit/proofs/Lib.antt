@@ -1,4 +1,6 @@
 mod Covered
 mod Going
+mod Numbered
 mod Passing
 mod Settled
+mod Skipping

@@ -9,7 +9,7 @@ use Rattle.scx_explore_path.specs.Path.{PathState, machine_of, went_back, went_o
 use Rattle.scx_explore_audit.specs.declared.along.Went.TheVariants.{There, Over}
 use Rattle.scx_explore_audit.specs.declared.table.Moves.{Moves}
 use Rattle.scx_explore_audit.specs.declared.table.Moves.TheVariants.{Events, Milliseconds}
-use Rattle.scx_explore_audit.specs.Claims.{IsTried, AreFree, is_in, of_tasks, ticks, millisecond, IsMillisecond, IsMove}
+use Rattle.scx_explore_audit.specs.Claims.{IsTried, AreFree, TaskSet, of_tasks, ticks, millisecond, IsMillisecond, IsMove}
 use Rattle.scx_explore_audit.specs.Closed.{Claim, IsMet, IsWithin, LeadsBack}
 use Rattle.scx_explore_audit.specs.Steps.{Comes, IsSeen, from_wake, from_tick, from_sleep}
 use Rattle.scx_explore_audit.proofs.Going.{machine_behind, there_and_back, went_root}
@@ -62,15 +62,15 @@ leads_same c n p q es is back = subst (λ (x : PathState). LeadsBack c n (machin
 -- ---- what is left of a millisecond
 
 -- a task's turn: it is one of the set or isn't
-either : (c : Claim) (d : ℕ) (s : SimState) (event : ℕ → Event) (set t n : ℕ) (rest : List Event) → LeadsBack c d s (of_tasks event set (suc t) n ++ rest) → LeadsBack c d s (event t ∷ (of_tasks event set (suc t) n ++ rest)) → LeadsBack c d s (of_tasks event set t (suc n) ++ rest)
-either c d s event set t n rest off on = go (is_in set t)
+either : (c : Claim) (d : ℕ) (s : SimState) (event : ℕ → Event) (set : TaskSet) (t n : ℕ) (rest : List Event) → LeadsBack c d s (of_tasks event set (suc t) n ++ rest) → LeadsBack c d s (event t ∷ (of_tasks event set (suc t) n ++ rest)) → LeadsBack c d s (of_tasks event set t (suc n) ++ rest)
+either c d s event set t n rest off on = go (set t)
   where
     go : (b : Bool) → LeadsBack c d s (((if b then event t ∷ [] else []) ++ of_tasks event set (suc t) n) ++ rest)
     go true = on
     go false = off
 
 -- so it is of those from that task on
-pub turn : (c : Claim) (d : ℕ) (s : SimState) (event : ℕ → Event) (set t n : ℕ) (rest : List Event) → t < n → LeadsBack c d s (of_tasks event set (t + 1) (n - (t + 1)) ++ rest) → LeadsBack c d s (event t ∷ (of_tasks event set (t + 1) (n - (t + 1)) ++ rest)) → LeadsBack c d s (of_tasks event set t (n - t) ++ rest)
+pub turn : (c : Claim) (d : ℕ) (s : SimState) (event : ℕ → Event) (set : TaskSet) (t n : ℕ) (rest : List Event) → t < n → LeadsBack c d s (of_tasks event set (t + 1) (n - (t + 1)) ++ rest) → LeadsBack c d s (event t ∷ (of_tasks event set (t + 1) (n - (t + 1)) ++ rest)) → LeadsBack c d s (of_tasks event set t (n - t) ++ rest)
 turn c d s event set t n rest few off on =
     let next : t + 1 ≡ suc t = omega arith in
     let left : suc (n - (t + 1)) ≡ n - t = omega (arith, few) in
@@ -80,7 +80,7 @@ turn c d s event set t n rest few off on =
     (subst (λ (u : ℕ). LeadsBack c d s (event t ∷ (of_tasks event set u (n - (t + 1)) ++ rest))) next on))
 
 -- behind the last task
-pub past : (c : Claim) (d : ℕ) (s : SimState) (event : ℕ → Event) (set t n : ℕ) (rest : List Event) → n ≤ t → LeadsBack c d s rest → LeadsBack c d s (of_tasks event set t (n - t) ++ rest)
+pub past : (c : Claim) (d : ℕ) (s : SimState) (event : ℕ → Event) (set : TaskSet) (t n : ℕ) (rest : List Event) → n ≤ t → LeadsBack c d s rest → LeadsBack c d s (of_tasks event set t (n - t) ++ rest)
 past c d s event set t n rest many back =
     let left : 0 ≡ n - t = omega (arith, many) in
     subst (λ (k : ℕ). LeadsBack c d s (of_tasks event set t k ++ rest)) left back
@@ -107,51 +107,51 @@ root_of sorts p o q e same comes =
     ap (λ (x : PathState). x.root) comes.2 ∙ (went_root o e ∙ ap (λ (x : PathState). x.root) same)
 
 -- a task that has its turn does the event or doesn't
-task_there : (c : Claim) (d : ℕ) (p o q : PathState) (event : ℕ → Event) (set t n : ℕ) (rest : List Event) → t < n → o ≡ p → LeadsBack c d (machine_of p) (of_tasks event set (t + 1) (n - (t + 1)) ++ rest) → Comes There c.sorts (event t) o q → LeadsBack c d (machine_of q) (of_tasks event set (t + 1) (n - (t + 1)) ++ rest) → LeadsBack c d (machine_of p) (of_tasks event set t (n - t) ++ rest)
+task_there : (c : Claim) (d : ℕ) (p o q : PathState) (event : ℕ → Event) (set : TaskSet) (t n : ℕ) (rest : List Event) → t < n → o ≡ p → LeadsBack c d (machine_of p) (of_tasks event set (t + 1) (n - (t + 1)) ++ rest) → Comes There c.sorts (event t) o q → LeadsBack c d (machine_of q) (of_tasks event set (t + 1) (n - (t + 1)) ++ rest) → LeadsBack c d (machine_of p) (of_tasks event set t (n - t) ++ rest)
 task_there c d p o q event set t n rest few same off comes on =
     let left : List Event = of_tasks event set (t + 1) (n - (t + 1)) ++ rest in
     turn c d (machine_of p) event set t n rest few off (leads_same c d p o (event t ∷ left) same (leads_there c d o q (event t) left comes on))
 
 -- the same where no list goes on behind it
-task_over : (c : Claim) (d : ℕ) (p o q : PathState) (event : ℕ → Event) (set t n : ℕ) (rest : List Event) → t < n → o ≡ p → LeadsBack c d (machine_of p) (of_tasks event set (t + 1) (n - (t + 1)) ++ rest) → Comes Over c.sorts (event t) o q → LeadsBack c d (machine_of p) (of_tasks event set t (n - t) ++ rest)
+task_over : (c : Claim) (d : ℕ) (p o q : PathState) (event : ℕ → Event) (set : TaskSet) (t n : ℕ) (rest : List Event) → t < n → o ≡ p → LeadsBack c d (machine_of p) (of_tasks event set (t + 1) (n - (t + 1)) ++ rest) → Comes Over c.sorts (event t) o q → LeadsBack c d (machine_of p) (of_tasks event set t (n - t) ++ rest)
 task_over c d p o q event set t n rest few same off comes =
     let left : List Event = of_tasks event set (t + 1) (n - (t + 1)) ++ rest in
     turn c d (machine_of p) event set t n rest few off (leads_same c d p o (event t ∷ left) same (leads_over c d o q (event t) left comes))
 
 -- that one wakes, or sleeps on
-pub wake_there : (c : Claim) (d : ℕ) (p o q : PathState) (t : ℕ) → t < length p.root.state.world.tasks → o ≡ p → ((wakes sleeps : ℕ) → LeadsBack c d (machine_of p) (from_wake p.root (t + 1) wakes sleeps)) → Comes There c.sorts (Wake t) o q → ((wakes sleeps : ℕ) → LeadsBack c d (machine_of q) (from_wake q.root (t + 1) wakes sleeps)) → (wakes sleeps : ℕ) → LeadsBack c d (machine_of p) (from_wake p.root t wakes sleeps)
+pub wake_there : (c : Claim) (d : ℕ) (p o q : PathState) (t : ℕ) → t < length p.root.state.world.tasks → o ≡ p → ((wakes sleeps : TaskSet) → LeadsBack c d (machine_of p) (from_wake p.root (t + 1) wakes sleeps)) → Comes There c.sorts (Wake t) o q → ((wakes sleeps : TaskSet) → LeadsBack c d (machine_of q) (from_wake q.root (t + 1) wakes sleeps)) → (wakes sleeps : TaskSet) → LeadsBack c d (machine_of p) (from_wake p.root t wakes sleeps)
 wake_there c d p o q t few same off comes on wakes sleeps =
     task_there c d p o q (λ u. Wake u) wakes t (length p.root.state.world.tasks) (from_tick p.root 0 sleeps) few same (off wakes sleeps) comes
     (subst (λ (r : SimState). LeadsBack c d (machine_of q) (from_wake r (t + 1) wakes sleeps)) (root_of c.sorts p o q (Wake t) same comes) (on wakes sleeps))
 
 -- where no list goes on behind its wake
-pub wake_over : (c : Claim) (d : ℕ) (p o q : PathState) (t : ℕ) → t < length p.root.state.world.tasks → o ≡ p → ((wakes sleeps : ℕ) → LeadsBack c d (machine_of p) (from_wake p.root (t + 1) wakes sleeps)) → Comes Over c.sorts (Wake t) o q → (wakes sleeps : ℕ) → LeadsBack c d (machine_of p) (from_wake p.root t wakes sleeps)
+pub wake_over : (c : Claim) (d : ℕ) (p o q : PathState) (t : ℕ) → t < length p.root.state.world.tasks → o ≡ p → ((wakes sleeps : TaskSet) → LeadsBack c d (machine_of p) (from_wake p.root (t + 1) wakes sleeps)) → Comes Over c.sorts (Wake t) o q → (wakes sleeps : TaskSet) → LeadsBack c d (machine_of p) (from_wake p.root t wakes sleeps)
 wake_over c d p o q t few same off comes wakes sleeps =
     task_over c d p o q (λ u. Wake u) wakes t (length p.root.state.world.tasks) (from_tick p.root 0 sleeps) few same (off wakes sleeps) comes
 
 -- behind the last wake
-pub wake_past : (c : Claim) (d : ℕ) (p : PathState) (t : ℕ) → length p.root.state.world.tasks ≤ t → ((sleeps : ℕ) → LeadsBack c d (machine_of p) (from_tick p.root 0 sleeps)) → (wakes sleeps : ℕ) → LeadsBack c d (machine_of p) (from_wake p.root t wakes sleeps)
+pub wake_past : (c : Claim) (d : ℕ) (p : PathState) (t : ℕ) → length p.root.state.world.tasks ≤ t → ((sleeps : TaskSet) → LeadsBack c d (machine_of p) (from_tick p.root 0 sleeps)) → (wakes sleeps : TaskSet) → LeadsBack c d (machine_of p) (from_wake p.root t wakes sleeps)
 wake_past c d p t many back wakes sleeps =
     past c d (machine_of p) (λ u. Wake u) wakes t (length p.root.state.world.tasks) (from_tick p.root 0 sleeps) many (back sleeps)
 
 -- that one goes to sleep, or doesn't
-pub sleep_there : (c : Claim) (d : ℕ) (p o q : PathState) (t : ℕ) → t < length p.root.state.world.tasks → o ≡ p → ((sleeps : ℕ) → LeadsBack c d (machine_of p) (from_sleep p.root (t + 1) sleeps)) → Comes There c.sorts (Sleep t) o q → ((sleeps : ℕ) → LeadsBack c d (machine_of q) (from_sleep q.root (t + 1) sleeps)) → (sleeps : ℕ) → LeadsBack c d (machine_of p) (from_sleep p.root t sleeps)
+pub sleep_there : (c : Claim) (d : ℕ) (p o q : PathState) (t : ℕ) → t < length p.root.state.world.tasks → o ≡ p → ((sleeps : TaskSet) → LeadsBack c d (machine_of p) (from_sleep p.root (t + 1) sleeps)) → Comes There c.sorts (Sleep t) o q → ((sleeps : TaskSet) → LeadsBack c d (machine_of q) (from_sleep q.root (t + 1) sleeps)) → (sleeps : TaskSet) → LeadsBack c d (machine_of p) (from_sleep p.root t sleeps)
 sleep_there c d p o q t few same off comes on sleeps =
     task_there c d p o q (λ u. Sleep u) sleeps t (length p.root.state.world.tasks) (Clock ∷ []) few same (off sleeps) comes
     (subst (λ (r : SimState). LeadsBack c d (machine_of q) (from_sleep r (t + 1) sleeps)) (root_of c.sorts p o q (Sleep t) same comes) (on sleeps))
 
 -- where no list goes on behind its sleep
-pub sleep_over : (c : Claim) (d : ℕ) (p o q : PathState) (t : ℕ) → t < length p.root.state.world.tasks → o ≡ p → ((sleeps : ℕ) → LeadsBack c d (machine_of p) (from_sleep p.root (t + 1) sleeps)) → Comes Over c.sorts (Sleep t) o q → (sleeps : ℕ) → LeadsBack c d (machine_of p) (from_sleep p.root t sleeps)
+pub sleep_over : (c : Claim) (d : ℕ) (p o q : PathState) (t : ℕ) → t < length p.root.state.world.tasks → o ≡ p → ((sleeps : TaskSet) → LeadsBack c d (machine_of p) (from_sleep p.root (t + 1) sleeps)) → Comes Over c.sorts (Sleep t) o q → (sleeps : TaskSet) → LeadsBack c d (machine_of p) (from_sleep p.root t sleeps)
 sleep_over c d p o q t few same off comes sleeps =
     task_over c d p o q (λ u. Sleep u) sleeps t (length p.root.state.world.tasks) (Clock ∷ []) few same (off sleeps) comes
 
 -- behind the last sleep
-pub sleep_past : (c : Claim) (d : ℕ) (p : PathState) (t : ℕ) → length p.root.state.world.tasks ≤ t → LeadsBack c d (machine_of p) (Clock ∷ []) → (sleeps : ℕ) → LeadsBack c d (machine_of p) (from_sleep p.root t sleeps)
+pub sleep_past : (c : Claim) (d : ℕ) (p : PathState) (t : ℕ) → length p.root.state.world.tasks ≤ t → LeadsBack c d (machine_of p) (Clock ∷ []) → (sleeps : TaskSet) → LeadsBack c d (machine_of p) (from_sleep p.root t sleeps)
 sleep_past c d p t many back sleeps =
     past c d (machine_of p) (λ u. Sleep u) sleeps t (length p.root.state.world.tasks) (Clock ∷ []) many back
 
 -- that processor ticks
-pub tick_there : (c : Claim) (d : ℕ) (p q : PathState) (k : ℕ) → k < length p.root.state.world.cpus → Comes There c.sorts (Tick k) p q → ((sleeps : ℕ) → LeadsBack c d (machine_of q) (from_tick q.root (k + 1) sleeps)) → (sleeps : ℕ) → LeadsBack c d (machine_of p) (from_tick p.root k sleeps)
+pub tick_there : (c : Claim) (d : ℕ) (p q : PathState) (k : ℕ) → k < length p.root.state.world.cpus → Comes There c.sorts (Tick k) p q → ((sleeps : TaskSet) → LeadsBack c d (machine_of q) (from_tick q.root (k + 1) sleeps)) → (sleeps : TaskSet) → LeadsBack c d (machine_of p) (from_tick p.root k sleeps)
 tick_there c d p q k few comes on sleeps =
     let n : ℕ = length p.root.state.world.cpus in
     let rest : List Event = from_sleep p.root 0 sleeps in
@@ -159,27 +159,27 @@ tick_there c d p q k few comes on sleeps =
     (subst (λ (r : SimState). LeadsBack c d (machine_of q) (from_tick r (k + 1) sleeps)) (root_of c.sorts p p q (Tick k) refl comes) (on sleeps)))
 
 -- where no list goes on behind its tick
-pub tick_over : (c : Claim) (d : ℕ) (p q : PathState) (k : ℕ) → k < length p.root.state.world.cpus → Comes Over c.sorts (Tick k) p q → (sleeps : ℕ) → LeadsBack c d (machine_of p) (from_tick p.root k sleeps)
+pub tick_over : (c : Claim) (d : ℕ) (p q : PathState) (k : ℕ) → k < length p.root.state.world.cpus → Comes Over c.sorts (Tick k) p q → (sleeps : TaskSet) → LeadsBack c d (machine_of p) (from_tick p.root k sleeps)
 tick_over c d p q k few comes sleeps =
     let n : ℕ = length p.root.state.world.cpus in
     let rest : List Event = from_sleep p.root 0 sleeps in
     tick_turn c d (machine_of p) k n rest few (leads_over c d p q (Tick k) (ticks (k + 1) (n - (k + 1)) ++ rest) comes)
 
 -- behind the last tick
-pub tick_behind : (c : Claim) (d : ℕ) (p : PathState) (k : ℕ) → length p.root.state.world.cpus ≤ k → ((sleeps : ℕ) → LeadsBack c d (machine_of p) (from_sleep p.root 0 sleeps)) → (sleeps : ℕ) → LeadsBack c d (machine_of p) (from_tick p.root k sleeps)
+pub tick_behind : (c : Claim) (d : ℕ) (p : PathState) (k : ℕ) → length p.root.state.world.cpus ≤ k → ((sleeps : TaskSet) → LeadsBack c d (machine_of p) (from_sleep p.root 0 sleeps)) → (sleeps : TaskSet) → LeadsBack c d (machine_of p) (from_tick p.root k sleeps)
 tick_behind c d p k many back sleeps =
     tick_past c d (machine_of p) k (length p.root.state.world.cpus) (from_sleep p.root 0 sleeps) many (back sleeps)
 
 -- ---- each move
 
 -- where the first task has its turn, all of it is left
-whole : (tasks cpus n k wakes sleeps : ℕ) → n ≡ tasks → k ≡ cpus → of_tasks (λ t. Wake t) wakes 0 n ++ (ticks 0 k ++ (of_tasks (λ t. Sleep t) sleeps 0 n ++ Clock ∷ [])) ≡ millisecond tasks cpus wakes sleeps
+whole : (tasks cpus n k : ℕ) (wakes sleeps : TaskSet) → n ≡ tasks → k ≡ cpus → of_tasks (λ t. Wake t) wakes 0 n ++ (ticks 0 k ++ (of_tasks (λ t. Sleep t) sleeps 0 n ++ Clock ∷ [])) ≡ millisecond tasks cpus wakes sleeps
 whole tasks cpus n k wakes sleeps many some =
     ap (λ (i : ℕ). of_tasks (λ t. Wake t) wakes 0 i ++ (ticks 0 k ++ (of_tasks (λ t. Sleep t) sleeps 0 i ++ Clock ∷ []))) many
     ∙ ap (λ (i : ℕ). of_tasks (λ t. Wake t) wakes 0 tasks ++ (ticks 0 i ++ (of_tasks (λ t. Sleep t) sleeps 0 tasks ++ Clock ∷ []))) some
 
 -- each millisecond leads back
-pub each_millisecond : (c : Claim) (d : ℕ) (m : Moves) (r s : SimState) → m ≡ Milliseconds → ((wakes sleeps : ℕ) → LeadsBack c d s (from_wake r 0 wakes sleeps)) → (es : List Event) → IsMove m r es → LeadsBack c d s es
+pub each_millisecond : (c : Claim) (d : ℕ) (m : Moves) (r s : SimState) → m ≡ Milliseconds → ((wakes sleeps : TaskSet) → LeadsBack c d s (from_wake r 0 wakes sleeps)) → (es : List Event) → IsMove m r es → LeadsBack c d s es
 each_millisecond c d m r s are all es some =
     let move : IsMillisecond (length r.state.world.tasks) (length r.state.world.cpus) es = subst (λ (x : Moves). IsMove x r es) are some in
     let tasks : ℕ = length r.state.world.tasks in

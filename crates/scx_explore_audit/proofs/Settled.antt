@@ -126,3 +126,13 @@ all_taken {X} P xs n past all = subst (λ (ys : List X). All P ys) (take_all n x
 pub told : {E : Type 0} (c : Claim) (root : SimState) (room : ℕ) (r : Result Bool E) → IfOk r (λ b. b ≡ true → IsClosed c root room) → IfOk r (λ b. b ≡ true → Respects c.form c.ids c.moves c.sorts root room → NoneIn c.moves c.limit c.sorts root)
 told c root room (Ok b) shut = λ is respects. closed_tables_cover c root room respects (shut is)
 told c root room (Err e) shut = tt
+
+-- what holds in any case
+pub in_any_case : {E : Type 0} (P : Type 0) (r : Result Bool E) → P → IfOk r (λ b. b ≡ true → P)
+in_any_case P (Ok b) p = λ is. p
+in_any_case P (Err e) p = tt
+
+-- the same machine and room
+pub closed_from : {E : Type 0} (c : Claim) (r s : SimState) (n m : ℕ) (x : Result Bool E) → r ≡ s → n ≡ m → IfOk x (λ b. b ≡ true → IsClosed c r n) → IfOk x (λ b. b ≡ true → IsClosed c s m)
+closed_from c r s n m x root room shut =
+    subst (λ (k : ℕ). IfOk x (λ b. b ≡ true → IsClosed c s k)) room (subst (λ (t : SimState). IfOk x (λ b. b ≡ true → IsClosed c t n)) root shut)

@@ -1,5 +1,5 @@
 -- Which lists of events are spoken of, and what none of them shows.
-use Rattle.std.specs.Prelude.{◌≡◌, ℕ, zero, suc, ◌/◌, ◌%◌, ◌^◌, ◌<◌, ◌==◌, Bool, ⊤, List, [], ◌∷◌, ◌++◌, length, All, None, Some, if◌then◌else◌}
+use Rattle.std.specs.Prelude.{◌≡◌, ℕ, zero, suc, ◌<◌, Bool, ⊤, List, [], ◌∷◌, ◌++◌, length, All, None, Some, is_none, if◌then◌else◌}
 use Rattle.scx_sched_machine.specs.declared.events.Event.{Event}
 use Rattle.scx_sched_machine.specs.declared.events.Event.TheVariants.{Wake, Sleep, Tick, Clock, SetWeight}
 use Rattle.scx_sched.specs.Sim.{SimState, refusal, after_event}
@@ -19,15 +19,15 @@ IsTried r (Tick c) = c < length r.state.world.cpus
 IsTried r Clock = ⊤
 IsTried r (SetWeight g w) = ⊥
 
--- the task is one of a set, in which each has a bit
-abbrev pub is_in : ℕ → ℕ → Bool
-is_in set t = set / 2 ^ t % 2 == 1
+-- a set of tasks, which says of each whether it is in the set
+abbrev pub TaskSet : Type 0
+TaskSet = ℕ → Bool
 
 -- of so many tasks from that one on the event of each that is of the set, by number
-abbrev pub of_tasks : (ℕ → Event) → ℕ → ℕ → ℕ → List Event
+abbrev pub of_tasks : (ℕ → Event) → TaskSet → ℕ → ℕ → List Event
 of_tasks event set t zero = []
 of_tasks event set t (suc n) =
-    (if is_in set t then event t ∷ [] else []) ++ of_tasks event set (suc t) n
+    (if set t then event t ∷ [] else []) ++ of_tasks event set (suc t) n
 
 -- of so many processors from that one on a tick of each, by number
 abbrev pub ticks : ℕ → ℕ → List Event
@@ -36,15 +36,15 @@ ticks c (suc n) = Tick c ∷ ticks (suc c) n
 
 -- a millisecond of so many tasks and processors: those of the one set wake, each processor ticks,
 -- those of the other set go to sleep, and the clock grows
-abbrev pub millisecond : ℕ → ℕ → ℕ → ℕ → List Event
+abbrev pub millisecond : ℕ → ℕ → TaskSet → TaskSet → List Event
 millisecond tasks cpus wakes sleeps =
     of_tasks (λ t. Wake t) wakes 0 tasks
     ++ (ticks 0 cpus ++ (of_tasks (λ t. Sleep t) sleeps 0 tasks ++ Clock ∷ []))
 
 -- the events are a millisecond, with any two sets of tasks
 pub record IsMillisecond (tasks cpus : ℕ) (es : List Event) : Type 0 where
-  pub wakes : ℕ
-  pub sleeps : ℕ
+  pub wakes : TaskSet
+  pub sleeps : TaskSet
   pub list : es ≡ millisecond tasks cpus wakes sleeps
 
 -- of what lists are made: of single events, or of whole milliseconds
@@ -74,10 +74,24 @@ abbrev pub AreFree : List Sort → SimState → Event → Type 0
 AreFree sorts s e = All (λ x. IsFree x s e) sorts
 
 -- as far as the events of the list are accepted and the policy stays in force, none of them shows
--- anything of these sorts
+-- anything of these sorts; behind an event that is refused nothing is said
+abbrev pub ShowsNoneAtFirst : List Sort → SimState → List Event → Type 0
+ShowsNoneAtFirst sorts s [] = ⊤
+ShowsNoneAtFirst sorts s (e ∷ es) =
+    refusal s e ≡ None
+    → AreFree sorts (after_event s e) e
+    × ((after_event s e).state.world.ejected ≡ None → ShowsNoneAtFirst sorts (after_event s e) es)
+
+-- as long as the policy stays in force, no event of the list shows anything of these sorts; one that
+-- is refused shows nothing and changes nothing, and the list goes on
 abbrev pub ShowsNone : List Sort → SimState → List Event → Type 0
 ShowsNone sorts s [] = ⊤
 ShowsNone sorts s (e ∷ es) =
-    refusal s e ≡ None
-    → AreFree sorts (after_event s e) e
+    (refusal s e ≡ None → AreFree sorts (after_event s e) e)
     × ((after_event s e).state.world.ejected ≡ None → ShowsNone sorts (after_event s e) es)
+
+-- the events of the list that are accepted
+abbrev pub accepted_of : SimState → List Event → List Event
+accepted_of s [] = []
+accepted_of s (e ∷ es) =
+    (if is_none (refusal s e) then e ∷ [] else []) ++ accepted_of (after_event s e) es

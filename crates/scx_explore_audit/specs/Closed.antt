@@ -1,15 +1,21 @@
 -- Tables of states that are closed, and what is presumed of their words.
-use Rattle.std.specs.Prelude.{◌≡◌, ℕ, ◌+◌, ◌<◌, ◌≤◌, ⊤, List, [], ◌∷◌, length, slice_index, All, Option, None, Some, IfSome}
+use Rattle.std.specs.Prelude.{◌≡◌, ℕ, ◌+◌, ◌<◌, ◌≤◌, ⊤, true, List, [], ◌∷◌, length, slice_index, All, Option, None, Some, IfSome}
+use Rattle.scx_dsq.specs.Queues.{exists}
 use Rattle.scx_sched_machine.specs.declared.events.Event.{Event}
 use Rattle.scx_sched.specs.Sim.{SimState, refusal, after_event}
 use Rattle.scx_load_driver.specs.Runs.{stepped_all, AreAccepted}
 use Rattle.scx_explore_findings.specs.declared.finding.Sort.{Sort}
 use Rattle.scx_explore_states.specs.declared.form.Form.{Form}
 use Rattle.scx_explore_states.specs.Seen.{Kept, state_at}
+use Rattle.scx_explore_states.specs.Words.{most_queues}
 use Rattle.scx_explore_states.specs.Written.{IsWritten}
 use Rattle.scx_explore_audit.specs.declared.table.Moves.{Moves}
 use Rattle.scx_explore_audit.specs.declared.table.Charted.{Charted}
-use Rattle.scx_explore_audit.specs.Claims.{IsTried, IsMove, AreFree, ShowsNone, list_of}
+use Rattle.scx_explore_audit.specs.Claims.{IsTried, IsMove, AreFree, ShowsNoneAtFirst, list_of}
+
+-- queues of the machine in that state, in any order
+abbrev pub AreQueuesOf : SimState → List ℕ → Type 0
+AreQueuesOf s ids = All (λ id. exists s.state.world.queues id ≡ true) ids
 
 -- what is audited: how states are written, with which numbers of queues, the states that are kept,
 -- the sorts of which none is to be shown, of which moves lists are made, how many a list has at
@@ -43,6 +49,12 @@ depth_at c k = slice_index c.depths k
 abbrev pub IsWithin : Option ℕ → ℕ → Type 0
 IsWithin None n = ⊤
 IsWithin (Some limit) n = n < limit
+
+-- the numbers are of queues of the machine in that state, and they are few enough to be told apart
+-- in the words of a state
+pub record AreNumbersOf (s : SimState) (ids : List ℕ) : Type 0 where
+  pub queues : AreQueuesOf s ids
+  pub few : length ids ≤ most_queues
 
 -- ---- states
 
@@ -81,7 +93,7 @@ pub record IsMatched
     (es : List Event) : Type 0 where
   pub other : List Event
   pub move : IsMove moves root other
-  pub free : ShowsNone sorts t other → ShowsNone sorts s es
+  pub free : ShowsNoneAtFirst sorts t other → ShowsNoneAtFirst sorts s es
   pub there : IsSurvived s es → IsSurvived t other
   pub written :
       (xs : List ℕ)

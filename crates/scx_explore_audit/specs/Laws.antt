@@ -1,14 +1,15 @@
 -- What a table shows that is closed.
-use Rattle.std.specs.Prelude.{ℕ, ◌≤◌, List, length, All, Option, IfSome}
+use Rattle.std.specs.Prelude.{◌≡◌, ℕ, ◌≤◌, List, length, All, Option, None, IfSome}
 use Rattle.scx_sched_machine.specs.declared.events.Event.{Event}
 use Rattle.scx_sched.specs.Sim.{SimState}
 use Rattle.scx_explore_findings.specs.declared.finding.Sort.{Sort}
 use Rattle.scx_explore_audit.specs.declared.table.Moves.{Moves}
 use Rattle.scx_explore_audit.specs.declared.table.Moves.TheVariants.{Events}
-use Rattle.scx_explore_audit.specs.Claims.{IsMove, IsTried, ShowsNone, list_of}
+use Rattle.scx_explore_audit.specs.Claims.{IsMove, IsTried, ShowsNone, ShowsNoneAtFirst, accepted_of, list_of}
 use Rattle.scx_explore_audit.specs.Closed.{Claim, IsClosed, Respects}
 
--- no list of such moves, of any number or of at most so many, shows anything of these sorts
+-- no list of such moves, of any number or of at most so many, shows anything of these sorts,
+-- whichever of its events are refused
 abbrev pub NoneIn : Moves → Option ℕ → List Sort → SimState → Type 0
 NoneIn moves limit sorts root =
     (list : List (List Event))
@@ -23,6 +24,20 @@ ClosedTablesCover =
     → Respects c.form c.ids c.moves c.sorts root room
     → IsClosed c root room
     → NoneIn c.moves c.limit c.sorts root
+
+-- A list shows nothing if the list of its events that are accepted doesn't, and the other way round.
+-- And then it shows nothing as far as its events are accepted.
+pub record ShowsAsAccepted (sorts : List Sort) (s : SimState) (es : List Event) : Type 0 where
+  pub there : ShowsNone sorts s (accepted_of s es) → ShowsNone sorts s es
+  pub back : ShowsNone sorts s es → ShowsNone sorts s (accepted_of s es)
+  pub first : ShowsNone sorts s es → ShowsNoneAtFirst sorts s es
+
+-- so it is of every list, in a state in which the policy is in force
+abbrev pub RefusedEventsShowNothing : Type 0
+RefusedEventsShowNothing =
+    (sorts : List Sort) (s : SimState) (es : List Event)
+    → s.state.world.ejected ≡ None
+    → ShowsAsAccepted sorts s es
 
 -- where lists are made of events, that is said of each list of wakes, sleeps, ticks and the clock
 abbrev pub ListsAreOfEvents : Type 0

@@ -7,7 +7,7 @@ use Rattle.scx_explore_findings.specs.declared.finding.Sort.{Sort}
 use Rattle.scx_explore_path.specs.Path.{PathState, machine_of, went_on}
 use Rattle.scx_explore_audit.specs.declared.along.Went.{Went}
 use Rattle.scx_explore_audit.specs.declared.along.Went.TheVariants.{There, Over, Shows}
-use Rattle.scx_explore_audit.specs.Claims.{AreFree, of_tasks, ticks}
+use Rattle.scx_explore_audit.specs.Claims.{AreFree, TaskSet, of_tasks, ticks}
 
 -- what the answer says of an event that has led to that state
 abbrev pub IsSeen : Went → List Sort → SimState → Event → Type 0
@@ -29,15 +29,15 @@ Comes Over sorts e p q =
 Comes Shows sorts e p q = q ≡ p
 
 -- what is left of a millisecond where the tasks before that one had their turns to go to sleep
-abbrev pub from_sleep : SimState → ℕ → ℕ → List Event
+abbrev pub from_sleep : SimState → ℕ → TaskSet → List Event
 from_sleep r t sleeps =
     of_tasks (λ u. Sleep u) sleeps t (length r.state.world.tasks - t) ++ Clock ∷ []
 
 -- where the processors before that one had their turns to tick
-abbrev pub from_tick : SimState → ℕ → ℕ → List Event
+abbrev pub from_tick : SimState → ℕ → TaskSet → List Event
 from_tick r c sleeps = ticks c (length r.state.world.cpus - c) ++ from_sleep r 0 sleeps
 
 -- where the tasks before that one had their turns to wake
-abbrev pub from_wake : SimState → ℕ → ℕ → ℕ → List Event
+abbrev pub from_wake : SimState → ℕ → TaskSet → TaskSet → List Event
 from_wake r t wakes sleeps =
     of_tasks (λ u. Wake u) wakes t (length r.state.world.tasks - t) ++ from_tick r 0 sleeps

@@ -1,11 +1,12 @@
 ghost use Rattle.std.specs.Prelude.{ℕ, ◌≡◌, ◌<◌, true, length, All, IfOk, None};
 ghost use Rattle.scx_explore_path.specs.Path.{machine_of};
 ghost use Rattle.scx_explore_audit.specs.Claims.{IsTried};
-ghost use Rattle.scx_explore_audit.specs.Closed.{IsClosed, IsMet, IsSettled, IsWithin, Respects, claim_of};
+ghost use Rattle.scx_explore_audit.specs.Closed.{AreNumbersOf, IsClosed, IsMet, IsSettled, IsWithin, Respects, claim_of};
 ghost use Rattle.scx_explore_audit.specs.Laws.{NoneIn};
 ghost use Rattle.scx_explore_audit.specs.Marks.{ArePast};
 
 use crate::depths::{depths_of, marks_of};
+use crate::queues::are_queues;
 use crate::states::{begin, is_done, is_met};
 use crate::table::{Charted, Hand, Table};
 use crate::walking::{come_on, is_in_force};
@@ -27,9 +28,11 @@ pub fn none_in_lists(
     homes: &[u32],
     path: &mut Path,
 ) -> Result<bool, AllocError>
-    // Where it is, no list of such moves shows anything of the sorts, if what the form leaves out of a state changes
-    // nothing.
-    ensures { IfOk result (λ closed. closed ≡ true
+    // Where it is, the numbers are those of queues of the path's machine, and no list of such moves shows anything of
+    // the sorts, if what the form leaves out of a state changes nothing.
+    ensures numbers { IfOk result (λ closed. closed ≡ true
+        → AreNumbersOf path.old.root table.entry.numbers.now) }
+    ensures none { IfOk result (λ closed. closed ≡ true
         → Respects table.entry.form table.entry.numbers.now table.entry.moves
         table.entry.sorts.now path.old.root path.old.room
         → NoneIn table.entry.moves table.entry.limit table.entry.sorts.now path.old.root) }
@@ -39,9 +42,28 @@ pub fn none_in_lists(
         table,
         depths: depths.as_slice(),
     };
-    let closed = is_charted_closed(alloc, charted, homes, path);
+    let closed = is_audited(alloc, charted, homes, path);
     drop(depths);
     closed
+}
+
+/// Whether queues alone have numbers, and the table is closed.
+fn is_audited(
+    alloc: Global,
+    charted: Charted<'_>,
+    homes: &[u32],
+    path: &mut Path,
+) -> Result<bool, AllocError>
+    ensures numbers { IfOk result (λ closed. closed ≡ true
+        → AreNumbersOf path.old.root charted.entry.table.numbers.now) }
+    ensures closed { IfOk result (λ closed. closed ≡ true
+        → IsClosed (claim_of charted.entry) path.old.root path.old.room) }
+{
+    let numbered = are_queues(alloc, charted, path)?;
+    if !numbered {
+        return Ok(false);
+    }
+    is_charted_closed(alloc, charted, homes, path)
 }
 
 /// Whether the table is closed.

@@ -1,9 +1,15 @@
-ghost use Rattle.scx_explore_audit.specs.Laws.{ClosedTablesCover, ListsAreOfEvents};
+ghost use Rattle.scx_explore_audit.specs.Laws.{ClosedTablesCover, ListsAreOfEvents, RefusedEventsShowNothing};
 
 /// Where a table of states is closed, and what its words leave out changes nothing, no list of moves shows what none of
 /// its states shows. The function does nothing: its contract is the law.
 pub fn closed_tables_cover()
     ensures { ClosedTablesCover }
+{}
+
+/// A list of events, some of which are refused, shows what the list of the others shows. The function does nothing: its
+/// contract is the law.
+pub fn refused_events_show_nothing()
+    ensures { RefusedEventsShowNothing }
 {}
 
 /// Where lists are made of events, what is said of lists of moves is said of lists of events. The function does

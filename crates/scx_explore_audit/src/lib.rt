@@ -14,10 +14,11 @@ mod laws;
 mod looking;
 mod milliseconds;
 mod moves;
+mod queues;
 mod states;
 mod table;
 mod walking;
 
 pub use audit::none_in_lists;
-pub use laws::{closed_tables_cover, lists_are_of_events};
+pub use laws::{closed_tables_cover, lists_are_of_events, refused_events_show_nothing};
 pub use table::{Moves, Table};

@@ -1,5 +1,6 @@
-ghost use Rattle.std.specs.Prelude.{◌≡◌, true, ℕ};
+ghost use Rattle.std.specs.Prelude.{◌≡◌, true};
 ghost use Rattle.scx_explore_path.specs.Path.{machine_of};
+ghost use Rattle.scx_explore_audit.specs.Claims.{TaskSet};
 ghost use Rattle.scx_explore_audit.specs.Closed.{LeadsBack, claim_of};
 ghost use Rattle.scx_explore_audit.specs.Steps.{from_wake, from_tick, from_sleep};
 
@@ -20,7 +21,7 @@ pub(crate) fn wakes_lead_back(
     hand: &mut Hand,
 ) -> bool
     ensures same { path.new ≡ path.old }
-    ensures back { result ≡ true → (wakes sleeps : ℕ)
+    ensures back { result ≡ true → (wakes sleeps : TaskSet)
         → LeadsBack (claim_of charted.entry) depth (machine_of path.old)
         (from_wake path.old.root task wakes sleeps) }
 {
@@ -53,7 +54,7 @@ fn ticks_lead_back(
     hand: &mut Hand,
 ) -> bool
     ensures same { path.new ≡ path.old }
-    ensures back { result ≡ true → (sleeps : ℕ)
+    ensures back { result ≡ true → (sleeps : TaskSet)
         → LeadsBack (claim_of charted.entry) depth (machine_of path.old)
         (from_tick path.old.root cpu sleeps) }
 {
@@ -81,7 +82,7 @@ fn sleeps_lead_back(
     hand: &mut Hand,
 ) -> bool
     ensures same { path.new ≡ path.old }
-    ensures back { result ≡ true → (sleeps : ℕ)
+    ensures back { result ≡ true → (sleeps : TaskSet)
         → LeadsBack (claim_of charted.entry) depth (machine_of path.old)
         (from_sleep path.old.root task sleeps) }
 {

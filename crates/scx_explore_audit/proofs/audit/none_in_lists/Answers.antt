@@ -1,5 +1,5 @@
 use Rattle.scx_explore_audit.proofs.Settled.{told}
 use Rattle.scx_explore_audit.proofs.audit.none_in_lists.Goals as goal
 
-pub returns : goal.returns
-returns c = told _ c.args.path.now.root c.args.path.now.room _ c.is_charted_closed-closed.ensures
+pub returns-clause-none : goal.returns-clause-none
+returns-clause-none c = told _ c.args.path.now.root c.args.path.now.room _ c.is_audited-closed.ensures.closed
