@@ -15,7 +15,7 @@ use Rattle.scx_explore_machines.specs.declared.bounds.Mode.TheVariants as mode
 use Rattle.scx_explore_states.specs.declared.form.Form.{Form}
 use Rattle.scx_explore_audit.specs.declared.table.Moves.{Moves}
 use Rattle.scx_explore_audit.specs.declared.table.Moves.TheVariants as moves
-use Rattle.scx_explore_audit.specs.Closed.{Respects}
+use Rattle.scx_explore_audit.specs.Closed.{AreNumbersOf, Respects}
 use Rattle.scx_explore_audit.specs.Laws.{NoneIn}
 use Rattle.scx_explore_workloads.specs.Files.{IsFileOf}
 use Rattle.scx_explore.specs.declared.starts.Starts.{Starts}
@@ -71,12 +71,13 @@ HasNoChanges mode.Events w = w.changes ≡ []
 HasNoChanges mode.Milliseconds w = ⊤
 HasNoChanges mode.Workloads w = ⊤
 
--- with that form and some numbers of queues, no list of such moves, of any number or of at most so
--- many, shows anything of these sorts, if what the form leaves out of a state changes nothing in runs
--- of fewer events than that
+-- with that form and numbers of the machine's queues, no list of such moves, of any number or of at
+-- most so many, shows anything of these sorts, if what the form leaves out of a state changes nothing
+-- in runs of fewer events than that
 abbrev pub IsSureBy : Form → Moves → Option ℕ → List Sort → SimState → ℕ → Type 0
 IsSureBy form moves limit sorts first room =
-    (ids : List ℕ) × (Respects form ids moves sorts first room → NoneIn moves limit sorts first)
+    (ids : List ℕ) × AreNumbersOf first ids
+    × (Respects form ids moves sorts first room → NoneIn moves limit sorts first)
 
 -- the same with the form of the policy's programs, in runs of fewer events than lists within the
 -- bounds may have
