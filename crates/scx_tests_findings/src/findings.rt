@@ -1,15 +1,7 @@
 //! Lists of events, and what they end in.
 
 use crate::machines::{
-    KEEPS,
-    LIMITED,
-    MISSES,
-    PREFERS,
-    TWO_GROUPS,
-    TWO_TASKS,
-    YIELDS,
-    machine,
-    workload,
+    KEEPS, LIMITED, MISSES, PREFERS, TWO_GROUPS, TWO_TASKS, YIELDS, machine, workload,
 };
 use crate::same::expect_same;
 use scx_explore_findings::{Finding, Pair, SORTS, Sort, shows};
