@@ -32,7 +32,7 @@ class Surroundings:
 
     def __init__(self, folder, seed, count, seconds):
         self.folder, self.seed, self.count, self.seconds = folder, seed, count, seconds
-        self.program = Path(os.environ.get("SCXSIM", TOP / "bin/scxsim")).resolve()
+        self.program = Path(os.environ.get("SCXSIM") or TOP / "bin/scxsim").resolve()
         self.environment = os.environ | {"SCXSIM": str(self.program), "PYTHONDONTWRITEBYTECODE": "1"}
         self.is_of_sources = self.run(["bin/hash"])[1] == (TOP / "bin/sources").read_text()
         self.made = {}

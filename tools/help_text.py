@@ -5,7 +5,7 @@ import re
 import subprocess
 from pathlib import Path
 
-PROGRAM = os.environ.get("SCXSIM", Path(__file__).resolve().parent.parent / "bin" / "scxsim")
+PROGRAM = os.environ.get("SCXSIM") or Path(__file__).resolve().parent.parent / "bin" / "scxsim"
 
 
 class Help:

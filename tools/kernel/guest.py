@@ -6,7 +6,7 @@ import subprocess
 from pathlib import Path
 
 HERE = Path(__file__).resolve().parent
-SCXSIM = os.environ.get("SCXSIM", HERE.parents[1] / "scxsim")
+SCXSIM = os.environ.get("SCXSIM") or HERE.parents[1] / "scxsim"
 QEMU = "qemu-system-x86_64"
 PACKAGES = {QEMU: "qemu-system-x86", "gcc": "gcc libc6-dev", "zstd": "zstd"}
 # The guest's clock goes by instructions, so that nothing depends on how busy this machine is. Without cx16, as
