@@ -1,4 +1,4 @@
--- What a cell of the stack keeps, and the order on cells. A cell that knows more written bytes is
+-- Cells of the stack, and the order on them. A cell that knows more written bytes is
 -- covered by one that knows fewer; a stored pointer by one of a kind that covers its kind, and by
 -- a cell that knows nothing.
 use Rattle.std.specs.Prelude.{◌≡◌, ℕ, zero, suc, ◌+◌, ◌<◌, Bool, true, false, ◌&&◌, ◌||◌, nat_le, nat_lt, List, [], ◌∷◌, length, slice_index_or, Option, Some, None, IsTrue}

@@ -1,5 +1,5 @@
--- What an instruction changes of the state before it, on each way that control goes on: little, so
--- that one state can be kept and changed in place.
+-- The change that an instruction makes to the state before it, on each way that control goes on:
+-- little, so that one state can be kept and changed in place.
 use Rattle.std.specs.Prelude.{ℕ, ◌/◌, ◌<◌, ◌≤◌, ◌≡◌, List, [], slice_index_or, Some, None, Result, Ok, Err}
 use Rattle.scx_isa_semantics.specs.Registers.{number}
 use Rattle.scx_abs.specs.declared.faults.Why.{Why}

@@ -1,5 +1,5 @@
--- Checks, one behind another: the first that fails is the refusal, and those behind it
--- aren't looked at.
+-- Checks, one after another: the first that fails is the refusal, and those after it aren't
+-- looked at.
 use Rattle.std.specs.Prelude.{ℕ, ◌+◌, ◌%◌, nat_eq, nat_le, ℤ, List, Option, Some, None, slice_get, Result, Ok, Err, ok_or, if◌then◌else◌}
 use Rattle.scx_isa_semantics.specs.declared.instructions.Operand.{Operand}
 use Rattle.scx_isa_semantics.specs.declared.instructions.Operand.TheVariants as operand

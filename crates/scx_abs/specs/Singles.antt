@@ -1,4 +1,4 @@
--- Which operations read single numbers alone.
+-- Operations that read single numbers alone.
 use Rattle.std.specs.Prelude.{Bool, true, false, ◌&&◌}
 use Rattle.scx_isa_semantics.specs.declared.instructions.Operand.{Operand}
 use Rattle.scx_isa_semantics.specs.declared.instructions.Operand.TheVariants as operand

@@ -1,4 +1,4 @@
--- What an abstract state stands for: the states of a running program whose registers and stack fit
+-- The meaning of an abstract state: the states of a running program whose registers and stack fit
 -- it. A number in a register is a member of its range, and so is the offset of a pointer into an
 -- element; bytes are below 256.
 use Rattle.std.specs.Prelude.{ℕ, ◌+◌, ◌*◌, ◌≡◌, ◌<◌, List, Some, length, IsTrue}

@@ -19,7 +19,7 @@ use crate::offsets::{element_size, offset_within};
 use crate::states::AbsState;
 use scx_abs_ranges::{Numbers, Offsets};
 use scx_isa::{ByteOrder, Extension, Operand, Operation, Register, STACK_SIZE, SwapWidth, Width};
-use scx_isa_arithmetic::{compute, immediate, low, pointer_step, shifted};
+use scx_isa_semantics::{compute, immediate, low, pointer_step, shifted};
 use scx_maps::MapDefs;
 
 /// The kind of a register that is read.
@@ -44,7 +44,7 @@ pub(crate) fn operand_kind(state: &AbsState, width: Width, operand: Operand) -> 
     }
 }
 
-/// What is known of a number that is read.
+/// The numbers of a kind; refused where it isn't a number's.
 fn numbers_of(kind: Kind) -> Result<Numbers, Why>
     ensures { result ≡ numbers_of kind }
 {
@@ -103,7 +103,7 @@ impl AbsState {
         self.compute_other(width, operation, destination, operand, defs)
     }
 
-    /// The same of another register than r10.
+    /// Computes with a destination other than r10.
     #[inline(always)]
     fn compute_other(
         &mut self,
@@ -128,7 +128,7 @@ impl AbsState {
         }
     }
 
-    /// The same of any kinds.
+    /// Computes with operands of any kinds.
     #[inline(always)]
     fn compute_any(
         &mut self,
@@ -200,7 +200,7 @@ impl AbsState {
         }
     }
 
-    /// The same where the destination has a number of these.
+    /// Combines a destination that has one of these numbers with an operand.
     #[inline(always)]
     fn combine_numbers(
         &mut self,
@@ -252,7 +252,7 @@ impl AbsState {
         }
     }
 
-    /// The same of any kinds.
+    /// Combines a destination and an operand of any kinds.
     #[inline(never)]
     fn combine_any(
         &mut self,
@@ -273,7 +273,7 @@ impl AbsState {
     }
 }
 
-/// What is known of an operand that has to be a number.
+/// The numbers of an operand that has to be a number.
 #[inline(always)]
 #[tactic(auto, using(crate::proofs::SingleNumbers::numbers_usable))]
 fn operand_numbers(state: &AbsState, width: Width, operand: Operand) -> Result<Numbers, Why>
@@ -445,7 +445,7 @@ fn in_element(map: u8, offsets: Option<Offsets>) -> Result<Kind, Why>
     }
 }
 
-/// The kind of a pointer that is moved so far.
+/// The kind of a pointer that is moved by that much.
 fn moved_by(kind: Kind, distance: Option<i64>, defs: &MapDefs) -> Result<Kind, Why>
     ensures { result ≡ moved_by defs.now kind distance }
 {
@@ -462,7 +462,7 @@ fn moved_by(kind: Kind, distance: Option<i64>, defs: &MapDefs) -> Result<Kind, W
     }
 }
 
-/// The kind of a pointer into an element that is moved so far.
+/// The kind of a pointer into a map value that is moved by that much.
 fn moved_in_element(
     map: u8,
     offsets: Offsets,

@@ -14,8 +14,8 @@ use scx_isa::{Helper, Parameter, Register, STACK_SIZE, Size};
 use scx_maps::MapDefs;
 use scx_vm::Context;
 
-/// What a call changes: the helper is there, then it may be called here, then each argument is
-/// what it takes.
+/// The change that a call makes. It is checked in this order: the helper exists, it may be called
+/// here, and each argument is of the kind that it takes.
 pub fn called(state: &AbsState, number: i32, context: &Context) -> Result<Change, Why>
     ensures { went_on state.now result
         ≡ call_rule context.now.defs context.now.callback (helper_at number) state.now }
@@ -29,7 +29,7 @@ pub fn called(state: &AbsState, number: i32, context: &Context) -> Result<Change
     call_allowed(state, helper, &context.defs)
 }
 
-/// What the call of a helper changes that may be called.
+/// The change that the call of an allowed helper makes.
 fn call_allowed(state: &AbsState, helper: Helper, defs: &MapDefs) -> Result<Change, Why>
     ensures { went_on state.now result ≡ call_allowed defs.now helper state.now }
 {

@@ -6,7 +6,7 @@ use crate::rules::Next;
 use crate::states::AbsState;
 use scx_isa::Register;
 
-/// What changes of a state's registers.
+/// A change of a state's registers.
 #[derive(Clone, Copy)]
 pub enum Change {
     /// No register gets another kind.
@@ -67,7 +67,7 @@ impl AbsState {
     }
 }
 
-/// What flows on from the state, as two states.
+/// The states that a flow sends on.
 pub(crate) fn next_of(state: &AbsState, flow: &Flow) -> Next
     ensures { result ≡ next_of state.now flow.now }
 {

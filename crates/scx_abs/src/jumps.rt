@@ -15,7 +15,7 @@ use crate::kinds::Kind;
 use crate::states::AbsState;
 use scx_abs_ranges::{Numbers, Offsets};
 use scx_isa::{Comparison, Operand, Register, Width};
-use scx_isa_arithmetic::immediate;
+use scx_isa_semantics::immediate;
 
 /// The constant that a jump compares all 64 bits of a register's number with, if it does: each side has
 /// then the numbers that `Numbers::cut` leaves.
@@ -40,7 +40,7 @@ pub fn constant_compared(
     }
 }
 
-/// What flows on from a conditional jump.
+/// The flow of a conditional jump.
 #[inline(always)]
 pub fn flow_of_jump(
     state: &AbsState,
@@ -59,7 +59,8 @@ pub fn flow_of_jump(
     }
 }
 
-/// Whether a comparison is a test for 0, and whether it jumps where it finds 0.
+/// True or false for a test for 0: it jumps where it finds 0, or where it doesn't. `None` of
+/// another comparison.
 #[inline(always)]
 fn null_test(width: Width, comparison: Comparison, operand: Operand) -> Option<bool>
     ensures { result ≡ null_test width comparison operand }
@@ -71,7 +72,7 @@ fn null_test(width: Width, comparison: Comparison, operand: Operand) -> Option<b
     }
 }
 
-/// What flows on from a comparison of a number of these with an operand of that kind.
+/// The flow of a comparison of one of these numbers with an operand of that kind.
 #[inline(always)]
 fn numbers_compared(
     state: &AbsState,
@@ -90,8 +91,8 @@ fn numbers_compared(
     }
 }
 
-/// What flows on from a comparison with a number of those: a comparison of 64 bits with a single one
-/// tells on each side which the register's are.
+/// The flow of a comparison with one of those numbers: a 64-bit comparison with a single one
+/// refines the register on each side.
 fn sides(
     state: &AbsState,
     width: Width,
@@ -110,8 +111,7 @@ fn sides(
     }
 }
 
-/// What flows on from a 64-bit comparison with the number `c`. A side on which no number is left isn't
-/// followed.
+/// The flow of a 64-bit comparison with `c`. A side that no number takes isn't followed.
 fn sides_of(
     state: &AbsState,
     comparison: Comparison,
@@ -137,7 +137,7 @@ fn sides_of(
     }
 }
 
-/// What changes where the comparison has that answer, if it may have it.
+/// The change where the comparison has that answer, if it may have it.
 fn side(
     state: &AbsState,
     comparison: Comparison,
@@ -155,7 +155,7 @@ fn side(
     }
 }
 
-/// What flows on from a test for 0 of a pointer of that kind.
+/// The flow of a test for 0 of a pointer of that kind.
 #[inline(always)]
 fn null_test_rule(
     state: &AbsState,
@@ -172,7 +172,7 @@ fn null_test_rule(
     }
 }
 
-/// What flows on from a test that jumps at 0, which a pointer that isn't null never is.
+/// The flow of a test that jumps at 0. A pointer that isn't null never does.
 fn jump_at_null(state: &AbsState, register: Register, kind: Kind) -> Flow
     ensures { next_of state.now result
         ≡ flows (Some (if_not_null state.now (number register) kind))
@@ -185,7 +185,7 @@ fn jump_at_null(state: &AbsState, register: Register, kind: Kind) -> Flow
     }
 }
 
-/// What flows on from one that goes on at 0.
+/// The flow of a test that goes on at 0.
 fn go_on_at_null(state: &AbsState, register: Register, kind: Kind) -> Flow
     ensures { next_of state.now result
         ≡ flows (if_null state.now (number register) kind)

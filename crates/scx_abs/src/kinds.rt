@@ -8,10 +8,10 @@ ghost use Rattle.scx_abs.specs.Singles.{is_single_number};
 
 use scx_abs_ranges::{Numbers, Offsets};
 
-/// How many bytes a cell stands for.
+/// The number of bytes in a cell.
 pub const CELL_BYTES: usize = 8;
 
-/// What is known of a register's value.
+/// The kind of a register's value.
 #[derive(Clone, Copy, PartialEq, Eq)]
 pub enum Kind {
     /// Nothing: it may not be read.
@@ -32,7 +32,7 @@ pub enum Kind {
     MapRef(u8),
 }
 
-/// What is known of a pointer that a cell of the stack keeps.
+/// The kind of a pointer that a cell of the stack keeps.
 #[derive(Clone, Copy)]
 pub enum Held {
     /// A pointer to that byte of the stack, 0 to 512.
@@ -49,7 +49,7 @@ pub enum Held {
     MapRef(u8),
 }
 
-/// What is known of eight aligned bytes of the stack.
+/// The kind of eight aligned bytes of the stack.
 #[derive(Clone, Copy)]
 pub enum Cell {
     /// To which of the bytes a number was written, from the lowest on.
@@ -123,7 +123,7 @@ impl Kind {
         }
     }
 
-    /// Whether a join with the other surely leaves it as it is.
+    /// True if a join with the other surely leaves it as it is.
     #[inline(always)]
     #[tactic(auto, using(crate::proofs::Joins::join_same))]
     pub(crate) fn keeps(&self, other: &Kind) -> bool
@@ -135,7 +135,7 @@ impl Kind {
         }
     }
 
-    /// What a cell keeps of a pointer of that kind; none of a number, and none where nothing is known.
+    /// The kind of pointer that a cell keeps; none of a number, and none where nothing is known.
     pub(crate) fn held(self) -> Option<Held>
         ensures { result ≡ held_of self }
     {
@@ -151,7 +151,8 @@ impl Kind {
     }
 }
 
-/// Whether they are the same numbers, or pointers to the same byte of the stack or bytes of an element.
+/// True if they are the same numbers, or pointers to the same byte of the stack or bytes of a map
+/// value.
 #[inline(always)]
 fn are_same(kind: Kind, other: Kind) -> bool
     ensures { result ≡ true → kind ≡ other }
@@ -164,7 +165,7 @@ fn are_same(kind: Kind, other: Kind) -> bool
     }
 }
 
-/// Whether the kind is that of a number of these.
+/// True if the kind is that of a number of these.
 #[inline(always)]
 fn is_number_of(numbers: Numbers, kind: Kind) -> bool
     ensures { result ≡ true → Kind.Num numbers ≡ kind }
@@ -175,7 +176,7 @@ fn is_number_of(numbers: Numbers, kind: Kind) -> bool
     }
 }
 
-/// Whether the kind is that of a pointer to that byte of the stack.
+/// True if the kind is that of a pointer to that byte of the stack.
 #[inline(always)]
 fn is_stack_at(at: u16, kind: Kind) -> bool
     ensures { result ≡ true → Kind.Stack at ≡ kind }
@@ -186,7 +187,7 @@ fn is_stack_at(at: u16, kind: Kind) -> bool
     }
 }
 
-/// Whether the kind is that of a pointer to one of these offsets in an element of that map.
+/// True if the kind is that of a pointer to one of these offsets in a value of that map.
 #[inline(always)]
 fn is_element_at(map: u8, offsets: Offsets, kind: Kind) -> bool
     ensures { result ≡ true → Kind.Elem map offsets ≡ kind }
@@ -337,7 +338,7 @@ fn common(first: [bool; CELL_BYTES], second: [bool; CELL_BYTES]) -> [bool; CELL_
     common
 }
 
-/// The set with so many bytes from one on.
+/// The set with `count` bytes from `first` on.
 #[inline(always)]
 pub(crate) fn marked(set: [bool; CELL_BYTES], first: usize, count: usize) -> [bool; CELL_BYTES]
     requires { first + count ≤ CELL_BYTES }
@@ -353,7 +354,7 @@ pub(crate) fn marked(set: [bool; CELL_BYTES], first: usize, count: usize) -> [bo
     marked
 }
 
-/// Whether so many bytes from one on are in the set.
+/// True if `count` bytes from `first` on are in the set.
 pub(crate) fn all_written(set: [bool; CELL_BYTES], first: usize, count: usize) -> bool
     requires { first + count ≤ CELL_BYTES }
     ensures { result ≡ all_written set first count }

@@ -50,14 +50,14 @@ impl Known {
         })
     }
 
-    /// What is known, without how deep the stack was written.
+    /// The state, without how deep the stack was written.
     pub fn state(&self) -> &AbsState
         ensures { result.now ≡ self.now }
     {
         &self.state
     }
 
-    /// The same once more.
+    /// A copy in memory of its own.
     pub fn copy(&self, alloc: Global) -> Result<Known, AllocError>
         ensures { IfOk result (λ known. known ≡ self.now) }
     {

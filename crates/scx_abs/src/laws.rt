@@ -15,14 +15,14 @@ pub fn rules_are_sound()
     ensures antisymmetric { CoversBothWays }
 {}
 
-/// What `rules_are_sound` says of the rules, for all instructions but calls of helpers and jumps that
-/// test a register for 0. The function does nothing: its contract is the law.
+/// The law `rules_are_sound` for all instructions but calls of helpers and jumps that test a
+/// register for 0. The function does nothing: its contract is the law.
 pub fn plain_rules_are_sound()
     ensures { PlainRulesAreSound }
 {}
 
-/// What `rules_are_sound` says of the rules, for calls of helpers and jumps that test a register for 0.
-/// The function does nothing: its contract is the law.
+/// The law `rules_are_sound` for calls of helpers and jumps that test a register for 0. The
+/// function does nothing: its contract is the law.
 pub fn calls_and_null_tests_are_sound()
     ensures { CallsAndNullTestsAreSound }
 {}
@@ -34,8 +34,9 @@ pub fn states_are_proper()
     ensures rules { RulesKeepProper }
 {}
 
-/// What passes in a state passes in each proper state that it covers, and what flows on is covered
-/// too: no check is stronger where more is known. The function does nothing: its contract is the law.
+/// An instruction that passes in a state passes in each proper state that it covers, and its flow
+/// is covered too: no check is stronger where more is known. The function does nothing: its
+/// contract is the law.
 pub fn rules_are_monotone()
     ensures { RulesAreMonotone }
 {}

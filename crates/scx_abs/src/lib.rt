@@ -1,5 +1,5 @@
-//! What a verifier knows of a program's state before it runs: kinds of registers, cells of the stack,
-//! and what each instruction makes of them.
+//! The verifier's abstract state: kinds of registers, cells of the stack, and the effect of each
+//! instruction on them.
 //!
 //! `start` gives the state in which a callback begins, `transfer` what flows on from an instruction,
 //! or the first of its checks that fails, and `join` the least state that covers two. The rules are

@@ -20,7 +20,7 @@ use crate::offsets::{check_offsets, element_size, offset_for};
 use crate::states::{AbsState, CELLS};
 use scx_abs_ranges::Numbers;
 use scx_isa::{Access, Field, Operand, Register, STACK_SIZE, Size, Width};
-use scx_isa_arithmetic::{immediate, shifted};
+use scx_isa_semantics::{immediate, shifted};
 use scx_maps::MapDefs;
 
 /// The memory that an address means.
@@ -136,7 +136,7 @@ impl AbsState {
         Ok(area)
     }
 
-    /// The same there.
+    /// Stores a value of that kind in an area.
     #[inline(always)]
     fn store_in(&mut self, size: Size, kind: Kind, area: Area) -> Result<(), Why>
         requires { IsAlignedOnStack (size_bytes size) area }

@@ -6,10 +6,10 @@ ghost use Rattle.scx_abs.specs.Checks.{element_size, offset_within, offset_for, 
 use crate::faults::Why;
 use scx_abs_ranges::Offsets;
 use scx_isa::Size;
-use scx_isa_arithmetic::within;
+use scx_isa_semantics::within;
 use scx_maps::MapDefs;
 
-/// How many bytes the elements of a map have; none where the map isn't there.
+/// The size in bytes of a map's values; 0 if there is no such map.
 pub(crate) fn element_size(defs: &MapDefs, map: u8) -> u16
     ensures { result ≡ element_size defs.now map }
 {
@@ -19,14 +19,14 @@ pub(crate) fn element_size(defs: &MapDefs, map: u8) -> u16
     }
 }
 
-/// The offset, if it lies in so many bytes of memory or right behind the last.
+/// The offset, if it lies in that many bytes of memory or right after the last.
 pub(crate) fn offset_within(bytes: u16, at: Option<u64>) -> Result<u16, Why>
     ensures { result ≡ offset_within bytes at }
 {
     within(bytes, at).ok_or(Why::OutOfBounds)
 }
 
-/// The offset, if an access of that size there lies in so many bytes of memory and is aligned.
+/// The offset, if an access of that size there lies in that many bytes of memory and is aligned.
 pub(crate) fn offset_for(bytes: u16, size: Size, at: Option<u64>) -> Result<u16, Why>
     ensures offset { result ≡ offset_for bytes (size_bytes size) at }
     ensures aligned { IfOk result (IsAlignedWithin bytes (size_bytes size)) }
@@ -39,7 +39,7 @@ pub(crate) fn offset_for(bytes: u16, size: Size, at: Option<u64>) -> Result<u16,
     }
 }
 
-/// Checks that an access of that size lies in an element of so many bytes, and is aligned, that
+/// Checks that an access of that size lies in an element of that many bytes, and is aligned, that
 /// distance on from each of the offsets.
 pub(crate) fn check_offsets(
     bytes: u16,

@@ -13,11 +13,11 @@ use crate::kinds::Kind;
 use crate::states::AbsState;
 use scx_abs_ranges::Numbers;
 use scx_isa::{Access, Insn, Operand, Operation, Register, Size, Width};
-use scx_isa_arithmetic::wide_immediate;
+use scx_isa_semantics::wide_immediate;
 use scx_maps::MapDefs;
 use scx_vm::Context;
 
-/// What flows on from an instruction.
+/// The states that an instruction sends on.
 #[derive(Clone, Copy)]
 pub struct Next {
     /// To the next instruction, if control may go there.
@@ -26,9 +26,9 @@ pub struct Next {
     pub jump: Option<AbsState>,
 }
 
-/// What flows on from an instruction in the state, or why it is refused: the first of its checks that
-/// fails. A register that is written is checked first, then the registers that are read, the
-/// destination before the source, then the address, and then the value that is stored.
+/// The states that an instruction sends on from this one, or why it is refused: the first of its
+/// checks that fails. A register that is written is checked first, then the registers that are
+/// read, the destination before the source, then the address, and then the value that is stored.
 pub fn transfer(state: &AbsState, insn: &Insn, context: &Context) -> Result<Next, Why>
     ensures { result ≡ rule context.now.defs context.now.callback insn.now state.now }
 {
@@ -78,7 +78,7 @@ pub fn transfer(state: &AbsState, insn: &Insn, context: &Context) -> Result<Next
     }
 }
 
-/// What flows on from arithmetic.
+/// The states after arithmetic.
 fn computed(
     state: &AbsState,
     width: Width,
@@ -99,7 +99,7 @@ fn computed(
     }
 }
 
-/// What flows on from a load.
+/// The states after a load.
 fn loaded(
     state: &AbsState,
     access: Access,
@@ -118,7 +118,7 @@ fn loaded(
     }
 }
 
-/// What flows on from a store.
+/// The states after a store.
 fn stored(
     state: &AbsState,
     size: Size,
@@ -146,8 +146,8 @@ fn goes_on(state: AbsState) -> Next
     }
 }
 
-/// What changes where the register gets a kind. That r10 is written goes before what is wrong with
-/// the kind.
+/// The change where the register gets a kind. A write of r10 is refused first, then the kind's own
+/// fault.
 #[inline(always)]
 pub fn assigned(
     state: &AbsState,
@@ -162,14 +162,14 @@ pub fn assigned(
     Ok(Change::Register(register, kind?))
 }
 
-/// What flows on where control goes on to the next instruction alone.
+/// The state where control goes on to the next instruction alone.
 fn on(state: &AbsState, change: Result<Change, Why>) -> Result<Next, Why>
     ensures { result ≡ went_on state.now change }
 {
     Ok(next_of(state, &Flow::On(change?)))
 }
 
-/// What flows on, as two states.
+/// The states that a flow sends on, or why it is refused.
 fn followed(state: &AbsState, flow: Result<Flow, Why>) -> Result<Next, Why>
     ensures { result ≡ next_states state.now flow }
 {
@@ -200,7 +200,7 @@ fn check_answer(kind: Kind) -> Result<(), Why>
     }
 }
 
-/// What flows on from the end, which is nothing.
+/// The end sends nothing on.
 fn end(state: &AbsState, context: &Context) -> Result<Next, Why>
     ensures { result ≡ rule context.now.defs context.now.callback Insn.Exit state.now }
 {

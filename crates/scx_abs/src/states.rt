@@ -12,15 +12,15 @@ use scx_abs_ranges::Numbers;
 use scx_isa::{Callback, REGISTERS, Register, STACK_SIZE};
 use scx_isa_semantics::ArgumentKind;
 
-/// How many cells of eight bytes the stack has.
+/// The number of the stack's cells, of eight bytes each.
 pub const CELLS: usize = 64;
 
-/// What is known of registers and stack before an instruction.
+/// The abstract state of registers and stack before an instruction.
 #[derive(Clone, Copy)]
 pub struct AbsState {
     /// The kinds of r0 to r10.
     pub registers: [Kind; REGISTERS],
-    /// What is known of each eight bytes of the stack, from the lowest on.
+    /// The cells of the stack, from the lowest on.
     pub cells: [Cell; CELLS],
 }
 
@@ -93,7 +93,7 @@ impl AbsState {
     }
 }
 
-/// What is known of an argument of a callback; it is unusable where there is none.
+/// The kind of a callback's argument; unusable where there is none.
 fn argument_kind(argument: Option<ArgumentKind>) -> Kind
     ensures { result ≡ argument_kind argument }
 {

@@ -8,5 +8,5 @@ pub mod ResultRanges
 pub mod GrowingResults
 pub mod AllWidths
 pub mod ElementOffsets
-pub mod BuiltRanges
 mod KeptRanges
+pub mod BuiltRanges

@@ -1,4 +1,4 @@
--- What ranges and cuts are for: the order is inclusion of sets, the join the least cover; a cut
+-- The laws of ranges and cuts: the order is inclusion of sets, the join the least cover; a cut
 -- keeps the members that take its side, and more is kept where more was.
 use Rattle.std.specs.Prelude.{ℕ, ◌≡◌, ◌<◌, Bool, true, false, not, Option, Some, None}
 use Rattle.scx_isa_semantics.specs.declared.operations.Width.TheVariants.{Bits64}

@@ -1,4 +1,4 @@
--- What ranges of offsets are for: moves keep each offset and are refused only where one leaves the
+-- The laws of ranges of offsets: moves keep each offset and are refused only where one leaves the
 -- element, an access is tested at each of them, and what passes for more offsets passes for fewer.
 -- An element may have any size.
 use Rattle.std.specs.Prelude.{ℕ, ◌+◌, ◌%◌, ◌≡◌, ◌≤◌, ℤ, true, Option, Some, None, is_some}
@@ -87,12 +87,12 @@ AdvancesAreMonotone =
 
 -- ---- accesses
 
--- so many bytes lie in the element, at that distance from the offset
+-- that many bytes lie in the element, at that distance from the offset
 pub record IsInside (size n : ℕ) (k : ℤ) (at to : ℕ) : Type 0 where
   pub there : at_distance at k ≡ Some to
   pub inside : to + n ≤ size
 
--- so many bytes lie in the element, that distance from each of the offsets
+-- that many bytes lie in the element, that distance from each of the offsets
 abbrev pub AllInside : ℕ → ℕ → Range → ℤ → Type 0
 AllInside size n r k = (at : ℕ) → IsIn at r → (to : ℕ) × IsInside size n k at to
 

@@ -30,12 +30,12 @@ offsets_plus_range size r s =
 
 -- ---- accesses
 
--- so many bytes from the offset on end in the element
+-- that many bytes from the offset on end in the element
 abbrev pub ends_within : ℕ → ℕ → Option ℕ → Bool
 ends_within size n None = false
 ends_within size n (Some at) = nat_le (at + n) size
 
--- whether so many bytes lie in the element, at that distance from each of the offsets
+-- whether that many bytes lie in the element, at that distance from each of the offsets
 abbrev pub are_inside : ℕ → ℕ → Range → ℤ → Bool
 are_inside size n r k = is_some (at_distance r.low k) && ends_within size n (at_distance r.high k)
 

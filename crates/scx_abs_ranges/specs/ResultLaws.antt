@@ -1,4 +1,4 @@
--- What results are for: a result holds every number that the instruction computes of members,
+-- The laws of results: a result holds every number that the instruction computes of members,
 -- is a range, and grows with the ranges that it is made of. Numbers are below 2^64, as
 -- members of ranges are.
 use Rattle.std.specs.Prelude.{ℕ, ◌^◌, ◌<◌}

@@ -1,4 +1,4 @@
--- What is known of the number that an instruction leaves (RFC 9669, sections 4.1, 4.2 and 5).
+-- The range of the number that an instruction leaves (RFC 9669, sections 4.1, 4.2 and 5).
 -- Of single numbers it is the single number that the instruction computes. Of others some 64-bit
 -- arithmetic keeps bounds and multiples; the rest leaves no more than the width.
 use Rattle.std.specs.Prelude.{ℕ, ◌+◌, ◌-◌, ◌*◌, ◌/◌, ◌%◌, ◌^◌, min, max, ◌&&◌, nat_eq, nat_lt, if◌then◌else◌}

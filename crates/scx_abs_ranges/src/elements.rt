@@ -4,8 +4,7 @@ ghost use Rattle.scx_abs_ranges.specs.Ranges.{IsRange};
 ghost use Rattle.scx_abs_ranges.specs.Offsets.{offsets_plus_constant, offsets_plus_range, are_inside, are_aligned};
 
 use crate::ranges::{Range, between, step, trailing};
-use scx_isa_arithmetic::{shifted, within};
-use scx_isa_semantics::Size;
+use scx_isa_semantics::{Size, shifted, within};
 
 /// Ranges of offsets in an element of a map.
 impl Range {
@@ -38,7 +37,7 @@ impl Range {
         }
     }
 
-    /// Whether an access lies in the element at that distance from each of the offsets.
+    /// True if an access at that distance from each of the offsets lies in the element.
     pub(crate) fn are_inside(self, value_size: u16, size: Size, distance: i64) -> bool
         requires range { IsRange self }
         requires small { self.high ≤ 65535 }
@@ -54,7 +53,7 @@ impl Range {
         }
     }
 
-    /// Whether an access is aligned at that distance from each of the offsets.
+    /// True if an access at that distance from each of the offsets is aligned.
     pub(crate) fn are_aligned(self, size: Size, distance: i64) -> bool
         requires range { IsRange self }
         requires small { self.high ≤ 65535 }

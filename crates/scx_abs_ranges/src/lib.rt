@@ -1,6 +1,6 @@
-//! What is known of a 64-bit number, or of an offset in an element of a map, as a set of numbers: the
-//! multiples of 1, 2, 4 or 8 from one number to another. Instructions make such sets of sets, a
-//! comparison with a number cuts them, and where control comes two ways they are joined.
+//! Ranges of 64-bit scalars and of offsets in a map value: the multiples of 1, 2, 4 or 8 from one
+//! number to another. Instructions compute with ranges, a branch refines them, and a join covers
+//! two.
 //!
 //! `Numbers` and `Offsets` are what others use; `Range` is what both are in a contract.
 #![tactic(auto)]

@@ -10,7 +10,7 @@ use crate::steps::Step;
 use scx_isa_semantics::{Access, ByteOrder, Comparison, Extension, Operation, SwapWidth, Width};
 use std::marker::Model;
 
-/// What is known of a 64-bit number: it is one of a range.
+/// The values that a 64-bit scalar may have, as one range.
 ///
 /// In a contract it is that range, and well formed.
 #[derive(Clone, Copy, PartialEq, Eq)]
@@ -78,7 +78,7 @@ impl Numbers {
         }
     }
 
-    /// Whether it is one number alone.
+    /// True if it is one number alone.
     pub fn is_single(self) -> bool
         ensures { result ≡ is_single self }
     {
@@ -117,7 +117,7 @@ impl Numbers {
         }
     }
 
-    /// Whether they are several, each the next of the one before.
+    /// True if they are several, one apart.
     fn is_fine(self) -> bool
         ensures { result ≡ true → self.shift ≡ 0 }
     {
@@ -181,7 +181,7 @@ impl Numbers {
         }
     }
 
-    /// The same of any comparison.
+    /// The numbers for which any comparison with `c` has that answer.
     #[inline(always)]
     fn cut_any(self, comparison: Comparison, answer: bool, c: u64) -> Option<Numbers>
         ensures { result ≡ cut comparison answer c self }
@@ -192,42 +192,42 @@ impl Numbers {
         }
     }
 
-    /// What arithmetic makes of a destination and an operand (RFC 9669, section 4.1).
+    /// The result of arithmetic on a destination and an operand (RFC 9669, section 4.1).
     pub fn computed(self, width: Width, operation: Operation, operand: Numbers) -> Numbers
         ensures { result ≡ computed_at width operation self operand }
     {
         Numbers::of(self.range().computed(width, operation, operand.range()))
     }
 
-    /// What a move makes of its operand (RFC 9669, section 4.1), whatever its destination was.
+    /// The result of a move (RFC 9669, section 4.1).
     pub fn copied(self, width: Width) -> Numbers
         ensures { result ≡ move_range width self }
     {
         Numbers::of(self.range().copied(width))
     }
 
-    /// What negation makes of them (RFC 9669, section 4.1).
+    /// The result of negation (RFC 9669, section 4.1).
     pub fn negated(self, width: Width) -> Numbers
         ensures { result ≡ negated_range width self }
     {
         Numbers::of(self.range().negated(width))
     }
 
-    /// What a move that extends a sign makes of its operand (RFC 9669, section 4.1).
+    /// The result of a move that extends a sign (RFC 9669, section 4.1).
     pub fn extended(self, extension: Extension) -> Numbers
         ensures { result ≡ extended_range extension self }
     {
         Numbers::of(self.range().extended(extension))
     }
 
-    /// What a byte swap makes of them (RFC 9669, section 4.2).
+    /// The result of a byte swap (RFC 9669, section 4.2).
     pub fn byte_swapped(self, order: ByteOrder, width: SwapWidth) -> Numbers
         ensures { result ≡ swapped_range order width self }
     {
         Numbers::of(self.range().byte_swapped(order, width))
     }
 
-    /// What a load of a number gives (RFC 9669, section 5).
+    /// The result of a load of a number (RFC 9669, section 5).
     #[tactic(auto, using(crate::proofs::BuiltRanges::load_range))]
     pub fn loaded(access: Access) -> Numbers
         ensures { result ≡ loaded_range access }

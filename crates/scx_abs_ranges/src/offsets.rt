@@ -10,7 +10,7 @@ use crate::steps::Step;
 use scx_isa_semantics::Size;
 use std::marker::Model;
 
-/// What is known of a pointer's offset in an element of a map: it is one of a range.
+/// The offsets that a pointer into a map value may have, as one range.
 ///
 /// In a contract it is that range, and well formed. A value size and an offset are in bytes.
 #[derive(Clone, Copy, PartialEq, Eq)]
@@ -106,14 +106,14 @@ impl Offsets {
         }
     }
 
-    /// Whether an access lies in the element at that distance from each of the offsets.
+    /// True if an access at that distance from each of the offsets lies in the element.
     pub fn are_inside(self, value_size: u16, size: Size, distance: i64) -> bool
         ensures { result ≡ are_inside value_size (size_bytes size) self distance }
     {
         self.range().are_inside(value_size, size, distance)
     }
 
-    /// Whether an access is aligned at that distance from each of the offsets.
+    /// True if an access at that distance from each of the offsets is aligned.
     pub fn are_aligned(self, size: Size, distance: i64) -> bool
         ensures { result ≡ are_aligned (size_bytes size) self distance }
     {

@@ -3,7 +3,7 @@ ghost use Rattle.scx_abs_ranges.specs.Ranges.{IsRange, trailing, floor, between,
 
 /// The multiples of two to the power of `shift` from `low` to `high`.
 ///
-/// Any three numbers may stand here; those of a `Numbers` or an `Offsets` are well formed.
+/// Any three numbers may be here; those of a `Numbers` or an `Offsets` are well formed.
 #[derive(Clone, Copy, PartialEq, Eq)]
 pub struct Range {
     /// The least member.
@@ -14,7 +14,7 @@ pub struct Range {
     pub shift: u8,
 }
 
-/// How many of the three lowest bits are 0, from the lowest on.
+/// The number of low bits that are 0, at most three.
 pub(crate) fn trailing(n: u64) -> u8
     ensures { result ≡ trailing n }
 {
@@ -76,14 +76,14 @@ impl Range {
         between(n, n, 0)
     }
 
-    /// Whether it holds one number alone.
+    /// True if it holds one number alone.
     pub(crate) fn is_single(self) -> bool
         ensures { result ≡ is_single self }
     {
         self.low == self.high
     }
 
-    /// Whether it holds the number.
+    /// True if it holds the number.
     pub(crate) fn contains(self, n: u64) -> bool
         requires { IsRange self }
         ensures { result ≡ contains n self }

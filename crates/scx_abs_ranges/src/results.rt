@@ -4,8 +4,10 @@ ghost use Rattle.scx_abs_ranges.specs.Results.{sum_range, multiple_range, shifte
 ghost use Rattle.scx_isa_semantics.specs.declared.operations.Width.TheVariants.{Bits32};
 
 use crate::ranges::{Range, between, floor, trailing};
-use scx_isa_arithmetic::{byte_swapped, compute, extended, low, negated};
-use scx_isa_semantics::{Access, ByteOrder, Extension, Operation, SwapWidth, Width};
+use scx_isa_semantics::{
+    Access, ByteOrder, Extension, Operation, SwapWidth, Width, byte_swapped, compute, extended,
+    low, negated,
+};
 
 /// The numbers of 8 bits.
 const BYTES: Range = Range {
@@ -29,7 +31,7 @@ const WORDS: Range = Range {
 };
 
 impl Range {
-    /// What arithmetic makes of a destination and an operand (RFC 9669, section 4.1).
+    /// The result of arithmetic on a destination and an operand (RFC 9669, section 4.1).
     pub(crate) fn computed(self, width: Width, operation: Operation, operand: Range) -> Range
         requires first { IsRange self }
         requires second { IsRange operand }
@@ -41,7 +43,7 @@ impl Range {
         }
     }
 
-    /// What a move makes of its operand (RFC 9669, section 4.1).
+    /// The result of a move (RFC 9669, section 4.1).
     pub(crate) fn copied(self, width: Width) -> Range
         ensures { result ≡ move_range width self }
     {
@@ -51,7 +53,7 @@ impl Range {
         }
     }
 
-    /// What negation makes of it (RFC 9669, section 4.1).
+    /// The result of negation (RFC 9669, section 4.1).
     pub(crate) fn negated(self, width: Width) -> Range
         ensures { result ≡ negated_range width self }
     {
@@ -62,7 +64,7 @@ impl Range {
         }
     }
 
-    /// What a move that extends a sign makes of its operand (RFC 9669, section 4.1).
+    /// The result of a move that extends a sign (RFC 9669, section 4.1).
     pub(crate) fn extended(self, extension: Extension) -> Range
         ensures { result ≡ extended_range extension self }
     {
@@ -73,7 +75,7 @@ impl Range {
         }
     }
 
-    /// What a byte swap makes of it (RFC 9669, section 4.2).
+    /// The result of a byte swap (RFC 9669, section 4.2).
     pub(crate) fn byte_swapped(self, order: ByteOrder, width: SwapWidth) -> Range
         ensures { result ≡ swapped_range order width self }
     {
@@ -84,7 +86,7 @@ impl Range {
         }
     }
 
-    /// What a load of a number gives (RFC 9669, section 5).
+    /// The result of a load of a number (RFC 9669, section 5).
     pub(crate) fn loaded(access: Access) -> Range
         ensures { result ≡ loaded_range access }
     {
@@ -107,7 +109,7 @@ fn widest(width: Width) -> Range
     }
 }
 
-/// What a 32-bit move makes of its operand.
+/// The result of a 32-bit move.
 fn copied32(range: Range) -> Range
     ensures { result ≡ move_range Bits32 range }
 {
@@ -118,7 +120,7 @@ fn copied32(range: Range) -> Range
     }
 }
 
-/// What 32-bit arithmetic makes of two ranges.
+/// The result of 32-bit arithmetic.
 fn computed32(operation: Operation, range: Range, operand: Range) -> Range
     ensures { result ≡ computed_at Bits32 operation range operand }
 {
@@ -129,7 +131,7 @@ fn computed32(operation: Operation, range: Range, operand: Range) -> Range
     }
 }
 
-/// What 64-bit arithmetic makes of two ranges.
+/// The result of 64-bit arithmetic.
 fn computed64(operation: Operation, range: Range, operand: Range) -> Range
     requires first { IsRange range }
     requires second { IsRange operand }
@@ -142,7 +144,7 @@ fn computed64(operation: Operation, range: Range, operand: Range) -> Range
     }
 }
 
-/// What it makes of two ranges that aren't both single.
+/// The result of 64-bit arithmetic where not both ranges are single.
 fn spread(operation: Operation, range: Range, operand: Range) -> Range
     requires first { IsRange range }
     requires second { IsRange operand }
@@ -156,7 +158,7 @@ fn spread(operation: Operation, range: Range, operand: Range) -> Range
     }
 }
 
-/// What it makes of a range and a single number.
+/// The result of 64-bit arithmetic on a range and a single number.
 fn by_constant(operation: Operation, c: u64, range: Range) -> Range
     requires { IsRange range }
     ensures { result ≡ by_constant operation c range }

@@ -1,7 +1,7 @@
 ghost use Rattle.std.specs.Prelude.{◌≡◌};
 ghost use Rattle.scx_abs_ranges.specs.Steps.{shift_of, step_of};
 
-/// How far a member of a range is from the next one.
+/// The distance from a member of a range to the next one.
 #[derive(Clone, Copy, PartialEq, Eq)]
 pub(crate) enum Step {
     One,

@@ -10,6 +10,6 @@ pub mod InsnsBack
 pub mod ItemsBack
 pub mod LinesBack
 pub mod MeaningBack
-pub mod RoundTrip
 pub mod Standing
+pub mod RoundTrip
 pub mod FirstFaults

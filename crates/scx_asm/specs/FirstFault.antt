@@ -1,6 +1,6 @@
--- The first fault of a text that stands for no program, without saying how it is found: a line that
--- is faulty by itself or behind those before it; where none is, a text without an instruction; and
--- then a jump that has no instruction. Lines count from 1.
+-- The first fault of a text that describes no program, without saying how it is found: a line that
+-- is faulty by itself or after the lines before it; if there is none, a text without an
+-- instruction; and then a jump that has no instruction. Lines count from 1.
 use Rattle.std.specs.Prelude.{◌≡◌, ℕ, suc, ◌+◌, ◌<◌, ◌≤◌, true, false, List, [], ◌∷◌, ◌++◌, map, length, Option, Some, None, Result, Ok, Err}
 use Rattle.std.specs.List.{Contains, IsDistinct, AllByRecursion}
 use Rattle.std.specs.Str.{bytes_eq}
@@ -22,13 +22,13 @@ abbrev pub slots_of : List ItemValue → ℕ
 slots_of [] = 0
 slots_of (l ∷ ls) = slots l + slots_of ls
 
--- no line is faulty by itself or behind those before it
+-- no line is faulty by itself or after the lines before it
 pub record AreFine (ls : List ItemValue) : Type 0 where
   pub once : IsDistinct bytes_eq (names (definitions 0 ls))
   pub fit : AllByRecursion (λ l. fits l ≡ true) ls
   pub within : slots_of ls ≤ MAX_SLOTS
 
--- the fault of what a line says, if it is of the language, behind lines that are fine
+-- the fault of a line, by its item if it is of the language, after lines without a fault
 abbrev pub IsWrong : List ItemValue → Option ItemValue → AsmFault → Type 0
 IsWrong earlier None Syntax = Unit {0}
 IsWrong earlier (Some (DefinesLabel l)) TwiceLabel =
@@ -49,7 +49,7 @@ pub record FailsAt (texts : List (List ℕ)) (fault : AsmFault) (n : ℕ) : Type
   pub fine : AreFine earlier
   pub wrong : IsWrong earlier (read_line text) fault
 
--- the fault of a jump to a label, at a slot, where labels stand for slots
+-- the fault of a jump to a label, at a slot, where labels name slots
 abbrev pub IsLost : Labels → ℕ → ItemValue → AsmFault → Type 0
 IsLost labels s (Jumps j (Label l)) UnknownLabel = (t : ℕ) → Contains labels (l, t) → ⊥
 IsLost labels s (Jumps j (Label l)) OutOfRange =
@@ -75,14 +75,14 @@ pub record IsEmpty (texts : List (List ℕ)) : Type 0 where
   pub fine : AreFine says
   pub none : slots_of says ≡ 0
 
--- what is wrong with a text first, and at which line
+-- the first fault of a text, and its line
 pub data IsFirstFault (text : List ℕ) : AsmFault → ℕ → Type 0 where
   AtLine : (fault : AsmFault) (n : ℕ) → FailsAt (lines text) fault n → IsFirstFault text fault n
   NoInsn : IsEmpty (lines text) → IsFirstFault text Syntax 1
   AtJump : (fault : AsmFault) (n : ℕ) → LosesAt (lines text) fault n → IsFirstFault text fault n
 
--- What an answer says of the text: that it stands for the program, or that it has the fault first
--- and stands for no program.
+-- The statement of an answer: the text describes the program, or it has this first fault
+-- and describes no program.
 abbrev pub Answers : List ℕ → Result Code AsmError → Type 0
 Answers text (Ok code) = StandsFor text code
 Answers text (Err (Refused fault line)) =

@@ -19,7 +19,7 @@ pub record UnresolvedLine : Type 0 where
   pub slot : ℕ
   pub says : ItemValue
 
--- what is known of a text: how many slots it takes so far, its labels and its instructions
+-- the state of the first pass: the slots taken so far, the labels and the instructions
 pub record FirstPassState : Type 0 where
   pub slots : ℕ
   pub labels : Labels
@@ -44,7 +44,7 @@ with_label p l =
     if is_some (find l p.labels) then Err TwiceLabel
     else Ok (record p { labels = p.labels ++ (l, p.slots) ∷ [] })
 
--- the first pass with a line's instruction more; a fault if a number doesn't fit or no slot is left
+-- the first pass with a line's instruction more; a fault if a number doesn't fit or no slot remains
 abbrev pub with_unresolved : ℕ → FirstPassState → ItemValue → Result FirstPassState AsmFault
 with_unresolved n p l =
     if fits l

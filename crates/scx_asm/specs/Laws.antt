@@ -20,6 +20,6 @@ AssemblesBack =
     → IsProgram code → Gives (λ program. program) answer (read_text (program_text code))
     → (answer ≡ Ok code) ⊎ (answer ≡ Err OutOfMemory)
 
--- The program that a text stands for is read, so it stands for no other.
+-- The program that a text describes is read, so it describes no other.
 abbrev pub ReadsWhatStands : Type 0
 ReadsWhatStands = (text : List ℕ) (code : Code) → StandsFor text code → read_text text ≡ Ok code

@@ -1,4 +1,4 @@
--- What a first pass in memory stands for.
+-- The result of a first pass as definitions see it, from its form in memory.
 use Rattle.std.specs.Prelude.{ℕ, List, map}
 use Rattle.std.specs.Borrow.{Bor}
 use Rattle.scx_asm.specs.declared.scanning.FirstPass.{FirstPass}

@@ -1,5 +1,5 @@
 -- The canonical text of a program: that of its instructions in order, each with a line
--- feed behind it.
+-- feed after it.
 use Rattle.std.specs.Prelude.{ℕ, List, [], ◌++◌, codes, Option, Some, None}
 use Rattle.std.specs.List.{flat_map}
 use Rattle.scx_isa_semantics.specs.declared.instructions.Insn.{Insn}

@@ -1,4 +1,4 @@
--- The program that a text stands for, or its first fault: the first pass lays the text out,
+-- The program that a text describes, or its first fault: the first pass lays the text out,
 -- and the second one resolves instruction by instruction. A text without an instruction is
 -- faulty at its first line.
 use Rattle.std.specs.Prelude.{ℕ, nat_eq, List, [], ◌∷◌, Some, None, Result, Ok, Err, if◌then◌else◌}
@@ -24,7 +24,7 @@ second_pass labels (d ∷ ds) = do
 abbrev pub insns_of : FirstPassState → Result (List Insn) (AsmFault × ℕ)
 insns_of p = if nat_eq p.slots 0 then Err (Syntax, 1) else second_pass p.labels p.unresolved
 
--- the instructions that a text stands for
+-- the instructions that a text describes
 abbrev pub read_insns : List ℕ → Result (List Insn) (AsmFault × ℕ)
 read_insns text = first_pass 1 nothing_read (lines text) >>= insns_of
 
@@ -36,6 +36,6 @@ insn_occupants i = if is_wide i then (Some i ∷ None ∷ []) else (Some i ∷ [
 abbrev pub code_of : List Insn → Code
 code_of insns = flat_map insn_occupants insns
 
--- the program that a text stands for, or its first fault and the line of that
+-- the program that a text describes, or its first fault and the line of that
 abbrev pub read_text : List ℕ → Result Code (AsmFault × ℕ)
 read_text text = read_insns text >>= λ insns. Ok (code_of insns)

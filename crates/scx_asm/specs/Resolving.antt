@@ -1,5 +1,5 @@
--- The instruction that a line stands for: its numbers have to fit their fields (RFC 9669, section
--- 3), and a label stands for the distance to its slot from the slot behind the jump.
+-- The instruction of a line: its numbers have to fit their fields (RFC 9669, section
+-- 3), and a label is the offset to its slot from the slot after the jump.
 use Rattle.std.specs.Prelude.{ℕ, ◌+◌, ◌-◌, ◌/◌, ◌%◌, ◌^◌, ℤ, pos, negsuc, neg_ℤ, ◌-ℤ◌, Bool, true, nat_lt, is_some, List, [], ◌∷◌, Option, Some, None, Result, Err, ok_or, if◌then◌else◌}
 use Rattle.std.specs.Str.{bytes_eq}
 use Rattle.std.specs.Int.{w32, cast_signed}
@@ -88,7 +88,7 @@ jump_of jump.GotoLong z = wide z >>= λ o. Some (insn.GotoLong o)
 abbrev pub distant : Jump → Literal → Option Insn
 distant j n = immediate n >>= jump_of j
 
--- whether the numbers that the line writes fit their fields
+-- true if the numbers that the line writes fit their fields
 abbrev pub fits : ItemValue → Bool
 fits (Says s) = is_some (insn_of s)
 fits (Jumps j (Distance n)) = is_some (distant j n)
@@ -114,7 +114,7 @@ unfoldable pub find : List ℕ → Labels → Option ℕ
 find l [] = None
 find l (e ∷ es) = if bytes_eq l e.0 then Some e.1 else find l es
 
--- the distance from the slot behind a jump
+-- the offset from the slot after a jump
 abbrev pub distance : ℕ → ℕ → ℤ
 distance slot target = pos target -ℤ pos (slot + 1)
 
@@ -128,7 +128,7 @@ to_label labels slot j l =
     either (find l labels) (λ target. or_out_of_range (jump_of j (distance slot target)))
     (Err UnknownLabel)
 
--- the instruction that the line stands for at a slot; a line without one is out of range
+-- the instruction of the line at a slot; a line without one is out of range
 abbrev pub insn_for : Labels → ℕ → ItemValue → Result Insn AsmFault
 insn_for labels slot (Says s) = or_out_of_range (insn_of s)
 insn_for labels slot (Jumps j (Distance n)) = or_out_of_range (distant j n)

@@ -1,4 +1,4 @@
--- What it means that a text stands for a program, whatever reads it: each of its lines is of the
+-- A text describes a program, whatever reads it, if each of its lines is of the
 -- language, no label is defined twice, each instruction is the one that its line says, and a jump
 -- to a label has the label's slot as its target.
 use Rattle.std.specs.Prelude.{◌≡◌, ℕ, ◌+◌, ◌<◌, ◌≤◌, ℤ, List, [], ◌∷◌, ◌++◌, map, length, Some}
@@ -51,7 +51,7 @@ AreSaid labels s (l ∷ ls) [] = ⊥
 AreSaid labels s (l ∷ ls) (i ∷ insns) =
     IsSaid labels s l i × AreSaid labels (s + slots l) ls insns
 
--- the text stands for the program
+-- the text describes the program
 pub record StandsFor (text : List ℕ) (code : Code) : Type 0 where
   pub says : List ItemValue
   pub insns : List Insn

@@ -34,7 +34,7 @@ fn jumped_to_label<'a>(
     }
 }
 
-/// The instruction that an unresolved line stands for, or its fault.
+/// The instruction of an unresolved line, or its fault.
 fn insn_at<'a>(
     labels: &IndexMap<&'a [u8], u16>,
     unresolved: &Unresolved<'a>,
@@ -81,7 +81,7 @@ fn insns_of(alloc: Global, pass: &FirstPass<'_>) -> Result<Vec<Insn>, AsmError>
     second_pass(alloc, pass)
 }
 
-/// The instructions that the text stands for.
+/// The instructions of the text.
 #[tactic(auto, using(crate::proofs::Written::fails_first))]
 fn instructions(alloc: Global, text: &str) -> Result<Vec<Insn>, AsmError>
     ensures { Gives (λ insns. insns.items) result (read_insns text.now) }
@@ -119,7 +119,7 @@ fn program_of(alloc: Global, insns: &[Insn]) -> Result<Program, AsmError>
     }
 }
 
-/// Reads the program that the text stands for.
+/// Reads the program that the text describes.
 ///
 /// The first faulty line is refused: by a first pass over all lines, which looks for all faults but
 /// those of labels that jumps go to, and then by a second one, which looks for those.

@@ -5,9 +5,9 @@ ghost use Rattle.scx_asm.specs.Faults.{asm_number, asm_name};
 use std::alloc::{AllocError, AllocFailed};
 use thiserror::Error;
 
-/// What is wrong with a text that stands for no program, in the order of the numbers.
+/// The faults of a text that describes no program, in the order of their numbers.
 ///
-/// A first pass over the lines looks for all but labels that are missing and distances to labels; a
+/// A first pass over the lines looks for all but missing labels and offsets to labels; a
 /// second pass looks for those.
 #[derive(Clone, Copy, Debug, PartialEq, Eq)]
 pub enum AsmFault {
@@ -26,7 +26,7 @@ pub enum AsmFault {
 /// Why `assemble` gave no program: the first fault and its line, from 1, or want of memory.
 #[derive(Clone, Copy, Debug, PartialEq, Eq, Error)]
 pub enum AsmError {
-    /// The text stands for no program, by that fault.
+    /// The text describes no program, by this fault.
     #[error("asm {} {} at {line}", fault.number(), fault.name())]
     Refused { fault: AsmFault, line: usize },
     /// There was no memory for the labels, the lines or the program.

@@ -104,7 +104,7 @@ fn call_of(helper: Literal) -> Option<Insn>
     Some(Insn::Call(immediate_of(helper)?))
 }
 
-/// The instruction that a statement stands for, if its numbers fit.
+/// The instruction of a statement, if its numbers fit.
 fn insn_of(statement: &Statement) -> Option<Insn>
     ensures { result ≡ insn_of statement.now }
 {
@@ -154,7 +154,7 @@ fn distant(jump: Jump, distance: Literal) -> Option<Insn>
     jump_of(jump, immediate_of(distance)?)
 }
 
-/// Whether the numbers that the line writes fit their fields.
+/// True if the numbers of the line fit their fields.
 pub(crate) fn fits(item: &Item<'_>) -> bool
     ensures { result ≡ fits (item_value item.now) }
 {
@@ -166,7 +166,7 @@ pub(crate) fn fits(item: &Item<'_>) -> bool
     }
 }
 
-/// How many slots the line's instruction takes.
+/// The number of slots that the line's instruction takes.
 pub(crate) fn slots_of(item: &Item<'_>) -> u16
     ensures slots { result ≡ slots (item_value item.now) }
     ensures most { result ≤ 2 }
@@ -178,7 +178,7 @@ pub(crate) fn slots_of(item: &Item<'_>) -> u16
     }
 }
 
-/// The distance from the slot behind a jump.
+/// The offset from the slot after a jump.
 fn distance_to(target: u16, slot: u16) -> i32
     ensures { result ≡ distance slot target }
 {

@@ -21,7 +21,7 @@ pub struct Unresolved<'a> {
     pub item: Item<'a>,
 }
 
-/// What is known of a text.
+/// The result of the first pass over a text.
 #[derive(Drop)]
 pub struct FirstPass<'a> {
     pub slots: u16,

@@ -1,4 +1,4 @@
--- What a line says: an instruction, a label, or nothing. Numbers stand as they are written, so that
+-- The contents of a line: an instruction, a label, or nothing. Numbers are kept as written, so that
 -- a line's form is judged before any number's range.
 use Rattle.std.specs.Prelude.{ℕ, nat_eq, Bool, true, false, List, [], ◌∷◌, codes, Option, Some, None, if◌then◌else◌}
 use Rattle.std.specs.Str.{bytes_eq}
@@ -27,12 +27,12 @@ use Rattle.scx_asm_text.specs.Options.{◌>>=◌, either}
 use Rattle.scx_asm_text.specs.Tokens.{Lexeme, Word, Number, Mark, tokens}
 use Rattle.scx_asm_text.specs.Names.{register_named, register_in, access_named, stored_size, extension_of, order_named}
 
--- where a jump goes: to a label, or so many slots on or back from the next instruction
+-- where a jump goes: to a label, or a number of slots on or back from the next instruction
 pub data Destination : Type 0 where
   Label : List ℕ → Destination
   Distance : Literal → Destination
 
--- what a line says, wherever its label lies
+-- the contents of a line, wherever its label lies
 pub data ItemValue : Type 0 where
   Blank : ItemValue
   DefinesLabel : List ℕ → ItemValue
@@ -44,16 +44,16 @@ abbrev pub destination_of : Target → Destination
 destination_of (target.Label l) = Label l.now
 destination_of (target.Distance n) = Distance n
 
--- what a line of the code says, with its label's bytes
+-- the contents of a line in memory, with its label's bytes
 abbrev pub item_value : Item → ItemValue
 item_value item.Blank = Blank
 item_value (item.Label l) = DefinesLabel l.now
 item_value (item.Statement s) = Says s
 item_value (item.Jump j t) = Jumps j (destination_of t)
 
--- ---- what the front of a line says, and what stands behind it
+-- ---- the front of a line, and the tokens after it
 
--- what was read, with the tokens behind it; none where the front is something else
+-- the value read, with the tokens after it; none where the front is something else
 abbrev pub Read : Type 0 → Type 0
 Read A = Option (A × List Lexeme)
 
@@ -61,25 +61,25 @@ Read A = Option (A × List Lexeme)
 abbrev pub literal : Bool → Option ℕ → Literal
 literal is_negative magnitude = record { is_negative = is_negative; magnitude = magnitude }
 
--- a number; its sign stands directly before it
+-- a number; its sign is directly before it
 abbrev pub read_literal : List Lexeme → Read Literal
 read_literal (Mark Minus ∷ Number true n ∷ ts) = Some (literal true n, ts)
 read_literal (Number touches n ∷ ts) = Some (literal false n, ts)
 read_literal ts = None
 
--- what is added to an address; the sign is a token of its own
+-- the offset of an address; the sign is a token of its own
 abbrev pub read_offset : List Lexeme → Read Literal
 read_offset (Mark Plus ∷ Number touches n ∷ ts) = Some (literal false n, ts)
 read_offset (Mark Minus ∷ Number touches n ∷ ts) = Some (literal true n, ts)
 read_offset ts = None
 
--- how far a jump goes; the number touches its sign
+-- the offset of a jump; the number touches its sign
 abbrev pub read_distance : List Lexeme → Read Literal
 read_distance (Mark Plus ∷ Number true n ∷ ts) = Some (literal false n, ts)
 read_distance (Mark Minus ∷ Number true n ∷ ts) = Some (literal true n, ts)
 read_distance ts = None
 
--- where a jump goes: a word is a label, and a number behind its sign a distance
+-- where a jump goes: a word is a label, and a number after its sign an offset
 abbrev pub read_destination : List Lexeme → Read Destination
 read_destination (Word l ∷ ts) = Some (Label l, ts)
 read_destination ts = read_distance ts >>= λ n. Some (Distance n.0, n.1)
@@ -104,22 +104,22 @@ abbrev pub read_comparison : List Lexeme → Read Comparison
 read_comparison (Mark (Compare c) ∷ ts) = Some (c, ts)
 read_comparison ts = None
 
--- the tokens behind a star; none where none stands at the front
+-- the tokens after a star; none if there is none at the front
 abbrev pub star : List Lexeme → Option (List Lexeme)
 star (Mark Star ∷ ts) = Some ts
 star ts = None
 
--- the tokens behind an opening parenthesis; none where none stands at the front
+-- the tokens after an opening parenthesis; none if there is none at the front
 abbrev pub opening : List Lexeme → Option (List Lexeme)
 opening (Mark Opening ∷ ts) = Some ts
 opening ts = None
 
--- the tokens behind a closing parenthesis; none where none stands at the front
+-- the tokens after a closing parenthesis; none if there is none at the front
 abbrev pub closing : List Lexeme → Option (List Lexeme)
 closing (Mark Closing ∷ ts) = Some ts
 closing ts = None
 
--- what is read in parentheses as memory is named
+-- the word in parentheses that names an access to memory
 abbrev pub read_access : List Lexeme → Read Access
 read_access (Word name ∷ ts) = access_named name >>= λ a. Some (a, ts)
 read_access ts = None
@@ -133,7 +133,7 @@ read_address ts = do
   rest ← closing o.1
   Some ((base.0, o.0), rest)
 
--- memory, behind the star that it begins with
+-- memory, after the star that it begins with
 abbrev pub read_memory_operand : List Lexeme → Read MemoryOperand
 read_memory_operand ts = do
   inner ← opening ts
@@ -145,12 +145,12 @@ read_memory_operand ts = do
 
 -- ---- whole lines
 
--- nothing stands behind it
+-- no token remains after it
 abbrev pub end : List Lexeme → ItemValue → Option ItemValue
 end [] l = Some l
 end ts l = None
 
--- whether two registers are one
+-- true if two registers are one
 abbrev pub same : Register → Register → Bool
 same r s = nat_eq (number r) (number s)
 
@@ -164,7 +164,7 @@ negation w d name ts = do
   r ← register_in w name
   if same r d then end ts (Says (statement.Negate w d)) else None
 
--- `rD = (s8)rS`, behind the parenthesis
+-- `rD = (s8)rS`, after the parenthesis
 abbrev pub sign_extending_move : Width → Register → List Lexeme → Option ItemValue
 sign_extending_move w d ts = do
   a ← read_access ts
@@ -173,7 +173,7 @@ sign_extending_move w d ts = do
   r ← read_register w closed
   end r.1 (Says (statement.SignExtend e d r.0))
 
--- `rD = *(u8 *)(rS + O)`, behind the star
+-- `rD = *(u8 *)(rS + O)`, after the star
 abbrev pub load_line : Width → Register → List Lexeme → Option ItemValue
 load_line Bits32 d ts = None
 load_line Bits64 d ts = do
@@ -197,20 +197,20 @@ byte_swap d name ts = do
 abbrev pub map_load : Register → List Lexeme → Option ItemValue
 map_load d ts = read_literal ts >>= λ n. end n.1 (Says (statement.LoadMapReference d n.0))
 
--- a word behind `rD =` that is no register of that width
+-- a word after `rD =` that is no register of that width
 abbrev pub special : Width → Register → List ℕ → List Lexeme → Option ItemValue
 special Bits32 d name ts = None
 special Bits64 d name ts =
     if bytes_eq name (codes "map") then map_load d ts else byte_swap d name ts
 
--- what stands behind `rD =`, if it is no word
+-- the right side of `rD =`, if it is no word
 abbrev pub behind_equals_no_word : Width → Register → List Lexeme → Option ItemValue
 behind_equals_no_word w d (Mark Minus ∷ Word name ∷ ts) = negation w d name ts
 behind_equals_no_word w d (Mark Opening ∷ ts) = sign_extending_move w d ts
 behind_equals_no_word w d (Mark Star ∷ ts) = load_line w d ts
 behind_equals_no_word w d ts = read_literal ts >>= λ n. load_immediate w d n.0 n.1
 
--- what stands behind `rD =`
+-- the right side of `rD =`
 abbrev pub behind_equals : Width → Register → List Lexeme → Option ItemValue
 behind_equals w d (Word name ∷ ts) =
     either (register_in w name) (λ r. copy w d r ts) (special w d name ts)
@@ -220,18 +220,18 @@ behind_equals w d ts = behind_equals_no_word w d ts
 abbrev pub arithmetic : Width → Operation → Register → List Lexeme → Option ItemValue
 arithmetic w o d ts = read_operand w ts >>= λ x. end x.1 (Says (statement.Binary w o d x.0))
 
--- what stands behind the register that a line begins with
+-- the rest of a line that begins with a register
 abbrev pub behind_register : Width → Register → List Lexeme → Option ItemValue
 behind_register w d (Mark (Assign Move) ∷ ts) = behind_equals w d ts
 behind_register w d (Mark (Assign o) ∷ ts) = arithmetic w o d ts
 behind_register w d ts = None
 
--- the operand behind `=`
+-- the operand after `=`
 abbrev pub read_value : List Lexeme → Read WrittenOperand
 read_value (Mark (Assign Move) ∷ ts) = read_operand Bits64 ts
 read_value ts = None
 
--- `*(u8 *)(rD + O) = rS`, behind the star
+-- `*(u8 *)(rD + O) = rS`, after the star
 abbrev pub store_line : List Lexeme → Option ItemValue
 store_line ts = do
   p ← read_memory_operand ts
@@ -239,19 +239,19 @@ store_line ts = do
   x ← read_value p.1
   end x.1 (Says (statement.Store s p.0.base p.0.offset x.0))
 
--- `goto T` behind a condition
+-- `goto T` after a condition
 abbrev pub read_goto : List Lexeme → Read Destination
 read_goto (Word name ∷ ts) = if bytes_eq name (codes "goto") then read_destination ts else None
 read_goto ts = None
 
--- the comparison of a register, behind its name
+-- the comparison of a register, after its name
 abbrev pub comparison : Width → Register → List Lexeme → Read Jump
 comparison w r ts = do
   c ← read_comparison ts
   x ← read_operand w c.1
   Some (jump.If w c.0 r x.0, x.1)
 
--- `if rD C rS goto T`, behind the `if`
+-- `if rD C rS goto T`, after the `if`
 abbrev pub condition : List Lexeme → Option ItemValue
 condition ts = do
   name ← read_word ts
@@ -260,11 +260,11 @@ condition ts = do
   t ← read_goto j.1
   end t.1 (Jumps j.0 t.0)
 
--- a line that is a jump without a condition, behind `goto` or `gotol`
+-- a line that is a jump without a condition, after `goto` or `gotol`
 abbrev pub jump_to : Jump → List Lexeme → Option ItemValue
 jump_to j ts = read_destination ts >>= λ t. end t.1 (Jumps j t.0)
 
--- `call N`, behind the `call`
+-- `call N`, after the `call`
 abbrev pub helper_call : List Lexeme → Option ItemValue
 helper_call ts = read_literal ts >>= λ n. end n.1 (Says (statement.Call n.0))
 
@@ -282,7 +282,7 @@ abbrev pub statement_of : List ℕ → List Lexeme → Option ItemValue
 statement_of name ts =
     either (register_named name) (λ r. behind_register r.0 r.1 ts) (keyword name ts)
 
--- what a line's tokens say, a blank line without any; none where the language has no such line
+-- the item of a line's tokens, a blank line without any; none where the language has no such line
 abbrev pub item_of : List Lexeme → Option ItemValue
 item_of [] = Some Blank
 item_of (Word l ∷ Mark Colon ∷ ts) = end ts (DefinesLabel l)
@@ -290,6 +290,6 @@ item_of (Word name ∷ ts) = statement_of name ts
 item_of (Mark Star ∷ ts) = store_line ts
 item_of ts = None
 
--- what a line says, or nothing where it isn't of the language
+-- the item of a line, or none if it isn't of the language
 abbrev pub read_line : List ℕ → Option ItemValue
 read_line text = tokens text >>= item_of

@@ -13,7 +13,7 @@ use Rattle.scx_asm_text.specs.Tokens.{Lexeme, Word, Number, Mark, is_in, radix, 
 abbrev pub AllIn : Class → List ℕ → Type 0
 AllIn c text = AllByRecursion (λ b. is_in c b ≡ true) text
 
--- a letter, and letters, digits and underscores behind it
+-- a letter, and letters, digits and underscores after it
 abbrev pub IsWord : List ℕ → Type 0
 IsWord [] = ⊥
 IsWord (b ∷ bs) = (is_ascii_alphabetic b ≡ true) × AllIn class.Word bs
@@ -23,18 +23,18 @@ abbrev pub IsNumeral : Class → Option ℕ → List ℕ → Type 0
 IsNumeral c value digits =
     (0 < length digits) × AllIn c digits × (value ≡ if_64_bits (digits_value (radix c) digits))
 
--- what is left of a text behind `0x`
+-- the rest of a text after `0x`
 abbrev pub IsHexadecimal : Option ℕ → List ℕ → Type 0
 IsHexadecimal value text =
     (digits : List ℕ) × (text ≡ codes "0x" ++ digits) × IsNumeral class.Hexadecimal value digits
 
--- the bytes are that token, wherever they stand
+-- the bytes are that token, wherever they are
 abbrev pub IsToken : Lexeme → List ℕ → Type 0
 IsToken (Mark s) text = text ≡ spelling s
 IsToken (Word w) text = (text ≡ w) × IsWord text
 IsToken (Number touches value) text = IsNumeral class.Decimal value text ⊎ IsHexadecimal value text
 
--- the text begins with no token, or with that one of so many bytes and with no longer one
+-- the text begins with no token, or with that one of that length and with no longer one
 abbrev pub IsLongest : List ℕ → Option (Lexeme × ℕ) → Type 0
 IsLongest text None =
     (t : Lexeme) (front rest : List ℕ) → text ≡ front ++ rest → IsToken t front → ⊥

@@ -20,7 +20,7 @@ use Rattle.scx_isa_semantics.specs.declared.registers.Register.TheVariants.{R10}
 use Rattle.scx_isa_semantics.specs.Registers.{number, register_at}
 use Rattle.scx_asm_text.specs.Options.{◌>>=◌}
 
--- what has that name in a list
+-- the item of a list that has that name
 unfoldable pub first_with_name : {A : Type 0} → (A → List ℕ) → List A → List ℕ → Option A
 first_with_name text [] name = None
 first_with_name text (x ∷ xs) name =
@@ -37,7 +37,7 @@ width_text Bits32 = codes "w"
 abbrev pub register_text : Width → Register → List ℕ
 register_text w r = width_text w ++ decimal (number r)
 
--- how much of a register is taken, by the first byte of its name, `r` or `w`
+-- the width of a register's name, by its first byte, `r` or `w`
 abbrev pub width_named : ℕ → Option Width
 width_named b = if nat_eq b 114 then Some Bits64 else (if nat_eq b 119 then Some Bits32 else None)
 
@@ -47,7 +47,7 @@ register_numbered (d ∷ []) = if is_ascii_digit d then register_at (d - 48) els
 register_numbered (a ∷ b ∷ []) = if nat_eq a 49 && nat_eq b 48 then Some R10 else None
 register_numbered digits = None
 
--- how much of a register a word names, and which; none where it is no register's name
+-- the register that a word names, with its width; none if it is no register's name
 abbrev pub register_named : List ℕ → Option (Width × Register)
 register_named [] = None
 register_named (b ∷ digits) = do
@@ -61,7 +61,7 @@ of_width Bits32 (Bits32, r) = Some r
 of_width Bits64 (Bits64, r) = Some r
 of_width w x = None
 
--- the register that a word names, if it takes so much of it
+-- the register that a word names, if it has that width
 abbrev pub register_in : Width → List ℕ → Option Register
 register_in w name = register_named name >>= of_width w
 
@@ -83,7 +83,7 @@ named_accesses =
     access.Byte ∷ access.HalfWord ∷ access.Word ∷ access.DoubleWord ∷ access.SignedByte
     ∷ access.SignedHalfWord ∷ access.SignedWord ∷ []
 
--- how memory of that name is read; none of any other word
+-- the access that a word names; none for any other word
 abbrev pub access_named : List ℕ → Option Access
 access_named name = first_with_name access_text named_accesses name
 
@@ -121,7 +121,7 @@ extension_access Low32To64 = access.SignedWord
 
 -- ---- byte orders
 
--- the word for a byte swap: its order, and behind that how many bits it keeps
+-- the word for a byte swap: its order, and after that the number of bits that it keeps
 abbrev pub order_text : ByteOrder × SwapWidth → List ℕ
 order_text (Little, order.Bits16) = codes "le16"
 order_text (Little, order.Bits32) = codes "le32"
@@ -141,6 +141,6 @@ orders =
     ∷ (Swapped, order.Bits16) ∷ (Swapped, order.Bits32) ∷ (Swapped, order.Bits64)
     ∷ []
 
--- the byte swap for which the word stands; none of any other word
+-- the byte swap that a word names; none for any other word
 abbrev pub order_named : List ℕ → Option (ByteOrder × SwapWidth)
 order_named name = first_with_name order_text orders name

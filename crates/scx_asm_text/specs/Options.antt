@@ -1,4 +1,5 @@
--- What follows a value that is there; none follows where there is none.
+-- Values that may be missing: what follows takes the value if there is one; else there is none, or
+-- another one in its place.
 use Rattle.std.specs.Prelude.{Option, Some, None}
 
 infixl 10 ◌>>=◌
@@ -6,7 +7,7 @@ abbrev pub ◌>>=◌ : {A B : Type 0} → Option A → (A → Option B) → Opti
 (Some x) >>= f = f x
 None >>= f = None
 
--- what follows a value, or else what stands in its place
+-- what follows a value, or else the other one in its place
 abbrev pub either : {A B : Type 0} → Option A → (A → B) → B → B
 either (Some x) f other = f x
 either None f other = other

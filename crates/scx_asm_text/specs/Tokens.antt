@@ -11,7 +11,7 @@ use Rattle.scx_asm_text.specs.declared.lexer.Token.TheVariants as token
 use Rattle.scx_asm_text.specs.Options.{◌>>=◌, either}
 use Rattle.scx_asm_text.specs.Symbols.{spelling, symbol_at}
 
--- A token, wherever its word lies. A number says whether it touches what stands before it, and has
+-- A token, wherever its word lies. A number says whether it touches the token before it, and has
 -- no value where that is 2^64 or more.
 pub data Lexeme : Type 0 where
   Word : List ℕ → Lexeme
@@ -30,7 +30,7 @@ lexemes ts = map lexeme ts
 
 -- ---- runs of bytes
 
--- a space or a tab, which stand between tokens
+-- a space or a tab, which separate tokens
 abbrev pub is_blank : ℕ → Bool
 is_blank b = nat_eq b 32 || nat_eq b 9
 
@@ -38,13 +38,13 @@ is_blank b = nat_eq b 32 || nat_eq b 9
 abbrev pub is_word : ℕ → Bool
 is_word b = (is_ascii_alphabetic b || is_ascii_digit b) || nat_eq b 95
 
--- whether a byte may stand in a word, in a decimal number or in a hexadecimal one
+-- true if a byte may be in a word, in a decimal number or in a hexadecimal one
 abbrev pub is_in : Class → ℕ → Bool
 is_in class.Word b = is_word b
 is_in class.Decimal b = is_ascii_digit b
 is_in class.Hexadecimal b = is_ascii_hexdigit b
 
--- how many bytes of the class the text begins with
+-- the number of bytes of the class at the front of the text
 unfoldable pub class_length : Class → List ℕ → ℕ
 class_length c [] = 0
 class_length c (b ∷ bs) = if is_in c b then suc (class_length c bs) else 0
@@ -60,7 +60,7 @@ abbrev pub radix : Class → ℕ
 radix class.Hexadecimal = 16
 radix c = 10
 
--- the number whose digits stand behind a prefix of so many bytes, and the length with the prefix
+-- the number whose digits follow a prefix of that length, and the length with the prefix
 abbrev pub digits_at : Bool → Class → ℕ → List ℕ → Lexeme × ℕ
 digits_at touches c prefix text =
     let n = class_length c (drop prefix text) in
@@ -82,7 +82,7 @@ number_lexeme touches text =
 abbrev pub word_at : List ℕ → Lexeme × ℕ
 word_at text = (Word (take (class_length class.Word text) text), class_length class.Word text)
 
--- what a letter or a digit at the front begins, and its length; none of any other byte
+-- the token that a letter or a digit at the front begins, and its length; none for any other byte
 abbrev pub word_or_number : Bool → List ℕ → Option (Lexeme × ℕ)
 word_or_number touches text =
     if is_ascii_alphabetic (slice_index text 0) then Some (word_at text)
@@ -99,7 +99,7 @@ token_at touches text =
 abbrev pub followed_by : Lexeme → Option (List Lexeme) → Option (List Lexeme)
 followed_by t rest = rest >>= λ ts. Some (t ∷ ts)
 
--- The tokens behind so many bytes, where the first of them touches a token or not; 35 is `#`.
+-- The tokens after `skip` bytes, where the first of them touches a token or not; 35 is `#`.
 unfoldable pub tokens_from : Bool → ℕ → List ℕ → Option (List Lexeme)
 tokens_from touches skip [] = Some []
 tokens_from touches (suc skip) (b ∷ bs) = tokens_from touches skip bs

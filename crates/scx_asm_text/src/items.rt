@@ -47,7 +47,7 @@ pub enum Target<'a> {
     Distance(Literal),
 }
 
-/// What a line says.
+/// The contents of a line.
 #[derive(Clone, Copy)]
 pub enum Item<'a> {
     Blank,

@@ -6,7 +6,7 @@ ghost use Rattle.scx_asm_text.specs.Tokens.{lexeme, lexemes, is_blank, is_in, ra
 use crate::symbols::{Symbol, symbol_at};
 use std::alloc::AllocError;
 
-/// Bytes that stand together.
+/// Classes of bytes that form one token.
 #[derive(Clone, Copy)]
 pub enum Class {
     /// Letters, digits and the underscore.
@@ -18,9 +18,9 @@ pub enum Class {
 /// A token of a line.
 #[derive(Clone, Copy)]
 pub enum Token<'a> {
-    /// A letter, and the letters, digits and underscores behind it.
+    /// A letter, and the letters, digits and underscores after it.
     Word(&'a [u8]),
-    /// Whether the number touches the token before it, and its value, if that is below 2^64.
+    /// True if the number touches the token before it, and its value, if that is below 2^64.
     Number(bool, Option<u64>),
     Mark(Symbol),
 }
@@ -48,7 +48,7 @@ impl Class {
     }
 }
 
-/// How many bytes of the class the text begins with.
+/// The number of bytes of the class at the front of the text.
 #[tactic(auto, using(crate::proofs::Runs::run_next, crate::proofs::Runs::run_stop, crate::proofs::Runs::run_end))]
 fn run_of(class: Class, text: &[u8]) -> usize
     ensures run { result ≡ class_length class text.now }
@@ -61,7 +61,7 @@ fn run_of(class: Class, text: &[u8]) -> usize
     count
 }
 
-/// What a digit stands for in a base up to 36; 36 where the byte is no digit.
+/// The value of a digit in a base up to 36; 36 if the byte is no digit.
 fn digit_value_of(byte: u8) -> u64
     ensures value { result ≡ digit_value byte }
     ensures within { result ≤ 36 }
@@ -74,7 +74,7 @@ fn digit_value_of(byte: u8) -> u64
     }
 }
 
-/// The number with one more digit behind it, if it is below 2^64.
+/// The number with one more digit after it, if it is below 2^64.
 fn with_digit(value: u64, radix: u64, digit: u64) -> Option<u64>
     ensures { result ≡ if_64_bits (value * radix + digit) }
 {
@@ -94,7 +94,7 @@ fn numeral_of(radix: u64, digits: &[u8]) -> Option<u64>
     Some(value)
 }
 
-/// The number whose digits, of that class, begin behind a prefix, and where it ends.
+/// The number whose digits, of that class, begin after a prefix, and its end.
 #[tactic(auto, unfolding(crate::specs::Tokens::class_length))]
 fn digits_token(text: &[u8], touches: bool, class: Class, prefix: usize) -> (Token<'_>, usize)
     requires { prefix ≤ length text.now }
@@ -108,7 +108,7 @@ fn digits_token(text: &[u8], touches: bool, class: Class, prefix: usize) -> (Tok
     (Token::Number(touches, value), prefix + count)
 }
 
-/// Whether a hexadecimal number begins here.
+/// True if a hexadecimal number begins here.
 fn is_hexadecimal_at(text: &[u8]) -> bool
     ensures { result ≡ is_hexadecimal text.now }
 {

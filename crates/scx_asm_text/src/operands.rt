@@ -8,7 +8,7 @@ use crate::symbols::Symbol;
 use crate::words::{access_named, is_word, register_in};
 use scx_isa_semantics::{Access, Comparison, Operation, Register, Width};
 
-/// What the front of a line says, and the tokens behind it.
+/// A value read at the front of a line, and the tokens after it.
 pub(crate) type Read<'t, 'a, T> = Option<(T, &'t [Token<'a>])>;
 
 fn literal(is_negative: bool, magnitude: Option<u64>) -> Literal
@@ -20,7 +20,7 @@ fn literal(is_negative: bool, magnitude: Option<u64>) -> Literal
     }
 }
 
-/// A number; its sign stands directly before it.
+/// A number; its sign is directly before it.
 pub(crate) fn read_literal<'t, 'a>(tokens: &'t [Token<'a>]) -> Read<'t, 'a, Literal>
     ensures { option_map (λ x. (x.0, lexemes x.1.now)) result ≡ read_literal (lexemes tokens.now) }
 {
@@ -35,7 +35,7 @@ pub(crate) fn read_literal<'t, 'a>(tokens: &'t [Token<'a>]) -> Read<'t, 'a, Lite
     }
 }
 
-/// What is added to an address; the sign is a token of its own.
+/// The offset of an address; the sign is a token of its own.
 pub(crate) fn read_offset<'t, 'a>(tokens: &'t [Token<'a>]) -> Read<'t, 'a, Literal>
     ensures { option_map (λ x. (x.0, lexemes x.1.now)) result ≡ read_offset (lexemes tokens.now) }
 {
@@ -54,7 +54,7 @@ pub(crate) fn read_offset<'t, 'a>(tokens: &'t [Token<'a>]) -> Read<'t, 'a, Liter
     }
 }
 
-/// How far a jump goes; the sign is a token of its own, which the number touches.
+/// The offset of a jump; the sign is a token of its own, which the number touches.
 fn read_distance<'t, 'a>(tokens: &'t [Token<'a>]) -> Read<'t, 'a, Literal>
     ensures { option_map (λ x. (x.0, lexemes x.1.now)) result ≡ read_distance (lexemes tokens.now) }
 {
@@ -179,7 +179,7 @@ pub(crate) fn read_address<'t, 'a>(tokens: &'t [Token<'a>]) -> Read<'t, 'a, (Reg
     Some(((base, offset), behind_closing(rest)?))
 }
 
-/// Memory, behind the star that it begins with.
+/// Memory, after the star that it begins with.
 pub(crate) fn read_memory_operand<'t, 'a>(tokens: &'t [Token<'a>]) -> Read<'t, 'a, MemoryOperand>
     ensures { option_map (λ x. (x.0, lexemes x.1.now)) result
         ≡ read_memory_operand (lexemes tokens.now) }
@@ -194,7 +194,7 @@ pub(crate) fn read_memory_operand<'t, 'a>(tokens: &'t [Token<'a>]) -> Read<'t, '
     Some((memory, rest))
 }
 
-/// The operand behind `=`.
+/// The operand after `=`.
 pub(crate) fn read_given<'t, 'a>(tokens: &'t [Token<'a>]) -> Read<'t, 'a, WrittenOperand>
     ensures { option_map (λ x. (x.0, lexemes x.1.now)) result ≡ read_value (lexemes tokens.now) }
 {
@@ -206,7 +206,7 @@ pub(crate) fn read_given<'t, 'a>(tokens: &'t [Token<'a>]) -> Read<'t, 'a, Writte
     }
 }
 
-/// The target behind `goto`.
+/// The target after `goto`.
 pub(crate) fn read_goto<'t, 'a>(tokens: &'t [Token<'a>]) -> Read<'t, 'a, Target<'a>>
     ensures { option_map (λ x. (destination_of x.0, lexemes x.1.now)) result
         ≡ read_goto (lexemes tokens.now) }

@@ -15,7 +15,7 @@ use scx_isa_semantics::{
 };
 use std::fmt;
 
-/// How many bytes there is room for: those of an instruction, and a line feed.
+/// The size of the buffer for a line in bytes: an instruction and a line feed.
 const LINE_CAPACITY: usize = 80;
 
 /// The text of one instruction, with room for a line feed. It takes no memory from the allocator.
@@ -162,7 +162,7 @@ fn push_memory(line: &mut Line, access: Access, base: Register, offset: i16)
     line.push_str(")");
 }
 
-/// Adds a register, behind which something is assigned to it.
+/// Adds a register as the left side of an assignment.
 #[inline(always)]
 fn push_assigned(line: &mut Line, width: Width, register: Register, sign: &str)
     requires sign { length sign.now ≤ 7 }

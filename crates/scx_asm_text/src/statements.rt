@@ -16,7 +16,7 @@ use crate::symbols::Symbol;
 use crate::words::{extension_of, is_word, order_named, register_in, register_named, stored_size};
 use scx_isa_semantics::{Operation, Register, Width};
 
-/// The item, if no token is left behind it.
+/// The item, if no token remains after it.
 fn end<'a>(tokens: &[Token<'_>], item: Item<'a>) -> Option<Item<'a>>
     ensures { option_map item_value result ≡ end (lexemes tokens.now) (item_value item.entry) }
 {
@@ -54,13 +54,14 @@ fn negation<'a>(
     }
 }
 
-/// `rD = (s8)rS`, behind the parenthesis.
+/// `rD = (s8)rS`, after the parenthesis.
 fn sign_extending_move<'a>(
     width: Width,
     register: Register,
     tokens: &[Token<'a>],
 ) -> Option<Item<'a>>
-    ensures { option_map item_value result ≡ sign_extending_move width register (lexemes tokens.now) }
+    ensures { option_map item_value result
+        ≡ sign_extending_move width register (lexemes tokens.now) }
 {
     let (access, rest) = read_access(tokens)?;
     let extension = extension_of(width, access)?;
@@ -68,7 +69,7 @@ fn sign_extending_move<'a>(
     says(Statement::SignExtend(extension, register, source), rest)
 }
 
-/// `rD = *(u8 *)(rS + O)`, behind the star.
+/// `rD = *(u8 *)(rS + O)`, after the star.
 fn load_line<'a>(width: Width, register: Register, tokens: &[Token<'a>]) -> Option<Item<'a>>
     ensures { option_map item_value result ≡ load_line width register (lexemes tokens.now) }
 {
@@ -138,7 +139,7 @@ fn map_load<'a>(register: Register, tokens: &[Token<'a>]) -> Option<Item<'a>>
     says(Statement::LoadMapReference(register, map), rest)
 }
 
-/// A word behind `rD =` that names no register of that width.
+/// A word after `rD =` that names no register of that width.
 fn special<'a>(
     width: Width,
     register: Register,
@@ -159,7 +160,7 @@ fn special<'a>(
     }
 }
 
-/// A word behind `rD =`.
+/// A word after `rD =`.
 fn named<'a>(
     width: Width,
     register: Register,
@@ -176,7 +177,7 @@ fn named<'a>(
     }
 }
 
-/// What stands behind `rD =`.
+/// The right side of `rD =`.
 fn behind_equals<'a>(width: Width, register: Register, tokens: &[Token<'a>]) -> Option<Item<'a>>
     ensures { option_map item_value result ≡ behind_equals width register (lexemes tokens.now) }
 {
@@ -186,13 +187,14 @@ fn behind_equals<'a>(width: Width, register: Register, tokens: &[Token<'a>]) -> 
     }
 }
 
-/// What stands behind `rD =`, if it is no word.
+/// The right side of `rD =`, if it is no word.
 fn behind_equals_no_word<'a>(
     width: Width,
     register: Register,
     tokens: &[Token<'a>],
 ) -> Option<Item<'a>>
-    ensures { option_map item_value result ≡ behind_equals_no_word width register (lexemes tokens.now) }
+    ensures { option_map item_value result
+        ≡ behind_equals_no_word width register (lexemes tokens.now) }
 {
     match tokens {
         [Token::Mark(Symbol::Minus), Token::Word(name), rest @ ..] => negation(
@@ -223,7 +225,7 @@ fn arithmetic<'a>(
     )
 }
 
-/// What stands behind the register that a line begins with.
+/// The rest of a line that begins with a register.
 fn behind_register<'a>(width: Width, register: Register, tokens: &[Token<'a>]) -> Option<Item<'a>>
     ensures { option_map item_value result ≡ behind_register width register (lexemes tokens.now) }
 {
@@ -238,7 +240,7 @@ fn behind_register<'a>(width: Width, register: Register, tokens: &[Token<'a>]) -
     }
 }
 
-/// `*(u8 *)(rD + O) = rS`, behind the star.
+/// `*(u8 *)(rD + O) = rS`, after the star.
 fn store_line<'a>(tokens: &[Token<'a>]) -> Option<Item<'a>>
     ensures { option_map item_value result ≡ store_line (lexemes tokens.now) }
 {
@@ -249,7 +251,7 @@ fn store_line<'a>(tokens: &[Token<'a>]) -> Option<Item<'a>>
     says(store, rest)
 }
 
-/// The comparison of a register, behind its name.
+/// The comparison of a register, after its name.
 fn comparison<'t, 'a>(
     width: Width,
     register: Register,
@@ -263,7 +265,7 @@ fn comparison<'t, 'a>(
     Some((Jump::If(width, comparison, register, argument), rest))
 }
 
-/// `if rD C rS goto T`, behind the `if`.
+/// `if rD C rS goto T`, after the `if`.
 fn condition<'a>(tokens: &[Token<'a>]) -> Option<Item<'a>>
     ensures { option_map item_value result ≡ condition (lexemes tokens.now) }
 {
@@ -316,7 +318,7 @@ fn statement_of<'a>(name: &[u8], tokens: &[Token<'a>]) -> Option<Item<'a>>
     }
 }
 
-/// What the line with these tokens says; `None` where it isn't of the language.
+/// The item of the line with these tokens; `None` if it isn't of the language.
 pub fn item_of<'a>(tokens: &[Token<'a>]) -> Option<Item<'a>>
     ensures { option_map item_value result ≡ item_of (lexemes tokens.now) }
 {

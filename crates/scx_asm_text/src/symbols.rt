@@ -44,7 +44,7 @@ const GREATER: [Symbol; 3] = [
 ];
 
 impl Symbol {
-    /// How it is written.
+    /// The text of the symbol.
     pub fn text(self) -> &'static str
         ensures text { result.now ≡ spelling self }
         ensures short { length result.now ≤ 4 }

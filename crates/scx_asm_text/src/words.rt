@@ -26,7 +26,7 @@ const ORDERS: [(ByteOrder, SwapWidth); 9] = [
     (ByteOrder::Swapped, SwapWidth::Bits64),
 ];
 
-/// Whether that is the word.
+/// True if the name is this word.
 pub(crate) fn is_word(name: &[u8], word: &str) -> bool
     ensures { result ≡ bytes_eq name.now word.now }
 {

@@ -1,6 +1,6 @@
 pub mod Codes
 pub mod Counts
 pub mod Control
-mod FirstFaults
 pub mod Programs
+mod FirstFaults
 mod Loop

@@ -42,7 +42,7 @@ pub record FailsInHalf (slots : List Slot) (k : ℕ) : Type 0 where
   pub wide : second_slot insn ≡ Some due
   pub fails : half ≢ due
 
--- what is wrong with the bytes first, and where
+-- the first fault of the bytes, and its slot
 pub data IsFirstFault (bytes : List ℕ) : DecodeFault → ℕ → Type 0 where
   NoByte : length bytes ≡ 0 → IsFirstFault bytes Empty 0
   CutSlot : 0 < length bytes % 8 → IsFirstFault bytes NotWholeSlots (length bytes / 8)
@@ -55,7 +55,7 @@ pub data IsFirstFault (bytes : List ℕ) : DecodeFault → ℕ → Type 0 where
       → HasProgramLength bytes → FailsInHalf (slots_in (length bytes / 8) bytes) k
       → IsFirstFault bytes UnusedField (suc k)
 
--- what a refusal says of the bytes; memory is asked for only where they have a program's length
+-- the statement of a refusal; memory is asked for only where they have a program's length
 abbrev pub IsRefusal : List ℕ → DecodeError → Type 0
 IsRefusal bytes (errors.Refused fault slot) = IsFirstFault bytes fault slot
 IsRefusal bytes errors.OutOfMemory = HasProgramLength bytes

@@ -17,7 +17,7 @@ target_fault code t =
     if nat_le (length code) t then Some OutOfProgram
     else (if is_none (at code t) then Some IntoWide else None)
 
--- the fault of a jump of that distance, counted from the slot behind it
+-- the fault of a jump with that offset, counted from the slot after it
 abbrev pub jump_fault : Code → ℕ → ℤ → Option FlowFault
 jump_fault code s (pos n) = target_fault code (s + n)
 jump_fault code s (negsuc n) = Some BackJump
@@ -31,7 +31,7 @@ abbrev pub first_fault : Option FlowFault → Option FlowFault → Option FlowFa
 first_fault None g = g
 first_fault (Some f) g = Some f
 
--- the first fault of an instruction that has that slot behind it
+-- the first fault of an instruction that has that slot after it
 abbrev pub insn_fault : Code → ℕ → Insn → Option FlowFault
 insn_fault code s (JumpIf w c r x offset) =
     first_fault (jump_fault code s offset) (end_fault code s)
@@ -60,7 +60,7 @@ pub record IsFirstFlowFault (code : Code) (fault : FlowFault) (slot : ℕ) : Typ
   pub fails : flow_fault code slot insn ≡ Some fault
   pub earlier : (s : ℕ) (i : Insn) → s < slot → at code s ≡ Some i → flow_fault code s i ≡ None
 
--- What the conditions are for: wherever a run of the program stands, whatever its first state and
+-- The purpose of the conditions: wherever a run of the program is, whatever its first state and
 -- the answers that it gets, an instruction begins there, and it has taken fewer steps than the
 -- program has instructions.
 abbrev pub StaysInControl : Code → Type 0

@@ -1,5 +1,6 @@
--- The laws of spelling and of faults, which are the contracts of public functions without
--- a body of their own.
+-- The laws of encoding and of faults, which are the contracts of public functions with empty
+-- bodies: an encoded program is read back, it has one encoding, and no bytes encode two programs.
+-- Bytes have at most one first fault, and bytes that have one encode no program.
 use Rattle.std.specs.Prelude.{ℕ, ◌≡◌, List, Ok}
 use Rattle.scx_isa_encoding.specs.declared.faults.DecodeFault.{DecodeFault}
 use Rattle.scx_isa_semantics.specs.Code.{Code}

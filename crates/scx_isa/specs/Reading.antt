@@ -17,12 +17,12 @@ abbrev pub at_slot : {A : Type 0} → ℕ → Result A DecodeFault → Result A 
 at_slot k (Ok x) = Ok x
 at_slot k (Err e) = Err (e, k)
 
--- the slot at the front, if any is left
+-- the slot at the front, if any remains
 abbrev pub slot_in_front : List Slot → Option Slot
 slot_in_front [] = None
 slot_in_front (s ∷ slots) = Some s
 
--- What the slots from the k-th on hold. The option is the second half that is due first.
+-- The occupants of the slots from the k-th on. The option is the second half that is due first.
 unfoldable pub read_slots : ℕ → Option Slot → List Slot → Result Code (DecodeFault × ℕ)
 read_slots k due [] = Ok []
 read_slots k due (s ∷ slots) = do
@@ -38,7 +38,7 @@ read_program bytes =
     if nat_lt 0 (length bytes % 8) then Err (NotWholeSlots, n) else (
     if nat_lt MAX_SLOTS n then Err (TooLong, MAX_SLOTS) else read_slots 0 None (slots_in n bytes)))
 
--- What a function returned, seen by view, is what reading gives, unless memory ran out.
+-- A function's result, seen by view, is the result of reading, unless memory ran out.
 abbrev pub Fails : {Y : Type 0} → DecodeError → Result Y (DecodeFault × ℕ) → Type 0
 Fails (errors.Refused fault slot) read = read ≡ Err (fault, slot)
 Fails errors.OutOfMemory read = Unit {0}

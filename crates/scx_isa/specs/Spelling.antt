@@ -22,7 +22,7 @@ code_slots code = flat_map occupant_slots code
 abbrev pub spelling : Code → List ℕ
 spelling code = flat_map slot_bytes (code_slots code)
 
--- The instructions of a list of slots, with a second half behind each wide one and nowhere else.
+-- The instructions of a list of slots, with a second half after each wide one and nowhere else.
 -- The flag says whether a second half comes first.
 abbrev pub IsCode : Bool → Code → Type 0
 IsCode false [] = Unit {0}

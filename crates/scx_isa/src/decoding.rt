@@ -12,7 +12,7 @@ use scx_isa_encoding::{DecodeFault, SLOT_BYTES, Slot, due_behind, occupant_of, s
 use scx_isa_semantics::Insn;
 use std::alloc::Global;
 
-/// What stands at the slot numbered `number`, or its fault with that number.
+/// The occupant of the slot numbered `number`, or its fault with that number.
 fn occupant_at_number(
     number: usize,
     due: Option<Slot>,
@@ -28,7 +28,7 @@ fn occupant_at_number(
     }
 }
 
-/// What stands at each slot.
+/// The occupant of each slot.
 fn read(alloc: Global, bytes: &[u8]) -> Result<Vec<Option<Insn>>, DecodeError>
     requires { length bytes.now % 8 ≡ 0 }
     ensures { Gives (λ code. code.items) result
@@ -48,7 +48,7 @@ fn read(alloc: Global, bytes: &[u8]) -> Result<Vec<Option<Insn>>, DecodeError>
     Ok(code)
 }
 
-/// What stands at each slot of a program, or the first fault.
+/// The occupant of each slot of a program, or the first fault.
 fn read_all(alloc: Global, bytes: &[u8]) -> Result<Vec<Option<Insn>>, DecodeError>
     ensures exact { Gives (λ code. code.items) result (read_program bytes.now) }
     ensures memory { result ≡ Err DecodeError.OutOfMemory → HasProgramLength bytes.now }

@@ -10,7 +10,7 @@ use scx_isa_encoding::{SLOT_BYTES, push_insn};
 use scx_isa_semantics::Insn;
 use std::alloc::{AllocError, Global};
 
-/// Writes the slots of what stands at a slot; a second half is written with its first.
+/// Writes the slots of the occupant of a slot; a second half is written with its first.
 fn push_occupant(out: &mut Vec<u8>, occupant: &Option<Insn>) -> Result<(), AllocError>
     requires { ForSome occupant.now IsInsn }
     ensures { OnOk result

@@ -20,10 +20,10 @@ pub enum DecodeError {
     OutOfMemory,
 }
 
-/// What is wrong with a program's flow, in the order in which an instruction is looked at.
+/// The faults of a program's control flow, in the order in which an instruction is checked.
 #[derive(Clone, Copy, Debug, PartialEq, Eq)]
 pub enum FlowFault {
-    /// A jump's distance is negative.
+    /// A jump's offset is negative.
     BackJump,
     /// A jump's target lies past the last slot.
     OutOfProgram,

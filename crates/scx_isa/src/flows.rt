@@ -33,7 +33,7 @@ pub fn target(slot: usize, insn: Insn) -> usize
     slot + insn.size() + distance(insn) as usize
 }
 
-/// How many slots a jump skips; 0 where the instruction is none.
+/// The number of slots that a jump skips; 0 if the instruction is no jump.
 fn distance(insn: Insn) -> i32
     ensures { result ≡ distance insn }
 {
@@ -80,7 +80,7 @@ fn fault_of_end(program: &Program, slot: usize) -> Option<FlowFault>
     }
 }
 
-/// The fault of a jump of that distance, counted from the slot behind it.
+/// The fault of a jump with this offset, counted from the slot after it.
 fn fault_of_jump(program: &Program, behind: usize, offset: i32) -> Option<FlowFault>
     requires { behind ≤ MAX_SLOTS }
     ensures { result ≡ jump_fault program.now behind offset }

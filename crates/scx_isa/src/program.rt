@@ -1,8 +1,9 @@
-ghost use Rattle.std.specs.Prelude.{◌≡◌, ◌≤◌, length, count_by, is_some};
+ghost use Rattle.std.specs.Prelude.{◌≡◌, ◌≤◌, length, count_by, is_some, IfOk};
 ghost use Rattle.scx_isa_semantics.specs.Code.{at, instruction_count};
 ghost use Rattle.scx_isa.specs.Spelling.{IsProgram};
 
 use scx_isa_semantics::Insn;
+use std::alloc::{AllocError, Global};
 use std::marker::Model;
 
 /// The most slots that a program may have.
@@ -40,7 +41,17 @@ impl Program {
         Program { code, instructions }
     }
 
-    /// What stands at each slot.
+    /// A copy of the program, in memory of its own.
+    pub fn duplicate(&self, alloc: Global) -> Result<Program, AllocError>
+        ensures { IfOk result (λ copy. copy ≡ self.now) }
+    {
+        Ok(Program {
+            code: Vec::from_slice(alloc, &self.code)?,
+            instructions: self.instructions,
+        })
+    }
+
+    /// The occupant of each slot.
     pub(crate) fn occupants(&self) -> &[Option<Insn>]
         ensures occupants { result.now ≡ self.now }
         ensures program { IsProgram self.now }
@@ -48,7 +59,7 @@ impl Program {
         &self.code
     }
 
-    /// How many slots it has; a wide instruction takes two.
+    /// The number of slots; a wide instruction takes two.
     pub fn slots(&self) -> usize
         ensures slots { result ≡ length self.now }
         ensures within { result ≤ MAX_SLOTS }
@@ -57,7 +68,7 @@ impl Program {
         self.code.len()
     }
 
-    /// How many instructions it has.
+    /// The number of instructions.
     #[tactic(auto, using(crate::proofs::Counts::counts))]
     pub fn instructions(&self) -> usize
         ensures count { result ≡ instruction_count self.now }
@@ -78,7 +89,7 @@ impl Program {
     }
 }
 
-/// How many of these are instructions.
+/// The number of occupants that are instructions.
 fn count<T: Drop>(occupants: &[Option<T>]) -> usize
     ensures { result ≡ count_by is_some occupants.now }
 {

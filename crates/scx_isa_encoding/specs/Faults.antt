@@ -6,7 +6,7 @@ use Rattle.scx_isa_encoding.specs.declared.faults.Exclusion.TheVariants.{Atomic3
 use Rattle.scx_isa_encoding.specs.declared.faults.DecodeFault.{DecodeFault}
 use Rattle.scx_isa_encoding.specs.declared.faults.DecodeFault.TheVariants.{Empty, TooLong, NotWholeSlots, UnknownOpcode, NotInProfile, BadRegister, UnusedField, HalfWide, BadOffset, BadWidth}
 
--- the number by which a refusal names a fault; all that is left out has the same
+-- the number by which a refusal names a fault; all exclusions have the same
 abbrev pub decode_number : DecodeFault → ℕ
 decode_number Empty = 1
 decode_number TooLong = 2
@@ -19,7 +19,7 @@ decode_number HalfWide = 8
 decode_number BadOffset = 9
 decode_number BadWidth = 10
 
--- the name of a refusal for an instruction that is left out, which says what that is
+-- the name of a refusal for an excluded instruction, which names its kind
 abbrev pub exclusion_name : Exclusion → List ℕ
 exclusion_name Atomic32 = codes "NotInProfile(atomic32)"
 exclusion_name Atomic64 = codes "NotInProfile(atomic64)"

@@ -130,7 +130,7 @@ base SignedDivide = Divide
 base SignedModulo = Modulo
 base o = o
 
--- whether an operand is an immediate or a register
+-- the kind of an operand: an immediate or a register
 abbrev pub source_of : Operand → Source
 source_of (operand.Immediate k) = Immediate
 source_of (operand.Register r) = Register
@@ -181,7 +181,7 @@ lone_forms =
     Negate Bits32 ∷ Negate Bits64 ∷ ByteSwap Little ∷ ByteSwap Big ∷ ByteSwap Swapped ∷ Goto
     ∷ GotoLong ∷ Exit ∷ []
 
--- what an opcode has as its operand, by its source bit: an immediate or a register
+-- the kind of an opcode's operand, by its source bit: an immediate or a register
 abbrev pub source_at : ℕ → Source
 source_at n = if nat_eq (n / 8 % 2) 0 then Immediate else Register
 
@@ -191,7 +191,7 @@ binary_form w n =
     option_map (λ o. Binary w o (source_at n))
     (first_with_code operation_code base_operations (n / 16))
 
--- a conditional jump by the comparison that the high four bits stand for, if they do
+-- a conditional jump by the comparison in the high four bits, if they have one
 abbrev pub jump_form : Width → ℕ → Option Form
 jump_form w n =
     option_map (λ c. JumpIf w c (source_at n))
@@ -201,7 +201,7 @@ jump_form w n =
 abbrev pub load_form : ℕ → Option Form
 load_form n = option_map Load (first_with_code access_code accesses n)
 
--- a store by the size that the opcode stands for without its class, if it does
+-- a store by the size in the opcode without its class, if it has one
 abbrev pub store_form : Source → ℕ → Option Form
 store_form x n = option_map (λ s. Store s x) (first_with_code size_code sizes n)
 
@@ -221,7 +221,7 @@ abbrev pub first_some : {A : Type 0} → Option A → Option A → Option A
 first_some None y = y
 first_some (Some x) y = Some x
 
--- whether a number is in the list
+-- true if a number is in the list
 abbrev pub among : List ℕ → ℕ → Bool
 among ns n = list_any (λ m. nat_eq n m) ns
 
@@ -238,7 +238,7 @@ abbrev pub plain_form : ℕ → Result Form DecodeFault
 plain_form n =
     ok_or (first_some (first_with_code opcode lone_forms n) (class_form (n % 8) n)) (opcode_fault n)
 
--- what stands in a table's row for the number
+-- the value in a table's row for the number
 abbrev pub look_up : {A : Type 0} → A → List (ℕ × A) → ℕ → A
 look_up other [] n = other
 look_up other (row ∷ rows) n = if nat_eq n row.0 then row.1 else look_up other rows n

@@ -118,29 +118,29 @@ insn_of_form GotoLong s next = Ok (insn.GotoLong (immediate_at s))
 insn_of_form Call s next = Ok (insn.Call (immediate_at s))
 insn_of_form Exit s next = Ok insn.Exit
 
--- what the slot and the one behind it, if any, make of an instruction
+-- the instruction in a slot and the one after it, if any
 abbrev pub whole : Slot → Option Slot → Insn → Result Insn DecodeFault
 whole s next i =
     if same_slot s (first_slot i) then (if is_wide i && is_none next then Err HalfWide else Ok i)
     else Err UnusedField
 
--- the instruction that begins at a slot, with the slot behind it, if any
+-- the instruction that begins at a slot, with the slot after it, if any
 abbrev pub insn_at : Slot → Option Slot → Result Insn DecodeFault
 insn_at s next = do
   f ← form_of s.opcode s.source
   i ← insn_of_form f s next
   whole s next i
 
--- whether the slot is the second half that is due
+-- true if the slot is the second half that is due
 abbrev pub half_at : Slot → Slot → Result (Option Insn) DecodeFault
 half_at s due = if same_slot s due then Ok None else Err UnusedField
 
--- What stands at a slot: the second half that is due there, or an instruction.
+-- The occupant of a slot: the second half that is due there, or an instruction.
 abbrev pub occupant_at : Option Slot → Slot → Option Slot → Result (Option Insn) DecodeFault
 occupant_at None s next = insn_at s next >>= λ i. Ok (Some i)
 occupant_at (Some due) s next = half_at s due
 
--- the second half that is due behind a slot
+-- the second half that is due after a slot
 abbrev pub due_after : Option Insn → Option Slot
 due_after None = None
 due_after (Some i) = second_slot i

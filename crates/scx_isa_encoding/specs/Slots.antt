@@ -20,7 +20,7 @@ slot_at bytes = record {
   immediate = little_number 4 (drop 4 bytes);
 }
 
--- that many slots, one after the other
+-- a number of slots, one after the other
 abbrev pub slots_in : ℕ → List ℕ → List Slot
 slots_in zero bytes = []
 slots_in (suc n) bytes = slot_at bytes ∷ slots_in n (drop 8 bytes)
@@ -37,7 +37,7 @@ pub record IsSlot (s : Slot) : Type 0 where
   pub offset : s.offset < 2 ^ 16
   pub immediate : s.immediate < 2 ^ 32
 
--- whether two slots have the same fields
+-- true if two slots have the same fields
 abbrev pub same_slot : Slot → Slot → Bool
 same_slot s t =
     (((nat_eq s.opcode t.opcode && nat_eq s.destination t.destination) && nat_eq s.source t.source)

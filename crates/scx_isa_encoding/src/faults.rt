@@ -15,21 +15,21 @@ pub enum Exclusion {
     LocalCall,
     /// A call of a helper by its BTF id.
     BtfCall,
-    /// A 64-bit immediate that stands for a map, by its file descriptor.
+    /// A 64-bit immediate that names a map by its file descriptor.
     MapByFd,
-    /// A 64-bit immediate that stands for an address in a map's value, by a file descriptor.
+    /// A 64-bit immediate that names an address in a map's value by a file descriptor.
     MapValueByFd,
-    /// A 64-bit immediate that stands for the address of a variable of the platform.
+    /// A 64-bit immediate that names the address of a variable of the platform.
     VariableAddress,
-    /// A 64-bit immediate that stands for the address of an instruction.
+    /// A 64-bit immediate that names the address of an instruction.
     CodeAddress,
-    /// A 64-bit immediate that stands for an address in a map's value, by the map's index.
+    /// A 64-bit immediate that names an address in a map's value by the map's index.
     MapValueByIndex,
 }
 
-/// What is wrong with bytes that spell no program, in the order of the numbers.
+/// The faults of bytes that encode no program, in the order of their numbers.
 ///
-/// They are looked for in another order: first the length, as `Empty`, `NotWholeSlots` and `TooLong`;
+/// The checks come in another order: first the length, as `Empty`, `NotWholeSlots` and `TooLong`;
 /// then in each instruction the opcode, `BadRegister`, `BadOffset`, `BadWidth`, `UnusedField` and
 /// `HalfWide`.
 #[derive(Clone, Copy, Debug, PartialEq, Eq)]

@@ -3,7 +3,7 @@ ghost use Rattle.scx_isa_encoding.specs.Opcodes.{source_of};
 
 use scx_isa_semantics::{Access, ByteOrder, Comparison, Operand, Operation, Size, Width};
 
-/// Which of its two operands an instruction takes: source bit K or X.
+/// The kind of an instruction's operand, an immediate or a register: source bit K or X.
 #[derive(Clone, Copy)]
 pub enum Source {
     Immediate,

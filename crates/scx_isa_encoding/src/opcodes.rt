@@ -167,7 +167,7 @@ fn comparison_of(code: u8) -> Option<Comparison>
     }
 }
 
-/// How an opcode of class LDX reads, by its mode and size.
+/// The access of an opcode of class LDX, by its mode and size.
 fn access_of(code: u8) -> Option<Access>
     ensures { result ≡ first_with_code access_code accesses code }
 {
@@ -183,7 +183,7 @@ fn access_of(code: u8) -> Option<Access>
     }
 }
 
-/// How many bytes an opcode of class ST or STX writes, by its mode and size.
+/// The size that an opcode of class ST or STX writes, by its mode and size.
 fn size_of(code: u8) -> Option<Size>
     ensures { result ≡ first_with_code size_code sizes code }
 {

@@ -16,7 +16,7 @@ use scx_isa_semantics::{
     ByteOrder, Comparison, Extension, Insn, Operand, Operation, Register, Size, SwapWidth, Width,
 };
 
-/// What stands at a slot: the second half that is due there, or an instruction.
+/// The occupant of a slot: the second half that is due there, or an instruction.
 #[inline(always)]
 pub fn occupant_of(
     due: Option<Slot>,
@@ -31,14 +31,14 @@ pub fn occupant_of(
     }
 }
 
-/// The second half that is due behind a slot.
+/// The second half that is due after a slot.
 pub fn due_behind(occupant: &Option<Insn>) -> Option<Slot>
     ensures { result ≡ due_after occupant.now }
 {
     second_slot_of(occupant.as_ref()?)
 }
 
-/// The instruction that begins at a slot, with the bytes behind it.
+/// The instruction that begins at a slot, with the bytes after the slot.
 #[inline(always)]
 fn insn_of(slot: &Slot, behind: &[u8]) -> Result<Insn, DecodeFault>
     ensures { result ≡ insn_at slot.now (front_slot behind.now) }
@@ -227,7 +227,7 @@ fn build_binary(
     binary(width, operation, destination, operand, slot.offset).ok_or(DecodeFault::BadOffset)
 }
 
-/// What the offset chooses; `None` where it isn't listed for the operation.
+/// The instruction that the offset selects; `None` if it isn't listed for the operation.
 #[inline(always)]
 #[tactic(auto, using(crate::proofs::Codes::base_has_opcode, crate::proofs::Codes::without_offset))]
 fn binary(

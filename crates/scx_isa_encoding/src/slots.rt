@@ -4,7 +4,7 @@ ghost use Rattle.scx_isa_encoding.specs.Slots.{slot_at, front_slot, slot_bytes, 
 use byteorder::{ByteOrder, LittleEndian};
 use std::alloc::AllocError;
 
-/// How many bytes a slot has.
+/// The size of a slot in bytes.
 pub const SLOT_BYTES: usize = 8;
 
 /// The fields of one slot (RFC 9669, section 3), each as its bits.

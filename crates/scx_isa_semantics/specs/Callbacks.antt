@@ -1,4 +1,5 @@
--- The callbacks of a policy, and one value for each.
+-- The callbacks of a policy, in order and by name, and tables with one value for each: the value
+-- of a callback, a test of all values, and a function applied to each up to its first failure.
 use Rattle.std.specs.Prelude.{◌≡◌, ℕ, Bool, true, false, ⊤, List, [], ◌∷◌, Option, Some, None, Result, Ok, Err, MatchBool, codes}
 use denote.Ref.{Bor}
 use denote.Param.Members.{Shared}
@@ -76,18 +77,18 @@ none = record {
 -- ---- tests
 
 module _ {F T : Type 0} (g : Shared F (Callback × (Bor T × Unit {0})) Bool) (f : F) where
-  -- what a test answers of a value
+  -- the answer of a test for a value
   pub record Says (b : Callback) (x : T) (r : Bool) : Type 0 where
     pub shown : Bor T
     pub shows : shown.now ≡ x
     pub says : FnReturns g f (b, (shown, tt)) r
 
-  -- what a test answers of a value that may be absent, which passes then
+  -- the answer of a test for a value that may be absent, which passes then
   abbrev pub Answer : Callback → Option T → Bool → Type 0
   Answer b None r = r ≡ true
   Answer b (Some x) r = Says b x r
 
-  -- whether each value that is there passes
+  -- true if each value that is there passes
   abbrev pub Answers : PerCallback (Option T) → Bool → Type 0
   Answers p r =
       MatchBool r ((b : Callback) → Answer b (at p b) true)
@@ -96,7 +97,7 @@ module _ {F T : Type 0} (g : Shared F (Callback × (Bor T × Unit {0})) Bool) (f
 -- ---- what is made of each
 
 module _ {F T U E : Type 0} (g : Shared F (Callback × (T × Unit {0})) (Result U E)) (f : F) where
-  -- what the function makes of a value; of none it makes none
+  -- the result of the function for a value; for none it is none
   abbrev pub Made : Callback → Option T → Option U → Type 0
   Made b None None = ⊤
   Made b None (Some y) = ⊥

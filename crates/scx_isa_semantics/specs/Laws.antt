@@ -1,4 +1,6 @@
--- Laws of runs, each the contract of a public function without a body of its own.
+-- Laws of runs, each the contract of a public function with an empty body: over a host that
+-- answers by functions a run has one outcome, and a run carries over to any host that allows as
+-- much.
 use Rattle.std.specs.Prelude.{ℕ, ◌≡◌}
 use Rattle.scx_isa_semantics.specs.declared.values.Value.{Value}
 use Rattle.scx_isa_semantics.specs.declared.callbacks.Callback.{Callback}

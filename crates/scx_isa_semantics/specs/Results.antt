@@ -1,4 +1,5 @@
--- One result behind another: the first refusal stays, and what is behind it isn't looked at.
+-- Computations in a row that may be refused: the next one takes the value of the one before, and
+-- the first refusal is the result of all.
 use Rattle.std.specs.Prelude.{Result, Ok, Err}
 
 infixl 10 ◌>>=◌

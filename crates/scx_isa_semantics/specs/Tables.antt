@@ -1,4 +1,4 @@
--- Tables that give each of a list a number, read backwards.
+-- Tables read backwards: the first item of a list whose code is a given number.
 use Rattle.std.specs.Prelude.{ℕ, nat_eq, List, [], ◌∷◌, Option, Some, None, if◌then◌else◌}
 
 -- the first of the list that has that number

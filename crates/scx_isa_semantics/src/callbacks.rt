@@ -3,29 +3,29 @@ ghost use Rattle.scx_isa_semantics.specs.Callbacks.{callback_name};
 ghost use Rattle.scx_isa_semantics.specs.HostTables.{answers};
 ghost use Rattle.scx_isa_semantics.specs.Arguments.{callback_arguments};
 
-/// What a program is run as: a callback of a scheduling policy (sched-ext.rst), or a plain program
-/// with no policy around it. Each line says when a callback is called, what it is given in r1 to r3 (of
-/// the registers that aren't named a program may read none but r10), and what its answer means.
+/// The role of a program: a callback of a scheduling policy (sched-ext.rst), or a plain program with
+/// no policy around it. Each line says when a callback is called, its arguments in r1 to r3 (it may
+/// read r10 and no register that isn't named), and the meaning of its answer.
 #[derive(Clone, Copy, PartialEq, Eq)]
 pub enum Callback {
-    /// No callback: a program that is run alone, is given nothing and calls no helper. It answers a number.
+    /// No callback: a program that runs alone, without arguments, and calls no helper. It answers a number.
     Plain,
-    /// Once, before anything else, and is given nothing. It answers 0, or the policy can't begin.
+    /// Once, before anything else, without arguments. It answers 0, or the policy can't begin.
     Init,
     /// For each task, by pid, after `init`. r1: the task. It answers nothing.
     Enable,
-    /// As a task wakes. r1: the task; r2: the processor where it ran last; r3: 0. It answers the processor
-    /// for which the task is meant.
+    /// As a task wakes. r1: the task; r2: the CPU where it ran last; r3: 0. It answers the CPU for which
+    /// the task is meant.
     SelectCpu,
     /// For a task that has to wait and that `select_cpu` didn't insert. r1: the task; r2: 1 after a wake, 0
     /// after a stop or as it is let go. It answers nothing.
     Enqueue,
-    /// For a processor that has nothing in its own queue, nor in GLOBAL. r1: the processor; r2: the task
-    /// before, or 0. It answers nothing.
+    /// For a CPU with nothing in its own queue, nor in GLOBAL. r1: the CPU; r2: the previous task, or 0.
+    /// It answers nothing.
     Dispatch,
     /// As a task begins to run. r1: the task. It answers nothing.
     Running,
-    /// As a task leaves its processor. r1: the task; r2: 1 where it stays runnable, else 0. It answers
+    /// As a task leaves its CPU. r1: the task; r2: 1 if it stays runnable, else 0. It answers
     /// nothing.
     Stopping,
 }
@@ -42,7 +42,7 @@ pub const CALLBACKS: [Callback; 7] = [
     Callback::Stopping,
 ];
 
-/// What a callback is given in a register.
+/// The kind of one argument of a callback.
 #[derive(Clone, Copy)]
 pub enum ArgumentKind {
     /// A pointer to a task.
@@ -53,7 +53,7 @@ pub enum ArgumentKind {
 }
 
 impl Callback {
-    /// What it is given as its argument of that number, 0 for r1; none past its last one.
+    /// The kind of the argument with this number, 0 for r1; `None` past the last one.
     pub fn argument(self, number: usize) -> Option<ArgumentKind>
         ensures { result ≡ slice_get (callback_arguments self) number }
     {
@@ -71,7 +71,7 @@ impl Callback {
         kinds.get(number).copied()
     }
 
-    /// Whether its run answers a number, in r0.
+    /// True if its run answers a number, in r0.
     pub fn answers(self) -> bool
         ensures { result ≡ answers self }
     {

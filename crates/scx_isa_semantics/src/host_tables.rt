@@ -16,12 +16,12 @@ pub struct TaskId(pub u16);
 pub enum Field {
     Pid,
     Weight,
-    /// What is left of the slice, in nanoseconds.
+    /// The remaining slice, in nanoseconds.
     Slice,
     DsqVtime,
     PrevCpu,
     Group,
-    /// How long the task has run, in nanoseconds.
+    /// The run time of the task so far, in nanoseconds.
     RunNs,
 }
 
@@ -43,7 +43,7 @@ pub enum Helper {
 /// The most arguments that a helper takes, in r1 to r5.
 pub const MAX_ARGUMENTS: usize = 5;
 
-/// What a helper takes in a register.
+/// The kind of one argument of a helper.
 #[derive(Clone, Copy)]
 pub enum Parameter {
     /// A reference to a map.
@@ -73,7 +73,7 @@ impl Field {
         }
     }
 
-    /// Whether a program may store to it.
+    /// True if a program may store to it.
     pub fn is_writable(self) -> bool
         ensures { result ≡ is_writable self }
     {
@@ -101,7 +101,7 @@ impl Helper {
         }
     }
 
-    /// What it takes as its argument of that number, from 0 for r1 on; `None` past the last one.
+    /// The kind of the argument with this number, 0 for r1; `None` past the last one.
     pub fn parameter(self, argument: usize) -> Option<Parameter>
         ensures parameter { result ≡ slice_get (parameters self) argument }
         ensures most { IfSome result (λ parameter. argument < MAX_ARGUMENTS) }
@@ -125,7 +125,7 @@ impl Helper {
         }
     }
 
-    /// Whether a program may call it when it is run as that callback.
+    /// True if a program may call it in this callback.
     pub fn is_allowed(self, callback: Callback) -> bool
         ensures { result ≡ is_allowed self callback }
     {

@@ -52,7 +52,7 @@ pub enum Insn {
 impl Insn {
     ghost use Rattle.scx_isa_semantics.specs.Code.{size};
 
-    /// How many slots it takes.
+    /// The number of slots that it takes.
     pub fn size(self) -> usize
         ensures { result ≡ size self }
     {

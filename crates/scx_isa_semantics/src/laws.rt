@@ -3,9 +3,9 @@ ghost use Rattle.scx_isa_semantics.specs.declared.values.Value.{Value};
 ghost use Rattle.scx_isa_semantics.specs.Effects.{Query};
 ghost use Rattle.scx_isa_semantics.specs.Runs.{any_answer};
 
-/// What answers a program's queries.
+/// An outside that answers a program's queries.
 pub trait Responder {
-    /// Whether it may answer so, and what it is after that.
+    /// The answers that it may give to a query, and its state after each.
     ghost responds: { Self → Query → Value → Self → Type 0 };
 }
 

@@ -1,6 +1,6 @@
 ghost use Rattle.std.specs.Prelude.{◌≡◌, ◌≤◌};
 
-/// How many bits of its operands an instruction takes: class ALU or JMP32, or class ALU64 or JMP.
+/// The bits of its operands that an instruction takes: 32 in classes ALU and JMP32, 64 in ALU64 and JMP.
 #[derive(Clone, Copy)]
 pub enum Width {
     /// The low 32 bits. The upper half of an arithmetic result is 0.
@@ -8,7 +8,7 @@ pub enum Width {
     Bits64,
 }
 
-/// What arithmetic does with the destination and the operand (RFC 9669, section 4.1).
+/// An arithmetic operation on the destination and the operand (RFC 9669, section 4.1).
 #[derive(Clone, Copy)]
 pub enum Operation {
     Add,
@@ -53,7 +53,7 @@ pub enum ByteOrder {
     Swapped,
 }
 
-/// How many low bits a byte swap keeps.
+/// The number of low bits that a byte swap keeps.
 #[derive(Clone, Copy)]
 pub enum SwapWidth {
     Bits16,
@@ -61,7 +61,7 @@ pub enum SwapWidth {
     Bits64,
 }
 
-/// How many bytes of memory an instruction reads or writes (RFC 9669, section 5).
+/// The size of the memory that an instruction reads or writes (RFC 9669, section 5).
 #[derive(Clone, Copy)]
 pub enum Size {
     Byte,
@@ -73,7 +73,7 @@ pub enum Size {
     DoubleWord,
 }
 
-/// How a load reads: so many bytes, with zeros above them or with their sign.
+/// The bytes that a load reads, and their extension to 64 bits: with zeros, or with their sign.
 #[derive(Clone, Copy)]
 pub enum Access {
     Byte,
@@ -119,7 +119,7 @@ impl Extension {
 impl Size {
     ghost use Rattle.scx_isa_semantics.specs.Memory.{size_bytes};
 
-    /// How many bytes it is.
+    /// The size in bytes.
     pub fn bytes(self) -> u16
         ensures bytes { result ≡ size_bytes self }
         ensures most { result ≤ 8 }
@@ -137,7 +137,7 @@ impl Access {
     ghost use Rattle.scx_isa_semantics.specs.Memory.{access_size};
     ghost use Rattle.scx_isa_semantics.specs.Meaning.{is_plain};
 
-    /// How many bytes it reads.
+    /// The size of the memory that it reads.
     pub fn size(self) -> Size
         ensures { result ≡ access_size self }
     {
@@ -149,7 +149,7 @@ impl Access {
         }
     }
 
-    /// Whether it reads without a sign.
+    /// True if the load extends its bytes with zeros.
     pub fn is_plain(self) -> bool
         ensures { result ≡ is_plain self }
     {

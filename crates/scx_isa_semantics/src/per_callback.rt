@@ -31,7 +31,7 @@ impl<T> PerCallback<Option<T>> {
         }
     }
 
-    /// That of one callback, if there is one. A plain program has none.
+    /// The value of one callback, if there is one. A plain program has none.
     pub fn get(&self, callback: Callback) -> Option<&T>
         ensures { option_map (λ x. x.now) result ≡ at self.now callback }
     {
@@ -47,7 +47,7 @@ impl<T> PerCallback<Option<T>> {
         }
     }
 
-    /// Whether each that is there passes the test.
+    /// True if each value that is there passes the test.
     pub fn all<F: Fn(Callback, &T) -> bool>(&self, test: F) -> bool
         requires { F.IsAlwaysCallable test }
         ensures { Answers F.Fn test self.now result }
@@ -60,7 +60,7 @@ impl<T> PerCallback<Option<T>> {
         true
     }
 
-    /// Whether that of one callback passes the test, if it is there.
+    /// True if the value of one callback passes the test, or isn't there.
     fn passes<F: Fn(Callback, &T) -> bool>(&self, callback: Callback, test: &F) -> bool
         requires { F.IsAlwaysCallable test.now }
         ensures { Answer F.Fn test.now callback (at self.now callback) result }
@@ -106,7 +106,7 @@ impl<T: Drop> PerCallback<Option<T>> {
         }
     }
 
-    /// What the function makes of each that is there, in their order, up to the first at which it fails.
+    /// Applies the function to each value that is there, in their order, up to the first failure.
     pub fn try_map<U: Drop, E, F: Fn(Callback, T) -> Result<U, E>>(
         self,
         f: &F,
@@ -128,7 +128,7 @@ impl<T: Drop> PerCallback<Option<T>> {
     }
 }
 
-/// What the function makes of the value of a callback, if it is there.
+/// Applies the function to the value of a callback, if it is there.
 fn made<T: Drop, U: Drop, E, F: Fn(Callback, T) -> Result<U, E>>(
     callback: Callback,
     value: Option<T>,

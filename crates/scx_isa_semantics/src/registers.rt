@@ -1,7 +1,7 @@
 ghost use Rattle.std.specs.Prelude.{◌≡◌, ◌<◌};
 ghost use Rattle.scx_isa_semantics.specs.Registers.{number, register_at};
 
-/// How many registers there are, r0 to r10 (RFC 9669, section 3.1).
+/// The number of registers, r0 to r10 (RFC 9669, section 3.1).
 pub const REGISTERS: usize = 11;
 
 /// A register (RFC 9669, section 3.1). r10 is the frame pointer, which no instruction may write

@@ -1,6 +1,6 @@
 use crate::host_tables::TaskId;
 
-/// How many bytes the stack has. r10 points to its top, right behind the last one.
+/// The size of the stack in bytes. r10 points to its top, right after the last byte.
 pub const STACK_SIZE: u16 = 512;
 
 /// Where a pointer points.
@@ -14,7 +14,7 @@ pub enum Pointer {
     Element { map: u8, index: u32, offset: u16 },
 }
 
-/// What a register holds.
+/// The contents of a register.
 #[derive(Clone, Copy)]
 pub enum Value {
     /// Nothing yet: reading it has no meaning.
@@ -23,7 +23,7 @@ pub enum Value {
     Pointer(Pointer),
 }
 
-/// What one byte of the stack holds.
+/// The contents of one byte of the stack.
 #[derive(Clone, Copy)]
 pub enum StackByte {
     Unwritten,

@@ -1,5 +1,5 @@
--- Which maps have the shapes of array maps (Linux, Documentation/bpf/map_array.rst): so many
--- elements, each of so many bytes.
+-- Maps that have given shapes (Linux, Documentation/bpf/map_array.rst): each has as many elements
+-- as its shape has entries, each of the shape's size.
 use Rattle.std.specs.Prelude.{◌≡◌, ℕ, List, length, map, replicate}
 use Rattle.scx_isa_semantics.specs.Elements.{Maps, HoldBytes}
 use Rattle.scx_maps.specs.declared.shape.Shape.{Shape}
@@ -8,11 +8,11 @@ use Rattle.scx_maps.specs.declared.shape.Shape.{Shape}
 abbrev pub zeros : List Shape → Maps
 zeros shapes = map (λ (s : Shape). replicate s.entries (replicate s.value_size 0)) shapes
 
--- how many bytes each element of a map has
+-- the size in bytes of each element of a map
 abbrev pub lengths : List (List ℕ) → List ℕ
 lengths entries = map (λ (value : List ℕ). length value) entries
 
--- how many bytes each element of each map has
+-- the size in bytes of each element of each map
 abbrev pub lengths_of : Maps → List (List ℕ)
 lengths_of maps = map lengths maps
 

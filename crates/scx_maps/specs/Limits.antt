@@ -5,11 +5,11 @@ use Rattle.scx_maps.specs.declared.shape.Shape.{Shape}
 use Rattle.scx_maps.specs.declared.shape.TheConstants.{MAX_ENTRIES, MAX_VALUE_SIZE}
 use Rattle.scx_maps.specs.declared.defs.TheConstants.{MAX_MAPS, MAX_BYTES}
 
--- how many bytes the values of a map take
+-- the size in bytes of the values of a map
 abbrev pub byte_count : Shape → ℕ
 byte_count s = s.entries * s.value_size
 
--- how many bytes the values of all maps take
+-- the size in bytes of the values of all maps
 abbrev pub total_bytes : List Shape → ℕ
 total_bytes shapes = sum_by byte_count shapes
 

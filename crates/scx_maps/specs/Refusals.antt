@@ -1,5 +1,5 @@
--- Which limit a list of shapes breaks: the number of maps first; then, of the first map that breaks
--- a limit, the entries before the value size; the bytes of all maps last.
+-- The limit that a list of shapes breaks: the number of maps first; then, of the first map that
+-- breaks a limit, the entries before the value size; the bytes of all maps last.
 use Rattle.std.specs.Prelude.{ℕ, ◌<◌, ◌≤◌, List, length, take, All, IsSomeAnd, slice_get}
 use Rattle.scx_maps.specs.declared.shape.Shape.{Shape}
 use Rattle.scx_maps.specs.declared.defs.TheConstants.{MAX_MAPS, MAX_BYTES}

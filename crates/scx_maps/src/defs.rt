@@ -73,7 +73,7 @@ impl MapDefs {
         filled_up(&[])
     }
 
-    /// How many maps there are.
+    /// The number of maps.
     pub fn count(&self) -> usize
         ensures count { result ≡ length self.now }
         ensures limits { AreWithinLimits self.now }
@@ -104,7 +104,7 @@ impl PartialEq for MapDefs {
 
     ghost laws = { lists_per (Prim.search (comparing, rules)) };
 
-    /// Whether both have the same shapes, in the same order.
+    /// True if both have the same shapes, in the same order.
     fn eq(&self, other: &MapDefs) -> bool
         ensures answer { result ≡ same_shapes self.now other.now }
         ensures same { IsTrue result ↔ (self.now ≡ other.now) }
@@ -134,7 +134,7 @@ fn check_each(shapes: &[Shape]) -> Result<(), BadShape>
     Ok(())
 }
 
-/// How many bytes the values of maps take that are each within their limits.
+/// The size in bytes of the values of maps that are each within their limits.
 fn bytes_of_all(shapes: &[Shape]) -> usize
     requires count { length shapes.now ≤ MAX_MAPS }
     requires each { All IsWithinLimits shapes.now }

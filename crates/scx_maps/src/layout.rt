@@ -6,7 +6,7 @@ use crate::defs::{MAX_MAPS, MapDefs};
 use crate::shape::Shape;
 use std::marker::Model;
 
-/// Where each map stands in one block of bytes.
+/// The place of each map in one block of bytes.
 ///
 /// In a contract it is the list of the shapes.
 #[derive(Drop)]
@@ -14,7 +14,7 @@ pub struct Layout {
     defs: MapDefs,
     /// The byte at which each map begins.
     starts: [usize; MAX_MAPS],
-    /// How many bytes all maps take.
+    /// The size of all maps in bytes.
     bytes: usize,
 }
 
@@ -31,6 +31,17 @@ impl Model for Layout {
 }
 
 impl Layout {
+    /// A copy of the layout.
+    pub fn duplicate(&self) -> Layout
+        ensures { result ≡ self.now }
+    {
+        Layout {
+            defs: self.defs,
+            starts: self.starts,
+            bytes: self.bytes,
+        }
+    }
+
     pub fn new(defs: &MapDefs) -> Layout
         ensures { result ≡ defs.now }
     {
@@ -54,7 +65,7 @@ impl Layout {
         Layout::new(&MapDefs::none())
     }
 
-    /// How many bytes all maps take.
+    /// The size of all maps in bytes.
     pub fn bytes(&self) -> usize
         ensures bytes { result ≡ total_bytes self.now }
         ensures limits { AreWithinLimits self.now }
@@ -62,7 +73,7 @@ impl Layout {
         self.bytes
     }
 
-    /// How many maps there are.
+    /// The number of maps.
     pub fn count(&self) -> usize
         ensures count { result ≡ length self.now }
         ensures limits { AreWithinLimits self.now }
@@ -77,7 +88,7 @@ impl Layout {
         self.defs.shapes()[usize::from(map)]
     }
 
-    /// How many bytes each element of a map has.
+    /// The size in bytes of each element of a map.
     pub fn value_size(&self, map: u8) -> u16
         requires { map < length self.now }
         ensures { result ≡ (shape_at self.now map).value_size }

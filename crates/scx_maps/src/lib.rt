@@ -3,7 +3,7 @@
 //!
 //! `MapDefs` is the list of the shapes of a policy's maps, within this host's limits. `Maps` holds
 //! their values. In contracts it is the list of maps, each the list of its elements, each the list of
-//! its bytes; a call reads or changes one element. All values stand in one block, which
+//! its bytes; a call reads or changes one element. All values are in one block, which
 //! `Maps::new` alone takes; each other call takes constant time.
 //!
 //! A number in an element of map 0 grows by 1, if its bytes are there, in `crates/scx_tests_bench/src/maps.rt`:

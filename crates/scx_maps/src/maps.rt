@@ -8,8 +8,7 @@ ghost use Rattle.scx_maps.specs.Layout.{contents_in, offset_of};
 
 use crate::defs::{MAX_BYTES, MAX_MAPS, MapDefs};
 use crate::layout::Layout;
-use scx_isa_arithmetic::{read_number, write_number};
-use scx_isa_semantics::Size;
+use scx_isa_semantics::{Size, read_number, write_number};
 use std::alloc::{AllocError, Global};
 use std::marker::Model;
 
@@ -55,7 +54,7 @@ impl Maps {
         }
     }
 
-    /// How many maps there are.
+    /// The number of maps.
     pub fn count(&self) -> usize
         ensures count { result ≡ length self.now }
         ensures most { length self.now ≤ MAX_MAPS }
@@ -63,7 +62,7 @@ impl Maps {
         self.layout.count()
     }
 
-    /// Whether the map has an element of this key.
+    /// True if the map has an element with this key.
     pub fn lookup(&self, map: u8, key: u32) -> bool
         requires { map < length self.now }
         ensures { IsTrue result ↔ (key < length (elements self.now map)) }
@@ -71,7 +70,7 @@ impl Maps {
         key < self.layout.shape(map).entries
     }
 
-    /// How many bytes an element has; 0 where there is no such element.
+    /// The size of an element in bytes; 0 if there is no such element.
     pub fn value_size(&self, map: u8, index: u32) -> u16
         ensures size { result ≡ length (element self.now map index) }
         ensures is_there { 0 < result
@@ -158,6 +157,17 @@ impl Maps {
         ensures { self.new ≡ other.now }
     {
         self.block.copy_from_slice(&other.block);
+    }
+
+    /// A copy of the maps, in memory of its own.
+    pub fn duplicate(&self, alloc: Global) -> Result<Maps, AllocError>
+        ensures { IfOk result (λ copy. copy ≡ self.now) }
+    {
+        let block = Vec::from_slice(alloc, &self.block)?;
+        Ok(Maps {
+            layout: self.layout.duplicate(),
+            block,
+        })
     }
 
     /// Writes the lowest bytes of a number from a byte of all maps on, low byte first.

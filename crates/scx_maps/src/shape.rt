@@ -7,7 +7,7 @@ pub const MAX_ENTRIES: u32 = 65536;
 /// The most bytes that a value may have.
 pub const MAX_VALUE_SIZE: u32 = 4096;
 
-/// How many entries a map has, and how many bytes each of them.
+/// The number of entries of a map, and the size of each in bytes.
 #[derive(Clone, Copy, Debug, PartialEq, Eq)]
 pub struct Shape {
     pub entries: u32,
@@ -15,21 +15,21 @@ pub struct Shape {
 }
 
 impl Shape {
-    /// Whether the number of entries is within its limits.
+    /// True if the number of entries is within its limits.
     pub(crate) fn has_entries(&self) -> bool
         ensures { IsTrue result ↔ HasEntries self.now }
     {
         1 <= self.entries && self.entries <= MAX_ENTRIES
     }
 
-    /// Whether the size of a value is within its limits.
+    /// True if the size of a value is within its limits.
     pub(crate) fn has_value_size(&self) -> bool
         ensures { IsTrue result ↔ HasValueSize self.now }
     {
         1 <= self.value_size && self.value_size <= MAX_VALUE_SIZE
     }
 
-    /// How many bytes the values of a map take.
+    /// The size in bytes of all values of a map.
     pub(crate) fn bytes(&self) -> usize
         ensures { result ≡ byte_count self.now }
     {

@@ -38,7 +38,7 @@ use Rattle.scx_abs.specs.Calls.{key_in, argument_check, arguments_check, call_al
 use Rattle.scx_abs.specs.Rules.{area_of, kind_in, load_kind, stored_in, store_rule}
 use Rattle.scx_abs.proofs.Accesses.{Means, area_found}
 use Rattle.scx_abs.proofs.Proper.{kind_is_proper}
-use Rattle.scx_vm_ops.specs.Chosen.{load_op, store_op, look_up_op, call_op}
+use Rattle.scx_vm.specs.Chosen.{load_op, store_op, look_up_op, call_op}
 use Rattle.scx_verify.specs.Translation.{load_from, store_to, look_up_in, call_of}
 use Rattle.scx_verify.specs.Laws.{TypingChooses}
 

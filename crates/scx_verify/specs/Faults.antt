@@ -1,5 +1,5 @@
--- What a refusal says of a program, and the numbers and names of refusals: those of its flow, 1 to
--- 4, then those of the checks, 5 to 19, then want of memory, which says nothing of it but that its
+-- The meaning of a refusal, and the numbers and names of refusals: those of its flow, 1 to 4, then
+-- those of the checks, 5 to 19, then out of memory, which says nothing of it but that its
 -- flow has no fault, since memory is only asked for then.
 use Rattle.std.specs.Prelude.{◌≡◌, ◌≢◌, ℕ, List, codes}
 use Rattle.scx_vm.specs.declared.context.Context.{Context}

@@ -1,5 +1,5 @@
--- How states for slots ahead are kept: for each slot the index of its state, if it has one. No two
--- slots have the same, and the free ones are no slot's. No public clause cites it.
+-- Storage of the states for slots ahead: for each slot the index of its state, if it has one.
+-- No two slots have the same, and the free ones are no slot's. No public clause cites it.
 use Rattle.std.specs.Prelude.{ℕ, ◌≡◌, ◌<◌, ◌⊎◌, List, [], ◌∷◌, ◌++◌, length, map, set, slice_get, slice_index_or, Option, Some, None}
 use Rattle.scx_abs.specs.declared.states.AbsState.{AbsState}
 

@@ -8,7 +8,7 @@ use Rattle.scx_maps.specs.declared.shape.Shape.{Shape}
 use Rattle.scx_abs.specs.declared.rules.Next.{Next}
 use Rattle.scx_abs.specs.Stands.{IsMember}
 use Rattle.scx_abs.specs.Rules.{rule}
-use Rattle.scx_vm_ops.specs.Chosen.{chosen}
+use Rattle.scx_vm.specs.Chosen.{chosen}
 use Rattle.scx_verify.specs.Translation.{op_of}
 use Rattle.scx_vm.specs.declared.context.Context.{Context}
 use Rattle.scx_isa_semantics.specs.Code.{Code}

@@ -4,7 +4,7 @@
 use Rattle.std.specs.Prelude.{ℕ, ◌+◌, ◌<◌, ◌≤◌, ◌≡◌, ◌⊎◌, List, [], length, map, set, slice_index, slice_index_or, Option, Some, None, Result, Ok, Err, if◌then◌else◌}
 use Rattle.scx_isa_semantics.specs.declared.instructions.Insn.{Insn}
 use Rattle.scx_isa_semantics.specs.Code.{at}
-use Rattle.scx_vm_ops.specs.Packed.{op_of_packed}
+use Rattle.scx_vm.specs.Packed.{op_of_packed}
 use Rattle.scx_abs.specs.declared.faults.Why.{Why}
 use Rattle.scx_abs.specs.declared.rules.Next.{Next}
 use Rattle.scx_abs.specs.Rules.{rule}

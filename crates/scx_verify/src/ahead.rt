@@ -11,8 +11,8 @@ use std::alloc::{AllocError, Global};
 use std::marker::Model;
 use std::mem::swap;
 
-/// What jumps sent to the slots ahead. The states are kept apart, each for one slot at most, and
-/// written over once their slot was reached.
+/// The states that jumps sent to the slots ahead. They are kept apart, each for one slot at most,
+/// and written over once their slot was reached.
 ///
 /// In a contract it is the list of what is known of each slot so far.
 #[derive(Drop)]
@@ -121,7 +121,7 @@ impl Ahead {
         }
     }
 
-    /// The same, where something may have been sent.
+    /// Takes in what was sent to the slot, where something may have been sent.
     fn take_in(&mut self, slot: usize, state: &mut Known, live: bool) -> bool
         requires { slot < length self.old }
         ensures here { IsAdded (states_of self.old slot) (if live then Some state.old else None)
@@ -208,7 +208,7 @@ fn write_over(kept: &mut Known, state: &Known, change: &Change)
     kept.change(change);
 }
 
-/// Keeps a state, changed, behind the others, of which there may be 65535; the result is its index.
+/// Keeps a state, changed, after the others, of which there may be 65535; the result is its index.
 fn add(
     alloc: Global,
     states: &mut Vec<Known>,

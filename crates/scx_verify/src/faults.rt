@@ -7,7 +7,7 @@ use scx_isa::{FlowError, FlowFault};
 use std::alloc::AllocError;
 use thiserror::Error;
 
-/// What is wrong with a program.
+/// The fault of a refused program.
 #[derive(Clone, Copy, Debug, PartialEq, Eq)]
 pub enum Fault {
     /// With its flow: 1 to 4.

@@ -1,4 +1,4 @@
-//! The verifier: whether a program is safe to run, asked before it runs.
+//! The verifier: it accepts a program that is safe to run, before it runs.
 //!
 //! `verify` asks `flow` first, and then goes over the slots once, in order. It keeps for each slot the
 //! least abstract state that covers all that flows to it, and refuses the program at the first slot

@@ -12,8 +12,8 @@ use crate::pass::pass;
 use scx_abs::Context;
 use scx_isa::{Callback, MAX_SLOTS, Program, flow};
 use scx_maps::MapDefs;
-use scx_vm_ops::Packed;
-use std::alloc::Global;
+use scx_vm::Packed;
+use std::alloc::{AllocError, Global};
 use std::marker::Model;
 
 /// A program that `verify` accepted, which alone makes one: it is safe as that callback, with maps of
@@ -40,11 +40,24 @@ impl Model for Verified {
 }
 
 impl Verified {
-    /// What the program was verified for.
+    /// The callback that the program was verified for.
     pub fn callback(&self) -> Callback
         ensures { result ≡ self.now.context.callback }
     {
         self.context.callback
+    }
+
+    /// A copy of the program, in memory of its own.
+    pub fn duplicate(&self, alloc: Global) -> Result<Verified, AllocError>
+        ensures { IfOk result (λ copy. copy ≡ self.now) }
+    {
+        let ops = Vec::from_slice(alloc, &self.ops)?;
+        let program = self.program.duplicate(alloc)?;
+        Ok(Verified {
+            ops,
+            program,
+            context: self.context,
+        })
     }
 
     /// The shapes of the maps that it was verified for.
@@ -54,7 +67,7 @@ impl Verified {
         &self.context.defs
     }
 
-    /// How many instructions it has, which is as many steps as a run of it takes at most.
+    /// The number of its instructions, which is as many steps as a run of it takes at most.
     pub fn instructions(&self) -> usize
         ensures count { result ≡ instruction_count self.now.code }
         ensures most { result ≤ MAX_SLOTS }
@@ -62,7 +75,7 @@ impl Verified {
         self.program.instructions()
     }
 
-    /// What was verified.
+    /// The program that was verified.
     pub fn program(&self) -> &Program
         ensures { result.now ≡ self.now.code }
     {

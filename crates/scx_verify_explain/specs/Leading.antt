@@ -1,4 +1,4 @@
--- From where control jumps to a slot.
+-- The jumps that lead to a slot.
 use Rattle.std.specs.Prelude.{◌≡◌, ℕ, ◌+◌, ◌<◌, ◌≤◌, ℤ, pos, Bool, ◌&&◌, nat_eq, is_some, List, slice_index_or, length, Option, Some, None, Result, Ok, Err, if◌then◌else◌}
 use Rattle.scx_isa_semantics.specs.declared.instructions.Insn.{Insn}
 use Rattle.scx_isa_semantics.specs.declared.instructions.Insn.TheVariants.{JumpIf, Goto, GotoLong}

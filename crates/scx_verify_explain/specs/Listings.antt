@@ -1,4 +1,4 @@
--- What a listing holds: the program, and the forward states, as far as the pass comes that `verify`
+-- Listings: the program, and the forward states, as far as the pass comes that `verify`
 -- makes too.
 use Rattle.std.specs.Prelude.{◌≡◌, ℕ, ◌+◌, ◌<◌, ◌⊎◌, nat_lt, length, Option, None, if◌then◌else◌}
 use Rattle.scx_isa_semantics.specs.Code.{Code}

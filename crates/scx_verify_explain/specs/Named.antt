@@ -1,4 +1,4 @@
--- What an instruction names: registers that it reads, writes and stores, and the address
+-- The operands of an instruction: registers that it reads, writes and stores, and the address
 -- that it is given.
 use Rattle.std.specs.Prelude.{◌≡◌, ℕ, ◌+◌, ◌⊎◌, ℤ, pos, Option, Some, None, slice_get}
 use Rattle.scx_isa_semantics.specs.declared.instructions.Insn.{Insn}

@@ -1,4 +1,4 @@
--- Which fault a reason is of.
+-- The fault of each reason.
 use Rattle.scx_isa.specs.declared.faults.FlowFault.{FlowFault}
 use Rattle.scx_isa.specs.declared.faults.FlowFault.TheVariants.{BackJump, OutOfProgram, IntoWide, FallsOff}
 use Rattle.scx_abs.specs.declared.faults.Why.{Why}

@@ -1,4 +1,4 @@
--- What a reason says is so: it names registers that the instruction reads, writes or stores, with
+-- A reason is true: it names registers that the instruction reads, writes or stores, with
 -- the kinds and bytes that are known before it, and its numbers.
 use Rattle.std.specs.Prelude.{◌≡◌, ℕ, ◌+◌, ◌<◌, ◌≤◌, ◌/◌, ◌%◌, ℤ, pos, ◌+ℤ◌, Bool, true, false, IsTrue, IsFalse, List, length, Option, Some, None, Ok, Err, if◌then◌else◌}
 use Rattle.scx_isa_semantics.specs.declared.instructions.Insn.{Insn}
@@ -110,7 +110,7 @@ kind_in (Pointer k) j = kind_of k
 abbrev pub byte_kind : AbsState → ℕ → Kind
 byte_kind a byte = kind_in (cell_at a (byte / 8)) (byte % 8)
 
--- one of so many bytes of the stack is of that kind
+-- one of that many bytes of the stack is of that kind
 pub record HasByte (a : AbsState) (first n byte : ℕ) (k : Kind) : Type 0 where
   pub from_first : first ≤ byte
   pub before_end : byte < first + n

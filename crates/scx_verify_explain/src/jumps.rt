@@ -37,7 +37,7 @@ impl Jumps {
         Ok(jumps)
     }
 
-    /// Takes in the jump from a slot, those from behind which are there.
+    /// Takes in the jump from a slot; those from later slots are there.
     fn take_in(&mut self, listing: &Listing, from: usize)
         requires within { from < length listing.now.code.items }
         requires behind { AreJumpsFrom listing.now (from + 1) self.old }

@@ -1,6 +1,6 @@
-//! Why the verifier says what it says of a program: what is known before each instruction, and at a
-//! refusal the check that failed, with this case's values, where the value at fault comes from, and
-//! one way by which control came there.
+//! The verifier's answer, explained: the state before each instruction, and at a refusal the check
+//! that failed, with this case's values, where the value at fault comes from, and one way by which
+//! control came there.
 //!
 //! `Listing` goes over the slots as `verify` does, by the same `start`, `transfer` and `join`, and keeps
 //! the state of each slot. `explanation_of` says why the check of an instruction failed, and goes back

@@ -58,7 +58,7 @@ pub(crate) fn first_read(insn: Insn) -> Option<Register>
     }
 }
 
-/// The register that an instruction reads behind the first; `None` of a call.
+/// The register that an instruction reads after the first; `None` of a call.
 pub(crate) fn second_read(insn: Insn) -> Option<Register>
     ensures { result ≡ second_read insn }
 {
@@ -150,7 +150,7 @@ pub(crate) fn argument_of(called: i32, argument: usize) -> Option<(Register, Par
     Some((register, parameter))
 }
 
-/// How far a jump goes; 0 of other instructions.
+/// The offset of a jump; 0 of other instructions.
 pub(crate) fn distance_of(insn: Insn) -> i32
     ensures { result ≡ distance insn }
 {

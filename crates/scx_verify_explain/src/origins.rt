@@ -6,13 +6,13 @@ use scx_isa::{Access, Insn, Operand, Operation, Register, Size, Width};
 /// A value of which something is known.
 #[derive(Clone, Copy)]
 pub enum Subject {
-    /// What the register holds.
+    /// The value of a register.
     Register(Register),
-    /// What the byte of the stack holds, counted from the lowest.
+    /// The value of a byte of the stack, counted from the lowest.
     Byte(u16),
 }
 
-/// What a way brought to a slot.
+/// The value that a way brought to a slot.
 #[derive(Clone, Copy)]
 pub struct Brought {
     /// The slot that it came from.
@@ -38,7 +38,7 @@ pub enum Origin {
         number: i32,
         slot: usize,
     },
-    /// That call left it unusable.
+    /// Lost to that call, which left it unusable.
     Lost {
         number: i32,
         slot: usize,
@@ -72,7 +72,7 @@ pub(crate) enum Source {
     Begins(Origin),
 }
 
-/// What kind of value the subject is.
+/// The kind of the subject's value.
 pub(crate) fn known_of(state: &AbsState, subject: Subject) -> Kind {
     plain(match subject {
         Subject::Register(register) => state.kind(register),
@@ -184,7 +184,7 @@ fn source_of_byte(
     }
 }
 
-/// Whether the byte is one of those that an access at that byte is to.
+/// True if the byte is one of those that an access at that byte is to.
 fn is_within(byte: u16, at: u16, size: Size) -> bool {
     match byte.checked_sub(at) {
         Some(distance) => distance < size.bytes(),
@@ -192,7 +192,7 @@ fn is_within(byte: u16, at: u16, size: Size) -> bool {
     }
 }
 
-/// Whether the instruction, which is no call, writes the register.
+/// True if the instruction, which is no call, writes the register.
 fn writes(insn: Insn, register: Register) -> bool {
     match written_register(insn) {
         Some(destination) => destination == register,

@@ -7,14 +7,14 @@ use crate::named::Address;
 use scx_abs::{AbsState, Kind};
 use scx_abs_ranges::{Offsets, Range};
 use scx_isa::{Operand, Operation, STACK_SIZE, Width};
-use scx_isa_arithmetic::pointer_step;
+use scx_isa_semantics::pointer_step;
 use scx_maps::MapDefs;
 
 /// Memory that an address means.
 #[derive(Clone, Copy)]
 pub enum Memory {
     Stack,
-    /// An element of that map, of so many bytes.
+    /// An element of that map, of `bytes` bytes.
     Element { map: u8, bytes: i64 },
 }
 
@@ -38,7 +38,7 @@ pub struct Reach {
     pub count: u16,
 }
 
-/// How far a pointer is moved: by one of some numbers of bytes.
+/// The numbers of bytes by which a pointer may be moved.
 #[derive(Clone, Copy)]
 pub(crate) struct Distances {
     least: i128,
@@ -48,7 +48,7 @@ pub(crate) struct Distances {
 }
 
 impl Distances {
-    /// By so many bytes in any case.
+    /// By that many bytes in any case.
     fn one(bytes: i64) -> Distances
         ensures distances { result ≡ one_distance bytes }
         ensures short { AreShort result }
@@ -62,7 +62,7 @@ impl Distances {
 }
 
 impl Place {
-    /// Whether it is one byte alone.
+    /// True if it is one byte alone.
     pub fn is_single(self) -> bool {
         self.from == self.to
     }
@@ -110,7 +110,12 @@ fn place_on_stack(at: u16) -> Place
 }
 
 fn place_in_element(map: u8, bytes: u32, offsets: Offsets) -> Place
-    ensures place { result ≡ record { memory = Memory.Element map (pos bytes); from = pos offsets.low; to = pos offsets.high; shift = offsets.shift } }
+    ensures place { result ≡ record {
+      memory = Memory.Element map (pos bytes);
+      from = pos offsets.low;
+      to = pos offsets.high;
+      shift = offsets.shift;
+    } }
     ensures near { IsNear result }
 {
     let Range { low, high, shift } = offsets.range();
@@ -125,7 +130,7 @@ fn place_in_element(map: u8, bytes: u32, offsets: Offsets) -> Place
     }
 }
 
-/// How many bytes the elements of a map have; those of a map that isn't there have none.
+/// The size in bytes of a map's values; 0 if there is no such map.
 fn element_size(map: u8, defs: &MapDefs) -> u32
     ensures { result ≡ element_size defs.now map }
 {
@@ -159,7 +164,7 @@ pub(crate) fn stack_bytes(first: u16, count: u16) -> Reach
     }
 }
 
-/// How far an operation moves a pointer.
+/// The distances by which an operation may move a pointer.
 pub(crate) fn distances_of(
     state: &AbsState,
     width: Width,

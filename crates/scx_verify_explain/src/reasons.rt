@@ -44,16 +44,16 @@ pub enum Reason {
     Field(BadField),
     /// A helper may not be called, or not so.
     Call(BadCall),
-    /// There is no map of that number among so many.
+    /// There is no map of that number among `maps`.
     UnknownMap { map: i32, maps: usize },
 }
 
-/// What is wrong with where control goes.
+/// A fault of where control goes.
 #[derive(Clone, Copy)]
 pub enum BadFlow {
     /// A jump goes back to that slot; below 0 there is none.
     Back(i128),
-    /// A jump goes to that slot of a program of so many.
+    /// A jump goes to that slot of a program of `slots`.
     OutOfProgram { to: i128, slots: usize },
     /// A jump goes to that slot, which is a second half.
     IntoWide(i128),
@@ -61,7 +61,7 @@ pub enum BadFlow {
     FallsOff,
 }
 
-/// What is wrong with what a register holds, or with what is done with it.
+/// A fault of a register's value, or of what is done with it.
 #[derive(Clone, Copy)]
 pub enum BadValue {
     /// It is read, and nothing is known of its value.
@@ -76,18 +76,18 @@ pub enum BadValue {
     Comparison(Register, Kind),
     /// A pointer that is stored.
     Stored(Register, Kind),
-    /// What is in r0 at the end of a callback that answers a number.
+    /// The value of r0 at the end of a callback that answers a number.
     Answer { kind: Kind, callback: Callback },
 }
 
-/// What is wrong with an address.
+/// A fault of an address.
 #[derive(Clone, Copy)]
 pub enum BadAccess {
-    /// Of these bytes of the stack that one isn't written, counted from the lowest.
+    /// One of these bytes of the stack isn't written, counted from the lowest.
     Unwritten { reach: Reach, byte: u16 },
     /// These bytes of the stack aren't read as the whole of the pointer of which they are a part.
     PartOfPointer { reach: Reach, kind: Kind },
-    /// What the register holds is no pointer to memory.
+    /// The register's value is no pointer to memory.
     NoPointer(Register, Kind),
     /// They lie, or may lie, outside their memory.
     Outside(Reach),
@@ -97,7 +97,7 @@ pub enum BadAccess {
     Misaligned(Reach),
 }
 
-/// What is wrong with an access to a task.
+/// A fault of an access to a task.
 #[derive(Clone, Copy)]
 pub enum BadField {
     /// No field has that offset and size.
@@ -108,7 +108,7 @@ pub enum BadField {
     ReadOnly(Field),
 }
 
-/// What is wrong with the call of the helper of a number.
+/// A fault of the call of the helper of a number.
 #[derive(Clone, Copy)]
 pub enum BadCall {
     /// No helper has the number.
@@ -136,7 +136,7 @@ pub struct Explanation {
     pub trail: Option<Trail>,
 }
 
-/// Which registers are looked for, by what they hold.
+/// The registers that are looked for, by the kind of their value.
 #[derive(Clone, Copy)]
 pub(crate) enum Sort {
     Unusable,
@@ -322,7 +322,7 @@ fn bad_answer(state: &AbsState, insn: Insn, callback: Callback) -> Option<BadVal
     }
 }
 
-/// Whether a kind is of that sort.
+/// True if a kind is of that sort.
 fn is_of(sort: Sort, kind: Kind) -> bool
     ensures { result ≡ true → IsOf sort kind }
 {
@@ -357,7 +357,7 @@ fn read_that_is(sort: Sort, state: &AbsState, insn: Insn) -> Option<Register>
     }
 }
 
-/// The same of an instruction that is no call.
+/// The register that an instruction other than a call reads and that holds such a value.
 fn operand_that_is(sort: Sort, state: &AbsState, insn: Insn) -> Option<Register>
     ensures read { IfSome result (Reads insn) }
     ensures sort { IfSome result (λ found. IsOf sort (kind_at state.now (number found))) }
@@ -368,7 +368,7 @@ fn operand_that_is(sort: Sort, state: &AbsState, insn: Insn) -> Option<Register>
     }
 }
 
-/// The same of the call of a helper.
+/// The register that the call of a helper reads and that holds such a value.
 fn argument_that_is(sort: Sort, state: &AbsState, called: i32) -> Option<Register>
     ensures taken { IfSome result (λ found. HasArgument (Insn.Call called) found) }
     ensures sort { IfSome result (λ found. IsOf sort (kind_at state.now (number found))) }
@@ -395,7 +395,7 @@ fn pointer_in(state: &AbsState, insn: Insn) -> Option<Register>
     }
 }
 
-/// Whether it adds a register to a pointer to an element.
+/// True if it adds a register to a pointer into a map value.
 fn adds_to_element(state: &AbsState, insn: Insn) -> bool {
     match insn {
         Insn::Binary(Width::Bits64, Operation::Add, destination, Operand::Register(_)) => {
@@ -442,7 +442,7 @@ fn bad_argument(state: &AbsState, called: i32) -> Option<(Register, Parameter)>
     None
 }
 
-/// Whether a register of that kind may be such an argument, null or not, wherever it points.
+/// True if a register of that kind may be such an argument, null or not, wherever it points.
 fn is_taken(parameter: Parameter, kind: Kind) -> bool
     ensures { result ≡ is_taken parameter kind }
 {
@@ -457,7 +457,7 @@ fn is_taken(parameter: Parameter, kind: Kind) -> bool
     }
 }
 
-/// What is read of the stack, and isn't written, or is a part of a pointer.
+/// The bytes of the stack that are read and aren't written, or are a part of a pointer.
 fn unwritten_in(state: &AbsState, insn: Insn, defs: &MapDefs) -> Option<BadAccess>
     ensures fault { IfSome result (λ access. access_fault access ≡ Why.UnwrittenStack) }
     ensures said { IfSome result (IsAccessSaid defs.now insn state.now) }
@@ -469,7 +469,7 @@ fn unwritten_in(state: &AbsState, insn: Insn, defs: &MapDefs) -> Option<BadAcces
     }
 }
 
-/// Of so many bytes of the stack, from that one on, the first that isn't written, or is a part of a
+/// The first of `count` bytes of the stack, from `first` on, that isn't written, or is a part of a
 /// pointer.
 fn unwritten_from(state: &AbsState, first: u16, count: u16) -> Option<BadAccess>
     requires { first + count ≤ STACK_SIZE }

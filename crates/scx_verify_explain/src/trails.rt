@@ -20,11 +20,11 @@ pub struct Trail {
     pub legs: Vec<Leg>,
     /// Where the value comes from that was looked for, if one was.
     pub origin: Option<Origin>,
-    /// Whether it was copied since.
+    /// True if it was copied since.
     pub is_copied: bool,
 }
 
-/// Which arrivals are looked for.
+/// The arrivals that are looked for.
 #[derive(Clone, Copy)]
 enum Wanted {
     Any,
@@ -35,7 +35,7 @@ enum Wanted {
 }
 
 impl Wanted {
-    /// Whether the arrival is one of them.
+    /// True if the arrival is one of them.
     fn is(&self, arrival: &Arrival) -> bool {
         match self {
             Wanted::Any => true,
@@ -67,7 +67,7 @@ pub(crate) fn trail_of(
     Ok(tracker.end(listing))
 }
 
-/// Where the way back stands.
+/// The place that the way back has come to.
 #[derive(Drop)]
 struct Tracker {
     slot: usize,

@@ -1,3 +1,11 @@
+pub mod Machine
+pub mod Meaning
+pub mod Shows
+pub mod Packed
+pub mod Chosen
+pub mod Bounds
+pub mod Steps
+pub mod Laws
 pub mod Arguments
 pub mod Host
 pub mod Alone

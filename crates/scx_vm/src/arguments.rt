@@ -9,14 +9,14 @@ pub enum Arg {
     Task(TaskId),
 }
 
-/// What a helper answers.
+/// The answer of a helper.
 #[derive(Clone, Copy, Debug, PartialEq, Eq)]
 pub enum Answer {
     Num(u64),
     Task(TaskId),
 }
 
-/// What a callback is given, in r1 to r3.
+/// The arguments of a callback, in r1 to r3.
 #[derive(Clone, Copy, Debug, PartialEq, Eq)]
 pub struct Args {
     pub first: Arg,

@@ -3,6 +3,6 @@
 pub struct Done {
     /// The number in r0; 0 where the callback answers none.
     pub r0: u64,
-    /// How many instructions were done, the `exit` included: at least 1.
+    /// The number of instructions that were done, with the `exit`: at least 1.
     pub steps: usize,
 }

@@ -11,7 +11,7 @@ use scx_isa_semantics::{Field, Helper, TaskId};
 /// Each answer and each change is a function of its state. Two budgets bound what a run may ask:
 /// `room` is the number of calls that it still has room for, and `spent` grows by at most 1 a call.
 pub trait Env {
-    /// What a helper answers, what a field of a task holds, and the host after a call or a store.
+    /// A helper's answer, the value of a task's field, and the host after a call or a store.
     ghost functions: { Functions Self };
 
     ghost room: { Self → ℕ };
@@ -30,7 +30,7 @@ pub trait Env {
         ensures room { room self.old ≤ room self.new + 1 }
         ensures spent { spent self.new ≤ spent self.old + 1 };
 
-    /// What the field holds.
+    /// The value of the field.
     fn load(&self, task: TaskId, field: Field) -> u64
         ensures number { result ≡ functions.number self.now task field }
         ensures fits { result < 2 ^ (8 * field_width field) };

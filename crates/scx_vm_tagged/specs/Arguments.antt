@@ -1,4 +1,4 @@
--- What a helper takes that asks its host.
+-- The arguments of a helper that asks its host.
 use Rattle.std.specs.Prelude.{Bool, true, false, Option, Some, None}
 use Rattle.scx_isa_semantics.specs.declared.values.Value.{Value}
 use Rattle.scx_isa_semantics.specs.declared.host_tables.Parameter.{Parameter}

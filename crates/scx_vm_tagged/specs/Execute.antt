@@ -1,4 +1,4 @@
--- What the interpreter answers of an instruction, with the state and the host that it leaves, as
+-- The interpreter's answer to an instruction, with the state and the host that it leaves, as
 -- the effect that the instruction has by its meaning (RFC 9669, sections 4 and 5).
 use Rattle.std.specs.Prelude.{◌≡◌}
 use Rattle.scx_isa_semantics.specs.declared.values.Value.{Value}

@@ -1,5 +1,5 @@
--- How a step and a run of the interpreter end. Control goes from an instruction to the next one, or
--- to a jump's target (RFC 9669, section 4.3).
+-- The ends of a step and of a run of the interpreter. Control goes from an instruction to the
+-- next one, or to a jump's target (RFC 9669, section 4.3).
 use Rattle.std.specs.Prelude.{◌≡◌, ℕ, ⊤, ◌<◌, ◌≤◌}
 use Rattle.scx_isa_semantics.specs.declared.callbacks.Callback.{Callback}
 use Rattle.scx_isa_semantics.specs.Code.{Code, instruction_count, instructions_from}
@@ -10,8 +10,8 @@ use Rattle.scx_isa_semantics.specs.Runs.{Outside, LeadsTo, GetsStuck}
 use Rattle.scx_vm_tagged.specs.declared.run.Outcome.{Outcome}
 use Rattle.scx_vm_tagged.specs.declared.run.Outcome.TheVariants as outcome
 use Rattle.scx_vm.specs.declared.ending.Done.{Done}
-use Rattle.scx_vm_tagged.specs.declared.run.Ran.{Ran}
-use Rattle.scx_vm_tagged.specs.declared.run.Ran.TheVariants as ran
+use Rattle.scx_vm_tagged.specs.declared.run.Ending.{Ending}
+use Rattle.scx_vm_tagged.specs.declared.run.Ending.TheVariants as ran
 
 -- a step with these maps and this outside comes to what the interpreter says
 abbrev pub StepsTo :
@@ -28,12 +28,12 @@ LeadsNearer code slot (outcome.At next) = instructions_from code next < instruct
 LeadsNearer code slot (outcome.Ended answer) = ⊤
 
 -- if the run came to its end, this holds of what it came to; of a stuck one nothing is said
-abbrev pub IfDone : Ran → (Done → Type 0) → Type 0
+abbrev pub IfDone : Ending → (Done → Type 0) → Type 0
 IfDone (ran.Done done) P = P done
 IfDone (ran.Stuck slot) P = ⊤
 
 -- if the run got stuck, this holds of the slot; of one that came to its end nothing is said
-abbrev pub IfStuck : Ran → (ℕ → Type 0) → Type 0
+abbrev pub IfStuck : Ending → (ℕ → Type 0) → Type 0
 IfStuck (ran.Done done) P = ⊤
 IfStuck (ran.Stuck slot) P = P slot
 

@@ -1,4 +1,4 @@
--- At which instruction of a run something came about in its host.
+-- The instruction of a run by which something came about in its host.
 use Rattle.std.specs.Prelude.{◌≡◌, ℕ, Bool, true, false, ◌&&◌, not, if◌then◌else◌, List, [], ◌∷◌, Option, Some, None}
 use Rattle.scx_isa_semantics.specs.declared.callbacks.Callback.{Callback}
 use Rattle.scx_isa_semantics.specs.declared.values.Value.{Value}

@@ -107,7 +107,7 @@ fn ask<E: Env>(core: &mut Core, helper: Helper, env: &mut E) -> Effect
     Effect::Next
 }
 
-/// What the helper takes, from r1 on.
+/// The helper's arguments, from r1 on.
 fn arguments(core: &Core, helper: Helper) -> [Arg; 5]
     ensures { (maps : Maps) → result ≡ map argument_of (arguments (seen core.now maps) helper) }
 {
@@ -120,7 +120,7 @@ fn arguments(core: &Core, helper: Helper) -> [Arg; 5]
     ]
 }
 
-/// What the register holds, if the helper takes an argument of that number.
+/// The value of the register, if the helper takes an argument of that number.
 fn argument(core: &Core, helper: Helper, index: usize, register: Register) -> Arg
     requires { number register ≡ index + 1 }
     ensures { (maps : Maps)
@@ -135,7 +135,7 @@ fn argument(core: &Core, helper: Helper, index: usize, register: Register) -> Ar
     }
 }
 
-/// Whether a helper that asks the host finds what it takes, from r1 on.
+/// True if a helper that asks the host finds all its arguments, from r1 on.
 fn takes_all(core: &Core, helper: Helper) -> bool
     requires { ¬ (helper ≡ MapLookupElem) }
     ensures { (maps : Maps) → result ≡ takes_all (seen core.now maps) (parameters helper) 1 }
@@ -146,7 +146,7 @@ fn takes_all(core: &Core, helper: Helper) -> bool
                 & (takes(core, helper, 3, Register::R4) & takes(core, helper, 4, Register::R5))))
 }
 
-/// Whether the register holds what the helper takes as its argument of that number: a task or a
+/// True if the register holds what the helper takes as its argument of that number: a task or a
 /// number.
 fn takes(core: &Core, helper: Helper, index: usize, register: Register) -> bool
     ensures { (maps : Maps)

@@ -1,4 +1,4 @@
-/// What an instruction did, apart from the state that it left.
+/// The outcome of an instruction, apart from the state that it left.
 #[derive(Clone, Copy)]
 pub enum Effect {
     /// Nothing: it has no meaning in the state that it found.

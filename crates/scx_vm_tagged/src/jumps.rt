@@ -11,9 +11,9 @@ use crate::effect::Effect;
 use crate::state::Core;
 use crate::values::operand_value;
 use scx_isa::{Comparison, Operand, Register, Value, Width};
-use scx_isa_arithmetic as numbers;
+use scx_isa_semantics as numbers;
 
-/// What a comparison finds; `None` where it has no meaning.
+/// The answer of a comparison; `None` where it has no meaning.
 pub fn comparison_answer(
     core: &Core,
     width: Width,
@@ -38,7 +38,7 @@ pub fn comparison_answer(
     }
 }
 
-/// What a comparison finds of a number and an operand.
+/// The answer of a comparison of a number with an operand.
 fn numbers_compared(width: Width, comparison: Comparison, a: u64, operand: Value) -> Option<bool>
     ensures { result ≡ numbers_compared width comparison a operand }
 {
@@ -48,7 +48,7 @@ fn numbers_compared(width: Width, comparison: Comparison, a: u64, operand: Value
     }
 }
 
-/// What a test of a pointer for 0 finds: it never is.
+/// The answer of a test of a pointer for 0: it never is.
 fn null_compared(width: Width, comparison: Comparison, operand: Operand) -> Option<bool>
     ensures { result ≡ null_compared width comparison operand }
 {
@@ -58,7 +58,7 @@ fn null_compared(width: Width, comparison: Comparison, operand: Operand) -> Opti
     }
 }
 
-/// Whether a pointer compares so with 0.
+/// The answer of a comparison of a pointer with 0.
 fn null_answer(comparison: Comparison) -> Option<bool>
     ensures { result ≡ null_answer comparison }
 {

@@ -8,7 +8,7 @@
 //! state there, as one that reads an unset register. It also says by which instruction what the watch awaits
 //! of the host came about: so the place of a fault is found. Its contract says that the run is the one that
 //! the definitions of `scx_isa_semantics` give the program, and that it takes no more steps than there
-//! are instructions. `try_run` does the same run without a watch; tests compare `scx_vm_run` with it.
+//! are instructions. `run_unwatched` does the same run without a watch; tests compare `scx_vm_run` with it.
 //!
 //! The layers, from below: the 512 bytes of stack (`stack`), values that pass to the host and back
 //! (`arguments`), registers and stack (`state`), operands and pointers (`values`), comparisons
@@ -29,6 +29,6 @@ mod state;
 mod values;
 mod watch;
 
-pub use run::{Ran, Site, Watched, run_watched, try_run};
+pub use run::{Ending, Site, WatchedEnding, run_unwatched, run_watched};
 pub use state::Core;
 pub use watch::Watch;

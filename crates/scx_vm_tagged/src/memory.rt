@@ -6,7 +6,7 @@ ghost use Rattle.scx_isa_semantics.specs.Locations.{address};
 ghost use Rattle.scx_vm_tagged.specs.Locations.{location_of, Lies, LiesInElement};
 
 use scx_isa::{Access, Field, Pointer, STACK_SIZE, Size, TaskId, Value};
-use scx_isa_arithmetic::{read, shifted};
+use scx_isa_semantics::{read, shifted};
 use scx_maps::Maps;
 
 /// The location that an address means.
@@ -68,7 +68,7 @@ fn aligned_within(limit: u16, size: Size, at: u16, offset: i16) -> Option<u16>
     }
 }
 
-/// What a load reads in an element of a map.
+/// The number that a load reads in a map value.
 pub fn element_number(maps: &Maps, map: u8, index: u32, at: u16, access: Access) -> u64
     requires { LiesInElement maps.now map index at (size_bytes (access_size access)) }
     ensures { result

@@ -15,14 +15,14 @@ ghost use Rattle.scx_vm_tagged.specs.Watched.{Came, EndsAt, came_at};
 use crate::effect::Effect;
 use crate::execute::execute;
 use crate::state::Core;
-use crate::watch::{Nobody, Watch};
+use crate::watch::{Unwatched, Watch};
 use scx_isa::{Callback, MAX_SLOTS, Program, Value, target};
 use scx_maps::Maps;
 use scx_vm::{Args, Done, Env};
 
-/// How a run ended.
+/// The end of a run.
 #[derive(Clone, Copy, Debug, PartialEq, Eq)]
-pub enum Ran {
+pub enum Ending {
     /// It came to an `exit`, with a number in r0 where the callback answers one.
     Done(Done),
     /// It came to this slot, counted from 0, where no instruction begins or the one there has no
@@ -45,8 +45,8 @@ pub struct Site {
 
 /// The end of a run that a `Watch` was shown.
 #[derive(Clone, Copy)]
-pub struct Watched {
-    pub ran: Ran,
+pub struct WatchedEnding {
+    pub ran: Ending,
     /// The instruction by which what was awaited came about.
     pub came: Option<Site>,
     /// The slot at which the run ended or got stuck.
@@ -67,13 +67,13 @@ enum Outcome {
 /// Runs a program that `flow` accepts, as that callback (RFC 9669).
 ///
 /// Its jumps go forward, so it does each instruction at most once.
-pub fn try_run<E: Env>(
+pub fn run_unwatched<E: Env>(
     program: &Program,
     callback: Callback,
     arguments: Args,
     maps: &mut Maps,
     env: &mut E,
-) -> Ran
+) -> Ending
     requires flows { Flows program.now }
     requires room { instruction_count program.now ≤ E.room env.old }
     ensures done { IfDone result
@@ -90,7 +90,7 @@ pub fn try_run<E: Env>(
     ensures room { E.room env.old ≤ E.room env.new + instruction_count program.now }
     ensures spent { E.spent env.new ≤ E.spent env.old + instruction_count program.now }
 {
-    walk(program, callback, arguments, maps, env, &mut Nobody).ran
+    walk(program, callback, arguments, maps, env, &mut Unwatched).ran
 }
 
 /// Runs a program that `flow` accepts, as that callback, and shows each instruction to the watch before it
@@ -102,7 +102,7 @@ pub fn run_watched<E: Env, W: Watch<E>>(
     maps: &mut Maps,
     env: &mut E,
     watch: &mut W,
-) -> Watched
+) -> WatchedEnding
     requires flows { Flows program.now }
     requires room { instruction_count program.now ≤ E.room env.old }
     ensures done { IfDone result.ran
@@ -138,7 +138,7 @@ fn walk<E: Env, W: Watch<E>>(
     maps: &mut Maps,
     env: &mut E,
     watch: &mut W,
-) -> Watched
+) -> WatchedEnding
     requires flows { Flows program.now }
     requires room { instruction_count program.now ≤ E.room env.old }
     ensures done { IfDone result.ran
@@ -171,8 +171,8 @@ fn walk<E: Env, W: Watch<E>>(
         };
         let had_come = watch.has_come(env);
         match step(program, slot, callback, &mut core, maps, env) {
-            Outcome::Stuck => return Watched {
-                ran: Ran::Stuck(slot),
+            Outcome::Stuck => return WatchedEnding {
+                ran: Ending::Stuck(slot),
                 came: found,
                 last: slot,
             },
@@ -180,8 +180,8 @@ fn walk<E: Env, W: Watch<E>>(
                 found = came_at(found, had_come, watch.has_come(env), site);
                 slot = next;
             }
-            Outcome::Ended(r0) => return Watched {
-                ran: Ran::Done(Done {
+            Outcome::Ended(r0) => return WatchedEnding {
+                ran: Ending::Done(Done {
                     r0,
                     steps: steps + 1,
                 }),
@@ -191,8 +191,8 @@ fn walk<E: Env, W: Watch<E>>(
         }
     }
     // As many steps as there are slots leave no instruction from this slot on.
-    Watched {
-        ran: Ran::Stuck(slot),
+    WatchedEnding {
+        ran: Ending::Stuck(slot),
         came: found,
         last: slot,
     }

@@ -5,7 +5,7 @@ ghost use Rattle.scx_isa_semantics.specs.declared.values.StackByte.TheVariants.{
 
 use byteorder::{ByteOrder, LittleEndian};
 use scx_isa::{Access, Pointer, STACK_SIZE, Size, Value};
-use scx_isa_arithmetic::{low_byte, low_half, low_two_bytes};
+use scx_isa_semantics::{low_byte, low_half, low_two_bytes};
 
 /// The bytes of the stack.
 const BYTES: usize = STACK_SIZE as usize;
@@ -175,8 +175,8 @@ impl Stack {
         }
     }
 
-    /// What a load reads there; `None` where it has no meaning: where no number was written to
-    /// some byte, unless all eight are those of one pointer.
+    /// The value that a load reads there; `None` where it has no meaning: where no number was
+    /// written to some byte, unless all eight are those of one pointer.
     pub fn load(&self, access: Access, at: usize) -> Option<Value>
         requires in_stack { at + size_bytes (access_size access) ≤ STACK_SIZE }
         requires aligned { at % size_bytes (access_size access) ≡ 0 }
@@ -202,7 +202,7 @@ impl Stack {
         }
     }
 
-    /// What a load of eight bytes reads there: a number or a pointer.
+    /// The number or pointer that a load of eight bytes reads there.
     fn whole(&self, at: usize) -> Option<Value>
         requires in_stack { at + 8 ≤ STACK_SIZE }
         requires aligned { at % 8 ≡ 0 }

@@ -39,7 +39,7 @@ impl Core {
         }
     }
 
-    /// What the register holds.
+    /// The value of the register.
     pub fn read(&self, register: Register) -> Value
         ensures { result ≡ register_value self.now (number register) }
     {

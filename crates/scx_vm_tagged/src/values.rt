@@ -10,7 +10,7 @@ use scx_isa::{
     ByteOrder, Extension, Operand, Operation, Pointer, Register, STACK_SIZE, SwapWidth, Value,
     Width,
 };
-use scx_isa_arithmetic as numbers;
+use scx_isa_semantics as numbers;
 use scx_maps::Maps;
 
 /// An operand as an instruction of that width takes it.
@@ -23,7 +23,7 @@ pub fn operand_value(core: &Core, width: Width, operand: Operand) -> Value
     }
 }
 
-/// What an operation leaves in its destination; `None` where it has no meaning.
+/// The value that an operation leaves in its destination; `None` where it has no meaning.
 pub fn binary(
     core: &Core,
     maps: &Maps,
@@ -49,7 +49,7 @@ pub fn binary(
     }
 }
 
-/// What a move copies: a number, and at 64 bits a pointer too.
+/// The value that a move copies: a number, and at 64 bits a pointer too.
 fn copy_of(width: Width, value: Value) -> Option<Value>
     ensures { result ≡ copy_of width value }
 {
@@ -60,7 +60,7 @@ fn copy_of(width: Width, value: Value) -> Option<Value>
     }
 }
 
-/// What other arithmetic makes of the destination, which holds `old`.
+/// The result of other arithmetic on the destination, which holds `old`.
 fn arithmetic(
     core: &Core,
     maps: &Maps,
@@ -85,7 +85,7 @@ fn arithmetic(
     }
 }
 
-/// What arithmetic makes of a number and an operand.
+/// The result of arithmetic on a number and an operand.
 fn number_arithmetic(width: Width, operation: Operation, a: u64, operand: Value) -> Option<Value>
     ensures { result ≡ number_arithmetic width operation a operand }
 {
@@ -95,7 +95,7 @@ fn number_arithmetic(width: Width, operation: Operation, a: u64, operand: Value)
     }
 }
 
-/// What arithmetic makes of a pointer and an operand.
+/// The result of arithmetic on a pointer and an operand.
 fn pointer_combined(
     core: &Core,
     maps: &Maps,
@@ -142,7 +142,7 @@ fn pointer_plus_number(maps: &Maps, map: u8, index: u32, at: u16, by: Value) -> 
     }
 }
 
-/// The pointer that far on. It stays in the stack or the element, or points right behind it.
+/// The pointer that far on. It stays in the stack or the element, or points right after it.
 fn pointer_moved(maps: &Maps, pointer: Pointer, step: i64) -> Option<Value>
     ensures { result ≡ pointer_moved maps.now pointer (Some step) }
 {

@@ -4,10 +4,10 @@ use crate::state::Core;
 
 /// A watch of a run: it sees each instruction before it is done, and awaits something of the host.
 pub trait Watch<E> {
-    /// What is awaited of the host.
+    /// The event that is awaited of the host.
     ghost awaited: { E → Bool };
 
-    /// Whether that has come about.
+    /// True if that has come about.
     fn has_come(&self, env: &E) -> bool
         ensures { result ≡ awaited env.now };
 
@@ -15,11 +15,11 @@ pub trait Watch<E> {
     fn see(&mut self, slot: usize, core: &Core, env: &E);
 }
 
-/// The watch of `try_run`, which awaits nothing.
+/// The watch of `run_unwatched`, which awaits nothing.
 #[derive(Drop)]
-pub(crate) struct Nobody;
+pub(crate) struct Unwatched;
 
-impl<E> Watch<E> for Nobody {
+impl<E> Watch<E> for Unwatched {
     ghost awaited = { λ w. false };
 
     fn has_come(&self, _env: &E) -> bool {
