@@ -11,7 +11,7 @@ use Rattle.scx_dsq.specs.Queues.{Entries, is_in}
 use Rattle.scx_dsq.specs.Laws.{IsSound}
 use Rattle.scx_dsq.specs.Heaps.{HeapState}
 use Rattle.scx_dsq.specs.Order.{IsOrder}
-use Rattle.scx_dsq.specs.Kept.{ids_of, arrays_of, IsOfOneSort, by_links, by_heap, Keeps, IsSpare, state_of, value_of, IsKept, IsCopy, AreCopies, HaveRoomFor}
+use Rattle.scx_dsq.specs.Kept.{ids_of, arrays_of, IsOfOneSort, by_links, by_heap, Keeps, IsSpare, state_of, value_of, IsKept, IsCopy, AreCopies, HaveRoomFor, AreSame, blank}
 use Rattle.scx_dsq.proofs.Keeping.{same_state}
 
 -- what is the same of each of two queues is the same of all
@@ -102,3 +102,37 @@ module _ (i j n : Inside) (same_room : (state_of i).room ≡ (state_of j).room) 
     links = ap length links ∙ g.links ∙ sym (ap length entries);
     spots = ap length spots ∙ g.spots ∙ sym (ap length entries);
   }
+
+-- queues that have what these have, in memory of their own
+module _ (i n : Inside) (live : AreSame (length i.entries.items) i.live.items n.live.items) (count : length n.live.items ≡ length i.live.items) (entries : n.entries.items ≡ i.entries.items) (pushes : n.pushes ≡ i.pushes) (spares : length n.spare.items ≡ length i.spare.items) where
+  own_ids : ids_of n.live.items ≡ ids_of i.live.items
+  own_ids = same_map (λ (q : Queue). q.id) n.live.items i.live.items count (λ k d lt. (live k d (omega (arith, lt, count))).id)
+
+  own_arrays : arrays_of n.live.items ≡ arrays_of i.live.items
+  own_arrays = same_map (λ (q : Queue). q.heap.items) n.live.items i.live.items count (λ k d lt. (live k d (omega (arith, lt, count))).items)
+
+  as_these : state_of n ≡ state_of i
+  as_these = same_state _ _ _ _ _ _ _ _ (omega (arith, count, spares)) own_ids entries pushes
+
+  -- stand for what these stand for
+  pub duplicate_value : value_of n ≡ value_of i
+  duplicate_value = λ k. record { state = as_these k; arrays = own_arrays k }
+
+  -- and are kept
+  pub duplicate_keeps : IsKept i → n.links.items ≡ i.links.items → n.spots.items ≡ i.spots.items → n.order.items ≡ i.order.items → All (λ (heap : HeapState). heap ≡ record { room = length i.entries.items; items = [] }) n.spare.items → length i.live.items + length i.spare.items ≤ vec_capacity n.live → length i.order.items + length i.spare.items ≤ vec_capacity n.order → IsKept n
+  duplicate_keeps h links spots order spare room orders = record {
+    sound = subst IsSound (sym as_these) h.sound;
+    live = λ k d lt.
+        let within : k < length i.live.items = omega (arith, lt, count) in
+        rw (entries, links, spots) (copy_keeps i.entries.items i.links.items i.spots.items _ _ _ (live k d within) (omega arith) (h.live k d within));
+    order = rw (own_ids, order) h.order;
+    spare = λ k d lt. let e = spare k d lt in (ap (λ (x : HeapState). x.items) e, omega (arith, ap (λ (x : HeapState). x.room) e, ap (λ (ps : Entries). length ps) entries));
+    room = omega (arith, room, count, spares);
+    orders = omega (arith, orders, ap (λ (xs : List ℕ). length xs) order, spares);
+    links = ap length links ∙ h.links ∙ sym (ap length entries);
+    spots = ap length spots ∙ h.spots ∙ sym (ap length entries);
+  }
+
+-- each has as few items as there are tasks
+pub few_each : (i : Inside) → IsKept i → All (λ (q : Queue). length q.heap.items ≤ length i.entries.items) i.live.items
+few_each i h k d lt = items_few i.entries.items i.links.items i.spots.items _ (h.live k d lt).tasks

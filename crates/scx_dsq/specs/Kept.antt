@@ -188,6 +188,21 @@ AreCopies live others new =
     → k < length live
     → IsCopy (slice_index_or live k d) (slice_index_or others k d) (slice_index_or new k d)
 
+-- a queue of no tasks, with room for so many
+abbrev pub blank : ℕ → Queue
+blank tasks = record { id = 0; ends = no_ends; heap = record { room = tasks; items = [] } }
+
+-- at the first so many positions the new queue is the one there, with room for so many tasks
+abbrev pub AreSameBelow : ℕ → ℕ → List Queue → List Queue → Type 0
+AreSameBelow tasks count live new =
+    (k : ℕ) (d : Queue)
+    → k < count
+    → IsCopy (blank tasks) (slice_index_or live k d) (slice_index_or new k d)
+
+-- at each position
+abbrev pub AreSame : ℕ → List Queue → List Queue → Type 0
+AreSame tasks live new = AreSameBelow tasks (length live) live new
+
 -- at each position the heap of the first queue has room for that of the second one
 abbrev pub HaveRoomFor : List Queue → List Queue → Type 0
 HaveRoomFor live others =

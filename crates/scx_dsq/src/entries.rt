@@ -1,4 +1,4 @@
-/// How a task was put into a queue: at its end, or by a virtual time.
+/// A task's rank in a queue: at its end, or by a virtual time.
 #[derive(Clone, Copy, PartialEq, Eq)]
 pub enum Rank {
     Fifo,

@@ -39,6 +39,17 @@ impl Heap {
         })
     }
 
+    /// A copy of the heap, in memory of its own with at least that much room.
+    pub fn duplicate(&self, alloc: Global, room: usize) -> Result<Heap, AllocError>
+        requires { length self.now.items ≤ room }
+        ensures items { IfOk result (λ copy. copy.items ≡ self.now.items) }
+        ensures room { IfOk result (λ copy. room ≤ copy.room) }
+    {
+        let mut copy = Heap::new(alloc, room)?;
+        copy.copy_from(self);
+        Ok(copy)
+    }
+
     /// Holds the items of the other one in place of its own. No memory is taken.
     pub fn copy_from(&mut self, other: &Heap)
         requires { length other.now.items ≤ self.old.room }
@@ -193,7 +204,7 @@ fn make_way_up<L: Ledger>(
     at
 }
 
-/// Moves the first of those behind a position up, as long as there are any, and answers the position
+/// Moves the first of the children of a position up, as long as there are any, and answers the position
 /// left for the item.
 fn make_way_to_end<L: Ledger>(
     items: &mut [Item],
@@ -236,7 +247,7 @@ fn put(items: &mut [Item], spots: &mut [usize], item: Item, at: usize)
     spots[item.task as usize] = at;
 }
 
-/// Which of those right behind a position leaves first.
+/// The child of a position that leaves first.
 fn first_child<L: Ledger>(items: &[Item], at: usize, steps: &mut Steps<L>) -> Option<usize>
     requires within { at < length items.now }
     ensures child { IfSome result (IsFirstChild items.now at) }

@@ -3,7 +3,7 @@ ghost use Rattle.scx_dsq.specs.Links.{link_at, no_link, no_ends, instead, with_a
 
 use crate::optional_task::OptionalTask;
 
-/// Whom a task in a FIFO queue waits right behind, and who waits right behind it.
+/// The tasks right before and right after a task in a FIFO queue.
 #[derive(Clone, Copy)]
 pub struct Link {
     pub ahead: OptionalTask,
@@ -93,7 +93,7 @@ pub fn unlink_first(links: &mut [Link], ends: &mut Ends, task: u32)
     ends.count -= 1;
 }
 
-/// Says whom a task waits right behind; if there is no such task, who waits last.
+/// Sets the task right before one; if there is no such task, the last one.
 fn lead_back(links: &mut [Link], task: OptionalTask, last: &mut OptionalTask, ahead: OptionalTask)
     requires { MatchOption task (Unit {0}) (λ t. t < length links.old) }
     ensures links { links.new ≡ with_ahead links.old task ahead }
@@ -105,7 +105,7 @@ fn lead_back(links: &mut [Link], task: OptionalTask, last: &mut OptionalTask, ah
     }
 }
 
-/// Says who waits right behind a task; if there is no such task, who waits first.
+/// Sets the task right after one; if there is no such task, the first one.
 fn lead_on(links: &mut [Link], task: OptionalTask, first: &mut OptionalTask, behind: OptionalTask)
     requires { MatchOption task (Unit {0}) (λ t. t < length links.old) }
     ensures links { links.new ≡ with_behind links.old task behind }

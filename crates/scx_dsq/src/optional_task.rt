@@ -52,7 +52,7 @@ impl OptionalTask {
         }
     }
 
-    /// The same as an index.
+    /// The task as an index, if there is one.
     #[tactic(auto, using(crate::specs::Words::task_in_word))]
     pub fn index(self) -> Option<usize>
         ensures { result ≡ self }

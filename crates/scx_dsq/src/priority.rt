@@ -4,7 +4,7 @@ ghost use Rattle.scx_dsq.specs.Heaps.{comes_before};
 use crate::steps::Steps;
 use std::sync::ledger::Ledger;
 
-/// How many stamps there are.
+/// The number of stamps.
 const STAMPS: u128 = 1 << 64;
 
 /// When a task leaves a queue by virtual time: by its key, and among equal keys by how many pushes were
@@ -16,7 +16,7 @@ pub struct Priority {
 }
 
 impl Priority {
-    /// Of a task that goes in with that key, when `stamp` pushes were accepted before.
+    /// The priority of a task that goes in with that key, after `stamp` accepted pushes.
     #[inline(always)]
     pub fn new(key: u64, stamp: u64) -> Priority
         ensures key { result.key ≡ key }
@@ -34,7 +34,7 @@ impl Priority {
         (self.key, self.stamp)
     }
 
-    /// Whether its task leaves before that of the other.
+    /// True if its task leaves before that of the other.
     #[inline(always)]
     pub fn is_before<L: Ledger>(self, other: Priority, steps: &mut Steps<L>) -> bool
         ensures answer { result ≡ comes_before self other }
@@ -44,7 +44,7 @@ impl Priority {
         self.whole() < other.whole()
     }
 
-    /// The key with the stamp behind it, as one number.
+    /// The key followed by the stamp, as one number.
     #[inline(always)]
     fn whole(self) -> u128
         ensures { result ≡ self.key * 2 ^ 64 + self.stamp }

@@ -1,17 +1,18 @@
-ghost use Rattle.std.specs.Prelude.{◌≡◌, ◌-◌, ◌≤◌, length, None};
+ghost use Rattle.std.specs.Prelude.{◌≡◌, ◌-◌, ◌≤◌, length, None, IfOk};
 ghost use Rattle.scx_dsq.specs.declared.entries.Rank.TheVariants.{Fifo};
 ghost use Rattle.scx_dsq.specs.Heaps.{IsCheap};
-ghost use Rattle.scx_dsq.specs.Kept.{front_in, len_in, sort_in, mixes, CanAppend, with_last, CanInsert, Inserted, CanTakeOut, TakenOut, CanLeave, Left, IsCopy};
+ghost use Rattle.scx_dsq.specs.Kept.{front_in, len_in, sort_in, mixes, CanAppend, with_last, CanInsert, Inserted, CanTakeOut, TakenOut, CanLeave, Left, IsCopy, blank};
 ghost use Rattle.scx_dsq.specs.Links.{link_at, links_appended};
 
 use crate::entries::Rank;
 use crate::heap::{Heap, Item};
 use crate::links::{Ends, Link, append, unlink, unlink_first};
 use crate::steps::Steps;
+use std::alloc::{AllocError, Global};
 use std::sync::ledger::Ledger;
 
 /// A queue that was created. Its tasks are threaded between its ends if they wait in FIFO order, and
-/// stand in its heap if they wait by virtual time.
+/// are in its heap if they wait by virtual time.
 #[derive(Drop)]
 pub struct Queue {
     pub id: u64,
@@ -28,6 +29,19 @@ impl Queue {
         self.id = other.id;
         self.ends = other.ends;
         self.heap.copy_from(&other.heap);
+    }
+
+    /// A copy of the queue, in memory of its own with room for that many tasks.
+    pub fn duplicate(&self, alloc: Global, tasks: usize) -> Result<Queue, AllocError>
+        requires { length self.now.heap.items ≤ tasks }
+        ensures { IfOk result (λ copy. IsCopy (blank tasks) self.now copy) }
+    {
+        let heap = self.heap.duplicate(alloc, tasks)?;
+        Ok(Queue {
+            id: self.id,
+            ends: self.ends,
+            heap,
+        })
     }
 
     pub fn front(&self) -> Option<u32>
@@ -48,7 +62,7 @@ impl Queue {
         }
     }
 
-    /// How its front was put into it.
+    /// The sort of rank of the tasks that wait in it.
     #[inline(always)]
     pub fn sort(&self) -> Rank
         ensures { result ≡ sort_in self.now }
@@ -59,7 +73,7 @@ impl Queue {
         }
     }
 
-    /// Whether tasks wait there that were put in the other way.
+    /// True if tasks wait in it in the other order.
     pub fn clashes(&self, rank: Rank) -> bool
         ensures { result ≡ mixes rank self.now }
     {
@@ -115,7 +129,7 @@ pub fn leave<L: Ledger>(
     }
 }
 
-/// The same, where no task of the queue is ahead of it.
+/// `leave` for a task with none ahead of it in the queue.
 #[inline(always)]
 pub fn leave_first<L: Ledger>(
     links: &mut [Link],

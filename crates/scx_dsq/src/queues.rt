@@ -1,4 +1,4 @@
-ghost use Rattle.std.specs.Prelude.{◌≡◌, ◌≢◌, ℕ, ◌+◌, ◌-◌, ◌^◌, ◌<◌, ◌≤◌, ◌==◌, [], ◌∷◌, ◌++◌, map, length, true, false, is_some, is_ok, slice_index_or, All, HoldsAt, Some, IsSome, IfSome, IfNone, IfOk, IfErr, OnOk, OnErr};
+ghost use Rattle.std.specs.Prelude.{◌≡◌, ◌≢◌, ℕ, ◌+◌, ◌-◌, ◌^◌, ◌<◌, ◌≤◌, ◌==◌, [], ◌∷◌, ◌++◌, map, length, vec_capacity, true, false, is_some, is_ok, slice_get, slice_index_or, All, HoldsAt, Some, IsSome, IfSome, IfNone, IfOk, IfErr, OnOk, OnErr};
 ghost use Rattle.std.specs.List.{list_any};
 ghost use Rattle.scx_dsq.specs.declared.entries.Entry.{Entry};
 ghost use Rattle.scx_dsq.specs.declared.entries.Rank.TheVariants.{Fifo, Vtime};
@@ -8,7 +8,7 @@ ghost use Rattle.scx_dsq.specs.Laws.{HasOneOfEach, WaitsInAQueue, HasOneSort, Is
 ghost use Rattle.scx_dsq.specs.Arrays.{IsPaid};
 ghost use Rattle.scx_dsq.specs.Holdings.{HasArrays};
 ghost use Rattle.scx_dsq.specs.Order.{IsOrder, IsGap};
-ghost use Rattle.scx_dsq.specs.Kept.{ids_of, IsAdmitted, IsRefused, AreCopies, HaveRoomFor};
+ghost use Rattle.scx_dsq.specs.Kept.{ids_of, IsAdmitted, IsRefused, AreCopies, AreSame, HaveRoomFor};
 
 use crate::entries::{Entry, Rank};
 use crate::errors::QueueError;
@@ -22,27 +22,27 @@ use std::alloc::{AllocError, Global};
 use std::marker::Model;
 use std::sync::ledger::Ledger;
 
-/// How many hashes of ids there are.
+/// The number of hashes of ids.
 const HASHES: usize = 256;
 
 /// Dispatch queues, and where each task waits.
 ///
 /// In a contract it is two things. Its state is how many queues there may be, the ids of those that were
-/// created, for each task its entry or none, and how many pushes were accepted. Beside it stand the arrays
+/// created, for each task its entry or none, and how many pushes were accepted. Beside it are the arrays
 /// of the queues by virtual time. Tasks are numbered from 0.
 #[derive(Drop)]
 pub struct Queues {
     live: Vec<Queue>,
-    /// Where the queues stand in `live`, those of lesser ids first.
+    /// The indices of the queues in `live`, those of lesser ids first.
     order: Vec<usize>,
     /// Empty heaps for queues to come.
     spare: Vec<Heap>,
     entries: Vec<Option<KeptEntry>>,
-    /// At each task's number, whom it waits beside in a FIFO queue.
+    /// For each task, its neighbours in a FIFO queue.
     links: Vec<Link>,
-    /// At each task's number, where it stands in the array of a queue by virtual time.
+    /// For each task, its index in the array of a queue by virtual time.
     spots: Vec<usize>,
-    /// At the hash of an id, where its queue stands in `live`, or that of another id.
+    /// For each hash of an id, the index of its queue in `live`, or of another id's.
     guesses: [usize; HASHES],
     pushes: u64,
 }
@@ -125,7 +125,7 @@ impl Queues {
         }
     }
 
-    /// Where the queue of that id stands among all, in the order in which they were created. It stays there.
+    /// The place of the queue of that id among all, in the order in which they were created. It stays there.
     #[inline(always)]
     pub fn place(&self, id: u64) -> Option<usize>
         ensures found { is_some result ≡ exists self.now.state id }
@@ -135,7 +135,7 @@ impl Queues {
         find(&self.live, &self.order, &self.guesses, id)
     }
 
-    /// `front` of the queue of that id, which stands at that place.
+    /// `front` of the queue of that id, which is at that place.
     #[inline(always)]
     pub fn front_at(&self, place: usize, id: u64) -> Option<u32>
         requires { IsQueueAt self.now.state place id }
@@ -147,7 +147,7 @@ impl Queues {
         self.live[place].front()
     }
 
-    /// `len` of the queue of that id, which stands at that place.
+    /// `len` of the queue of that id, which is at that place.
     #[inline(always)]
     pub fn len_at(&self, place: usize, id: u64) -> usize
         requires { IsQueueAt self.now.state place id }
@@ -156,7 +156,7 @@ impl Queues {
         self.live[place].len()
     }
 
-    /// `would_mix` of the queue of that id, which stands at that place.
+    /// `would_mix` of the queue of that id, which is at that place.
     #[inline(always)]
     pub fn clashes_at(&self, place: usize, id: u64, rank: Rank) -> bool
         requires { IsQueueAt self.now.state place id }
@@ -165,7 +165,7 @@ impl Queues {
         self.live[place].clashes(rank)
     }
 
-    /// `push_fifo` of the queue of that id, which stands at that place.
+    /// `push_fifo` of the queue of that id, which is at that place.
     #[inline(always)]
     pub fn push_fifo_at(&mut self, place: usize, id: u64, task: u32) -> Result<(), QueueError>
         requires place { IsQueueAt self.old.state place id }
@@ -185,7 +185,7 @@ impl Queues {
         Ok(())
     }
 
-    /// `pop` of the queue of that id, which stands at that place.
+    /// `pop` of the queue of that id, which is at that place.
     #[inline(always)]
     pub fn pop_at<L: Ledger>(&mut self, place: usize, id: u64, steps: &mut Steps<L>) -> Option<u32>
         requires { IsQueueAt self.old.state place id }
@@ -205,7 +205,7 @@ impl Queues {
         Some(task)
     }
 
-    /// Puts a task into a queue by virtual time, behind those of the same key. Keys compare as unsigned
+    /// Puts a task into a queue by virtual time, after those of the same key. Keys compare as unsigned
     /// numbers. `NoSuchQueue`, `AlreadyThere` if the task waits in any queue, `Mixed` if tasks wait in
     /// this one in FIFO order. Comparisons are counted in `steps`.
     pub fn push_vtime<L: Ledger>(
@@ -245,14 +245,26 @@ impl Queues {
         Ok(())
     }
 
-    /// Whether a queue has the id.
+    /// The id of the queue at that place, in the order in which they were created; none after the last one.
+    pub fn id_at(&self, place: usize) -> Option<u64>
+        ensures { result ≡ slice_get self.now.state.ids place }
+    {
+        if place < self.live.len() {
+            let id = self.live[place].id;
+            Some(id)
+        } else {
+            None
+        }
+    }
+
+    /// True if a queue has the id.
     pub fn has(&self, id: u64) -> bool
         ensures { result ≡ exists self.now.state id }
     {
         self.place(id).is_some()
     }
 
-    /// Whether tasks wait in the queue that were put there in the other way.
+    /// True if tasks wait in the queue in the other order.
     pub fn would_mix(&self, id: u64, rank: Rank) -> bool
         ensures { result ≡ list_any (clashes id rank) self.now.state.entries }
     {
@@ -317,7 +329,7 @@ impl Queues {
         true
     }
 
-    /// Takes out a task that waits by that entry, in the queue that stands there in `live`.
+    /// Takes out a task that waits by that entry, in the queue at that index in `live`.
     fn take_out<L: Ledger>(
         &mut self,
         index: usize,
@@ -343,7 +355,7 @@ impl Queues {
         self.entries[task as usize] = None;
     }
 
-    /// Takes out the front of the queue of that id, which stands at that place.
+    /// Takes out the front of the queue of that id, which is at that place.
     #[inline(always)]
     fn take_front<L: Ledger>(&mut self, place: usize, id: u64, task: u32, steps: &mut Steps<L>)
         requires place { IsQueueAt self.old.state place id }
@@ -364,7 +376,7 @@ impl Queues {
         self.entries[task as usize] = None;
     }
 
-    /// How many tasks wait in the queue; 0 if it isn't there.
+    /// The number of tasks in the queue; 0 if it isn't there.
     pub fn len(&self, id: u64) -> usize
         ensures { result ≡ len_of self.now.state id }
     {
@@ -385,7 +397,7 @@ impl Queues {
         }
     }
 
-    /// Who waits right behind the task in its FIFO queue; nobody behind the last, nor behind a task that
+    /// The task right after this one in its FIFO queue; none after the last, nor after a task that
     /// waits nowhere or by virtual time.
     #[tactic(auto, using(crate::proofs::Behind::nobody_behind_none))]
     pub fn behind(&self, task: u32) -> Option<u32>
@@ -399,7 +411,7 @@ impl Queues {
         }
     }
 
-    /// Who waits right behind a task that waits by that entry.
+    /// The task right after one that waits by that entry.
     #[tactic(auto, using(crate::proofs::Behind::nobody_behind_vtime))]
     fn behind_entry(&self, task: u32, entry: KeptEntry) -> Option<u32>
         requires task { task < task_count self.now.state }
@@ -412,7 +424,7 @@ impl Queues {
         }
     }
 
-    /// Who waits right behind a task that waits by that entry, in order of arrival.
+    /// The task right after one that waits by that entry, in order of arrival.
     fn link_behind(&self, task: u32, entry: KeptEntry) -> Option<u32>
         requires task { task < task_count self.now.state }
         requires waits { entry_of self.now.state task ≡ Some entry }
@@ -426,14 +438,14 @@ impl Queues {
         self.links[task as usize].behind.get()
     }
 
-    /// How many tasks there are; their numbers are below it.
+    /// The number of tasks; their numbers are below it.
     pub fn tasks(&self) -> usize
         ensures { result ≡ task_count self.now.state }
     {
         self.entries.len()
     }
 
-    /// What holds after any calls. The function does nothing: its contract is the law.
+    /// The law of what holds after any calls. The function does nothing: its contract is the law.
     pub fn are_sound(&self)
         ensures queues { HasOneOfEach self.now.state }
         ensures homes { WaitsInAQueue self.now.state }
@@ -460,6 +472,24 @@ impl Queues {
         self.pushes = other.pushes;
     }
 
+    /// A copy of the queues, in memory of its own.
+    pub fn duplicate(&self, alloc: Global) -> Result<Queues, AllocError>
+        ensures { IfOk result (λ copy. copy ≡ self.now) }
+    {
+        let tasks = self.entries.len();
+        let spare = self.spare.len();
+        Ok(Queues {
+            live: live_with_room(alloc, &self.live, self.live.len() + spare, tasks)?,
+            order: order_with_room(alloc, &self.order, self.order.len() + spare)?,
+            spare: spare_heaps(alloc, spare, tasks)?,
+            entries: Vec::from_slice(alloc, &self.entries)?,
+            links: Vec::from_slice(alloc, &self.links)?,
+            spots: Vec::from_slice(alloc, &self.spots)?,
+            guesses: self.guesses,
+            pushes: self.pushes,
+        })
+    }
+
     /// The queue in which the task waits, its rank, and the number of pushes that were accepted before it.
     /// Nothing counts how the caller compares these numbers, so the call takes a counter away.
     pub fn entry<L: Ledger>(&self, task: u32, steps: Steps<L>) -> Option<Entry>
@@ -472,7 +502,7 @@ impl Queues {
         }
     }
 
-    /// How many pushes were accepted.
+    /// The number of accepted pushes.
     pub fn pushes(&self) -> u64
         ensures { result ≡ self.now.state.pushes }
     {
@@ -492,7 +522,39 @@ fn copy_each(live: &mut [Queue], others: &[Queue])
     }
 }
 
-/// Where the queue stands into which the task may go by that rank, or the first refusal.
+/// A copy of the queues, in memory with that much room, each queue with room for that many tasks.
+fn live_with_room(
+    alloc: Global,
+    live: &[Queue],
+    room: usize,
+    tasks: usize,
+) -> Result<Vec<Queue>, AllocError>
+    requires room { length live.now ≤ room }
+    requires few { All (λ q. length q.heap.items ≤ tasks) live.now }
+    ensures count { IfOk result (λ copy. length copy.items ≡ length live.now) }
+    ensures room { IfOk result (λ copy. room ≤ vec_capacity copy) }
+    ensures copies { IfOk result (λ copy. AreSame tasks live.now copy.items) }
+{
+    let mut copy = Vec::with_capacity(alloc, room)?;
+    for at in 0..live.len() {
+        let queue = live[at].duplicate(alloc, tasks)?;
+        copy.push(queue)?;
+    }
+    Ok(copy)
+}
+
+/// A copy of the places, with that much room.
+fn order_with_room(alloc: Global, order: &[usize], room: usize) -> Result<Vec<usize>, AllocError>
+    requires { length order.now ≤ room }
+    ensures items { IfOk result (λ copy. copy.items ≡ order.now) }
+    ensures room { IfOk result (λ copy. room ≤ vec_capacity copy) }
+{
+    let mut copy = Vec::with_capacity(alloc, room)?;
+    copy.extend_from_slice(order)?;
+    Ok(copy)
+}
+
+/// The index of the queue into which the task may go by that rank, or the first refusal.
 fn admit(
     live: &[Queue],
     order: &[usize],
@@ -514,7 +576,7 @@ fn admit(
     Ok(index)
 }
 
-/// Whether the task may go by that rank into the queue of that id that stands there, or the first refusal.
+/// Admits the task by that rank into the queue at that place, or answers the first refusal.
 #[inline(always)]
 fn admit_at(
     live: &[Queue],
@@ -540,7 +602,7 @@ fn admit_at(
     Ok(())
 }
 
-/// Where the queue of that id stands.
+/// The index of the queue of that id.
 #[inline(always)]
 fn find(live: &[Queue], order: &[usize], guesses: &[usize; HASHES], id: u64) -> Option<usize>
     requires { IsOrder (ids_of live.now) order.now }
@@ -553,7 +615,7 @@ fn find(live: &[Queue], order: &[usize], guesses: &[usize; HASHES], id: u64) -> 
     find_slowly(live, order, id)
 }
 
-/// The same, without a guess.
+/// `find` without a guess.
 #[inline(never)]
 fn find_slowly(live: &[Queue], order: &[usize], id: u64) -> Option<usize>
     requires { IsOrder (ids_of live.now) order.now }
@@ -566,7 +628,7 @@ fn find_slowly(live: &[Queue], order: &[usize], id: u64) -> Option<usize>
     }
 }
 
-/// Where the queue of that id stands, if it is the last one of its hash that was created.
+/// The index of the queue of that id, if it is the last one of its hash that was created.
 #[inline(always)]
 fn guess(live: &[Queue], guesses: &[usize; HASHES], id: u64) -> Option<usize>
     ensures { IfSome result (λ i. (i < length live.now) × HoldsAt (λ q. q.id ≡ id) live.now i) }

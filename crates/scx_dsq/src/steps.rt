@@ -3,7 +3,7 @@ ghost use Rattle.std.specs.Prelude.{◌≡◌, ℕ, ◌+◌, ◌<◌};
 use std::marker::Model;
 use std::sync::ledger::{Blank, Book, Ledger, Share};
 
-/// How many comparisons were made. It takes no bytes, and only `count` changes it.
+/// A count of comparisons. It takes no bytes, and only `count` changes it.
 ///
 /// A counter needs a ledger of its own, which a call at `Brand` names. No function of this crate makes one,
 /// so the queues count in the counter that they are lent.

@@ -10,9 +10,9 @@ use Rattle.scx_weights.specs.declared.group.Group.{Group}
 use Rattle.scx_weights.specs.Hierarchy.{Hierarchy, parent_of, quota_at, period_at, upward, path, lies_in, home_of, with_weight_of, with_weight}
 use Rattle.scx_weights.specs.Limits.{usage_of, is_used_up, is_throttled_group, is_throttled, begins_period, with_use, with_turn}
 use Rattle.scx_weights.proofs.Reweighed.{parent_reweighed}
-use Rattle.scx_weights_limits.specs.Bounds.{runs_in, cpus_in, StaysBelowQuota}
-use Rattle.scx_weights_limits.proofs.Usages.{usage_turned, no_quota}
-use Rattle.scx_weights_limits.proofs.Bounded.{begins_within, ends_within, ticks_within, turns_within}
+use Rattle.scx_weights.specs.Bounds.{runs_in, cpus_in, StaysBelowQuota}
+use Rattle.scx_weights.proofs.Usages.{usage_turned, no_quota}
+use Rattle.scx_weights.proofs.Bounded.{begins_within, ends_within, ticks_within, turns_within}
 use Rattle.scx_sched_world.specs.World.{WorldState}
 use Rattle.scx_sched.specs.Usages.{AreWithin, AreBounded}
 

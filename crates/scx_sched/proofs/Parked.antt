@@ -15,7 +15,7 @@ use Rattle.scx_vm.specs.Arguments.{argument_of}
 use Rattle.scx_vm.specs.Host.{after_query}
 use Rattle.scx_vm.specs.declared.arguments.Arg.{Arg}
 use Rattle.scx_weights.specs.Limits.{is_throttled, with_use}
-use Rattle.scx_weights_limits.proofs.Throttled.{uses_keep_throttled}
+use Rattle.scx_weights.proofs.Throttled.{uses_keep_throttled}
 use Rattle.scx_sched_world.specs.declared.call.Insert.{Insert}
 use Rattle.scx_sched_world.specs.declared.faults.Fault.{Fault}
 use Rattle.scx_sched_world.specs.Ids.{held_queue, builtin_queue, parked_queue, local_on}

@@ -9,6 +9,7 @@ use Rattle.scx_sched_world.specs.World.{WorldState, waits}
 pub record GoesOver (w v : WorldState) : Type 0 where
   pub waiting : (t : ℕ) → waits w t ≡ true → queue_of v.queues t ≡ Some builtin_queue
   pub others : (t : ℕ) → waits w t ≡ false → waits v t ≡ false
-  pub parked : (t : ℕ) → queue_of w.queues t ≡ Some parked_queue → queue_of v.queues t ≡ Some parked_queue
+  pub parked : (t : ℕ) → queue_of w.queues t ≡ Some parked_queue
+      → queue_of v.queues t ≡ Some parked_queue
   pub running : v.cpus ≡ w.cpus
   pub tree : v.tree ≡ w.tree

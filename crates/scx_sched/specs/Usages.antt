@@ -3,7 +3,7 @@
 use Rattle.std.specs.Prelude.{◌≡◌, ℕ, ◌+◌, ◌<◌, List, length, Option, Some}
 use Rattle.scx_weights.specs.Hierarchy.{Hierarchy, quota_at}
 use Rattle.scx_weights.specs.Limits.{usage_of}
-use Rattle.scx_weights_limits.specs.Bounds.{StaysBelowQuota}
+use Rattle.scx_weights.specs.Bounds.{StaysBelowQuota}
 use Rattle.scx_sched_world.specs.World.{WorldState}
 
 -- of each group

@@ -6,7 +6,7 @@ ghost use Rattle.scx_sched_machine.specs.Hearing.{Hears};
 ghost use Rattle.scx_sched_machine.specs.Notes.{Takes};
 ghost use Rattle.scx_sched_machine.specs.Callbacks.{AreAnswered};
 ghost use Rattle.scx_sched_machine.specs.Policy.{IsTimeout, AreAs};
-ghost use Rattle.scx_sched_machine.specs.Start.{is_bad_shape, IsRefusal, start_calls, AreAnsweredBefore};
+ghost use Rattle.scx_sched_machine.specs.Start.{is_bad_shape, IsRefusal, start_calls, calls_before, AreAnsweredBefore};
 ghost use Rattle.scx_sched.specs.Causes.{EjectsOnce, IsNeverStuck};
 ghost use Rattle.scx_sched.specs.Decided.{EventsDecide};
 ghost use Rattle.scx_sched.specs.Left.{LeavesNothingIdle};
@@ -22,10 +22,10 @@ use scx_maps::Maps;
 use scx_sched_machine::{Event, Hearer, Machine, NewError, Policy, Refused, Sink, Unseen};
 use scx_sched_world::{Eject, Entry, World};
 use scx_weights::Tree;
-use std::alloc::Global;
+use std::alloc::{AllocError, Global};
 use std::marker::Model;
 
-/// How many events a machine accepts at most.
+/// The most events that a machine accepts.
 pub const MAX_EVENTS: u64 = 1 << 32;
 
 /// A machine between two events.
@@ -34,7 +34,7 @@ pub const MAX_EVENTS: u64 = 1 << 32;
 #[derive(Drop)]
 pub struct Sim {
     machine: Machine,
-    /// How many events are accepted still.
+    /// The number of events that it still accepts.
     left: u64,
 }
 
@@ -49,7 +49,7 @@ impl Model for Sim {
 }
 
 impl Sim {
-    /// The machine of a policy, with these groups and tasks, all asleep, and so many processors.
+    /// The machine of a policy, with these groups and tasks, all asleep, and that many CPUs.
     ///
     /// `BadShape` is looked at first, then all memory is taken, and then init runs, and enable of each
     /// task.
@@ -66,13 +66,13 @@ impl Sim {
         Sim::new_seen(alloc, policy, tree, cpus, &mut Unseen)
     }
 
-    /// The same. The sink may run init and enable itself; it takes no notes.
-    pub fn new_seen<S: Sink>(
+    /// `new`, with init and enable run by a hearer, which takes no notes.
+    pub fn new_seen<H: Hearer>(
         alloc: Global,
         policy: Policy,
         tree: Tree,
         cpus: u32,
-        sink: &mut S,
+        hearer: &mut H,
     ) -> Result<Sim, NewError>
         ensures first { IfOk result (IsFirstState policy tree cpus) }
         ensures shape { OnOk result (is_bad_shape tree cpus ≡ false) }
@@ -82,8 +82,14 @@ impl Sim {
         ensures refused { IfErr result (IsRefusal policy tree cpus) }
         ensures answered { OnOk result (AreAnswered (start_calls policy tree cpus)) }
         ensures answered_before { IfErr result (AreAnsweredBefore policy tree cpus) }
+        ensures calls { OnOk result
+            (Hears H.hears (H.told hearer.old) (start_calls policy tree cpus) (H.told hearer.new)) }
+        ensures calls_before { IfErr result (λ error.
+            Hears H.hears (H.told hearer.old) (calls_before policy tree cpus error)
+            (H.told hearer.new)) }
+        ensures notes { H.noted hearer.new ≡ H.noted hearer.old }
     {
-        let machine = Machine::new(alloc, policy, tree, cpus as usize, sink)?;
+        let machine = Machine::new(alloc, policy, tree, cpus as usize, hearer)?;
         Ok(Sim {
             machine,
             left: MAX_EVENTS,
@@ -123,7 +129,7 @@ impl Sim {
         self.step_heard(event, sink)
     }
 
-    /// The same, for one that is told of the callbacks that are called.
+    /// `step`, with its callbacks told to a hearer.
     #[inline(always)]
     #[tactic(auto, using(crate::proofs::Counted::counts))]
     pub fn step_heard<H: Hearer>(&mut self, event: Event, hearer: &mut H) -> Result<(), Refused>
@@ -152,8 +158,8 @@ impl Sim {
         Ok(())
     }
 
-    /// Becomes what the other one is, which has the same policy and queues, and as many tasks, processors
-    /// and groups. No memory is taken.
+    /// Becomes a copy of the other machine, which has the same policy and queues, and as many tasks, CPUs and
+    /// groups. No memory is taken.
     pub fn copy_from(&mut self, other: &Sim)
         requires policy { self.old.state.policy ≡ other.now.state.policy }
         requires world { IsLike self.old.state.world other.now.state.world }
@@ -163,7 +169,18 @@ impl Sim {
         self.left = other.left;
     }
 
-    /// What holds between two events: each runnable task is in one place, and no other task anywhere; a task
+    /// A copy of the machine, in memory of its own.
+    pub fn duplicate(&self, alloc: Global) -> Result<Sim, AllocError>
+        ensures { IfOk result (λ copy. copy ≡ self.now) }
+    {
+        let machine = self.machine.duplicate(alloc)?;
+        Ok(Sim {
+            machine,
+            left: self.left,
+        })
+    }
+
+    /// The law of what holds between two events: each runnable task is in one place, and no other task anywhere; a task
     /// has a wait where it is in a queue and not parked, and no longer one than a policy in force may let it
     /// have; no group with a quota has used as much as that and one millisecond for each processor in its
     /// period; the times of the built-in scheduler are far from where they would be cut off, and 0 until it
@@ -201,7 +218,7 @@ impl Sim {
         self.machine.maps()
     }
 
-    /// How many events were accepted.
+    /// The number of accepted events.
     pub fn events(&self) -> u64
         ensures events { result ≡ self.now.events }
         ensures most { result ≤ MAX_EVENTS }
@@ -217,14 +234,14 @@ impl Sim {
         self.machine.world().clock()
     }
 
-    /// How many tasks there are; their numbers are below it.
+    /// The number of tasks; their numbers are below it.
     pub fn tasks(&self) -> u16
         ensures { result ≡ length self.now.state.world.tasks }
     {
         self.machine.world().tasks()
     }
 
-    /// How many processors there are; their numbers are below it.
+    /// The number of CPUs; their numbers are below it.
     pub fn cpus(&self) -> u32
         ensures { result ≡ length self.now.state.world.cpus }
     {
@@ -246,7 +263,7 @@ impl Sim {
         self.machine.world().entry(task)
     }
 
-    /// Whether the task has work to do: it runs or waits. One that isn't there has none.
+    /// True if the task has work to do: it runs or waits. A task that doesn't exist has none.
     pub fn is_runnable(&self, task: u16) -> bool
         ensures { result ≡ is_runnable self.now.state.world task }
     {
@@ -268,7 +285,7 @@ impl Sim {
         self.machine.world().running(cpu)
     }
 
-    /// How long the task has run, in nanoseconds.
+    /// The time that the task has run, in nanoseconds.
     pub fn run_ns(&self, task: u16) -> u64
         requires { task < length self.now.state.world.tasks }
         ensures { result ≡ (task_at self.now.state.world task).run_ns }
@@ -276,7 +293,7 @@ impl Sim {
         self.run_ns_of(task)
     }
 
-    /// The same; 0 where there is no such task.
+    /// `run_ns`; 0 if there is no such task.
     #[inline(always)]
     pub fn run_ns_of(&self, task: u16) -> u64
         ensures { result ≡ (task_at self.now.state.world task).run_ns }
@@ -284,7 +301,7 @@ impl Sim {
         self.machine.world().task(task).run_ns
     }
 
-    /// What is left of the task's slice, in nanoseconds.
+    /// The task's remaining slice, in nanoseconds.
     pub fn slice(&self, task: u16) -> u64
         requires { task < length self.now.state.world.tasks }
         ensures { result ≡ (task_at self.now.state.world task).slice }
@@ -307,7 +324,7 @@ impl Sim {
         self.machine.world().ejected()
     }
 
-    /// How long the task has waited, in milliseconds; 0 where it isn't waiting.
+    /// The length of the task's wait, in milliseconds; 0 if it isn't waiting.
     pub fn wait(&self, task: u16) -> u64
         requires { task < length self.now.state.world.tasks }
         ensures { result ≡ wait self.now.state.world task }
@@ -315,14 +332,14 @@ impl Sim {
         self.machine.world().wait(task)
     }
 
-    /// How many groups there are; their numbers are below it.
+    /// The number of groups; their numbers are below it.
     pub fn groups(&self) -> u32
         ensures { result ≡ length self.now.state.world.tree.groups }
     {
         self.machine.world().groups()
     }
 
-    /// How many milliseconds the tasks of the group and those below it have run since its period began.
+    /// The usage of the group: the time that tasks in it and below it have run in its period, in milliseconds.
     pub fn usage(&self, group: u32) -> u64
         requires { group < length self.now.state.world.tree.groups }
         ensures { result ≡ usage_of self.now.state.world.tree group }

@@ -3,11 +3,11 @@ pub mod Tries
 pub mod Active
 pub mod Enabling
 pub mod Evicting
+pub mod Choices
+pub mod HelperCalls
 pub mod Unchanged
 pub mod Parked
 pub mod Free
 pub mod Idling
-pub mod Choices
-pub mod HelperCalls
 pub mod Silent
 pub mod Counting

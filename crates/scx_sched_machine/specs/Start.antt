@@ -136,6 +136,12 @@ abbrev pub start_calls : PolicyState → Hierarchy → ℕ → List CallMade
 start_calls p tree cpus =
     init_calls (blank p tree cpus) ++ calls_after_init (after_init (blank p tree cpus))
 
+-- the callbacks that are called before a machine is refused for that; none before memory is taken
+abbrev pub calls_before : PolicyState → Hierarchy → ℕ → NewError → List CallMade
+calls_before p tree cpus BadShape = []
+calls_before p tree cpus OutOfMemory = []
+calls_before p tree cpus (InitFailed n) = start_calls p tree cpus
+
 -- before a callback runs nothing is said
 abbrev pub AreAnsweredBefore : PolicyState → Hierarchy → ℕ → NewError → Type 0
 AreAnsweredBefore p tree cpus BadShape = ⊤

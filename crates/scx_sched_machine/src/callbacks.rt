@@ -43,8 +43,8 @@ fn acting<'a>(policy: &'a Policy, world: &World, callback: Callback) -> Option<&
     }
 }
 
-/// Runs a callback of the policy, and answers what its program does. One that is absent, or of a policy that
-/// is ejected, answers 0.
+/// Runs a callback of the policy, and returns its program's answer; 0 if there is no program, or the policy is
+/// ejected.
 #[inline(always)]
 #[tactic(auto, unfolding(crate::specs::Callbacks::call_ending))]
 pub(crate) fn run_callback<H: Hearer>(
@@ -124,7 +124,7 @@ fn flush<H: Hearer>(world: &mut World, hearer: &mut H)
     world.quiet();
 }
 
-/// The same, by a call only where there are some.
+/// `flush`, with a call only if there are notes.
 #[inline(always)]
 #[tactic(auto, using(crate::proofs::Silent::quiet_already))]
 fn flush_any<H: Hearer>(world: &mut World, hearer: &mut H)
@@ -197,7 +197,7 @@ pub(crate) fn cpu_and_task(cpu: u32, before: Option<u16>) -> Args
 }
 
 impl Machine {
-    /// What is wrong with the callback that has just ended with that answer.
+    /// The fault of the callback that has just ended with that answer, if it has one.
     fn fault(&self, callback: Callback, answer: u64) -> Option<Fault>
         ensures { result
             ≡ or_fault self.now.world.call.fault (end_fault callback self.now.world (Some answer)) }

@@ -56,7 +56,7 @@ impl Machine {
         self.supply(cpu, hearer);
     }
 
-    /// Asks dispatch, at most so many times.
+    /// Calls dispatch, at most that many times.
     #[tactic(auto, using(crate::proofs::Taking::takings, crate::proofs::Tries::tries_steps))]
     fn tries<H: Hearer>(&mut self, left: u32, cpu: u32, before: Option<u16>, hearer: &mut H)
         requires { HasRoom (dispatch_pushes * left) self.old }
@@ -320,7 +320,7 @@ impl Machine {
         }
     }
 
-    /// Whether nobody waits for the processor or for any, no task may be throttled, and there is no dispatch to ask.
+    /// True if no task waits for this CPU or for any, no task may be throttled, and there is no dispatch to call.
     #[inline(always)]
     #[tactic(auto, unfolding(crate::specs::Cycle::stays_idle))]
     fn stays_idle(&self, cpu: u32) -> bool

@@ -11,7 +11,7 @@ use crate::sink::Hearer;
 use scx_sched_world::{BUILTIN, Eject, What};
 
 impl Machine {
-    /// Whether the policy was put out of force.
+    /// True if the policy was ejected.
     pub(crate) fn is_ejected(&self) -> bool
         ensures { result ≡ is_ejected self.now }
     {
@@ -50,7 +50,8 @@ impl Machine {
         requires { HasRoom enter_pushes self.old }
         ensures state { self.new ≡ with_world self.old (evict self.old.world task) }
         ensures few { self.new.world.queues.pushes ≤ self.old.world.queues.pushes + enter_pushes }
-        ensures notes { Takes H.takes (H.noted hearer.old) (evict_note self.old.world task) (H.noted hearer.new) }
+        ensures notes { Takes H.takes (H.noted hearer.old) (evict_note self.old.world task)
+            (H.noted hearer.new) }
         ensures calls { H.told hearer.new ≡ H.told hearer.old }
     {
         if self.world.waits(task) {

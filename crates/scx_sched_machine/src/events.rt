@@ -17,7 +17,7 @@ use scx_sched_world::{Eject, What};
 use scx_weights::is_weight;
 use thiserror::Error;
 
-/// What happens to the machine. Tasks, processors and groups go by their numbers.
+/// An event of the machine. Tasks, CPUs and groups go by their numbers.
 #[derive(Clone, Copy, Debug, PartialEq, Eq)]
 pub enum Event {
     /// A task has work to do.
@@ -332,7 +332,7 @@ impl Machine {
         self.event_heard(event, sink);
     }
 
-    /// The same, for one that is told of the callbacks that are called.
+    /// `event`, with its callbacks told to a hearer.
     #[inline(always)]
     #[tactic(auto, using(crate::proofs::Taking::takings))]
     pub fn event_heard<H: Hearer>(&mut self, event: Event, hearer: &mut H)

@@ -1,4 +1,4 @@
-ghost use Rattle.std.specs.Prelude.{◌≡◌};
+ghost use Rattle.std.specs.Prelude.{◌≡◌, IfOk};
 ghost use Rattle.scx_sched_world.specs.World.{IsLike};
 ghost use Rattle.scx_sched_machine.specs.Cycle.{has_local, asks_again};
 
@@ -6,6 +6,7 @@ use crate::policy::Policy;
 use scx_maps::Maps;
 use scx_sched_world::World;
 use scx_vm_run::Core;
+use std::alloc::{AllocError, Global};
 use std::marker::Model;
 
 /// A policy, its maps, and the world that its programs see.
@@ -14,7 +15,7 @@ pub struct Machine {
     pub(crate) policy: Policy,
     pub(crate) maps: Maps,
     pub(crate) world: World,
-    /// What programs run on, one after another.
+    /// The core on which programs run, one after another.
     pub(crate) core: Core,
 }
 
@@ -49,7 +50,7 @@ impl Machine {
         &self.maps
     }
 
-    /// Becomes what the other one is, which has the same policy. No memory is taken.
+    /// Becomes a copy of the other machine, which has the same policy. No memory is taken.
     pub fn copy_from(&mut self, other: &Machine)
         requires policy { self.old.policy ≡ other.now.policy }
         requires world { IsLike self.old.world other.now.world }
@@ -59,14 +60,37 @@ impl Machine {
         self.world.copy_from(&other.world);
     }
 
-    /// Whether a task waits in the local queue of the processor.
+    /// A copy of the machine, in memory of its own.
+    pub fn duplicate(&self, alloc: Global) -> Result<Machine, AllocError>
+        ensures { IfOk result (λ copy. copy ≡ self.now) }
+    {
+        let policy = self.policy.duplicate(alloc);
+        let maps = self.maps.duplicate(alloc);
+        let world = self.world.duplicate(alloc);
+        match (policy, maps, world) {
+            (Ok(policy), Ok(maps), Ok(world)) => Ok(Machine {
+                policy,
+                maps,
+                world,
+                core: Core::new(),
+            }),
+            (policy, maps, world) => {
+                drop(policy);
+                drop(maps);
+                drop(world);
+                Err(AllocError)
+            }
+        }
+    }
+
+    /// True if a task waits in the CPU's local queue.
     pub(crate) fn has_local(&self, cpu: u32) -> bool
         ensures { result ≡ has_local self.now cpu }
     {
         self.world.local_len(cpu) != 0
     }
 
-    /// Whether dispatch is asked again: it moved something, and the local queue is empty still.
+    /// True if dispatch is called again: it moved a task, and the local queue is still empty.
     pub(crate) fn asks_again(&self, cpu: u32) -> bool
         ensures { result ≡ asks_again self.now cpu }
     {

@@ -118,8 +118,8 @@ impl Machine {
         self.put(task, cpu, 0, hearer);
     }
 
-    /// Of the parked those that may run again are let go, in their order from that one on; at most so many are
-    /// looked at.
+    /// Lets go the parked tasks that may run again, in their order from that one on. At most `left` are looked
+    /// at.
     #[inline(never)]
     #[tactic(auto, using(crate::proofs::Taking::takings, crate::proofs::Parked::let_go_steps, crate::proofs::Unchanged::left_few))]
     fn let_go_from<H: Hearer>(&mut self, left: usize, at: Option<u16>, hearer: &mut H)

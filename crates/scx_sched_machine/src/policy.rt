@@ -4,6 +4,7 @@ ghost use Rattle.scx_sched_machine.specs.Policy.{IsTimeout, IsAs, HasMaps, AreAs
 use scx_isa::{Callback, PerCallback};
 use scx_maps::MapDefs;
 use scx_verify::Verified;
+use std::alloc::{AllocError, Global};
 use std::marker::Model;
 use thiserror::Error;
 
@@ -16,7 +17,7 @@ pub enum BadPolicy {
     /// A task might wait for no time at all, or for longer than half a minute.
     #[error("the timeout isn't one of 1 to 30000 milliseconds")]
     BadTimeout,
-    /// A program stands for a callback, but was verified as another.
+    /// A program is given for a callback, but was verified as another.
     #[error("a program was verified for another callback")]
     OtherCallback,
     /// A program was verified for maps of other shapes than the policy's.
@@ -65,6 +66,18 @@ impl Policy {
         }
     }
 
+    /// A copy of the policy, in memory of its own.
+    pub fn duplicate(&self, alloc: Global) -> Result<Policy, AllocError>
+        ensures { IfOk result (λ copy. copy ≡ self.now) }
+    {
+        let callbacks = duplicates_of(&self.callbacks, alloc)?;
+        Ok(Policy {
+            defs: self.defs,
+            timeout_ms: self.timeout_ms,
+            callbacks,
+        })
+    }
+
     /// The shapes of its maps.
     pub fn defs(&self) -> &MapDefs
         ensures shapes { result.now ≡ self.now.shapes }
@@ -74,7 +87,7 @@ impl Policy {
         &self.defs
     }
 
-    /// How long a task may wait, in milliseconds.
+    /// The longest wait that the policy may let a task have, in milliseconds.
     pub(crate) fn timeout_ms(&self) -> u64
         ensures { result ≡ self.now.timeout_ms }
     {
@@ -92,7 +105,32 @@ impl Policy {
     }
 }
 
-/// What is wrong with a policy of these programs.
+/// A copy of the programs, in memory of its own.
+fn duplicates_of(callbacks: &Callbacks, alloc: Global) -> Result<Callbacks, AllocError>
+    ensures { IfOk result (λ copy. copy ≡ callbacks.now) }
+{
+    Ok(PerCallback {
+        init: duplicate_of(&callbacks.init, alloc)?,
+        enable: duplicate_of(&callbacks.enable, alloc)?,
+        select_cpu: duplicate_of(&callbacks.select_cpu, alloc)?,
+        enqueue: duplicate_of(&callbacks.enqueue, alloc)?,
+        dispatch: duplicate_of(&callbacks.dispatch, alloc)?,
+        running: duplicate_of(&callbacks.running, alloc)?,
+        stopping: duplicate_of(&callbacks.stopping, alloc)?,
+    })
+}
+
+/// A copy of the program, if there is one, in memory of its own.
+fn duplicate_of(program: &Option<Verified>, alloc: Global) -> Result<Option<Verified>, AllocError>
+    ensures { IfOk result (λ copy. copy ≡ program.now) }
+{
+    match program {
+        Some(program) => Ok(Some(program.duplicate(alloc)?)),
+        None => Ok(None),
+    }
+}
+
+/// The first thing wrong with a policy of these programs.
 fn fault_of(defs: &MapDefs, timeout_ms: u32, callbacks: &Callbacks) -> Option<BadPolicy>
     ensures fault { IfSome result (IsFault defs.now timeout_ms callbacks.now) }
     ensures timeout { result ≡ None → IsTimeout timeout_ms }
@@ -111,14 +149,14 @@ fn fault_of(defs: &MapDefs, timeout_ms: u32, callbacks: &Callbacks) -> Option<Ba
     None
 }
 
-/// Whether each program was verified as the callback whose program it is.
+/// True if each program was verified as the callback whose program it is.
 fn are_as(callbacks: &Callbacks) -> bool
     ensures { IsTrue result ↔ AreAs callbacks.now }
 {
     callbacks.all(|callback, program| program.callback() == callback)
 }
 
-/// Whether each program was verified for these maps.
+/// True if each program was verified for these maps.
 fn have_maps(callbacks: &Callbacks, defs: &MapDefs) -> bool
     ensures { IsTrue result ↔ HaveMaps defs.now callbacks.now }
 {

@@ -25,7 +25,8 @@ impl Machine {
     /// Where enqueue wanted the task at hand to wait, for that processor.
     #[inline(always)]
     fn enqueue_choice(&self, cpu: u32) -> Insert
-        ensures { result ≡ enqueue_choice self.now.policy.callbacks.enqueue cpu self.now.world.call.insert }
+        ensures { result
+            ≡ enqueue_choice self.now.policy.callbacks.enqueue cpu self.now.world.call.insert }
     {
         if self.policy.program(Callback::Enqueue).is_none() {
             return Insert::global();

@@ -17,7 +17,7 @@ use scx_verify::Verified;
 use scx_vm::Args;
 use scx_vm_run::Core;
 
-/// Where notes go, one after another.
+/// A sink takes notes, one after another.
 pub trait Sink {
     /// From the first state, taking the note may lead to the last.
     ghost takes: { Self → Note → Self → Type 0 };
@@ -27,7 +27,7 @@ pub trait Sink {
     fn take(&mut self, note: Note)
         ensures { takes self.old note self.new };
 
-    /// Whether it has failed, and takes nothing any more.
+    /// True if it has failed, and takes no more notes.
     fn failed(&self) -> bool
         ensures { result ≡ has_failed self.now };
 
@@ -42,7 +42,8 @@ pub trait Sink {
         world: &mut World,
     ) -> u64
         requires shapes { HasShapes program.now.context.defs maps.old }
-        requires arguments { FitsCallback program.now.context.callback (program_arguments arguments) }
+        requires arguments { FitsCallback program.now.context.callback
+            (program_arguments arguments) }
         requires quiet { world.old.notes ≡ [] }
         requires room { CanPush program_pushes world.old }
         ensures sink { self.new ≡ self.old }
@@ -101,7 +102,8 @@ pub trait Hearer {
         world: &mut World,
     ) -> u64
         requires shapes { HasShapes program.now.context.defs maps.old }
-        requires arguments { FitsCallback program.now.context.callback (program_arguments arguments) }
+        requires arguments { FitsCallback program.now.context.callback
+            (program_arguments arguments) }
         requires quiet { world.old.notes ≡ [] }
         requires room { CanPush program_pushes world.old }
         ensures notes { noted self.new ≡ noted self.old }
@@ -161,7 +163,7 @@ impl<S: Sink> Hearer for S {
     }
 }
 
-/// Where notes are lost, and nobody looks on.
+/// A sink that drops the notes.
 #[derive(Drop)]
 pub struct Unseen;
 

@@ -5,12 +5,13 @@ ghost use Rattle.scx_sched_machine.specs.declared.start.NewError.TheVariants.{Ou
 ghost use Rattle.scx_sched_machine.specs.Policy.{IsTimeout, AreAs};
 ghost use Rattle.scx_sched_machine.specs.Budgets.{HasRoom, enable_pushes, program_pushes, start_pushes};
 ghost use Rattle.scx_sched_machine.specs.Callbacks.{AreAnswered};
-ghost use Rattle.scx_sched_machine.specs.Start.{is_bad_shape, blank, fault_answer, after_init, enable, after_enables, all_enabled, first_state, IsRefusal, init_calls, enable_calls, calls_below, calls_after_init, start_calls, AreAnsweredBefore};
+ghost use Rattle.scx_sched_machine.specs.Hearing.{Hears};
+ghost use Rattle.scx_sched_machine.specs.Start.{is_bad_shape, blank, fault_answer, after_init, enable, after_enables, all_enabled, first_state, IsRefusal, init_calls, enable_calls, calls_below, calls_after_init, start_calls, calls_before, AreAnsweredBefore};
 
 use crate::callbacks::{one_task, run_callback};
 use crate::machine::Machine;
 use crate::policy::Policy;
-use crate::sink::Sink;
+use crate::sink::Hearer;
 use scx_isa::Callback;
 use scx_maps::Maps;
 use scx_sched_world::World;
@@ -42,20 +43,20 @@ impl From<AllocError> for NewError {
     }
 }
 
-/// What stands for a fault in init or enable: Linux's EINVAL.
+/// The answer for a fault in init or enable: Linux's EINVAL.
 const FAULT_ANSWER: i64 = -22;
 
 impl Machine {
     /// The machine of a policy, after its init and its enable of each task.
     ///
-    /// The shape is looked at first: 1 to 64 processors, and no active task. Then all memory is taken, and
-    /// then init runs. The sink may run the programs, but takes no notes.
-    pub fn new<S: Sink>(
+    /// The shape is checked first: 1 to 64 CPUs, and no active task. Then all memory is taken, and then init
+    /// runs. The hearer runs the programs, but takes no notes.
+    pub fn new<H: Hearer>(
         alloc: Global,
         policy: Policy,
         tree: Tree,
         cpus: usize,
-        sink: &mut S,
+        hearer: &mut H,
     ) -> Result<Machine, NewError>
         ensures shape { OnOk result (is_bad_shape tree cpus ≡ false) }
         ensures made { IfOk result (λ machine. first_state policy tree cpus ≡ Ok machine) }
@@ -66,6 +67,12 @@ impl Machine {
         ensures refused { IfErr result (IsRefusal policy tree cpus) }
         ensures answered { OnOk result (AreAnswered (start_calls policy tree cpus)) }
         ensures answered_before { IfErr result (AreAnsweredBefore policy tree cpus) }
+        ensures calls { OnOk result
+            (Hears H.hears (H.told hearer.old) (start_calls policy tree cpus) (H.told hearer.new)) }
+        ensures calls_before { IfErr result (λ error.
+            Hears H.hears (H.told hearer.old) (calls_before policy tree cpus error)
+            (H.told hearer.new)) }
+        ensures notes { H.noted hearer.new ≡ H.noted hearer.old }
     {
         if is_bad_shape(&tree, cpus) {
             drop(policy);
@@ -73,7 +80,7 @@ impl Machine {
             return Err(NewError::BadShape);
         }
         let mut machine = Machine::blank(alloc, policy, tree, cpus)?;
-        match machine.begin(sink) {
+        match machine.begin(hearer) {
             Ok(()) => Ok(machine),
             Err(answer) => {
                 drop(machine);
@@ -111,28 +118,34 @@ impl Machine {
         }
     }
 
-    /// Runs init, and enable of each task; where one fails, answers the number that stands for it.
-    #[tactic(auto, using(crate::proofs::Taking::answered_append))]
-    fn begin<S: Sink>(&mut self, sink: &mut S) -> Result<(), i64>
+    /// Runs init, and enable of each task. If one fails, its number is the error.
+    #[tactic(auto, using(crate::proofs::Taking::answered_append, crate::proofs::Taking::takings))]
+    fn begin<H: Hearer>(&mut self, hearer: &mut H) -> Result<(), i64>
         requires { self.old.world.queues.pushes ≡ 0 }
         ensures done { OnOk result (all_enabled (after_init self.old) ≡ Ok self.new) }
         ensures failed { IfErr result (λ answer. all_enabled (after_init self.old) ≡ Err answer) }
         ensures few { self.new.world.queues.pushes ≤ start_pushes }
         ensures answered { AreAnswered
             (init_calls self.old ++ calls_after_init (after_init self.old)) }
+        ensures calls { Hears H.hears (H.told hearer.old)
+            (init_calls self.old ++ calls_after_init (after_init self.old)) (H.told hearer.new) }
+        ensures notes { H.noted hearer.new ≡ H.noted hearer.old }
     {
-        self.initialize(sink)?;
-        self.enable_all(sink)
+        self.initialize(hearer)?;
+        self.enable_all(hearer)
     }
 
-    /// Runs init. Where it fails, answers the number that stands for it.
+    /// Runs init. If it fails, its number is the error.
     #[tactic(auto, unfolding(crate::specs::Start::after_init))]
-    fn initialize<S: Sink>(&mut self, sink: &mut S) -> Result<(), i64>
+    fn initialize<H: Hearer>(&mut self, hearer: &mut H) -> Result<(), i64>
         requires { HasRoom program_pushes self.old }
         ensures done { OnOk result (after_init self.old ≡ Ok self.new) }
         ensures failed { IfErr result (λ answer. after_init self.old ≡ Err answer) }
         ensures few { self.new.world.queues.pushes ≤ self.old.world.queues.pushes + program_pushes }
         ensures answered { AreAnswered (init_calls self.old) }
+        ensures calls { Hears H.hears (H.told hearer.old) (init_calls self.old)
+            (H.told hearer.new) }
+        ensures notes { H.noted hearer.new ≡ H.noted hearer.old }
     {
         self.world.begin(Callback::Init, 0, 0);
         let answer = run_callback(
@@ -142,7 +155,7 @@ impl Machine {
             Args::NONE,
             &mut self.maps,
             &mut self.world,
-            sink,
+            hearer,
         );
         if self.world.first_fault().is_some() {
             return Err(FAULT_ANSWER);
@@ -155,18 +168,22 @@ impl Machine {
     }
 
     /// Runs enable of each task, by number.
-    #[tactic(auto, using(crate::proofs::Enabling::answered_next))]
-    fn enable_all<S: Sink>(&mut self, sink: &mut S) -> Result<(), i64>
+    #[tactic(auto, using(crate::proofs::Enabling::answered_next, crate::proofs::Enabling::heard_next))]
+    fn enable_all<H: Hearer>(&mut self, hearer: &mut H) -> Result<(), i64>
         requires { HasRoom enable_pushes self.old }
         ensures done { OnOk result
             (after_enables (length self.old.world.tasks) self.old ≡ Some self.new) }
-        ensures failed { OnErr result (after_enables (length self.old.world.tasks) self.old ≡ None) }
+        ensures failed { OnErr result
+            (after_enables (length self.old.world.tasks) self.old ≡ None) }
         ensures answer { IfErr result (λ answer. answer ≡ fault_answer) }
         ensures few { self.new.world.queues.pushes ≤ self.old.world.queues.pushes + enable_pushes }
         ensures answered { AreAnswered (calls_below (length self.old.world.tasks) self.old) }
+        ensures calls { Hears H.hears (H.told hearer.old)
+            (calls_below (length self.old.world.tasks) self.old) (H.told hearer.new) }
+        ensures notes { H.noted hearer.new ≡ H.noted hearer.old }
     {
         for task in 0..self.world.tasks() {
-            if let Err(answer) = self.enable(task, sink) {
+            if let Err(answer) = self.enable(task, hearer) {
                 return Err(answer);
             }
         }
@@ -175,13 +192,16 @@ impl Machine {
 
     /// Runs enable of a task.
     #[tactic(auto, unfolding(crate::specs::Start::enable))]
-    fn enable<S: Sink>(&mut self, task: u16, sink: &mut S) -> Result<(), i64>
+    fn enable<H: Hearer>(&mut self, task: u16, hearer: &mut H) -> Result<(), i64>
         requires { HasRoom program_pushes self.old }
         ensures done { OnOk result (enable self.old task ≡ Some self.new) }
         ensures failed { OnErr result (enable self.old task ≡ None) }
         ensures answer { IfErr result (λ answer. answer ≡ fault_answer) }
         ensures few { self.new.world.queues.pushes ≤ self.old.world.queues.pushes + program_pushes }
         ensures answered { AreAnswered (enable_calls (Some self.old) task) }
+        ensures calls { Hears H.hears (H.told hearer.old) (enable_calls (Some self.old) task)
+            (H.told hearer.new) }
+        ensures notes { H.noted hearer.new ≡ H.noted hearer.old }
     {
         self.world.begin(Callback::Enable, task, 0);
         run_callback(
@@ -191,7 +211,7 @@ impl Machine {
             one_task(task),
             &mut self.maps,
             &mut self.world,
-            sink,
+            hearer,
         );
         if self.world.first_fault().is_some() {
             return Err(FAULT_ANSWER);
@@ -201,14 +221,14 @@ impl Machine {
     }
 }
 
-/// Whether a machine can't be made of these.
+/// True if no machine can have this number of CPUs and these tasks.
 fn is_bad_shape(tree: &Tree, cpus: usize) -> bool
     ensures { result ≡ is_bad_shape tree.now cpus }
 {
     cpus < 1 || cpus > 64 || has_active(tree)
 }
 
-/// Whether a task is active.
+/// True if a task is active.
 #[tactic(auto, using(crate::proofs::Active::none_below_next))]
 fn has_active(tree: &Tree) -> bool
     ensures { result ≡ any_below (length tree.now.homes) (λ t. is_active_task tree.now t) }

@@ -1,8 +1,8 @@
+pub mod Choosing
 pub mod Helping
 pub mod Ejecting
 pub mod Calling
 pub mod Cycling
-pub mod Choosing
 pub mod Waiting
 pub mod Happening
 pub mod Refusing

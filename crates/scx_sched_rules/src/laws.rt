@@ -1,14 +1,12 @@
 ghost use Rattle.scx_sched_rules.specs.Laws.{RulesAllowHelpers, RulesAllowHelpersOnly, RulesAllowCallbacks, RulesAllowCallbacksOnly, RulesAllowCycles, RulesAllowCyclesOnly, RulesAllowEvents, RulesAllowEventsOnly, RulesRefuseEvents, RulesRefuseEventsOnly, RulesAllowStarts, RulesAllowStartsOnly, RulesRefuseShapes, RulesRefuseShapesOnly};
 
-/// What a helper answers, and what it makes of the world, is what the rules of helpers allow, and the
-/// only thing that they allow.
+/// The rules of helpers allow each helper's answer and its change of the world, and nothing else.
 pub fn rules_allow_helpers()
     ensures allowed { RulesAllowHelpers }
     ensures only { RulesAllowHelpersOnly }
 {}
 
-/// What the machine goes on from after a callback is what the rules of callbacks allow it to leave, and
-/// the only thing that they allow.
+/// The rules of callbacks allow the state from which the machine goes on after a callback, and no other.
 pub fn rules_allow_callbacks()
     ensures allowed { RulesAllowCallbacks }
     ensures only { RulesAllowCallbacksOnly }
@@ -20,8 +18,7 @@ pub fn rules_allow_cycles()
     ensures only { RulesAllowCyclesOnly }
 {}
 
-/// What an event does, and what it notes, is what the rules of events allow, and the only thing that they
-/// allow.
+/// The rules of events allow an event's change of the machine and its notes, and nothing else.
 pub fn rules_allow_events()
     ensures allowed { RulesAllowEvents }
     ensures only { RulesAllowEventsOnly }
@@ -34,8 +31,8 @@ pub fn rules_refuse_events()
     ensures only { RulesRefuseEventsOnly }
 {}
 
-/// How a machine begins is what the rules of starts allow, and the only thing that they allow; and where
-/// they say that the shape is bad, and nowhere else, it is.
+/// The rules of starts allow the machine's first state, and no other. They say that a shape is bad exactly
+/// where it is refused.
 pub fn rules_allow_starts()
     ensures allowed { RulesAllowStarts }
     ensures only { RulesAllowStartsOnly }

@@ -9,12 +9,12 @@ pub const DEFAULT_SLICE: u64 = 20_000_000;
 pub struct Task {
     /// While it waits, the clock at which it began to: at which it woke or was stopped last.
     pub since: Option<u64>,
-    /// What is left of its slice, in nanoseconds; 2^64 - 1 never ends.
+    /// The remaining slice, in nanoseconds; 2^64 - 1 never ends.
     pub slice: u64,
     pub vtime: u64,
-    /// The processor on which it ran last.
+    /// The CPU on which it ran last.
     pub prev_cpu: u32,
-    /// How long it has run, in nanoseconds.
+    /// The time that it has run, in nanoseconds.
     pub run_ns: u64,
     /// Its virtual time under the built-in scheduler, 0 up to an ejection.
     pub builtin: u64,
@@ -30,7 +30,7 @@ impl Task {
         builtin: 0,
     };
 
-    /// What is read where there is no task.
+    /// The record that is read where there is no task.
     pub(crate) const NONE: Task = Task {
         since: None,
         slice: 0,
@@ -40,7 +40,7 @@ impl Task {
         builtin: 0,
     };
 
-    /// How long it has waited at that clock; 0 where it isn't waiting.
+    /// The length of its wait at that clock; 0 if it isn't waiting.
     pub fn wait(&self, clock: u64) -> u64
         ensures { result ≡ time_since clock self.now.since }
     {

@@ -42,7 +42,7 @@ impl Tasks {
         })
     }
 
-    /// How many tasks there are.
+    /// The number of tasks.
     pub fn len(&self) -> usize
         ensures tasks { result ≡ length self.now }
         ensures few { result ≤ 1024 }
@@ -80,6 +80,20 @@ impl Tasks {
         self.records.copy_from_slice(&other.records);
         self.watch.oldest = other.watch.oldest;
         self.watch.blocks = other.watch.blocks;
+    }
+
+    /// A copy of the records, in memory of its own.
+    pub fn duplicate(&self, alloc: Global) -> Result<Tasks, AllocError>
+        ensures { IfOk result (λ copy. copy ≡ self.now) }
+    {
+        let records = Vec::from_slice(alloc, &self.records)?;
+        Ok(Tasks {
+            records,
+            watch: Watch {
+                oldest: self.watch.oldest,
+                blocks: self.watch.blocks,
+            },
+        })
     }
 
     /// Sets what is left of the task's slice, and how long it has run. Where there is no such task nothing is
@@ -172,7 +186,7 @@ impl Tasks {
         }
     }
 
-    /// Of the tasks that have waited longer than that the one of the least number.
+    /// The task of the least number that has waited longer than the limit.
     #[inline(always)]
     #[tactic(auto, using(crate::proofs::Watching::nobody_late))]
     pub fn first_overdue(&mut self, clock: u64, limit: u64) -> Option<u16>
@@ -190,7 +204,7 @@ impl Tasks {
         }
     }
 
-    /// Brings the watch up to date where somebody may have waited longer than that.
+    /// Brings the watch up to date if a task may have waited longer than that.
     fn refresh(&mut self, clock: u64, limit: u64)
         ensures { self.new ≡ self.old }
     {

@@ -5,21 +5,21 @@ ghost use Rattle.scx_sched_tasks.specs.Kept.{AreWatched, WaitNoLonger, with_earl
 use crate::task::Task;
 use std::cmp;
 
-/// How many tasks are watched together.
+/// The number of tasks in a block; these are watched together.
 const BLOCK: usize = 32;
 
-/// How many such blocks there are.
+/// The number of blocks.
 const BLOCKS: usize = 32;
 
-/// Since when somebody waits where nobody does.
+/// The clock that is kept where no task waits.
 const NEVER: u64 = u64::MAX;
 
-/// Clocks since before which nobody waits.
+/// Clocks before which no wait began.
 #[derive(Drop)]
 pub(crate) struct Watch {
-    /// Of all tasks.
+    /// The clock for all tasks.
     pub(crate) oldest: u64,
-    /// Of each block of tasks.
+    /// The clock for each block of tasks.
     pub(crate) blocks: [u64; BLOCKS],
 }
 
@@ -64,7 +64,7 @@ impl Watch {
         }
     }
 
-    /// Looks anew at the blocks in which somebody may have waited longer than that.
+    /// Looks anew at the blocks in which a task may have waited longer than that.
     #[inline(never)]
     pub(crate) fn refresh(&mut self, records: &[Task], clock: u64, limit: u64)
         requires { AreWatched self.old records.now }
@@ -93,14 +93,14 @@ impl Watch {
     }
 }
 
-/// Whether a wait since then is longer than that.
+/// True if a wait since then is longer than the limit.
 pub(crate) fn is_over(clock: u64, since: u64, limit: u64) -> bool
     ensures { result ≡ nat_lt limit (clock - since) }
 {
     clock.saturating_sub(since) > limit
 }
 
-/// Since when somebody of the block waits.
+/// The clock at which the first wait in the block began.
 fn oldest_in(records: &[Task], block: usize) -> u64
     requires { block < 32 }
     ensures { WaitNoLonger result block records.now }
@@ -110,7 +110,7 @@ fn oldest_in(records: &[Task], block: usize) -> u64
     oldest_of(&records[first..end])
 }
 
-/// Since when somebody waits.
+/// The clock at which the first wait began.
 fn oldest_of(records: &[Task]) -> u64
     ensures { (i n : ℕ) → (slice_index_or records.now i no_task).since ≡ Some n → result ≤ n }
 {

@@ -10,7 +10,7 @@ use Rattle.scx_dsq.specs.Calls.{create_refusal, with_queue, after_create, push_r
 use Rattle.scx_weights.specs.Hierarchy.{Hierarchy, with_task}
 use Rattle.scx_weights.specs.Limits.{is_throttled_group, is_throttled, begins_period, with_use, with_turn, is_freed, frees}
 use Rattle.scx_weights.proofs.Counting.{none_below_at}
-use Rattle.scx_weights_limits.proofs.Throttled.{there, uses_keep_throttled, clocks_keep_throttled}
+use Rattle.scx_weights.proofs.Throttled.{there, uses_keep_throttled, clocks_keep_throttled}
 use Rattle.scx_sched_world.specs.Ids.{parked_queue}
 use Rattle.scx_sched_world.specs.World as world
 use Rattle.scx_sched_world.specs.World.{WorldState}

@@ -18,7 +18,7 @@ pub struct Insert {
 }
 
 impl Insert {
-    /// Of a task that a policy took and put nowhere.
+    /// The insert for a task that a policy took and put nowhere.
     pub fn held() -> Insert
         ensures { result ≡ to_held }
     {
@@ -29,7 +29,7 @@ impl Insert {
         }
     }
 
-    /// Of a task that any processor may run.
+    /// The insert for a task that any CPU may run.
     pub fn global() -> Insert
         ensures { result ≡ to_global }
     {
@@ -40,7 +40,7 @@ impl Insert {
         }
     }
 
-    /// The same, where LOCAL is the local queue of that processor.
+    /// This insert, with LOCAL read as the local queue of that CPU.
     pub fn for_cpu(self, cpu: u32) -> Insert
         ensures { result ≡ for_cpu cpu self }
     {
@@ -71,7 +71,7 @@ pub struct Call {
     /// The processor at hand, whose local queue LOCAL means, but in select_cpu.
     pub cpu: u32,
     pub insert: Option<Insert>,
-    /// Whether it moved a task to a local queue, or inserted one that was held.
+    /// True if it moved a task to a local queue, or inserted one that was held.
     pub has_moved: bool,
     /// Its first fault.
     pub fault: Option<Fault>,

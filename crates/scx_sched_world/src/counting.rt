@@ -66,7 +66,7 @@ fn pop_counted<L: Ledger>(queues: &mut Queues, id: u64, blank: Blank) -> Option<
     front
 }
 
-/// Takes the front out of the queue of that id, which stands at that place, and answers it. Nobody asks for the
+/// Takes the front out of the queue of that id, which is at that place, and returns it. Nobody asks for the
 /// comparisons.
 #[inline(always)]
 pub fn pop_at(queues: &mut Queues, place: usize, id: u64) -> Option<u32>

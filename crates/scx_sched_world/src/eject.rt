@@ -4,17 +4,17 @@ ghost use Rattle.scx_sched_world.specs.Ejecting.{eject_note};
 use crate::faults::Fault;
 use crate::notes::What;
 
-/// Why a policy was put out of force, and at which clock.
+/// The cause of an ejection, and its clock.
 #[derive(Clone, Copy, Debug, PartialEq, Eq)]
 pub enum Eject {
-    /// That task waited longer than the policy may let one wait.
+    /// A task waited longer than the policy may let one wait.
     Stall(u16, u64),
-    /// That was the first fault of a callback.
+    /// A callback had a fault; this was its first one.
     Fault(Fault, u64),
 }
 
 impl Eject {
-    /// What is noted of it.
+    /// The note of the ejection.
     pub fn what(self) -> What
         ensures { result ≡ eject_note self }
     {

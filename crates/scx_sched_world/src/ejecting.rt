@@ -9,7 +9,7 @@ use scx_dsq::Rank;
 use scx_sched_tasks::DEFAULT_SLICE;
 use std::cmp;
 
-/// What an ejection does to the world, and the scheduler that takes the policy's place.
+/// The ejection of a policy, and the built-in scheduler that takes its place.
 impl World {
     /// Why and when the policy was put out of force.
     pub fn ejected(&self) -> Option<Eject>
@@ -103,7 +103,7 @@ impl World {
         self.set_task(task, facts);
     }
 
-    /// What the task used of its slice, the more the less it weighs.
+    /// The time that the task used of its slice, times 100 over its weight.
     fn used(&self, task: u16) -> u64
         ensures number { result ≡ used_vtime self.now task }
         ensures most { result ≤ 2_000_000_000 }

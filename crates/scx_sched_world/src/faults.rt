@@ -1,7 +1,7 @@
 ghost use Rattle.std.specs.Prelude.{◌≡◌};
 ghost use Rattle.scx_sched_world.specs.Faults.{fault_number};
 
-/// What is wrong with a callback. A helper call with a fault changes nothing else.
+/// A fault of a callback. A helper call with a fault changes nothing else.
 #[derive(Clone, Copy, Debug, PartialEq, Eq)]
 pub enum Fault {
     /// It can't go on. No callback that was verified comes to that.

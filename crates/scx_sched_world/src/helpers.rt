@@ -13,7 +13,7 @@ use scx_dsq::Rank;
 use scx_isa::{Callback, Field, TaskId};
 use scx_vm::Answer;
 
-/// What each helper answers, and what it makes of the world.
+/// The helpers: each one's answer, and its change of the world.
 impl World {
     /// Keeps the fault, if it is the first one of the callback.
     fn fault(&mut self, fault: Fault) -> u64
@@ -26,7 +26,7 @@ impl World {
         INVALID
     }
 
-    /// Where the policy's queue of that id stands.
+    /// The place of the policy's queue of that id.
     #[inline(always)]
     fn place(&self, queue: u64) -> Option<usize>
         ensures there { is_some result ≡ is_there self.now queue }
@@ -65,7 +65,7 @@ impl World {
         }
     }
 
-    /// Whether the machine holds the task.
+    /// True if the machine holds the task.
     fn is_held(&self, task: Option<u16>) -> bool
         ensures { result ≡ is_held self.now task }
     {
@@ -75,7 +75,7 @@ impl World {
         }
     }
 
-    /// Whether it is the task at hand, and not inserted yet; in dispatch whether it is held.
+    /// True if it is the task at hand, and not inserted yet; in dispatch, if it is held.
     fn may_insert(&self, task: Option<u16>) -> bool
         ensures { result ≡ may_insert self.now task }
     {

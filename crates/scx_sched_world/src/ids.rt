@@ -22,17 +22,17 @@ pub const PARKED: u64 = 0x8000_0000_0000_0005;
 /// The local queue of processor 0; those of the others follow.
 pub const LOCAL_ON: u64 = 0xc000_0000_0000_0000;
 
-/// What lies between the first and the last id that may be read as a local queue.
+/// The number of ids that may be read as a local queue.
 pub(crate) const LOCAL_IDS: u64 = 0x1_0000_0000;
 
-/// What a helper answers that was given something wrong: -22, Linux's EINVAL.
+/// The answer of a helper call with a fault: -22, Linux's EINVAL.
 pub(crate) const INVALID: u64 = 0xffff_ffff_ffff_ffea;
 
-/// Where the queue of all processors stands among the queues, as it is created first.
+/// The place of the global queue among the queues, as it is created first.
 pub(crate) const GLOBAL_PLACE: usize = 0;
 
-/// Where the queue of the tasks that are throttled stands.
+/// The place of the queue of parked tasks.
 pub(crate) const PARKED_PLACE: usize = 3;
 
-/// Where the local queue of processor 0 stands; those of the others follow.
+/// The place of the local queue of CPU 0; those of the others follow.
 pub(crate) const LOCAL_PLACES: usize = 4;

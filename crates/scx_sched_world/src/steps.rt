@@ -14,7 +14,7 @@ use crate::world::World;
 use scx_dsq::Rank;
 use scx_sched_tasks::DEFAULT_SLICE;
 
-/// What an event does to the world, one step at a time.
+/// The steps of events in the world.
 impl World {
     /// The task is runnable, and waits from now on.
     #[tactic(auto, using(crate::proofs::Parked::known_active))]
@@ -45,7 +45,8 @@ impl World {
     pub(crate) fn push(&mut self, queue: u64, task: u16, rank: Rank)
         requires task { task < length self.old.tasks }
         requires few { self.old.queues.pushes < 2 ^ 63 }
-        ensures world { self.new ≡ with_queues self.old (after_push self.old.queues queue task rank) }
+        ensures world { self.new
+            ≡ with_queues self.old (after_push self.old.queues queue task rank) }
         ensures few { self.new.queues.pushes ≤ self.old.queues.pushes + 1 }
     {
         if queue == PARKED {
@@ -67,7 +68,7 @@ impl World {
         Some(task as u16)
     }
 
-    /// The front of the queue of that id, which stands at that place, leaves it, and is answered.
+    /// Takes the front out of the queue of that id, which is at that place, and returns it.
     #[inline(always)]
     #[tactic(auto, using(crate::proofs::Parked::known_popped, crate::proofs::Places::popped))]
     pub(crate) fn pop_at(&mut self, place: usize, queue: u64) -> Option<u16>
@@ -154,7 +155,7 @@ impl World {
         }
     }
 
-    /// What an insert makes of the record of its task.
+    /// Gives the record of a task the slice and virtual time of its insert.
     #[inline(always)]
     #[tactic(auto, using(crate::proofs::Records::both_set))]
     fn set_given(&mut self, task: u16, insert: Insert)
@@ -179,7 +180,7 @@ impl World {
         }
     }
 
-    /// How many tasks wait in the local queue of the processor.
+    /// The number of tasks in the CPU's local queue.
     #[inline(always)]
     #[tactic(auto, using(crate::proofs::Places::local_stands))]
     pub fn local_len(&self, cpu: u32) -> usize
@@ -193,7 +194,7 @@ impl World {
         }
     }
 
-    /// Whether a task waits in the queue of all processors.
+    /// True if a task waits in the global queue.
     #[inline(always)]
     pub fn has_global(&self) -> bool
         ensures { result ≡ is_some (front_of self.now.queues global) }
@@ -321,7 +322,7 @@ impl World {
         Some(task as u16)
     }
 
-    /// How many tasks are in the queue.
+    /// The number of tasks in the queue.
     #[tactic(auto, using(crate::proofs::Few::few_in))]
     pub fn len(&self, queue: u64) -> usize
         ensures len { result ≡ len_of self.now.queues queue }
@@ -330,7 +331,7 @@ impl World {
         self.queues.len(queue)
     }
 
-    /// Who comes right behind the task in its queue, if that is one in order of arrival.
+    /// The task right after this one in its queue, if that is one in order of arrival.
     #[tactic(auto, using(crate::proofs::Few::nobody_past))]
     pub fn behind(&self, task: u16) -> Option<u16>
         ensures { result ≡ behind_of self.now.queues task }

@@ -1,4 +1,4 @@
-ghost use Rattle.std.specs.Prelude.{◌≡◌, ◌≢◌, ℕ, true, ◌+◌, ◌≤◌, ◌<◌, nat_lt, length, position, slice_index_or, vec_capacity, Some, IfSome, IfOk, OnOk};
+ghost use Rattle.std.specs.Prelude.{◌≡◌, ◌≢◌, ℕ, true, ◌+◌, ◌≤◌, ◌<◌, nat_lt, length, position, slice_get, slice_index_or, vec_capacity, Some, IfSome, IfOk, OnOk};
 ghost use Rattle.std.specs.Int.{bit_at};
 ghost use Rattle.scx_dsq.specs.Laws.{one_if};
 ghost use Rattle.scx_dsq.specs.Queues.{entry_of, queue_of, task_count};
@@ -47,7 +47,7 @@ pub struct World {
     /// Why and when the policy was put out of force.
     pub(crate) ejected: Option<Eject>,
     pub(crate) notes: Vec<Note>,
-    /// Whether it is known that who is parked is throttled.
+    /// True if all parked tasks are known to be throttled.
     pub(crate) parked_throttled: bool,
 }
 
@@ -63,7 +63,7 @@ impl Model for World {
 }
 
 impl World {
-    /// Nobody runs, and nobody waits. All memory is taken here.
+    /// A world in which no task runs or waits. All memory is taken here.
     #[tactic(auto, using(crate::proofs::Busy::none_busy))]
     pub fn new(alloc: Global, tree: Tree, cpus: usize) -> Result<World, AllocError>
         requires { cpus ≤ 64 }
@@ -105,7 +105,7 @@ impl World {
         }
     }
 
-    /// Becomes what the other one is. No memory is taken.
+    /// Becomes a copy of the other world. No memory is taken.
     pub fn copy_from(&mut self, other: &World)
         requires { IsLike self.old other.now }
         ensures { self.new ≡ other.now }
@@ -125,6 +125,44 @@ impl World {
         self.parked_throttled = other.parked_throttled;
     }
 
+    /// A copy of the world, in memory of its own.
+    pub fn duplicate(&self, alloc: Global) -> Result<World, AllocError>
+        ensures { IfOk result (λ copy. copy ≡ self.now) }
+    {
+        let tasks = self.tasks.duplicate(alloc);
+        let cpus = Vec::from_slice(alloc, &self.cpus);
+        let running_on = Vec::from_slice(alloc, &self.running_on);
+        let queues = self.queues.duplicate(alloc);
+        let tree = self.tree.duplicate(alloc);
+        let notes = duplicate_notes(alloc, &self.notes);
+        match (tasks, cpus, running_on, queues, tree, notes) {
+            (Ok(tasks), Ok(cpus), Ok(running_on), Ok(queues), Ok(tree), Ok(notes)) => Ok(World {
+                clock: self.clock,
+                tasks,
+                cpus,
+                busy: self.busy,
+                running_on,
+                cycling: self.cycling,
+                queues,
+                tree,
+                call: self.call,
+                builtin_clock: self.builtin_clock,
+                ejected: self.ejected,
+                notes,
+                parked_throttled: self.parked_throttled,
+            }),
+            (tasks, cpus, running_on, queues, tree, notes) => {
+                drop(tasks);
+                drop(cpus);
+                drop(running_on);
+                drop(queues);
+                drop(tree);
+                drop(notes);
+                Err(AllocError)
+            }
+        }
+    }
+
     pub fn clock(&self) -> u64
         ensures { result ≡ self.now.clock }
     {
@@ -134,7 +172,7 @@ impl World {
 
     // ---- tasks
 
-    /// How many tasks there are.
+    /// The number of tasks.
     pub fn tasks(&self) -> u16
         ensures tasks { result ≡ length self.now.tasks }
         ensures few { result ≤ 1024 }
@@ -155,14 +193,14 @@ impl World {
         self.tasks.get(task)
     }
 
-    /// How long the task has waited, in milliseconds; 0 where it isn't waiting.
+    /// The length of the task's wait, in milliseconds; 0 if it isn't waiting.
     pub fn wait(&self, task: u16) -> u64
         ensures { result ≡ wait self.now task }
     {
         self.task(task).wait(self.clock)
     }
 
-    /// Of the tasks that have waited longer than that the one of the least number.
+    /// The task of the least number that has waited longer than the limit.
     #[inline(always)]
     pub fn first_overdue(&mut self, limit: u64) -> Option<u16>
         ensures answer { result ≡ first_overdue self.old limit }
@@ -206,14 +244,22 @@ impl World {
         }
     }
 
-    /// How many pushes the queues accepted.
+    /// The number of pushes that the queues accepted.
     pub fn pushes(&self) -> u64
         ensures { result ≡ self.now.queues.pushes }
     {
         self.queues.pushes()
     }
 
-    /// Whether the task waits in a queue, and isn't parked.
+    /// The id of the queue at that place, in the order in which they were created; none after the last one. The
+    /// machine's own queues are the first ones.
+    pub fn queue_at(&self, place: usize) -> Option<u64>
+        ensures { result ≡ slice_get self.now.queues.ids place }
+    {
+        self.queues.id_at(place)
+    }
+
+    /// True if the task waits in a queue, and isn't parked.
     pub fn waits(&self, task: u16) -> bool
         ensures { result ≡ waits self.now task }
     {
@@ -232,7 +278,7 @@ impl World {
 
     // ---- processors
 
-    /// How many processors there are.
+    /// The number of CPUs.
     pub fn cpus(&self) -> u32
         ensures cpus { result ≡ length self.now.cpus }
         ensures few { result ≤ 64 }
@@ -290,7 +336,7 @@ impl World {
         self.cycling = cpu;
     }
 
-    /// Whether no task runs on the processor, and no cycle is under way there.
+    /// True if no task runs on the CPU, and no cycle is under way there.
     pub fn is_idle(&self, cpu: u32) -> bool
         ensures { result ≡ is_idle self.now cpu }
     {
@@ -345,21 +391,21 @@ impl World {
 
     // ---- weights
 
-    /// Whether a group has a quota. Where none has, no task is ever throttled.
+    /// True if a group has a quota. Without one, no task is ever throttled.
     pub fn is_limited(&self) -> bool
         ensures { result ≡ has_quota self.now.tree.groups }
     {
         self.tree.is_limited()
     }
 
-    /// Whether the task's group has used all of its quota, or one that this lies below.
+    /// True if the task's group, or one that it lies below, has used all of its quota.
     pub fn is_throttled(&self, task: u16) -> bool
         ensures { result ≡ is_throttled self.now task }
     {
         self.has_task(task) && self.tree.throttled(u32::from(task))
     }
 
-    /// Whether all of the parked are throttled. They are looked at only where that isn't known: since a period of a
+    /// True if all parked tasks are throttled. They are looked at only where that isn't known: after a period of a
     /// throttled group has begun.
     #[inline(never)]
     pub fn are_parked_throttled(&mut self) -> bool
@@ -375,7 +421,7 @@ impl World {
         self.parked_throttled
     }
 
-    /// Whether none of the parked may run again.
+    /// True if no parked task may run again.
     fn is_nobody_free(&self) -> bool
         ensures throttled { result ≡ true
             → (t : ℕ) → t < length self.now.tasks → StaysParked self.now t }
@@ -389,7 +435,7 @@ impl World {
         true
     }
 
-    /// Whether the task may not run, if it is parked.
+    /// True if the task isn't parked, or may not run.
     fn stays_parked(&self, task: u16) -> bool
         ensures throttled { result ≡ true → StaysParked self.now task }
         ensures all { StaysParked self.now task → result ≡ true }
@@ -397,7 +443,7 @@ impl World {
         self.queue_of(task) != Some(PARKED) || self.is_throttled(task)
     }
 
-    /// How many milliseconds the tasks of the group and those below it have run since its period began.
+    /// The usage of the group: the time that tasks in it and below it have run in its period, in milliseconds.
     pub fn usage(&self, group: u32) -> u64
         requires { group < length self.now.tree.groups }
         ensures { result ≡ usage_of self.now.tree group }
@@ -405,7 +451,7 @@ impl World {
         self.tree.usage(group)
     }
 
-    /// How many groups there are.
+    /// The number of groups.
     pub fn groups(&self) -> u32
         ensures { result ≡ length self.now.tree.groups }
     {
@@ -436,14 +482,14 @@ impl World {
         self.notes.clear();
     }
 
-    /// What the callback at hand noted.
+    /// The notes of the callback at hand.
     pub fn notes(&self) -> &[Note]
         ensures { result.now ≡ self.now.notes }
     {
         &self.notes
     }
 
-    /// That, at this clock.
+    /// A note of that, at this clock.
     pub fn note(&self, what: What) -> Note
         ensures { result ≡ note_now self.now what }
     {
@@ -460,7 +506,7 @@ impl World {
         self.call.insert
     }
 
-    /// Whether the callback moved a task to a local queue.
+    /// True if the callback moved a task to a local queue.
     pub fn has_moved(&self) -> bool
         ensures { result ≡ self.now.call.has_moved }
     {
@@ -475,7 +521,7 @@ impl World {
     }
 }
 
-/// The other notes stand in place of those, in the memory that there is.
+/// Replaces the notes by the others, in the memory that there is.
 fn copy_notes(notes: &mut Vec<Note>, others: &[Note])
     requires { length others.now ≤ vec_capacity notes.old }
     ensures notes { notes.new.items ≡ others.now }
@@ -486,6 +532,17 @@ fn copy_notes(notes: &mut Vec<Note>, others: &[Note])
         Ok(()) => (),
         Err(_) => unreachable!(),
     }
+}
+
+/// A copy of the notes, in memory with room for those of a callback.
+fn duplicate_notes(alloc: Global, notes: &[Note]) -> Result<Vec<Note>, AllocError>
+    requires { length notes.now ≤ 4096 }
+    ensures notes { IfOk result (λ copy. copy.items ≡ notes.now) }
+    ensures room { IfOk result (λ copy. 4096 ≤ vec_capacity copy) }
+{
+    let mut copy = Vec::with_capacity(alloc, 4096)?;
+    copy_notes(&mut copy, notes);
+    Ok(copy)
 }
 
 /// The machine's own queues.

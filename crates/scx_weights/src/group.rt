@@ -8,7 +8,7 @@ pub const MAX_GROUPS: usize = 256;
 /// The most tasks of a tree.
 pub const MAX_TASKS: usize = 1024;
 
-/// How deep a group may stand; those at the top stand at depth 1.
+/// The greatest depth of a group; those at the top have depth 1.
 pub const MAX_DEPTH: usize = 3;
 
 /// The least weight of a group. Weights have no unit: they are compared with those of the groups beside it.
@@ -55,7 +55,7 @@ impl Group {
     }
 }
 
-/// Whether a group may have that weight.
+/// True if a group may have that weight.
 pub fn is_weight(weight: u32) -> bool
     ensures { result ≡ not (is_outside max_weight weight) }
 {

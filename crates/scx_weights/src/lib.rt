@@ -24,21 +24,31 @@
 //!     tree.deactivate(task);
 //! }
 //! ```
+//!
+//! `usages_count_runs` and the other laws of `cpu.max` say what a usage counts, and how far it goes on a machine that
+//! stops a task as soon as it is throttled. `DueShares` counts which share of the processors is due to each group, as
+//! tasks wake and sleep and weights change.
 #![tactic(auto)]
 
 mod admission;
+mod due_shares;
 mod error;
 mod group;
+mod group_paths;
 mod laws;
+mod quotas;
 mod share;
 mod sums;
 mod tree;
 mod usage;
 
+pub use due_shares::{DueShares, WHOLE};
 pub use error::TreeError;
 pub use group::{
     DEFAULT_PERIOD_MS, Group, MAX_DEPTH, MAX_GROUPS, MAX_PERIOD_MS, MAX_QUOTA_MS, MAX_TASKS,
     MAX_WEIGHT, MIN_WEIGHT, is_weight,
 };
+pub use group_paths::path_of;
 pub use laws::{freed_are_free, ways_reach_top};
+pub use quotas::{runs_are_bounded, throttled_stay, usages_are_bounded, usages_count_runs};
 pub use tree::Tree;

@@ -6,7 +6,7 @@ use crate::group::{Group, MAX_GROUPS, MAX_TASKS, is_weight};
 use crate::share::weight_in;
 use crate::sums::Sums;
 use crate::usage::Usages;
-use std::alloc::Global;
+use std::alloc::{AllocError, Global};
 use std::marker::Model;
 
 /// Groups with weights and limits, tasks in them, which tasks are active, and what groups have used.
@@ -48,7 +48,7 @@ impl Tree {
 
     /// A tree of these groups, and of tasks in the groups that `tasks` names; no task is active.
     ///
-    /// A parent stands earlier in the list than its children. Memory is taken here alone.
+    /// A parent is earlier in the list than its children. Memory is taken here alone.
     pub fn new(alloc: Global, groups: &[Group], tasks: &[u32]) -> Result<Tree, TreeError>
         ensures made { IfOk result (λ tree. tree ≡ idle groups.now tasks.now) }
         ensures valid { OnOk result (first_fault groups.now tasks.now ≡ None) }
@@ -67,7 +67,7 @@ impl Tree {
         })
     }
 
-    /// How many groups there are, 1 to 256.
+    /// The number of groups, 1 to 256.
     pub fn groups(&self) -> u32
         ensures groups { result ≡ length self.now.groups }
         ensures some { 0 < result }
@@ -76,7 +76,7 @@ impl Tree {
         self.groups.len() as u32
     }
 
-    /// How many tasks there are, 1 to 1024.
+    /// The number of tasks, 1 to 1024.
     pub fn tasks(&self) -> u32
         ensures tasks { result ≡ length self.now.homes }
         ensures flags { length self.now.active ≡ length self.now.homes }
@@ -166,14 +166,14 @@ impl Tree {
         self.usages.charge(&self.groups, self.homes[task as usize]);
     }
 
-    /// Whether a group has a quota. Where none has, no task is ever throttled.
+    /// True if a group has a quota. Without one, no task is ever throttled.
     pub fn is_limited(&self) -> bool
         ensures { result ≡ has_quota self.now.groups }
     {
         self.usages.is_limited()
     }
 
-    /// Whether the task's group has used all of its quota, or one that this lies below.
+    /// True if the task's group, or one that it lies below, has used all of its quota.
     pub fn throttled(&self, task: u32) -> bool
         requires { task < length self.now.homes }
         ensures { result ≡ is_throttled self.now task }
@@ -182,7 +182,7 @@ impl Tree {
             .is_throttled(&self.groups, self.homes[task as usize])
     }
 
-    /// The clock shows so many ms: a group whose period begins has used nothing. Returns whether one of them had
+    /// The clock shows that many ms: a group whose period begins has used nothing. Returns whether one of them had
     /// used up its quota.
     #[inline(always)]
     pub fn turn(&mut self, clock: u64) -> bool
@@ -213,7 +213,20 @@ impl Tree {
         self.usages.copy_from(&other.usages);
     }
 
-    /// How many active tasks the task's group has, the task itself counted as active.
+    /// A copy of the tree, in memory of its own.
+    pub fn duplicate(&self, alloc: Global) -> Result<Tree, AllocError>
+        ensures { IfOk result (λ copy. copy ≡ self.now) }
+    {
+        Ok(Tree {
+            groups: Vec::from_slice(alloc, &self.groups)?,
+            homes: Vec::from_slice(alloc, &self.homes)?,
+            active: Vec::from_slice(alloc, &self.active)?,
+            sums: self.sums.duplicate(alloc)?,
+            usages: self.usages.duplicate(alloc)?,
+        })
+    }
+
+    /// The number of active tasks in the task's group, the task itself counted as active.
     fn active_beside(&self, task: u32) -> u32
         requires { task < length self.now.homes }
         ensures tasks { result

@@ -8,12 +8,12 @@ use Rattle.std.proofs.lemmas.List.Sums.{sum_by-set, count_by-le-length}
 use Rattle.scx_weights.specs.declared.group.Group.{Group}
 use Rattle.scx_weights.specs.Hierarchy.{Hierarchy, quota_at, path, lies_in, home_of}
 use Rattle.scx_weights.specs.Limits.{usage_of, is_throttled_group, is_throttled, begins_period, with_use, with_turn}
-use Rattle.scx_weights_limits.specs.Uses.{Use, after, runs_in_period}
-use Rattle.scx_weights_limits.specs.Machine.{QuotaMachine, Step, Begin, End, Tick, Turn, running, idle_machine, without_throttled, after_ms, after_step, is_allowed, run_of, are_allowed, uses_of, used_by, ran_now}
-use Rattle.scx_weights_limits.specs.Bounds.{runs_in, cpus_in, StaysBelowQuota}
-use Rattle.scx_weights_limits.specs.Laws.{UsagesAreBounded, RunsAreBounded}
-use Rattle.scx_weights_limits.proofs.Usages.{usage_used, usage_turned, something_left}
-use Rattle.scx_weights_limits.proofs.Counted.{usages_count_runs_lem}
+use Rattle.scx_weights.specs.Uses.{Use, after, runs_in_period}
+use Rattle.scx_weights.specs.Machine.{QuotaMachine, Step, Begin, End, Tick, Turn, running, idle_machine, without_throttled, after_ms, after_step, is_allowed, run_of, are_allowed, uses_of, used_by, ran_now}
+use Rattle.scx_weights.specs.Bounds.{runs_in, cpus_in, StaysBelowQuota}
+use Rattle.scx_weights.specs.QuotaLaws.{UsagesAreBounded, RunsAreBounded}
+use Rattle.scx_weights.proofs.Usages.{usage_used, usage_turned, something_left}
+use Rattle.scx_weights.proofs.Counted.{usages_count_runs_lem}
 
 passes_none : (test : ℕ → Bool) (g : ℕ) (xs : List ℕ) → list_any test xs ≡ false → list_any (λ x. eqb x g) xs ≡ true → test g ≡ false
 passes_none test g [] none there = absurd (cc)

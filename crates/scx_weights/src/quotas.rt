@@ -1,4 +1,4 @@
-ghost use Rattle.scx_weights_limits.specs.Laws.{UsagesCountRuns, UsagesAreBounded, RunsAreBounded, UsesKeepThrottled, ClocksKeepThrottled, ClocksThrottleNobody};
+ghost use Rattle.scx_weights.specs.QuotaLaws.{UsagesCountRuns, UsagesAreBounded, RunsAreBounded, UsesKeepThrottled, ClocksKeepThrottled, ClocksThrottleNobody};
 
 /// The usage of a group is how many milliseconds its tasks and those below it have run since its period
 /// began.

@@ -1,8 +1,8 @@
 ghost use Rattle.std.specs.Prelude.{◌≡◌, ◌≤◌};
-ghost use Rattle.scxsim_shares.specs.Parts.{part};
+ghost use Rattle.scx_weights.specs.DueParts.{part};
 
-use crate::paths::path_of;
-use scx_weights::Group;
+use crate::Group;
+use crate::group_paths::path_of;
 use std::alloc::{AllocError, Global};
 
 /// A share of all, in parts of this many. A share is rounded up, by less than one part for each level of the tree,
@@ -11,12 +11,12 @@ pub const WHOLE: u128 = 10_000_000_000_000_000_000_000_000_000;
 
 /// The share that is due to each group by its weight.
 ///
-/// Of what its parent has, or of all, a group with a runnable task has as much as its weight is of the
-/// weights of those beside it that have one too.
+/// A group with a runnable task gets a part of its parent's share, or of the whole at the top: its weight over
+/// the sum of the weights of those beside it that have a runnable task, itself included.
 #[derive(Drop)]
-pub struct Shares {
+pub struct DueShares {
     groups: Vec<Group>,
-    /// How many tasks in each are runnable, also in groups within it.
+    /// The number of runnable tasks in each group and in those below it.
     active: Vec<u32>,
     shares: Vec<u128>,
     /// The sum of the weights of active groups at the top, and then of those in each group.
@@ -24,17 +24,17 @@ pub struct Shares {
     is_stale: bool,
 }
 
-impl Shares {
+impl DueShares {
     /// The shares of groups in which nobody is runnable.
     ///
     /// # Errors
     ///
     /// Memory runs out.
-    pub fn new(alloc: Global, groups: &[Group]) -> Result<Shares, AllocError> {
+    pub fn new(alloc: Global, groups: &[Group]) -> Result<DueShares, AllocError> {
         let count = groups.len();
         let mut copied = Vec::with_capacity(alloc, count)?;
         copied.extend_from_slice(groups)?;
-        Ok(Shares {
+        Ok(DueShares {
             groups: copied,
             active: vec![in alloc; 0; count]?,
             shares: vec![in alloc; 0; count]?,
@@ -53,7 +53,7 @@ impl Shares {
         self.change(group, 0, 1);
     }
 
-    /// So many more and so many less are runnable in a group, and in those that it lies in.
+    /// Counts tasks that became runnable or stopped being so in a group, and in those that it lies in.
     fn change(&mut self, group: u32, more: u32, less: u32) {
         self.is_stale = true;
         for level in &path_of(self.groups.as_slice(), group) {
@@ -78,8 +78,8 @@ impl Shares {
         }
     }
 
-    /// Whether somebody has come to be runnable, or is so no longer, or a weight has changed, since shares
-    /// were renewed last.
+    /// True if a task became runnable or stopped being so, or a weight changed, since the shares were last
+    /// renewed.
     pub fn are_stale(&self) -> bool {
         let is_stale = self.is_stale;
         is_stale
@@ -99,7 +99,7 @@ impl Shares {
         }
     }
 
-    /// A group comes behind its parent, so the parent has its share by then.
+    /// A group comes after its parent, so the parent has its share by then.
     fn renew_shares(&mut self) {
         for group in 0..self.groups.len() {
             let share = self.share_now(group);
@@ -157,7 +157,7 @@ impl Shares {
     }
 }
 
-/// Where the sum of the weights of those with this parent stands.
+/// The index of the sum of the weights of the groups with this parent.
 fn place(parent: Option<u32>) -> usize {
     match parent {
         None => 0,

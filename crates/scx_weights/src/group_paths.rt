@@ -1,10 +1,10 @@
 ghost use Rattle.std.specs.Prelude.{◌≡◌};
 ghost use Rattle.scx_weights.specs.Hierarchy.{path};
-ghost use Rattle.scxsim_shares.specs.Paths.{there, parent_if};
+ghost use Rattle.scx_weights.specs.GroupPaths.{there, parent_if};
 
-use scx_weights::{Group, MAX_DEPTH};
+use crate::{Group, MAX_DEPTH};
 
-/// A group and all that it lies in, up to the top; none behind that.
+/// A group and all that it lies in, up to the top; none after that.
 pub fn path_of(groups: &[Group], group: u32) -> [Option<u32>; MAX_DEPTH]
     ensures { there result ≡ path groups.now group }
 {

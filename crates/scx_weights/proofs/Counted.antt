@@ -5,9 +5,9 @@ use Rattle.std.proofs.lemmas.List.Sums.{take_while-cons, sum_by-cons}
 use Rattle.scx_weights.specs.declared.group.Group.{Group}
 use Rattle.scx_weights.specs.Hierarchy.{Hierarchy, lies_in, home_of}
 use Rattle.scx_weights.specs.Limits.{usage_of, begins_period, with_use, with_turn}
-use Rattle.scx_weights_limits.specs.Uses.{Use, Ran, Turned, after, is_run_in, is_within_period, runs_in_period}
-use Rattle.scx_weights_limits.specs.Laws.{UsagesCountRuns}
-use Rattle.scx_weights_limits.proofs.Usages.{usage_used, usage_turned}
+use Rattle.scx_weights.specs.Uses.{Use, Ran, Turned, after, is_run_in, is_within_period, runs_in_period}
+use Rattle.scx_weights.specs.QuotaLaws.{UsagesCountRuns}
+use Rattle.scx_weights.proofs.Usages.{usage_used, usage_turned}
 
 -- the groups and the tasks stay
 pub groups_after : (t : Hierarchy) (past : List Use) → (after t past).groups ≡ t.groups

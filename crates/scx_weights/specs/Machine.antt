@@ -2,7 +2,7 @@
 use Rattle.std.specs.Prelude.{ℕ, Bool, true, ◌&&◌, not, nat_lt, List, [], ◌∷◌, length, replicate, slice_index_or, slice_set, Option, None, Some, is_none, if◌then◌else◌}
 use Rattle.scx_weights.specs.Hierarchy.{Hierarchy}
 use Rattle.scx_weights.specs.Limits.{is_throttled, with_use, with_turn}
-use Rattle.scx_weights_limits.specs.Uses.{Use, Ran, Turned}
+use Rattle.scx_weights.specs.Uses.{Use, Ran, Turned}
 
 -- the tree, and on each processor the task that runs there, if one does
 pub record QuotaMachine : Type 0 where

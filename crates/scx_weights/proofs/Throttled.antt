@@ -4,8 +4,8 @@ use Rattle.std.specs.List.{list_any}
 use Rattle.std.proofs.lemmas.Bool.{cases_lt, cases_Bool, or_cases, or_left, or_right, both_ways}
 use Rattle.scx_weights.specs.Hierarchy.{Hierarchy, quota_at, path, lies_in, home_of}
 use Rattle.scx_weights.specs.Limits.{usage_of, is_used_up, is_throttled_group, is_throttled, begins_period, with_use, with_turn}
-use Rattle.scx_weights_limits.specs.Laws.{UsesKeepThrottled, ClocksKeepThrottled, ClocksThrottleNobody}
-use Rattle.scx_weights_limits.proofs.Usages.{usage_used, usage_turned, no_quota, used_up_grows}
+use Rattle.scx_weights.specs.QuotaLaws.{UsesKeepThrottled, ClocksKeepThrottled, ClocksThrottleNobody}
+use Rattle.scx_weights.proofs.Usages.{usage_used, usage_turned, no_quota, used_up_grows}
 
 any_grows : (p q : ℕ → Bool) → ((x : ℕ) → p x ≡ true → q x ≡ true) → (xs : List ℕ) → list_any p xs ≡ true → list_any q xs ≡ true
 any_grows p q grows [] e = absurd (cc)

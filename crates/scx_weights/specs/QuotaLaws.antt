@@ -2,8 +2,8 @@
 use Rattle.std.specs.Prelude.{ℕ, ◌≡◌, ◌<◌, ◌+◌, true, false, List, length, Some}
 use Rattle.scx_weights.specs.Hierarchy.{Hierarchy, quota_at}
 use Rattle.scx_weights.specs.Limits.{usage_of, is_throttled_group, is_throttled, with_use, with_turn, begins_period}
-use Rattle.scx_weights_limits.specs.Uses.{Use, after, runs_in_period}
-use Rattle.scx_weights_limits.specs.Machine.{Step, idle_machine, run_of, are_allowed, uses_of}
+use Rattle.scx_weights.specs.Uses.{Use, after, runs_in_period}
+use Rattle.scx_weights.specs.Machine.{Step, idle_machine, run_of, are_allowed, uses_of}
 
 -- a usage that was 0 counts the ms that tasks of the group, or below it, ran since its period began
 abbrev pub UsagesCountRuns : Type 0

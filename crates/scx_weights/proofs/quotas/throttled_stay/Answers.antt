@@ -1,5 +1,5 @@
-use Rattle.scx_weights_limits.proofs.Throttled.{uses_keep_throttled, clocks_keep_throttled, clocks_throttle_nobody}
-use Rattle.scx_weights_limits.proofs.laws.throttled_stay.Goals as goal
+use Rattle.scx_weights.proofs.Throttled.{uses_keep_throttled, clocks_keep_throttled, clocks_throttle_nobody}
+use Rattle.scx_weights.proofs.quotas.throttled_stay.Goals as goal
 
 pub returns-clause-uses : goal.returns-clause-uses
 returns-clause-uses c = uses_keep_throttled

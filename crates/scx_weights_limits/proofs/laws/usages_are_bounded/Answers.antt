@@ -1,5 +1,0 @@
-use Rattle.scx_weights_limits.proofs.Bounded.{usages_are_bounded_lem}
-use Rattle.scx_weights_limits.proofs.laws.usages_are_bounded.Goals as goal
-
-pub returns : goal.returns
-returns c = usages_are_bounded_lem

@@ -1,5 +1,0 @@
-use Rattle.scx_weights_limits.proofs.Counted.{usages_count_runs_lem}
-use Rattle.scx_weights_limits.proofs.laws.usages_count_runs.Goals as goal
-
-pub returns : goal.returns
-returns c = usages_count_runs_lem
