@@ -1,5 +1,5 @@
-//! All that reads files for the host, under one name: policies and the programs in them, workloads and
-//! their events.
+//! The readers of the host's files, under one name: policy files, workload files, and the events of a
+//! workload.
 //!
 //! `read_policy` and `build` make a policy of a text, `read_workload` a workload, and a `Driver` gives the
 //! workload's events to a machine, one after another.

@@ -1,4 +1,4 @@
--- A driver: what is left of a workload.
+-- A driver: the remaining events of a workload.
 use Rattle.std.specs.Prelude.{ℕ, ◌+◌, ◌≡◌, ◌≤◌, Bool, true, false, not, ◌&&◌, nat_lt, List, [], ◌∷◌, ◌++◌, drop, length, vec_capacity, ◌<◌}
 use Rattle.scx_sched_machine.specs.declared.events.Event.{Event}
 use Rattle.scx_sched.specs.Sim.{SimState}
@@ -13,7 +13,7 @@ use Rattle.scx_load_driver.specs.Calendar.{IsWhole, AreNoted}
 use Rattle.scx_load_driver.specs.Watch.{is_watched, last_ticks_of, watched_after, watched_after_all, block_seen, memory_seen, watched_in, events_seen}
 use Rattle.scx_load_driver.specs.Events.{blocks_from}
 
--- the events of the block at hand that are still to come, and the blocks behind it
+-- the remaining events of the block at hand, and the blocks after it
 pub record DriverState : Type 0 where
   pub plan : Plan
   pub pending : List Event
@@ -21,14 +21,14 @@ pub record DriverState : Type 0 where
   pub memory : Memory
   pub watched : List Bool  -- for each task whether it is watched
 
--- what is still to come, from that state on
+-- the remaining events, from that state on
 abbrev pub remaining : DriverState → SimState → List Event
 remaining d s =
     let last = last_ticks_of d.plan.timings d.memory.ran in
     let watched = watched_after_all last s d.pending d.watched in
     d.pending ++ events_seen d.plan d.blocks d.memory watched (stepped_all s d.pending)
 
--- whether a list has no items
+-- true if a list has no items
 abbrev pub is_empty : {A : Type 0} → List A → Bool
 is_empty [] = true
 is_empty (x ∷ xs) = false
@@ -42,7 +42,7 @@ after_answer d s e es =
           watched_after (last_ticks_of d.plan.timings d.memory.ran) s.state.world e d.watched;
     }
 
--- the driver as the first of these blocks begins, with the others behind it; as it is where
+-- the driver as the first of these blocks begins, with the others after it; as it is where
 -- there is none
 abbrev pub at_first_block : List Block → DriverState → SimState → DriverState
 at_first_block [] d s = d
@@ -59,7 +59,7 @@ at_next_block d s = at_first_block d.blocks d s
 
 -- ---- the blocks of a millisecond, in their order
 
--- where a block stands
+-- the number of a block
 abbrev pub phase_number : Phase → ℕ
 phase_number phase.Changes = 0
 phase_number phase.Wakes = 1
@@ -78,11 +78,11 @@ next_number (Clock ∷ bs) = 4
 
 -- ---- fields
 
--- the blocks from that one of millisecond m on, where so many milliseconds aren't over
+-- the blocks from that one of millisecond m on, where this number of milliseconds isn't over
 abbrev pub blocks_left : Phase → ℕ → ℕ → List Block
 blocks_left p m left = drop (phase_number p) (blocks_from left m)
 
--- before which millisecond nobody wakes any more
+-- the millisecond before which no task wakes any more
 abbrev pub woken_before : Phase → ℕ → ℕ
 woken_before phase.Changes m = m
 woken_before phase.Wakes m = m
@@ -90,7 +90,7 @@ woken_before phase.Ticks m = m + 1
 woken_before phase.Sleeps m = m + 1
 woken_before phase.Clock m = m + 1
 
--- before which millisecond no weight changes any more
+-- the millisecond before which no weight changes any more
 abbrev pub changed_before : Phase → ℕ → ℕ
 changed_before phase.Changes m = m
 changed_before phase.Wakes m = m + 1
@@ -98,7 +98,7 @@ changed_before phase.Ticks m = m + 1
 changed_before phase.Sleeps m = m + 1
 changed_before phase.Clock m = m + 1
 
--- no event comes before the clock: all went to sleep who do, or nobody may be watched
+-- no event comes before the clock: the sleeps are over, or no task may be watched
 abbrev pub is_clock_next : Phase → Bool → Bool
 is_clock_next phase.Changes some = false
 is_clock_next phase.Wakes some = false
@@ -106,8 +106,8 @@ is_clock_next phase.Ticks some = false
 is_clock_next phase.Sleeps some = not some
 is_clock_next phase.Clock some = true
 
--- no event comes before the ticks: all woke who do, or a millisecond begins in which no weight
--- changes and nobody wakes
+-- no event comes before the ticks: the wakes are over, or a millisecond begins in which no weight
+-- changes and no task wakes
 abbrev pub are_ticks_next : Phase → ℕ → ℕ → ℕ → Bool
 are_ticks_next phase.Changes m change wake = nat_lt m change && nat_lt m wake
 are_ticks_next phase.Wakes m change wake = false
@@ -115,12 +115,12 @@ are_ticks_next phase.Ticks m change wake = true
 are_ticks_next phase.Sleeps m change wake = false
 are_ticks_next phase.Clock m change wake = false
 
--- nobody is watched, unless it may be that somebody is
+-- no task is watched where none may be
 abbrev pub AreUnwatched : Bool → List Bool → Type 0
 AreUnwatched some watched = some ≡ false → (t : ℕ) → is_watched watched t ≡ false
 
--- the state for which a driver's fields stand: events that are pending, blocks behind them, memory,
--- and who is watched
+-- the state that a driver's fields mean: events that are pending, blocks after them, memory,
+-- and the watched tasks
 abbrev pub state_of : Inside → DriverState
 state_of d = record {
   plan = record { cpus = d.cpus; timings = d.timings.items; changes = d.changes.items };

@@ -8,7 +8,7 @@ use Rattle.scx_load_workloads.specs.Workload.{WorkloadState}
 use Rattle.scx_load_driver.specs.Runs.{stepped_all}
 use Rattle.scx_load_driver.specs.Blocks.{Plan, Memory, Block, Changes, Wakes, Ticks, Sleeps, Clock, block_events, memory_after}
 
--- the blocks of so many milliseconds from m on
+-- the blocks of this number of milliseconds from m on
 abbrev pub blocks_from : ℕ → ℕ → List Block
 blocks_from zero m = []
 blocks_from (suc n) m = Changes m ∷ Wakes m ∷ Ticks ∷ Sleeps m ∷ Clock ∷ blocks_from n (m + 1)
@@ -21,7 +21,7 @@ events_from p (b ∷ bs) k s =
     ++ events_from p bs (memory_after p b k s.state.world)
     (stepped_all s (block_events p b k s.state.world))
 
--- what a workload plans: its processors, when each task runs and sleeps, and changes of weights
+-- the plan of a workload: its CPUs, the times of each task, and changes of weights
 abbrev pub plan_of : WorkloadState → Plan
 plan_of w = record { cpus = w.cpus; timings = w.timings; changes = w.changes }
 

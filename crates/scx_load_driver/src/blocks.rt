@@ -15,10 +15,10 @@ use scx_load_workloads::{Change, Timing};
 use scx_sched::{Event, Sim};
 use std::cmp;
 
-/// How long a millisecond is, in nanoseconds.
+/// A millisecond, in nanoseconds.
 const MS_NS: u64 = 1_000_000;
 
-/// How long the task has run, in nanoseconds; 0 where there is none.
+/// The run time of the task, in nanoseconds; 0 where there is no such task.
 #[inline(always)]
 fn run_ns(sim: &Sim, task: u16) -> u64
     ensures { result ≡ (task_at sim.now.state.world task).run_ns }
@@ -26,7 +26,7 @@ fn run_ns(sim: &Sim, task: u16) -> u64
     sim.world().task(task).run_ns
 }
 
-/// Whether the task sleeps, and wakes now.
+/// True if the task sleeps, and wakes now.
 fn is_due(due: &[u32], now: u32, sim: &Sim, task: u16) -> bool
     requires { task < length due.now }
     ensures { result ≡ is_due due.now now sim.now.state.world task }
@@ -34,7 +34,7 @@ fn is_due(due: &[u32], now: u32, sim: &Sim, task: u16) -> bool
     due[task as usize] == now && !sim.is_runnable(task)
 }
 
-/// Whether the task is runnable, and has run as long as it runs at once.
+/// True if the task is runnable, and has run as long as it runs at once.
 fn has_run_enough(timings: &[Timing], ran: &[u64], sim: &Sim, task: u16) -> bool
     requires timed { task < length timings.now }
     requires remembered { task < length ran.now }
@@ -46,7 +46,7 @@ fn has_run_enough(timings: &[Timing], ran: &[u64], sim: &Sim, task: u16) -> bool
         && MS_NS * u64::from(run) <= run_ns(sim, task).saturating_sub(ran[task as usize])
 }
 
-/// When a weight changes first behind that millisecond.
+/// The first millisecond after this one in which a weight changes.
 fn next_change(changes: &[Change], now: u32) -> u32
     ensures { AreLater changes.now (now + 1) result }
 {
@@ -59,7 +59,7 @@ fn next_change(changes: &[Change], now: u32) -> u32
     next
 }
 
-/// The changes of weights of this millisecond.
+/// Adds the changes of weights of this millisecond.
 #[tactic(auto, using(crate::proofs::Below::events_push, crate::proofs::Below::events_skip, crate::proofs::Below::set_push, crate::proofs::Below::set_skip))]
 fn find_changes(changes: &[Change], now: u32, events: &mut Vec<Event>)
     requires few { length changes.now ≤ 1024 }
@@ -75,8 +75,8 @@ fn find_changes(changes: &[Change], now: u32, events: &mut Vec<Event>)
     }
 }
 
-/// The same, and before which millisecond behind this one none changes. Where none changes now none is looked
-/// at.
+/// Adds the changes of weights of this millisecond. Answers the next millisecond with a change. Before `next` no
+/// change is looked at.
 pub(crate) fn add_changes(changes: &[Change], next: u32, now: u32, events: &mut Vec<Event>) -> u32
     requires few { length changes.now ≤ 1024 }
     requires later { AreLater changes.now now next }
@@ -93,8 +93,8 @@ pub(crate) fn add_changes(changes: &[Change], next: u32, now: u32, events: &mut 
     next_change(changes, now)
 }
 
-/// How long a task has run in all once it lacks one tick at most, in nanoseconds, if it had run so long as it
-/// woke.
+/// The run time from which a task lacks one tick at most, in nanoseconds, if its run time was `ran` at its last
+/// wake.
 #[inline(always)]
 pub(crate) fn last_tick(run: u32, ran: u64) -> u64
     ensures { result ≡ last_tick run ran }
@@ -106,7 +106,7 @@ pub(crate) fn last_tick(run: u32, ran: u64) -> u64
     }
 }
 
-/// The task wakes if it is due; how long it has run is remembered.
+/// Wakes the task if it is due, and remembers its run time.
 #[inline(always)]
 #[tactic(auto, using(crate::proofs::LastTicks::length_last, crate::proofs::LastTicks::last_set))]
 fn wake(
@@ -141,7 +141,8 @@ fn wake(
     }
 }
 
-/// The tasks that wake now; how long each has run is remembered. Only those are looked at that stand at the day.
+/// Adds the wakes of this millisecond, and remembers the run time of each such task. Only tasks of this day are
+/// looked at.
 fn find_wakes(
     timings: &[Timing],
     due: &[u32],
@@ -173,7 +174,8 @@ fn find_wakes(
     }
 }
 
-/// The same, and whoever woke leaves the day. Where nobody wakes none is looked at.
+/// Adds the wakes of this millisecond and remembers run times; the tasks that woke leave the day. No task is looked
+/// at where none wakes.
 #[inline(always)]
 pub(crate) fn add_wakes(
     timings: &[Timing],
@@ -209,7 +211,7 @@ pub(crate) fn add_wakes(
     calendar.refresh(due, now);
 }
 
-/// Watches the task where it has run for so long.
+/// Watches the task if it lacks at most one tick.
 #[inline(always)]
 fn watch_there(last_ticks: &[u64], watched: &mut NumberSet, some: &mut bool, sim: &Sim, task: u16)
     requires there { task < length last_ticks.now }
@@ -226,7 +228,7 @@ fn watch_there(last_ticks: &[u64], watched: &mut NumberSet, some: &mut bool, sim
     }
 }
 
-/// The same; nobody past the end is watched.
+/// Watches the task if it lacks at most one tick. A number past the last task is not watched.
 #[inline(always)]
 fn watch(last_ticks: &[u64], watched: &mut NumberSet, some: &mut bool, sim: &Sim, task: u16)
     requires even { length watched.old ≡ length last_ticks.now }
@@ -241,7 +243,7 @@ fn watch(last_ticks: &[u64], watched: &mut NumberSet, some: &mut bool, sim: &Sim
     }
 }
 
-/// Watches who runs on the processor, which ticks next, where it lacks at most that tick.
+/// Watches the task that runs on the CPU, which ticks next, if it lacks at most that tick.
 #[inline(always)]
 pub(crate) fn watch_runner(
     last_ticks: &[u64],
@@ -263,7 +265,7 @@ pub(crate) fn watch_runner(
     }
 }
 
-/// Watches whoever may have run enough after the event, which comes next.
+/// Watches the task that may have run enough after the event, which comes next.
 #[inline(always)]
 pub(crate) fn watch_event(
     last_ticks: &[u64],
@@ -285,8 +287,8 @@ pub(crate) fn watch_event(
     }
 }
 
-/// The watched tasks that go to sleep now; when each wakes is remembered, and nobody else is watched any
-/// more. Answers whether somebody is.
+/// Adds the watched tasks that go to sleep now, and remembers when each wakes. No other task remains watched.
+/// Answers true if some task does.
 fn find_sleeps(
     timings: &[Timing],
     due: &mut [u32],
@@ -337,7 +339,8 @@ fn find_sleeps(
     some
 }
 
-/// The same, for one who knows whether somebody may be watched.
+/// Adds the watched tasks that go to sleep now, and remembers when each wakes. `some` is false only if no task is
+/// watched. Answers true if some task remains watched.
 #[inline(always)]
 pub(crate) fn add_sleeps(
     timings: &[Timing],

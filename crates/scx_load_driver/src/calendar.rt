@@ -1,4 +1,4 @@
-//! Who wakes when.
+//! The wakes of tasks by day.
 ghost use Rattle.std.specs.Prelude.{◌≡◌, ◌+◌, ◌≤◌, ◌<◌, min, false, length, slice_set, nat_lt, if◌then◌else◌, IfOk};
 ghost use Rattle.scx_load_driver.specs.Sets.{is_there, IsNext};
 ghost use Rattle.scx_load_driver.specs.Calendar.{IsWhole, AreNoted, spot, soonest_of, with_task};
@@ -7,23 +7,23 @@ use crate::set::NumberSet;
 use std::alloc::{AllocError, Global};
 use std::cmp;
 
-/// How many days there are. A task stands at the remainder of the millisecond in which it wakes.
+/// The number of days. A task's day is the remainder of the millisecond in which it wakes.
 const DAYS: usize = 256;
 
-/// How many tasks there may be on a day.
+/// The most tasks of a day.
 const TASKS: usize = 1024;
 
-/// For each day who may wake in a millisecond of that remainder.
+/// The tasks that may wake, by day.
 #[derive(Drop)]
 pub(crate) struct Calendar {
-    /// Before which millisecond nobody of the day wakes.
+    /// For each day, a millisecond before which none of its tasks wakes.
     soonest: [u32; DAYS],
     /// The tasks of each day.
     there: NumberSet,
 }
 
 impl Calendar {
-    /// Each task wakes in the millisecond that the list has.
+    /// A calendar in which each task wakes in its millisecond of the list.
     pub(crate) fn new(alloc: Global, due: &[u32]) -> Result<Calendar, AllocError>
         requires { length due.now ≤ 1024 }
         ensures whole { IfOk result (λ calendar. IsWhole calendar) }
@@ -36,7 +36,7 @@ impl Calendar {
         Ok(calendar)
     }
 
-    /// Nobody wakes.
+    /// A calendar in which no task wakes.
     fn empty(alloc: Global) -> Result<Calendar, AllocError>
         ensures { IfOk result (λ calendar. IsWhole calendar) }
     {
@@ -46,7 +46,7 @@ impl Calendar {
         })
     }
 
-    /// The task wakes in that millisecond.
+    /// Notes that the task wakes in this millisecond.
     #[inline(always)]
     pub(crate) fn insert(&mut self, task: usize, ms: u32)
         requires few { task < 1024 }
@@ -58,7 +58,7 @@ impl Calendar {
         self.there.insert(day * TASKS + task);
     }
 
-    /// Before which millisecond nobody wakes of the day of that one.
+    /// A millisecond before which no task of this one's day wakes.
     #[inline(always)]
     pub(crate) fn soonest_wake(&self, now: u32) -> u32
         requires { IsWhole self.now }
@@ -67,8 +67,7 @@ impl Calendar {
         self.soonest[now as usize % DAYS]
     }
 
-    /// The lowest task from one on and below an end that stands at the day of that millisecond; the end where none
-    /// does.
+    /// The lowest task of this millisecond's day from `from` on and below an end; the end where there is none.
     #[inline(always)]
     pub(crate) fn next(&self, now: u32, from: usize, end: usize) -> usize
         requires ordered { from ≤ end }
@@ -81,7 +80,7 @@ impl Calendar {
         self.there.next(first + from, first + end) - first
     }
 
-    /// Whoever stands at the day of that millisecond and doesn't wake later leaves it.
+    /// Removes the tasks of this millisecond's day that don't wake later.
     pub(crate) fn refresh(&mut self, due: &[u32], now: u32)
         requires few { length due.now ≤ 1024 }
         requires whole { IsWhole self.old }
@@ -98,8 +97,8 @@ impl Calendar {
         self.soonest[now as usize % DAYS] = soonest;
     }
 
-    /// A task that stands at the day of that millisecond leaves it, unless it wakes later. Answers before which
-    /// millisecond nobody wakes of those so far who do.
+    /// Removes a task of this millisecond's day, unless it wakes later. Answers the earliest wake of the tasks
+    /// that stay so far.
     #[inline(always)]
     #[tactic(auto, using(crate::proofs::Days::whole_less))]
     fn look_at(&mut self, now: u32, task: usize, ms: u32, soonest: u32) -> u32

@@ -24,42 +24,42 @@ pub enum Phase {
     Clock,
 }
 
-/// How many events a block has at most.
+/// The most events of a block.
 const MAX_BLOCK: usize = 1024;
 
 /// The events of a workload, one after another.
 ///
-/// In a contract it is the events of the block at hand that are still to come, the blocks behind it, what is
-/// remembered of tasks, and which are watched.
+/// In a contract it is the remaining events of the block at hand, the blocks after it, the times remembered of
+/// tasks, and the watched tasks.
 #[derive(Drop)]
 pub struct Driver {
     cpus: u32,
-    /// The processor that ticks next; all have ticked, but in the block of ticks.
+    /// The CPU that ticks next; the number of CPUs except in the block of ticks.
     cpu: u32,
     timings: Vec<Timing>,
     changes: Vec<Change>,
     /// The block that comes next, in the millisecond `clock`.
     phase: Phase,
     clock: u32,
-    /// How many milliseconds aren't over.
+    /// The number of milliseconds that aren't over.
     left: u32,
-    /// Before which millisecond no weight changes any more.
+    /// No weight changes before this millisecond any more.
     next_change: u32,
-    /// When each task wakes.
+    /// The millisecond of each task's next wake.
     due: Vec<u32>,
-    /// At which day each task stands that is to wake.
+    /// The day of each task that is to wake.
     calendar: Calendar,
-    /// How long each task had run when it woke last, in nanoseconds.
+    /// The run time of each task at its last wake, in nanoseconds.
     ran: Vec<u64>,
-    /// How long each task has run in all once it lacks one tick at most, in nanoseconds.
+    /// The run time from which a task lacks one tick at most, for each task, in nanoseconds.
     last_ticks: Vec<u64>,
-    /// Which tasks may have run enough.
+    /// The tasks that may have run enough.
     watched: NumberSet,
-    /// Whether it may be that somebody is watched.
+    /// False only if no task is watched.
     some_watched: bool,
     /// The events of the block at hand.
     events: Vec<Event>,
-    /// How many of them were answered.
+    /// The number of these events that were answered.
     taken: usize,
 }
 
@@ -76,7 +76,7 @@ impl Model for Driver {
 impl Driver {
     ghost use Rattle.scx_load_driver.specs.Driver.{remaining, is_empty, after_answer, at_next_block, phase_number, next_number};
 
-    /// All events of the workload are still to come, for a machine in any state. All memory is taken
+    /// A driver with all events of the workload to come, for a machine in any state. All memory is taken
     /// here.
     pub fn new(alloc: Global, workload: &Workload) -> Result<Driver, AllocError>
         ensures { IfOk result
@@ -110,7 +110,7 @@ impl Driver {
         })
     }
 
-    /// The event that comes next, for a machine that took exactly the events before it; none at the end.
+    /// The next event, for a machine that took exactly the events before it; none at the end.
     #[inline(always)]
     #[tactic(auto, using(crate::proofs::Remaining::remaining_taken))]
     pub fn next(&mut self, sim: &Sim) -> Option<Event>
@@ -127,8 +127,8 @@ impl Driver {
         }
     }
 
-    /// The event that comes next, where all of the block at hand were answered. With the clock the next
-    /// millisecond begins, if nothing comes before its ticks.
+    /// The next event after those of the block at hand. With the clock the next millisecond begins, if nothing
+    /// comes before its ticks.
     #[inline(always)]
     fn next_behind(&mut self, sim: &Sim) -> Option<Event>
         requires { is_empty self.old.pending ≡ true }
@@ -146,7 +146,7 @@ impl Driver {
         }
     }
 
-    /// The same, where it isn't known that it is the clock.
+    /// The next event after those of the block at hand, where the clock isn't known to come next.
     #[inline(always)]
     #[tactic(auto, using(crate::proofs::Remaining::remaining_taken))]
     fn next_begun(&mut self, sim: &Sim) -> Option<Event>
@@ -165,7 +165,7 @@ impl Driver {
         }
     }
 
-    /// The event that comes next, whichever blocks have events.
+    /// The next event, found by beginning each block in turn.
     #[inline(never)]
     #[tactic(auto, using(crate::proofs::Remaining::remaining_taken, crate::proofs::Remaining::remaining_end))]
     fn next_slowly(&mut self, sim: &Sim) -> Option<Event>
@@ -183,7 +183,7 @@ impl Driver {
         }
     }
 
-    /// The clock's turn comes, where nothing comes before it. Answers whether it does.
+    /// Begins the next millisecond if the clock comes next. Answers true if it does.
     #[inline(always)]
     fn takes_clock(&mut self) -> bool
         requires { is_empty self.old.pending ≡ true }
@@ -202,7 +202,7 @@ impl Driver {
         }
     }
 
-    /// The ticks begin, where nothing comes before them.
+    /// Begins the ticks, if nothing comes before them.
     #[inline(always)]
     #[tactic(auto, using(crate::proofs::Calm::noted_for_ticks))]
     fn begin_ticks(&mut self)
@@ -216,7 +216,7 @@ impl Driver {
         }
     }
 
-    /// Whether all events of the block at hand were answered.
+    /// True if all events of the block at hand were answered.
     #[inline(always)]
     fn is_spent(&self) -> bool
         ensures { result ≡ is_empty self.now.pending }
@@ -250,7 +250,7 @@ impl Driver {
         }
     }
 
-    /// Whether a block comes next.
+    /// True if a block comes next.
     #[tactic(auto, using(crate::proofs::Remaining::some_blocks))]
     fn has_block(&self) -> bool
         ensures { result ≡ not (is_empty self.now.blocks) }
@@ -258,7 +258,7 @@ impl Driver {
         0 < self.left
     }
 
-    /// Blocks begin, one after another, until there is an event to answer. Each has its turn once.
+    /// Begins blocks, one after another, until there is an event to answer. Each has its turn once.
     #[inline(always)]
     #[tactic(auto, using(crate::proofs::Remaining::past_last))]
     fn begin_blocks(&mut self, sim: &Sim)
@@ -272,7 +272,7 @@ impl Driver {
         self.begin_at(Phase::Clock, sim);
     }
 
-    /// That block begins, if it comes next and all events before it were answered.
+    /// Begins this block, if it comes next and all events before it were answered.
     #[inline(always)]
     #[tactic(auto, using(crate::proofs::Remaining::remaining_begun))]
     fn begin_at(&mut self, phase: Phase, sim: &Sim)
@@ -287,7 +287,7 @@ impl Driver {
         }
     }
 
-    /// The next block begins.
+    /// Begins the next block.
     #[inline(always)]
     #[tactic(auto)]
     fn begin_block(&mut self, sim: &Sim)
@@ -345,7 +345,7 @@ impl Driver {
     }
 }
 
-/// Whether the clock comes next: behind those who went to sleep, or where nobody may be watched, who could.
+/// True if the clock comes next: after the sleeps, or in their place where no task may be watched.
 #[inline(always)]
 fn is_clock_next(phase: Phase, some_watched: bool) -> bool
     ensures { result ≡ is_clock_next phase some_watched }
@@ -357,8 +357,8 @@ fn is_clock_next(phase: Phase, some_watched: bool) -> bool
     }
 }
 
-/// Whether the ticks come next: behind those who woke, or as a millisecond begins in which no weight changes
-/// and nobody wakes.
+/// True if the ticks come next: after the wakes, or at the start of a millisecond in which no weight changes and
+/// no task wakes.
 #[inline(always)]
 fn are_ticks_next(phase: Phase, now: u32, next_change: u32, next_wake: u32) -> bool
     ensures { result ≡ are_ticks_next phase now next_change next_wake }
@@ -370,7 +370,7 @@ fn are_ticks_next(phase: Phase, now: u32, next_change: u32, next_wake: u32) -> b
     }
 }
 
-/// When each task wakes first.
+/// The millisecond of each task's first wake.
 fn starts(alloc: Global, timings: &[Timing]) -> Result<Vec<u32>, AllocError>
     ensures { IfOk result (λ due. due.items ≡ map (λ (t : Timing). t.start) timings.now) }
 {
@@ -381,7 +381,7 @@ fn starts(alloc: Global, timings: &[Timing]) -> Result<Vec<u32>, AllocError>
     Ok(due)
 }
 
-/// How long each task has run in all once it lacks one tick at most, while none has run.
+/// The run time from which each task lacks one tick at most, before any task has run.
 fn first_last_ticks(alloc: Global, timings: &[Timing]) -> Result<Vec<u64>, AllocError>
     ensures { IfOk result
         (λ last. last.items ≡ map (λ (t : Timing). last_tick t.run 0) timings.now) }

@@ -1,8 +1,13 @@
-//! The events of a workload, one after another.
+//! The driver of a workload: it gives a machine the workload's events, one after another.
 //!
-//! In each millisecond weights change, tasks wake, each processor ticks, tasks that have run long enough
-//! go to sleep, and the clock grows. `Driver::next` answers the event that comes next for a machine that
-//! took all events before it.
+//! A millisecond has five blocks of events, in this order: weights change, tasks wake, each CPU ticks, tasks that
+//! have run long enough go to sleep, and the clock grows. A task that has run as long as its workload says sleeps,
+//! and wakes when it has slept, so each block depends on the machine's state as the block begins. `Driver::new`
+//! takes all memory; `Driver::next` answers the next event for a machine that took all events before it, and none
+//! at the end. That no machine made for the workload refuses an event is the law `no_event_is_refused`.
+//!
+//! Few tasks are looked at for an event. A `Calendar` has the tasks of each day, which is a remainder of the
+//! millisecond in which they wake, and a driver watches only the tasks that may have run enough.
 #![tactic(auto)]
 
 mod blocks;

@@ -6,10 +6,10 @@ use std::alloc::{AllocError, Global};
 use std::cmp;
 use std::marker::Model;
 
-/// How many numbers have their bits in a word.
+/// The number of bits of a word.
 const WORD: usize = 64;
 
-/// Some of the numbers below a limit, a bit each.
+/// A set of numbers below a limit, a bit each.
 ///
 /// In a contract it is a list that has true for each number that is there.
 #[derive(Drop)]
@@ -30,7 +30,7 @@ impl Model for NumberSet {
 }
 
 impl NumberSet {
-    /// None of the numbers below the limit.
+    /// The empty set, of numbers below the limit.
     pub(crate) fn none(alloc: Global, limit: usize) -> Result<NumberSet, AllocError>
         requires { limit ≤ 2 ^ 20 }
         ensures { IfOk result (λ set. set ≡ replicate limit false) }
@@ -39,7 +39,7 @@ impl NumberSet {
         Ok(NumberSet { limit, words })
     }
 
-    /// All numbers below the limit.
+    /// The set of all numbers below the limit.
     pub(crate) fn all(alloc: Global, limit: usize) -> Result<NumberSet, AllocError>
         requires { limit ≤ 2 ^ 20 }
         ensures { IfOk result (λ set. set ≡ replicate limit true) }
@@ -48,7 +48,7 @@ impl NumberSet {
         Ok(NumberSet { limit, words })
     }
 
-    /// The number comes to be there, if it is below the limit.
+    /// Adds the number, if it is below the limit.
     #[inline(always)]
     pub(crate) fn insert(&mut self, number: usize)
         ensures { self.new ≡ slice_set self.old number true }
@@ -59,7 +59,7 @@ impl NumberSet {
         }
     }
 
-    /// The number is there no more.
+    /// Removes the number.
     #[inline(always)]
     pub(crate) fn remove(&mut self, number: usize)
         ensures { self.new ≡ slice_set self.old number false }
@@ -70,7 +70,7 @@ impl NumberSet {
         }
     }
 
-    /// The lowest number from one on that is there and below an end; the end where none is.
+    /// The lowest number of the set from `from` on and below an end; the end where there is none.
     #[inline(always)]
     pub(crate) fn next(&self, from: usize, end: usize) -> usize
         requires ordered { from ≤ end }
@@ -82,7 +82,7 @@ impl NumberSet {
     }
 }
 
-/// The lowest number from one on whose bit is set, below an end; the end where none is.
+/// The lowest number from `from` on whose bit is set, below an end; the end where there is none.
 #[tactic(auto, using(crate::proofs::Sets::no_numbers, crate::proofs::Sets::next_behind, crate::proofs::Sets::lowest_from))]
 fn next_in(words: &[u64], from: usize, end: usize) -> usize
     requires ordered { from ≤ end }
@@ -102,7 +102,8 @@ fn next_in(words: &[u64], from: usize, end: usize) -> usize
     }
 }
 
-/// The same, from the first number of that word on.
+/// The lowest number, from the first one of a word on, whose bit is set, below an end; the end where there is
+/// none.
 #[tactic(auto, using(crate::proofs::Sets::none_more, crate::proofs::Sets::next_in_word, crate::proofs::Sets::no_words))]
 fn next_from_word(words: &[u64], first: usize, end: usize) -> usize
     requires within { end ≤ 64 * length words.now }

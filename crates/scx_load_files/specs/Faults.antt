@@ -1,4 +1,4 @@
--- What reading a file gives: a value, or the path and the cause of the first fault.
+-- The outcome of reading a file: a value, or the path and the cause of the first fault.
 use Rattle.std.specs.Prelude.{◌≡◌, ℕ, List, Result, Ok, Err, string_bytes}
 use Rattle.scx_load_files.specs.declared.fault.Cause.{Cause}
 use Rattle.scx_load_files.specs.declared.fault.LoadError.{LoadError}
@@ -13,11 +13,11 @@ pub record Fault : Type 0 where
 abbrev pub Reading : Type 0 → Type 0
 Reading A = Result A Fault
 
--- the reading of what stands at that path, which is refused for that cause
+-- a reading that is refused at that path, for that cause
 abbrev pub refusal : {A : Type 0} → List ℕ → Cause → Reading A
 refusal path cause = Err (record { path = path; cause = cause })
 
--- What a function returned, seen by view, is what reading gives, unless memory ran out.
+-- A function's result, seen by view, is the outcome of the reading, unless memory ran out.
 abbrev pub Fails : {A : Type 0} → LoadError → Reading A → Type 0
 Fails (errors.At path cause) read = read ≡ Err (record { path = string_bytes path; cause = cause })
 Fails errors.NoMemory read = Unit {0}

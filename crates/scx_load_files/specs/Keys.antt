@@ -28,7 +28,7 @@ escape c =
     else if c == 92 then codes "\\\\"
     else character c
 
--- the content of a basic string that stands for a text in UTF-8
+-- the content of a basic string whose text in UTF-8 is this one
 abbrev pub basic_content : List ℕ → List ℕ
 basic_content text = flat_map escape (chars text)
 

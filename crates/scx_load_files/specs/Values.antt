@@ -18,7 +18,7 @@ found_or f none (Some x) = f x
 abbrev pub document : List ℕ → Reading Members
 document text = found_or Ok (refusal (codes "file") cause.NotToml) (parse_document text)
 
--- ---- what a value is read as; its path stands first
+-- ---- readings of a value; its path comes first
 
 -- the table that a value is; a value of another type is refused
 abbrev pub table_of : List ℕ → Data → Reading Members
@@ -53,7 +53,7 @@ abbrev pub item_count : Items → ℕ
 item_count no_items = 0
 item_count (item d ds) = suc (item_count ds)
 
--- the elements of an array of at most so many
+-- the elements of an array that has at most this number of them
 abbrev pub elements_of : ℕ → List ℕ → Data → Reading Items
 elements_of most path (array ds) =
     if nat_le (item_count ds) most then Ok ds else refusal path cause.TooMany
@@ -64,7 +64,7 @@ abbrev pub each_from : {A : Type 0} → (ℕ → Data → Reading A) → ℕ →
 each_from read n no_items = Ok []
 each_from read n (item d ds) = read n d >>= λ x. each_from read (n + 1) ds >>= λ xs. Ok (x ∷ xs)
 
--- ---- what stands at a key of the table at a path
+-- ---- readings of the value at a key of the table at a path
 
 -- a key that has to be there
 abbrev pub required :

@@ -1,7 +1,7 @@
 ghost use Rattle.std.specs.Prelude.{◌≡◌};
 ghost use Rattle.scx_load_files.specs.EventFaults.{event_number, event_name};
 
-/// What is wrong with a line of events, in the order of the numbers.
+/// A fault in a line of events, in the order of the numbers.
 #[derive(Clone, Copy, Debug, PartialEq, Eq)]
 pub enum EventFault {
     /// It isn't `MS wake TASK`, `MS sleep TASK` or `MS weight GROUP W`, with one space between words.

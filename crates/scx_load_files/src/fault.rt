@@ -11,7 +11,7 @@ use std::alloc::{AllocError, AllocFailed, Global};
 use std::fmt;
 use thiserror::Error;
 
-/// What is wrong with a file.
+/// The cause of a file's first fault.
 #[derive(Clone, Copy, Debug, PartialEq, Eq)]
 pub enum Cause {
     /// The file is no TOML document; its path is `file`.
@@ -26,7 +26,7 @@ pub enum Cause {
     OutOfRange,
     /// A name isn't 1 to 16 of `a` to `z`, `0` to `9` and `_` with a letter first.
     BadName,
-    /// What may stand once stood before.
+    /// A name or an entry that may occur once occurred before.
     Twice,
     /// An array has more elements than it may have.
     TooMany,
@@ -73,7 +73,7 @@ impl Cause {
         write!(f, "{} {number} {name} at {place}", self.words())
     }
 
-    /// What it says, of a fault within a text which sort of text that is.
+    /// The words of a refusal; for a fault within a text, the sort of text.
     fn words(&self) -> &'static str {
         match self {
             Cause::NotToml => "not TOML",
@@ -97,13 +97,13 @@ impl Cause {
 
 impl std::error::Error for Cause {}
 
-/// Why a file gave nothing: its first fault and the path of the key that has it, or want of memory.
+/// An error of a reading: the first fault of the file with the path of its key, or out of memory.
 #[derive(Debug, Drop, Error)]
 pub enum LoadError {
     /// Memory ran out.
     #[error("no memory")]
     NoMemory,
-    /// The first fault: the path of what is wrong, and the cause.
+    /// The first fault: its path, and its cause.
     #[error("{path}: {cause}")]
     At { path: String, cause: Cause },
 }
@@ -132,7 +132,7 @@ pub fn refused<T: Drop>(alloc: Global, path: &str, key: &str, cause: Cause) -> R
     Err(LoadError::At { path, cause })
 }
 
-/// Refuses what stands at this path, for this cause.
+/// Refuses the value at this path, for this cause.
 pub fn refused_at<T: Drop>(alloc: Global, path: &str, cause: Cause) -> Result<T, LoadError>
     ensures { Gives (λ t. t) result (refusal path.now cause) }
 {

@@ -7,8 +7,8 @@ ghost use Rattle.scx_load_files.specs.Paths.{below};
 use crate::path::key_path;
 use std::alloc::{AllocError, Global};
 
-/// The path of an unknown key in the table at `path`. A key that has a control character in it stands
-/// there as a basic string of TOML, so that a path is one line.
+/// The path of an unknown key in the table at `path`. A key with a control character in it is shown as
+/// a basic string of TOML, so that a path is one line.
 pub(crate) fn shown_path(alloc: Global, path: &str, key: &str) -> Result<String, AllocError>
     ensures { IfOk result (λ joined. string_bytes joined ≡ below path.now (key_text key.now)) }
 {

@@ -1,7 +1,7 @@
-//! What the formats of files have in common: a TOML document read key by key, and the first fault
-//! with the path of its key.
+//! The common part of all file formats: a TOML document is read key by key, and its first fault is
+//! named with the path of the key.
 //!
-//! A format is read in one order, so that each faulty file has one first fault: `Unknown` looks for
+//! Each format has one order of reading, so each faulty file has one first fault: `Unknown` looks for
 //! unknown keys first, and then a `Section` is asked for one key after another.
 #![tactic(auto)]
 

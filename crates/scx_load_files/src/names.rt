@@ -4,8 +4,8 @@ ghost use Rattle.scx_load_files.specs.Names.{is_letter, is_name_byte, is_name, a
 /// The most characters of a name.
 pub const MAX_NAME: usize = 16;
 
-/// Whether the text is a name of a policy, a group or a task: 1 to 16 characters of `a` to `z`, `0` to
-/// `9` and `_`, with a letter first.
+/// True for a name of a policy, a group or a task: 1 to 16 characters of `a` to `z`, `0` to `9` and `_`,
+/// with a letter first.
 pub fn is_name(text: &str) -> bool
     ensures { result ≡ is_name text.now }
 {

@@ -10,7 +10,7 @@ use crate::names::is_name;
 use std::alloc::Global;
 use toml::{Table, Value};
 
-/// Which numbers a key takes, both ends included.
+/// The range of a key's numbers, both ends included.
 #[derive(Clone, Copy)]
 pub struct Limits {
     pub least: u32,
@@ -48,7 +48,7 @@ impl<'a> Section<'a> {
         Section { table, path: "" }
     }
 
-    /// The table that stands at a path; `WrongType` where the value there is none.
+    /// The table at a path; `WrongType` where the value there is no table.
     pub fn of(alloc: Global, path: &'a str, value: &'a Value) -> Result<Section<'a>, LoadError>
         ensures table { Gives (λ s. table_view s.table.now) result
             (table_of path.now (view value.now)) }
@@ -60,7 +60,7 @@ impl<'a> Section<'a> {
         }
     }
 
-    /// What stands at a key.
+    /// The value at a key.
     pub fn value(self, key: &str) -> Option<&'a Value>
         ensures { option_map (λ v. view v.now) result
             ≡ get_member key.now (table_view self.entry.table.now) }

@@ -10,7 +10,7 @@ use crate::section::Section;
 use std::alloc::{AllocError, Global};
 use toml::{Table, Value};
 
-/// The unknown keys that were met so far: of these the path that is the least by its bytes.
+/// The unknown keys that were met so far. Only the path that is least by its bytes is kept.
 #[derive(Drop)]
 pub struct Unknown {
     least: Option<String>,
@@ -198,7 +198,7 @@ fn is_known(known: &[&str], key: &str) -> bool
     false
 }
 
-/// Of some paths that one is named which is greater than none of them. The function does nothing: its
+/// The named path is one of the given paths, and greater than none of them. The function does nothing: its
 /// contract is the law.
 pub fn least_path_is_named()
     ensures { LeastIsFound }

@@ -1,5 +1,5 @@
-//! Where in the text of a file something stands that a refusal names: a key by its path, a line of the text of
-//! a program, the first fault of TOML.
+//! The line and column of a refusal's subject in the text of a file: a key by its path, a line of the text of a
+//! program, the first fault of TOML.
 //!
 //! A refusal names a key as `task.1.group`. Editors go to a line and a column; `place_of_key` finds these.
 #![tactic(auto)]

@@ -2,8 +2,8 @@ use crate::place::{Place, place_at};
 use crate::search::find;
 use std::alloc::Global;
 
-/// The place of a line, from 1, of the text that is the value of a key, or that of the text's end where it has less
-/// lines; none where there is no such key with a text.
+/// The place of a line, from 1, of the text that is the value of a key, or the place of the text's end where it has
+/// fewer lines; none where there is no such key with a text.
 pub fn place_of_line(alloc: Global, text: &str, path: &str, line: usize) -> Option<Place> {
     let value = find(alloc, text, path)?.value_at(path)?;
     let begin = text.len().saturating_sub(value.len());
@@ -11,10 +11,10 @@ pub fn place_of_line(alloc: Global, text: &str, path: &str, line: usize) -> Opti
     Some(place_at(text, begin.saturating_add(within)))
 }
 
-/// How a string of TOML is written.
+/// The quoting of a TOML string.
 #[derive(Clone, Copy)]
 struct Quotes {
-    /// How many bytes stand in front of its first character.
+    /// The number of bytes before its first character.
     opening: usize,
     has_escapes: bool,
 }
@@ -26,7 +26,7 @@ fn quotes_of(value: &str) -> Quotes {
     }
 }
 
-/// A line feed right behind three quotes isn't of the string.
+/// The number of bytes before the first character. A line feed right after three quotes isn't part of the string.
 fn opening(value: &str) -> usize {
     if !value.starts_with("\"\"\"") && !value.starts_with("'''") {
         return 1;
@@ -38,17 +38,17 @@ fn opening(value: &str) -> usize {
     }
 }
 
-/// What the byte at hand stands behind.
+/// The context of a byte: the bytes before it.
 #[derive(Clone, Copy, PartialEq, Eq)]
 enum Behind {
     Character,
     /// A backslash.
     Backslash,
-    /// A backslash at the end of a line, and blanks: what is there isn't of the string.
+    /// A backslash at the end of a line, and blanks: these bytes aren't part of the string.
     Joint,
 }
 
-/// How many bytes of the string as it is written stand in front of that line, from 1, of its text.
+/// The offset, in the string as it is written, at which that line of its text begins. Lines count from 1.
 fn begin_of_line(value: &str, line: usize) -> usize {
     let quotes = quotes_of(value);
     let mut behind = Behind::Character;
@@ -67,7 +67,7 @@ fn begin_of_line(value: &str, line: usize) -> usize {
     value.len()
 }
 
-/// Whether a line of the string's text ends with that byte.
+/// True if a line of the string's text ends with that byte.
 fn ends_line(behind: Behind, byte: u8) -> bool {
     match behind {
         Behind::Character => byte == b'\n',

@@ -18,13 +18,13 @@ pub(crate) fn place_at(text: &str, offset: usize) -> Place {
     place
 }
 
-/// The bytes in front of the offset.
+/// The bytes before the offset.
 fn before(text: &str, offset: usize) -> &[u8] {
     let bytes = text.as_bytes();
     &bytes[..cmp::min(offset, bytes.len())]
 }
 
-/// The place behind a byte; those of a character but its first count for nothing.
+/// The place after a byte. Only the first byte of a character counts.
 fn behind(place: Place, byte: u8) -> Place {
     if byte == b'\n' {
         Place {
@@ -41,7 +41,7 @@ fn behind(place: Place, byte: u8) -> Place {
     }
 }
 
-/// The place where what is left of a text begins.
+/// The place where the rest of a text begins.
 pub(crate) fn place_of_rest(text: &str, rest: &str) -> Place {
     place_at(text, text.len().saturating_sub(rest.len()))
 }

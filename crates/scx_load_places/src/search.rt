@@ -7,17 +7,17 @@ use std::alloc::{AllocError, Global};
 use toml_parser::text::{byte_at, first, skip, skip_blank, skip_ws};
 use toml_parser::{Key, dotted_key};
 
-/// The place of the key at that path. Where the key isn't there, that of the table or array nearest above it; none
-/// where nothing above it stands in the text, or memory ran out.
+/// The place of the key at that path. Where the key isn't there, the place of the nearest table or array above it;
+/// none where nothing above it is in the text, or memory ran out.
 pub fn place_of_key(alloc: Global, text: &str, path: &str) -> Option<Place> {
     let found = find(alloc, text, path)?;
     Some(place_of_rest(text, found.key))
 }
 
-/// A key or a header that is what is looked for, or holds it.
+/// The wanted key or header, or one that holds it.
 #[derive(Clone, Copy)]
 pub(crate) struct Found<'a> {
-    /// How much of the wanted path it is, in bytes.
+    /// The length of the part of the wanted path that it is, in bytes.
     reach: usize,
     /// The text from it on.
     key: &'a str,
@@ -43,12 +43,12 @@ struct Search<'a, 'p> {
     wanted: &'p str,
     /// The path of the table at hand.
     table: String,
-    /// How many elements there were of the array of tables in which the key is.
+    /// The number of elements so far of the array of tables that holds the key.
     elements: usize,
     best: Option<Found<'a>>,
 }
 
-/// What comes nearest to the key at that path.
+/// The key at this path, or its nearest ancestor.
 pub(crate) fn find<'a>(alloc: Global, text: &'a str, path: &str) -> Option<Found<'a>> {
     let mut search = Search {
         alloc,
@@ -74,7 +74,7 @@ impl<'a, 'p> Search<'a, 'p> {
         }
     }
 
-    /// The text behind what a text begins with.
+    /// Looks at the key or header that a text begins with. Answers the text after it.
     fn look_at(&mut self, line: &'a str) -> Option<&'a str>
         ensures { IfSome result (λ rest. length rest.now < length line.now) }
     {
@@ -101,7 +101,7 @@ impl<'a, 'p> Search<'a, 'p> {
         behind_value(self.alloc, value?)
     }
 
-    /// `[KEY]`, with the text behind the bracket.
+    /// `[KEY]`, with the text after the bracket.
     fn header(&mut self, line: &'a str, inside: &'a str) -> Option<&'a str>
         requires { length inside.now < length line.now }
         ensures { IfSome result (λ rest. length rest.now < length line.now) }
@@ -116,7 +116,7 @@ impl<'a, 'p> Search<'a, 'p> {
         Some(skip(rest, 1))
     }
 
-    /// `[[KEY]]`, with the text behind the brackets.
+    /// `[[KEY]]`, with the text after the brackets.
     fn array_header(&mut self, line: &'a str, inside: &'a str) -> Option<&'a str>
         requires { length inside.now < length line.now }
         ensures { IfSome result (λ rest. length rest.now < length line.now) }
@@ -140,7 +140,7 @@ impl<'a, 'p> Search<'a, 'p> {
         Some(())
     }
 
-    /// The path of the next element of an array. Only those of the array in which the key is are counted.
+    /// The path of the next element of an array. Only elements of the array that holds the key are counted.
     fn next_element(&mut self, array: &str) -> Result<String, AllocError> {
         let number = self.elements;
         if reach(self.wanted, array).is_some() {
@@ -161,7 +161,7 @@ impl<'a, 'p> Search<'a, 'p> {
         }
     }
 
-    /// Keeps what comes nearest, and of several the first.
+    /// Keeps the nearest to the wanted path, and the first of several.
     fn take(&mut self, reach: usize, key: &'a str, value: Option<&'a str>) {
         let is_nearer = match self.best {
             Some(best) => best.reach < reach,
@@ -173,7 +173,7 @@ impl<'a, 'p> Search<'a, 'p> {
     }
 }
 
-/// How much of the wanted path a path is: all of it, or as far as a table or an array that the key is in.
+/// The length of the part of the wanted path that a path is: all of it, or a table or an array that holds the key.
 fn reach(wanted: &str, path: &str) -> Option<usize> {
     let rest = wanted.strip_prefix(path)?;
     if rest.is_empty() || rest.starts_with('.') {
@@ -183,7 +183,7 @@ fn reach(wanted: &str, path: &str) -> Option<usize> {
     }
 }
 
-/// The path of the key that a text begins with, in the table at `table`, and the text behind it.
+/// The path of the key that a text begins with, in the table at `table`, and the text after it.
 fn path_of_key<'a>(alloc: Global, table: &str, text: &'a str) -> Option<(String, &'a str)>
     ensures { IfSome result (λ found. length found.1.now < length text.now) }
 {
@@ -193,7 +193,7 @@ fn path_of_key<'a>(alloc: Global, table: &str, text: &'a str) -> Option<(String,
     Some((path.ok()?, rest))
 }
 
-/// The text from the value on, behind the sign that stands between a key and its value.
+/// The text from the value on, after the sign between a key and its value.
 fn value_in(text: &str) -> Option<&str>
     ensures { IfSome result (λ value. length value.now < length text.now) }
 {

@@ -8,8 +8,8 @@ use scx_asm_text::{Item, Statement, Token, item_of, tokens};
 use std::alloc::Global;
 use toml_parser::{quoted, starts_string};
 
-/// The place of the line of assembler text that stands for a slot, where the value of the key at that path is such a
-/// text.
+/// The place of the line of assembler text whose instruction takes a slot. The text is the value of the key at that
+/// path; none where there is no such text.
 pub fn place_of_slot(alloc: Global, text: &str, path: &str, slot: usize) -> Option<Place> {
     let value = find(alloc, text, path)?.value_at(path)?;
     let code = string_of(alloc, value)?;
@@ -38,7 +38,7 @@ fn line_of_slot(alloc: Global, code: &str, slot: usize) -> Option<usize> {
     None
 }
 
-/// How many slots the line's instruction takes; 0 where it has none.
+/// The number of slots of the line's instruction; 0 where it has none.
 fn slots_of(alloc: Global, line: &str) -> Option<usize> {
     let mut found = Vec::new(alloc);
     let slots = match tokens(line.as_bytes(), &mut found) {
@@ -49,7 +49,7 @@ fn slots_of(alloc: Global, line: &str) -> Option<usize> {
     slots
 }
 
-/// The same of the tokens of a line.
+/// The number of slots of the instruction that the tokens of a line are; 0 where they are none.
 fn slots_in(tokens: &[Token<'_>]) -> Option<usize> {
     match item_of(tokens)? {
         Item::Blank | Item::Label(_) => Some(0),

@@ -10,7 +10,7 @@ pub struct TomlFault {
 }
 
 impl TomlFault {
-    /// What is wrong there, in words.
+    /// The fault, in words.
     pub fn message(&self) -> &str {
         self.error.message()
     }

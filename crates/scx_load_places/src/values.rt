@@ -5,7 +5,7 @@ use std::alloc::Global;
 use toml_parser::text::{first, skip, skip_blank};
 use toml_parser::{quoted, starts_string, unquoted};
 
-/// The text behind the value that a text begins with (TOML 1.1, 'Key/Value Pair').
+/// The text after the value that a text begins with (TOML 1.1, 'Key/Value Pair').
 pub(crate) fn behind_value(alloc: Global, text: &str) -> Option<&str>
     ensures { IfSome result (λ rest. length rest.now < length text.now) }
 {
@@ -31,7 +31,7 @@ fn behind_string(alloc: Global, text: &str) -> Option<&str>
     }
 }
 
-/// The text behind the bracket that closes the first one.
+/// The text after the bracket that closes the first one.
 fn behind_brackets(alloc: Global, text: &str) -> Option<&str>
     ensures { IfSome result (λ rest. length rest.now < length text.now) }
 {
@@ -47,7 +47,7 @@ fn behind_brackets(alloc: Global, text: &str) -> Option<&str>
     }
 }
 
-/// How many brackets are open behind that byte.
+/// The number of brackets that are open after that byte.
 fn depth_behind(depth: usize, byte: u8) -> usize {
     match byte {
         b'[' | b'{' => depth.saturating_add(1),
@@ -56,7 +56,7 @@ fn depth_behind(depth: usize, byte: u8) -> usize {
     }
 }
 
-/// The text behind a string, or else behind one byte of another value.
+/// The text after a string, or else after one byte of another value.
 fn behind_token(alloc: Global, text: &str) -> Option<&str>
     ensures { IfSome result (λ rest. length rest.now < length text.now) }
 {

@@ -1,5 +1,5 @@
--- What `build` makes of a policy file: the policy of its programs, each verified as its callback,
--- or the first callback, in their order, whose program is refused.
+-- The result of `build` for a policy file: the policy of its programs, each verified as its
+-- callback, or the first callback, in their order, whose program is refused.
 use Rattle.std.specs.Prelude.{◌≡◌, ◌≢◌, ℕ, ⊤, List, [], ◌∷◌, Option, Some, None, option_map, All}
 use Rattle.scx_maps.specs.declared.shape.Shape.{Shape}
 use Rattle.scx_isa_semantics.specs.Code.{Code}
@@ -41,7 +41,7 @@ pub record AsksForMemory (program : Option Code) : Type 0 where
   pub there : program ≡ Some code
   pub flows : Flows code
 
--- memory is asked for of a callback behind others that are accepted
+-- memory is asked for a callback after others that are accepted
 pub record IsStarved (text : PolicyFile) : Type 0 where
   pub callback : Callback
   pub before : AreAccepted text (earlier callback)

@@ -1,4 +1,4 @@
--- What a policy file says: its name, the shapes of its maps, how long a task may wait, and its
+-- The content of a policy file: its name, the shapes of its maps, the time a task may wait, and its
 -- programs.
 use Rattle.std.specs.Prelude.{ℕ, List, map, Option, None}
 use Rattle.scx_maps.specs.declared.shape.Shape.{Shape}

@@ -1,4 +1,4 @@
--- The reading of a policy file: unknown keys first, wherever they stand; then the name, the
+-- The reading of a policy file: unknown keys first, wherever they are; then the name, the
 -- timeout, the maps, the programs in `code` and those in `slots`.
 use Rattle.std.specs.Prelude.{ℕ, List, [], ◌∷◌, ◌++◌, codes, Ok}
 use Rattle.toml.specs.Data.{Members, no_members}

@@ -10,8 +10,8 @@ use std::alloc::Global;
 use std::fmt;
 use thiserror::Error;
 
-/// Why `build` made no policy: the first callback whose program is refused, with the verifier's fault
-/// and its slot, or want of memory.
+/// An error of `build`: the first callback whose program is refused, with the verifier's fault and its
+/// slot, or out of memory.
 #[derive(Clone, Copy, PartialEq, Eq, Error)]
 pub enum BuildError {
     /// The first callback whose program is refused, for this fault at this slot.

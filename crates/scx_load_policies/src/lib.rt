@@ -1,7 +1,7 @@
-//! Policy files: which programs a scheduling policy has, its maps, and how long a task may wait.
+//! Policy files: the programs of a scheduling policy, its maps, and the time that a task may wait.
 //!
-//! `read_policy` reads a file, or names its first fault and where it stands. `build` verifies the
-//! programs of what was read and makes the policy.
+//! `read_policy` reads a file, or names its first fault with its path. `build` verifies the programs of
+//! the file and makes the policy.
 #![tactic(auto)]
 
 mod building;

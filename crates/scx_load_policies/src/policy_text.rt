@@ -9,7 +9,7 @@ use std::marker::Model;
 /// The programs of a policy file. Each may be absent.
 pub type Programs = PerCallback<Option<Program>>;
 
-/// What a policy file says, which `read_policy` alone makes.
+/// The content of a policy file. Only `read_policy` makes one.
 #[derive(Drop)]
 pub struct PolicyText {
     pub(crate) name: String,
@@ -50,7 +50,7 @@ impl PolicyText {
         &self.defs
     }
 
-    /// How long a task may wait, in milliseconds.
+    /// The longest time that a task may wait, in milliseconds.
     pub fn timeout_ms(&self) -> u32
         ensures value { result ≡ self.now.timeout_ms }
         ensures limits { IsTimeout result }

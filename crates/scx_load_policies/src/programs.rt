@@ -65,7 +65,7 @@ fn code_at(
     assembled(alloc, code.path, key, text)
 }
 
-/// The program that an assembler text stands for.
+/// The program of an assembler text.
 fn assembled(alloc: Global, path: &str, key: &str, text: &str) -> Result<Option<Program>, LoadError>
     ensures { Gives (λ p. p) result
         (from_assembly (below path.now key.now) (read_text text.now)) }

@@ -12,7 +12,7 @@ use scx_load_files::{Limits, LoadError, Section, Unknown, read_document};
 use std::alloc::Global;
 use toml::Table;
 
-/// How long a task may wait where a file doesn't say, and at most, in milliseconds.
+/// The longest time that a task may wait, in milliseconds; also the time of a file that gives none.
 const LONGEST_TIMEOUT: u32 = 30_000;
 
 const TIMEOUT: Limits = Limits {
@@ -57,7 +57,7 @@ fn check_keys(alloc: Global, file: Section<'_>) -> Result<(), LoadError>
     unknown.refuse()
 }
 
-/// What the known keys of a file say.
+/// Reads the known keys of a file.
 fn read_file(alloc: Global, file: Section<'_>) -> Result<PolicyText, LoadError>
     requires { file.path.now ≡ [] }
     ensures { Gives (λ policy. policy) result (policy_in (table_view file.entry.table.now)) }
@@ -88,7 +88,7 @@ fn read_name(alloc: Global, file: Section<'_>) -> Result<String, LoadError>
     }
 }
 
-/// The programs of both tables, of which each may be absent.
+/// The programs of both tables. Each table may be absent.
 fn read_programs(alloc: Global, file: Section<'_>) -> Result<Programs, LoadError>
     requires { file.path.now ≡ [] }
     ensures { Gives (λ p. p) result (programs_in (table_view file.entry.table.now)) }
@@ -115,7 +115,8 @@ fn put_programs(alloc: Global, file: Section<'_>, programs: &mut Programs) -> Re
     put
 }
 
-/// The same, where a table that is absent is this empty one.
+/// Puts the programs of both tables into their places; `absent`, which is empty, is read for a table that
+/// isn't there.
 fn put_both(
     alloc: Global,
     file: Section<'_>,

@@ -6,7 +6,7 @@ use Rattle.scx_sched_machine.specs.declared.events.Event.TheVariants as event
 use Rattle.scx_load_replay.specs.declared.lines.Line.{Line}
 use Rattle.scx_load_replay.specs.Replay.{ReplayState, block_of}
 
--- the event comes behind the ticks of its millisecond
+-- the event comes after the ticks of its millisecond
 abbrev pub is_sleep : Event → Bool
 is_sleep e = block_of e == 2
 
@@ -14,7 +14,7 @@ is_sleep e = block_of e == 2
 abbrev pub is_before_ticks : ℕ → Line → Bool
 is_before_ticks m l = (l.at == m) && not (is_sleep l.event)
 
--- the line is of that millisecond, and comes behind its ticks
+-- the line is of that millisecond, and comes after its ticks
 abbrev pub is_behind_ticks : ℕ → Line → Bool
 is_behind_ticks m l = (l.at == m) && is_sleep l.event
 
@@ -28,12 +28,12 @@ abbrev pub lines_behind : (Line → Bool) → List Line → List Line
 lines_behind test [] = []
 lines_behind test (l ∷ ls) = if test l then lines_behind test ls else l ∷ ls
 
--- ticks of so many processors, from that one on
+-- ticks of this number of CPUs, from that one on
 abbrev pub ticks_from : ℕ → ℕ → List Event
 ticks_from zero c = []
 ticks_from (suc n) c = event.Tick c ∷ ticks_from n (c + 1)
 
--- the events of so many milliseconds from m on, as these lines say
+-- the events of this number of milliseconds from m on, as these lines say
 abbrev pub events_from : ℕ → ℕ → ℕ → List Line → List Event
 events_from cpus zero m ls = []
 events_from cpus (suc n) m ls =

@@ -1,4 +1,4 @@
--- What holds of the events of every file: each line comes, and none is refused.
+-- Laws of the events of every file: each line comes, and none is refused.
 use Rattle.std.specs.Prelude.{◌≡◌, nat_lt, Bool, map, filter}
 use Rattle.scx_weights.specs.Hierarchy.{idle}
 use Rattle.scx_sched_machine.specs.declared.events.Event.{Event}

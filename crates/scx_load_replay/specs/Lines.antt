@@ -1,5 +1,5 @@
--- What a line of a file of events says: `MS wake TASK`, `MS sleep TASK` or `MS weight GROUP W`,
--- with one space between words. An empty line says nothing.
+-- The lines of a file of events: `MS wake TASK`, `MS sleep TASK` or `MS weight GROUP W`, with one
+-- space between words. An empty line says nothing.
 use Rattle.std.specs.Prelude.{ℕ, ◌+◌, ◌-◌, ◌==◌, ◌&&◌, nat_le, Bool, List, [], ◌∷◌, ◌++◌, length, take, drop, Option, Some, None, codes, Result, Ok, Err, if◌then◌else◌}
 use Rattle.std.specs.List.{position}
 use Rattle.std.specs.Str.{bytes_eq}
@@ -15,18 +15,18 @@ use Rattle.scx_load_files.specs.declared.event_fault.EventFault.{EventFault}
 use Rattle.scx_load_files.specs.declared.event_fault.EventFault.TheVariants as fault
 use Rattle.scx_load_replay.specs.Replay.{max_lines, block_of, comes_before, is_awake, awake_after, all_asleep}
 
--- what a line is read as, or its first fault
+-- the reading of a line, or its first fault
 abbrev pub Told : Type 0 → Type 0
 Told A = Result A EventFault
 
--- what is there, or else that fault
+-- the value, if there is one, or else that fault
 abbrev pub or_fault : {A : Type 0} → EventFault → Option A → Told A
 or_fault f None = Err f
 or_fault f (Some x) = Ok x
 
 -- ---- words
 
--- what stands before the first space of a text, and what behind it
+-- the parts of a text before and after its first space
 pub record Cut : Type 0 where
   pub word : List ℕ
   pub rest : List ℕ
@@ -63,7 +63,7 @@ weight_in w text = do
   x ← or_fault fault.BadWeight (number_in 1 10000 words.rest)
   Ok (event.SetWeight g x)
 
--- the event that a verb and what stands behind it say
+-- the event that a verb and the text after it say
 abbrev pub event_in : WorkloadState → List ℕ → List ℕ → Told Event
 event_in w verb rest =
     if bytes_eq verb (codes "wake") then (task_in w rest >>= λ t. Ok (event.Wake t))
@@ -71,7 +71,7 @@ event_in w verb rest =
     else if bytes_eq verb (codes "weight") then weight_in w rest
     else Err fault.Syntax
 
--- a line of that millisecond, whose text behind it says the event
+-- the line of that millisecond whose text after it says the event
 abbrev pub line_at : WorkloadState → ℕ → List ℕ → Told Line
 line_at w at text = do
   verb ← or_fault fault.Syntax (cut text)
@@ -85,9 +85,9 @@ line_in w text = do
   at ← or_fault fault.BadTime (number_in 0 (w.ms - 1) time.word)
   line_at w at time.rest
 
--- ---- one line behind another
+-- ---- one line after another
 
--- the lines so far, who is awake behind them, and the millisecond and the block of the last one
+-- the lines so far, the tasks awake after them, and the millisecond and the block of the last one
 pub record ProgressState : Type 0 where
   pub lines : List Line
   pub awake : List Bool
@@ -115,23 +115,23 @@ state_fault awake (event.SetWeight g x) = None
 state_fault awake (event.Tick c) = None
 state_fault awake event.Clock = None
 
--- why that line can't stand behind these, if it can't
+-- the fault of a line that can't come after these
 abbrev pub place_fault : ProgressState → Line → Option EventFault
 place_fault p l =
     if nat_le max_lines (length p.lines) then Some fault.TooMany
     else if comes_before l.at (block_of l.event) p.at p.block then Some fault.OutOfOrder
     else state_fault p.awake l.event
 
--- what there is, unless it has a fault
+-- the value, unless it has a fault
 abbrev pub unless : {A : Type 0} → Option EventFault → A → Told A
 unless (Some f) x = Err f
 unless None x = Ok x
 
--- a line that says something, behind these
+-- a line that says something, after these
 abbrev pub line_behind : ProgressState → Line → Told ProgressState
 line_behind p l = unless (place_fault p l) (with_line p l)
 
--- a line of the text behind these; an empty one says nothing
+-- a line of the text after these; an empty one says nothing
 abbrev pub text_behind : WorkloadState → ProgressState → List ℕ → Told ProgressState
 text_behind w p text =
     if length text == 0 then Ok p else (line_in w text >>= λ l. line_behind p l)

@@ -1,4 +1,4 @@
--- The reading of a file of events: unknown keys first, wherever they stand; then `cpus`, `ms`, the
+-- The reading of a file of events: unknown keys first, wherever they are; then `cpus`, `ms`, the
 -- groups and the tasks as in a workload, and `events`, line by line.
 use Rattle.std.specs.Prelude.{ℕ, ◌+◌, ⊤, List, [], ◌∷◌, ◌++◌, Result, Ok, Err, codes}
 use Rattle.std.specs.Str.Lines.{lines}
@@ -21,7 +21,7 @@ abbrev pub at_line : {A : Type 0} → ℕ → Result A EventFault → Reading A
 at_line n (Ok x) = Ok x
 at_line n (Err f) = refusal (codes "events") (cause.Event f n)
 
--- the lines from the n-th on, one behind another
+-- the lines from the n-th on, one after another
 unfoldable pub lines_from :
     WorkloadState → ℕ → ProgressState → List (List ℕ) → Reading ProgressState
 lines_from w n p [] = Ok p

@@ -1,11 +1,11 @@
--- A file of events: a workload's processors, groups and tasks, and lines of events.
+-- A file of events: a workload's CPUs, groups and tasks, and lines of events.
 use Rattle.std.specs.Prelude.{◌≡◌, ℕ, ◌<◌, ◌≤◌, ◌==◌, ◌&&◌, ◌||◌, nat_lt, Bool, true, false, List, [], ◌∷◌, length, replicate, slice_index_or, slice_set}
 use Rattle.scx_sched_machine.specs.declared.events.Event.{Event}
 use Rattle.scx_sched_machine.specs.declared.events.Event.TheVariants as event
 use Rattle.scx_load_workloads.specs.Workload.{WorkloadState, IsWorkload}
 use Rattle.scx_load_replay.specs.declared.lines.Line.{Line}
 
--- what a file of events says
+-- the content of a file of events
 pub record ReplayState : Type 0 where
   pub workload : WorkloadState
   pub lines : List Line
@@ -14,9 +14,9 @@ pub record ReplayState : Type 0 where
 abbrev pub max_lines : ℕ
 max_lines = 65536
 
--- ---- what may follow
+-- ---- the lines that may follow
 
--- the block of its millisecond to which an event belongs: weights, then wakes, then, behind the
+-- the block of its millisecond to which an event belongs: weights, then wakes, then, after the
 -- ticks, sleeps
 abbrev pub block_of : Event → ℕ
 block_of (event.SetWeight g x) = 0
@@ -34,7 +34,7 @@ comes_before at block other other_block =
 abbrev pub is_awake : List Bool → ℕ → Bool
 is_awake awake t = slice_index_or awake t false
 
--- who is awake after an event
+-- the tasks that are awake after an event
 abbrev pub awake_after : List Bool → Event → List Bool
 awake_after awake (event.Wake t) = slice_set awake t true
 awake_after awake (event.Sleep t) = slice_set awake t false
@@ -51,7 +51,7 @@ Fits w awake (event.SetWeight g x) = (g < length w.groups) × (1 ≤ x) × (x �
 Fits w awake (event.Tick c) = ⊥
 Fits w awake event.Clock = ⊥
 
--- lines behind an event of that millisecond and block, with these tasks awake: each comes before
+-- lines after an event of that millisecond and block, with these tasks awake: each comes before
 -- the end of the run, none before the line above it, and the event of each fits
 abbrev pub Follow : WorkloadState → ℕ → ℕ → List Bool → List Line → Type 0
 Follow w at block awake [] = Unit {0}
@@ -63,7 +63,7 @@ Follow w at block awake (l ∷ ls) =
 abbrev pub all_asleep : WorkloadState → List Bool
 all_asleep w = replicate (length w.homes) false
 
--- what holds of every file of events
+-- every file of events is whole
 pub record IsReplay (r : ReplayState) : Type 0 where
   pub workload : IsWorkload r.workload
   pub few_lines : length r.lines ≤ max_lines

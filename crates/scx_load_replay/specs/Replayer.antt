@@ -1,4 +1,4 @@
--- What is left of the events of a file.
+-- A replayer: the remaining events of a file.
 use Rattle.std.specs.Prelude.{ℕ, zero, suc, ◌+◌, ◌-◌, ◌≤◌, Bool, true, false, List, [], ◌∷◌, ◌++◌, drop, length, Option, Some, None, if◌then◌else◌}
 use Rattle.scx_sched_machine.specs.declared.events.Event.{Event}
 use Rattle.scx_sched_machine.specs.declared.events.Event.TheVariants as event
@@ -7,8 +7,8 @@ use Rattle.scx_load_replay.specs.declared.lines.Line.{Line}
 use Rattle.scx_load_replay.specs.declared.replayer.Replayer.TheInside.{Inside}
 use Rattle.scx_load_replay.specs.Events.{is_before_ticks, is_behind_ticks, first_events, lines_behind, ticks_from, events_from}
 
--- the milliseconds that aren't over, from m on, how many processors of the first have ticked,
--- and the lines that are left
+-- the milliseconds that aren't over, from m on, the number of CPUs that have ticked in the first,
+-- and the remaining lines
 pub record ReplayerState : Type 0 where
   pub cpus : ℕ
   pub m : ℕ
@@ -21,19 +21,19 @@ abbrev pub before_ticks : ℕ → ℕ → List Line → List Event
 before_ticks zero m ls = first_events (is_before_ticks m) ls
 before_ticks (suc n) m ls = []
 
--- the lines behind those
+-- the lines after those
 abbrev pub behind_before : ℕ → ℕ → List Line → List Line
 behind_before zero m ls = lines_behind (is_before_ticks m) ls
 behind_before (suc n) m ls = ls
 
--- what is left of a millisecond behind its ticks, and of so many milliseconds behind it
+-- the events of a millisecond after its ticks, and of this number of milliseconds after it
 abbrev pub behind_ticks : ℕ → ℕ → ℕ → List Line → List Event
 behind_ticks cpus n m ls =
     first_events (is_behind_ticks m) ls
     ++ event.Clock
     ∷ events_from cpus n (m + 1) (lines_behind (is_behind_ticks m) ls)
 
--- the events that are left of so many milliseconds
+-- the remaining events of this number of milliseconds
 abbrev pub remaining_of : ℕ → ℕ → ℕ → ℕ → List Line → List Event
 remaining_of cpus zero m ticked ls = []
 remaining_of cpus (suc n) m ticked ls =
@@ -41,13 +41,13 @@ remaining_of cpus (suc n) m ticked ls =
     ++ (ticks_from (cpus - ticked) ticked
     ++ behind_ticks cpus n m (behind_before ticked m ls))
 
--- the events that are left
+-- the remaining events
 abbrev pub remaining : ReplayerState → List Event
 remaining r = remaining_of r.cpus r.left r.m r.ticked r.lines
 
 -- ---- the next line
 
--- the line comes now: before the ticks of that millisecond, or behind them
+-- the line comes now: before the ticks of that millisecond, or after them
 abbrev pub is_due : Bool → ℕ → Line → Bool
 is_due false m l = is_before_ticks m l
 is_due true m l = is_behind_ticks m l
@@ -57,14 +57,14 @@ abbrev pub due_event : Bool → ℕ → List Line → Option Event
 due_event behind m [] = None
 due_event behind m (l ∷ ls) = if is_due behind m l then Some l.event else None
 
--- the lines that are left once it has come
+-- the lines that remain once it has come
 abbrev pub lines_left : Bool → ℕ → List Line → List Line
 lines_left behind m [] = []
 lines_left behind m (l ∷ ls) = if is_due behind m l then ls else l ∷ ls
 
 -- ---- fields
 
--- the state for which the fields stand
+-- the state that the fields mean
 abbrev pub state_of : Inside → ReplayerState
 state_of r = record {
   cpus = r.cpus;
@@ -74,7 +74,7 @@ state_of r = record {
   lines = drop r.taken r.lines.items;
 }
 
--- what holds of the fields
+-- the fields are whole
 pub record IsKept (r : Inside) : Type 0 where
   pub some_cpus : 1 ≤ r.cpus
   pub ticked : r.ticked ≤ r.cpus

@@ -1,9 +1,9 @@
-//! Files of events: processors, groups and tasks as in a workload, and lines that say when tasks wake and
-//! sleep and when weights change.
+//! Files of events: CPUs, groups and tasks as in a workload, and lines that say when tasks wake and sleep and
+//! when weights change.
 //!
-//! `read_replay` reads a file (TOML 1.1), or names its first fault and where it stands. `Replayer::next`
-//! answers the event that comes next: in each millisecond weights change, tasks wake, each processor ticks,
-//! tasks go to sleep, and the clock grows.
+//! `read_replay` reads a file (TOML 1.1), or names its first fault with its path. `Replayer::next` answers the
+//! next event: in each millisecond weights change, tasks wake, each CPU ticks, tasks go to sleep, and the
+//! clock grows.
 #![tactic(auto)]
 
 mod laws;

@@ -6,7 +6,7 @@ use scx_load_files::EventFault;
 use scx_load_workloads::{Workload, numeral};
 use scx_sched::Event;
 
-/// An event, and the millisecond at which it comes.
+/// An event, and its millisecond.
 #[derive(Clone, Copy)]
 pub struct Line {
     /// In ms.
@@ -15,7 +15,7 @@ pub struct Line {
 }
 
 impl Line {
-    /// Whether it comes behind the ticks of its millisecond.
+    /// True if it comes after the ticks of its millisecond.
     pub(crate) fn is_sleep(self) -> bool
         ensures { result ≡ is_sleep self.event }
     {
@@ -26,7 +26,7 @@ impl Line {
     }
 }
 
-/// What a line says.
+/// The event of a line, and its millisecond.
 pub(crate) fn line_in(workload: &Workload, text: &str) -> Result<Line, EventFault>
     ensures { result ≡ line_in workload.now text.now }
 {
@@ -40,7 +40,7 @@ pub(crate) fn line_in(workload: &Workload, text: &str) -> Result<Line, EventFaul
     line_at(workload, at, rest)
 }
 
-/// A line of that millisecond, whose text behind it says the event.
+/// The line of that millisecond whose text after it says the event.
 fn line_at(workload: &Workload, at: u32, text: &str) -> Result<Line, EventFault>
     ensures { result ≡ line_at workload.now at text.now }
 {

@@ -1,4 +1,4 @@
-//! Lines as they are read, one behind another.
+//! Lines as they are read, one after another.
 ghost use Rattle.std.specs.Prelude.{◌≡◌, slice_set, IfOk, OnOk};
 ghost use Rattle.scx_load_replay.specs.Replay.{block_of, comes_before, is_awake};
 ghost use Rattle.scx_load_replay.specs.Lines.{no_lines, with_line, state_fault, place_fault};
@@ -13,7 +13,7 @@ use std::alloc::{AllocError, Global};
 /// The most lines that say an event.
 const MAX_LINES: usize = 65_536;
 
-/// The lines so far, who is awake behind them, and where the last of them stands.
+/// The lines so far, the tasks that are awake after them, and the place of the last one.
 #[derive(Drop)]
 pub struct Progress {
     pub(crate) lines: Vec<Line>,
@@ -35,7 +35,7 @@ impl Progress {
         })
     }
 
-    /// Why the line can't stand behind these, if it can't.
+    /// The fault of a line that can't come after these.
     pub(crate) fn fault(&self, line: Line) -> Option<EventFault>
         ensures { result ≡ place_fault (progress_of self.now) line }
     {
@@ -48,7 +48,7 @@ impl Progress {
         self.state_fault(line.event)
     }
 
-    /// Whether the line would come before the last of these.
+    /// True if the line would come before the last of these.
     fn comes_before(&self, line: Line) -> bool
         ensures { result ≡ comes_before line.at (block_of line.event) self.now.at self.now.block }
     {
@@ -86,7 +86,7 @@ impl Progress {
         }
     }
 
-    /// The line stands behind these.
+    /// Adds the line after these.
     pub(crate) fn push(&mut self, line: Line) -> Result<(), AllocError>
         ensures { OnOk result (progress_of self.new ≡ with_line (progress_of self.old) line) }
     {

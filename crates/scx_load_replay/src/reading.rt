@@ -79,7 +79,7 @@ fn lines_of<'a>(alloc: Global, text: &'a str) -> Result<Vec<&'a str>, AllocError
     text.lines().collect(alloc)
 }
 
-/// What the lines of a text say, one behind another.
+/// Reads the lines of a text, one after another.
 fn read_lines(alloc: Global, workload: &Workload, text: &str) -> Result<Progress, LoadError>
     ensures { Gives (λ progress. progress_of progress) result (lines_in workload.now text.now) }
 {
@@ -94,7 +94,7 @@ fn read_lines(alloc: Global, workload: &Workload, text: &str) -> Result<Progress
     Ok(progress)
 }
 
-/// Reads the line of that number, from 1, behind others; an empty one says nothing.
+/// Reads the line of that number, from 1, after others; an empty one says nothing.
 fn read_line(
     alloc: Global,
     workload: &Workload,

@@ -7,7 +7,7 @@ use crate::replayer::Replayer;
 use scx_load_workloads::Workload;
 use std::marker::Model;
 
-/// A workload's processors, groups and tasks, and the lines of events.
+/// A workload's CPUs, groups and tasks, and the lines of events.
 #[derive(Drop)]
 pub struct Replay {
     pub(crate) workload: Workload,
@@ -27,14 +27,14 @@ impl Model for Replay {
 impl Replay {
     ghost use Rattle.scx_load_replay.specs.Replay.{IsReplay};
 
-    /// What holds of every file of events. The function does nothing: its contract is the law.
+    /// Every file of events is whole. The function does nothing: its contract is the law.
     pub fn is_whole(&self)
         ensures { IsReplay self.now }
     {
         let _lines = self.lines.len();
     }
 
-    /// Its processors, milliseconds, groups and tasks. No task has a time, and no weight changes.
+    /// Its CPUs, milliseconds, groups and tasks. No task has a time, and no weight changes.
     pub fn workload(&self) -> &Workload
         ensures { result.now ≡ self.now.workload }
     {

@@ -8,18 +8,18 @@ use std::marker::Model;
 
 /// The events of a file, one after another.
 ///
-/// In a contract it is the milliseconds that aren't over, how many processors of the first have ticked, and
-/// the lines that are left.
+/// In a contract it is the milliseconds that aren't over, the number of CPUs that have ticked in the first, and
+/// the remaining lines.
 #[derive(Drop)]
 pub struct Replayer {
     cpus: u32,
     lines: Vec<Line>,
-    /// How many lines were answered.
+    /// The number of lines that were answered.
     taken: usize,
     clock: u32,
-    /// How many milliseconds aren't over.
+    /// The number of milliseconds that aren't over.
     left: u32,
-    /// How many processors have ticked in the millisecond `clock`.
+    /// The number of CPUs that have ticked in the millisecond `clock`.
     ticked: u32,
 }
 
@@ -37,7 +37,7 @@ impl Replayer {
     ghost use Rattle.scx_load_replay.specs.Replayer.{remaining, due_event, lines_left};
     ghost use Rattle.scx_sched_machine.specs.declared.events.Event.TheVariants.{Tick, Clock};
 
-    /// All events of so many processors and milliseconds are still to come.
+    /// A replayer with all events of these CPUs, milliseconds and lines to come.
     #[tactic(auto, using(crate::proofs::Remaining::begun))]
     pub(crate) fn new(cpus: u32, ms: u32, lines: Vec<Line>) -> Replayer
         requires some { 1 ≤ cpus }
@@ -54,7 +54,7 @@ impl Replayer {
         }
     }
 
-    /// The event that comes next; none at the end.
+    /// The next event; none at the end.
     pub fn next(&mut self) -> Option<Event>
         ensures next { IfSome result (λ event. remaining self.old ≡ event ∷ remaining self.new) }
         ensures end { IfNone result (remaining self.old ≡ []) }
@@ -84,7 +84,7 @@ impl Replayer {
         }
     }
 
-    /// The next tick, or what comes behind all of them, where no line comes before them.
+    /// The next tick, or the event after all ticks, where no line comes before them.
     #[tactic(auto, using(crate::proofs::Remaining::is_tick, crate::proofs::Remaining::is_line_behind, crate::proofs::Remaining::is_clock))]
     fn tick_or_later(&mut self) -> Event
         requires some { 0 < self.old.left }
@@ -100,7 +100,7 @@ impl Replayer {
         }
     }
 
-    /// The event of the next line, if that comes now: before the ticks of this millisecond, or behind them.
+    /// The event of the next line, if that comes now: before the ticks of this millisecond, or after them.
     fn due(&mut self, behind: bool) -> Option<Event>
         ensures event { result ≡ due_event behind self.old.m self.old.lines }
         ensures rest { self.new
@@ -114,7 +114,7 @@ impl Replayer {
         Some(line.event)
     }
 
-    /// The next processor ticks.
+    /// The tick of the next CPU.
     fn tick(&mut self) -> Event
         requires { self.old.ticked < self.old.cpus }
         ensures event { result ≡ Tick self.old.ticked }
@@ -125,7 +125,7 @@ impl Replayer {
         Event::Tick(cpu)
     }
 
-    /// The clock grows.
+    /// The growing of the clock, which ends a millisecond.
     fn end_millisecond(&mut self) -> Event
         requires { 0 < self.old.left }
         ensures event { result ≡ Clock }

@@ -1,4 +1,4 @@
--- What the fields of a workload, and of its parts as they are read, mean.
+-- The meaning of the fields of a workload, and of its parts as they are read.
 use Rattle.std.specs.Prelude.{◌≡◌, ℕ, ◌<◌, ◌≤◌, List, String, length, map, string_bytes}
 use Rattle.std.specs.declared.alloc.Global.{Global}
 use Rattle.scx_load_workloads.specs.declared.workload.Workload.TheInside.{Inside}
@@ -11,7 +11,7 @@ use Rattle.scx_load_workloads.specs.Reading.{GroupList, TaskList}
 abbrev pub texts : List (String Global) → List (List ℕ)
 texts names = map (λ name. string_bytes name) names
 
--- the workload that the fields of a `Workload` stand for
+-- the workload that the fields of a `Workload` mean
 abbrev pub state_of : Inside → WorkloadState
 state_of w = record {
   cpus = w.cpus;
@@ -26,7 +26,7 @@ state_of w = record {
 
 -- ---- as they are read
 
--- the groups, with their names, that the fields of a `Groups` stand for
+-- the groups, with their names, that the fields of a `Groups` mean
 abbrev pub groups_of : InsideGroups → GroupList
 groups_of g = record { names = texts g.names.items; groups = g.groups.items }
 
@@ -35,7 +35,7 @@ pub record AreGroups (g : InsideGroups) : Type 0 where
   pub even : length g.names.items ≡ length g.groups.items
   pub few : length g.groups.items ≤ 256
 
--- the tasks, with their names, that the fields of a `Tasks` stand for
+-- the tasks, with their names, that the fields of a `Tasks` mean
 abbrev pub tasks_of : InsideTasks → TaskList
 tasks_of t =
     record { names = texts t.names.items; homes = t.homes.items; timings = t.timings.items }

@@ -1,4 +1,4 @@
--- What `cpu_max` of a group says: `MAX PERIOD` or `MAX`, a quota and the length of its periods in
+-- The texts of a group's `cpu_max`: `MAX PERIOD` or `MAX`, a quota and the length of its periods in
 -- microseconds (Linux Documentation/admin-guide/cgroup-v2.rst, `cpu.max`). That both are whole
 -- milliseconds is this project's own.
 use Rattle.std.specs.Prelude.{◌≡◌, ℕ, ◌≤◌, ◌+◌, ◌*◌, ◌/◌, ◌%◌, ◌^◌, Bool, true, ◌==◌, ◌&&◌, nat_lt, not, List, ◌∷◌, ◌++◌, length, take, drop, Option, Some, None, option_map, codes, if◌then◌else◌}
@@ -12,7 +12,7 @@ use Rattle.scx_load_workloads.specs.declared.limit.Limit.{Limit}
 abbrev pub no_limit : Limit
 no_limit = record { quota_ms = None; period_ms = 100 }
 
--- ---- what a text stands for
+-- ---- the meaning of a text
 
 -- one digit or more, and nothing else
 abbrev pub is_numeral : List ℕ → Bool
@@ -46,11 +46,11 @@ pub data Says (limit : Limit) : List ℕ → Type 0 where
 
 -- ---- how it is read
 
--- so many microseconds are whole milliseconds, 1 to the greatest
+-- these microseconds are whole milliseconds, 1 to the greatest
 abbrev pub is_time : ℕ → ℕ → Bool
 is_time most us = ((us % 1000) == 0) && not (is_outside most (us / 1000))
 
--- the milliseconds that so many microseconds are, if they are whole ones, 1 to the greatest
+-- microseconds in milliseconds, if these are whole, 1 to the greatest
 abbrev pub whole_ms : ℕ → ℕ → Option ℕ
 whole_ms most us = if is_time most us then Some (us / 1000) else None
 
@@ -69,7 +69,7 @@ limit_of None period = None
 limit_of (Some quota) None = None
 limit_of (Some quota) (Some period) = Some (record { quota_ms = quota; period_ms = period })
 
--- what a text says whose first space stands there
+-- the limit of a text whose first space is there
 abbrev pub limit_at : List ℕ → Option ℕ → Option Limit
 limit_at text None = limit_of (quota_in text) (Some 100)
 limit_at text (Some space) =

@@ -1,4 +1,4 @@
--- The reading of a workload file: unknown keys first, wherever they stand; then `cpus`, `ms`, the
+-- The reading of a workload file: unknown keys first, wherever they are; then `cpus`, `ms`, the
 -- groups, the tasks and the changes of weights, each element by itself.
 use Rattle.std.specs.Prelude.{ℕ, ◌+◌, Bool, List, [], ◌∷◌, ◌++◌, Option, Some, None, is_some, Ok, codes, if◌then◌else◌}
 use Rattle.std.specs.List.{list_any}
@@ -49,7 +49,7 @@ abbrev pub some_of : List ℕ → Items → Reading Items
 some_of path no_items = refusal path cause.Missing
 some_of path (item d ds) = Ok (item d ds)
 
--- the elements of the array at a key of the whole file: one at least, and at most so many
+-- the elements of the array at a key of the whole file: one at least, and at most this number
 abbrev pub some_elements : ℕ → List ℕ → Members → Reading Items
 some_elements most key ms = optional (elements_of most) no_items [] key ms >>= some_of key
 
@@ -129,7 +129,7 @@ with_group g path ms = do
 abbrev pub group_at : GroupList → ℕ → Data → Reading GroupList
 group_at g n d = table_of (element (codes "group") n) d >>= with_group g (element (codes "group") n)
 
--- the groups that the table of a file says, 1 to 256, each read behind those before it
+-- the groups that the table of a file says, 1 to 256, each read after those before it
 abbrev pub groups_in : Members → Reading GroupList
 groups_in ms = some_elements 256 (codes "group") ms >>= fold_from group_at no_groups 0
 

@@ -1,4 +1,4 @@
--- A workload: its groups and tasks, and what happens to them as time goes.
+-- A workload: its groups and tasks, the times of the tasks, and changes of weights.
 use Rattle.std.specs.Prelude.{◌≡◌, ℕ, ◌<◌, ◌≤◌, List, length, None, slice_index_or}
 use Rattle.scx_weights.specs.declared.group.Group.{Group}
 use Rattle.scx_weights.specs.Refusals.{first_fault}
@@ -34,7 +34,7 @@ pub record IsTiming (t : Timing) : Type 0 where
   pub run : t.run ≤ max_ms
   pub sleep : t.sleep ≤ max_ms
 
--- a change of a weight of one of so many groups
+-- a change of a weight of one of this number of groups
 pub record IsChange (groups : ℕ) (c : Change) : Type 0 where
   pub group : c.group < groups
   pub least : 1 ≤ c.weight

@@ -1,4 +1,4 @@
-//! Keys and arrays of a workload file, with what is known of their values.
+//! Keys and arrays of a workload file, and the limits of their values.
 ghost use Rattle.std.specs.Prelude.{◌≡◌, ◌≤◌, ◌<◌, [], None, IfOk, IfSome, length};
 ghost use Rattle.toml.specs.Data.{no_items};
 ghost use Rattle.toml.specs.View.{table_view, items_view};
@@ -48,7 +48,7 @@ pub(crate) fn integer_or(
     section.integer_or(alloc, key, limits, default)
 }
 
-/// The elements of an array that may be absent, at most so many.
+/// The elements of an array that may be absent, at most `most`.
 pub(crate) fn elements<'a>(
     alloc: Global,
     file: Section<'a>,
@@ -63,7 +63,7 @@ pub(crate) fn elements<'a>(
     file.elements(alloc, key, most)
 }
 
-/// The elements of an array that has some, at most so many.
+/// The elements of an array that has at least one, and at most `most`.
 #[tactic(auto, using(crate::proofs::Values::some_is_missing, crate::proofs::Values::some_is_there))]
 pub(crate) fn some_elements<'a>(
     alloc: Global,
@@ -84,7 +84,7 @@ pub(crate) fn some_elements<'a>(
     Ok(values)
 }
 
-/// The number of the first such name.
+/// The number of the first name that is this one.
 pub(crate) fn index_of(names: &[String], name: &str) -> Option<usize>
     ensures number { result ≡ index_of (texts names.now) name.now }
     ensures within { IfSome result (λ i. i < length names.now) }

@@ -63,7 +63,7 @@ impl Groups {
         }
     }
 
-    /// Adds the groups that elements say, behind none.
+    /// Adds the groups that elements say, before which there are none.
     #[tactic(auto, using(crate::proofs::Each::goes_on, crate::proofs::Each::ends, crate::proofs::Each::is_done))]
     fn push_all(&mut self, alloc: Global, values: &[Value]) -> Result<(), LoadError>
         requires none { self.old ≡ no_groups }
@@ -225,7 +225,7 @@ impl Groups {
     }
 }
 
-/// The name of an element, which none of these is. `Missing`, `WrongType`, `BadName` or `Twice`.
+/// The name of an element, which is none of these names. `Missing`, `WrongType`, `BadName` or `Twice`.
 pub(crate) fn new_name<'a>(
     alloc: Global,
     names: &[String],
@@ -255,7 +255,7 @@ fn two_above(groups: &[Group], group: u32) -> Option<u32>
     parent_of(groups, parent)
 }
 
-/// Whether a group below this one would be too deep.
+/// True if a group below this one would be too deep.
 fn is_deep(groups: &[Group], parent: u32) -> bool
     ensures { result ≡ is_deep groups.now parent }
 {

@@ -1,6 +1,6 @@
-//! Workloads: groups of tasks, when each task runs and sleeps, and how weights change.
+//! Workload files: groups of tasks, the times at which each task runs and sleeps, and changes of weights.
 //!
-//! `read_workload` reads a file (TOML 1.1), or names its first fault and where it stands.
+//! `read_workload` reads a file (TOML 1.1), or names its first fault with its path.
 #![tactic(auto)]
 
 mod elements;

@@ -1,4 +1,4 @@
-//! What `cpu_max` of a group says.
+//! The quota of a group: its key `cpu_max`.
 ghost use Rattle.std.specs.Prelude.{◌≡◌, ◌≤◌, Some, codes};
 ghost use Rattle.toml.specs.View.{view, table_view};
 ghost use Rattle.scx_load_files.specs.Faults.{Gives};
@@ -13,11 +13,11 @@ use scx_weights::{DEFAULT_PERIOD_MS, MAX_PERIOD_MS, MAX_QUOTA_MS};
 use std::alloc::Global;
 use toml::Value;
 
-/// How much processor time a group may use, and in how long a period
+/// The CPU time that a group may use in each period
 /// (Linux Documentation/admin-guide/cgroup-v2.rst, `cpu.max`).
 #[derive(Clone, Copy)]
 pub(crate) struct Limit {
-    /// In ms, 1 to 1,000,000; none for any time.
+    /// In ms, 1 to 1,000,000; none for no limit.
     pub(crate) quota_ms: Option<u32>,
     /// In ms, 1 to 1000.
     pub(crate) period_ms: u32,
@@ -38,7 +38,7 @@ pub(crate) fn read_limit(alloc: Global, section: Section<'_>) -> Result<Limit, L
     }
 }
 
-/// The limit that the value at a key says. `WrongType` or `OutOfRange`.
+/// The limit that the value at a key gives. `WrongType` or `OutOfRange`.
 fn limit_at(
     alloc: Global,
     section: Section<'_>,
@@ -65,7 +65,7 @@ fn limit_in(text: &str) -> Option<Limit>
     limit_of(quota, ms_in(period, MAX_PERIOD_MS)?)
 }
 
-/// What is read of a `cpu_max` is what its text says, and no text says two limits.
+/// The limit read from a `cpu_max` is the one that its text says, and no text says two limits.
 pub fn texts_say_one_limit()
     ensures { TextsSayOneLimit }
 {}
@@ -98,7 +98,7 @@ fn ms_in(text: &str, most: u32) -> Option<u32>
     whole_ms(numeral(text)?, most)
 }
 
-/// The milliseconds that so many microseconds are, if they are whole ones, 1 to the greatest.
+/// Microseconds in milliseconds, if these are whole, 1 to the greatest.
 fn whole_ms(us: u32, most: u32) -> Option<u32>
     ensures { result ≡ whole_ms most us }
 {

@@ -1,4 +1,4 @@
-//! Numbers that stand in texts as digits.
+//! Numbers written as digits.
 ghost use Rattle.std.specs.Prelude.{◌≡◌};
 ghost use Rattle.std.specs.Str.{all_ascii_digits};
 ghost use Rattle.scx_load_workloads.specs.Limit.{is_numeral, numeral};
@@ -16,7 +16,7 @@ pub fn numeral(text: &str) -> Option<u32>
     }
 }
 
-/// Whether the bytes are digits, one or more.
+/// True if the bytes are digits, one or more.
 fn is_numeral(bytes: &[u8]) -> bool
     ensures { result ≡ is_numeral bytes.now }
 {

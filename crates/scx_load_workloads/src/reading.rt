@@ -70,8 +70,8 @@ fn check_keys(alloc: Global, file: Section<'_>) -> Result<(), LoadError>
     unknown.refuse()
 }
 
-/// What the known keys of the table of a file say: `cpus`, `ms`, the groups, the tasks and the changes, in
-/// this order. Other keys aren't looked at.
+/// Reads the known keys of the table of a file: `cpus`, `ms`, the groups, the tasks and the changes, in this
+/// order. Other keys aren't looked at.
 #[tactic(auto, using(crate::proofs::Forest::tree_is_right))]
 pub fn read_known_keys(alloc: Global, file: Section<'_>) -> Result<Workload, LoadError>
     requires { file.path.now ≡ [] }

@@ -67,7 +67,7 @@ impl Tasks {
         }
     }
 
-    /// Adds the tasks that elements say, behind none.
+    /// Adds the tasks that elements say, before which there are none.
     #[tactic(auto, using(crate::proofs::Each::goes_on, crate::proofs::Each::ends, crate::proofs::Each::is_done))]
     fn push_all(
         &mut self,

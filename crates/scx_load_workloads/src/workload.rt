@@ -5,7 +5,7 @@ use crate::elements::index_of;
 use scx_weights::Group;
 use std::marker::Model;
 
-/// The most processors of a workload; the least is 1.
+/// The most CPUs of a workload; the least is 1.
 pub const MAX_CPUS: u32 = 64;
 
 /// The most milliseconds, of a whole workload and of each time in it.
@@ -14,18 +14,18 @@ pub const MAX_MS: u32 = 1_000_000;
 /// The most changes of weights in a workload.
 pub const MAX_CHANGES: usize = 1024;
 
-/// When a task works, in milliseconds, each at most `MAX_MS`.
+/// The times of a task, in milliseconds, each at most `MAX_MS`.
 #[derive(Clone, Copy)]
 pub struct Timing {
-    /// When it wakes first.
+    /// Its first wake.
     pub start: u32,
-    /// How long it runs before it sleeps; 0 where it never does.
+    /// The time it runs before it sleeps; 0 where it never sleeps.
     pub run: u32,
-    /// How long it sleeps.
+    /// The time it sleeps.
     pub sleep: u32,
 }
 
-/// A group has another weight from some millisecond on.
+/// A change of a group's weight at some millisecond.
 #[derive(Clone, Copy)]
 pub struct Change {
     pub at: u32,
@@ -33,7 +33,7 @@ pub struct Change {
     pub weight: u32,
 }
 
-/// Groups, tasks in them, and what happens to them.
+/// Groups, tasks in them, the times of the tasks, and changes of weights.
 ///
 /// Groups and tasks go by their numbers in the file. In a contract a workload is its lists: names are
 /// lists of bytes.
@@ -63,14 +63,14 @@ impl Model for Workload {
 impl Workload {
     ghost use Rattle.scx_load_workloads.specs.Workload.{IsWorkload};
 
-    /// What holds of every workload. The function does nothing: its contract is the law.
+    /// Every workload is whole. The function does nothing: its contract is the law.
     pub fn is_whole(&self)
         ensures { IsWorkload self.now }
     {
         let _cpus = self.cpus;
     }
 
-    /// How many processors there are, 1 to 64.
+    /// The number of CPUs, 1 to 64.
     pub fn cpus(&self) -> u32
         ensures { result ≡ self.now.cpus }
     {
@@ -78,7 +78,7 @@ impl Workload {
         cpus
     }
 
-    /// How many milliseconds it lasts, 1 to 1,000,000.
+    /// Its length in milliseconds, 1 to 1,000,000.
     pub fn ms(&self) -> u32
         ensures { result ≡ self.now.ms }
     {
@@ -100,7 +100,7 @@ impl Workload {
         &self.homes
     }
 
-    /// When each task runs and sleeps.
+    /// The times of each task.
     pub fn timings(&self) -> &[Timing]
         ensures { result.now ≡ self.now.timings }
     {
