@@ -1,6 +1,6 @@
--- How far a search came, and how it ends.
+-- The last level of a search, and its end.
 use Rattle.std.specs.Prelude.{◌≡◌, ℕ, ◌≤◌, true, Option, Some, None}
-use Rattle.scx_explore_machines.specs.declared.bounds.Bounds.{Bounds}
+use Rattle.scx_explore_bounds.specs.declared.bounds.Bounds.{Bounds}
 use Rattle.scx_explore.specs.declared.progress.Level.{Level}
 use Rattle.scx_explore.specs.declared.progress.Progress.{Progress}
 use Rattle.scx_explore.specs.declared.progress.Progress.TheVariants as progress

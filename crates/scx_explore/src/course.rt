@@ -2,26 +2,26 @@ ghost use Rattle.std.specs.Prelude.{IfSome, Some};
 ghost use Rattle.scx_explore.specs.Ends.{IsEndOf};
 
 use crate::progress::{Level, Progress};
-use scx_explore_machines::Bounds;
+use scx_explore_bounds::Bounds;
 
-/// How many depths are told, from the first one on.
+/// The number of depths that are told, from the first one on.
 const FIRST: usize = 64;
 
-/// And how many behind them, each twice as far as the one before.
+/// The number of depths after them, each twice as far as the one before.
 const DOUBLED: usize = 10;
 
-/// How a search has ended.
+/// The end of a search.
 #[derive(Clone, Copy)]
 pub enum End {
     /// No state is new.
     Ended,
-    /// Lists of so many steps were gone through.
+    /// Lists of that many steps were gone through.
     At(usize),
-    /// The same, and the states behind them don't fit.
+    /// Lists of that many steps were gone through, and the states after them don't fit.
     Full(usize),
 }
 
-/// How far a search has come, and is to go.
+/// The course of a search within bounds: the depths that it has come to.
 #[derive(Clone, Copy)]
 pub struct Course {
     pub bounds: Bounds,
@@ -51,7 +51,7 @@ impl Course {
         &self.levels
     }
 
-    /// Lists of so many steps were gone through.
+    /// Lists of that many steps were gone through.
     pub fn done(&self) -> usize
         ensures { result ≡ done_of self.now.last }
     {
@@ -61,7 +61,7 @@ impl Course {
         }
     }
 
-    /// How the search has ended behind what it did at last, if it has.
+    /// The end of the search after its last progress, if it has ended.
     pub fn end_after(&mut self, progress: Progress) -> Option<End>
         ensures bounds { self.new.bounds ≡ self.old.bounds }
         ensures last { self.new.last ≡ level_after self.old.last progress }
@@ -77,7 +77,7 @@ impl Course {
         }
     }
 
-    /// That is the last depth now.
+    /// Sets the last depth.
     fn go_on_to(&mut self, level: Level)
         ensures bounds { self.new.bounds ≡ self.old.bounds }
         ensures last { self.new.last ≡ Some level }
@@ -89,7 +89,7 @@ impl Course {
     }
 }
 
-/// Keeps the level where its depth is told behind a further one.
+/// Keeps the level, if its depth is told.
 fn keep(levels: &mut [Option<Level>], level: Level) {
     if let Some(place) = place_of(level.depth) {
         if let Some(kept) = levels.get_mut(place) {
@@ -98,7 +98,7 @@ fn keep(levels: &mut [Option<Level>], level: Level) {
     }
 }
 
-/// How a search has ended that has come to that level, if it has.
+/// The end of a search that has come to that level, if it has ended.
 fn end_at(level: Level, bounds: Bounds) -> Option<End>
     ensures { IfSome result (IsEndOf bounds (Some level)) }
 {
@@ -111,7 +111,7 @@ fn end_at(level: Level, bounds: Bounds) -> Option<End>
     }
 }
 
-/// Where the depth stands among those that are told, if it is one of them.
+/// The place of the depth among those that are told, if it is one of them.
 fn place_of(depth: usize) -> Option<usize> {
     if 1 <= depth && depth <= FIRST {
         return Some(depth - 1);

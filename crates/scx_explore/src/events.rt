@@ -1,6 +1,8 @@
 use crate::search::Search;
-use scx_explore_machines::{Memory, twins_of};
-use scx_explore_states::{Step, Tasks, Watched, Way};
+use scx_explore_bounds::{Memory, twins_of};
+use scx_explore_findings::Watched;
+use scx_explore_machines::Way;
+use scx_explore_states::{Step, Tasks};
 use scx_sched::Event;
 
 /// A state from which events are tried.
@@ -79,7 +81,7 @@ impl Search {
         self.enter_behind(machine, &mut memory, way)
     }
 
-    /// Enters the state behind what was watched.
+    /// Enters the state after the events that were watched.
     pub(crate) fn enter_behind(&mut self, machine: usize, memory: &mut Memory, way: Way) -> usize {
         memory.began = self.kept_began(self.look.watch.watched().began);
         self.enter(machine, memory, way)
@@ -90,7 +92,7 @@ impl Search {
         if self.finds.is_overtaken() { 0 } else { began }
     }
 
-    /// Whether so many more wakes or sleeps may be.
+    /// True if there may be a wake or a sleep of each of these tasks.
     pub(crate) fn may_use(&self, memory: Memory, tasks: Tasks) -> bool {
         match self.bounds.few {
             Some(few) => memory.used.saturating_add(u64::from(tasks.count())) <= u64::from(few),

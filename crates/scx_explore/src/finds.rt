@@ -2,13 +2,13 @@ use crate::progress::Found;
 use scx_explore_findings::{Finding, Sort};
 use scx_isa::{CALLBACKS, Callback};
 
-/// How many sorts there are.
+/// The number of sorts.
 const SORT_COUNT: usize = 11;
 
-/// How many callbacks of a policy there are.
+/// The number of callbacks of a policy.
 const CALLBACK_COUNT: usize = 7;
 
-/// Where the steps to the longest wait are kept, behind those to what was found of each sort.
+/// The list of the steps to the longest wait, after those to the findings of each sort.
 pub(crate) const WAIT_LIST: usize = SORT_COUNT;
 
 /// Where those to the most instructions of the first callback are kept.
@@ -17,11 +17,11 @@ pub(crate) const MOST_LIST: usize = WAIT_LIST + 1;
 /// To how many findings steps are kept.
 pub(crate) const LISTS: usize = MOST_LIST + CALLBACK_COUNT;
 
-/// What was found up to now.
+/// All findings up to now.
 #[derive(Clone, Copy)]
 pub(crate) struct Finds {
     found: [Option<Found>; SORT_COUNT],
-    /// How many sorts were found.
+    /// The number of sorts that were found.
     count: usize,
     /// The longest wait.
     wait: Option<Found>,
@@ -48,7 +48,7 @@ impl Finds {
         }
     }
 
-    /// How many sorts were found.
+    /// The number of sorts that were found.
     pub(crate) fn count(&self) -> usize {
         self.count
     }
@@ -62,13 +62,13 @@ impl Finds {
         false
     }
 
-    /// Whether a task was overtaken twice.
+    /// True if a task was overtaken twice.
     #[inline(always)]
     pub(crate) fn is_overtaken(&self) -> bool {
         self.is_overtaken
     }
 
-    /// Whether it is of a sort of which nothing was found.
+    /// True if it is of a sort of which nothing was found.
     pub(crate) fn is_new(&self, finding: Finding) -> bool {
         match finding.sort() {
             Some(sort) => !self.has_found(sort),
@@ -91,7 +91,7 @@ impl Finds {
         self.wait
     }
 
-    /// How long the longest wait is.
+    /// The longest wait.
     #[inline(always)]
     pub(crate) fn wait_ms(&self) -> u64 {
         let ms = self.wait_ms;

@@ -6,23 +6,22 @@
 //! how far a search has come. `starts_of` looks at what happens before any event.
 #![tactic(auto)]
 
-mod again;
-mod along;
 mod course;
 mod events;
 mod finds;
-mod forms;
-mod looking;
 mod milliseconds;
+mod observing;
 mod progress;
+mod revisiting;
 mod search;
 mod starts;
+mod trail;
 
 pub use course::{Course, End};
-pub use forms::form_of;
 pub use progress::{Found, Level, Progress};
-pub use scx_explore_findings::{Finding, SORTS, Sort, shows};
-pub use scx_explore_machines::{Bounds, MOST_CHANGES, Mode};
-pub use scx_explore_states::{Form, MOST_TASKS, Pair, Step, Tasks, Way};
+pub use scx_explore_bounds::{Bounds, MOST_CHANGES, Mode, form_of};
+pub use scx_explore_findings::{Finding, Pair, SORTS, Sort, shows};
+pub use scx_explore_machines::Way;
+pub use scx_explore_states::{Form, MOST_TASKS, Step, Tasks};
 pub use search::Search;
 pub use starts::{Starts, starts_of};

@@ -1,6 +1,8 @@
 use crate::search::Search;
-use scx_explore_machines::{Choice, Memory, Mode, Ticks};
-use scx_explore_states::{Step, Tasks, Watched, Way};
+use scx_explore_bounds::{Choice, Memory, Mode, Ticks};
+use scx_explore_findings::Watched;
+use scx_explore_machines::Way;
+use scx_explore_states::{Step, Tasks};
 use scx_sched::Event;
 
 /// A millisecond as far as its sleeps.
@@ -10,7 +12,7 @@ struct Begun {
     wakes: Tasks,
     memory: Memory,
     ran: Ticks,
-    /// How many events it had.
+    /// The number of its events.
     part: usize,
     watched: Watched,
 }

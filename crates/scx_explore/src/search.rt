@@ -1,16 +1,12 @@
-ghost use Rattle.std.specs.Prelude.{◌≡◌, length, All};
-ghost use Rattle.scx_explore_machines.specs.Events.{most_events};
-ghost use Rattle.scx_explore_path.specs.Path.{IsAs};
+ghost use Rattle.std.specs.Prelude.{◌≡◌, length};
+ghost use Rattle.scx_explore_bounds.specs.Events.{most_events};
 
 use crate::finds::{Finds, LISTS};
 use crate::progress::{Found, Level, Progress};
-use scx_explore_findings::Sort;
-use scx_explore_machines::{
-    Again, Bounds, Changes, Look, Machines, Memory, Mode, Most, Origin, count_of, event_at,
-    most_events, places, push,
-};
-use scx_explore_path::Pool;
-use scx_explore_states::{Entered, Form, QueueNumbers, Seen, Step, Watch, Way, Words};
+use scx_explore_bounds::{Bounds, Changes, Memory, Mode, count_of, event_at, most_events, places};
+use scx_explore_findings::{Sort, Watch};
+use scx_explore_machines::{Entered, Look, Machines, Most, Origin, Revisits, Seen, Way, push};
+use scx_explore_states::{Form, QueueNumbers, Step, Words};
 use scx_isa::Callback;
 use scx_load_workloads::Workload;
 use scx_sched::{Event, Sim};
@@ -48,8 +44,8 @@ pub struct Search {
     /// The first state of the next depth.
     pub(crate) end: usize,
     pub(crate) events: u64,
-    pub(crate) again: Again,
-    /// Whether it can't go on.
+    pub(crate) revisits: Revisits,
+    /// True if it can't go on.
     pub(crate) full: bool,
 }
 
@@ -59,7 +55,7 @@ impl Model for Search {
     ghost view = { λ s. tt };
 }
 
-/// What a search keeps beside its machines.
+/// The tables of a search beside its machines.
 #[derive(Drop)]
 struct Tables {
     watch: Watch,
@@ -67,7 +63,7 @@ struct Tables {
     seen: Seen,
     words: Words,
     stops: Vec<Stop>,
-    again: Again,
+    revisits: Revisits,
 }
 
 impl Tables {
@@ -89,7 +85,7 @@ impl Tables {
             seen: Seen::new(alloc, width, room)?,
             words: Words::new(alloc, width)?,
             stops: Vec::with_capacity(alloc, bounds.depth)?,
-            again: Again::new(alloc, LISTS)?,
+            revisits: Revisits::new(alloc, LISTS)?,
         })
     }
 }
@@ -102,7 +98,7 @@ fn begun(form: Form, bounds: Bounds, tables: Tables, machines: Machines) -> Sear
         seen,
         words,
         stops,
-        again,
+        revisits,
     } = tables;
     let mut machines = machines;
     let hand = machines.take_or_0();
@@ -115,7 +111,7 @@ fn begun(form: Form, bounds: Bounds, tables: Tables, machines: Machines) -> Sear
         seen,
         look: Look {
             watch,
-            most: Most::NONE,
+            most: Most::none(),
         },
         words,
         finds: Finds::NONE,
@@ -126,7 +122,7 @@ fn begun(form: Form, bounds: Bounds, tables: Tables, machines: Machines) -> Sear
         next: 0,
         end: 0,
         events: 0,
-        again,
+        revisits,
         full: hand == other_hand,
     };
     search.enter_first();
@@ -134,8 +130,8 @@ fn begun(form: Form, bounds: Bounds, tables: Tables, machines: Machines) -> Sear
 }
 
 impl Search {
-    /// A search from the first state of that machine, in so many bytes and with these machines. Of these there have
-    /// to be four at least; the more there are, the fewer events are done again. The machine is the workload's. All
+    /// A search from the first state of that machine, which is the workload's, in `bytes` bytes and with `machines`
+    /// copies of the machine. It takes four copies at least; the more there are, the fewer events are done again. All
     /// memory is taken here.
     ///
     /// # Errors
@@ -146,17 +142,14 @@ impl Search {
         form: Form,
         bounds: Bounds,
         root: Sim,
-        sims: Vec<Sim>,
+        machines: usize,
         workload: &Workload,
         bytes: usize,
-    ) -> Result<Search, AllocError>
-        requires { All (IsAs root) sims.items }
-    {
+    ) -> Result<Search, AllocError> {
         match Tables::new(alloc, form, bounds, &root, workload, bytes) {
-            Ok(tables) => Search::of_tables(alloc, form, bounds, tables, Pool::new(root, sims)),
+            Ok(tables) => Search::of_tables(alloc, form, bounds, tables, root, machines),
             Err(error) => {
                 drop(root);
-                drop(sims);
                 Err(error)
             }
         }
@@ -167,10 +160,11 @@ impl Search {
         form: Form,
         bounds: Bounds,
         tables: Tables,
-        pool: Pool,
+        root: Sim,
+        machines: usize,
     ) -> Result<Search, AllocError> {
         let first = Memory::new(tables.changes.first());
-        match Machines::new(alloc, pool, first) {
+        match Machines::new(alloc, root, machines, first) {
             Ok(machines) => Ok(begun(form, bounds, tables, machines)),
             Err(error) => {
                 drop(tables);
@@ -203,12 +197,12 @@ impl Search {
         }
     }
 
-    /// Whether tasks of a group aren't told apart: states in which they have changed places count as one.
+    /// True if tasks of a group aren't told apart: states in which they have changed places count as one.
     pub fn are_tasks_alike(&self) -> bool {
         !self.form.names
     }
 
-    /// How states are written.
+    /// The form in which states are written.
     pub fn form(&self) -> Form {
         self.form
     }
@@ -223,17 +217,17 @@ impl Search {
         &self.seen
     }
 
-    /// Whether each state that was met is kept.
+    /// True if each state that was met is kept.
     pub fn keeps_all(&self) -> bool {
-        !self.again.is_closed()
+        !self.revisits.is_closed()
     }
 
-    /// How many states were met so far.
+    /// The number of states that were met so far.
     pub fn states(&self) -> usize {
         self.seen.len()
     }
 
-    /// How many bytes they take, with the ways to them and the places where they are looked for.
+    /// The bytes that they take, with the ways to them and the places where they are looked for.
     pub fn bytes(&self) -> usize {
         let words = self.seen.width();
         words
@@ -242,17 +236,17 @@ impl Search {
             .saturating_mul(self.seen.len())
     }
 
-    /// What was found as the first, the second or a further one; none where so much wasn't found yet.
+    /// The finding of that number, from 0; none if there are no more.
     pub fn found(&self, place: usize) -> Option<Found> {
         self.finds.found(place)
     }
 
-    /// Whether something of that sort was found.
+    /// True if something of that sort was found.
     pub fn has_found(&self, sort: Sort) -> bool {
         self.finds.has_found(sort)
     }
 
-    /// The longest wait of a task behind the clock of some millisecond, where milliseconds are gone through and some
+    /// The longest wait of a task after the clock of some millisecond, where milliseconds are gone through and some
     /// task waits.
     pub fn longest_wait(&self) -> Option<Found> {
         self.finds.wait()
@@ -265,17 +259,17 @@ impl Search {
 
     /// Goes through one more state, or on to the next depth.
     pub fn go_on(&mut self) -> Progress {
-        if self.full || self.again.is_used_up(self.events) {
+        if self.full || self.revisits.is_used_up(self.events) {
             return Progress::Full;
         }
         if self.go_next() {
             return Progress::Going;
         }
-        if self.go_again() {
+        if self.revisit_next() {
             return Progress::Going;
         }
-        let ended = self.seen.len() == self.end && !self.again.has_more();
-        self.again.deepen();
+        let ended = self.seen.len() == self.end && !self.revisits.has_more();
+        self.revisits.deepen();
         self.end = self.seen.len();
         self.depth = self.depth.saturating_add(1);
         self.machines.deepen();
@@ -283,7 +277,7 @@ impl Search {
             depth: self.depth,
             states: self.end,
             events: self.events,
-            again: self.again.count(),
+            again: self.revisits.count(),
             ended,
         })
     }
@@ -295,7 +289,7 @@ impl Search {
             return false;
         }
         self.next = state.saturating_add(1);
-        self.again.begin(Origin { state, depth });
+        self.revisits.begin(Origin { state, depth });
         let machine = self.machines.of(state);
         self.go_through(machine);
         true
@@ -303,11 +297,11 @@ impl Search {
 
     /// Goes on from the state at hand, by its machine, if it has one.
     pub(crate) fn go_through(&mut self, machine: Option<usize>) {
-        let state = self.again.origin().state;
+        let state = self.revisits.origin().state;
         if let Some(machine) = machine {
             let left = self.go_from(state, machine, true);
             self.machines.free(left);
-        } else if let Some(machine) = self.come_again() {
+        } else if let Some(machine) = self.revisit_machine() {
             self.go_from(state, machine, false);
         } else {
             self.full = true;
@@ -325,7 +319,7 @@ impl Search {
         }
     }
 
-    /// Whether states that are met now are gone through.
+    /// True if states that are met now aren't expanded.
     fn is_last(&self) -> bool {
         self.depth.saturating_add(1) >= self.bounds.depth
     }
@@ -336,7 +330,7 @@ impl Search {
             .write(self.machines.sim(machine), memory.began, &mut self.words);
         let tasks = self.machines.sim(machine).tasks();
         memory.write(self.bounds, tasks, self.changes.are_some(), &mut self.words);
-        if self.again.is_closed() {
+        if self.revisits.is_closed() {
             if self.seen.number_of(self.words.as_slice()).is_some() {
                 return machine;
             }
@@ -362,8 +356,8 @@ impl Search {
         events.clear();
         self.write_back(found.way.step, found.part, events);
         let between = found.between;
-        for behind in 0..between.count {
-            if let Some(step) = self.again.step_before(between, behind) {
+        for back in 0..between.count {
+            if let Some(step) = self.revisits.step_before(between, back) {
                 self.write_back(step, usize::MAX, events);
             }
         }
@@ -378,13 +372,13 @@ impl Search {
         events.as_mut_slice().reverse();
     }
 
-    /// Writes so many of the events of a step, the last one first.
+    /// Writes at most `most` events of a step, the last one first.
     fn write_back(&self, step: Step, most: usize, events: &mut Vec<Event>) {
         let cpus = self.machines.sim(0).cpus();
         let mut skip = count_of(step, cpus).saturating_sub(most);
         let count = places(step, cpus);
-        for behind in 0..count {
-            let Some(event) = event_at(step, cpus, count - 1 - behind) else {
+        for back in 0..count {
+            let Some(event) = event_at(step, cpus, count - 1 - back) else {
                 continue;
             };
             if skip > 0 {

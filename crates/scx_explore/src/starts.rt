@@ -1,5 +1,5 @@
+use scx_explore_findings::Watch;
 use scx_explore_machines::{Look, Most};
-use scx_explore_states::Watch;
 use scx_isa::Callback;
 use scx_load_policies::{build, read_policy};
 use scx_load_workloads::Workload;
@@ -11,7 +11,7 @@ use std::alloc::{AllocError, Global};
 #[derive(Clone, Copy)]
 pub struct Starts {
     pub init: Option<u64>,
-    /// Of all tasks.
+    /// The most of all tasks.
     pub enable: Option<u64>,
 }
 
@@ -49,7 +49,7 @@ fn starts_with(
 ) -> Result<Starts, AllocError> {
     let mut look = Look {
         watch: Watch::new(workload.tasks()),
-        most: Most::NONE,
+        most: Most::none(),
     };
     match Sim::new_seen(alloc, policy, tree, workload.cpus(), &mut look) {
         Ok(sim) => {

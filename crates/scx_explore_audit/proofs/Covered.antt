@@ -7,7 +7,7 @@ use Rattle.scx_sched_machine.specs.declared.events.Event.{Event}
 use Rattle.scx_sched.specs.Sim.{SimState, after_event}
 use Rattle.scx_load_driver.specs.Runs.{stepped_all, AreAccepted}
 use Rattle.scx_explore_findings.specs.declared.finding.Sort.{Sort}
-use Rattle.scx_explore_states.specs.Seen.{state_at}
+use Rattle.scx_explore_machines.specs.Seen.{state_at}
 use Rattle.scx_explore_states.specs.Written.{IsWritten}
 use Rattle.scx_explore_audit.specs.declared.table.Moves.{Moves}
 use Rattle.scx_explore_audit.specs.declared.table.Moves.TheVariants.{Events}

@@ -1,6 +1,6 @@
+mod Skipping
 mod Covered
-mod Going
+mod TriedPaths
 mod Numbered
 mod Passing
 mod Settled
-mod Skipping

@@ -10,9 +10,9 @@ use Rattle.scx_sched_machine.specs.declared.events.Event.{Event}
 use Rattle.scx_sched.specs.Once.{AreInQueues}
 use Rattle.scx_sched.specs.Sim.{SimState, after_event}
 use Rattle.scx_load_driver.specs.Runs.{stepped_all}
-use Rattle.scx_explore_path.specs.Path.{PathState, machine_of}
-use Rattle.scx_explore_path.proofs.Small.{HasSize}
-use Rattle.scx_explore_path.proofs.Sized.{sized_after}
+use Rattle.scx_explore_findings.specs.Path.{PathState, machine_of}
+use Rattle.scx_explore_findings.proofs.WorldSizes.{HasSize}
+use Rattle.scx_explore_findings.proofs.EventSizes.{sized_after}
 use Rattle.scx_explore_states.specs.Words.{HasNumbers, number_in, met, most_queues}
 use Rattle.scx_explore_audit.specs.Closed.{AreQueuesOf}
 

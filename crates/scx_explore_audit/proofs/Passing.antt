@@ -5,14 +5,15 @@ use Rattle.scx_sched_machine.specs.declared.events.Event.{Event}
 use Rattle.scx_sched_machine.specs.declared.events.Event.TheVariants.{Wake, Sleep, Tick, Clock, SetWeight}
 use Rattle.scx_sched.specs.Sim.{SimState, refusal, after_event}
 use Rattle.scx_explore_findings.specs.declared.finding.Sort.{Sort}
-use Rattle.scx_explore_path.specs.Path.{PathState, machine_of, went_back, went_on}
-use Rattle.scx_explore_audit.specs.declared.along.Went.TheVariants.{There, Over}
+use Rattle.scx_explore_findings.specs.Path.{PathState, machine_of, went_back, went_on}
+use Rattle.scx_explore_audit.specs.declared.advance.Went.TheVariants.{There, Over}
 use Rattle.scx_explore_audit.specs.declared.table.Moves.{Moves}
 use Rattle.scx_explore_audit.specs.declared.table.Moves.TheVariants.{Events, Milliseconds}
 use Rattle.scx_explore_audit.specs.Claims.{IsTried, AreFree, TaskSet, of_tasks, ticks, millisecond, IsMillisecond, IsMove}
 use Rattle.scx_explore_audit.specs.Closed.{Claim, IsMet, IsWithin, LeadsBack}
 use Rattle.scx_explore_audit.specs.Steps.{Comes, IsSeen, from_wake, from_tick, from_sleep}
-use Rattle.scx_explore_audit.proofs.Going.{machine_behind, there_and_back, went_root}
+use Rattle.scx_explore_findings.proofs.CommonBeginnings.{went_root}
+use Rattle.scx_explore_audit.proofs.TriedPaths.{machine_behind, there_and_back}
 
 -- ---- what comes of an event
 

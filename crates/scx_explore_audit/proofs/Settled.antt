@@ -7,9 +7,9 @@ use Rattle.std.proofs.lemmas.List.Elements.{All-nil}
 use Rattle.scx_sched_machine.specs.declared.events.Event.{Event}
 use Rattle.scx_sched.specs.Sim.{SimState}
 use Rattle.scx_load_driver.specs.Runs.{AreAccepted}
-use Rattle.scx_explore_path.specs.Path.{PathState, machine_of, went_back}
+use Rattle.scx_explore_findings.specs.Path.{PathState, machine_of, went_back}
 use Rattle.scx_explore_states.specs.declared.form.Form.{Form}
-use Rattle.scx_explore_states.specs.Seen.{state_at}
+use Rattle.scx_explore_machines.specs.Seen.{state_at}
 use Rattle.scx_explore_states.specs.Written.{IsWritten}
 use Rattle.scx_explore_audit.specs.Claims.{IsMove, IsTried}
 use Rattle.scx_explore_audit.specs.Closed.{Claim, IsMet, IsWithin, LeadsBack, IsDone, IsSettled, IsClosed, Respects, depth_at}

@@ -11,8 +11,8 @@ use Rattle.scx_sched_machine.specs.declared.events.Refused.TheVariants.{RunOver,
 use Rattle.scx_sched_machine.specs.Events as machine
 use Rattle.scx_sched.specs.Sim.{SimState, max_events, refusal, stepped_if, after_event}
 use Rattle.scx_explore_findings.specs.declared.finding.Sort.{Sort}
-use Rattle.scx_explore_path.proofs.Small.{HasSize}
-use Rattle.scx_explore_path.proofs.Sized.{sized_after}
+use Rattle.scx_explore_findings.proofs.WorldSizes.{HasSize}
+use Rattle.scx_explore_findings.proofs.EventSizes.{sized_after}
 use Rattle.scx_explore_audit.specs.declared.table.Moves.{Moves}
 use Rattle.scx_explore_audit.specs.declared.table.Moves.TheVariants.{Events, Milliseconds}
 use Rattle.scx_explore_audit.specs.Claims.{TaskSet, of_tasks, ticks, millisecond, IsMillisecond, IsMove, AreFree, ShowsNone, ShowsNoneAtFirst, accepted_of, list_of}

@@ -1,4 +1,4 @@
--- Which lists of events are spoken of, and what none of them shows.
+-- The lists of events of a claim, and the findings that none of them shows.
 use Rattle.std.specs.Prelude.{◌≡◌, ℕ, zero, suc, ◌<◌, Bool, ⊤, List, [], ◌∷◌, ◌++◌, length, All, None, Some, is_none, if◌then◌else◌}
 use Rattle.scx_sched_machine.specs.declared.events.Event.{Event}
 use Rattle.scx_sched_machine.specs.declared.events.Event.TheVariants.{Wake, Sleep, Tick, Clock, SetWeight}
@@ -23,18 +23,18 @@ IsTried r (SetWeight g w) = ⊥
 abbrev pub TaskSet : Type 0
 TaskSet = ℕ → Bool
 
--- of so many tasks from that one on the event of each that is of the set, by number
+-- for each of n tasks from that one on that is of the set, its event, by number
 abbrev pub of_tasks : (ℕ → Event) → TaskSet → ℕ → ℕ → List Event
 of_tasks event set t zero = []
 of_tasks event set t (suc n) =
     (if set t then event t ∷ [] else []) ++ of_tasks event set (suc t) n
 
--- of so many processors from that one on a tick of each, by number
+-- a tick of each of n CPUs from that one on, by number
 abbrev pub ticks : ℕ → ℕ → List Event
 ticks c zero = []
 ticks c (suc n) = Tick c ∷ ticks (suc c) n
 
--- a millisecond of so many tasks and processors: those of the one set wake, each processor ticks,
+-- a millisecond of these tasks and CPUs: the tasks of the one set wake, each CPU ticks,
 -- those of the other set go to sleep, and the clock grows
 abbrev pub millisecond : ℕ → ℕ → TaskSet → TaskSet → List Event
 millisecond tasks cpus wakes sleeps =
@@ -74,7 +74,7 @@ abbrev pub AreFree : List Sort → SimState → Event → Type 0
 AreFree sorts s e = All (λ x. IsFree x s e) sorts
 
 -- as far as the events of the list are accepted and the policy stays in force, none of them shows
--- anything of these sorts; behind an event that is refused nothing is said
+-- anything of these sorts; after an event that is refused nothing is said
 abbrev pub ShowsNoneAtFirst : List Sort → SimState → List Event → Type 0
 ShowsNoneAtFirst sorts s [] = ⊤
 ShowsNoneAtFirst sorts s (e ∷ es) =

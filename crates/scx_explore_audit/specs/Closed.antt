@@ -1,4 +1,4 @@
--- Tables of states that are closed, and what is presumed of their words.
+-- Closed tables of states, and the premise about their words.
 use Rattle.std.specs.Prelude.{◌≡◌, ℕ, ◌+◌, ◌<◌, ◌≤◌, ⊤, true, List, [], ◌∷◌, length, slice_index, All, Option, None, Some, IfSome}
 use Rattle.scx_dsq.specs.Queues.{exists}
 use Rattle.scx_sched_machine.specs.declared.events.Event.{Event}
@@ -6,7 +6,7 @@ use Rattle.scx_sched.specs.Sim.{SimState, refusal, after_event}
 use Rattle.scx_load_driver.specs.Runs.{stepped_all, AreAccepted}
 use Rattle.scx_explore_findings.specs.declared.finding.Sort.{Sort}
 use Rattle.scx_explore_states.specs.declared.form.Form.{Form}
-use Rattle.scx_explore_states.specs.Seen.{Kept, state_at}
+use Rattle.scx_explore_machines.specs.Seen.{Kept, state_at}
 use Rattle.scx_explore_states.specs.Words.{most_queues}
 use Rattle.scx_explore_states.specs.Written.{IsWritten}
 use Rattle.scx_explore_audit.specs.declared.table.Moves.{Moves}
@@ -45,7 +45,7 @@ claim_of c = record {
 abbrev pub depth_at : Claim → ℕ → ℕ
 depth_at c k = slice_index c.depths k
 
--- a list of so many moves may have one more
+-- a list of n moves may have one more
 abbrev pub IsWithin : Option ℕ → ℕ → Type 0
 IsWithin None n = ⊤
 IsWithin (Some limit) n = n < limit
@@ -75,7 +75,7 @@ pub record IsNear (root : SimState) (room : ℕ) (s : SimState) : Type 0 where
   pub force : s.state.world.ejected ≡ None
   pub few : length events < room
 
--- each of the events is accepted, and the policy stays in force behind each
+-- each of the events is accepted, and the policy stays in force after each
 abbrev pub IsSurvived : SimState → List Event → Type 0
 IsSurvived s [] = ⊤
 IsSurvived s (e ∷ es) =
@@ -85,8 +85,8 @@ IsSurvived s (e ∷ es) =
 -- ---- what is presumed
 
 -- What the events do in the first state a move does in the second one, as far as anything is said
--- of it: they show nothing where it doesn't, and what stands for the state behind it stands for the
--- one behind them. The second list may go on where the first one ends: where a task waited too
+-- of it: they show nothing where it doesn't, and words of the state after it are words of the
+-- one after them. The second list may go on where the first one ends: where a task waited too
 -- long.
 pub record IsMatched
     (f : Form) (ids : List ℕ) (moves : Moves) (sorts : List Sort) (root s t : SimState)
@@ -116,7 +116,7 @@ Respects f ids moves sorts root room =
 
 -- ---- what is audited
 
--- words that stand for the state are kept, and no more moves lead to them than that, where their
+-- words of the state are kept, and no more moves lead to them than that, where their
 -- number is bounded
 pub record IsMet (c : Claim) (n : ℕ) (s : SimState) : Type 0 where
   pub number : ℕ
@@ -125,7 +125,7 @@ pub record IsMet (c : Claim) (n : ℕ) (s : SimState) : Type 0 where
   pub written : IsWritten c.form c.ids (state_at c.kept number) s
 
 -- as far as the events are accepted and the policy stays in force, they show nothing; and where all
--- are and it does, the state behind them is kept, if a list of so many moves may have one more
+-- are and it does, the state after them is kept, if a list of n moves may have one more
 abbrev pub LeadsBack : Claim → ℕ → SimState → List Event → Type 0
 LeadsBack c n s [] = IsWithin c.limit n → IsMet c n s
 LeadsBack c n s (e ∷ es) =

@@ -1,4 +1,4 @@
--- What a table shows that is closed.
+-- Laws: no list shows what no state of a closed table shows.
 use Rattle.std.specs.Prelude.{◌≡◌, ℕ, ◌≤◌, List, length, All, Option, None, IfSome}
 use Rattle.scx_sched_machine.specs.declared.events.Event.{Event}
 use Rattle.scx_sched.specs.Sim.{SimState}
@@ -8,7 +8,7 @@ use Rattle.scx_explore_audit.specs.declared.table.Moves.TheVariants.{Events}
 use Rattle.scx_explore_audit.specs.Claims.{IsMove, IsTried, ShowsNone, ShowsNoneAtFirst, accepted_of, list_of}
 use Rattle.scx_explore_audit.specs.Closed.{Claim, IsClosed, Respects}
 
--- no list of such moves, of any number or of at most so many, shows anything of these sorts,
+-- no list of such moves, of any number or of at most `limit`, shows anything of these sorts,
 -- whichever of its events are refused
 abbrev pub NoneIn : Moves → Option ℕ → List Sort → SimState → Type 0
 NoneIn moves limit sorts root =

@@ -1,4 +1,4 @@
--- Marks of states that are gone through. No public clause cites it.
+-- Marks of states that need no look. No public clause cites it.
 use Rattle.std.specs.Prelude.{◌≡◌, ℕ, Bool, true, false, List, slice_index_or}
 use Rattle.scx_explore_audit.specs.Closed.{Claim, IsWithin, depth_at}
 

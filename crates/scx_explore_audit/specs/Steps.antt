@@ -1,12 +1,12 @@
--- What comes of one event of a move, and what is left of a millisecond.
+-- The outcome of one event of a move, and the rest of a millisecond.
 use Rattle.std.specs.Prelude.{◌≡◌, ℕ, ◌-◌, ⊤, List, [], ◌∷◌, ◌++◌, length, None}
 use Rattle.scx_sched_machine.specs.declared.events.Event.{Event}
 use Rattle.scx_sched_machine.specs.declared.events.Event.TheVariants.{Wake, Sleep, Clock}
 use Rattle.scx_sched.specs.Sim.{SimState, refusal, after_event}
 use Rattle.scx_explore_findings.specs.declared.finding.Sort.{Sort}
-use Rattle.scx_explore_path.specs.Path.{PathState, machine_of, went_on}
-use Rattle.scx_explore_audit.specs.declared.along.Went.{Went}
-use Rattle.scx_explore_audit.specs.declared.along.Went.TheVariants.{There, Over, Shows}
+use Rattle.scx_explore_findings.specs.Path.{PathState, machine_of, went_on}
+use Rattle.scx_explore_audit.specs.declared.advance.Went.{Went}
+use Rattle.scx_explore_audit.specs.declared.advance.Went.TheVariants.{There, Over, Shows}
 use Rattle.scx_explore_audit.specs.Claims.{AreFree, TaskSet, of_tasks, ticks}
 
 -- what the answer says of an event that has led to that state
@@ -15,7 +15,7 @@ IsSeen There sorts s e = AreFree sorts s e
 IsSeen Over sorts s e = AreFree sorts s e × (s.state.world.ejected ≡ None → ⊥)
 IsSeen Shows sorts s e = ⊤
 
--- what the answer says of the event behind the list, and what becomes of the list: it goes on by
+-- what the answer says of the event after the list, and what becomes of the list: it goes on by
 -- one that is accepted and shows nothing; or the event is refused, or shows nothing and ends it
 abbrev pub Comes : Went → List Sort → Event → PathState → PathState → Type 0
 Comes There sorts e p q =

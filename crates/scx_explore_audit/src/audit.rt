@@ -1,5 +1,5 @@
 ghost use Rattle.std.specs.Prelude.{ℕ, ◌≡◌, ◌<◌, true, length, All, IfOk, None};
-ghost use Rattle.scx_explore_path.specs.Path.{machine_of};
+ghost use Rattle.scx_explore_findings.specs.Path.{machine_of};
 ghost use Rattle.scx_explore_audit.specs.Claims.{IsTried};
 ghost use Rattle.scx_explore_audit.specs.Closed.{AreNumbersOf, IsClosed, IsMet, IsSettled, IsWithin, Respects, claim_of};
 ghost use Rattle.scx_explore_audit.specs.Laws.{NoneIn};
@@ -10,11 +10,10 @@ use crate::queues::are_queues;
 use crate::states::{begin, is_done, is_met};
 use crate::table::{Charted, Hand, Table};
 use crate::walking::{come_on, is_in_force};
-use scx_explore_path::Path;
-use scx_explore_states::Watch;
+use scx_explore_findings::{Path, Watch};
 use std::alloc::{AllocError, Global};
 
-/// Whether the table is closed: the first state is kept, and from no state that is kept a move leads out of it, or
+/// True if the table is closed: the first state is kept, and from no state that is kept a move leads out of it, or
 /// shows any of the sorts, where a list may have one more move. The path's machine is the one in which lists begin, and
 /// it has room for the events of each list that leads to a state and of one move more; the tasks' groups are those of
 /// the list. Weights don't change.
@@ -47,7 +46,7 @@ pub fn none_in_lists(
     closed
 }
 
-/// Whether queues alone have numbers, and the table is closed.
+/// True if queues alone have numbers, and the table is closed.
 fn is_audited(
     alloc: Global,
     charted: Charted<'_>,
@@ -66,7 +65,7 @@ fn is_audited(
     is_charted_closed(alloc, charted, homes, path)
 }
 
-/// Whether the table is closed.
+/// True if the table is closed.
 fn is_charted_closed(
     alloc: Global,
     charted: Charted<'_>,
@@ -82,7 +81,7 @@ fn is_charted_closed(
     closed
 }
 
-/// The same with a mark for each state.
+/// True if the table is closed, with a mark for each state.
 fn is_closed_with(
     alloc: Global,
     charted: Charted<'_>,
@@ -105,7 +104,7 @@ fn is_closed_with(
     Ok(closed)
 }
 
-/// Whether the table is closed.
+/// True if the table is closed.
 fn is_closed(charted: Charted<'_>, path: &mut Path, hand: &mut Hand, marks: &mut [bool]) -> bool
     requires each { length marks.old ≡ charted.table.seen.now.count }
     requires past { ArePast (claim_of charted) marks.old }
@@ -119,7 +118,7 @@ fn is_closed(charted: Charted<'_>, path: &mut Path, hand: &mut Hand, marks: &mut
     are_done(charted, path, hand, marks)
 }
 
-/// Whether the policy is in force after the list, and the state there is kept, where it is that of no move.
+/// True if the policy is in force after the list, and the state there is kept, if it is that of no move.
 fn is_first_met(charted: Charted<'_>, path: &Path, hand: &mut Hand) -> bool
     ensures force { result ≡ true → (machine_of path.now).state.world.ejected ≡ None }
     ensures met { result ≡ true → IsWithin charted.entry.table.limit 0
@@ -132,7 +131,7 @@ fn is_first_met(charted: Charted<'_>, path: &Path, hand: &mut Hand) -> bool
     is_met(charted, 0, first, hand)
 }
 
-/// Whether from no state a move leads out of the table. They are gone through in the order of their lists, so that each
+/// True if from no state a move leads out of the table. States come in the order of their lists, so that each
 /// is come to by one move.
 fn are_done(charted: Charted<'_>, path: &mut Path, hand: &mut Hand, marks: &mut [bool]) -> bool
     requires tried { All (IsTried path.old.root) path.old.events }
@@ -158,7 +157,7 @@ fn are_done(charted: Charted<'_>, path: &mut Path, hand: &mut Hand, marks: &mut 
     false
 }
 
-/// Whether each mark is set.
+/// True if each mark is set.
 fn are_set(marks: &[bool]) -> bool
     ensures { result ≡ true → All (λ mark. mark ≡ true) marks.now }
 {

@@ -3,10 +3,10 @@ ghost use Rattle.scx_explore_audit.specs.Closed.{IsWithin, claim_of, depth_at};
 ghost use Rattle.scx_explore_audit.specs.Marks.{ArePast};
 
 use crate::table::Charted;
-use scx_explore_states::Seen;
+use scx_explore_machines::Seen;
 use std::alloc::{AllocError, Global};
 
-/// How many moves lead to each state, by the ways that were kept. Nothing is trusted of that: where a number is wrong,
+/// The number of moves to each state, by the ways that were kept. Nothing of that is trusted: if a number is wrong,
 /// the table isn't found closed, or the number does no harm.
 pub(crate) fn depths_of(alloc: Global, seen: &Seen) -> Result<Vec<usize>, AllocError> {
     let mut depths = vec![in alloc; 0; seen.len()]?;
@@ -30,7 +30,7 @@ fn depth_behind(depths: &[usize], seen: &Seen, state: usize) -> usize {
     }
 }
 
-/// How many moves lead to that state.
+/// The number of moves to a state.
 pub(crate) fn depth_of(charted: Charted<'_>, state: usize) -> usize
     ensures { result ≡ depth_at (claim_of charted.entry) state }
 {
@@ -41,7 +41,7 @@ pub(crate) fn depth_of(charted: Charted<'_>, state: usize) -> usize
     }
 }
 
-/// Whether a list of so many moves may have one more.
+/// True if a list of `depth` moves may have one more.
 pub(crate) fn is_within(limit: Option<usize>, depth: usize) -> bool
     ensures within { result ≡ true → IsWithin limit depth }
     ensures past { result ≡ false → IsWithin limit depth → ⊥ }
@@ -52,7 +52,7 @@ pub(crate) fn is_within(limit: Option<usize>, depth: usize) -> bool
     }
 }
 
-/// Whether a list that leads to that state may have no more moves.
+/// True if a list that leads to that state may have no more moves.
 pub(crate) fn is_past(charted: Charted<'_>, state: usize) -> bool
     ensures { result ≡ true
         → IsWithin charted.entry.table.limit (depth_at (claim_of charted.entry) state) → ⊥ }
@@ -61,7 +61,7 @@ pub(crate) fn is_past(charted: Charted<'_>, state: usize) -> bool
     !is_within(charted.table.limit, depth)
 }
 
-/// Whether no more than so many moves lead to that state, where their number is bounded.
+/// True if at most `depth` moves lead to that state, or their number isn't bounded.
 pub(crate) fn is_no_deeper(charted: Charted<'_>, state: usize, depth: usize) -> bool
     ensures { result ≡ true → IfSome charted.entry.table.limit
         (λ limit. depth_at (claim_of charted.entry) state ≤ depth) }
@@ -82,7 +82,7 @@ pub(crate) fn marks_of(alloc: Global, charted: Charted<'_>) -> Result<Vec<bool>,
     Ok(marks)
 }
 
-/// Of marks none of which is set, sets that of each state to which a list leads that may have no more moves.
+/// Sets the mark of each state to which a list leads that may have no more moves. No mark is set before.
 fn mark_past(charted: Charted<'_>, marks: &mut [bool])
     requires { All (λ mark. mark ≡ false) marks.old }
     ensures { ArePast (claim_of charted.entry) marks.new }

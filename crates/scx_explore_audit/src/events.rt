@@ -1,7 +1,7 @@
 ghost use Rattle.std.specs.Prelude.{◌≡◌, ◌<◌, true, ℕ, List, [], ◌∷◌};
 ghost use Rattle.scx_sched_machine.specs.declared.events.Event.{Event};
 ghost use Rattle.scx_sched_machine.specs.declared.events.Event.TheVariants.{Wake, Sleep, Tick};
-ghost use Rattle.scx_explore_path.specs.Path.{machine_of};
+ghost use Rattle.scx_explore_findings.specs.Path.{machine_of};
 ghost use Rattle.scx_explore_audit.specs.Claims.{IsTried};
 ghost use Rattle.scx_explore_audit.specs.Closed.{LeadsBack, claim_of};
 
@@ -9,10 +9,10 @@ use crate::moves::last_leads_back;
 use crate::states::begin;
 use crate::table::{Charted, Hand};
 use crate::walking::{cpus_of, tasks_of};
-use scx_explore_path::Path;
+use scx_explore_findings::Path;
 use scx_sched::Event;
 
-/// Whether each event leads back into the table.
+/// True if each event leads back into the table.
 pub(crate) fn events_lead_back(
     charted: Charted<'_>,
     depth: usize,
@@ -35,7 +35,7 @@ pub(crate) fn events_lead_back(
     event_leads_back(charted, depth, Event::Clock, began, path, hand)
 }
 
-/// The same of wakes and sleeps of the first so many tasks.
+/// True if wakes and sleeps of the first `tasks` tasks lead back.
 fn tasks_lead_back(
     charted: Charted<'_>,
     depth: usize,
@@ -58,7 +58,7 @@ fn tasks_lead_back(
     true
 }
 
-/// The same of both of that task.
+/// True if the wake and the sleep of that task lead back.
 fn task_leads_back(
     charted: Charted<'_>,
     depth: usize,
@@ -79,7 +79,7 @@ fn task_leads_back(
     event_leads_back(charted, depth, Event::Sleep(task), began, path, hand)
 }
 
-/// The same of ticks of the first so many processors.
+/// True if ticks of the first `cpus` CPUs lead back.
 fn cpus_lead_back(
     charted: Charted<'_>,
     depth: usize,
@@ -100,7 +100,7 @@ fn cpus_lead_back(
     true
 }
 
-/// Whether that event leads back.
+/// True if that event leads back.
 fn event_leads_back(
     charted: Charted<'_>,
     depth: usize,

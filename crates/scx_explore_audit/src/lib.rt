@@ -1,4 +1,4 @@
-//! Whether a table of states that a search has kept leaves nothing out.
+//! An audit of the states that a search has kept: they leave nothing out.
 //!
 //! `none_in_lists` goes through a table that a search has ended with. Where it answers true, no list of events or of
 //! milliseconds shows what it was asked about, as long as what the form of a state leaves out changes nothing: none of
@@ -6,15 +6,15 @@
 //! again, and each move is tried in it.
 #![tactic(auto)]
 
-mod along;
+mod advance;
 mod audit;
 mod depths;
 mod events;
 mod laws;
-mod looking;
 mod milliseconds;
 mod moves;
 mod queues;
+mod sorts;
 mod states;
 mod table;
 mod walking;

@@ -1,17 +1,17 @@
 ghost use Rattle.std.specs.Prelude.{◌≡◌, true};
-ghost use Rattle.scx_explore_path.specs.Path.{machine_of};
+ghost use Rattle.scx_explore_findings.specs.Path.{machine_of};
 ghost use Rattle.scx_explore_audit.specs.Claims.{TaskSet};
 ghost use Rattle.scx_explore_audit.specs.Closed.{LeadsBack, claim_of};
 ghost use Rattle.scx_explore_audit.specs.Steps.{from_wake, from_tick, from_sleep};
 
-use crate::along::{Went, go_along};
+use crate::advance::{Went, go_along};
 use crate::moves::last_leads_back;
 use crate::table::{Charted, Hand};
 use crate::walking::{cpus_of, tasks_of};
-use scx_explore_path::Path;
+use scx_explore_findings::Path;
 use scx_sched::Event;
 
-/// Whether what is left of each millisecond leads back into the table, where the tasks before that one had their turns
+/// True if the rest of each millisecond leads back into the table, once the tasks before that one had their turns
 /// to wake: that one sleeps on, or wakes.
 pub(crate) fn wakes_lead_back(
     charted: Charted<'_>,
@@ -45,7 +45,7 @@ pub(crate) fn wakes_lead_back(
     }
 }
 
-/// The same where the processors before that one had their turns to tick.
+/// True if the rest leads back, once the CPUs before that one had their turns to tick.
 fn ticks_lead_back(
     charted: Charted<'_>,
     depth: usize,
@@ -73,7 +73,7 @@ fn ticks_lead_back(
     }
 }
 
-/// The same where the tasks before that one had their turns to go to sleep.
+/// True if the rest leads back, once the tasks before that one had their turns to go to sleep.
 fn sleeps_lead_back(
     charted: Charted<'_>,
     depth: usize,

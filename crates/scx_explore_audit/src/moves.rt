@@ -1,18 +1,18 @@
 ghost use Rattle.std.specs.Prelude.{◌≡◌, true, List, [], ◌∷◌};
 ghost use Rattle.scx_sched_machine.specs.declared.events.Event.{Event};
-ghost use Rattle.scx_explore_path.specs.Path.{machine_of};
+ghost use Rattle.scx_explore_findings.specs.Path.{machine_of};
 ghost use Rattle.scx_explore_audit.specs.Claims.{IsMove};
 ghost use Rattle.scx_explore_audit.specs.Closed.{LeadsBack, claim_of};
 
-use crate::along::{Went, go_along};
+use crate::advance::{Went, go_along};
 use crate::events::events_lead_back;
 use crate::milliseconds::wakes_lead_back;
 use crate::states::{begin, is_met};
 use crate::table::{Charted, Hand, Moves};
-use scx_explore_path::Path;
+use scx_explore_findings::Path;
 use scx_sched::Event;
 
-/// Whether each move leads back into the table, to a state to which so many moves lead, or ends the list, and shows
+/// True if each move leads back into the table, to a state to which `depth` moves lead, or ends the list, and shows
 /// nothing.
 pub(crate) fn moves_lead_back(
     charted: Charted<'_>,
@@ -35,7 +35,7 @@ pub(crate) fn moves_lead_back(
     }
 }
 
-/// The same of a move, of which that event is left.
+/// True if a move of which that event is left leads back.
 pub(crate) fn last_leads_back(
     charted: Charted<'_>,
     depth: usize,

@@ -4,12 +4,12 @@ ghost use Rattle.scx_explore_audit.specs.Closed.{AreNumbersOf, AreQueuesOf};
 
 use crate::table::{Charted, Table};
 use crate::walking::come_on;
-use scx_explore_path::Path;
+use scx_explore_findings::Path;
 use scx_explore_states::{MOST_TASKS, QueueNumbers};
 use scx_sched::Sim;
 use std::alloc::{AllocError, Global};
 
-/// Whether all that has a number is a queue of the path's machine: tasks are there in states of the table.
+/// True if each number is of a queue of the path's machine: in states of the table tasks are in these.
 pub(crate) fn are_queues(
     alloc: Global,
     charted: Charted<'_>,
@@ -51,7 +51,7 @@ fn meet_all(charted: Charted<'_>, met: &mut QueueNumbers, path: &mut Path)
     }
 }
 
-/// The same table, for lists of any number of moves.
+/// This table, for lists of any number of moves.
 fn without_limit<'a>(charted: Charted<'a>) -> Charted<'a> {
     Charted {
         table: Table {

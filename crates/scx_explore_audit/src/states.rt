@@ -1,6 +1,6 @@
 ghost use Rattle.std.specs.Prelude.{◌≡◌, ◌<◌, ◌+◌, true, None, All, length};
 ghost use Rattle.scx_load_driver.specs.Runs.{AreAccepted};
-ghost use Rattle.scx_explore_path.specs.Path.{machine_of};
+ghost use Rattle.scx_explore_findings.specs.Path.{machine_of};
 ghost use Rattle.scx_explore_states.specs.Written.{IsWritten};
 ghost use Rattle.scx_explore_audit.specs.Claims.{IsTried};
 ghost use Rattle.scx_explore_audit.specs.Closed.{IsDone, IsMet, IsSettled, IsWithin, claim_of, depth_at};
@@ -9,10 +9,10 @@ use crate::depths::{depth_of, is_no_deeper, is_past, is_within};
 use crate::moves::moves_lead_back;
 use crate::table::{Charted, Hand, Table};
 use crate::walking::{has_room, is_in_force};
-use scx_explore_path::Path;
+use scx_explore_findings::Path;
 use scx_sched::Sim;
 
-/// Whether the machine after the list is in the state of that number, and no move leads out of the table from there;
+/// True if the machine after the list is in the state of that number, and no move leads out of the table from there;
 /// true at once where a list that leads there may have no more moves.
 pub(crate) fn is_done(charted: Charted<'_>, state: usize, path: &mut Path, hand: &mut Hand) -> bool
     requires there { state < charted.table.seen.now.count }
@@ -30,22 +30,22 @@ pub(crate) fn is_done(charted: Charted<'_>, state: usize, path: &mut Path, hand:
     if !is_in_force(path) {
         return false;
     }
-    let Some(behind) = depth_of(charted, state).checked_add(1) else {
+    let Some(next) = depth_of(charted, state).checked_add(1) else {
         return false;
     };
-    is_done_here(charted, state, behind, path, hand)
+    is_done_here(charted, state, next, path, hand)
 }
 
-/// The same, where the list isn't too long and the policy is in force; so many moves lead to the states behind.
+/// True if the state is done, of a list that isn't too long, under a policy in force; `next` moves lead to those after it.
 fn is_done_here(
     charted: Charted<'_>,
     state: usize,
-    behind: usize,
+    next: usize,
     path: &mut Path,
     hand: &mut Hand,
 ) -> bool
     requires there { state < charted.table.seen.now.count }
-    requires behind { behind ≡ depth_at (claim_of charted) state + 1 }
+    requires next { next ≡ depth_at (claim_of charted) state + 1 }
     requires tried { All (IsTried path.old.root) path.old.events }
     requires accepted { AreAccepted path.old.root path.old.events }
     requires few { length path.old.events < path.old.room }
@@ -61,10 +61,10 @@ fn is_done_here(
     if !is_written(table, here, began, kept, hand) {
         return false;
     }
-    moves_lead_back(charted, behind, began, path, hand)
+    moves_lead_back(charted, next, began, path, hand)
 }
 
-/// Whether the state of that machine is written as those words.
+/// True if the state of that machine is written as those words.
 fn is_written(table: Table<'_>, sim: &Sim, began: u64, kept: &[u64], hand: &mut Hand) -> bool
     ensures { result ≡ true → IsWritten table.entry.form table.entry.numbers.now kept.now sim.now }
 {
@@ -88,8 +88,8 @@ pub(crate) fn begin(hand: &mut Hand, path: &Path, began: u64) {
     hand.watch.begin(path.sim(), began);
 }
 
-/// Whether the state of that machine, to which so many moves lead, is kept: with those that were watched as they began
-/// to run, or with nobody, once that isn't looked for any more. True at once where a list of so many may have no more.
+/// True if the state of that machine, to which `depth` moves lead, is kept: with the tasks that were watched as they began
+/// to run, or with none, once that isn't looked for any more. True at once if a list of `depth` moves may have no more.
 pub(crate) fn is_met(charted: Charted<'_>, depth: usize, sim: &Sim, hand: &mut Hand) -> bool
     ensures { result ≡ true → IsWithin charted.entry.table.limit depth
         → IsMet (claim_of charted.entry) depth sim.now }
@@ -104,7 +104,7 @@ pub(crate) fn is_met(charted: Charted<'_>, depth: usize, sim: &Sim, hand: &mut H
     is_met_with(charted, depth, sim, 0, hand)
 }
 
-/// Whether it is kept with these.
+/// True if it is kept with these.
 fn is_met_with(charted: Charted<'_>, depth: usize, sim: &Sim, began: u64, hand: &mut Hand) -> bool
     ensures { result ≡ true → IsMet (claim_of charted.entry) depth sim.now }
 {

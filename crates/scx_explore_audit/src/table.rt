@@ -1,29 +1,30 @@
-use scx_explore_findings::Sort;
-use scx_explore_states::{Form, QueueNumbers, Seen, Watch};
+use scx_explore_findings::{Sort, Watch};
+use scx_explore_machines::Seen;
+use scx_explore_states::{Form, QueueNumbers};
 
-/// Of which moves lists are made.
+/// The moves of which lists are made.
 #[derive(Clone, Copy, PartialEq, Eq)]
 pub enum Moves {
-    /// Of events: a wake or a sleep of a task, a tick of a processor, or the clock.
+    /// Events: a wake or a sleep of a task, a tick of a CPU, or the clock.
     Events,
-    /// Of milliseconds: some tasks wake, each processor ticks, some tasks go to sleep, and the clock grows.
+    /// Milliseconds: some tasks wake, each CPU ticks, some tasks go to sleep, and the clock grows.
     Milliseconds,
 }
 
-/// What is audited.
+/// A table of states, and the claim that is audited.
 #[derive(Clone, Copy)]
 pub struct Table<'a> {
-    /// How states are written.
+    /// The form in which states are written.
     pub form: Form,
     /// The numbers of queues in them.
     pub numbers: &'a QueueNumbers,
     /// The states.
     pub seen: &'a Seen,
-    /// What none of them is to show: faults, stalls, or processors that are left idle.
+    /// The sorts that none of them is to show: faults, stalls, or CPUs that are left idle.
     pub sorts: &'a [Sort],
-    /// Of which moves lists are made.
+    /// The moves of which lists are made.
     pub moves: Moves,
-    /// How many moves a list has at most, where that is bounded.
+    /// The most moves of a list, if that is bounded.
     pub limit: Option<usize>,
 }
 
@@ -34,7 +35,7 @@ pub(crate) struct Charted<'a> {
     pub(crate) depths: &'a [usize],
 }
 
-/// What an audit keeps beside the table.
+/// The watch of an audit, and its place for words.
 #[derive(Drop)]
 pub(crate) struct Hand {
     /// Who begins to run while another waits, as searches keep it.

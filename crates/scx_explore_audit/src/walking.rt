@@ -1,20 +1,21 @@
 ghost use Rattle.std.specs.Prelude.{◌≡◌, ◌<◌, true, All, None, length};
 ghost use Rattle.scx_load_driver.specs.Runs.{AreAccepted};
-ghost use Rattle.scx_explore_path.specs.Path.{machine_of};
+ghost use Rattle.scx_explore_findings.specs.Path.{machine_of};
 ghost use Rattle.scx_explore_audit.specs.Claims.{IsTried};
 
 use crate::depths::{depth_of, is_within};
 use crate::table::Charted;
-use scx_explore_machines::{count_of, event_at, places};
-use scx_explore_path::Path;
-use scx_explore_states::{Seen, Step};
+use scx_explore_bounds::{count_of, event_at, places};
+use scx_explore_findings::Path;
+use scx_explore_machines::Seen;
+use scx_explore_states::Step;
 use scx_sched::{Event, Unseen};
 
-/// How often what is left is cut in half.
+/// The number of halvings of a list of states.
 const HALVES: u32 = 64;
 
-/// Comes to the state behind that one, whose list the path is: to the first one that it led to, or to the next one that
-/// the same state led to, or one before it. There is none behind the last one, and none is come to where a list may
+/// Comes to the state after that one, whose list the path is: to the first one that it led to, or to the next one that
+/// the same state led to, or one before it. There is none after the last one, and none is come to where a list may
 /// have no more moves.
 pub(crate) fn come_on(charted: Charted<'_>, state: usize, path: &mut Path) -> Option<usize>
     requires { All (IsTried path.old.root) path.old.events }
@@ -31,7 +32,7 @@ pub(crate) fn come_on(charted: Charted<'_>, state: usize, path: &mut Path) -> Op
     }
 }
 
-/// The state behind that one, to whose list so many events lead, and how many lead to the state before it.
+/// The state after that one, whose list has `length` events, and the number of events to the state before it.
 fn next_of(charted: Charted<'_>, state: usize, length: usize, cpus: u32) -> Option<(usize, usize)> {
     match first_behind(charted, state) {
         Some(child) => Some((child, length)),
@@ -53,7 +54,7 @@ fn come_to(seen: &Seen, state: usize, length: usize, path: &mut Path) -> bool
     }
 }
 
-/// Goes back to the first so many events.
+/// Goes back to the first `depth` events.
 fn go_back(path: &mut Path, depth: usize)
     requires { All (IsTried path.old.root) path.old.events }
     ensures root { path.new.root ≡ path.old.root }
@@ -108,7 +109,7 @@ fn go_on(path: &mut Path, event: Event) -> bool
     path.go_on(event, &mut Unseen).is_ok()
 }
 
-/// Whether it is an event of the machine's tasks, of its processors, or of the clock.
+/// True if it is an event of the machine's tasks, of its CPUs, or of the clock.
 fn is_tried(path: &Path, event: Event) -> bool
     ensures { result ≡ true → IsTried path.now.root event }
 {
@@ -121,7 +122,7 @@ fn is_tried(path: &Path, event: Event) -> bool
     }
 }
 
-/// The first state to which that one led, if lists go on behind it.
+/// The first state to which that one led, if lists go on after it.
 fn first_behind(charted: Charted<'_>, state: usize) -> Option<usize> {
     let first = first_from(charted.table.seen, state)?;
     if is_within(charted.table.limit, depth_of(charted, first)) {
@@ -153,7 +154,7 @@ fn first_from(seen: &Seen, state: usize) -> Option<usize> {
     }
 }
 
-/// Whether a state before that one led to the state.
+/// True if a state before that one led to the state.
 fn is_from_before(seen: &Seen, state: usize, from: usize) -> bool {
     match seen.way(state) {
         Some(way) => way.from < from,
@@ -161,7 +162,7 @@ fn is_from_before(seen: &Seen, state: usize, from: usize) -> bool {
     }
 }
 
-/// Whether that one led to the state. Nothing led to the first one.
+/// True if that one led to the state. Nothing led to the first one.
 fn is_from(seen: &Seen, state: usize, from: usize) -> bool {
     match seen.way(state) {
         Some(way) => state > 0 && way.from == from,
@@ -188,7 +189,7 @@ fn next_beside(seen: &Seen, state: usize, length: usize, cpus: u32) -> Option<(u
     None
 }
 
-/// How many tasks the machine has.
+/// The number of tasks of the machine.
 pub(crate) fn tasks_of(path: &Path) -> u16
     ensures { result ≡ length path.now.root.state.world.tasks }
 {
@@ -196,7 +197,7 @@ pub(crate) fn tasks_of(path: &Path) -> u16
     first.tasks()
 }
 
-/// How many processors it has.
+/// The number of CPUs of the machine.
 pub(crate) fn cpus_of(path: &Path) -> u32
     ensures { result ≡ length path.now.root.state.world.cpus }
 {
@@ -204,7 +205,7 @@ pub(crate) fn cpus_of(path: &Path) -> u32
     first.cpus()
 }
 
-/// Whether the list may have one more event.
+/// True if the list may have one more event.
 pub(crate) fn has_room(path: &Path) -> bool
     ensures room { result ≡ true → length path.now.events < path.now.room }
     ensures accepted { AreAccepted path.now.root path.now.events }
@@ -212,7 +213,7 @@ pub(crate) fn has_room(path: &Path) -> bool
     path.events().len() < path.room()
 }
 
-/// Whether the policy is in force after the list.
+/// True if the policy is in force after the list.
 pub(crate) fn is_in_force(path: &Path) -> bool
     ensures { result ≡ true → (machine_of path.now).state.world.ejected ≡ None }
 {

@@ -12,11 +12,11 @@ use Rattle.scx_sched_machine.specs.declared.events.Event.TheVariants.{Tick}
 use Rattle.scx_sched_machine.specs.Notes.{Takes}
 use Rattle.scx_sched.specs.Sim.{SimState, refusal, calls_of, after_event}
 use Rattle.scx_load_driver.specs.Runs.{stepped_all, notes_of_all}
-use Rattle.scx_explore_path.specs.declared.outcome.Outcome.{Outcome}
-use Rattle.scx_explore_path.specs.declared.outcome.Outcome.TheVariants as outcome
-use Rattle.scx_explore_path.specs.Outcomes.{Happens, done_of, after_first, IsInForceFor, IsEjectedAt}
-use Rattle.scx_explore_path.proofs.Along.{stepped_push}
-use Rattle.scx_explore_states.specs.declared.watch.Pair.{Pair}
+use Rattle.scx_explore_findings.specs.declared.outcome.Outcome.{Outcome}
+use Rattle.scx_explore_findings.specs.declared.outcome.Outcome.TheVariants as outcome
+use Rattle.scx_explore_findings.specs.Outcomes.{Happens, done_of, after_first, IsInForceFor, IsEjectedAt}
+use Rattle.scx_explore_findings.proofs.ListMachines.{stepped_push}
+use Rattle.scx_explore_findings.specs.declared.finding.Pair.{Pair}
 use Rattle.scx_explore_findings.specs.declared.count.Count.{Count}
 use Rattle.scx_explore_findings.specs.Counting.{Counts}
 use Rattle.scx_explore_findings.specs.Running.{IsRunAmong}

@@ -1,4 +1,4 @@
--- What is found in a list of events.
+-- Findings: the ends of a list of events that a search looks for.
 use Rattle.std.specs.Prelude.{◌≡◌, ℕ, ◌+◌, ◌-◌, ◌≤◌, ◌==◌, ◌||◌, Bool, true, false, List, [], ◌∷◌, ◌++◌, length, nat_lt, ◌<◌, slice_index, slice_index_or, Option, Some, None, option_map, unwrap_or, if◌then◌else◌}
 use Rattle.scx_isa_semantics.specs.declared.callbacks.Callback.{Callback}
 use Rattle.scx_dsq.specs.Queues.{queue_of}
@@ -15,17 +15,17 @@ use Rattle.scx_sched_machine.specs.declared.events.Event.{Event}
 use Rattle.scx_sched_machine.specs.declared.events.Event.TheVariants.{Tick}
 use Rattle.scx_sched.specs.Sim.{SimState, refusal, calls_of}
 use Rattle.scx_load_driver.specs.Runs.{stepped_all, notes_of_all}
-use Rattle.scx_explore_path.specs.declared.outcome.Outcome.{Outcome}
-use Rattle.scx_explore_path.specs.declared.outcome.Outcome.TheVariants as outcome
-use Rattle.scx_explore_path.specs.Outcomes.{IsInForceFor, IsEjectedAt}
-use Rattle.scx_explore_states.specs.declared.watch.Pair.{Pair}
+use Rattle.scx_explore_findings.specs.declared.outcome.Outcome.{Outcome}
+use Rattle.scx_explore_findings.specs.declared.outcome.Outcome.TheVariants as outcome
+use Rattle.scx_explore_findings.specs.Outcomes.{IsInForceFor, IsEjectedAt}
+use Rattle.scx_explore_findings.specs.declared.finding.Pair.{Pair}
 use Rattle.scx_explore_findings.specs.Running.{IsRunAmong}
 use Rattle.scx_explore_findings.specs.declared.finding.Sort.{Sort}
 use Rattle.scx_explore_findings.specs.declared.finding.Sort.TheVariants as sort
 use Rattle.scx_explore_findings.specs.declared.finding.Finding.{Finding}
 use Rattle.scx_explore_findings.specs.declared.finding.Finding.TheVariants as finding
 
--- the place of a sort among those that are told: faults by their numbers, and three behind them
+-- the place of a sort among those that are told: faults by their numbers, and three after them
 abbrev pub sort_number : Sort → ℕ
 sort_number (sort.Fault f) = fault_number f
 sort_number sort.Stall = 8
@@ -72,8 +72,8 @@ IsFirstLeft w None = (u : ℕ) → u < length w.tasks → waits_left w u ≡ fal
 IsFirstLeft w (Some t) = (t < length w.tasks) × (waits_left w t ≡ true)
     × ((u : ℕ) → u < t → waits_left w u ≡ false)
 
--- behind a tick that leaves its processor idle the first task that waits for the policy is told;
--- behind any other event, or where no task waits so, nothing is
+-- after a tick that leaves its CPU idle the first task that waits for the policy is told;
+-- after any other event, or where no task waits so, nothing is
 abbrev pub IsIdleBehind : SimState → Event → Option Finding → Type 0
 IsIdleBehind s e None =
     (c : ℕ) → e ≡ Tick c → running s.state.world c ≡ None → IsFirstLeft s.state.world None
@@ -98,12 +98,12 @@ begun_in_queue b q = if q == parked_queue then None else Some (unwrap_or b 0)
 abbrev pub begun_after_insert : Pair → Option ℕ → ℕ → ℕ → Option ℕ
 begun_after_insert p b t q = if t == p.waits then begun_in_queue b q else b
 
--- the count behind a run: there is none where the first task runs
+-- the count after a run: there is none where the first task runs
 abbrev pub begun_after_run : Pair → Option ℕ → ℕ → Option ℕ
 begun_after_run p b t =
     if t == p.waits then None else if t == p.runs then option_map once_more b else b
 
--- how often the second task of a pair began to run, up to two, since the first one waits, behind
+-- how often the second task of a pair began to run, up to two, since the first one waits, after
 -- what happens: none while it doesn't wait, as one that is parked
 abbrev pub begun_after : Pair → Option ℕ → What → Option ℕ
 begun_after p b (Insert t q) = begun_after_insert p b t q
@@ -117,7 +117,7 @@ begun_after p b (Weight g x) = b
 begun_after p b (Stall t) = b
 begun_after p b (Fault f) = b
 
--- the same behind notes
+-- that count after notes
 abbrev pub begun_over : Pair → Option ℕ → List Note → Option ℕ
 begun_over p b [] = b
 begun_over p b (n ∷ ns) = begun_over p (begun_after p b n.what) ns
@@ -145,7 +145,7 @@ pub record EndsIdle (s : SimState) (events : List Event) (c t : ℕ) : Type 0 wh
   pub idle : running (stepped_all s events).state.world c ≡ None
   pub left : is_left (queue_of (stepped_all s events).state.world.queues t) ≡ true
 
--- what comes of the list is an ejection for that fault by its last event, where it has so many
+-- what comes of the list is an ejection for that fault by its last event, of `count`
 abbrev pub IsFaultAtEnd : Outcome → ℕ → faults.Fault → Type 0
 IsFaultAtEnd (outcome.Ejected at (cause.Fault g clock)) count f = (g ≡ f) × (at + 1 ≡ count)
 IsFaultAtEnd (outcome.Ejected at (cause.Stall t clock)) count f = ⊥
@@ -178,14 +178,14 @@ pub record EndsOvertaken (homes : List ℕ) (s : SimState) (events : List Event)
     pub together : AreTogether homes p
     pub twice : IsTwice s events p
 
--- after the list the task waits, and has waited so many milliseconds; the policy is in force
+-- after the list the task waits, and has waited for that many milliseconds; the policy is in force
 pub record EndsWaiting (s : SimState) (events : List Event) (t ms : ℕ) : Type 0 where
   pub force : IsInForceFor s events (length events)
   pub waits : waits (stepped_all s events).state.world t ≡ true
   pub long : wait (stepped_all s events).state.world t ≡ ms
 
 -- the list is accepted, and the policy in force up to its last event; and one of the callbacks that
--- are called in that event is the one, and its program takes so many instructions in that run
+-- are called in that event is the one, and its program takes n instructions in that run
 pub record EndsTaking (s : SimState) (events : List Event) (b : Callback) (n : ℕ) : Type 0 where
   pub before : List Event
   pub event : Event

@@ -1,4 +1,4 @@
--- What a tally is told. No public clause cites it.
+-- The calls that a tally is told. No public clause cites it.
 use Rattle.std.specs.Prelude.{◌≡◌, true, ◌⊎◌}
 use Rattle.scx_sched_machine.specs.Steps.{CallMade}
 use Rattle.scx_explore_findings.specs.Running.{IsRunOf}

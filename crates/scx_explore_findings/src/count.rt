@@ -2,7 +2,7 @@ ghost use Rattle.std.specs.Prelude.{◌≡◌, true, false, None, Some, option_m
 ghost use Rattle.scx_explore_findings.specs.Counting.{Counts};
 ghost use Rattle.scx_explore_findings.specs.Findings.{begun_after, begun_after_insert, begun_after_run, begun_in_queue, once_more};
 
-use scx_explore_states::Pair;
+use crate::finding::Pair;
 use scx_sched::{Note, Sink, What};
 use scx_sched_world::PARKED;
 
@@ -23,7 +23,7 @@ impl Count {
         Count { pair, begun: None }
     }
 
-    /// Whether it waits, and the other one began to run twice meanwhile.
+    /// True if it waits, and the other one began to run twice meanwhile.
     pub(crate) fn is_twice(&self) -> bool
         ensures { result ≡ true → self.now.begun ≡ Some 2 }
     {
@@ -34,7 +34,7 @@ impl Count {
     }
 }
 
-/// How often the second task has begun to run behind that, while the first one waits.
+/// Counts the runs of the second task after that, while the first one waits.
 fn begun_after(pair: Pair, begun: Option<u64>, what: What) -> Option<u64>
     ensures { result ≡ begun_after pair begun what }
 {

@@ -1,11 +1,17 @@
 ghost use Rattle.std.specs.Prelude.{◌≡◌};
 ghost use Rattle.scx_explore_findings.specs.Findings.{sort_number, sort_of};
 
-use scx_explore_states::Pair;
 use scx_isa::Callback;
 use scx_sched::Fault;
 
-/// What a search looks for.
+/// A task that waits, and another one that runs.
+#[derive(Clone, Copy)]
+pub struct Pair {
+    pub waits: u16,
+    pub runs: u16,
+}
+
+/// A sort of finding that a search looks for.
 #[derive(Clone, Copy)]
 pub enum Sort {
     /// The policy is ejected for that fault of a callback.
@@ -33,26 +39,26 @@ pub const SORTS: [Sort; 11] = [
     Sort::Overtaken,
 ];
 
-/// What was found: at the last event of a list.
+/// A finding, at the last event of a list.
 #[derive(Clone, Copy)]
 pub enum Finding {
     /// The policy is ejected for that fault.
     Fault(Fault),
     /// The policy is ejected because that task waited too long.
     Stall(u16),
-    /// That processor is left idle by its own tick, while that task waits.
+    /// The CPU is left idle by its own tick, while the task waits.
     Idle {
         cpu: u32,
         task: u16,
     },
-    /// That task waits while the other one, of the same group, began to run twice.
+    /// A task waits while another one, of the same group, began to run twice.
     Overtaken(Pair),
-    /// After the list that task waits and has waited so many milliseconds, with the policy in force.
+    /// After the list the task waits and has waited for `ms` milliseconds, with the policy in force.
     Waits {
         task: u16,
         ms: u64,
     },
-    /// In the last event a run of that callback takes so many instructions.
+    /// In the last event a run of that callback takes that many instructions.
     Takes {
         callback: Callback,
         instructions: u64,
@@ -74,7 +80,7 @@ impl Sort {
 }
 
 impl Finding {
-    /// Of which sort it is; a wait and a count of instructions are of none.
+    /// Its sort; a wait and a count of instructions have none.
     pub fn sort(self) -> Option<Sort>
         ensures { result ≡ sort_of self }
     {

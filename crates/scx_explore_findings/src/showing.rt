@@ -1,23 +1,22 @@
 ghost use Rattle.std.specs.Prelude.{◌≡◌, ◌∷◌, ◌++◌, [], true, None};
 ghost use Rattle.scx_sched.specs.Sim.{refusal, calls_of, after_event};
 ghost use Rattle.scx_load_driver.specs.Runs.{stepped_all};
-ghost use Rattle.scx_explore_path.specs.Path.{IsAs};
-ghost use Rattle.scx_explore_path.specs.declared.outcome.Outcome.TheVariants.{InForce};
+ghost use Rattle.scx_explore_findings.specs.Path.{IsAs};
+ghost use Rattle.scx_explore_findings.specs.declared.outcome.Outcome.TheVariants.{InForce};
 ghost use Rattle.scx_explore_findings.specs.Running.{IsRunAmong};
 ghost use Rattle.scx_explore_findings.specs.Findings.{Shows, EndsInFault, EndsInStall, EndsIdle, IsTwice, EndsWaiting, EndsTaking, IsFaultAtEnd, IsStallAtEnd, AreTogether, IsLast};
 
+use crate::checks::is_left;
 use crate::count::Count;
-use crate::finding::Finding;
-use crate::meets::is_left;
+use crate::finding::{Finding, Pair};
 use crate::tally::Tally;
-use scx_explore_path::{Outcome, replay};
-use scx_explore_states::Pair;
+use crate::{Outcome, replay};
 use scx_isa::Callback;
 use scx_sched::{Eject, Event, Fault, Sim, Unseen};
 
-/// Whether the list of events, given to a machine whose policy is in force, is accepted and ends in that finding.
+/// True if a machine whose policy is in force accepts the list of events, and it ends in that finding.
 /// The tasks' groups are those of the list.
-#[tactic(auto, using(crate::proofs::Ending::overtaken_at_end, scx_explore_path::proofs::Alike::as_itself))]
+#[tactic(auto, using(crate::proofs::Ending::overtaken_at_end, crate::proofs::SamePolicy::as_itself))]
 pub fn shows(sim: &mut Sim, homes: &[u32], events: &[Event], finding: Finding) -> bool
     requires { sim.old.state.world.ejected ≡ None }
     ensures shown { result ≡ true → Shows homes.now sim.old events.now finding }
@@ -98,7 +97,7 @@ fn ends_waiting(sim: &mut Sim, events: &[Event], task: u16, ms: u64) -> bool
     is_in_force(outcome) && sim.world().waits(task) && sim.world().wait(task) == ms
 }
 
-#[tactic(auto, using(crate::proofs::Ending::taking_of_list, crate::proofs::Ending::there_of_list, scx_explore_path::proofs::Alike::as_itself))]
+#[tactic(auto, using(crate::proofs::Ending::taking_of_list, crate::proofs::Ending::there_of_list, crate::proofs::SamePolicy::as_itself))]
 fn ends_taking(sim: &mut Sim, events: &[Event], callback: Callback, instructions: u64) -> bool
     requires { sim.old.state.world.ejected ≡ None }
     ensures shown { result ≡ true → EndsTaking sim.old events.now callback instructions }
@@ -113,8 +112,8 @@ fn ends_taking(sim: &mut Sim, events: &[Event], callback: Callback, instructions
     ends_taking_in(sim, before, events[count - 1], callback, instructions)
 }
 
-/// The same of a list that ends with that event.
-#[tactic(auto, using(crate::proofs::Ending::taking_at_end, scx_explore_path::proofs::Alike::as_another))]
+/// True if `before` and the event, as a list, end in a run of that callback with that many instructions.
+#[tactic(auto, using(crate::proofs::Ending::taking_at_end, crate::proofs::SamePolicy::as_another))]
 fn ends_taking_in(
     sim: &mut Sim,
     before: &[Event],
@@ -132,8 +131,8 @@ fn ends_taking_in(
     is_in_force(outcome) && takes(sim, event, callback, instructions)
 }
 
-/// Whether the machine accepts the event, and a run of that callback in it takes so many instructions.
-#[tactic(auto, using(scx_explore_path::proofs::Alike::as_stepped))]
+/// True if the machine accepts the event, and a run of that callback in it takes that many instructions.
+#[tactic(auto, using(crate::proofs::SamePolicy::as_stepped))]
 fn takes(sim: &mut Sim, event: Event, callback: Callback, instructions: u64) -> bool
     ensures accepted { result ≡ true → refusal sim.old event ≡ None }
     ensures called { result ≡ true
@@ -155,7 +154,7 @@ fn is_in_force(outcome: Outcome) -> bool
     }
 }
 
-/// Whether it is an ejection for that fault by the last of so many events.
+/// True if it is an ejection for that fault by the last of `count` events.
 fn is_fault_at_end(outcome: Outcome, count: usize, fault: Fault) -> bool
     ensures { result ≡ true → IsFaultAtEnd outcome count fault }
 {
@@ -168,7 +167,7 @@ fn is_fault_at_end(outcome: Outcome, count: usize, fault: Fault) -> bool
     }
 }
 
-/// Whether it is an ejection by the last of so many events, because that task waited too long.
+/// True if it is an ejection by the last of `count` events, because that task waited too long.
 fn is_stall_at_end(outcome: Outcome, count: usize, task: u16) -> bool
     ensures { result ≡ true → IsStallAtEnd outcome count task }
 {
@@ -181,7 +180,7 @@ fn is_stall_at_end(outcome: Outcome, count: usize, task: u16) -> bool
     }
 }
 
-/// Whether both tasks are of one group.
+/// True if both tasks are of one group.
 fn are_together(homes: &[u32], pair: Pair) -> bool
     ensures { result ≡ true → AreTogether homes.now pair }
 {
@@ -193,7 +192,7 @@ fn are_together(homes: &[u32], pair: Pair) -> bool
     }
 }
 
-/// Whether the list ends with that event.
+/// True if the list ends with that event.
 #[tactic(auto, using(crate::proofs::Ending::last_is))]
 fn is_last(events: &[Event], event: Event) -> bool
     ensures { result ≡ true → IsLast events.now event }

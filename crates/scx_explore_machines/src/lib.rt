@@ -1,30 +1,19 @@
-//! Machines of a search through lists of events, and what is known beside them.
+//! The memory of a search: machines, and the states that were met.
 //!
-//! `Machines` has a machine for each state that is gone through, as far as there are any, and for those on the way to
-//! one that has none. `Again` has the states for which there is no room. `Memory` is what a search of some `Bounds`
-//! remembers of a state beside its machine. `Look` is who looks on while events happen. `event_at` tells the events of
-//! a step, and `twins_of` tells which of them are needless.
+//! `Seen` keeps states, each once, and the way by which each was met. `Machines` has a machine for each state that is
+//! expanded, as far as there are any, and for those on the way to a state that has none. `Revisits` has the states for
+//! which there was no room. `Look` observes events for a search.
 #![tactic(auto)]
 
-mod again;
-mod bounds;
-mod changes;
-mod counted;
 mod look;
 mod machines;
-mod memory;
+mod marks;
 mod most;
-mod steps;
-mod ticks;
-mod twins;
+mod revisits;
+mod seen;
 
-pub use again::{Again, Between, Lost, Origin};
-pub use bounds::{Bounds, Mode};
-pub use changes::{Changes, MOST_CHANGES};
 pub use look::Look;
 pub use machines::{Machines, push};
-pub use memory::{Choice, Memory};
 pub use most::Most;
-pub use steps::{count_of, event_at, most_events, places};
-pub use ticks::Ticks;
-pub use twins::twins_of;
+pub use revisits::{Between, Lost, Origin, Revisits};
+pub use seen::{Entered, Seen, Way};

@@ -1,8 +1,7 @@
 ghost use Rattle.std.specs.Prelude.{◌≡◌, false};
 
-use crate::counted::run_counted;
 use crate::most::Most;
-use scx_explore_states::Watch;
+use scx_explore_findings::{Watch, run_counted};
 use scx_maps::Maps;
 use scx_sched::{Note, Sink};
 use scx_sched_world::World;

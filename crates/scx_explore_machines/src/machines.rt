@@ -1,10 +1,10 @@
-use crate::memory::Memory;
-use scx_explore_path::Pool;
+use scx_explore_bounds::Memory;
+use scx_explore_findings::Pool;
 use scx_sched::{Event, Sim, Sink};
 use std::alloc::{AllocError, Global};
 use std::marker::Model;
 
-/// How many states of a list keep their machines, from its end backwards.
+/// The number of states of a list that keep their machines, from its end backwards.
 const TRAIL: usize = 64;
 
 /// A state and the number of its machine.
@@ -20,7 +20,7 @@ struct Held {
 #[derive(Drop)]
 pub struct Machines {
     pool: Pool,
-    /// What is known beside each machine.
+    /// The memory beside each machine.
     memories: Vec<Memory>,
     first: Memory,
     free: Vec<usize>,
@@ -31,7 +31,7 @@ pub struct Machines {
     at: usize,
     /// States of the next depth that have one.
     next: Vec<Held>,
-    /// The end of a list: the state at that depth, and those behind it.
+    /// The end of a list: the state at that depth, and those after it.
     trail: Vec<Held>,
     trail_depth: usize,
 }
@@ -43,8 +43,18 @@ impl Model for Machines {
 }
 
 impl Machines {
-    /// All of them are free.
-    pub fn new(alloc: Global, pool: Pool, first: Memory) -> Result<Machines, AllocError> {
+    /// `count` copies of that machine. All of them are free.
+    ///
+    /// # Errors
+    ///
+    /// Memory runs out.
+    pub fn new(
+        alloc: Global,
+        root: Sim,
+        count: usize,
+        first: Memory,
+    ) -> Result<Machines, AllocError> {
+        let pool = Pool::new(alloc, root, count)?;
         match Lists::new(alloc, pool.len(), first) {
             Ok(lists) => Ok(of_lists(pool, first, lists)),
             Err(error) => {
@@ -54,7 +64,7 @@ impl Machines {
         }
     }
 
-    /// A machine that nobody has; the first one where there is none.
+    /// A free machine; the first one if there is none.
     pub fn take_or_0(&mut self) -> usize {
         match self.free.pop() {
             Some(machine) => machine,
@@ -62,7 +72,7 @@ impl Machines {
         }
     }
 
-    /// A machine that nobody has, if there is one.
+    /// A free machine, if there is one.
     pub fn take(&mut self) -> Option<usize> {
         self.free.pop()
     }
@@ -81,7 +91,7 @@ impl Machines {
         }
     }
 
-    /// What is known beside it.
+    /// The memory beside a machine.
     pub fn memory(&self, machine: usize) -> Memory {
         match self.memories.get(machine) {
             Some(memory) => *memory,
@@ -89,7 +99,7 @@ impl Machines {
         }
     }
 
-    /// That is known beside it from now on.
+    /// Sets the memory beside a machine.
     pub fn set_memory(&mut self, machine: usize, memory: Memory) {
         if let Some(place) = self.memories.get_mut(machine) {
             *place = memory;
@@ -127,7 +137,7 @@ impl Machines {
         other
     }
 
-    /// The machine of that state of the depth at hand, if it has one. It is in nobody's hands then.
+    /// Takes the machine of that state of the depth at hand, if it has one.
     pub fn of(&mut self, state: usize) -> Option<usize> {
         let held = *self.here.get(self.at)?;
         if held.state != state {
@@ -147,7 +157,7 @@ impl Machines {
         self.at = 0;
     }
 
-    /// The machine of that state of that depth, if it is on the trail, of which what is behind it is cut off.
+    /// The machine of that state of that depth, if it is on the trail, which is cut after it.
     pub fn cut_trail(&mut self, state: usize, depth: usize) -> Option<usize> {
         let at = depth.checked_sub(self.trail_depth)?;
         let held = *self.trail.get(at)?;
@@ -187,13 +197,13 @@ impl Machines {
         Some(self.trail.remove(0).machine)
     }
 
-    /// The state comes behind the trail.
+    /// Appends the state to the trail.
     pub fn lengthen_trail(&mut self, state: usize, machine: usize) {
         push(&mut self.trail, Held { state, machine });
     }
 }
 
-/// All lists of so many machines, whose memory is taken at once.
+/// All lists of the machines, whose memory is taken at once.
 #[derive(Drop)]
 struct Lists {
     memories: Vec<Memory>,
@@ -217,7 +227,7 @@ impl Lists {
     }
 }
 
-/// How many of so many machines are for the trail: the first ones.
+/// The number of machines for the trail, of `count`: the first ones.
 fn spare_of(count: usize) -> usize {
     TRAIL.min(count / 2)
 }
@@ -254,7 +264,7 @@ fn of_lists(pool: Pool, first: Memory, lists: Lists) -> Machines {
     }
 }
 
-/// Puts it behind, where there is room.
+/// Appends the item, if there is room.
 pub fn push<T: Drop>(items: &mut Vec<T>, item: T) {
     if items.len() < items.capacity() {
         items.push_reserved(item);

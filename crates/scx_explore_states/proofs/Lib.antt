@@ -1,6 +1,4 @@
 mod Eight
 mod Placed
 mod Putting
-mod Slots
 mod Spots
-mod Tables

@@ -1,4 +1,4 @@
--- What half a word tells of a task.
+-- Half a word tells each part of a task's spot.
 use Rattle.std.specs.Prelude.{◌≡◌, ◌<◌}
 use Rattle.scx_explore_states.specs.declared.rows.Spot.{Spot}
 use Rattle.scx_explore_states.specs.Rows.{spot_number}

@@ -1,4 +1,4 @@
--- A state in words.
+-- Numbers of queues, by which the words of a state name them.
 use Rattle.std.specs.Prelude.{ℕ, ◌<◌, ◌==◌, ◌&&◌, nat_lt, List, [], ◌∷◌, ◌++◌, length, All, if◌then◌else◌, Option, Some, None, unwrap_or, position}
 use Rattle.scx_dsq.specs.declared.entries.Entry.{Entry}
 

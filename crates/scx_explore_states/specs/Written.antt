@@ -1,4 +1,4 @@
--- A state in words, as a function of the machine's state.
+-- The words of a state, as a function of the machine's state.
 use Rattle.std.specs.Prelude.{◌≡◌, ℕ, zero, suc, ◌+◌, ◌*◌, ◌/◌, ◌%◌, ◌^◌, ◌<◌, min, Bool, true, List, [], ◌∷◌, ◌++◌, length, take, drop, bit_or, nat_lt, Contains, slice_index, slice_index_or, All, Option, IfSome, if◌then◌else◌}
 use Rattle.scx_dsq.specs.declared.entries.Entry.{Entry}
 use Rattle.scx_maps.specs.Lending.{all_bytes}
@@ -14,11 +14,11 @@ use Rattle.scx_explore_states.specs.Words.{number_in}
 
 -- ---- words
 
--- the number in so many high bits, and the other one behind it
+-- one number, shifted up by n bits, and the other one below it
 abbrev pub joined : ℕ → ℕ → ℕ → ℕ
 joined n a b = bit_or (a * 2 ^ n % 2 ^ 64) b
 
--- behind that number the bytes one after another, each of them below the last one
+-- that number, and below it the bytes, each of them below the last one
 abbrev pub word_from : ℕ → List ℕ → ℕ
 word_from n [] = n
 word_from n (b ∷ bs) = word_from (joined 8 n b) bs
@@ -49,7 +49,7 @@ row_in rows order p = slice_index_or rows (task_in order p) no_row
 abbrev pub home_at : WorldState → ℕ → ℕ
 home_at w t = if nat_lt t (length w.tasks) then group_at w t else 18446744073709551615
 
--- each of the first eight tasks stands somewhere, and tasks of a group may have changed places; they
+-- each of the first eight tasks is at some place, and tasks of a group may have changed places; they
 -- haven't where the form tells them apart
 pub record IsFair (f : Form) (w : WorldState) (order : List ℕ) : Type 0 where
   pub names : f.names ≡ true → order ≡ own_order
@@ -58,7 +58,7 @@ pub record IsFair (f : Form) (w : WorldState) (order : List ℕ) : Type 0 where
 
 -- ---- the parts of a state
 
--- half a word each of the first so many pairs of tasks
+-- a word for each of the first n pairs of tasks
 abbrev pub spot_words : List Row → List ℕ → ℕ → List ℕ
 spot_words rows order zero = []
 spot_words rows order (suc n) =
@@ -70,7 +70,7 @@ abbrev pub row_words : Form → Row → List ℕ
 row_words f r =
     r.slice ∷ (kept_word f.keys r.key ++ (kept_word f.vtime r.vtime ++ kept_word f.run_ns r.run_ns))
 
--- the same of the tasks at the first so many places
+-- what is kept beside it of the tasks at the first n places
 abbrev pub rows_words : Form → List Row → List ℕ → ℕ → List ℕ
 rows_words f rows order zero = []
 rows_words f rows order (suc n) = rows_words f rows order n ++ row_words f (row_in rows order n)
@@ -79,12 +79,12 @@ rows_words f rows order (suc n) = rows_words f rows order n ++ row_words f (row_
 abbrev pub time_words : Form → WorldState → List ℕ
 time_words f w = kept_word f.clock w.clock ++ kept_word f.pushes w.queues.pushes
 
--- what the first so many groups have used
+-- what the first n groups have used
 abbrev pub used_words : Hierarchy → ℕ → List ℕ
 used_words t zero = []
 used_words t (suc n) = used_words t n ++ usage_of t n ∷ []
 
--- the same of all, behind the clock, where a group has a quota
+-- what all groups have used, after the clock, where a group has a quota
 abbrev pub usage_words : WorldState → List ℕ
 usage_words w =
     if has_quota w.tree.groups then w.clock ∷ used_words w.tree (length w.tree.groups) else []
@@ -93,7 +93,7 @@ usage_words w =
 abbrev pub eight_at : List ℕ → ℕ → List ℕ
 eight_at bytes n = take 8 (drop (8 * n) bytes)
 
--- so many words of eight bytes
+-- n words of eight bytes
 abbrev pub byte_words : List ℕ → ℕ → List ℕ
 byte_words bytes zero = []
 byte_words bytes (suc n) = byte_words bytes n ++ word_of (eight_at bytes n) ∷ []
@@ -115,7 +115,7 @@ state_words f rows order s =
 abbrev pub AreKnown : List ℕ → List (Option Entry) → Type 0
 AreKnown ids es = All (λ o. IfSome o (λ e. number_in ids e.queue < length ids)) es
 
--- the words are those of the state, behind one that says who began to run while another waits, with
+-- the words are those of the state, after one that says who began to run while another waits, with
 -- tasks of a group in any order where the form doesn't tell them apart
 pub record IsWritten (f : Form) (ids : List ℕ) (xs : List ℕ) (s : SimState) : Type 0 where
   pub began : ℕ

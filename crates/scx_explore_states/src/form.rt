@@ -1,22 +1,20 @@
-ghost use Rattle.std.specs.Prelude.{◌≡◌, ◌≤◌, true, nat_lt};
-ghost use Rattle.scx_explore_states.specs.Forms.{form_of, without_names};
+ghost use Rattle.std.specs.Prelude.{◌≤◌};
 
 use crate::rows::kept_tasks;
-use crate::uses::Uses;
 use scx_sched::Sim;
 
 /// The most tasks of a machine that is searched.
 pub const MOST_TASKS: usize = 8;
 
-/// What is kept of a state beside where tasks are, the slices of those that run or wait, what groups with quotas used,
-/// and maps.
+/// The parts of a state that are kept, beside places of tasks, slices of tasks that run or wait, usages of groups with
+/// quotas, and maps.
 #[derive(Clone, Copy)]
 pub struct Form {
     /// The clock.
     pub clock: bool,
-    /// How many pushes were accepted, which nobody can tell.
+    /// The number of accepted pushes, which no program can tell.
     pub pushes: bool,
-    /// How long tasks wait.
+    /// The waits of tasks.
     pub waits: bool,
     /// The slices of tasks that sleep or are held.
     pub idle_slices: bool,
@@ -24,12 +22,12 @@ pub struct Form {
     pub keys: bool,
     /// The virtual times of tasks.
     pub vtime: bool,
-    /// How long tasks have run.
+    /// The run times of tasks.
     pub run_ns: bool,
-    /// Which task of a group is which.
+    /// The numbers of tasks, by which those of a group are told apart.
     pub names: bool,
-    /// The weights of groups. A machine doesn't tell them: who sets weights in lists keeps those that were set last, in
-    /// words behind those of the state.
+    /// The weights of groups. A machine doesn't tell them: a search whose lists set weights keeps the last ones, in words
+    /// after those of the state.
     pub weights: bool,
 }
 
@@ -47,56 +45,7 @@ impl Form {
         weights: true,
     };
 
-    /// For lists of so many events, under a policy whose programs do that and which lets tasks wait so long.
-    ///
-    /// What no program can read is left out: the clock, where none asks for it; virtual times, how long tasks have run
-    /// and weights, where none loads them; and virtual times in queues, where none inserts by one. Waits are left out
-    /// where no list is long enough that one could end in an ejection. Pushes are left out: they are only compared
-    /// within a queue, and there places say who came first.
-    pub fn of_events(uses: Uses, timeout_ms: u32, depth: usize) -> Form
-        ensures { result ≡ form_of uses (nat_lt timeout_ms depth) }
-    {
-        Form::of(uses, (timeout_ms as usize) < depth)
-    }
-
-    /// For lists of milliseconds, under a policy whose programs do that. The same is left out, but waits are kept.
-    pub fn of_milliseconds(uses: Uses) -> Form
-        ensures { result ≡ form_of uses true }
-    {
-        Form::of(uses, true)
-    }
-
-    fn of(uses: Uses, waits: bool) -> Form
-        ensures { result ≡ form_of uses waits }
-    {
-        Form {
-            clock: uses.clock,
-            pushes: false,
-            waits,
-            idle_slices: uses.tells_idle_slices(),
-            keys: uses.vtime_inserts,
-            vtime: uses.vtime,
-            run_ns: uses.run_ns,
-            names: true,
-            weights: uses.weight,
-        }
-    }
-
-    /// The same, where tasks of a group may change places: for lists of events, under a policy whose programs do that.
-    ///
-    /// Tasks are told apart where a program loads the number of one or asks for one by its number. Else the machine
-    /// alone orders them, by their numbers as a policy is ejected, and in a state that is kept it is in force. So what
-    /// follows where two of a group have changed places is the same with these two changed.
-    pub fn without_names(self, uses: Uses) -> Form
-        ensures { result ≡ without_names self uses }
-    {
-        Form {
-            names: uses.pid || uses.task_by_pid,
-            ..self
-        }
-    }
-
-    /// How many words the state of such a machine has.
+    /// The number of words of a state of this machine.
     pub fn width(self, sim: &Sim) -> usize {
         let tasks = kept_tasks(sim);
         1 + tasks.div_ceil(2)
@@ -107,7 +56,7 @@ impl Form {
             + sim.maps().bytes().len().div_ceil(8)
     }
 
-    /// How many words each task has beside half a one.
+    /// The number of words of each task, beside half a word.
     fn task_words(self) -> usize
         ensures { result ≤ 4 }
     {
@@ -115,7 +64,7 @@ impl Form {
     }
 }
 
-/// How many words say what groups have used.
+/// The number of words for the usages of groups.
 fn usage_words(sim: &Sim) -> usize
     ensures { result ≤ 4294967296 }
 {

@@ -1,20 +1,15 @@
-//! States of machines, as a search keeps them.
+//! States of machines in words.
 //!
-//! `Uses` says what the programs of a policy do. `Form` writes a state as words, without what neither the machine nor
-//! such programs can tell. `Seen` keeps such states, each once, and how each was come to. `Watch` follows which tasks
-//! began to run while another waits.
+//! A `Form` says what is kept of a state: no more than the machine and the programs of a policy can tell. It writes
+//! that as `Words`, in which `QueueNumbers` number the queues. A `Step` leads from one state to another.
 #![tactic(auto)]
 
 mod form;
 mod laws;
-mod marks;
 mod order;
 mod queue_numbers;
 mod rows;
-mod seen;
 mod step;
-mod uses;
-mod watch;
 mod words;
 mod written;
 
@@ -22,8 +17,5 @@ pub use form::{Form, MOST_TASKS};
 pub use laws::half_words_tell;
 pub use queue_numbers::QueueNumbers;
 pub use rows::MOST_CPUS;
-pub use seen::{Entered, Seen, Way};
 pub use step::{Step, Tasks};
-pub use uses::Uses;
-pub use watch::{Pair, Watch, Watched};
 pub use words::Words;

@@ -57,7 +57,7 @@ impl QueueNumbers {
         }
     }
 
-    /// How many queues have a number.
+    /// The number of queues that have a number.
     pub fn len(&self) -> usize
         ensures count { result ≡ length self.now }
         ensures few { result ≤ most_queues }
@@ -65,7 +65,7 @@ impl QueueNumbers {
         self.ids.len()
     }
 
-    /// Whether each queue that has a number there has one here.
+    /// True if each queue that has a number in `others` has one here.
     pub fn has_all(&self, others: &QueueNumbers) -> bool
         ensures { result ≡ true → HasNumbers self.now others.now }
     {
@@ -81,7 +81,7 @@ impl QueueNumbers {
     }
 }
 
-/// Whether each of the others is in the list.
+/// True if each of the others is in the list.
 fn have_numbers(ids: &[u64], others: &[u64]) -> bool
     ensures { result ≡ true → HasNumbers ids.now others.now }
 {
@@ -93,7 +93,7 @@ fn have_numbers(ids: &[u64], others: &[u64]) -> bool
     true
 }
 
-/// Whether the number is in the list.
+/// True if the number is in the list.
 fn is_among(ids: &[u64], id: u64) -> bool
     ensures { result ≡ true → number_in ids.now id < length ids.now }
 {

@@ -1,7 +1,7 @@
 use crate::form::MOST_TASKS;
 use scx_sched::Event;
 
-/// How a search comes from one state to another.
+/// A step of a search from one state to another.
 #[derive(Clone, Copy)]
 pub enum Step {
     /// By one event.
@@ -20,7 +20,7 @@ pub struct Tasks {
 impl Tasks {
     pub const NONE: Tasks = Tasks { mask: 0 };
 
-    /// Whether the task is one of these.
+    /// True if the task is one of these.
     #[inline(always)]
     pub fn has(self, task: u16) -> bool {
         self.mask & bit(task) != 0
@@ -58,7 +58,7 @@ impl Tasks {
         }
     }
 
-    /// How many they are.
+    /// The number of these tasks.
     #[inline(always)]
     pub fn count(self) -> u32 {
         self.mask.count_ones()

@@ -5,7 +5,7 @@ use crate::queue_numbers::QueueNumbers;
 use std::alloc::{AllocError, Global};
 use std::marker::Model;
 
-/// The words of a state, with room for so many, and the numbers of queues in them.
+/// The words of a state, and the numbers of queues in them.
 ///
 /// In a contract it is the words.
 #[derive(Drop)]
@@ -23,7 +23,7 @@ impl Model for Words {
 }
 
 impl Words {
-    /// There are none, and room for so many.
+    /// No words, with room for `width`.
     pub fn new(alloc: Global, width: usize) -> Result<Words, AllocError>
         ensures { IfOk result (λ words. words ≡ []) }
     {
@@ -45,7 +45,7 @@ impl Words {
         &self.numbers
     }
 
-    /// Puts a word behind those that are there, if there is room for it.
+    /// Appends a word, if there is room for it.
     pub fn put(&mut self, word: u64) -> bool
         ensures { result ≡ true → self.new ≡ self.old ++ word ∷ [] }
     {
@@ -53,7 +53,7 @@ impl Words {
     }
 }
 
-/// Puts a word behind the others, if there is room for it.
+/// Appends a word, if there is room for it.
 pub(crate) fn put(words: &mut Vec<u64>, word: u64) -> bool
     ensures { result ≡ true → words.new.items ≡ words.old.items ++ word ∷ [] }
 {

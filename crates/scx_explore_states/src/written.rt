@@ -12,7 +12,7 @@ use scx_isa::{Field, TaskId};
 use scx_sched::{Entry, Sim};
 use scx_vm::Env;
 
-/// Which task stands at each place.
+/// The task at each place.
 type TaskOrder = [u8; MOST_TASKS];
 
 impl Form {
@@ -25,7 +25,7 @@ impl Form {
         self.write_words(sim, first, &rows, &order.tasks(), &mut words.words);
     }
 
-    /// The same, where queues have these numbers. Answers false where there is no room for the words, or a task waits in
+    /// Writes the state, if queues have these numbers. Returns false if the words have no room, or a task waits in
     /// a queue without a number.
     pub fn write_state(
         self,
@@ -62,7 +62,7 @@ impl Form {
         Order::of(sim, &rows).by_tasks(began)
     }
 
-    /// Where tasks are told apart each stands at its own place.
+    /// If tasks are told apart, each is at its own place.
     #[inline(always)]
     fn order_of(self, sim: &Sim, rows: &[Row; MOST_TASKS], began: u64) -> Order {
         if self.names {
@@ -76,7 +76,7 @@ impl Form {
         }
     }
 
-    /// Writes the first word and behind it those of the state, in place of those in the list.
+    /// Writes the first word and after it those of the state, in place of those in the list.
     fn write_words(
         self,
         sim: &Sim,
@@ -182,7 +182,7 @@ impl Form {
         put_kept(self.pushes, pushes, words)
     }
 
-    /// Whether each task stands at its own place; or somewhere, at its own place or at that of another one of its group,
+    /// True if each task is at its own place; or somewhere, at its own place or at that of another one of its group,
     /// where tasks aren't told apart.
     fn is_fair(self, sim: &Sim, order: &TaskOrder) -> bool
         ensures { result ≡ true → IsFair self sim.now.state.world order.now }
@@ -200,7 +200,7 @@ impl Form {
     }
 }
 
-/// Whether each task that waits does so in a queue that has a number.
+/// True if each queue in which a task waits has a number.
 fn are_known(sim: &Sim, numbers: &QueueNumbers) -> bool
     ensures { result ≡ true → AreKnown numbers.now (entries_of sim.now.state.world) }
 {
@@ -280,7 +280,7 @@ fn put_limited(sim: &Sim, words: &mut Vec<u64>) -> bool
     put_used(sim, groups, words)
 }
 
-/// What the first so many groups have used.
+/// The usages of the first `groups` groups.
 fn put_used(sim: &Sim, groups: u32, words: &mut Vec<u64>) -> bool
     requires { groups ≤ length sim.now.state.world.tree.groups }
     ensures { result ≡ true → words.new.items
@@ -321,7 +321,7 @@ fn eight_at(bytes: &[u8], at: usize) -> &[u8]
     &rest[..8]
 }
 
-/// What is kept of the task at that place.
+/// The row of the task at that place.
 #[tactic(auto, using(crate::proofs::Placed::any_default))]
 fn row_in(rows: &[Row; MOST_TASKS], order: &TaskOrder, place: usize) -> Row
     ensures { result ≡ row_in rows.now order.now place }
@@ -343,7 +343,7 @@ fn is_same(one: &[u8], other: &[u8]) -> bool
     one == other
 }
 
-/// Whether each task stands somewhere.
+/// True if each task is at some place.
 fn is_whole(order: &TaskOrder) -> bool
     ensures { result ≡ true → (t : ℕ) → t < 8 → Contains order.now t }
 {
@@ -367,7 +367,7 @@ fn has(order: &[u8], task: u8) -> bool
     false
 }
 
-/// Whether each task stands at its own place or at that of another one of its group.
+/// True if each task is at its own place or at that of another one of its group.
 fn keeps_homes(sim: &Sim, order: &TaskOrder) -> bool
     ensures { result ≡ true → (p : ℕ) → p < 8
         → home_at sim.now.state.world (task_in order.now p) ≡ home_at sim.now.state.world p }

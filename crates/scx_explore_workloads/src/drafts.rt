@@ -2,10 +2,10 @@ use scx_load_workloads::Timing;
 use scx_sched::{Event, Sim, Unseen};
 use std::alloc::{AllocError, Global};
 
-/// How many nanoseconds a processor's tick is.
+/// The nanoseconds of a tick.
 const TICK_NS: u64 = 1_000_000;
 
-/// What a list of events says of a task's times.
+/// The times of a task in a list of events.
 #[derive(Clone, Copy)]
 struct Draft {
     start: Option<u32>,
@@ -13,17 +13,17 @@ struct Draft {
     sleep: Option<u32>,
     /// The millisecond in which it went to sleep last.
     slept: Option<u32>,
-    /// How long it had run when it woke last, in nanoseconds.
+    /// Its run time when it woke last, in nanoseconds.
     ran: u64,
 }
 
-/// What a list of events says of each task's times, and of how long it lasts.
+/// The times of each task in a list of events, and the length of the list.
 #[derive(Drop)]
 pub(crate) struct Drafts {
     drafts: Vec<Draft>,
-    /// How many milliseconds are over.
+    /// The number of milliseconds that are over.
     clock: u32,
-    /// Whether a further one has begun.
+    /// True if a further one has begun.
     has_begun: bool,
 }
 
@@ -56,7 +56,7 @@ impl Draft {
         }
     }
 
-    /// The task's times in a workload of so many milliseconds. What the list doesn't say comes after its end.
+    /// The task's times in a workload of `ms` milliseconds. What the list doesn't say comes after its end.
     fn timing(self, ms: u32) -> Timing {
         Timing {
             start: self.start.unwrap_or(ms),
@@ -70,13 +70,13 @@ impl Draft {
     }
 }
 
-/// How many whole milliseconds that is, in a number of 32 bits.
+/// The whole milliseconds of that time, in a number of 32 bits.
 fn milliseconds(nanoseconds: u64) -> u32 {
     u32::try_from(nanoseconds / TICK_NS).unwrap_or(u32::MAX)
 }
 
 impl Drafts {
-    /// Nothing is known of so many tasks.
+    /// Nothing is known of these tasks.
     fn new(alloc: Global, tasks: usize) -> Result<Drafts, AllocError> {
         Ok(Drafts {
             drafts: vec![in alloc; Draft::NEW; tasks]?,
@@ -85,7 +85,7 @@ impl Drafts {
         })
     }
 
-    /// How many milliseconds the list has; one that has ended early counts.
+    /// The number of milliseconds of the list; one that has ended early counts.
     pub(crate) fn ms(&self) -> u32 {
         if self.has_begun || self.clock == 0 {
             self.clock.saturating_add(1)
@@ -124,7 +124,7 @@ impl Drafts {
     }
 }
 
-/// What the list says, from that machine on, which goes through it.
+/// The times in the list, from that machine on, which goes through it.
 pub(crate) fn times_in(
     alloc: Global,
     sim: &mut Sim,

@@ -12,7 +12,7 @@ use scx_sched::{Event, Sim};
 use std::alloc::{AllocError, Global};
 
 /// The text of a workload file with the groups, tasks and processors of that workload, whose events begin with the
-/// list; none where the list is of no such file. Two machines go through the list, one behind the other: the first to
+/// list; none where the list is of no such file. Two machines go through the list, one after the other: the first to
 /// see how long tasks run, the second to see that the file is one of the list.
 ///
 /// # Errors
@@ -37,7 +37,7 @@ pub fn workload_file(
     }
 }
 
-/// Whether the text is a workload file with the groups, tasks and processors of that workload, whose events, for that
+/// True if the text is a workload file with the groups, tasks and CPUs of that workload, whose events, for that
 /// machine, begin with the list. The machine goes through them.
 ///
 /// # Errors
@@ -61,7 +61,7 @@ pub fn begins_with(
     }
 }
 
-/// Whether the file has the parts of that workload, and its events begin with the list.
+/// True if the file has the parts of that workload, and its events begin with the list.
 #[tactic(auto, using(crate::proofs::Filing::run_of))]
 fn is_file_of(
     alloc: Global,

@@ -8,7 +8,7 @@ use scx_load_workloads::Workload;
 use scx_sched::{Event, Sim, Unseen};
 use std::alloc::{AllocError, Global};
 
-/// Whether the workload's events, for that machine, begin with the list. The machine goes through them.
+/// True if the workload's events, for that machine, begin with the list. The machine goes through them.
 #[tactic(auto, using(crate::proofs::Beginning::begins_as))]
 pub(crate) fn follows(
     alloc: Global,
@@ -23,7 +23,7 @@ pub(crate) fn follows(
     Ok(are_next(&mut driver, sim, events))
 }
 
-/// Whether the events that come next are those of the list.
+/// True if the events that come next are those of the list.
 #[tactic(auto, using(crate::proofs::Beginning::all_came, crate::proofs::Beginning::next_more))]
 fn are_next(driver: &mut Driver, sim: &mut Sim, events: &[Event]) -> bool
     ensures { result ≡ true → BeginsWith (remaining driver.old sim.old) events.now }
@@ -36,7 +36,7 @@ fn are_next(driver: &mut Driver, sim: &mut Sim, events: &[Event]) -> bool
     true
 }
 
-/// Whether that event comes next, and the machine accepts it.
+/// True if that event comes next, and the machine accepts it.
 #[tactic(auto, using(crate::proofs::Beginning::came))]
 fn is_next(driver: &mut Driver, sim: &mut Sim, event: Event) -> bool
     ensures { result ≡ true → remaining driver.old sim.old ≡ event ∷ remaining driver.new sim.new }

@@ -5,7 +5,7 @@ ghost use Rattle.scx_explore_workloads.specs.Files.{HasSameParts};
 use scx_load_workloads::Workload;
 use scx_weights::Group;
 
-/// Whether both have the same processors, groups and tasks in groups.
+/// True if both have the same CPUs, groups and tasks in groups.
 pub(crate) fn has_same_parts(file: &Workload, workload: &Workload) -> bool
     ensures { result ≡ true → HasSameParts file.now workload.now }
 {
@@ -29,7 +29,7 @@ fn are_same_groups(groups: &[Group], others: &[Group]) -> bool
     true
 }
 
-/// Whether the same group stands there in both lists.
+/// True if the group of that number is the same in both lists.
 fn are_same_at(groups: &[Group], others: &[Group], at: usize) -> bool
     ensures first { result ≡ true → at < length groups.now }
     ensures second { result ≡ true → at < length others.now }

@@ -1,9 +1,9 @@
 use Rattle.std.proofs.Common.{◌∙◌, refl, ap}
 use Rattle.std.proofs.lemmas.List.{length-set}
-use Rattle.scx_explore_path.specs.Path.{PathState}
+use Rattle.scx_explore_findings.specs.Path.{PathState}
 use Rattle.scx_explore_audit.specs.Closed.{IsSettled, claim_of}
 use Rattle.scx_explore_audit.proofs.Settled.{all_marked, marked_past, one_marked, settled_at}
-use Rattle.scx_explore_audit.proofs.Going.{tried_same}
+use Rattle.scx_explore_audit.proofs.TriedPaths.{tried_same}
 use Rattle.scx_explore_audit.proofs.audit.are_done.Goals as goal
 
 pub loop-init : goal.loop-init

@@ -1,6 +1,6 @@
 use Rattle.std.proofs.Common.{◌≡◌, ℕ, ◌<◌, [], ◌∷◌}
 use Rattle.scx_sched_machine.specs.declared.events.Event.TheVariants.{Tick}
-use Rattle.scx_explore_path.specs.Path.{machine_of}
+use Rattle.scx_explore_findings.specs.Path.{machine_of}
 use Rattle.scx_explore_audit.specs.Closed.{LeadsBack, claim_of}
 use Rattle.scx_explore_audit.proofs.events.cpus_lead_back.Given as goal
 

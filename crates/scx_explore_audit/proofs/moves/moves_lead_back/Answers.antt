@@ -1,4 +1,4 @@
-use Rattle.scx_explore_path.specs.Path.{machine_of}
+use Rattle.scx_explore_findings.specs.Path.{machine_of}
 use Rattle.scx_explore_audit.specs.Closed.{claim_of}
 use Rattle.scx_explore_audit.proofs.Passing.{each_single, each_millisecond}
 use Rattle.scx_explore_audit.proofs.moves.moves_lead_back.Goals as goal

@@ -1,6 +1,6 @@
 use Rattle.std.proofs.Common.{◌≡◌, ℕ, true, ap, ◌∙◌, arith}
 use Rattle.scx_dsq.specs.Queues.{exists}
-use Rattle.scx_explore_path.specs.Path.{PathState}
+use Rattle.scx_explore_findings.specs.Path.{PathState}
 use Rattle.scx_explore_audit.proofs.Numbered.{all_numbered, queues_at}
 use Rattle.scx_explore_audit.proofs.Settled.{begun_tried}
 use Rattle.scx_explore_audit.proofs.queues.are_queues.Goals as goal

@@ -1,6 +1,6 @@
 use Rattle.std.proofs.Common.{ap}
-use Rattle.scx_explore_path.specs.Path.{PathState}
-use Rattle.scx_explore_audit.proofs.Going.{tried_back}
+use Rattle.scx_explore_findings.specs.Path.{PathState}
+use Rattle.scx_explore_audit.proofs.TriedPaths.{tried_back}
 use Rattle.scx_explore_audit.proofs.walking.go_back.Goals as goal
 
 pub returns-clause-root : goal.returns-clause-root

@@ -1,6 +1,7 @@
 use Rattle.std.proofs.Common.{ap, ◌∙◌}
-use Rattle.scx_explore_path.specs.Path.{PathState}
-use Rattle.scx_explore_audit.proofs.Going.{tried_on, went_room, went_root}
+use Rattle.scx_explore_findings.specs.Path.{PathState}
+use Rattle.scx_explore_findings.proofs.CommonBeginnings.{went_room, went_root}
+use Rattle.scx_explore_audit.proofs.TriedPaths.{tried_on}
 use Rattle.scx_explore_audit.proofs.walking.go_on.Goals as goal
 
 pub returns-clause-root : goal.returns-clause-root

@@ -1,0 +1,3 @@
+mod Slots
+mod Tables
+mod EachProgram

@@ -1,0 +1,88 @@
+-- Forms: the parts of a state that are kept under a policy, by what its programs do.
+use Rattle.std.specs.Prelude.{◌≡◌, ℕ, nat_lt, Bool, true, false, ◌&&◌, ◌||◌, List, [], ◌∷◌, Option, Some, None, Ok}
+use Rattle.scx_isa_semantics.specs.Code.{Code}
+use Rattle.scx_isa_semantics.specs.declared.callbacks.Callback.{Callback}
+use Rattle.scx_isa_semantics.specs.Callbacks.{at, callbacks}
+use Rattle.scx_maps.specs.declared.shape.Shape.{Shape}
+use Rattle.scx_vm.specs.Programs.{context}
+use Rattle.scx_load_policies.specs.Policies.{PolicyFile, Programs}
+use Rattle.scx_load_policies.specs.Reading.{policy_text}
+use Rattle.scx_explore_states.specs.declared.form.Form.{Form}
+use Rattle.scx_explore_bounds.specs.declared.uses.Uses.{Uses}
+use Rattle.scx_explore_bounds.specs.Uses.{Does}
+use Rattle.scx_explore_bounds.specs.declared.bounds.Bounds.{Bounds}
+use Rattle.scx_explore_bounds.specs.declared.bounds.Mode.{Mode}
+use Rattle.scx_explore_bounds.specs.declared.bounds.Mode.TheVariants.{Events, Milliseconds, Workloads}
+
+-- ---- by what programs do
+
+-- a program can tell the slice of a task that sleeps or is held, before an insert gives it another
+-- one: an insert may keep it, or a program loads one before, or may load one of any task
+abbrev pub tells_idle_slices : Uses → Bool
+tells_idle_slices u = u.empty_slice || (u.early_slice || (u.slice && u.task_by_pid))
+
+-- what is kept under programs that do that, with waits or without: what one of them can tell
+abbrev pub form_of : Uses → Bool → Form
+form_of u waits = record {
+  clock = u.clock;
+  pushes = false;
+  waits = waits;
+  idle_slices = tells_idle_slices u;
+  keys = u.vtime_inserts;
+  vtime = u.vtime;
+  run_ns = u.run_ns;
+  names = true;
+  weights = u.weight;
+}
+
+-- that form, where tasks of a group may change places unless a program tells them apart: loads the
+-- number of a task or asks for a task by it
+abbrev pub without_names : Form → Uses → Form
+without_names f u = record f { names = u.pid || u.task_by_pid }
+
+-- ---- under a policy
+
+-- what is done where there is no program
+abbrev pub no_uses : Uses
+no_uses = record {
+  clock = false;
+  task_by_pid = false;
+  vtime_inserts = false;
+  pid = false;
+  weight = false;
+  vtime = false;
+  run_ns = false;
+  slice = false;
+  early_slice = false;
+  empty_slice = false;
+}
+
+-- the second are the first with what the program of the callback does, if it has one
+abbrev pub DoesAs : List Shape → Callback → Option Code → Uses → Uses → Type 0
+DoesAs shapes b None u v = v ≡ u
+DoesAs shapes b (Some code) u v = Does u (context b shapes) code v
+
+-- the second are the first with what the programs of these callbacks do, one after another
+abbrev pub DoAll : List Shape → Programs → List Callback → Uses → Uses → Type 0
+DoAll shapes p [] u v = v ≡ u
+DoAll shapes p (b ∷ bs) u v = (w : Uses) × DoesAs shapes b (at p b) u w × DoAll shapes p bs w v
+
+-- What is kept in lists of that mode and depth, where tasks wait so long at most and programs do
+-- that: in lists of events waits only where one may be too long, and tasks of a group may change
+-- places.
+abbrev pub form_within : Mode → ℕ → ℕ → Uses → Form
+form_within Events depth timeout_ms u = without_names (form_of u (nat_lt timeout_ms depth)) u
+form_within Milliseconds depth timeout_ms u = form_of u true
+form_within Workloads depth timeout_ms u = form_of u true
+
+-- what is kept in lists within the bounds, under the policy of a file
+pub record IsFormIn (file : PolicyFile) (b : Bounds) (f : Form) : Type 0 where
+  pub uses : Uses
+  pub done : DoAll file.shapes file.programs callbacks no_uses uses
+  pub form : f ≡ form_within b.mode b.depth file.timeout_ms uses
+
+-- what is kept in lists within the bounds, under the policy of a text
+pub record IsFormOf (policy : List ℕ) (b : Bounds) (f : Form) : Type 0 where
+  pub file : PolicyFile
+  pub read : policy_text policy ≡ Ok file
+  pub form : IsFormIn file b f

@@ -1,0 +1,3 @@
+pub mod Uses
+pub mod Events
+pub mod Forms

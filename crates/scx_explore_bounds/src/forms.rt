@@ -1,0 +1,129 @@
+ghost use Rattle.std.specs.Prelude.{◌≡◌, true, nat_lt, IfOk, option_map};
+ghost use Rattle.scx_isa_semantics.specs.Callbacks.{callbacks};
+ghost use Rattle.scx_explore_bounds.specs.Forms.{DoAll, DoesAs, IsFormIn, IsFormOf, form_of, form_within, no_uses, without_names};
+
+use crate::bounds::{Bounds, Mode};
+use crate::uses::Uses;
+use scx_explore_states::Form;
+use scx_isa::{CALLBACKS, Callback, Program};
+use scx_load_policies::{PolicyText, Programs, read_policy};
+use scx_maps::MapDefs;
+use std::alloc::{AllocError, Global};
+
+/// The form of states in lists within the bounds, under the policy of a text that was read before.
+///
+/// It leaves out what no program can read: the clock, where none asks for it; virtual times, run times and weights, where
+/// none loads them; and virtual times in queues, where none inserts by one. Where lists are of events, waits are left out
+/// if no list is long enough to end in an ejection for one. Pushes are always left out: they are compared within a queue
+/// only, and there places say which task came first.
+///
+/// Where lists are of events, and no program tells tasks of a group apart, these may change places. In a millisecond
+/// tasks have their turns by number.
+///
+/// # Errors
+///
+/// Memory runs out.
+pub fn form_of(alloc: Global, policy: &str, bounds: Bounds) -> Result<Form, AllocError>
+    ensures { IfOk result (IsFormOf policy.now bounds) }
+{
+    match read_policy(alloc, policy) {
+        Ok(text) => form_in(alloc, text, bounds),
+        Err(error) => {
+            drop(error);
+            Err(AllocError)
+        }
+    }
+}
+
+/// The form of states under the policy of a file.
+fn form_in(alloc: Global, text: PolicyText, bounds: Bounds) -> Result<Form, AllocError>
+    ensures { IfOk result (IsFormIn text bounds) }
+{
+    let timeout_ms = text.timeout_ms();
+    let uses = uses_of(alloc, text)?;
+    Ok(form_within(bounds.mode, bounds.depth, timeout_ms, uses))
+}
+
+/// All that the policy's programs do.
+fn uses_of(alloc: Global, text: PolicyText) -> Result<Uses, AllocError>
+    ensures { IfOk result (DoAll text.shapes text.programs callbacks no_uses) }
+{
+    let defs = *text.defs();
+    let programs = text.into_programs();
+    let uses = uses_in(alloc, &programs, &defs);
+    drop(programs);
+    uses
+}
+
+fn uses_in(alloc: Global, programs: &Programs, defs: &MapDefs) -> Result<Uses, AllocError>
+    ensures { IfOk result (DoAll defs.now programs.now callbacks no_uses) }
+{
+    let mut uses = Uses::NONE;
+    for callback in CALLBACKS {
+        uses = with_callback(alloc, uses, programs.get(callback), callback, defs)?;
+    }
+    Ok(uses)
+}
+
+/// Adds what the program of that callback does, if it has one.
+fn with_callback(
+    alloc: Global,
+    uses: Uses,
+    program: Option<&Program>,
+    callback: Callback,
+    defs: &MapDefs,
+) -> Result<Uses, AllocError>
+    ensures { IfOk result
+        (DoesAs defs.now callback (option_map (λ p. p.now) program.entry) uses) }
+{
+    match program {
+        Some(program) => uses.with(alloc, program, callback, defs),
+        None => Ok(uses),
+    }
+}
+
+fn form_within(mode: Mode, depth: usize, timeout_ms: u32, uses: Uses) -> Form
+    ensures { result ≡ form_within mode depth timeout_ms uses }
+{
+    match mode {
+        Mode::Events => without_names(form_of_events(uses, timeout_ms, depth), uses),
+        Mode::Milliseconds | Mode::Workloads => form_by(uses, true),
+    }
+}
+
+/// The form for lists of `depth` events, where tasks wait no longer than `timeout_ms`.
+fn form_of_events(uses: Uses, timeout_ms: u32, depth: usize) -> Form
+    ensures { result ≡ form_of uses (nat_lt timeout_ms depth) }
+{
+    form_by(uses, (timeout_ms as usize) < depth)
+}
+
+fn form_by(uses: Uses, waits: bool) -> Form
+    ensures { result ≡ form_of uses waits }
+{
+    Form {
+        clock: uses.clock,
+        pushes: false,
+        waits,
+        idle_slices: uses.tells_idle_slices(),
+        keys: uses.vtime_inserts,
+        vtime: uses.vtime,
+        run_ns: uses.run_ns,
+        names: true,
+        weights: uses.weight,
+    }
+}
+
+/// The form in which tasks of a group may change places, if no program tells them apart.
+///
+/// A program does so if it loads the number of a task or asks for one by its number. Else the machine alone orders tasks
+/// by their numbers, as a policy is ejected, and in a state that is kept it is in force. So if two tasks of a group have
+/// changed places, what follows is the same with these two changed.
+fn without_names(form: Form, uses: Uses) -> Form
+    ensures { result ≡ without_names form uses }
+{
+    Form {
+        names: uses.pid || uses.task_by_pid,
+        ..form
+    }
+}

@@ -1,0 +1,58 @@
+use scx_explore_states::{Form, Tasks};
+use scx_isa::{Field, TaskId};
+use scx_sched::Sim;
+use scx_vm::Env;
+
+/// Bit 8 t is set for each task t: with them those stay of who began to run that are of one task.
+const ONE_TASK: u64 = 0x0101_0101_0101_0101;
+
+/// The tasks that sleep just as one of their group with a lower number does: what follows as one of the two wakes,
+/// follows as the other one does. There are none where tasks of a group are told apart.
+pub fn twins_of(form: Form, sim: &Sim, began: u64) -> Tasks {
+    let mut twins = Tasks::NONE;
+    if form.names {
+        return twins;
+    }
+    for task in 0..sim.tasks() {
+        if has_twin_below(form, sim, began, task) {
+            twins = twins.with(task);
+        }
+    }
+    twins
+}
+
+fn has_twin_below(form: Form, sim: &Sim, began: u64, task: u16) -> bool {
+    for other in 0..task {
+        if began_as(began, other) == began_as(began, task) && are_twins(form, sim, other, task) {
+            return true;
+        }
+    }
+    false
+}
+
+/// While which tasks that one began to run.
+fn began_as(began: u64, task: u16) -> u64 {
+    began.wrapping_shr(u32::from(task)) & ONE_TASK
+}
+
+/// True if both sleep, are of one group, and the same is kept of them.
+fn are_twins(form: Form, sim: &Sim, one: u16, other: u16) -> bool {
+    if sim.is_runnable(one) || sim.is_runnable(other) || home_of(sim, one) != home_of(sim, other) {
+        return false;
+    }
+    let (one, other) = (sim.world().task(one), sim.world().task(other));
+    one.prev_cpu == other.prev_cpu
+        && is_same(form.idle_slices, one.slice, other.slice)
+        && is_same(form.vtime, one.vtime, other.vtime)
+        && is_same(form.run_ns, one.run_ns, other.run_ns)
+}
+
+/// The group of the task.
+fn home_of(sim: &Sim, task: u16) -> u64 {
+    sim.world().load(TaskId(task), Field::Group)
+}
+
+/// True if both are the same, or aren't kept.
+fn is_same(is_kept: bool, one: u64, other: u64) -> bool {
+    !is_kept || one == other
+}

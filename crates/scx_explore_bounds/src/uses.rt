@@ -1,0 +1,239 @@
+ghost use Rattle.std.specs.Prelude.{◌≡◌, option_copied, IfOk};
+ghost use Rattle.scx_explore_bounds.specs.Forms.{tells_idle_slices};
+ghost use Rattle.scx_explore_bounds.specs.Uses.{Does, either, gives_none, has, is_call, is_early, is_field, is_helper, is_insert, is_load, is_of_task, is_task, is_use, may_be_0, with_listing};
+
+use scx_abs::{AbsState, Kind};
+use scx_isa::{Callback, Field, Helper, Insn, Program, Register};
+use scx_maps::MapDefs;
+use scx_verify_explain::Listing;
+use scx_vm::Context;
+use std::alloc::{AllocError, Global};
+
+/// The helper calls and loads of a policy's programs that decide what they can tell of a state.
+#[derive(Clone, Copy)]
+pub struct Uses {
+    /// One asks for the clock.
+    pub clock: bool,
+    /// One asks for a task by its number.
+    pub task_by_pid: bool,
+    /// One inserts by virtual time.
+    pub vtime_inserts: bool,
+    /// One loads the number of a task.
+    pub pid: bool,
+    /// One loads the weight of a task.
+    pub weight: bool,
+    /// One loads the virtual time of a task.
+    pub vtime: bool,
+    /// One loads how long a task has run.
+    pub run_ns: bool,
+    /// One loads what is left of a slice.
+    pub slice: bool,
+    /// One but `running` and `stopping` loads what is left of a slice.
+    pub early_slice: bool,
+    /// One may insert with a slice of 0, which keeps the one that there is.
+    pub empty_slice: bool,
+}
+
+/// A use of the host by an instruction.
+#[derive(Clone, Copy)]
+enum Use {
+    /// A call of that helper.
+    Call(Helper),
+    /// A load of that field of a task.
+    Load(Field),
+    /// An insert whose slice may be 0.
+    EmptySlice,
+}
+
+impl Uses {
+    /// There is no program.
+    pub const NONE: Uses = Uses {
+        clock: false,
+        task_by_pid: false,
+        vtime_inserts: false,
+        pid: false,
+        weight: false,
+        vtime: false,
+        run_ns: false,
+        slice: false,
+        early_slice: false,
+        empty_slice: false,
+    };
+
+    /// And what that program does as that callback, with maps of those shapes.
+    ///
+    /// # Errors
+    ///
+    /// Memory runs out.
+    pub fn with(
+        self,
+        alloc: Global,
+        program: &Program,
+        callback: Callback,
+        defs: &MapDefs,
+    ) -> Result<Uses, AllocError>
+        ensures { IfOk result
+            (Does self (record { callback = callback; defs = defs.now }) program.now) }
+    {
+        let context = Context {
+            callback,
+            defs: *defs,
+        };
+        let listing = Listing::new(alloc, program, context)?;
+        let uses = self.with_listing(callback, &listing);
+        drop(listing);
+        Ok(uses)
+    }
+
+    fn with_listing(self, callback: Callback, listing: &Listing) -> Uses
+        ensures { result ≡ with_listing self callback listing.now }
+    {
+        let slice = has(listing, Use::Load(Field::Slice));
+        Uses {
+            clock: either(self.clock, has(listing, Use::Call(Helper::KtimeGetNs))),
+            task_by_pid: either(self.task_by_pid, has(listing, Use::Call(Helper::TaskByPid))),
+            vtime_inserts: either(
+                self.vtime_inserts,
+                has(listing, Use::Call(Helper::DsqInsertVtime)),
+            ),
+            pid: either(self.pid, has(listing, Use::Load(Field::Pid))),
+            weight: either(self.weight, has(listing, Use::Load(Field::Weight))),
+            vtime: either(self.vtime, has(listing, Use::Load(Field::DsqVtime))),
+            run_ns: either(self.run_ns, has(listing, Use::Load(Field::RunNs))),
+            slice: either(self.slice, slice),
+            early_slice: either(self.early_slice, is_early(callback, slice)),
+            empty_slice: either(self.empty_slice, has(listing, Use::EmptySlice)),
+        }
+    }
+
+    /// True if a program can tell the slice of a task that sleeps or is held, before an insert gives it another one:
+    /// it keeps that slice, or a program loads it, with the task at hand before an insert or with any task by its number.
+    pub fn tells_idle_slices(self) -> bool
+        ensures { result ≡ tells_idle_slices self }
+    {
+        self.empty_slice || self.early_slice || self.slice && self.task_by_pid
+    }
+}
+
+fn either(one: bool, other: bool) -> bool
+    ensures { result ≡ either one other }
+{
+    one || other
+}
+
+/// True if there is a load, in a callback whose task may not have been inserted since it slept.
+fn is_early(callback: Callback, load: bool) -> bool
+    ensures { result ≡ is_early callback load }
+{
+    match callback {
+        Callback::Running | Callback::Stopping => false,
+        _ => load,
+    }
+}
+
+/// True if the program has an instruction that is such.
+#[tactic(auto, using(crate::proofs::Slots::none_below_more))]
+fn has(listing: &Listing, such: Use) -> bool
+    ensures { result ≡ has listing.now such }
+{
+    for slot in 0..listing.slots() {
+        if is_use(such, listing.insn(slot), listing.state(slot)) {
+            return true;
+        }
+    }
+    false
+}
+
+fn is_use(such: Use, insn: Option<Insn>, state: Option<&AbsState>) -> bool
+    ensures { result ≡ is_use such insn (option_copied state.entry) }
+{
+    match such {
+        Use::Call(helper) => is_call(helper, insn),
+        Use::Load(field) => is_load(field, insn, state),
+        Use::EmptySlice => is_insert(insn) && gives_none(state),
+    }
+}
+
+fn is_call(helper: Helper, insn: Option<Insn>) -> bool
+    ensures { result ≡ is_call helper insn }
+{
+    match insn {
+        Some(Insn::Call(number)) => is_helper(Helper::new(number), helper),
+        _ => false,
+    }
+}
+
+#[tactic(auto, using(crate::proofs::Tables::same_helper))]
+fn is_helper(found: Option<Helper>, helper: Helper) -> bool
+    ensures { result ≡ is_helper helper found }
+{
+    match found {
+        Some(found) => found == helper,
+        None => false,
+    }
+}
+
+fn is_load(field: Field, insn: Option<Insn>, state: Option<&AbsState>) -> bool
+    ensures { result ≡ is_load field insn (option_copied state.entry) }
+{
+    match insn {
+        Some(Insn::Load(access, _, base, offset)) => {
+            is_of_task(state, base) && is_field(Field::at(offset, access.size()), field)
+        }
+        _ => false,
+    }
+}
+
+/// True if the register holds a pointer to a task. Where control doesn't come it holds nothing.
+fn is_of_task(state: Option<&AbsState>, base: Register) -> bool
+    ensures { result ≡ is_of_task base (option_copied state.entry) }
+{
+    match state {
+        Some(state) => is_task(state.kind(base)),
+        None => false,
+    }
+}
+
+fn is_task(kind: Kind) -> bool
+    ensures { result ≡ is_task kind }
+{
+    match kind {
+        Kind::Task => true,
+        _ => false,
+    }
+}
+
+#[tactic(auto, using(crate::proofs::Tables::same_field))]
+fn is_field(found: Option<Field>, field: Field) -> bool
+    ensures { result ≡ is_field field found }
+{
+    match found {
+        Some(found) => found == field,
+        None => false,
+    }
+}
+
+fn is_insert(insn: Option<Insn>) -> bool
+    ensures { result ≡ is_insert insn }
+{
+    is_call(Helper::DsqInsert, insn) || is_call(Helper::DsqInsertVtime, insn)
+}
+
+/// True if the slice that is given there, in r3, may be 0. Where control doesn't come none is given.
+fn gives_none(state: Option<&AbsState>) -> bool
+    ensures { result ≡ gives_none (option_copied state.entry) }
+{
+    match state {
+        Some(state) => may_be_0(state.kind(Register::R3)),
+        None => false,
+    }
+}
+
+fn may_be_0(kind: Kind) -> bool
+    ensures { result ≡ may_be_0 kind }
+{
+    match kind {
+        Kind::Num(numbers) => numbers.low() == 0,
+        _ => true,
+    }
+}

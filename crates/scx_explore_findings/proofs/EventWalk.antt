@@ -1,0 +1,351 @@
+-- One walk over the events of the machine: what has to be shown of a property of worlds at each small step, so that each
+-- event keeps it, under a policy that stays.
+use Rattle.std.proofs.Common.{◌≡◌, ℕ, zero, suc, Bool, true, false, ◌==◌, List, [], ◌∷◌, Option, Some, None, refl, ◌∙◌}
+use Rattle.scx_dsq.specs.Queues.{len_of, front_of, behind_of}
+use Rattle.scx_isa_semantics.specs.declared.callbacks.Callback.{Callback}
+use Rattle.scx_isa_semantics.specs.declared.callbacks.Callback.TheVariants as callback
+use Rattle.scx_isa_semantics.specs.declared.host_tables.Helper.TheVariants.{CreateDsq}
+use Rattle.scx_isa_semantics.specs.HostTables.{is_allowed}
+use Rattle.scx_vm.specs.declared.arguments.Args.{Args}
+use Rattle.scx_sched_world.specs.declared.call.Insert.{Insert}
+use Rattle.scx_sched_world.specs.declared.eject.Eject.{Eject}
+use Rattle.scx_sched_world.specs.declared.faults.Fault.{Fault}
+use Rattle.scx_sched_world.specs.Ids.{global, builtin_queue, parked_queue, local_on}
+use Rattle.scx_sched_world.specs.World.{WorldState, with_cycling, task_at, is_throttled, running, cpu_of, is_idle, at_callback}
+use Rattle.scx_sched_world.specs.Tasks.{after_wake, after_sleep, after_leave, brought, fill_front, after_stop, started_at, after_keep, put_parked, after_take, let_go, after_tick, used_ms, later, begun_periods, after_reweigh}
+use Rattle.scx_sched_world.specs.Ejecting.{after_charge, after_catch_up}
+use Rattle.scx_sched_machine.specs.declared.events.Event.{Event}
+use Rattle.scx_sched_machine.specs.declared.events.Event.TheVariants.{Wake, Sleep, Tick, Clock, SetWeight}
+use Rattle.scx_sched_machine.specs.declared.events.Refused.{Refused}
+use Rattle.scx_sched_machine.specs.Policy.{PolicyState}
+use Rattle.scx_sched_machine.specs.Steps.{State, Stepped, with_world, stays, is_ejected, one_after_other}
+use Rattle.scx_sched_machine.specs.Ejecting.{moves_over, eject, ejected_for}
+use Rattle.scx_sched_machine.specs.Callbacks.{call_ending, after_callback, fault_of, acting, call_back, answered_by, one_task, task_cpu_and_0, task_and_number, cpu_and_task}
+use Rattle.scx_sched_machine.specs.Put.{enters, enqueue_choice, enters_builtin, comes_in, put}
+use Rattle.scx_sched_machine.specs.Filling.{fill}
+use Rattle.scx_sched_machine.specs.Parking.{park, park_front, throttled_front, park_then, park_fronts, clear, in_reach, supply, let_go_one, let_go_from, let_all_go}
+use Rattle.scx_sched_machine.specs.Cycle.{has_local, after_dispatch, asks_again, tries, stopping_called, after_stopping, after_running, leave, started_if, start as begin, rest, swap, swap_or_rest, builtin_dispatch, builtin_fill, builtin_ask, builtin_cycle, start_or_cycle, pick, pick_or_rest, conclude, ask, seek, look, cycling, cycle}
+use Rattle.scx_sched_machine.specs.Events.{target, insert_or_put, settle, select, wake, sleep_from_cpu, sleep_from, sleep, throttle, expire, count_down, tick_of, tick, overdue, eject_if_stalled, clock, event_step}
+use Rattle.scx_sched_machine.proofs.Choices.{keeps_if}
+use Rattle.scx_sched.specs.Sim.{SimState, stepped_if, refusal, after_event}
+use Rattle.scx_load_driver.specs.Runs.{stepped_all}
+
+-- ---- the policy stays
+
+-- as it is ejected
+pub eject_policy : (s : State) (x : Eject) → (eject s x).state.policy ≡ s.policy
+unfolding eject moves_over
+eject_policy s x = refl
+
+ejected_policy : (o : Option Fault) (s : State) → (ejected_for o s).state.policy ≡ s.policy
+ejected_policy None s = refl
+ejected_policy (Some f) s = eject_policy s _
+
+-- as a callback is called
+pub call_back_policy : (s : State) (b : Callback) (a : Args) (t c : ℕ) → (call_back s b a t c).state.policy ≡ s.policy
+unfolding call_back
+call_back_policy s b a t c =
+    let e = call_ending (acting s b) b a s.maps (at_callback s.world b t c) in
+    ejected_policy (fault_of b e) (after_callback s.policy e)
+
+comes_in_policy : (s : State) (t c : ℕ) → (comes_in s t c).state.policy ≡ s.policy
+unfolding comes_in enters enters_builtin
+comes_in_policy s t c = keeps_if (λ (r : Stepped). r.state.policy ≡ s.policy) (is_ejected s) (enters_builtin s t) (enters s t (enqueue_choice s.policy.callbacks.enqueue c s.world.call.insert)) refl refl
+
+-- as a task is put
+pub put_policy : (s : State) (t c flags : ℕ) → (put s t c flags).state.policy ≡ s.policy
+unfolding put
+put_policy s t c flags =
+    let r = call_back s callback.Enqueue (task_and_number t flags) t c in
+    comes_in_policy r.state t c ∙ call_back_policy s callback.Enqueue (task_and_number t flags) t c
+
+-- and as one is inserted or put
+pub settled_policy : (o : Option Insert) (s : State) (t c : ℕ) → (insert_or_put o s t c).state.policy ≡ s.policy
+unfolding enters
+settled_policy None s t c = put_policy s t c 1
+settled_policy (Some i) s t c = refl
+
+-- ---- the walk
+
+-- the state is under that policy, and its world has the property
+abbrev pub IsKeptIn : PolicyState → (WorldState → Type 0) → State → Type 0
+IsKeptIn p I s = (s.policy ≡ p) × I s.world
+
+-- each small step keeps that: a callback that may create no queue, an ejection, a task that is put or inserted; and of
+-- worlds what the machine does to its queues, tasks, groups and processors
+pub record IsKeptBySmallSteps (p : PolicyState) (I : WorldState → Type 0) : Type 0 where
+  pub called_back : (s : State) (b : Callback) (a : Args) (t c : ℕ) → is_allowed CreateDsq b ≡ false → IsKeptIn p I s → IsKeptIn p I (call_back s b a t c).state
+  pub ejected : (s : State) (x : Eject) → IsKeptIn p I s → IsKeptIn p I (eject s x).state
+  pub puts : (s : State) (t c flags : ℕ) → IsKeptIn p I s → IsKeptIn p I (put s t c flags).state
+  pub settled : (s : State) (t c : ℕ) → IsKeptIn p I s → IsKeptIn p I (insert_or_put s.world.call.insert s t c).state
+  pub left : (w : WorldState) (t : ℕ) → I w → I (after_leave w t)
+  pub brings : (o : Option ℕ) (w : WorldState) (q c : ℕ) → I w → I (brought o w q c)
+  pub parked : (w : WorldState) (t : ℕ) → I w → I (put_parked w t)
+  pub taken : (w : WorldState) (q : ℕ) → I w → I (after_take w q)
+  pub started : (w : WorldState) (t c : ℕ) → I w → I (started_at (Some t) w c)
+  pub kept : (w : WorldState) (o : Option ℕ) → I w → I (after_keep w o)
+  pub stopped : (w : WorldState) (c t : ℕ) → I w → I (after_stop w c t)
+  pub charged : (w : WorldState) (t : ℕ) → I w → I (after_charge w t)
+  pub caught_up : (w : WorldState) (t : ℕ) → I w → I (after_catch_up w t)
+  pub cycled : (w : WorldState) (o : Option ℕ) → I w → I (with_cycling w o)
+  pub woken : (w : WorldState) (t : ℕ) → I w → I (after_wake w t)
+  pub asleep : (w : WorldState) (t : ℕ) → I w → I (after_sleep w t)
+  pub ticked : (w : WorldState) (t : ℕ) → I w → I (after_tick w t)
+  pub used : (w : WorldState) (t : ℕ) → I w → I (used_ms w t)
+  pub let_off : (w : WorldState) (t : ℕ) → I w → I (let_go w t)
+  pub begun : (w : WorldState) → I w → I (begun_periods (later w))
+  pub reweighed : (w : WorldState) (g x : ℕ) → I w → I (after_reweigh w g x)
+
+module _ (old : PolicyState) (I : WorldState → Type 0) (k : IsKeptBySmallSteps old I) where
+  abbrev Kept : State → Type 0
+  Kept s = IsKeptIn old I s
+
+  abbrev Leaves : Stepped → Type 0
+  Leaves r = IsKeptIn old I r.state
+
+  -- ---- local queues
+
+  walk_fill : (s : State) (q c : ℕ) → Kept s → Leaves (fill s q c)
+  unfolding fill
+  walk_fill s q c h = (h.0, k.brings (fill_front s.world q c) s.world q c h.1)
+
+  walk_park : (s : State) (t : ℕ) → Kept s → Leaves (park s t)
+  unfolding park
+  walk_park s t h = (h.0, k.parked s.world t h.1)
+
+  walk_park_front : (s : State) (q t : ℕ) → Kept s → Leaves (park_front s q t)
+  unfolding park_front
+  walk_park_front s q t h = walk_park (with_world s (after_take s.world q)) t (h.0, k.taken s.world q h.1)
+
+  walk_park_then : (next : State → Stepped) → ((r : State) → Kept r → Leaves (next r)) → (s : State) (q : ℕ) (o : Option ℕ) → Kept s → Leaves (park_then next s q o)
+  walk_park_then next more s q None h = h
+  walk_park_then next more s q (Some t) h = more (park_front s q t).state (walk_park_front s q t h)
+
+  walk_park_fronts : (j : ℕ) (s : State) (q : ℕ) → Kept s → Leaves (park_fronts j s q)
+  unfolding park_fronts
+  walk_park_fronts zero s q h = h
+  walk_park_fronts (suc j) s q h = walk_park_then (λ r. park_fronts j r q) (λ r x. walk_park_fronts j r q x) s q (throttled_front s q) h
+
+  walk_clear : (j : ℕ) (s : State) (c : ℕ) → Kept s → Leaves (clear j s c)
+  unfolding clear
+  walk_clear zero s c h = h
+  walk_clear (suc j) s c h =
+      let f = fill s global c in
+      walk_park_then (λ r. clear j r c) (λ r x. walk_clear j r c x) f.state (local_on c) (throttled_front f.state (local_on c)) (walk_fill s global c h)
+
+  walk_supply : (s : State) (c : ℕ) → Kept s → Leaves (supply s c)
+  unfolding supply
+  walk_supply s c h = walk_clear (in_reach s c) s c h
+
+  walk_dispatched : (s : State) (c : ℕ) (p : Option ℕ) → Kept s → Leaves (after_dispatch s c p)
+  unfolding after_dispatch
+  walk_dispatched s c p h =
+      let r = call_back s callback.Dispatch (cpu_and_task c p) 0 c in
+      walk_supply r.state c (k.called_back s callback.Dispatch (cpu_and_task c p) 0 c refl h)
+
+  walk_tries : (j : ℕ) (s : State) (c : ℕ) (p : Option ℕ) → Kept s → Leaves (tries j s c p)
+  unfolding tries
+  walk_tries zero s c p h = h
+  walk_tries (suc j) s c p h =
+      let d = after_dispatch s c p in
+      let x = walk_dispatched s c p h in
+      keeps_if Leaves (asks_again d.state c) (one_after_other d (tries j d.state c p)) d (walk_tries j d.state c p x) x
+
+  walk_stopping : (s : State) (c t n : ℕ) → Kept s → Leaves (after_stopping s c t n)
+  unfolding after_stopping
+  walk_stopping s c t n h = keeps_if Leaves (is_ejected s) (stays (with_world s (after_charge s.world t))) (stopping_called s c t n) (h.0, k.charged s.world t h.1) (k.called_back s callback.Stopping (task_and_number t n) t c refl h)
+
+  walk_running : (s : State) (c t : ℕ) → Kept s → Leaves (after_running s c t)
+  unfolding after_running
+  walk_running s c t h = keeps_if Leaves (is_ejected s) (stays (with_world s (after_catch_up s.world t))) (call_back s callback.Running (one_task t) t c) (h.0, k.caught_up s.world t h.1) (k.called_back s callback.Running (one_task t) t c refl h)
+
+  walk_leave : (s : State) (c : ℕ) (p : Option ℕ) → Kept s → Leaves (leave s c p)
+  unfolding leave
+  walk_leave s c None h = h
+  walk_leave s c (Some t) h =
+      let off = with_world s (after_stop s.world c t) in
+      let r = after_stopping off c t 1 in
+      k.puts r.state t c 0 (walk_stopping off c t 1 (h.0, k.stopped s.world c t h.1))
+
+  walk_begin : (s : State) (c : ℕ) → Kept s → Leaves (begin s c)
+  unfolding begin
+  walk_begin s c h = go (front_of s.world.queues (local_on c))
+    where
+      go : (o : Option ℕ) → Leaves (started_if o s c)
+      go None = h
+      go (Some t) = walk_running (with_world s (started_at (Some t) s.world c)) c t (h.0, k.started s.world t c h.1)
+
+  walk_rest : (s : State) (c : ℕ) (p : Option ℕ) (ran : Bool) → Kept s → Leaves (rest s c p ran)
+  unfolding rest
+  walk_rest s c p ran h = (h.0, k.kept s.world p h.1)
+
+  -- ---- a cycle of the built-in scheduler
+
+  walk_swap : (s : State) (c : ℕ) (p : Option ℕ) → Kept s → Leaves (swap s c p)
+  unfolding swap
+  walk_swap s c p h = walk_begin (leave s c p).state c (walk_leave s c p h)
+
+  walk_swap_or_rest : (s : State) (c : ℕ) (p : Option ℕ) (ran : Bool) → Kept s → Leaves (swap_or_rest s c p ran)
+  unfolding swap_or_rest
+  walk_swap_or_rest s c p ran h = keeps_if Leaves (has_local s c) (swap s c p) (rest s c p ran) (walk_swap s c p h) (walk_rest s c p ran h)
+
+  walk_builtin_fill : (s : State) (c : ℕ) → Kept s → Leaves (builtin_fill s c)
+  unfolding builtin_fill builtin_dispatch
+  walk_builtin_fill s c h =
+      let n = len_of s.world.queues builtin_queue in
+      let p = park_fronts n s builtin_queue in
+      keeps_if Leaves (has_local s c) (stays s) (one_after_other p (fill p.state builtin_queue c)) h (walk_fill p.state builtin_queue c (walk_park_fronts n s builtin_queue h))
+
+  walk_builtin_ask : (s : State) (c : ℕ) (p : Option ℕ) (ran : Bool) → Kept s → Leaves (builtin_ask s c p ran)
+  unfolding builtin_ask
+  walk_builtin_ask s c p ran h = walk_swap_or_rest (builtin_fill s c).state c p ran (walk_builtin_fill s c h)
+
+  walk_builtin_cycle : (s : State) (c : ℕ) (p : Option ℕ) (ran : Bool) → Kept s → Leaves (builtin_cycle s c p ran)
+  unfolding builtin_cycle
+  walk_builtin_cycle s c p ran h = walk_builtin_ask (supply s c).state c p ran (walk_supply s c h)
+
+  -- ---- a cycle of the policy
+
+  walk_begin_or_cycle : (s : State) (c : ℕ) (ran : Bool) → Kept s → Leaves (start_or_cycle s c ran)
+  unfolding start_or_cycle
+  walk_begin_or_cycle s c ran h = keeps_if Leaves (has_local s c) (begin s c) (builtin_cycle s c None ran) (walk_begin s c h) (walk_builtin_cycle s c None ran h)
+
+  walk_pick : (s : State) (c : ℕ) (p : Option ℕ) (ran : Bool) → Kept s → Leaves (pick s c p ran)
+  unfolding pick
+  walk_pick s c p ran h = walk_begin_or_cycle (leave s c p).state c ran (walk_leave s c p h)
+
+  walk_pick_or_rest : (s : State) (c : ℕ) (p : Option ℕ) (ran : Bool) → Kept s → Leaves (pick_or_rest s c p ran)
+  unfolding pick_or_rest
+  walk_pick_or_rest s c p ran h = keeps_if Leaves (has_local s c) (pick s c p ran) (rest s c p ran) (walk_pick s c p ran h) (walk_rest s c p ran h)
+
+  walk_conclude : (s : State) (c : ℕ) (p : Option ℕ) (ran : Bool) → Kept s → Leaves (conclude s c p ran)
+  unfolding conclude
+  walk_conclude s c p ran h = keeps_if Leaves (is_ejected s) (builtin_cycle s c p ran) (pick_or_rest s c p ran) (walk_builtin_cycle s c p ran h) (walk_pick_or_rest s c p ran h)
+
+  walk_ask : (s : State) (c : ℕ) (p : Option ℕ) (ran : Bool) → Kept s → Leaves (ask s c p ran)
+  unfolding ask
+  walk_ask s c p ran h = walk_conclude (tries 32 s c p).state c p ran (walk_tries 32 s c p h)
+
+  walk_seek : (s : State) (c : ℕ) (p : Option ℕ) (ran : Bool) → Kept s → Leaves (seek s c p ran)
+  unfolding seek
+  walk_seek s c p ran h =
+      let f = supply s c in
+      let x = walk_supply s c h in
+      keeps_if Leaves (has_local f.state c) (pick f.state c p ran) (ask f.state c p ran) (walk_pick f.state c p ran x) (walk_ask f.state c p ran x)
+
+  walk_look : (s : State) (c : ℕ) (p : Option ℕ) (ran : Bool) → Kept s → Leaves (look s c p ran)
+  unfolding look
+  walk_look s c p ran h = keeps_if Leaves (is_ejected s) (builtin_cycle s c p ran) (seek s c p ran) (walk_builtin_cycle s c p ran h) (walk_seek s c p ran h)
+
+  walk_cycle : (s : State) (c : ℕ) (p : Option ℕ) (ran : Bool) → Kept s → Leaves (cycle s c p ran)
+  unfolding cycle
+  walk_cycle s c p ran h =
+      let x = walk_look (cycling s (Some c)) c p ran (h.0, k.cycled s.world (Some c) h.1) in
+      (x.0, k.cycled (look (cycling s (Some c)) c p ran).state.world None x.1)
+
+  -- ---- events
+
+  walk_settle : (s : State) (t c : ℕ) → Kept s → Leaves (settle s t c)
+  unfolding settle
+  walk_settle s t c h =
+      let r = insert_or_put s.world.call.insert s t c in
+      let x = k.settled s t c h in
+      keeps_if Leaves (is_idle r.state.world c) (one_after_other r (cycle r.state c None false)) r (walk_cycle r.state c None false x) x
+
+  walk_select : (s : State) (t : ℕ) → Kept s → Leaves (select s t)
+  unfolding select
+  walk_select s t h =
+      let c = (task_at s.world t).prev_cpu in
+      let r = call_back s callback.SelectCpu (task_cpu_and_0 t c) t c in
+      walk_settle r.state t (target (acting r.state callback.SelectCpu) r.state.world t (answered_by s callback.SelectCpu (task_cpu_and_0 t c) t c)) (k.called_back s callback.SelectCpu (task_cpu_and_0 t c) t c refl h)
+
+  walk_wake : (s : State) (t : ℕ) → Kept s → Leaves (wake s t)
+  unfolding wake
+  walk_wake s t h = walk_select (with_world s (after_wake s.world t)) t (h.0, k.woken s.world t h.1)
+
+  walk_sleep_from_cpu : (s : State) (t c : ℕ) → Kept s → Leaves (sleep_from_cpu s t c)
+  unfolding sleep_from_cpu
+  walk_sleep_from_cpu s t c h =
+      let off = with_world s (after_stop s.world c t) in
+      let r = after_stopping off c t 0 in
+      let x = walk_stopping off c t 0 (h.0, k.stopped s.world c t h.1) in
+      walk_cycle (with_world r.state (after_sleep r.state.world t)) c None true (x.0, k.asleep r.state.world t x.1)
+
+  walk_sleep_from : (o : Option ℕ) (s : State) (t : ℕ) → Kept s → Leaves (sleep_from o s t)
+  walk_sleep_from None s t h = (h.0, k.asleep (after_leave s.world t) t (k.left s.world t h.1))
+  walk_sleep_from (Some c) s t h = walk_sleep_from_cpu s t c h
+
+  walk_sleep : (s : State) (t : ℕ) → Kept s → Leaves (sleep s t)
+  unfolding sleep
+  walk_sleep s t h = walk_sleep_from (cpu_of s.world t) s t h
+
+  walk_throttle : (s : State) (c t : ℕ) → Kept s → Leaves (throttle s c t)
+  unfolding throttle
+  walk_throttle s c t h =
+      let off = with_world s (after_stop s.world c t) in
+      let r = after_stopping off c t 1 in
+      walk_cycle (park r.state t).state c None true (walk_park r.state t (walk_stopping off c t 1 (h.0, k.stopped s.world c t h.1)))
+
+  walk_expire : (s : State) (c t : ℕ) → Kept s → Leaves (expire s c t)
+  unfolding expire
+  walk_expire s c t h = keeps_if Leaves ((task_at s.world t).slice == 0) (cycle s c (Some t) true) (stays s) (walk_cycle s c (Some t) true h) h
+
+  walk_count_down : (s : State) (c t : ℕ) → Kept s → Leaves (count_down s c t)
+  unfolding count_down
+  walk_count_down s c t h =
+      let w = used_ms (after_tick s.world t) t in
+      let u = with_world s w in
+      let x : Kept u = (h.0, k.used (after_tick s.world t) t (k.ticked s.world t h.1)) in
+      keeps_if Leaves (is_throttled w t) (throttle u c t) (expire u c t) (walk_throttle u c t x) (walk_expire u c t x)
+
+  walk_tick_of : (o : Option ℕ) (s : State) (c : ℕ) → Kept s → Leaves (tick_of o s c)
+  walk_tick_of None s c h = walk_cycle s c None false h
+  walk_tick_of (Some t) s c h = walk_count_down s c t h
+
+  walk_tick : (s : State) (c : ℕ) → Kept s → Leaves (tick s c)
+  unfolding tick
+  walk_tick s c h = walk_tick_of (running s.world c) s c h
+
+  walk_let_go_one : (s : State) (t : ℕ) → Kept s → Leaves (let_go_one s t)
+  unfolding let_go_one
+  walk_let_go_one s t h = k.puts (with_world s (let_go s.world t)) t (task_at s.world t).prev_cpu 0 (h.0, k.let_off s.world t h.1)
+
+  walk_let_go_from : (j : ℕ) (s : State) (at : Option ℕ) → Kept s → Leaves (let_go_from j s at)
+  unfolding let_go_from
+  walk_let_go_from zero s at h = h
+  walk_let_go_from (suc j) s None h = h
+  walk_let_go_from (suc j) s (Some t) h =
+      let next = behind_of s.world.queues t in
+      let r = let_go_one s t in
+      keeps_if Leaves (is_throttled s.world t) (let_go_from j s next) (one_after_other r (let_go_from j r.state next)) (walk_let_go_from j s next h) (walk_let_go_from j r.state next (walk_let_go_one s t h))
+
+  walk_stalled : (o : Option ℕ) (s : State) → Kept s → Leaves (eject_if_stalled o s)
+  walk_stalled None s h = h
+  walk_stalled (Some t) s h = k.ejected s _ h
+
+  walk_clock : (s : State) → Kept s → Leaves (clock s)
+  unfolding clock let_all_go
+  walk_clock s h =
+      let u = with_world s (begun_periods (later s.world)) in
+      let r = let_all_go u in
+      walk_stalled (overdue r.state) r.state (walk_let_go_from (len_of u.world.queues parked_queue) u (front_of u.world.queues parked_queue) (h.0, k.begun s.world h.1))
+
+  walk_event : (s : State) (e : Event) → Kept s → Leaves (event_step s e)
+  walk_event s (Wake t) h = walk_wake s t h
+  walk_event s (Sleep t) h = walk_sleep s t h
+  walk_event s (Tick c) h = walk_tick s c h
+  walk_event s Clock h = walk_clock s h
+  walk_event s (SetWeight g x) h = (h.0, k.reweighed s.world g x h.1)
+
+  -- an event keeps it, whether it is accepted or not
+  pub walk_after : (s : SimState) (e : Event) → Kept s.state → Kept (after_event s e).state
+  walk_after s e h = go (refusal s e)
+    where
+      go : (o : Option Refused) → Kept (stepped_if o s e).state
+      go None = walk_event s.state e h
+      go (Some r) = h
+
+  -- and so do several
+  pub walk_all : (s : SimState) (events : List Event) → Kept s.state → Kept (stepped_all s events).state
+  walk_all s [] h = h
+  walk_all s (e ∷ es) h = walk_all (after_event s e) es (walk_after s e h)

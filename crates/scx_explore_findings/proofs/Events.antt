@@ -1,0 +1,231 @@
+-- What an event comes to doesn't depend on what is hidden.
+use Rattle.std.proofs.Common.{◌≡◌, ℕ, zero, suc, ◌==◌, Bool, true, false, cond, nat_lt, [], ◌∷◌, length, Option, Some, None, refl, sym, ap, ◌∙◌, subst}
+use Rattle.scx_dsq.specs.Queues.{len_of, front_of, behind_of}
+use Rattle.scx_isa_semantics.specs.declared.callbacks.Callback.{Callback}
+use Rattle.scx_isa_semantics.specs.declared.callbacks.Callback.TheVariants as callback
+use Rattle.scx_vm.specs.Programs.{VerifiedProgram}
+use Rattle.scx_sched_world.specs.declared.call.Insert.{Insert}
+use Rattle.scx_sched_world.specs.declared.eject.Eject.TheVariants as cause
+use Rattle.scx_sched_world.specs.declared.notes.What.TheVariants as note
+use Rattle.scx_sched_world.specs.Ids.{parked_queue}
+use Rattle.scx_sched_world.specs.World.{WorldState, task_at, is_runnable, is_throttled, running, cpu_of, is_idle, note_now}
+use Rattle.scx_sched_world.specs.Tasks.{for_cpu, after_wake, after_sleep, after_leave, after_stop, let_go, after_tick, used_ms, later, begun_periods, after_reweigh}
+use Rattle.scx_sched_machine.specs.declared.events.Event.{Event}
+use Rattle.scx_sched_machine.specs.declared.events.Event.TheVariants.{Wake, Sleep, Tick, Clock, SetWeight}
+use Rattle.scx_sched_machine.specs.declared.events.Refused.TheVariants.{AlreadyRunnable, NotRunnable, UnknownTask}
+use Rattle.scx_sched_machine.specs.Policy.{PolicyState, program_of}
+use Rattle.scx_sched_machine.specs.Steps.{State, Stepped, with_world, is_ejected, stays, one_after_other}
+use Rattle.scx_sched_machine.specs.Callbacks.{acting, call_back, answered_by, task_cpu_and_0}
+use Rattle.scx_sched_machine.specs.Put.{put}
+use Rattle.scx_sched_machine.specs.Parking.{park, let_go_one, let_go_from, let_all_go}
+use Rattle.scx_sched_machine.specs.Cycle.{after_stopping, cycle}
+use Rattle.scx_sched_machine.specs.Events.{refusal, answered_cpu, target, insert_or_put, settle, select, wake, sleep_from_cpu, sleep_from, sleep, throttle, expire, count_down, tick_of, tick, overdue, eject_if_stalled, clock, event_step}
+use Rattle.scx_explore_findings.specs.Hidden.{Hidden, hide}
+use Rattle.scx_explore_findings.specs.HiddenStates.{hide_state, once_later, late_in}
+use Rattle.scx_explore_findings.specs.Unread.{IsUnread}
+use Rattle.scx_explore_findings.proofs.Worlds.{both, read, known, throttled_same, choice_same, overdue_same, hides_wake, hides_sleep, hides_let_go, hides_tick, hides_used, hides_reweigh}
+use Rattle.scx_explore_findings.proofs.Steps.{Passes, On, from, in_world, chain, noted, choose, single, rests, passes_eject, answered_same, passes_call_back, passes_enters, passes_put, passes_park}
+use Rattle.scx_explore_findings.proofs.Cycles.{read_step, passes_off, passes_cycle}
+
+-- an event of one of two such states is refused for the same cause in the other one
+pub refusal_same : (h : Hidden) (s : State) (e : Event) → refusal s e ≡ refusal (hide_state h s) e
+refusal_same h s (Wake t) = ap (λ (b : Bool). cond b (cond (is_runnable s.world t) (Some AlreadyRunnable) None) (Some UnknownTask)) (known h s.world t)
+refusal_same h s (Sleep t) = ap (λ (b : Bool). cond b (cond (is_runnable s.world t) None (Some NotRunnable)) (Some UnknownTask)) (known h s.world t)
+refusal_same h s (Tick c) = refl
+refusal_same h s Clock = refl
+refusal_same h s (SetWeight g x) = refl
+
+module _ (h : Hidden) (p : PolicyState) (unread : (b : Callback) → IsUnread h (program_of p b)) where
+  -- ---- a task wakes
+
+  passes_settled : (o : Option Insert) (t c : ℕ) → On h p (λ s. insert_or_put o s t c)
+  passes_settled None t c s is = passes_put h p unread t c 1 s is
+  passes_settled (Some i) t c s is = passes_enters h p unread t (for_cpu c i) s is
+
+  passes_settle : (t c : ℕ) → On h p (λ s. settle s t c)
+  unfolding settle
+  passes_settle t c s is =
+      let o = s.world.call.insert in
+      let r = insert_or_put o s t c in
+      let q = insert_or_put o (hide_state h s) t c in
+      let x = passes_settled o t c s is in
+      choose h p (is_idle r.state.world c) (is_idle q.state.world c) (one_after_other r (cycle r.state c None false)) (one_after_other q (cycle q.state c None false)) r q
+      (read_step h p unread (λ y. is_idle y.state.world c) (λ y. refl) r q x) (chain h p r q (λ y. cycle y c None false) x (passes_cycle h p unread c None false)) x
+
+  answered_cpu_same : (w : WorldState) (t : ℕ) (a : Option ℕ) → answered_cpu w t a ≡ answered_cpu (hide h w) t a
+  answered_cpu_same w t None = choice_same h w t
+  answered_cpu_same w t (Some n) = ap (λ (c : ℕ). cond (nat_lt n (length w.cpus)) n c) (choice_same h w t)
+
+  target_same : (q : Option VerifiedProgram) (w : WorldState) (t : ℕ) (a : Option ℕ) → target q w t a ≡ target q (hide h w) t a
+  target_same None w t a = choice_same h w t
+  target_same (Some q) w t a = answered_cpu_same w t a
+
+  -- of a processor that was answered
+  abbrev settled_by : ℕ → Option ℕ → State → Stepped
+  settled_by t a s = settle s t (target (acting s callback.SelectCpu) s.world t a)
+
+  passes_settled_by : (t : ℕ) (a : Option ℕ) → On h p (settled_by t a)
+  passes_settled_by t a s is =
+      subst (λ (c : ℕ). Passes h p (settled_by t a s) (settle (hide_state h s) t c)) (target_same (acting s callback.SelectCpu) s.world t a)
+      (passes_settle t (target (acting s callback.SelectCpu) s.world t a) s is)
+
+  -- with that processor as the one on which it ran last
+  abbrev selected : ℕ → ℕ → State → Stepped
+  selected t c s =
+      let r = call_back s callback.SelectCpu (task_cpu_and_0 t c) t c in
+      one_after_other r (settled_by t (answered_by s callback.SelectCpu (task_cpu_and_0 t c) t c) r.state)
+
+  passes_selected : (t c : ℕ) → On h p (selected t c)
+  passes_selected t c s is =
+      let r = call_back s callback.SelectCpu (task_cpu_and_0 t c) t c in
+      let q = call_back (hide_state h s) callback.SelectCpu (task_cpu_and_0 t c) t c in
+      let a = answered_by s callback.SelectCpu (task_cpu_and_0 t c) t c in
+      subst (λ (b : Option ℕ). Passes h p (selected t c s) (one_after_other q (settled_by t b q.state))) (answered_same h p unread s callback.SelectCpu (task_cpu_and_0 t c) t c is)
+      (chain h p r q (settled_by t a) (passes_call_back h p unread callback.SelectCpu (task_cpu_and_0 t c) t c s is) (passes_settled_by t a))
+
+  passes_select : (t : ℕ) → On h p (λ s. select s t)
+  unfolding select
+  passes_select t s is =
+      subst (λ (c : ℕ). Passes h p (selected t (task_at s.world t).prev_cpu s) (selected t c (hide_state h s))) (read h (λ x. x.prev_cpu) (λ x. refl) s.world t)
+      (passes_selected t (task_at s.world t).prev_cpu s is)
+
+  passes_wake : (t : ℕ) → On h p (λ s. wake s t)
+  unfolding wake
+  passes_wake t s is =
+      noted h p (note_now s.world (note.Wake t) ∷ []) (select (with_world s (after_wake s.world t)) t) (select (with_world (hide_state h s) (after_wake (hide h s.world) t)) t)
+      (in_world h p (λ r. select r t) (passes_select t) s (after_wake s.world t) (after_wake (hide h s.world) t) (hides_wake h t s.world) is)
+
+  -- ---- a task goes to sleep
+
+  -- the processor looks for another once the task sleeps
+  passes_asleep : (t c : ℕ) → On h p (λ s. cycle (with_world s (after_sleep s.world t)) c None true)
+  passes_asleep t c s is = in_world h p (λ r. cycle r c None true) (passes_cycle h p unread c None true) s (after_sleep s.world t) (after_sleep (hide h s.world) t) (hides_sleep h t s.world) is
+
+  passes_sleep_from_cpu : (t c : ℕ) → On h p (λ s. sleep_from_cpu s t c)
+  unfolding sleep_from_cpu
+  passes_sleep_from_cpu t c s is =
+      let r = after_stopping (with_world s (after_stop s.world c t)) c t 0 in
+      let q = after_stopping (with_world (hide_state h s) (after_stop (hide h s.world) c t)) c t 0 in
+      noted h p (note_now s.world (note.Stop t c) ∷ []) (one_after_other r (cycle (with_world r.state (after_sleep r.state.world t)) c None true)) (one_after_other q (cycle (with_world q.state (after_sleep q.state.world t)) c None true))
+      (chain h p r q (λ x. cycle (with_world x (after_sleep x.world t)) c None true) (passes_off h p unread c t 0 s is) (passes_asleep t c))
+
+  passes_sleep_from : (o : Option ℕ) (t : ℕ) → On h p (λ s. sleep_from o s t)
+  passes_sleep_from None t s is = single h p s (after_sleep (after_leave s.world t) t) (after_sleep (after_leave (hide h s.world) t) t) [] [] (hides_sleep h t (after_leave s.world t)) refl is
+  passes_sleep_from (Some c) t s is = passes_sleep_from_cpu t c s is
+
+  passes_sleep : (t : ℕ) → On h p (λ s. sleep s t)
+  unfolding sleep
+  passes_sleep t s is = noted h p (note_now s.world (note.Sleep t) ∷ []) (sleep_from (cpu_of s.world t) s t) (sleep_from (cpu_of s.world t) (hide_state h s) t) (passes_sleep_from (cpu_of s.world t) t s is)
+
+  -- ---- a tick
+
+  passes_throttle : (c t : ℕ) → On h p (λ s. throttle s c t)
+  unfolding throttle
+  passes_throttle c t s is =
+      let r = after_stopping (with_world s (after_stop s.world c t)) c t 1 in
+      let q = after_stopping (with_world (hide_state h s) (after_stop (hide h s.world) c t)) c t 1 in
+      let f : State → Stepped = λ x. one_after_other (park x t) (cycle (park x t).state c None true) in
+      noted h p (note_now s.world (note.Stop t c) ∷ []) (one_after_other r (f r.state)) (one_after_other q (f q.state))
+      (chain h p r q f (passes_off h p unread c t 1 s is) (λ x there. chain h p (park x t) (park (hide_state h x) t) (λ y. cycle y c None true) (passes_park h p t x there) (passes_cycle h p unread c None true)))
+
+  passes_expire : (c t : ℕ) → On h p (λ s. expire s c t)
+  unfolding expire
+  passes_expire c t s is =
+      choose h p ((task_at s.world t).slice == 0) ((task_at (hide h s.world) t).slice == 0) (cycle s c (Some t) true) (cycle (hide_state h s) c (Some t) true) (stays s) (stays (hide_state h s))
+      (read h (λ x. x.slice == 0) (λ x. refl) s.world t) (passes_cycle h p unread c (Some t) true s is) (rests h p s is)
+
+  -- whether the task may run on
+  abbrev counted : ℕ → ℕ → State → Stepped
+  counted c t s = cond (is_throttled s.world t) (throttle s c t) (expire s c t)
+
+  passes_counted : (c t : ℕ) → On h p (counted c t)
+  passes_counted c t s is =
+      choose h p (is_throttled s.world t) (is_throttled (hide h s.world) t) (throttle s c t) (throttle (hide_state h s) c t) (expire s c t) (expire (hide_state h s) c t)
+      (throttled_same h s.world t) (passes_throttle c t s is) (passes_expire c t s is)
+
+  passes_count_down : (c t : ℕ) → On h p (λ s. count_down s c t)
+  unfolding count_down
+  passes_count_down c t s is =
+      in_world h p (counted c t) (passes_counted c t) s (used_ms (after_tick s.world t) t) (used_ms (after_tick (hide h s.world) t) t)
+      (both h (λ w. after_tick w t) (λ w. used_ms w t) (hides_tick h t) (hides_used h t) s.world) is
+
+  passes_tick_of : (o : Option ℕ) (c : ℕ) → On h p (λ s. tick_of o s c)
+  passes_tick_of None c s is = passes_cycle h p unread c None false s is
+  passes_tick_of (Some t) c s is = passes_count_down c t s is
+
+  passes_tick : (c : ℕ) → On h p (λ s. tick s c)
+  unfolding tick
+  passes_tick c s is = passes_tick_of (running s.world c) c s is
+
+  -- ---- the clock
+
+  abbrev put_anew : ℕ → State → ℕ → Stepped
+  put_anew t s c = put (with_world s (let_go s.world t)) t c 0
+
+  passes_let_go_one : (t : ℕ) → On h p (λ s. let_go_one s t)
+  unfolding let_go_one
+  passes_let_go_one t s is =
+      let c = (task_at s.world t).prev_cpu in
+      subst (λ (d : ℕ). Passes h p (put_anew t s c) (put_anew t (hide_state h s) d)) (read h (λ x. x.prev_cpu) (λ x. refl) s.world t)
+      (in_world h p (λ r. put r t c 0) (passes_put h p unread t c 0) s (let_go s.world t) (let_go (hide h s.world) t) (hides_let_go h t s.world) is)
+
+  passes_let_go_from : (n : ℕ) (at : Option ℕ) → On h p (λ s. let_go_from n s at)
+  unfolding let_go_from
+  passes_let_go_from zero at s is = rests h p s is
+  passes_let_go_from (suc n) None s is = rests h p s is
+  passes_let_go_from (suc n) (Some t) s is =
+      let next = behind_of s.world.queues t in
+      let r = let_go_one s t in
+      let q = let_go_one (hide_state h s) t in
+      choose h p (is_throttled s.world t) (is_throttled (hide h s.world) t) (let_go_from n s next) (let_go_from n (hide_state h s) next) (one_after_other r (let_go_from n r.state next)) (one_after_other q (let_go_from n q.state next))
+      (throttled_same h s.world t) (passes_let_go_from n next s is) (chain h p r q (λ x. let_go_from n x next) (passes_let_go_one t s is) (passes_let_go_from n next))
+
+  passes_let_all_go : On h p let_all_go
+  unfolding let_all_go
+  passes_let_all_go s is = passes_let_go_from (len_of s.world.queues parked_queue) (front_of s.world.queues parked_queue) s is
+
+  -- the clock has grown, and who may run again was let go
+  pub passes_once_later : On h p once_later
+  passes_once_later s is = passes_let_all_go (with_world s (begun_periods (later s.world))) is
+
+  overdue_is : h.waits ≡ false → (s : State) → overdue s ≡ overdue (hide_state h s)
+  overdue_is e s = ap (λ (o : Option ℕ). cond (is_ejected s) None o) (overdue_same h e s.world s.policy.timeout_ms)
+
+  passes_stalled : (o : Option ℕ) → On h p (eject_if_stalled o)
+  passes_stalled None s is = rests h p s is
+  passes_stalled (Some t) s is = passes_eject h p (cause.Stall t s.world.clock) s is
+
+  -- of two states that are the same, where in both the same task or none waits too long
+  passes_clock : (s t : State) → hide_state h s ≡ hide_state h t → s.policy ≡ p → late_in s Clock ≡ late_in t Clock → Passes h p (clock s) (clock t)
+  unfolding clock
+  passes_clock s t same is late =
+      let r = once_later s in
+      let q = once_later t in
+      subst (λ (o : Option ℕ). Passes h p (one_after_other r (eject_if_stalled (late_in s Clock) r.state)) (one_after_other q (eject_if_stalled o q.state))) late
+      (chain h p r q (eject_if_stalled (late_in s Clock)) (from h p once_later passes_once_later s t same is) (passes_stalled (late_in s Clock)))
+
+  -- ---- any event
+
+  passes_weight : (g x : ℕ) → On h p (λ s. event_step s (SetWeight g x))
+  passes_weight g x s is = single h p s (after_reweigh s.world g x) (after_reweigh (hide h s.world) g x) _ _ (hides_reweigh h g x s.world) refl is
+
+  -- in two states that are the same an event comes to the same, where the same task or none waits too long in both
+  pub passes_event : (e : Event) (s t : State) → hide_state h s ≡ hide_state h t → s.policy ≡ p → late_in s e ≡ late_in t e → Passes h p (event_step s e) (event_step t e)
+  passes_event (Wake u) s t same is late = from h p (λ r. wake r u) (passes_wake u) s t same is
+  passes_event (Sleep u) s t same is late = from h p (λ r. sleep r u) (passes_sleep u) s t same is
+  passes_event (Tick c) s t same is late = from h p (λ r. tick r c) (passes_tick c) s t same is
+  passes_event Clock s t same is late = passes_clock s t same is late
+  passes_event (SetWeight g x) s t same is late = from h p (λ r. event_step r (SetWeight g x)) (passes_weight g x) s t same is
+
+  late_shown : h.waits ≡ false → (s t : State) → hide_state h s ≡ hide_state h t → s.policy ≡ p → late_in s Clock ≡ late_in t Clock
+  late_shown e s t same is =
+      let x = from h p once_later passes_once_later s t same is in
+      overdue_is e (once_later s).state ∙ ap (λ (r : Stepped). overdue r.state) x.0 ∙ sym (overdue_is e (once_later t).state)
+
+  -- where waits aren't hidden it does
+  pub late_same : h.waits ≡ false → (e : Event) (s t : State) → hide_state h s ≡ hide_state h t → s.policy ≡ p → late_in s e ≡ late_in t e
+  late_same shown (Wake u) s t same is = refl
+  late_same shown (Sleep u) s t same is = refl
+  late_same shown (Tick c) s t same is = refl
+  late_same shown Clock s t same is = late_shown shown s t same is
+  late_same shown (SetWeight g x) s t same is = refl

@@ -1,0 +1,15 @@
+use Rattle.std.proofs.Common.{set, ap, ◌∙◌, arith}
+use Rattle.scx_sched.specs.Sim.{SimState}
+use Rattle.scx_explore_findings.proofs.PoolCopies.{put_up, taken_before, copied_all}
+use Rattle.scx_explore_findings.proofs.pool.copy_up.Goals as goal
+
+pub returns-clause-sims : goal.returns-clause-sims
+returns-clause-sims c =
+    put_up c.args.sims.now c.split_at_mut-before.result.0.now c.split_at_mut-before.result.1.now c.args.to c.take_over.new.sim c.split_at_mut-before.ensures.front c.split_at_mut-before.ensures.back
+    ∙ ap (λ (x : SimState). set c.args.sims.now c.args.to x) (taken_before c.args.sims.now c.split_at_mut-before.result.0.now c.args.to c.args.from c.take_over.new.sim c.index-before-from.result c.args.root.now c.split_at_mut-before.ensures.front c.requires.up c.requires.to c.take_over.ensures)
+
+pub returns-clause-alike : goal.returns-clause-alike
+returns-clause-alike c =
+    copied_all c.args.root.now c.args.sims.now _ c.args.from c.args.to c.take_over.new.sim (omega (arith, c.requires.up, c.requires.to))
+    (taken_before c.args.sims.now c.split_at_mut-before.result.0.now c.args.to c.args.from c.take_over.new.sim c.index-before-from.result c.args.root.now c.split_at_mut-before.ensures.front c.requires.up c.requires.to c.take_over.ensures)
+    (put_up c.args.sims.now c.split_at_mut-before.result.0.now c.split_at_mut-before.result.1.now c.args.to c.take_over.new.sim c.split_at_mut-before.ensures.front c.split_at_mut-before.ensures.back) c.requires.alike

@@ -1,0 +1,41 @@
+-- Programs that read nothing of what is hidden: they have no instruction that loads such a field,
+-- whatever its base register holds.
+use Rattle.std.specs.Prelude.{◌≡◌, ℕ, Bool, false, Option, Some, None}
+use Rattle.scx_isa_semantics.specs.declared.host_tables.Field.{Field}
+use Rattle.scx_isa_semantics.specs.declared.host_tables.Field.TheVariants.{DsqVtime, RunNs}
+use Rattle.scx_isa_semantics.specs.declared.instructions.Insn.{Insn}
+use Rattle.scx_isa_semantics.specs.declared.instructions.Insn.TheVariants.{Load}
+use Rattle.scx_isa_semantics.specs.Arithmetic.{at_distance}
+use Rattle.scx_isa_semantics.specs.Code.{Code, at}
+use Rattle.scx_isa_semantics.specs.HostTables.{field_at}
+use Rattle.scx_isa_semantics.specs.Memory.{access_size, size_bytes}
+use Rattle.scx_vm.specs.Programs.{VerifiedProgram}
+use Rattle.scx_explore_findings.specs.Hidden.{Hidden}
+
+-- whether that field of a task is hidden
+abbrev pub is_hidden : Hidden → Field → Bool
+is_hidden h RunNs = h.run_ns
+is_hidden h DsqVtime = h.vtime
+is_hidden h f = false
+
+-- the same where there is a field; false where there is none
+abbrev pub is_hidden_field : Hidden → Option Field → Bool
+is_hidden_field h None = false
+is_hidden_field h (Some f) = is_hidden h f
+
+-- whether it is a load of the bytes at an offset that a hidden field has in the record of a task:
+-- of 8 bytes at 32 for how long a task has run, of 8 bytes at 16 for its virtual time
+abbrev pub may_read : Hidden → Option Insn → Bool
+may_read h None = false
+may_read h (Some (Load a d b offset)) =
+    is_hidden_field h (field_at (size_bytes (access_size a)) (at_distance 0 offset))
+may_read h (Some i) = false
+
+-- no instruction of the program is such a load
+abbrev pub IsUnreadBy : Hidden → Code → Type 0
+IsUnreadBy h code = (slot : ℕ) → may_read h (at code slot) ≡ false
+
+-- the same of a program, if there is one
+abbrev pub IsUnread : Hidden → Option VerifiedProgram → Type 0
+IsUnread h None = Unit {0}
+IsUnread h (Some p) = IsUnreadBy h p.code

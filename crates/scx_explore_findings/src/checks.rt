@@ -1,0 +1,64 @@
+ghost use Rattle.std.specs.Prelude.{◌≡◌};
+ghost use Rattle.scx_dsq.specs.Queues.{queue_of};
+ghost use Rattle.scx_explore_findings.specs.Findings.{is_left, fault_in, stall_in, IsFirstLeft, IsIdleBehind};
+
+use crate::finding::Finding;
+use scx_sched::{Eject, Event, Fault, Sim};
+use scx_sched_world::{HELD, POLICY_END};
+
+/// The fault for which the policy was ejected, if it was for one.
+pub fn fault_of(sim: &Sim) -> Option<Fault>
+    ensures { result ≡ fault_in sim.now.state.world.ejected }
+{
+    match sim.ejected() {
+        Some(Eject::Fault(fault, _)) => Some(fault),
+        Some(Eject::Stall(_, _)) | None => None,
+    }
+}
+
+/// The task that waited too long, if the policy was ejected for that.
+pub fn stall_of(sim: &Sim) -> Option<u16>
+    ensures { result ≡ stall_in sim.now.state.world.ejected }
+{
+    match sim.ejected() {
+        Some(Eject::Stall(task, _)) => Some(task),
+        Some(Eject::Fault(_, _)) | None => None,
+    }
+}
+
+/// A task that waits for the policy while that event, a tick, has left its processor idle, if there is one.
+#[tactic(auto, using(crate::proofs::IdleCpus::busy, crate::proofs::IdleCpus::nobody, crate::proofs::IdleCpus::somebody))]
+pub fn idle_in(sim: &Sim, event: Event) -> Option<Finding>
+    ensures { IsIdleBehind sim.now event result }
+{
+    let Event::Tick(cpu) = event else {
+        return None;
+    };
+    if sim.runner(cpu).is_some() {
+        return None;
+    }
+    let task = first_left(sim)?;
+    Some(Finding::Idle { cpu, task })
+}
+
+/// The first task that is left waiting.
+fn first_left(sim: &Sim) -> Option<u16>
+    ensures { IsFirstLeft sim.now.state.world result }
+{
+    for task in 0..sim.tasks() {
+        if is_left(sim, task) {
+            return Some(task);
+        }
+    }
+    None
+}
+
+/// True if the task waits in a queue of the policy, or is held.
+pub(crate) fn is_left(sim: &Sim, task: u16) -> bool
+    ensures { result ≡ is_left (queue_of sim.now.state.world.queues task) }
+{
+    match sim.world().queue_of(task) {
+        Some(queue) => queue < POLICY_END || queue == HELD,
+        None => false,
+    }
+}

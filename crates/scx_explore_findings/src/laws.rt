@@ -1,0 +1,58 @@
+ghost use Rattle.scx_explore_findings.specs.FifoOnly.{FirstStatesAreInOrder, NobodyWaitsByVtime};
+ghost use Rattle.scx_explore_findings.specs.ReachedStates.{SameMachinesShowTheSame, ReachedStatesGoAlike};
+ghost use Rattle.scx_explore_findings.specs.HiddenLoads.{LoadsAreTold};
+ghost use Rattle.scx_explore_findings.specs.HiddenLaws.{EventsDontDepend, ListsDontDepend, NobodyIsLate, WordsDontDepend};
+
+/// An instruction that may read the run time of a task is a load of 8 bytes at the offset of that field, whatever its base
+/// register holds, and one that may read its virtual time a load of 8 bytes at the offset of that one. The function does
+/// nothing: its contract is the law.
+pub fn loads_are_told()
+    ensures { LoadsAreTold }
+{}
+
+/// Run times, virtual times and waits of tasks may be hidden. If no program of the policy
+/// has an instruction that loads what is hidden, two machines that are the same but for that answer an event alike:
+/// refusal, notes and calls are the same, and the machines after it are again the same but for that. Where waits are
+/// hidden, the same task or none has to wait too long in both. The function does nothing: its contract is the law.
+pub fn events_dont_depend()
+    ensures { EventsDontDepend }
+{}
+
+/// Two such machines answer a list of events alike. The function does nothing: its contract is the law.
+pub fn lists_dont_depend()
+    ensures { ListsDontDepend }
+{}
+
+/// Where a form leaves out what is hidden, two such machines are written as the same words. The function does nothing:
+/// its contract is the law.
+pub fn words_dont_depend()
+    ensures { WordsDontDepend }
+{}
+
+/// After fewer events than a task may wait milliseconds no task waits too long. The function does nothing: its contract
+/// is the law.
+pub fn nobody_is_late()
+    ensures { NobodyIsLate }
+{}
+
+/// Under a policy of which no program calls the helper that inserts by a virtual time, no task waits by one in a
+/// machine before any event. And where that is so, no list of events leads to a state in which one does, as long as the
+/// policy is in force. The function does nothing: its contract is the law.
+pub fn nobody_waits_by_vtime()
+    ensures first { FirstStatesAreInOrder }
+    ensures after { NobodyWaitsByVtime }
+{}
+
+/// Two machines that are the same but for what is hidden show the same: for what the policy was ejected, which
+/// processors are idle while tasks wait, and the words of a form that leaves out what is hidden. The function does
+/// nothing: its contract is the law.
+pub fn same_machines_show_the_same()
+    ensures { SameMachinesShowTheSame }
+{}
+
+/// If lists of events lead to two states that are the same but for what is hidden, any events lead on alike.
+/// Where waits are hidden, lists have to be so short that no task waits too long. The function does nothing: its
+/// contract is the law.
+pub fn reached_states_go_alike()
+    ensures { ReachedStatesGoAlike }
+{}

@@ -1,7 +1,0 @@
-use Rattle.std.proofs.Common.{sym, ◌∙◌}
-use Rattle.scx_explore_path.proofs.Along.{last_of_some}
-use Rattle.scx_explore_path.proofs.path.last_of.Goals as goal
-
-pub returns : goal.returns
-returns c =
-    c.index-before-before.is ∙ last_of_some c.args.root.now c.args.before.now c.index-before-before.result (sym c.is_empty.ensures ∙ c.if-is_empty.false)

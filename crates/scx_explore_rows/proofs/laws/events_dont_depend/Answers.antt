@@ -1,5 +1,0 @@
-use Rattle.scx_explore_rows.proofs.Machines.{events_dont_depend}
-use Rattle.scx_explore_rows.proofs.laws.events_dont_depend.Goals as goal
-
-pub returns : goal.returns
-returns c = events_dont_depend

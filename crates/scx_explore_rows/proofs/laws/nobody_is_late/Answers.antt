@@ -1,5 +1,0 @@
-use Rattle.scx_explore_rows.proofs.Near.{nobody_is_late}
-use Rattle.scx_explore_rows.proofs.laws.nobody_is_late.Goals as goal
-
-pub returns : goal.returns
-returns c = nobody_is_late

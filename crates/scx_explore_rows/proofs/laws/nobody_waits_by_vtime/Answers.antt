@@ -1,9 +1,0 @@
-use Rattle.scx_explore_rows.proofs.First.{first_states_are_in_order}
-use Rattle.scx_explore_rows.proofs.Ordered.{nobody_waits_by_vtime}
-use Rattle.scx_explore_rows.proofs.laws.nobody_waits_by_vtime.Goals as goal
-
-pub returns-clause-first : goal.returns-clause-first
-returns-clause-first c = first_states_are_in_order
-
-pub returns-clause-after : goal.returns-clause-after
-returns-clause-after c = nobody_waits_by_vtime

@@ -1,5 +1,0 @@
-use Rattle.scx_explore_rows.proofs.Showing.{same_machines_show_the_same}
-use Rattle.scx_explore_rows.proofs.laws.same_machines_show_the_same.Goals as goal
-
-pub returns : goal.returns
-returns c = same_machines_show_the_same

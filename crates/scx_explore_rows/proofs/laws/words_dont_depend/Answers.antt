@@ -1,5 +1,0 @@
-use Rattle.scx_explore_rows.proofs.Words.{words_dont_depend}
-use Rattle.scx_explore_rows.proofs.laws.words_dont_depend.Goals as goal
-
-pub returns : goal.returns
-returns c = words_dont_depend
