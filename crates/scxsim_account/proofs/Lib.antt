@@ -1,2 +1,1 @@
-mod Showing
 mod Waiting

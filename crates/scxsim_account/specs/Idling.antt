@@ -1,5 +1,5 @@
--- When processors are idle while a task waits, and which tasks have begun to run: what is kept of
--- it as the events and notes of a run come.
+-- The CPUs that are idle while a task waits, and the tasks that have begun to run: their sums as
+-- the events and notes of a run come.
 use Rattle.std.specs.Prelude.{ℕ, zero, suc, ◌≡◌, ◌+◌, ◌-◌, ◌^◌, min, ◌==◌, ◌&&◌, ◌||◌, if◌then◌else◌, not, Bool, true, false, List, length, replicate, Option, Some, None, is_some, slice_index_or, slice_set}
 use Rattle.scx_sched_world.specs.declared.notes.What.{What}
 use Rattle.scx_sched_world.specs.declared.notes.What.TheVariants.{Wake, Sleep, Insert, Move, Run, Stop, Weight, Stall, Fault}
@@ -21,21 +21,21 @@ use Rattle.scxsim_account.specs.declared.idling.IdleFigures.{IdleFigures}
 abbrev pub one_more : ℕ → ℕ
 one_more n = min (n + 1) (2 ^ 64 - 1)
 
--- since when its task waits for a processor, of a pause that began then; a parked task doesn't wait
+-- the time since which the task of a pause waits for a CPU; a parked task doesn't wait
 abbrev pub since_of : PauseKind → ℕ → Option ℕ
 since_of kind.Wait since = Some since
 since_of kind.Parked since = None
 
--- the same of a pause, if there is one
+-- the time since which a task with this pause waits, if it has one
 abbrev pub wait_since : Option Pause → Option ℕ
 wait_since None = None
 wait_since (Some p) = since_of p.kind p.since
 
--- since when that task waits for a processor, if it does
+-- the time since which that task waits for a CPU, if it does
 abbrev pub waits_since : List Doing → ℕ → Option ℕ
 waits_since ds t = wait_since (open_pause 0 ds t)
 
--- the first of that many tasks that waits for a processor, from this one on in their order
+-- the first of that many tasks that waits for a CPU, from this one on in their order
 abbrev pub first_waiting : ℕ → ℕ → List Doing → Option ℕ
 first_waiting zero t ds = None
 first_waiting (suc n) t ds =
@@ -54,10 +54,10 @@ begun_after (Weight g x) bs = bs
 begun_after (Stall t) bs = bs
 begun_after (Fault f) bs = bs
 
--- what each task does, the first task that waited as the ticks of the current millisecond began,
--- whether there was one in some millisecond, whether each task has begun to run, since when each
--- processor has been idle while a task waited, how often that began, and for how many milliseconds
--- in all
+-- each task's state, the first task that waited as the ticks of the current millisecond began,
+-- whether there was one in some millisecond, whether each task has begun to run, the clock since
+-- which each CPU has been idle while a task waited, the number of such stretches, and their
+-- milliseconds in all
 pub record Idle : Type 0 where
   pub doing : List Doing
   pub waiting : Option ℕ
@@ -67,35 +67,39 @@ pub record Idle : Type 0 where
   pub count : ℕ
   pub lost : ℕ
 
--- since when that processor has been idle while somebody waited, if it has
+-- the clock since which that CPU has been idle while a task waited, if it has
 abbrev pub since_at : List (Option ℕ) → ℕ → Option ℕ
 since_at xs c = slice_index_or xs c None
 
--- with that one, a task has waited in some millisecond
+-- with this task waiting, a task has waited in some millisecond
 abbrev pub noticed : Option ℕ → Idle → Idle
 noticed first k = record k { waiting = first; has_waited = k.has_waited || is_some first }
 
--- the ticks of a millisecond begin with that of the first processor: a task that waits then
--- waited in that millisecond
+-- the ticks of a millisecond begin with that of CPU 0: a task that waits then waited in that
+-- millisecond
 abbrev pub ticks_begin : ℕ → ℕ → Idle → Idle
 ticks_begin tasks c k = if c == 0 then noticed (first_waiting tasks 0 k.doing) k else k
 
--- a processor is idle for a millisecond while a task waits: a stretch goes on, or begins
+-- a CPU is idle for a millisecond while a task waits: a stretch goes on, or begins
 abbrev pub one_lost : ℕ → ℕ → Idle → Idle
 one_lost clock c k =
     if is_some (since_at k.since c) then record k { lost = one_more k.lost }
-    else record k { lost = one_more k.lost; count = one_more k.count; since = slice_set k.since c (Some clock) }
+    else record k {
+      lost = one_more k.lost;
+      count = one_more k.count;
+      since = slice_set k.since c (Some clock);
+    }
 
--- no stretch of that processor goes on
+-- no stretch of that CPU goes on
 abbrev pub closed : ℕ → Idle → Idle
 closed c k = record k { since = slice_set k.since c None }
 
--- a processor's tick: a millisecond is lost, or no stretch of it goes on
+-- a CPU's tick: a millisecond is lost, or no stretch of it goes on
 abbrev pub ticked : ℕ → ℕ → Bool → Idle → Idle
 ticked clock c is_idle k =
     if is_some k.waiting && is_idle then one_lost clock c k else closed c k
 
--- what is kept behind an event, before its notes: a tick is of a processor that runs a task or none
+-- the sums after an event, before its notes: a tick is of a CPU that runs a task or none
 abbrev pub idle_after_event : SimState → Event → Idle → Idle
 idle_after_event s (event.Tick c) k =
     ticked s.state.world.clock c (not (is_some (running s.state.world c)))
@@ -105,12 +109,12 @@ idle_after_event s (event.Sleep t) k = k
 idle_after_event s event.Clock k = k
 idle_after_event s (event.SetWeight g x) k = k
 
--- what is kept behind a note
+-- the sums after a note
 abbrev pub idle_after_note : ℕ → What → Idle → Idle
 idle_after_note clock what k =
     record k { doing = doing_after clock what k.doing; begun = begun_after what k.begun }
 
--- what is kept before a run
+-- the sums before a run
 abbrev pub none_idle : ℕ → ℕ → Idle
 none_idle tasks cpus = record {
   doing = replicate tasks Sleeps;
@@ -122,12 +126,12 @@ none_idle tasks cpus = record {
   lost = 0;
 }
 
--- what is kept of a whole run of these events from that state on
+-- the sums of a whole run of these events from that state on
 abbrev pub idle_of : SimState → List Event → Idle
 idle_of s es =
     kept_of_all idle_after_event idle_after_note s es
     (none_idle (length s.state.world.tasks) (length s.state.world.cpus))
 
--- what is told of it
+-- the figures of these sums
 abbrev pub figures_of : Idle → IdleFigures
 figures_of k = record { count = k.count; lost = k.lost; has_waited = k.has_waited }

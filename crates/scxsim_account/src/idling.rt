@@ -1,5 +1,4 @@
 ghost use Rattle.std.specs.Prelude.{◌≡◌, length, false, is_some, is_none, slice_index_or, slice_set, IfOk};
-ghost use Rattle.scx_sched_world.specs.World.{running};
 ghost use Rattle.scxsim_account.specs.Idling.{none_idle, since_at, first_waiting, begun_after, ticks_begin, one_lost, closed, ticked, idle_after_event, idle_after_note, figures_of, since_of, waits_since};
 
 use scx_sched::{Event, Sim, What};
@@ -7,20 +6,20 @@ use scxsim_views::{PauseKind, Pauses};
 use std::alloc::{AllocError, Global};
 use std::marker::Model;
 
-/// How processors were idle while a task waited for one.
+/// The figures of CPUs that were idle while a task waited.
 #[derive(Clone, Copy)]
 pub struct IdleFigures {
-    /// How often that began on a processor.
+    /// The number of stretches: each began on a CPU.
     pub count: u64,
-    /// For how many milliseconds it was so, of all processors together.
+    /// The milliseconds of all stretches, of all CPUs together.
     pub lost: u64,
-    /// True if a task waited in some millisecond, idle processor or not.
+    /// True if a task waited in some millisecond, idle CPU or not.
     pub has_waited: bool,
 }
 
-/// The processors that are idle while a task waits, and the tasks that have begun to run.
+/// The CPUs that are idle while a task waits, and the tasks that have begun to run.
 ///
-/// In a contract it is what is kept of that, with what each task does.
+/// In a contract it is the sums of these stretches, with each task's state.
 #[derive(Drop)]
 pub struct Idling {
     pub(crate) pauses: Pauses,
@@ -30,11 +29,11 @@ pub struct Idling {
     has_waited: bool,
     /// True for each task that has begun to run.
     begun: Vec<bool>,
-    /// Since when each processor has been idle while somebody waited.
+    /// The clock since which each CPU has been idle while a task waited.
     since: Vec<Option<u64>>,
-    /// How many stretches have begun.
+    /// The number of stretches that have begun.
     count: u64,
-    /// For how many milliseconds processors were idle so, in all.
+    /// The milliseconds of all stretches.
     lost: u64,
 }
 
@@ -55,7 +54,7 @@ impl Model for Idling {
 }
 
 impl Idling {
-    /// Before a run of so many tasks on so many processors.
+    /// Nothing is idle yet, before a run of these tasks on these CPUs.
     pub(crate) fn new(alloc: Global, tasks: u16, cpus: u32) -> Result<Idling, AllocError>
         ensures { IfOk result (λ idling. idling ≡ none_idle tasks cpus) }
     {
@@ -70,20 +69,20 @@ impl Idling {
         })
     }
 
-    /// That event comes next.
+    /// Takes an event that comes next.
     pub(crate) fn expect(&mut self, sim: &Sim, event: Event)
         ensures { self.new ≡ idle_after_event sim.now event self.old }
     {
         match event {
             Event::Tick(cpu) => {
                 self.begin_ticks(sim.tasks(), cpu);
-                self.tick(sim.clock(), cpu, running_on(sim, cpu).is_none());
+                self.tick(sim.clock(), cpu, sim.runner(cpu).is_none());
             }
             Event::Wake(_) | Event::Sleep(_) | Event::Clock | Event::SetWeight(_, _) => {}
         }
     }
 
-    /// Something happens.
+    /// Takes a note.
     pub(crate) fn show(&mut self, clock: u64, what: What)
         ensures { self.new ≡ idle_after_note clock what self.old }
     {
@@ -108,14 +107,14 @@ impl Idling {
         }
     }
 
-    /// Since when the processor has been idle while somebody waited, if it has.
+    /// The clock since which the CPU has been idle while a task waited, if it has.
     pub(crate) fn since(&self, cpu: u32) -> Option<u64>
         ensures { result ≡ since_at self.now.since cpu }
     {
         *self.since.get(cpu as usize)?
     }
 
-    /// How often and for how long processors were idle while somebody waited.
+    /// The figures of CPUs that were idle while a task waited.
     pub fn figures(&self) -> IdleFigures
         ensures { result ≡ figures_of self.now }
     {
@@ -126,7 +125,7 @@ impl Idling {
         }
     }
 
-    /// Finds who waits, before the first processor's tick, since ticks may stop tasks.
+    /// Finds the first task that waits, before the tick of CPU 0, since ticks may stop tasks.
     fn begin_ticks(&mut self, tasks: u16, cpu: u32)
         ensures { self.new ≡ ticks_begin tasks cpu self.old }
     {
@@ -146,7 +145,7 @@ impl Idling {
         }
     }
 
-    /// The processor is idle for a millisecond while somebody waits.
+    /// Adds a millisecond in which the CPU is idle while a task waits.
     fn lose(&mut self, clock: u64, cpu: u32)
         ensures { self.new ≡ one_lost clock cpu self.old }
     {
@@ -172,7 +171,7 @@ fn set(since: &mut Vec<Option<u64>>, cpu: u32, value: Option<u64>)
     }
 }
 
-/// Keeps that a task has begun to run, if that is what happens.
+/// Keeps that a task has begun to run, if a note says so.
 fn note_run(begun: &mut Vec<bool>, what: What)
     ensures { begun.new.items ≡ begun_after what begun.old.items }
 {
@@ -183,7 +182,7 @@ fn note_run(begun: &mut Vec<bool>, what: What)
     }
 }
 
-/// The first task in the workload's order that waits for a processor, if one of that many does.
+/// The first task, in the workload's order, that waits for a CPU, if one of this number does.
 #[tactic(auto, using(crate::proofs::Waiting::first_here, crate::proofs::Waiting::first_later))]
 fn first_waiting(pauses: &Pauses, tasks: u16) -> Option<u16>
     ensures { result ≡ first_waiting tasks 0 pauses.now }
@@ -196,7 +195,7 @@ fn first_waiting(pauses: &Pauses, tasks: u16) -> Option<u16>
     None
 }
 
-/// Since when the task has waited for a processor, if it does. One that is parked doesn't.
+/// The clock since which the task has waited for a CPU, if it waits. A task that is parked doesn't.
 pub(crate) fn waits_since(pauses: &Pauses, task: u16) -> Option<u64>
     ensures { result ≡ waits_since pauses.now task }
 {
@@ -210,16 +209,5 @@ fn since_of(kind: PauseKind, since: u64) -> Option<u64>
     match kind {
         PauseKind::Wait => Some(since),
         PauseKind::Parked => None,
-    }
-}
-
-/// Who runs on the processor.
-pub(crate) fn running_on(sim: &Sim, cpu: u32) -> Option<u16>
-    ensures { result ≡ running sim.now.state.world cpu }
-{
-    if cpu < sim.cpus() {
-        sim.running(cpu)
-    } else {
-        None
     }
 }

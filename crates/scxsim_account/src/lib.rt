@@ -1,14 +1,14 @@
-//! What is seen of a run that is gone through a second time: what happened while tasks waited, which processors were
-//! idle meanwhile, what became of each queue, how callbacks were called, and how the policy was ejected.
+//! The account of a run, for `why`: the events of the longest waits, the CPUs that were idle while a task waited, the
+//! use of each queue, the calls of callbacks, and the policy's ejection with the last notes before it. `account_of`
+//! makes it in a second run, once the first has found the longest waits.
 #![tactic(auto)]
 
-mod ending;
-mod heeding;
+mod account;
+mod ejection;
 mod idling;
 mod recent;
-mod watching;
 
-pub use ending::{Cause, Ejection};
+pub use account::{Account, account_of};
+pub use ejection::{Cause, Ejection};
 pub use idling::{IdleFigures, Idling};
 pub use recent::RecentNotes;
-pub use watching::{Account, account_of};

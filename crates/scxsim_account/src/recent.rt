@@ -1,18 +1,18 @@
-use crate::ending::{Ejection, Moment, ejection_of};
+use crate::ejection::{Ejection, Moment, ejection_of};
 use scx_sched::{Note, What};
 use std::alloc::{AllocError, Global};
 
-/// How many lines of the trace are shown.
+/// The number of last notes that are kept.
 const LINES: usize = 10;
 
-/// A note, and how many came before it.
+/// A note, and the number of notes before it.
 #[derive(Clone, Copy)]
 struct Recent {
     order: u64,
     note: Note,
 }
 
-/// The last notes of one task or of one processor, up to an ejection.
+/// The last notes of one task or of one CPU, up to an ejection.
 #[derive(Clone, Copy)]
 struct Ring {
     notes: [Option<Recent>; LINES],
@@ -33,7 +33,7 @@ impl Ring {
     }
 }
 
-/// The last notes of each task and of each processor.
+/// The last notes of each task and of each CPU.
 #[derive(Drop)]
 pub struct RecentNotes {
     by_task: Vec<Ring>,
@@ -54,7 +54,7 @@ impl RecentNotes {
         })
     }
 
-    /// Nothing has been noted yet, if notes are wanted.
+    /// No notes yet; none at all where notes aren't wanted.
     pub(crate) fn if_wanted(
         alloc: Global,
         are_wanted: bool,
@@ -68,8 +68,8 @@ impl RecentNotes {
         }
     }
 
-    /// Keeps a note with the others of its task and of its processor. The answer is the ejection that it notes, if it
-    /// does.
+    /// Keeps a note with the others of its task and of its CPU. The answer is the ejection that it notes, if it notes
+    /// one.
     pub(crate) fn take(&mut self, moment: Moment, note: Note) -> Option<Ejection> {
         let ejection = ejection_of(moment, note.clock, note.what);
         match ejection {
@@ -79,7 +79,7 @@ impl RecentNotes {
         ejection
     }
 
-    /// Keeps a note with the others of a task and of a processor.
+    /// Keeps a note with the others of a task and of a CPU.
     fn add_for(&mut self, task: Option<u16>, cpu: Option<u32>, note: Note) {
         let recent = Recent {
             order: self.count,
@@ -94,7 +94,7 @@ impl RecentNotes {
         }
     }
 
-    /// The last notes of the task and of the processor of an ejection, in their order.
+    /// The last notes of the task and of the CPU of an ejection, in their order.
     pub fn of_ejection(&self, alloc: Global, ejection: Ejection) -> Result<Vec<Note>, AllocError> {
         let mut found = Vec::new(alloc);
         if let Some(task) = ejection.task {
@@ -126,7 +126,7 @@ fn collect(found: &mut Vec<Recent>, rings: &Vec<Ring>, number: usize) -> Result<
     Ok(())
 }
 
-/// The last ones of notes in their order, each once.
+/// The last of these notes, which are in their order, each once.
 fn last_of(alloc: Global, sorted: &[Recent]) -> Result<Vec<Note>, AllocError> {
     let mut distinct = Vec::new(alloc);
     let mut before = None;
@@ -144,7 +144,7 @@ fn last_of(alloc: Global, sorted: &[Recent]) -> Result<Vec<Note>, AllocError> {
     Ok(last)
 }
 
-/// The task that a note is of.
+/// The task of a note.
 pub(crate) fn task_of(what: What) -> Option<u16> {
     match what {
         What::Wake(task)
@@ -158,15 +158,10 @@ pub(crate) fn task_of(what: What) -> Option<u16> {
     }
 }
 
-/// The processor that a note is of.
+/// The CPU of a note.
 fn cpu_of(what: What) -> Option<u32> {
     match what {
         What::Move(_, cpu) | What::Run(_, cpu) | What::Stop(_, cpu) | What::Idle(cpu) => Some(cpu),
-        What::Wake(_)
-        | What::Sleep(_)
-        | What::Insert(_, _)
-        | What::Weight(_, _)
-        | What::Stall(_)
-        | What::Fault(_) => None,
+        _ => None,
     }
 }

@@ -1,3 +1,4 @@
+pub mod Pieces
 pub mod Growth
 pub mod Beginnings
 pub mod Shorts

@@ -6,7 +6,7 @@ use crate::short::SHORT;
 use std::alloc::Allocator;
 use std::io::{BufWriter, Write};
 
-/// How many bytes of short texts are held back at most, in a field of the writer's own.
+/// The most bytes of short texts that are held back, in a field of the writer's own.
 const BLOCK: usize = 4096;
 
 /// An output that is handed short texts by the block, and all else at once.
@@ -19,9 +19,9 @@ pub struct Blocks<W> {
 }
 
 impl<W: Out> Blocks<W> {
-    ghost use Rattle.std.specs.Prelude.{◌≡◌, ◌≤◌, [], ◌++◌, take, OnOk, OnErr};
+    ghost use Rattle.std.specs.Prelude.{◌≡◌, ◌≤◌, [], ◌++◌, take, OnOk};
     ghost use Rattle.std.specs.Io.KnownBytes.{Keeps};
-    ghost use Rattle.scxsim_output.specs.Output.{HasFailed};
+    ghost use Rattle.scxsim_output.specs.Output.{Counts};
     ghost use Rattle.scxsim_output.specs.Held.{held_back, blocks_contents};
 
     /// Nothing is held back.
@@ -42,10 +42,8 @@ impl<W: Out> Blocks<W> {
         ensures contents { Keeps (blocks_contents W.contents self.old)
             (blocks_contents W.contents self.new) }
         ensures emptied { OnOk result (self.new.end ≡ 0) }
-        ensures ok_failures { OnOk result
-            (W.failure_count self.new.out ≡ W.failure_count self.old.out) }
-        ensures err_failures { OnErr result
-            (HasFailed (W.failure_count self.old.out) (W.failure_count self.new.out)) }
+        ensures failures { Counts result (W.failure_count self.old.out)
+            (W.failure_count self.new.out) }
     {
         let (count, result) = write_front(&mut self.out, &self.block[..self.end]);
         self.block.copy_within(count..self.end, 0);
@@ -59,10 +57,8 @@ impl<W: Out> Blocks<W> {
         ensures contents { Keeps (blocks_contents W.contents self.old)
             (blocks_contents W.contents self.new) }
         ensures emptied { OnOk result (self.new.end ≡ 0) }
-        ensures ok_failures { OnOk result
-            (W.failure_count self.new.out ≡ W.failure_count self.old.out) }
-        ensures err_failures { OnErr result
-            (HasFailed (W.failure_count self.old.out) (W.failure_count self.new.out)) }
+        ensures failures { Counts result (W.failure_count self.old.out)
+            (W.failure_count self.new.out) }
     {
         if self.end > 0 { self.spill() } else { Ok(()) }
     }
@@ -73,10 +69,8 @@ impl<W: Out> Blocks<W> {
         ensures contents { Keeps (blocks_contents W.contents self.old)
             (blocks_contents W.contents self.new) }
         ensures room { OnOk result (self.new.end ≤ 4016) }
-        ensures ok_failures { OnOk result
-            (W.failure_count self.new.out ≡ W.failure_count self.old.out) }
-        ensures err_failures { OnErr result
-            (HasFailed (W.failure_count self.old.out) (W.failure_count self.new.out)) }
+        ensures failures { Counts result (W.failure_count self.old.out)
+            (W.failure_count self.new.out) }
     {
         if self.end > BLOCK - SHORT {
             self.spill()
@@ -85,7 +79,7 @@ impl<W: Out> Blocks<W> {
         }
     }
 
-    /// Holds back a short text of so many bytes.
+    /// Holds back the first `count` bytes of a short text.
     #[inline(always)]
     #[tactic(auto, using(crate::proofs::Shorts::with_text))]
     fn hold(&mut self, text: &[u8; SHORT], count: usize)
@@ -101,10 +95,10 @@ impl<W: Out> Blocks<W> {
 }
 
 impl<W: Write + Drop, A: Allocator> Blocks<Counted<BufWriter<W, A>>> {
-    ghost use Rattle.std.specs.Prelude.{◌≡◌, [], OnOk, OnErr};
+    ghost use Rattle.std.specs.Prelude.{◌≡◌, [], OnOk};
     ghost use Rattle.std.specs.Io.KnownBytes.{Keeps};
     ghost use Rattle.std.specs.Io.Buffered.{writer_buffer, writer_contents};
-    ghost use Rattle.scxsim_output.specs.Output.{HasFailed};
+    ghost use Rattle.scxsim_output.specs.Output.{Counts};
     ghost use Rattle.scxsim_output.specs.Held.{held_back, blocks_contents};
 
     /// Hands on all that is held back, here and by the writer.
@@ -118,9 +112,7 @@ impl<W: Write + Drop, A: Allocator> Blocks<Counted<BufWriter<W, A>>> {
             (blocks_contents (λ w. writer_contents W.contents w.writer) self.new) }
         ensures emptied { OnOk result (held_back self.new ≡ []) }
         ensures writer_emptied { OnOk result (writer_buffer self.new.out.writer ≡ []) }
-        ensures ok_failures { OnOk result (self.new.out.failures ≡ self.old.out.failures) }
-        ensures err_failures { OnErr result
-            (HasFailed self.old.out.failures self.new.out.failures) }
+        ensures failures { Counts result self.old.out.failures self.new.out.failures }
     {
         self.spill()?;
         self.out.flush()

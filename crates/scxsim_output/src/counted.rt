@@ -24,10 +24,10 @@ impl<W: Write> Counted<W> {
 }
 
 impl<W: Write + Drop, A: Allocator> Counted<BufWriter<W, A>> {
-    ghost use Rattle.std.specs.Prelude.{◌≡◌, [], OnOk, OnErr};
+    ghost use Rattle.std.specs.Prelude.{◌≡◌, [], OnOk};
     ghost use Rattle.std.specs.Io.KnownBytes.{Keeps};
     ghost use Rattle.std.specs.Io.Buffered.{writer_buffer, writer_contents};
-    ghost use Rattle.scxsim_output.specs.Output.{HasFailed};
+    ghost use Rattle.scxsim_output.specs.Output.{Counts};
 
     /// Has the writer hand on what it holds back. Where it does, nothing is held back any more.
     ///
@@ -38,8 +38,7 @@ impl<W: Write + Drop, A: Allocator> Counted<BufWriter<W, A>> {
         ensures contents { Keeps (writer_contents W.contents self.old.writer)
             (writer_contents W.contents self.new.writer) }
         ensures emptied { OnOk result (writer_buffer self.new.writer ≡ []) }
-        ensures ok_failures { OnOk result (self.new.failures ≡ self.old.failures) }
-        ensures err_failures { OnErr result (HasFailed self.old.failures self.new.failures) }
+        ensures failures { Counts result self.old.failures self.new.failures }
     {
         match self.writer.flush() {
             Ok(()) => Ok(()),

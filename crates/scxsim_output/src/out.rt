@@ -1,6 +1,6 @@
 ghost use Rattle.std.specs.Prelude.{◌≡◌, ℕ, ◌-◌, ◌^◌, ◌<◌, ◌≤◌, ◌++◌, List, length, take, Option, None, IsErr, IfOk, OnOk, OnErr};
 ghost use Rattle.std.specs.Io.KnownBytes.{Appends, WriteAppends};
-ghost use Rattle.scxsim_output.specs.Output.{IsFailure, HasFailed, AppendsBeginning};
+ghost use Rattle.scxsim_output.specs.Output.{IsFailure, Counts, HasFailed, AppendsBeginning};
 
 use crate::short::SHORT;
 use thiserror::Error;
@@ -20,7 +20,7 @@ pub trait Out {
     /// Takes bytes from the front of `bytes`, and answers how many it took.
     ///
     /// An error, and an answer of 0 for bytes that are there, each count as one failure. An output
-    /// whose count stands at its greatest answers an error, and the count stays.
+    /// whose count is at its greatest answers an error, and the count stays.
     fn write(&mut self, bytes: &[u8]) -> Result<usize, Failed>
         ensures bound { IfOk result (λ count. count ≤ length bytes.now) }
         ensures grows { WriteAppends (contents self.old) (contents self.new) result bytes.now }
@@ -30,21 +30,19 @@ pub trait Out {
             → failure_count self.new ≡ failure_count self.old }
         ensures at_limit { failure_count self.old ≡ 2 ^ 64 - 1 → IsErr result };
 
-    /// How many writes failed so far.
+    /// The number of writes that have failed.
     fn failures(&self) -> u64
         ensures { result ≡ failure_count self.now };
 
-    /// Takes a short text, of so many of the field's first bytes, up to the first write that fails.
+    /// Takes a short text, the first `count` bytes of a field, up to the first write that fails.
     fn write_short(&mut self, text: &[u8; SHORT], count: usize) -> Result<(), Failed>
         requires some { 0 < count }
         requires room { count ≤ 80 }
         ensures ok { OnOk result
             (Appends (contents self.old) (contents self.new) (take count text.now)) }
-        ensures ok_failures { OnOk result (failure_count self.new ≡ failure_count self.old) }
         ensures err { OnErr result
             (AppendsBeginning (contents self.old) (contents self.new) (take count text.now)) }
-        ensures err_failures { OnErr result
-            (HasFailed (failure_count self.old) (failure_count self.new)) }
+        ensures failures { Counts result (failure_count self.old) (failure_count self.new) }
     {
         let bytes = &text[..count];
         let mut done = 0;
@@ -62,31 +60,20 @@ pub trait Out {
 /// Writes all of `bytes`, in as many writes as it takes, up to the first one that fails.
 pub fn write_all<W: Out>(out: &mut W, bytes: &[u8]) -> Result<(), Failed>
     ensures ok { OnOk result (Appends (W.contents out.old) (W.contents out.new) bytes.now) }
-    ensures ok_failures { OnOk result (W.failure_count out.new ≡ W.failure_count out.old) }
     ensures err { OnErr result
         (AppendsBeginning (W.contents out.old) (W.contents out.new) bytes.now) }
-    ensures err_failures { OnErr result
-        (HasFailed (W.failure_count out.old) (W.failure_count out.new)) }
+    ensures failures { Counts result (W.failure_count out.old) (W.failure_count out.new) }
 {
-    let mut done = 0;
-    while done < bytes.len() {
-        let count = out.write(&bytes[done..])?;
-        if count == 0 {
-            return Err(Failed);
-        }
-        done += count;
-    }
-    Ok(())
+    write_front(out, bytes).1
 }
 
 /// Writes all of `bytes`, up to the first write that fails, and answers how many were written.
 pub(crate) fn write_front<W: Out>(out: &mut W, bytes: &[u8]) -> (usize, Result<(), Failed>)
     ensures bound { result.0 ≤ length bytes.now }
     ensures all { OnOk result.1 (result.0 ≡ length bytes.now) }
+    ensures some { OnErr result.1 (result.0 < length bytes.now) }
     ensures bytes { Appends (W.contents out.old) (W.contents out.new) (take result.0 bytes.now) }
-    ensures ok_failures { OnOk result.1 (W.failure_count out.new ≡ W.failure_count out.old) }
-    ensures err_failures { OnErr result.1
-        (HasFailed (W.failure_count out.old) (W.failure_count out.new)) }
+    ensures failures { Counts result.1 (W.failure_count out.old) (W.failure_count out.new) }
 {
     let mut done = 0;
     while done < bytes.len() {
@@ -103,12 +90,10 @@ pub(crate) fn write_front<W: Out>(out: &mut W, bytes: &[u8]) -> (usize, Result<(
 pub fn write_named<W: Out>(out: &mut W, start: &str, name: &str, end: &str) -> Result<(), Failed>
     ensures ok { OnOk result
         (Appends (W.contents out.old) (W.contents out.new) (start.now ++ name.now ++ end.now)) }
-    ensures ok_failures { OnOk result (W.failure_count out.new ≡ W.failure_count out.old) }
     ensures err { OnErr result
         (AppendsBeginning (W.contents out.old) (W.contents out.new)
         (start.now ++ name.now ++ end.now)) }
-    ensures err_failures { OnErr result
-        (HasFailed (W.failure_count out.old) (W.failure_count out.new)) }
+    ensures failures { Counts result (W.failure_count out.old) (W.failure_count out.new) }
 {
     write_parts(out, start.as_bytes(), name.as_bytes(), end.as_bytes())
 }
@@ -117,12 +102,10 @@ pub fn write_named<W: Out>(out: &mut W, start: &str, name: &str, end: &str) -> R
 pub fn write_parts<W: Out>(out: &mut W, start: &[u8], name: &[u8], end: &[u8]) -> Result<(), Failed>
     ensures ok { OnOk result
         (Appends (W.contents out.old) (W.contents out.new) (start.now ++ name.now ++ end.now)) }
-    ensures ok_failures { OnOk result (W.failure_count out.new ≡ W.failure_count out.old) }
     ensures err { OnErr result
         (AppendsBeginning (W.contents out.old) (W.contents out.new)
         (start.now ++ name.now ++ end.now)) }
-    ensures err_failures { OnErr result
-        (HasFailed (W.failure_count out.old) (W.failure_count out.new)) }
+    ensures failures { Counts result (W.failure_count out.old) (W.failure_count out.new) }
 {
     write_all(out, start)?;
     write_all(out, name)?;

@@ -1,13 +1,13 @@
-//! Short texts: the first bytes of a field of a fixed size. What stands behind them doesn't count, so a field can be
+//! Short texts: the first bytes of a field of a fixed size. The bytes after them don't count, so a field can be
 //! copied whole, and a name by words.
 
 ghost use Rattle.std.specs.Prelude.{◌≡◌, ◌+◌, ◌≤◌, ◌<◌, ◌++◌, ◌∷◌, [], length, take};
 
-/// How many bytes a short text has at most: a line of a trace has at most 77, 21 of them for its clock, 12 of words,
-/// 16 of a name, 27 behind it, and a line feed.
+/// The most bytes of a short text: a line of a trace has at most 77, 21 of them for its clock, 12
+/// of words, 16 of a name, 27 after it, and a line feed.
 pub const SHORT: usize = 80;
 
-/// Puts a byte behind the first ones, and answers where the text ends.
+/// Puts a byte after the first ones, and answers where the text ends.
 #[inline(always)]
 #[tactic(auto, using(std::proofs::lemmas::List::take_more_set))]
 pub fn put_byte(text: &mut [u8; SHORT], at: usize, byte: u8) -> usize
@@ -19,7 +19,7 @@ pub fn put_byte(text: &mut [u8; SHORT], at: usize, byte: u8) -> usize
     at + 1
 }
 
-/// Puts bytes behind the first ones, and answers where the text ends.
+/// Puts bytes after the first ones, and answers where the text ends.
 #[inline(always)]
 #[tactic(auto, using(std::proofs::lemmas::Slice::overwrites))]
 pub fn put_bytes(text: &mut [u8; SHORT], at: usize, bytes: &[u8]) -> usize
@@ -32,7 +32,7 @@ pub fn put_bytes(text: &mut [u8; SHORT], at: usize, bytes: &[u8]) -> usize
     end
 }
 
-/// Puts a name of at most 16 bytes behind the first ones, by whole words, and answers where it ends.
+/// Puts a name of at most 16 bytes after the first ones, by whole words, and answers where it ends.
 #[inline(always)]
 pub fn put_name(text: &mut [u8; SHORT], at: usize, name: &[u8]) -> usize
     requires count { length name.now ≤ 16 }
@@ -85,7 +85,7 @@ fn put_two_or_three(text: &mut [u8; SHORT], at: usize, name: &[u8]) -> usize
     }
 }
 
-/// Puts so many bytes from the front of some, and as many from their end, which cover them all.
+/// Puts `width` bytes from the front of some, and as many from their end, which cover them all.
 #[inline(always)]
 fn put_ends(text: &mut [u8; SHORT], at: usize, bytes: &[u8], width: usize) -> usize
     requires width { width ≤ length bytes.now }
@@ -100,7 +100,7 @@ fn put_ends(text: &mut [u8; SHORT], at: usize, bytes: &[u8], width: usize) -> us
     put_few(text, at + rest, &bytes[rest..rest + width])
 }
 
-/// Puts at most 8 bytes behind the first ones, and answers where the text ends. They are copied by a field of
+/// Puts at most 8 bytes after the first ones, and answers where the text ends. They are copied by a field of
 /// their own, so that what is compiled needn't ask whether they lie in the text itself.
 #[inline(always)]
 #[tactic(auto, using(std::proofs::lemmas::Slice::overwrites))]

@@ -8,8 +8,8 @@ use Rattle.scx_sched_machine.specs.declared.events.Event.{Event}
 use Rattle.scx_sched_machine.specs.Notes.{Takes}
 use Rattle.scx_sched.specs.Sim.{SimState, after_event, notes_of}
 use Rattle.scx_load_driver.specs.Runs.{notes_of_all}
-use Rattle.scxsim_views.specs.Watching.{is_at_end, IsShown, AreWatched, Watches}
-use Rattle.scxsim_story.specs.declared.subjects.Subject.{Subject}
+use Rattle.scxsim_trace.specs.Observing.{is_at_end, IsShown, AreWatched, Watches}
+use Rattle.scxsim_story.specs.declared.subject.Subject.{Subject}
 use Rattle.scxsim_story.specs.Occurrences.{concerns, occurrences, line, Tells, Told, Writes, Settles, Hears, ExpectsEvent, HearsNote}
 
 -- lines, and then more of them

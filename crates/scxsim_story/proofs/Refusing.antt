@@ -9,7 +9,7 @@ use Rattle.scxsim_commands.specs.declared.refusal.Refusal.{Refusal}
 use Rattle.scxsim_commands.specs.declared.refusal.Refusal.TheVariants.{NoMemory, NoSuchTask}
 use Rattle.scxsim_simulation.specs.Runs.{IsRun, IsCause}
 use Rattle.scx_sched_world.specs.declared.notes.Note.{Note}
-use Rattle.scxsim_story.specs.declared.subjects.Subject.{Subject}
+use Rattle.scxsim_story.specs.declared.subject.Subject.{Subject}
 use Rattle.scxsim_story.specs.Occurrences.{occurrences, Tells}
 use Rattle.scxsim_story.specs.Stories.{IsSubject, IsNoTask, IsToldIn, IsStory, IsStoryCause}
 

@@ -1,12 +1,12 @@
--- What `story` tells of a run: the occurrences of one task, a line each.
+-- The story of a run: the occurrences of one task, a line each.
 use Rattle.std.specs.Prelude.{◌≡◌, ℕ, ◌==◌, Bool, true, false, List, [], ◌∷◌, ◌++◌, codes, decimal, Option, None, Some}
 use Rattle.std.specs.List.{filter}
 use Rattle.scx_sched_world.specs.declared.notes.Note.{Note}
 use Rattle.scx_sched_world.specs.declared.notes.What.{What}
 use Rattle.scx_sched_world.specs.declared.notes.What.TheVariants.{Wake, Sleep, Insert, Move, Run, Stop, Idle, Weight, Stall, Fault}
-use Rattle.scxsim_story.specs.declared.subjects.Subject.{Subject}
+use Rattle.scxsim_story.specs.declared.subject.Subject.{Subject}
 
--- whether a note is of the task, of its group's weight, or of the policy's ejection
+-- true for a note of the task, of its group's weight, or of the policy's ejection
 abbrev pub concerns : Subject → What → Bool
 concerns x (Wake t) = t == x.task
 concerns x (Sleep t) = t == x.task
@@ -23,7 +23,7 @@ concerns x (Fault f) = true
 abbrev pub occurrences : Subject → List Note → List Note
 occurrences x notes = filter (λ n. concerns x n.what) notes
 
--- a line of a story: a clock, and what happened then
+-- a line of a story: a clock, and the words of the occurrence
 abbrev pub line : ℕ → List ℕ → List ℕ
 line clock words = decimal clock ++ codes " " ++ words ++ codes "\n"
 
@@ -48,14 +48,14 @@ Writes (Some n) old new = (words : List ℕ) × (new ≡ old ++ line n.clock wor
 abbrev pub Settles : Told → Told → Type 0
 Settles a b = Writes a.pending a.text b.text × (b.pending ≡ None)
 
--- an occurrence's line is missing from then on, and what is none changes nothing
+-- an occurrence's line is missing from then on; a note that is none changes nothing
 abbrev pub Hears : Bool → Note → Told → Told → Type 0
 Hears false n a b = b ≡ a
 Hears true n a b = Writes a.pending a.text b.text × (b.pending ≡ Some n)
 
--- ---- of a view, whose states are of any type
+-- ---- an observer, whose states are of any type
 
--- an event comes: the missing line is written, unless the view fails there
+-- an event comes: the missing line is written, unless the observer fails there
 abbrev pub ExpectsEvent :
     {V : Type 0} → (V → Bool) → (V → Subject) → (V → Told) → V → V → Type 0
 ExpectsEvent has_failed whose told v w =

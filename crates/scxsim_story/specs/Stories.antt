@@ -1,4 +1,4 @@
--- What `story` writes, and why it is refused.
+-- The text of `story`, and the causes of its refusals.
 use Rattle.std.specs.Prelude.{◌≡◌, ℕ, ◌<◌, List, [], length, slice_index_or, Ok, ◌⊎◌}
 use Rattle.scx_sched_world.specs.declared.notes.Note.{Note}
 use Rattle.scx_sched.specs.Sim.{SimState}
@@ -10,7 +10,7 @@ use Rattle.scxsim_trace.specs.Lines.{names_of, task_name}
 use Rattle.scxsim_commands.specs.declared.refusal.Refusal.{Refusal}
 use Rattle.scxsim_commands.specs.declared.refusal.Refusal.TheVariants.{NoSuchTask}
 use Rattle.scxsim_simulation.specs.Runs.{IsRun, IsCause}
-use Rattle.scxsim_story.specs.declared.subjects.Subject.{Subject}
+use Rattle.scxsim_story.specs.declared.subject.Subject.{Subject}
 use Rattle.scxsim_story.specs.Occurrences.{occurrences, Tells}
 
 -- the task of a workload that has that name, in its group
@@ -30,7 +30,7 @@ pub record IsToldIn (w : WorkloadState) (task : List ℕ) (notes : List Note)
   pub named : IsSubject w task subject
   pub told : Tells (occurrences subject notes) [] text
 
--- the same of all notes of the run that the two texts stand for
+-- a line for each occurrence of the task in the run of the two texts
 pub record IsStory (policy workload task text : List ℕ) : Type 0 where
   pub of_workload : WorkloadState
   pub first : SimState

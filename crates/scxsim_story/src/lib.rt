@@ -1,14 +1,15 @@
-//! The story of one task in a run: a line for each thing that happens to it, with the reason, in the order in which
-//! they happen. Who waits where is told as it stands once all that comes of the same event has been done.
+//! The story of one task in a run: a line for each note of the task, of its group's weight and of the policy's
+//! ejection, with the reason, in the order of the notes.
 //!
-//! A line is made when the next occurrence comes, or the next event, so that what came of it is known.
+//! A line is made when the next such note comes, or the next event, so that its outcome is known: queues are told as
+//! they are after the event.
 #![tactic(auto)]
 
-mod lives;
-mod standing;
-mod subjects;
+mod life;
+mod queue_place;
+mod storyteller;
+mod subject;
 mod telling;
-mod watching;
 mod words;
 
 pub use telling::story;

@@ -8,19 +8,18 @@ ghost use Rattle.scxsim_commands.specs.declared.refusal.Refusal.TheVariants.{NoM
 ghost use Rattle.scxsim_story.specs.Occurrences.{occurrences, Tells};
 ghost use Rattle.scxsim_story.specs.Stories.{IsNoTask, IsStory, IsStoryCause, IsToldIn};
 
-use crate::subjects::{Subject, subject_of};
-use crate::watching::Storyteller;
+use crate::storyteller::Storyteller;
+use crate::subject::{Subject, subject_of};
 use scx_load_workloads::Workload;
 use scx_sched::Sim;
 use scxsim_commands::{Fault, Refusal};
 use scxsim_output::{Out, write_all};
 use scxsim_simulation::{Heard, Listener, Run, give_back, prepare};
-use scxsim_trace::Events;
-use scxsim_views::watch;
+use scxsim_trace::{Events, observe};
 use std::alloc::{AllocError, Global};
 
-/// Writes the story of the task of that name in the run that the texts of a policy file and of a workload file
-/// stand for. The answer is true.
+/// Writes the story of the task of that name in the run of the texts of a policy file and of a workload file. The
+/// answer is true.
 ///
 /// # Errors
 ///
@@ -114,7 +113,7 @@ fn tell<L: Listener>(
     text
 }
 
-/// The same of a run that is lent.
+/// The story of this task in a run that is lent.
 fn tell_from<E: Events>(
     alloc: Global,
     workload: &Workload,
@@ -127,7 +126,7 @@ fn tell_from<E: Events>(
         (string_bytes text)) }
 {
     let mut storyteller = Storyteller::new(alloc, workload, subject);
-    watch(sim, events, &mut storyteller);
+    observe(sim, events, &mut storyteller);
     storyteller.result?;
     storyteller.end(sim)?;
     Ok(storyteller.into_text())

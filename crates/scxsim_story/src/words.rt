@@ -1,31 +1,31 @@
-use crate::lives::{Life, slice_of};
-use crate::standing::{entry_in, write_behind, write_standing};
+use crate::life::{Life, slice_of};
+use crate::queue_place::{entry_in, write_behind, write_place};
 use scx_load_workloads::Workload;
 use scx_sched::{Fault, Sim, What};
 use scx_sched_world::{HELD, LOCAL_ON, PARKED};
-use scxsim_text::Text;
+use scxsim_output::Text;
 use scxsim_trace::Names;
 use scxsim_views::{QueueName, fault_words};
 
 /// A millisecond in nanoseconds.
 const MS: u64 = 1_000_000;
 
-/// An occurrence, and what came of it.
+/// An occurrence, and its outcome.
 #[derive(Clone, Copy)]
 pub(crate) struct Occurrence<'a> {
     pub(crate) task: u16,
     pub(crate) moment: u64,
     pub(crate) clock: u64,
     pub(crate) what: What,
-    /// What is known of the task before it.
+    /// The state of the task before it.
     pub(crate) life: Life,
     /// The next occurrence, where it came of the same event.
     pub(crate) next: Option<What>,
-    /// The machine behind the event, where that has no further occurrence.
+    /// The machine after the event, where the event has no further occurrence.
     pub(crate) sim: Option<&'a Sim>,
 }
 
-/// Writes what happened, and why.
+/// Writes an occurrence, and its reason.
 pub(crate) fn write_words(workload: &Workload, of: Occurrence<'_>, words: &mut Text) {
     match of.what {
         What::Wake(_) => write_wake(workload, of, words),
@@ -88,18 +88,18 @@ fn write_leaving(life: Life, queue: u64, words: &mut Text) {
     }
 }
 
-/// Writes where the task stands in a queue that it comes into.
+/// Writes the place of the task in a queue that it comes into.
 fn write_coming(workload: &Workload, of: Occurrence<'_>, queue: u64, words: &mut Text) {
     if let Some(sim) = of.sim {
         if let Some(entry) = entry_in(sim, of.task, queue) {
-            write_standing(workload, sim, entry, words);
+            write_place(workload, sim, entry, words);
             return;
         }
     }
     words.show("comes into ", &QueueName(queue));
 }
 
-/// Writes that the task is parked, and which group of those that it lies in may not run.
+/// Writes that the task is parked, and the group of its that may not run.
 fn write_parked(workload: &Workload, of: Occurrence<'_>, words: &mut Text) {
     words.push("is parked, since ");
     match spent_group(workload, of) {
@@ -126,7 +126,7 @@ fn spent_group(workload: &Workload, of: Occurrence<'_>) -> Option<u32> {
     None
 }
 
-/// Whether the group has used up its quota.
+/// True if the group has used up its quota.
 fn is_spent(workload: &Workload, sim: &Sim, group: u32) -> bool {
     if sim.groups() <= group {
         return false;
@@ -180,7 +180,7 @@ fn write_stop(of: Occurrence<'_>, cpu: u32, words: &mut Text) {
     });
 }
 
-/// Whether the task stops since a group of its may not run, and not since its slice is used up.
+/// True if the task stops since a group of its may not run, and not since its slice is used up.
 fn is_spent_at(of: Occurrence<'_>) -> bool {
     match of.next {
         Some(What::Insert(_, queue)) => queue == PARKED || MS < of.life.slice,

@@ -9,9 +9,9 @@ use Rattle.scx_sched.specs.Once.{IsOnce}
 use Rattle.scx_sched.specs.Waits.{IsTimely, HasWaits}
 use Rattle.scx_sched.specs.Usages.{AreBounded}
 use Rattle.scx_load_driver.specs.Runs.{stepped_all, notes_of_all}
-use Rattle.scxsim_trace.specs.Runs.{IsInOrder, GoesWell, StaysInOrder, GoesThrough}
+use Rattle.scxsim_trace.specs.Runs.{IsInOrder, GoesWell, StaysInOrder, GoesThrough, Observed}
 
--- the notes of two lists of events, one behind the other
+-- the notes of two lists of events, one after the other
 pub notes_of_all-append : (s : SimState) (es fs : List Event) → notes_of_all s (es ++ fs) ≡ notes_of_all s es ++ notes_of_all (stepped_all s es) fs
 notes_of_all-append s [] fs = refl
 notes_of_all-append s (e ∷ es) fs =
@@ -29,45 +29,53 @@ in_order s once counted timely bounded = record { once = once; counted = counted
 -- ---- up to some event
 
 -- what is left leads on to an end of the whole run
-abbrev pub HasGone : {S : Type 0} → (S → Note → S → Type 0) → (S → Bool) → List Event → SimState → S → List Event → SimState → S → Type 0
-HasGone {S} takes has_failed events s a rest t b =
-    (u : SimState) (c : S) → GoesThrough takes has_failed rest t b u c → GoesThrough takes has_failed events s a u c
+abbrev pub HasGone : {S : Type 0} → (S → SimState → Event → S → Type 0) → (S → Note → S → Type 0) → (S → Bool) → List Event → SimState → S → List Event → SimState → S → Type 0
+HasGone {S} comes takes has_failed events s a rest t b =
+    (u : SimState) (c : S) → Observed comes takes has_failed rest t b u c → Observed comes takes has_failed events s a u c
 
 -- a test doesn't both hold and fail
 pub differ : (f : Bool) → f ≡ true → f ≡ false → ⊥
 differ true x y = absurd (cc)
 differ false x y = absurd (cc)
 
--- one event, behind which the sink hasn't failed
-pub gone_further : {S : Type 0} (takes : S → Note → S → Type 0) (has_failed : S → Bool) (events rest : List Event) (later : SimState → List Event) (s t u : SimState) (a b c : S) (e : Event)
-    → HasGone takes has_failed events s a rest t b → IsInOrder t → rest ≡ e ∷ later (after_event t e) → u ≡ after_event t e → Takes takes b (notes_of t e) c → GoesWell t e → has_failed c ≡ false
-    → HasGone takes has_failed events s a (later u) u c
-gone_further {S} takes has_failed events rest later s t u a b c e gone now next state notes well going v d more =
-    let P : SimState → Type 0 = λ x. GoesThrough takes has_failed (later x) x c v d in
-    let Q : List Event → Type 0 = λ es. GoesThrough takes has_failed es t b v d in
+-- one event, after which the observer hasn't failed
+pub gone_further : {S : Type 0} (comes : S → SimState → Event → S → Type 0) (takes : S → Note → S → Type 0) (has_failed : S → Bool) (events rest : List Event) (later : SimState → List Event) (s t u : SimState) (a b k c : S) (e : Event)
+    → HasGone comes takes has_failed events s a rest t b → IsInOrder t → rest ≡ e ∷ later (after_event t e) → u ≡ after_event t e → comes b t e k → Takes takes k (notes_of t e) c → GoesWell t e → has_failed c ≡ false
+    → HasGone comes takes has_failed events s a (later u) u c
+gone_further {S} comes takes has_failed events rest later s t u a b k c e gone now next state shown notes well going v d more =
+    let P : SimState → Type 0 = λ x. Observed comes takes has_failed (later x) x c v d in
+    let Q : List Event → Type 0 = λ es. Observed comes takes has_failed es t b v d in
     let failed : has_failed c ≡ true → (v ≡ after_event t e) × (d ≡ c) × IsInOrder (after_event t e) = λ f. absurd (differ (has_failed c) f going) in
-    gone v d (subst Q (sym next) (c, notes, now, well, failed, λ _. subst P state more))
+    gone v d (subst Q (sym next) (k, c, shown, notes, now, well, failed, λ _. subst P state more))
 
--- one event, behind which the sink has failed
-pub gone_until : {S : Type 0} (takes : S → Note → S → Type 0) (has_failed : S → Bool) (events rest later : List Event) (s t u : SimState) (a b c : S) (e : Event)
-    → HasGone takes has_failed events s a rest t b → IsInOrder t → rest ≡ e ∷ later → u ≡ after_event t e → Takes takes b (notes_of t e) c → GoesWell t e → IsInOrder u → has_failed c ≡ true
-    → GoesThrough takes has_failed events s a u c
-gone_until {S} takes has_failed events rest later s t u a b c e gone now next state notes well behind failed =
+-- one event, after which the observer has failed
+pub gone_until : {S : Type 0} (comes : S → SimState → Event → S → Type 0) (takes : S → Note → S → Type 0) (has_failed : S → Bool) (events rest later : List Event) (s t u : SimState) (a b k c : S) (e : Event)
+    → HasGone comes takes has_failed events s a rest t b → IsInOrder t → rest ≡ e ∷ later → u ≡ after_event t e → comes b t e k → Takes takes k (notes_of t e) c → GoesWell t e → IsInOrder u → has_failed c ≡ true
+    → Observed comes takes has_failed events s a u c
+gone_until {S} comes takes has_failed events rest later s t u a b k c e gone now next state shown notes well behind failed =
     let P : SimState → Type 0 = λ x. IsInOrder x in
-    let Q : List Event → Type 0 = λ es. GoesThrough takes has_failed es t b u c in
-    let going : has_failed c ≡ false → GoesThrough takes has_failed later (after_event t e) c u c = λ f. absurd (differ (has_failed c) failed f) in
-    gone u c (subst Q (sym next) (c, notes, now, well, (λ _. (state, refl, subst P state behind)), going))
+    let Q : List Event → Type 0 = λ es. Observed comes takes has_failed es t b u c in
+    let going : has_failed c ≡ false → Observed comes takes has_failed later (after_event t e) c u c = λ f. absurd (differ (has_failed c) failed f) in
+    gone u c (subst Q (sym next) (k, c, shown, notes, now, well, (λ _. (state, refl, subst P state behind)), going))
 
 -- no event is left
-pub gone_to_end : {S : Type 0} (takes : S → Note → S → Type 0) (has_failed : S → Bool) (events rest : List Event) (s t : SimState) (a b : S)
-    → HasGone takes has_failed events s a rest t b → IsInOrder t → rest ≡ [] → GoesThrough takes has_failed events s a t b
-gone_to_end takes has_failed events rest s t a b gone now none =
-    let Q : List Event → Type 0 = λ es. GoesThrough takes has_failed es t b t b in
+pub gone_to_end : {S : Type 0} (comes : S → SimState → Event → S → Type 0) (takes : S → Note → S → Type 0) (has_failed : S → Bool) (events rest : List Event) (s t : SimState) (a b : S)
+    → HasGone comes takes has_failed events s a rest t b → IsInOrder t → rest ≡ [] → Observed comes takes has_failed events s a t b
+gone_to_end comes takes has_failed events rest s t a b gone now none =
+    let Q : List Event → Type 0 = λ es. Observed comes takes has_failed es t b t b in
     gone t b (subst Q (sym none) (refl, refl, now))
+
+-- an observer that no event changes takes notes alone
+pub unmoved : {S : Type 0} (takes : S → Note → S → Type 0) (has_failed : S → Bool) (events : List Event) (s : SimState) (a : S) (t : SimState) (b : S)
+    → Observed (λ x m e y. y ≡ x) takes has_failed events s a t b → GoesThrough takes has_failed events s a t b
+unmoved takes has_failed [] s a t b ran = ran
+unmoved {S} takes has_failed (e ∷ es) s a t b (d, c, same, notes, now, well, ends, goes) =
+    let P : S → Type 0 = λ x. Takes takes x (notes_of s e) c in
+    (c, subst P same notes, now, well, ends, λ f. unmoved takes has_failed es (after_event s e) c t b (goes f))
 
 -- ---- what it comes to
 
--- the events that were done, and those behind a failure
+-- the events that were done, and those after a failure
 pub record HasDone {S : Type 0} (takes : S → Note → S → Type 0) (has_failed : S → Bool) (events : List Event) (s : SimState) (a : S) (t : SimState) (b : S) : Type 0 where
   pub done : List Event
   pub rest : List Event

@@ -25,7 +25,7 @@ one_line_more x total all k within =
     ∙ ap (λ n. task_lines x total 0 (take k all) ++ task_lines x total n (get_or all k 0 ∷ [])) long
     ∙ ap (λ text. task_lines x total 0 (take k all) ++ text) (append-nil (task_line (task_name x k) (get_or all k 0) total))
 
--- what comes behind the first lines
+-- the text after the first lines
 pub lines_and_rest : (x : NameLists) (total : ℕ) (all : List ℕ) (k : ℕ)
     → task_lines x total 0 all ≡ task_lines x total 0 (take k all) ++ task_lines x total (0 + length (take k all)) (drop k all)
 lines_and_rest x total all k =
@@ -45,7 +45,7 @@ all_lines x all k a b past first =
     let P : List ℕ → Type 0 = λ ms. Appends a b (task_lines x (sum all) 0 ms) in
     subst P (take_all k all past) first
 
--- and the one behind them
+-- and the line after them
 lines_and_total : (x : NameLists) (all : List ℕ) (k : ℕ) (a b c : Option (List ℕ)) → length all ≤ k
     → Appends a b (task_lines x (sum all) 0 (take k all)) → Appends b c (total_line (sum all)) → Appends a c (task_lines x (sum all) 0 all ++ total_line (sum all))
 lines_and_total x all k a b c past first next = grows_twice a b c (task_lines x (sum all) 0 all) (total_line (sum all)) (all_lines x all k a b past first) next

@@ -1,5 +1,6 @@
 pub mod Lines
 pub mod Report
+pub mod Observing
 pub mod Runs
 pub mod Writing
 pub mod Tracing

@@ -1,5 +1,5 @@
--- The text of notes: a line each, with the names of tasks and groups. Names stand in lists, by the
--- numbers of what they name.
+-- The text of notes: a line each, with the names of tasks and groups. Names are in lists, by the
+-- numbers of tasks and groups.
 use Rattle.std.specs.Prelude.{ℕ, ◌==◌, ◌%◌, ◌^◌, nat_lt, if◌then◌else◌, List, [], ◌∷◌, ◌++◌, codes, decimal, slice_index_or}
 use Rattle.scx_sched_world.specs.Faults.{fault_number}
 use Rattle.scx_sched_world.specs.Ids.{policy_end, global, held_queue, builtin_queue, parked_queue}
@@ -29,7 +29,7 @@ task_name x t = name_at x.tasks t
 abbrev pub group_name : NameLists → ℕ → List ℕ
 group_name x g = name_at x.groups g
 
--- the queue of that id; in the low 32 bits of a local queue's stands the processor
+-- the queue of that id; the low 32 bits of a local queue's id are the CPU
 abbrev pub queue_text : ℕ → List ℕ
 queue_text q =
     if nat_lt q policy_end then codes "queue " ++ decimal q
@@ -38,7 +38,7 @@ queue_text q =
     else (if q == builtin_queue then codes "builtin"
     else (if q == parked_queue then codes "parked" else codes "local " ++ decimal (q % 2 ^ 32)))))
 
--- the words for what happened, with a space behind them
+-- the words for a note, with a space after them
 abbrev pub verb : What → List ℕ
 verb (Wake t) = codes "wake "
 verb (Sleep t) = codes "sleep "
@@ -51,7 +51,7 @@ verb (Weight g w) = codes "weight "
 verb (Stall t) = codes "eject stall "
 verb (Fault f) = codes "eject fault "
 
--- the task or the group that it is about
+-- the task or the group of a note
 abbrev pub subject : NameLists → What → List ℕ
 subject x (Wake t) = task_name x t
 subject x (Sleep t) = task_name x t
@@ -64,7 +64,7 @@ subject x (Weight g w) = group_name x g
 subject x (Stall t) = task_name x t
 subject x (Fault f) = []
 
--- where to, or how much
+-- the queue, the CPU or the number of a note
 abbrev pub object : What → List ℕ
 object (Wake t) = []
 object (Sleep t) = []
@@ -85,7 +85,7 @@ start n = decimal n.clock ++ codes " " ++ verb n.what
 abbrev pub note_line : NameLists → Note → List ℕ
 note_line x n = start n ++ subject x n.what ++ (object n.what ++ codes "\n")
 
--- a line each
+-- the lines of notes, one after another
 abbrev pub note_lines : NameLists → List Note → List ℕ
 note_lines x [] = []
 note_lines x (n ∷ ns) = note_line x n ++ note_lines x ns

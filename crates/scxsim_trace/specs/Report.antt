@@ -1,5 +1,5 @@
--- The text of a report: how long each task ran, which part of all running that is, and whose
--- scheduling it was.
+-- The text of a report: the run time of each task, its part of all run time, and whether the policy
+-- is in force.
 use Rattle.std.specs.Prelude.{ℕ, ◌==◌, ◌+◌, ◌*◌, ◌/◌, if◌then◌else◌, List, [], ◌∷◌, ◌++◌, codes, decimal, map, sum, Option, Some, None}
 use Rattle.scx_sched_tasks.specs.declared.task.Task.{Task}
 use Rattle.scx_sched_world.specs.declared.eject.Eject.{Eject}
@@ -12,11 +12,11 @@ use Rattle.scxsim_trace.specs.Lines.{NameLists, task_name}
 abbrev pub ran_ms : Task → ℕ
 ran_ms t = t.run_ns / 1000000
 
--- how many milliseconds each task ran, by number
+-- the milliseconds that each task ran, by number
 abbrev pub times : WorldState → List ℕ
 times w = map ran_ms w.tasks
 
--- in parts of 10000, rounded down; of nothing it is 0
+-- a part of a total in parts of 10000, rounded down; of a total of 0 it is 0
 abbrev pub share : ℕ → ℕ → ℕ
 share ms total = if total == 0 then 0 else 10000 * ms / total
 
@@ -32,13 +32,13 @@ task_lines x total t [] = []
 task_lines x total t (ms ∷ later) =
     task_line (task_name x t) ms total ++ task_lines x total (t + 1) later
 
--- the line that says for how many milliseconds all tasks together ran
+-- the line of the milliseconds that all tasks together ran
 abbrev pub total_line : ℕ → List ℕ
 total_line total = codes "total " ++ decimal total ++ codes "\n"
 
--- ---- whose scheduling it was
+-- ---- the line of the policy
 
--- what stands before the name of a task, the task's name, and what stands behind it
+-- the text before the name of a task
 abbrev pub policy_start : Option Eject → List ℕ
 policy_start None = codes "policy in force"
 policy_start (Some (Stall t clock)) = codes "policy ejected stall "
@@ -56,10 +56,10 @@ policy_end None = codes "\n"
 policy_end (Some (Stall t clock)) = codes " at " ++ decimal clock ++ codes "\n"
 policy_end (Some (Fault f clock)) = codes " at " ++ decimal clock ++ codes "\n"
 
--- the line that says whether the policy is in force, and if not, why and since when
+-- the line that says whether the policy is in force, or why and when it was ejected
 abbrev pub policy_line : NameLists → Option Eject → List ℕ
 policy_line x o = policy_start o ++ policy_name x o ++ policy_end o
 
--- by the milliseconds that each task ran
+-- the whole report, by the milliseconds that each task ran
 abbrev pub report : NameLists → List ℕ → Option Eject → List ℕ
 report x all o = task_lines x (sum all) 0 all ++ total_line (sum all) ++ policy_line x o

@@ -1,4 +1,4 @@
--- What becomes of a list of events and of a sink: up to where the sink fails.
+-- A run of a list of events with an observer, up to the end or to the observer's failure.
 use Rattle.std.specs.Prelude.{◌≡◌, Bool, true, false, List, [], ◌∷◌, ◌++◌, None, Option, ℕ}
 use Rattle.std.specs.Io.KnownBytes.{Appends}
 use Rattle.scxsim_output.specs.Output.{AppendsBeginning}
@@ -14,7 +14,7 @@ use Rattle.scx_sched.specs.Usages.{AreBounded}
 use Rattle.scx_load_driver.specs.Runs.{stepped_all, notes_of_all}
 use Rattle.scxsim_trace.specs.Lines.{NameLists, note_lines}
 
--- ---- what holds of a machine all along
+-- ---- every state of a run
 
 -- between two events each runnable task is in one place, each wait is counted, none is late, and no
 -- group with a quota has used much more than that
@@ -29,15 +29,27 @@ pub record IsInOrder (s : SimState) : Type 0 where
 abbrev pub GoesWell : SimState → Event → Type 0
 GoesWell s e = AreAnswered (calls_of s e) × Follows (refusal s e) s e (after_event s e)
 
--- so it is at first and behind each event, and each event goes well
+-- so it is at first and after each event, and each event goes well
 abbrev pub StaysInOrder : SimState → List Event → Type 0
 StaysInOrder s [] = IsInOrder s
 StaysInOrder s (e ∷ es) = IsInOrder s × GoesWell s e × StaysInOrder (after_event s e) es
 
 -- ---- up to a failure
 
+-- An observer is shown these events before the machine takes them, and takes their notes, one event
+-- after another, up to the end or to the first event after which it has failed.
+abbrev pub Observed :
+    {S : Type 0}
+    → (S → SimState → Event → S → Type 0) → (S → Note → S → Type 0) → (S → Bool) → List Event → SimState
+    → S → SimState → S → Type 0
+Observed comes takes has_failed [] s a t b = (t ≡ s) × (b ≡ a) × IsInOrder s
+Observed {S} comes takes has_failed (e ∷ es) s a t b =
+    (d : S) × (c : S) × comes a s e d × Takes takes d (notes_of s e) c × IsInOrder s × GoesWell s e
+    × (has_failed c ≡ true → (t ≡ after_event s e) × (b ≡ c) × IsInOrder (after_event s e))
+    × (has_failed c ≡ false → Observed comes takes has_failed es (after_event s e) c t b)
+
 -- The machine takes these events and the sink their notes, one event after another, up to the end
--- or to the first event behind which the sink has failed.
+-- or to the first event after which the sink has failed.
 abbrev pub GoesThrough :
     {S : Type 0}
     → (S → Note → S → Type 0) → (S → Bool) → List Event → SimState → S → SimState → S → Type 0
@@ -55,7 +67,7 @@ pub record IsCutIn (names : NameLists) (s : SimState) (done : List Event) (e : E
   pub cut : AppendsBeginning between new (note_lines names (notes_of (stepped_all s done) e))
 
 -- The machine takes events up to the first one of which a line isn't written whole, and
--- none behind it.
+-- none after it.
 pub record StopsAtFailure (names : NameLists) (events : List Event) (s t : SimState)
     (old new : Option (List ℕ)) : Type 0 where
   pub done : List Event

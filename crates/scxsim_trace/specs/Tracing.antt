@@ -1,6 +1,5 @@
--- What a sink does that writes a line for each note. Its states are of any type: what is
--- said of them is said of which output they write to, of the names in them, and of what is
--- seen of the output.
+-- A sink that writes a line for each note. Its states are of any type: the definition speaks of
+-- their output, of the names in them, and of the contents seen of the output.
 use Rattle.std.specs.Prelude.{◌≡◌, true}
 use Rattle.scx_sched_world.specs.declared.notes.Note.{Note}
 use Rattle.scxsim_trace.specs.Lines.{NameLists, note_line}

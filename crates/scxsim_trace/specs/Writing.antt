@@ -1,10 +1,10 @@
--- What becomes of a text that is written to an output.
+-- An output after a text was written to it.
 use Rattle.std.specs.Prelude.{◌≡◌, ℕ, Bool, true, false, List, Option}
 use Rattle.std.specs.Io.KnownBytes.{Appends}
 use Rattle.scxsim_output.specs.Output.{HasFailed, AppendsBeginning}
 
--- an output as its user sees it: the bytes in it where they are known, how many writes failed, and
--- whether one of the user's did
+-- an output as its user sees it: the bytes in it where they are known, the number of failed writes,
+-- and whether one of the user's failed
 pub record Seen : Type 0 where
   pub contents : Option (List ℕ)
   pub failures : ℕ

@@ -3,7 +3,7 @@ ghost use Rattle.std.specs.Prelude.{◌≡◌, ◌+◌, ◌≤◌, ◌++◌, tak
 use itoa::Buffer;
 use scxsim_output::{SHORT, put_byte, put_bytes};
 
-/// What all lines of a clock begin with: its digits and a space, in room for a whole line.
+/// The beginning of all lines of a clock: its digits and a space, in room for a whole line.
 #[derive(Clone, Copy)]
 pub(crate) struct ClockText {
     pub(crate) clock: u64,
@@ -22,7 +22,7 @@ impl ClockText {
         ClockText { clock, text, end }
     }
 
-    /// It becomes the beginning of lines of that clock. Where it is already nothing is done.
+    /// Changes it to the beginning of lines of another clock.
     #[inline(always)]
     pub(crate) fn set(&mut self, clock: u64)
         ensures { self.new.clock ≡ clock }
@@ -44,7 +44,7 @@ fn put_clock(text: &mut [u8; SHORT], clock: u64) -> usize
     put_byte(text, end, b' ')
 }
 
-/// Puts a number there, and answers where it ends.
+/// Puts a number at `at`, and answers where it ends.
 #[inline(never)]
 pub(crate) fn put_digits(text: &mut [u8; SHORT], at: usize, number: u64) -> usize
     requires { at ≤ 56 }

@@ -13,7 +13,7 @@ pub trait Events {
     // What is still to come, for a machine in that state.
     ghost remaining: { Self → SimState → List Event };
 
-    /// The event that comes next, for a machine that took exactly the events before it; none at the end.
+    /// The next event, for a machine that took exactly the events before it; none at the end.
     fn next(&mut self, sim: &Sim) -> Option<Event>
         ensures next { IfSome result (λ event. remaining self.old sim.now
             ≡ event ∷ remaining self.new (after_event sim.now event)) }

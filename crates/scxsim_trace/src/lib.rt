@@ -1,18 +1,26 @@
-//! The trace of a run: a line for each note of the machine, written as the notes come. Nothing is kept of
-//! a run but whether its output has failed.
+//! The loop over a run, its observers, and the run's trace: a line for each note of the machine, written as the
+//! notes come.
+//!
+//! `observe` gives events to a machine, one after another, and shows an `Observer` each event, its notes and calls.
+//! `go_through` is its loop, for an `EventSink` that runs the programs itself.
+//! `Events` are those of a workload or of a file of events. `write_run` writes the trace and keeps nothing of the
+//! run; `write_report` writes the run time of each task.
 #![tactic(auto)]
 
 mod clock_text;
+mod event_sink;
 mod events;
 mod lines;
 mod names;
+mod observer;
 mod report;
 mod run;
-mod silence;
 mod trace;
 
+pub use event_sink::EventSink;
 pub use events::Events;
 pub use names::Names;
+pub use observer::{Observer, observe};
 pub use report::write_report;
-pub use run::{run_silently, write_run};
+pub use run::{go_through, run_silently, write_run};
 pub use trace::Trace;

@@ -1,6 +1,6 @@
 ghost use Rattle.std.specs.Prelude.{◌≡◌, ◌+◌, ◌≤◌, ◌<◌, ◌++◌, length, take, codes, decimal, OnOk, OnErr};
 ghost use Rattle.std.specs.Io.KnownBytes.{Appends};
-ghost use Rattle.scxsim_output.specs.Output.{HasFailed, AppendsBeginning};
+ghost use Rattle.scxsim_output.specs.Output.{AppendsBeginning, Counts};
 ghost use Rattle.scxsim_trace.specs.Lines as lines;
 ghost use Rattle.scxsim_trace.specs.Lines.{note_line as line_of};
 
@@ -9,11 +9,11 @@ use crate::names::Names;
 use scx_sched_world::{BUILTIN, GLOBAL, HELD, Note, PARKED, POLICY_END, What};
 use scxsim_output::{Failed, Out, SHORT, put_byte, put_bytes, put_name, write_parts};
 
-/// How many bytes of a name a line has room for. No file has a longer one.
+/// The most bytes of a name that a line has room for. No file has a longer name.
 const NAME_CAPACITY: usize = 16;
 
-/// Writes the line of a note. Those that came while callbacks ran are mostly of two kinds, which have a
-/// place of their own: what is compiled there doesn't ask which kind it is.
+/// Writes the line of a note. Most notes of a callback are of two kinds; each has a call of its own, which is
+/// compiled for that kind.
 #[inline(always)]
 pub(crate) fn write_note<N: Names, W: Out>(
     names: &N,
@@ -23,12 +23,10 @@ pub(crate) fn write_note<N: Names, W: Out>(
 ) -> Result<(), Failed>
     ensures ok { OnOk result
         (Appends (W.contents out.old) (W.contents out.new) (line_of (N.lists names.now) note)) }
-    ensures ok_failures { OnOk result (W.failure_count out.new ≡ W.failure_count out.old) }
     ensures err { OnErr result
         (AppendsBeginning (W.contents out.old) (W.contents out.new)
         (line_of (N.lists names.now) note)) }
-    ensures err_failures { OnErr result
-        (HasFailed (W.failure_count out.old) (W.failure_count out.new)) }
+    ensures failures { Counts result (W.failure_count out.old) (W.failure_count out.new) }
 {
     match note.what {
         What::Insert(task, queue) => {
@@ -39,7 +37,7 @@ pub(crate) fn write_note<N: Names, W: Out>(
     }
 }
 
-/// Writes the line of what happened at that clock.
+/// Writes the line of a note of this clock.
 #[inline(always)]
 fn write_line<N: Names, W: Out>(
     names: &N,
@@ -50,11 +48,9 @@ fn write_line<N: Names, W: Out>(
 ) -> Result<(), Failed>
     ensures ok { OnOk result (Appends (W.contents out.old) (W.contents out.new)
         (line_of (N.lists names.now) record { clock = ms; what = what })) }
-    ensures ok_failures { OnOk result (W.failure_count out.new ≡ W.failure_count out.old) }
     ensures err { OnErr result (AppendsBeginning (W.contents out.old) (W.contents out.new)
         (line_of (N.lists names.now) record { clock = ms; what = what })) }
-    ensures err_failures { OnErr result
-        (HasFailed (W.failure_count out.old) (W.failure_count out.new)) }
+    ensures failures { Counts result (W.failure_count out.old) (W.failure_count out.new) }
 {
     let name = name(names, what);
     if name.len() > NAME_CAPACITY {
@@ -64,19 +60,17 @@ fn write_line<N: Names, W: Out>(
     write_whole(clock, what, name, out)
 }
 
-/// Writes a line of that clock. It is put together behind a copy of the clock's text, and written at once.
+/// Writes a line of that clock. It is put together after a copy of the clock's text, and written at once.
 #[inline(always)]
 fn write_whole<W: Out>(clock: &ClockText, what: What, name: &str, out: &mut W) -> Result<(), Failed>
     requires { length name.now ≤ 16 }
     ensures ok { OnOk result (Appends (W.contents out.old) (W.contents out.new)
         (lines.start record { clock = clock.now.clock; what = what }
         ++ name.now ++ (lines.object what ++ codes "\n"))) }
-    ensures ok_failures { OnOk result (W.failure_count out.new ≡ W.failure_count out.old) }
     ensures err { OnErr result (AppendsBeginning (W.contents out.old) (W.contents out.new)
         (lines.start record { clock = clock.now.clock; what = what }
         ++ name.now ++ (lines.object what ++ codes "\n"))) }
-    ensures err_failures { OnErr result
-        (HasFailed (W.failure_count out.old) (W.failure_count out.new)) }
+    ensures failures { Counts result (W.failure_count out.old) (W.failure_count out.new) }
 {
     let mut line = clock.text;
     let at = put_verb(&mut line, clock.end, what);
@@ -90,11 +84,9 @@ fn write_whole<W: Out>(clock: &ClockText, what: What, name: &str, out: &mut W) -
 fn write_in_parts<W: Out>(note: Note, name: &str, out: &mut W) -> Result<(), Failed>
     ensures ok { OnOk result (Appends (W.contents out.old) (W.contents out.new)
         (lines.start note ++ name.now ++ (lines.object note.what ++ codes "\n"))) }
-    ensures ok_failures { OnOk result (W.failure_count out.new ≡ W.failure_count out.old) }
     ensures err { OnErr result (AppendsBeginning (W.contents out.old) (W.contents out.new)
         (lines.start note ++ name.now ++ (lines.object note.what ++ codes "\n"))) }
-    ensures err_failures { OnErr result
-        (HasFailed (W.failure_count out.old) (W.failure_count out.new)) }
+    ensures failures { Counts result (W.failure_count out.old) (W.failure_count out.new) }
 {
     let clock = ClockText::new(note.clock);
     let mut start = clock.text;
@@ -128,7 +120,7 @@ fn name<N: Names>(names: &N, what: What) -> &str
     }
 }
 
-/// Puts the words there, with a space behind them, and answers where they end.
+/// Puts the words and a space at `at`, and answers where they end.
 #[inline(always)]
 fn put_verb(line: &mut [u8; SHORT], at: usize, what: What) -> usize
     requires { at ≤ 21 }
@@ -149,7 +141,7 @@ fn put_verb(line: &mut [u8; SHORT], at: usize, what: What) -> usize
     }
 }
 
-/// Puts there what stands behind the name, with the line feed, and answers where it ends.
+/// Puts the text after the name at `at`, with the line feed, and answers where it ends.
 #[inline(always)]
 fn put_end(line: &mut [u8; SHORT], at: usize, what: What) -> usize
     requires { at ≤ 49 }
@@ -181,7 +173,7 @@ fn put_object(line: &mut [u8; SHORT], at: usize, what: What) -> usize
     }
 }
 
-/// Puts a space there, and the queue of that id, and answers where it ends.
+/// Puts a space and the queue of that id at `at`, and answers where it ends.
 #[inline(always)]
 fn put_queue(line: &mut [u8; SHORT], at: usize, queue: u64) -> usize
     requires { at ≤ 49 }
@@ -203,7 +195,7 @@ fn put_queue(line: &mut [u8; SHORT], at: usize, queue: u64) -> usize
     }
 }
 
-/// Puts a word and a number there, and answers where the number ends.
+/// Puts a word and a number at `at`, and answers where the number ends.
 #[inline(always)]
 fn put_numbered(line: &mut [u8; SHORT], at: usize, word: &[u8], number: u64) -> usize
     requires word { length word.now ≤ 7 }
@@ -215,7 +207,7 @@ fn put_numbered(line: &mut [u8; SHORT], at: usize, word: &[u8], number: u64) -> 
     put_number(line, at, number)
 }
 
-/// Puts a number there, and answers where it ends. Most have one digit or two.
+/// Puts a number at `at`, and answers where it ends. Most have one digit or two.
 #[inline(always)]
 #[tactic(auto, using(std::proofs::lemmas::Fmt::decimal_digit))]
 fn put_number(line: &mut [u8; SHORT], at: usize, number: u64) -> usize

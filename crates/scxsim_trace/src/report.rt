@@ -1,6 +1,6 @@
 ghost use Rattle.std.specs.Prelude.{◌≡◌, ◌+◌, ◌*◌, ◌<◌, ◌≤◌, ◌^◌, ◌++◌, length, slice_index, sum, codes, decimal, OnOk, OnErr};
 ghost use Rattle.std.specs.Io.KnownBytes.{Appends};
-ghost use Rattle.scxsim_output.specs.Output.{HasFailed, AppendsBeginning};
+ghost use Rattle.scxsim_output.specs.Output.{AppendsBeginning, Counts};
 ghost use Rattle.scxsim_trace.specs.Report.{times, share, total_line as total_text, policy_start as start_of, policy_name as name_of, policy_end as end_of, policy_line, report};
 
 use crate::names::Names;
@@ -15,7 +15,7 @@ const MS: u64 = 1_000_000;
 /// Room for a line, or for a part of one. It takes no memory from the allocator.
 type Line = ArrayString<80>;
 
-/// Writes how long each task ran, which part of all running that is, and whether the policy is in force.
+/// Writes the run time of each task, its part of all run time, and whether the policy is in force.
 ///
 /// # Errors
 ///
@@ -23,11 +23,9 @@ type Line = ArrayString<80>;
 pub fn write_report<N: Names, W: Out>(sim: &Sim, names: &N, out: &mut W) -> Result<(), Failed>
     ensures ok { OnOk result (Appends (W.contents out.old) (W.contents out.new)
         (report (N.lists names.now) (times sim.now.state.world) sim.now.state.world.ejected)) }
-    ensures ok_failures { OnOk result (W.failure_count out.new ≡ W.failure_count out.old) }
     ensures err { OnErr result (AppendsBeginning (W.contents out.old) (W.contents out.new)
         (report (N.lists names.now) (times sim.now.state.world) sim.now.state.world.ejected)) }
-    ensures err_failures { OnErr result
-        (HasFailed (W.failure_count out.old) (W.failure_count out.new)) }
+    ensures failures { Counts result (W.failure_count out.old) (W.failure_count out.new) }
 {
     let total = total_ms(sim);
     for task in 0..sim.tasks() {
@@ -38,7 +36,7 @@ pub fn write_report<N: Names, W: Out>(sim: &Sim, names: &N, out: &mut W) -> Resu
     write_policy(sim.ejected(), names, out)
 }
 
-/// How long the task has run, in milliseconds.
+/// The run time of the task, in milliseconds.
 fn run_ms(sim: &Sim, task: u16) -> u64
     requires { task < length sim.now.state.world.tasks }
     ensures ms { result ≡ slice_index (times sim.now.state.world) task }
@@ -47,7 +45,7 @@ fn run_ms(sim: &Sim, task: u16) -> u64
     sim.run_ns(task) / MS
 }
 
-/// How long all tasks have run, in milliseconds.
+/// The run time of all tasks, in milliseconds.
 fn total_ms(sim: &Sim) -> u64
     ensures { result ≡ sum (times sim.now.state.world) }
 {
@@ -69,7 +67,7 @@ fn share(ms: u64, total: u64) -> u64
     10_000 * ms / total
 }
 
-/// What stands behind a task's name.
+/// The text after a task's name.
 fn end_of_task(ms: u64, total: u64) -> Line
     requires { ms ≤ 2 ^ 45 }
     ensures { result.bytes
@@ -105,12 +103,10 @@ fn write_policy<N: Names, W: Out>(
     ensures ok { OnOk result
         (Appends (W.contents out.old) (W.contents out.new)
         (policy_line (N.lists names.now) ejected)) }
-    ensures ok_failures { OnOk result (W.failure_count out.new ≡ W.failure_count out.old) }
     ensures err { OnErr result
         (AppendsBeginning (W.contents out.old) (W.contents out.new)
         (policy_line (N.lists names.now) ejected)) }
-    ensures err_failures { OnErr result
-        (HasFailed (W.failure_count out.old) (W.failure_count out.new)) }
+    ensures failures { Counts result (W.failure_count out.old) (W.failure_count out.new) }
 {
     let start = policy_start(ejected);
     let end = policy_end(ejected);

@@ -1,17 +1,17 @@
 ghost use Rattle.std.specs.Prelude.{◌≡◌, OnOk, OnErr};
 ghost use Rattle.std.specs.Io.KnownBytes.{Appends};
-ghost use Rattle.scxsim_output.specs.Output.{HasFailed, AppendsBeginning};
+ghost use Rattle.scxsim_output.specs.Output.{AppendsBeginning, Counts};
 ghost use Rattle.scxsim_trace.specs.Lines.{note_lines};
 ghost use Rattle.scx_load_driver.specs.Runs.{notes_of_all, stepped_all};
 ghost use Rattle.scx_sched_machine.specs.Notes.{Takes};
 ghost use Rattle.scx_sched.specs.Sim.{after_event, notes_of};
-ghost use Rattle.scxsim_trace.specs.Runs.{IsInOrder, GoesWell, StaysInOrder, GoesThrough, StopsAtFailure};
+ghost use Rattle.scxsim_trace.specs.Runs.{IsInOrder, GoesWell, StaysInOrder, Observed, StopsAtFailure};
 
+use crate::event_sink::EventSink;
 use crate::events::Events;
 use crate::names::Names;
-use crate::silence::Silence;
 use crate::trace::Trace;
-use scx_sched::{Event, Sim, Sink};
+use scx_sched::{Event, Sim, Sink, Unseen};
 use scxsim_output::{Failed, Out};
 
 /// Gives an event to the machine.
@@ -26,8 +26,8 @@ fn step<S: Sink>(sim: &mut Sim, event: Event, sink: &mut S)
     sim.is_sound();
 }
 
-/// Gives an event to the machine. Most are ticks and clocks, which have a place of their own: what is
-/// compiled there doesn't ask which event it is.
+/// Gives an event to the machine. Most events are ticks and clocks; each has a call of its own, which is compiled
+/// for that event.
 #[inline(always)]
 fn take<S: Sink>(sim: &mut Sim, event: Event, sink: &mut S)
     ensures state { sim.new ≡ after_event sim.old event }
@@ -42,14 +42,16 @@ fn take<S: Sink>(sim: &mut Sim, event: Event, sink: &mut S)
     }
 }
 
-/// Gives the events to the machine, one after another, up to the end or until the sink has failed.
+/// Gives the events to the machine, one after another, and shows them and their notes to the sink, up to the end or
+/// until it has failed.
 #[tactic(auto, using(crate::proofs::Going::gone_to_end))]
-fn go_through<E: Events, S: Sink>(sim: &mut Sim, events: &mut E, sink: &mut S)
-    ensures { GoesThrough S.takes S.has_failed (E.remaining events.old sim.old) sim.old sink.old
-        sim.new sink.new }
+pub fn go_through<E: Events, S: EventSink>(sim: &mut Sim, events: &mut E, sink: &mut S)
+    ensures { Observed S.comes S.takes S.has_failed (E.remaining events.old sim.old) sim.old
+        sink.old sim.new sink.new }
 {
     sim.is_sound();
     while let Some(event) = events.next(sim) {
+        sink.event(sim, event);
         take(sim, event, sink);
         if sink.failed() {
             return;
@@ -70,14 +72,12 @@ pub fn write_run<E: Events, N: Names, W: Out>(
 ) -> Result<(), Failed>
     ensures ok { OnOk result (Appends (W.contents out.old) (W.contents out.new)
         (note_lines (N.lists names.now) (notes_of_all sim.old (E.remaining events.old sim.old)))) }
-    ensures ok_failures { OnOk result (W.failure_count out.new ≡ W.failure_count out.old) }
     ensures ok_state { OnOk result
         (sim.new ≡ stepped_all sim.old (E.remaining events.old sim.old)) }
     ensures ok_in_order { OnOk result (StaysInOrder sim.old (E.remaining events.old sim.old)) }
     ensures err { OnErr result (AppendsBeginning (W.contents out.old) (W.contents out.new)
         (note_lines (N.lists names.now) (notes_of_all sim.old (E.remaining events.old sim.old)))) }
-    ensures err_failures { OnErr result
-        (HasFailed (W.failure_count out.old) (W.failure_count out.new)) }
+    ensures failures { Counts result (W.failure_count out.old) (W.failure_count out.new) }
     ensures err_stopped { OnErr result
         (StopsAtFailure (N.lists names.now) (E.remaining events.old sim.old) sim.old sim.new
         (W.contents out.old) (W.contents out.new)) }
@@ -95,5 +95,5 @@ pub fn run_silently<E: Events>(sim: &mut Sim, events: &mut E)
     ensures state { sim.new ≡ stepped_all sim.old (E.remaining events.old sim.old) }
     ensures in_order { StaysInOrder sim.old (E.remaining events.old sim.old) }
 {
-    go_through(sim, events, &mut Silence);
+    go_through(sim, events, &mut Unseen);
 }

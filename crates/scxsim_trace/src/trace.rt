@@ -2,13 +2,15 @@ ghost use Rattle.std.specs.Prelude.{◌≡◌, true, false};
 ghost use Rattle.scxsim_trace.specs.Tracing.{TakesLine};
 
 use crate::clock_text::ClockText;
+use crate::event_sink::EventSink;
 use crate::lines::write_note;
 use crate::names::Names;
+use scx_sched::{Event, Sim};
 use scx_sched_machine::Sink;
 use scx_sched_world::Note;
 use scxsim_output::Out;
 
-/// Writes a line for each note, up to the first write that fails.
+/// A sink that writes a line for each note, up to the first write that fails.
 #[derive(Drop)]
 pub struct Trace<'a, N, W> {
     names: &'a N,
@@ -60,4 +62,11 @@ impl<N: Names, W: Out> Sink for Trace<'_, N, W> {
         let failed = self.failed;
         failed
     }
+}
+
+impl<N: Names, W: Out> EventSink for Trace<'_, N, W> {
+    ghost comes = { λ s m e t. t ≡ s };
+
+    #[inline(always)]
+    fn event(&mut self, _sim: &Sim, _event: Event) {}
 }

@@ -1,4 +1,4 @@
--- What a view that counts has kept of a run that it was shown to the end.
+-- The sums of an observer that counts, of a run that it was shown to the end.
 use Rattle.std.proofs.Common.{◌≡◌, ℕ, Bool, true, false, List, [], ◌∷◌, ◌++◌, refl, sym, ap, ◌∙◌}
 use Rattle.std.proofs.lemmas.Bool.{both_ways}
 use Rattle.scx_sched_world.specs.declared.notes.Note.{Note}
@@ -7,9 +7,10 @@ use Rattle.scx_sched_machine.specs.declared.events.Event.{Event}
 use Rattle.scx_sched_machine.specs.Notes.{Takes}
 use Rattle.scx_sched.specs.Sim.{SimState, after_event, notes_of}
 use Rattle.scx_load_driver.specs.Runs.{stepped_all}
-use Rattle.scxsim_views.specs.Watching.{is_at_end, IsShown, AreWatched, Watches, noted_all, kept_of_all, CountsEvent, CountsNote}
+use Rattle.scxsim_trace.specs.Observing.{is_at_end, IsShown, AreWatched, Watches}
+use Rattle.scxsim_views.specs.Watching.{noted_all, kept_of_all, CountsEvent, CountsNote}
 
--- a view that has not failed after a note hadn't before it
+-- an observer that has not failed after a note hadn't before it
 before_note : {V K : Type 0} (has_failed : V → Bool) (kept : V → K) (noted : ℕ → What → K → K) (at_end f : Bool) (n : Note) (v w : V)
     → has_failed v ≡ f → IsShown has_failed (CountsNote has_failed kept noted) at_end v n w → has_failed w ≡ false → (f ≡ false) × (kept w ≡ noted n.clock n.what (kept v))
 before_note has_failed kept noted at_end true n v w is (same, shown) well =
@@ -25,7 +26,7 @@ all_noted {V} {K} has_failed kept noted at_end (n ∷ ns) v w (u, one, rest) wel
     let first = before_note has_failed kept noted at_end (has_failed v) n v u refl one behind.0 in
     (first.0, behind.1 ∙ ap (λ k. noted_all noted ns k) first.1)
 
--- a view that counts, and hasn't failed, keeps of all events and notes what the definition says
+-- an observer that counts, and hasn't failed, keeps of all events and notes what the definition says
 pub all_kept : {V K : Type 0} (has_failed : V → Bool) (kept : V → K) (expected : SimState → Event → K → K) (noted : ℕ → What → K → K) (es : List Event) (s : SimState) (v w : V)
     → AreWatched (CountsEvent has_failed kept expected) has_failed (CountsNote has_failed kept noted) s es v w → has_failed w ≡ false
     → (has_failed v ≡ false) × (kept w ≡ kept_of_all expected noted s es (kept v))

@@ -1,5 +1,2 @@
-mod Showing
 mod Pausing
 pub mod Keeping
-mod Growing
-mod Sketched

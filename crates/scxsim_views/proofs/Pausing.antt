@@ -1,4 +1,4 @@
--- What a task does is written as it is.
+-- A task's state is written as it is.
 use Rattle.std.proofs.Common.{◌≡◌, ℕ, List, get_or, set}
 use Rattle.std.proofs.lemmas.List.{set-get_or}
 

@@ -1,4 +1,2 @@
 pub mod Watching
 pub mod Pauses
-pub mod Pages
-pub mod Sketching

@@ -1,5 +1,5 @@
--- What tasks do as the notes of a run come, and the pauses that end: when a task had work
--- to do and didn't run.
+-- The state of each task as the notes of a run come, and the pauses that end: times in which a task
+-- had work to do and didn't run.
 use Rattle.std.specs.Prelude.{ℕ, ◌==◌, if◌then◌else◌, Bool, true, false, List, Option, Some, None, slice_index_or, slice_set}
 use Rattle.scx_sched_world.specs.Ids.{parked_queue}
 use Rattle.scx_sched_world.specs.declared.notes.What.{What}
@@ -9,39 +9,39 @@ use Rattle.scxsim_views.specs.declared.pauses.Doing.TheVariants.{Sleeps, Waits, 
 use Rattle.scxsim_views.specs.declared.pauses.Pause.{Pause}
 use Rattle.scxsim_views.specs.declared.pauses.PauseKind.TheVariants as kind
 
--- whether the task has no work to do
+-- true if the task has no work to do
 abbrev pub sleeps : Doing → Bool
 sleeps Sleeps = true
 sleeps (Waits since) = false
 sleeps Runs = false
 sleeps (IsParked since) = false
 
--- whether the task waits for a processor
+-- true if the task waits for a CPU
 abbrev pub waits : Doing → Bool
 waits Sleeps = false
 waits (Waits since) = true
 waits Runs = false
 waits (IsParked since) = false
 
--- whether the task is on a processor
+-- true if the task is on a CPU
 abbrev pub runs : Doing → Bool
 runs Sleeps = false
 runs (Waits since) = false
 runs Runs = true
 runs (IsParked since) = false
 
--- whether the task is parked
+-- true if the task is parked
 abbrev pub is_parked : Doing → Bool
 is_parked Sleeps = false
 is_parked (Waits since) = false
 is_parked Runs = false
 is_parked (IsParked since) = true
 
--- what each task does; one that isn't there sleeps
+-- the state of a task; one that isn't there sleeps
 abbrev pub doing_at : List Doing → ℕ → Doing
 doing_at ds t = slice_index_or ds t Sleeps
 
--- ---- what a note makes of the task that it is of
+-- ---- the task of a note
 
 -- the task of which a note says that it wakes, sleeps, runs, stops or comes into a queue
 abbrev pub of_task : What → Option ℕ
@@ -66,7 +66,7 @@ abbrev pub doing_after_insert : ℕ → ℕ → Doing → Doing
 doing_after_insert now queue d =
     if queue == parked_queue then IsParked now else if is_parked d then Waits now else d
 
--- what the task does then
+-- the state of the task of a note, after it
 abbrev pub does : ℕ → What → Doing → Doing
 does now (Wake t) d = Waits now
 does now (Sleep t) d = Sleeps
@@ -79,7 +79,7 @@ does now (Weight g x) d = d
 does now (Stall t) d = d
 does now (Fault f) d = d
 
--- the pause of a task that does so, if it waits or is parked
+-- the pause of a task in this state, if it waits or is parked
 abbrev pub pause_of : ℕ → ℕ → Doing → Option Pause
 pause_of now t Sleeps = None
 pause_of now t (Waits since) = Some (record {
@@ -102,7 +102,7 @@ ended_by_insert now t queue d =
     if queue == parked_queue then pause_of now t d
     else if is_parked d then pause_of now t d else None
 
--- the pause of the task that ends then
+-- the pause of the task that a note ends
 abbrev pub ending_pause : ℕ → ℕ → What → Doing → Option Pause
 ending_pause now t (Wake u) d = pause_of now t d
 ending_pause now t (Sleep u) d = pause_of now t d
@@ -117,12 +117,12 @@ ending_pause now t (Fault f) d = None
 
 -- ---- all tasks
 
--- what each task does after a note of that task, or of none
+-- the state of each task after a note of that task, or of none
 abbrev pub doing_with : Option ℕ → ℕ → What → List Doing → List Doing
 doing_with None now what ds = ds
 doing_with (Some t) now what ds = slice_set ds t (does now what (doing_at ds t))
 
--- what each does after a note
+-- the state of each task after a note
 abbrev pub doing_after : ℕ → What → List Doing → List Doing
 doing_after now what ds = doing_with (of_task what) now what ds
 

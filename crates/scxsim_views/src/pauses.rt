@@ -8,14 +8,14 @@ use scx_sched_world::PARKED;
 use std::alloc::{AllocError, Global};
 use std::marker::Model;
 
-/// What a task does.
+/// The state of a task.
 #[derive(Clone, Copy)]
 pub enum Doing {
     Sleeps,
-    /// It has waited since then.
+    /// It has waited since this time.
     Waits(u64),
     Runs,
-    /// It has been parked since then.
+    /// It has been parked since this time.
     IsParked(u64),
 }
 
@@ -57,16 +57,16 @@ impl Doing {
     }
 }
 
-/// Why a task that has work to do doesn't run.
+/// The reason of a pause.
 #[derive(Clone, Copy, Debug, PartialEq, Eq)]
 pub enum PauseKind {
-    /// It waits for a processor.
+    /// The task waits for a CPU.
     Wait,
-    /// A group that it lies in has used up its quota.
+    /// A group of the task has used up its quota.
     Parked,
 }
 
-/// A task had work to do and didn't run, from one time to another.
+/// A time in which a task had work to do and didn't run.
 #[derive(Clone, Copy, Debug, PartialEq, Eq)]
 pub struct Pause {
     pub task: u16,
@@ -83,9 +83,9 @@ impl Pause {
     }
 }
 
-/// Who waits or is parked, and since when: in clocks or in moments, as one likes.
+/// The tasks that wait or are parked, and since when: all in clocks or all in moments.
 ///
-/// In a contract it is the list of what each task does.
+/// In a contract it is the list of each task's state.
 #[derive(Drop)]
 pub struct Pauses {
     doing: Vec<Doing>,
@@ -101,7 +101,7 @@ impl Model for Pauses {
 }
 
 impl Pauses {
-    /// So many tasks sleep.
+    /// Pauses of tasks that all sleep.
     pub fn new(alloc: Global, tasks: usize) -> Result<Pauses, AllocError>
         ensures { IfOk result (λ pauses. pauses ≡ replicate tasks Sleeps) }
     {
@@ -110,7 +110,7 @@ impl Pauses {
         })
     }
 
-    /// Something happens. The answer is the pause that it ends, if it ends one.
+    /// Takes a note. The answer is the pause that it ends, if it ends one.
     pub fn show(&mut self, now: u64, what: What) -> Option<Pause>
         ensures doing { self.new ≡ doing_after now what self.old }
         ensures ended { result ≡ ended_by now what self.old }
@@ -132,7 +132,7 @@ impl Pauses {
         }
     }
 
-    /// The pause of that task, if it waits or is parked now.
+    /// The pause of a task that waits or is parked now.
     pub fn open_pause(&self, task: u16, now: u64) -> Option<Pause>
         ensures { result ≡ open_pause now self.now task }
     {
@@ -153,14 +153,14 @@ impl Pauses {
         }
     }
 
-    /// Whether some task waits for a processor; one that is parked doesn't.
+    /// True if some task waits for a CPU. A task that is parked doesn't.
     pub fn somebody_waits(&self) -> bool
         ensures { result ≡ list_any waits self.now }
     {
         self.doing.iter().any(|doing| doing.waits())
     }
 
-    /// Whether the task sleeps.
+    /// True if the task sleeps.
     pub fn is_asleep(&self, task: u16) -> bool
         ensures { result ≡ sleeps (doing_at self.now task) }
     {
@@ -187,8 +187,8 @@ impl Pauses {
         pause
     }
 
-    /// A task comes into a queue. There it waits as before, but it is parked in the queue of parked tasks,
-    /// and one that was parked waits from now on.
+    /// Takes that a task comes into a queue. It waits there as before, but it is parked in the queue of parked
+    /// tasks, and a task that was parked waits from now on.
     #[tactic(auto, using(crate::proofs::Pausing::set_as_it_is))]
     fn insert(&mut self, task: u16, queue: u64, now: u64) -> Option<Pause>
         ensures doing { self.new
@@ -204,7 +204,7 @@ impl Pauses {
         None
     }
 
-    /// A task that stops running waits from now on, unless it sleeps, which is noted first.
+    /// Takes that a task stops running. It waits from now on, unless it sleeps, which is noted first.
     #[tactic(auto, using(crate::proofs::Pausing::set_as_it_is))]
     fn stop(&mut self, task: u16, now: u64)
         ensures { self.new ≡ slice_set self.old task (doing_after_stop now (doing_at self.old task)) }

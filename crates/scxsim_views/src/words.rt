@@ -25,7 +25,7 @@ impl fmt::Display for QueueName {
     }
 }
 
-/// What a fault is, in a few words.
+/// A fault in a few words.
 pub fn fault_words(fault: Fault) -> &'static str {
     match fault {
         Fault::Stuck => "the callback can't go on",

@@ -1,11 +1,22 @@
-//! What happened while tasks waited: during some waits, where the task stood, who ran meanwhile and why no call of
-//! dispatch took it; and the longest stretches in which a processor was idle.
+//! Why tasks wait: for the longest waits of a run, the queues of the task, the tasks that ran meanwhile, and the calls
+//! of dispatch that didn't take it; and the longest stretches in which a CPU was idle.
+//!
+//! All of it is counted as the run goes on: the calls of each callback, the queue of each task, and the tasks that came
+//! into each queue and left it.
 #![tactic(auto)]
 
-mod meanwhile;
-mod stretches;
+mod calls;
+mod idle_stretches;
+mod queue_traffic;
+mod spells;
+mod task_queues;
 mod waits;
+mod watched_wait;
 
-pub use meanwhile::{LongWait, Meanwhile, Occurrence, Scene, Station};
-pub use stretches::{Beginning, Seen, Stander, Stretch, Stretches};
+pub use calls::{Calls, CpuCalls, LastCall};
+pub use idle_stretches::{Beginning, IdleStretch, IdleStretches, SeenStretch, WaitingTask};
+pub use queue_traffic::{QueueFigures, QueueTraffic};
+pub use spells::{CallShare, KeyRange, Spell};
+pub use task_queues::{Taken, TaskQueues};
 pub use waits::Waits;
+pub use watched_wait::{LongWait, Occurrence, Scene, Station, WatchedWait};

@@ -1,16 +1,16 @@
-use crate::meanwhile::{LongWait, Meanwhile, Occurrence, Scene, place_of};
+use crate::TaskQueues;
+use crate::watched_wait::{LongWait, Occurrence, Scene, WatchedWait, place_of};
 use scx_sched::Note;
-use scxsim_calls::Places;
 use std::alloc::{AllocError, Global};
 use std::marker::Model;
 
-/// The longest waits, as they are seen.
+/// The longest waits, as they are watched.
 ///
 /// In a contract it is nothing: whatever it keeps, runs are the same.
 #[derive(Drop)]
 pub struct Waits {
-    pub waits: Vec<Meanwhile>,
-    /// Whether the millisecond whose ticks come is of one of them.
+    pub waits: Vec<WatchedWait>,
+    /// True if the current millisecond is of one of them.
     is_counting: bool,
     tasks: usize,
 }
@@ -30,7 +30,7 @@ impl Waits {
     ) -> Result<Self, AllocError> {
         let mut waits = Vec::with_capacity(alloc, worst.len())?;
         for wait in worst {
-            waits.push(Meanwhile::new(alloc, *wait, tasks, cpus)?)?;
+            waits.push(WatchedWait::new(alloc, *wait, tasks, cpus)?)?;
         }
         Ok(Waits {
             waits,
@@ -50,14 +50,14 @@ impl Waits {
         Ok(())
     }
 
-    /// A call of dispatch is over that noted this, with the tasks in these places before it.
-    pub fn heed(&mut self, notes: &[Note], places: &Places) {
+    /// Counts a call of dispatch with these notes, before which tasks were in these queues.
+    pub fn heed(&mut self, notes: &[Note], places: &TaskQueues) {
         for wait in self.waits.as_mut_slice() {
             wait.heed(notes, places);
         }
     }
 
-    /// Of the millisecond of which the processor's tick comes, the first processor's first.
+    /// Counts a CPU's tick; CPU 0 ticks first in each millisecond.
     pub fn tick(&mut self, clock: u64, cpu: u32, running: Option<u16>) {
         if cpu == 0 {
             self.begin_ticks(clock);

@@ -4,10 +4,10 @@ use Rattle.scxsim_trace.proofs.run.go_through.Goals as goal
 
 pub returns-then-failed : goal.returns-then-failed
 returns-then-failed g c =
-    gone_until g.S.Sink.takes g.S.Sink.has_failed _ _ _ _ _ c.take.new.sim _ _ _ c.in-Some.event c.loop-event.invariant.gone c.loop-event.invariant.now c.in-Some.ensures.next c.take.ensures.state c.take.ensures.notes c.take.ensures.well c.take.ensures.order (search rules)
+    gone_until g.S.EventSink.comes g.S.Sink.takes g.S.Sink.has_failed _ _ _ _ _ c.take.new.sim _ _ _ _ c.in-Some.event c.loop-event.invariant.gone c.loop-event.invariant.now c.in-Some.ensures.next c.take.ensures.state c.event.ensures c.take.ensures.notes c.take.ensures.well c.take.ensures.order (search rules)
 
 pub loop-event-preserved : goal.loop-event-preserved
 loop-event-preserved g c = record {
-  gone = gone_further g.S.Sink.takes g.S.Sink.has_failed _ _ (g.E.Events.remaining c.next.new.self) _ _ c.take.new.sim _ _ _ c.in-Some.event c.loop-event.invariant.gone c.loop-event.invariant.now c.in-Some.ensures.next c.take.ensures.state c.take.ensures.notes c.take.ensures.well (search rules);
+  gone = gone_further g.S.EventSink.comes g.S.Sink.takes g.S.Sink.has_failed _ _ (g.E.Events.remaining c.next.new.self) _ _ c.take.new.sim _ _ _ _ c.in-Some.event c.loop-event.invariant.gone c.loop-event.invariant.now c.in-Some.ensures.next c.take.ensures.state c.event.ensures c.take.ensures.notes c.take.ensures.well (search rules);
   now = c.take.ensures.order;
 }

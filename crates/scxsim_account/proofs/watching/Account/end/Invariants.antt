@@ -1,8 +1,0 @@
-use Rattle.std.proofs.Common.{◌≡◌}
-use Rattle.scxsim_account.proofs.watching.Account.end.Given as goal
-
-abbrev pub invariant-loop-cpu : goal.invariant-loop-cpu
-invariant-loop-cpu l = record {
-  idling : l.self.idling ≡ l.initial.self.idling;
-  result : l.self.result ≡ l.initial.self.result;
-}

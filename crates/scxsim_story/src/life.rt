@@ -1,0 +1,115 @@
+use scx_sched::{Event, Sim, What};
+use scx_sched_world::{LOCAL_ON, PARKED};
+
+/// The state of a task before an occurrence.
+#[derive(Clone, Copy)]
+pub(crate) struct Life {
+    /// The queue in which it is.
+    pub(crate) queue: Option<u64>,
+    /// The CPU on which it ran last.
+    pub(crate) cpu: Option<u32>,
+    /// The clock since which it has waited.
+    pub(crate) waits_since: u64,
+    /// The moment since which it has run.
+    pub(crate) runs_since: u64,
+    /// The moment since which it has slept, if it has slept.
+    pub(crate) sleeps_since: Option<u64>,
+    /// True if it has just gone to sleep.
+    pub(crate) is_leaving: bool,
+    /// The number of CPUs that were idle as some task woke last.
+    pub(crate) idle_cpus: u32,
+    /// The rest of its slice as the tick of its CPU came, in nanoseconds.
+    pub(crate) slice: u64,
+}
+
+impl Life {
+    /// The state of a task that has never woken.
+    pub(crate) fn new() -> Life {
+        Life {
+            queue: None,
+            cpu: None,
+            waits_since: 0,
+            runs_since: 0,
+            sleeps_since: None,
+            is_leaving: false,
+            idle_cpus: 0,
+            slice: 0,
+        }
+    }
+
+    /// The state as that event comes.
+    pub(crate) fn expecting(self, sim: &Sim, event: Event, task: u16) -> Life {
+        match event {
+            Event::Wake(_) => Life {
+                idle_cpus: idle_cpus(sim),
+                ..self
+            },
+            Event::Tick(_) => Life {
+                slice: slice_of(sim, task),
+                ..self
+            },
+            Event::Sleep(_) | Event::Clock | Event::SetWeight(_, _) => self,
+        }
+    }
+
+    /// The state after an occurrence at that moment and that clock.
+    pub(crate) fn after(self, moment: u64, clock: u64, what: What) -> Life {
+        match what {
+            What::Wake(_) => Life {
+                waits_since: clock,
+                is_leaving: false,
+                ..self
+            },
+            What::Sleep(_) => Life {
+                queue: None,
+                sleeps_since: Some(moment),
+                is_leaving: true,
+                ..self
+            },
+            What::Insert(_, queue) => self.entering(clock, queue),
+            What::Move(_, cpu) => self.entering(clock, LOCAL_ON.saturating_add(u64::from(cpu))),
+            What::Run(_, cpu) => Life {
+                queue: None,
+                cpu: Some(cpu),
+                runs_since: moment,
+                ..self
+            },
+            What::Stop(_, _) => Life {
+                waits_since: clock,
+                is_leaving: false,
+                ..self
+            },
+            What::Idle(_) | What::Weight(_, _) | What::Stall(_) | What::Fault(_) => self,
+        }
+    }
+    /// The state after the task comes into that queue. A task that was parked waits from then on.
+    fn entering(self, clock: u64, queue: u64) -> Life {
+        let was_parked = self.queue == Some(PARKED);
+        Life {
+            queue: Some(queue),
+            waits_since: if was_parked { clock } else { self.waits_since },
+            is_leaving: false,
+            ..self
+        }
+    }
+}
+
+/// The number of CPUs that run no task.
+fn idle_cpus(sim: &Sim) -> u32 {
+    let mut idle = 0u32;
+    for cpu in 0..sim.cpus() {
+        if sim.running(cpu).is_none() {
+            idle = idle.saturating_add(1);
+        }
+    }
+    idle
+}
+
+/// The rest of the task's slice, in nanoseconds.
+pub(crate) fn slice_of(sim: &Sim, task: u16) -> u64 {
+    if task < sim.tasks() {
+        sim.slice(task)
+    } else {
+        0
+    }
+}

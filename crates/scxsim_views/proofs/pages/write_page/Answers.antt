@@ -1,6 +1,0 @@
-use Rattle.scxsim_views.proofs.Growing.{written_in_order}
-use Rattle.scxsim_views.proofs.pages.write_page.Goals as goal
-
-pub returns-clause-ok : goal.returns-clause-ok
-returns-clause-ok g c =
-    written_in_order c.write_place-4.result _ _ _ _ _ _ _ _ _ c.in_ok-write_place.ensures.ok c.in_ok-write_place-2.ensures.ok c.in_ok-write_place-3.ensures.ok c.write_place-4.ensures.ok

@@ -1,9 +1,0 @@
-use Rattle.std.proofs.Common.{◌≡◌}
-use Rattle.scxsim_views.specs.Sketching.{Grows}
-use Rattle.scxsim_views.proofs.sketching.write_cpus.Given as goal
-
-abbrev pub invariant-loop-cpu : goal.invariant-loop-cpu
-invariant-loop-cpu g l = record {
-  grown : Grows (g.W.Out.contents l.initial.out) (g.W.Out.contents l.out);
-  unfailed : g.W.Out.failure_count l.out ≡ g.W.Out.failure_count l.initial.out;
-}

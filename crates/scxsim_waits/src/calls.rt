@@ -1,0 +1,142 @@
+ghost use Rattle.std.specs.Prelude.{◌≡◌};
+
+use scx_isa::{Callback, PerCallback};
+use scx_sched::{Note, Rank, What};
+use scx_sched_world::World;
+use scx_vm::{Arg, Args};
+use std::alloc::{AllocError, Global};
+use std::marker::Model;
+
+/// A call of dispatch.
+#[derive(Clone, Copy)]
+pub struct LastCall {
+    pub clock: u64,
+    /// True if it took a task out of a queue.
+    pub took: bool,
+}
+
+/// The calls of dispatch for a CPU.
+#[derive(Clone, Copy, Default)]
+pub struct CpuCalls {
+    /// The number of calls that took no task, and the clock of the last of them.
+    pub vain: u64,
+    pub last_vain: Option<u64>,
+    pub last: Option<LastCall>,
+}
+
+/// The calls of the callbacks of a policy.
+///
+/// In a contract it is nothing: whatever it keeps, runs are the same.
+#[derive(Drop)]
+pub struct Calls {
+    counts: PerCallback<Option<u64>>,
+    by_cpu: Vec<CpuCalls>,
+    /// The rank by which the policy last put each task into a queue, if that is known.
+    ranks: Vec<Option<Rank>>,
+}
+
+impl Model for Calls {
+    ghost Value = { Unit {0} };
+
+    ghost view = { λ c. tt };
+}
+
+impl Calls {
+    /// No calls.
+    pub fn new(alloc: Global, tasks: usize, cpus: u32) -> Result<Calls, AllocError> {
+        Ok(Calls {
+            counts: PerCallback::none(),
+            by_cpu: vec![in alloc; CpuCalls::default(); cpus as usize]?,
+            ranks: vec![in alloc; None; tasks]?,
+        })
+    }
+
+    /// Counts a callback that was called with these arguments and has run. Its notes are still in the world.
+    pub fn heed(&mut self, callback: Callback, arguments: Args, world: &World) {
+        self.count(callback);
+        match callback {
+            Callback::Dispatch => self.heed_dispatch(arguments, world),
+            Callback::SelectCpu | Callback::Enqueue => self.heed_insert(arguments, world),
+            _ => {}
+        }
+    }
+
+    /// The number of calls of the callback.
+    pub fn calls(&self, callback: Callback) -> u64 {
+        match self.counts.get(callback) {
+            Some(count) => *count,
+            None => 0,
+        }
+    }
+
+    /// The calls of dispatch for the CPU.
+    pub fn for_cpu(&self, cpu: u32) -> CpuCalls {
+        match self.by_cpu.get(cpu as usize) {
+            Some(calls) => *calls,
+            None => CpuCalls::default(),
+        }
+    }
+
+    /// The rank by which the policy last put the task into a queue, if that is known.
+    pub fn rank(&self, task: u16) -> Option<Rank> {
+        *self.ranks.get(task as usize)?
+    }
+
+    fn count(&mut self, callback: Callback) {
+        let count = self.calls(callback).saturating_add(1);
+        self.counts.set(callback, Some(count));
+    }
+
+    fn heed_dispatch(&mut self, arguments: Args, world: &World) {
+        let Arg::Num(cpu) = arguments.first else {
+            return;
+        };
+        let notes = world.notes();
+        let took = !notes.is_empty();
+        let clock = world.clock();
+        if let Some(calls) = self.by_cpu.get_mut(cpu as usize) {
+            if !took {
+                calls.vain = calls.vain.saturating_add(1);
+                calls.last_vain = Some(clock);
+            }
+            calls.last = Some(LastCall { clock, took });
+        }
+        for note in notes {
+            self.heed_note(*note, world);
+        }
+    }
+
+    /// Keeps the rank of a held task that dispatch has put into a queue, if the note says so.
+    fn heed_note(&mut self, note: Note, world: &World) {
+        if let What::Insert(task, queue) = note.what {
+            let rank = rank_in(world, task, queue);
+            self.set_rank(task, rank);
+        }
+    }
+
+    fn heed_insert(&mut self, arguments: Args, world: &World) {
+        let Arg::Task(task) = arguments.first else {
+            return;
+        };
+        match world.insert() {
+            Some(insert) => self.set_rank(task.0, Some(insert.rank)),
+            None => self.set_rank(task.0, None),
+        }
+    }
+
+    fn set_rank(&mut self, task: u16, rank: Option<Rank>) {
+        if let Some(place) = self.ranks.get_mut(task as usize) {
+            *place = rank;
+        }
+    }
+}
+
+/// The rank of the task in that queue, if it is there.
+fn rank_in(world: &World, task: u16, queue: u64) -> Option<Rank> {
+    let entry = world.entry(task)?;
+    if entry.queue == queue {
+        Some(entry.rank)
+    } else {
+        None
+    }
+}
