@@ -3,3 +3,4 @@ mod Accepting
 pub mod Causes
 mod Judging
 mod Lining
+pub mod Parting

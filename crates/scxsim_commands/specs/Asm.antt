@@ -1,5 +1,4 @@
--- What `asm` finds in the bytes of a text: the program that it stands for, or why the
--- bytes are refused.
+-- The outcomes of `asm` on the bytes of a text: its program, or why the bytes are refused.
 use Rattle.std.specs.Prelude.{◌≡◌, ℕ, ◌<◌, ◌≤◌, List, length, IsUtf8, Ok, Err}
 use Rattle.scx_isa_semantics.specs.Code.{Code}
 use Rattle.scx_isa.specs.Spelling.{Spells}
@@ -10,7 +9,7 @@ use Rattle.scxsim_commands.specs.declared.refusal.Refusal.TheVariants.{TooLarge,
 use Rattle.scxsim_commands.specs.declared.file.TheConstants.{FILE_LIMIT}
 use Rattle.scxsim_commands.specs.Text.{IsText}
 
--- a text that a file may hold stands for the program that these bytes spell
+-- a text that a file may hold is of the program that these bytes spell
 pub record IsAssembled (text bytes : List ℕ) : Type 0 where
   pub is_text : IsText text
   pub code : Code

@@ -1,5 +1,5 @@
--- What `check` finds in the bytes of a file: verdicts on the programs of the policy that they
--- are, or why they are refused.
+-- The outcomes of `check` on the bytes of a file: verdicts on the programs of its policy, or why
+-- they are refused.
 use Rattle.std.specs.Prelude.{◌≡◌, ℕ, ◌<◌, ◌≤◌, List, length, IsUtf8, Ok, string_bytes}
 use Rattle.scx_load_files.specs.Faults.{refusal}
 use Rattle.scx_load_policies.specs.Policies.{PolicyFile}

@@ -1,4 +1,4 @@
--- What `dis` finds in the bytes of a program: its text, or why the bytes are refused.
+-- The outcomes of `dis` on the bytes of a program: its text, or why the bytes are refused.
 use Rattle.std.specs.Prelude.{◌≡◌, ℕ, ◌<◌, ◌≤◌, List, length}
 use Rattle.scx_isa_semantics.specs.Code.{Code}
 use Rattle.scx_isa.specs.Spelling.{HasProgramLength, Spells}

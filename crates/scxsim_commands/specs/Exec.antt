@@ -1,5 +1,5 @@
--- What `exec` finds in the bytes of a file: how the program that they spell runs, or why they are
--- refused.
+-- The outcomes of `exec` on the bytes of a file: the run of the program that they spell, or why
+-- they are refused.
 use Rattle.std.specs.Prelude.{◌≢◌, ℕ, ◌<◌, ◌≤◌, List, [], length}
 use Rattle.scx_isa_semantics.specs.declared.callbacks.Callback.TheVariants as callback
 use Rattle.scx_isa_semantics.specs.Code.{Code}

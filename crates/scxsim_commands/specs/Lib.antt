@@ -9,3 +9,4 @@ pub mod Dis
 pub mod Verdicts
 pub mod VerdictLines
 pub mod Check
+pub mod Windows

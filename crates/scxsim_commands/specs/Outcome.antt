@@ -1,4 +1,4 @@
--- What a command comes to.
+-- Outcomes of commands: refusals.
 use Rattle.std.specs.Prelude.{Bool, Result, Ok, Err, ⊤}
 use Rattle.scxsim_commands.specs.declared.refusal.Fault.{Fault}
 use Rattle.scxsim_commands.specs.declared.refusal.Fault.TheVariants.{Refused, WriteFailed}

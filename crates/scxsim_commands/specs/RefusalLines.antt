@@ -44,7 +44,7 @@ abbrev pub word_line : Word → List ℕ
 word_line From = codes "refused: word FROM: out of range\n"
 word_line To = codes "refused: word TO: out of range\n"
 
--- a page that would hold so many stretches of time
+-- a page that would hold that many stretches of time
 abbrev pub stretches_line : ℕ → List ℕ
 stretches_line stretches =
     codes "refused: too many stretches: " ++ decimal stretches ++ codes ", at most 3750000\n"
@@ -76,10 +76,10 @@ refusal_line (OutOfRange word) = word_line word
 refusal_line NoSuchTask = codes "refused: word TASK: no such task\n"
 refusal_line (TooManyStretches stretches) = stretches_line stretches
 
--- ---- the same in three parts: what stands before the path of a key, the path, and what
--- stands behind it
+-- ---- a refusal's line in three parts: the text before the path of a key, the path, and the text
+-- after it
 
--- what stands before the path of a key; the whole line of a refusal that has no path
+-- the text before the path of a key; the whole line of a refusal that has no path
 abbrev pub start : Refusal → List ℕ
 start (Policy path cause) = codes "refused: policy "
 start (Workload path cause) = codes "refused: workload "
@@ -93,7 +93,7 @@ path_of (Workload path cause) = string_bytes path
 path_of (Events path cause) = string_bytes path
 path_of refusal = []
 
--- what stands behind the path of a key, with the line feed; empty of a refusal that has no path
+-- the text after the path of a key, with the line feed; empty of a refusal that has no path
 abbrev pub end : Refusal → List ℕ
 end (Policy path cause) = codes ": " ++ cause_text cause ++ codes "\n"
 end (Workload path cause) = codes ": " ++ cause_text cause ++ codes "\n"

@@ -1,5 +1,5 @@
--- The refusals that the errors of decoding, of verifying, of assembling, of reading files and of
--- building policies stand for.
+-- The refusals of errors of decoding, of verifying, of assembling, of reading files and of building
+-- policies.
 use Rattle.std.specs.Prelude.{ℕ}
 use Rattle.scx_isa.specs.declared.faults.DecodeError.{DecodeError}
 use Rattle.scx_isa.specs.declared.faults.DecodeError.TheVariants as errors
@@ -12,6 +12,8 @@ use Rattle.scx_load_files.specs.declared.fault.LoadError.{LoadError}
 use Rattle.scx_load_files.specs.declared.fault.LoadError.TheVariants as load
 use Rattle.scx_load_policies.specs.declared.building.BuildError.{BuildError}
 use Rattle.scx_load_policies.specs.declared.building.BuildError.TheVariants as build
+use Rattle.scxsim_commands.specs.declared.refusal.FileKind.{FileKind}
+use Rattle.scxsim_commands.specs.declared.refusal.FileKind.TheVariants as kinds
 use Rattle.scxsim_commands.specs.declared.refusal.Refusal.{Refusal}
 use Rattle.scxsim_commands.specs.declared.refusal.Refusal.TheVariants.{NoMemory, Decode, Verify, Assemble, Callback, Policy, Workload, Events}
 
@@ -39,17 +41,9 @@ abbrev pub build_refusal : BuildError → Refusal
 build_refusal (build.Refused callback fault slot) = Callback callback fault slot
 build_refusal build.NoMemory = NoMemory
 
--- why a policy file isn't read: the path of its first fault and the cause, or want of memory
-abbrev pub policy_refusal : LoadError → Refusal
-policy_refusal (load.At path cause) = Policy path cause
-policy_refusal load.NoMemory = NoMemory
-
--- why a workload file isn't read: the path of its first fault and the cause, or want of memory
-abbrev pub workload_refusal : LoadError → Refusal
-workload_refusal (load.At path cause) = Workload path cause
-workload_refusal load.NoMemory = NoMemory
-
--- why a file of events isn't read: the path of its first fault and the cause, or want of memory
-abbrev pub events_refusal : LoadError → Refusal
-events_refusal (load.At path cause) = Events path cause
-events_refusal load.NoMemory = NoMemory
+-- why a file of that kind isn't read: the path of its first fault and the cause, or no memory
+abbrev pub file_refusal : FileKind → LoadError → Refusal
+file_refusal kind load.NoMemory = NoMemory
+file_refusal kinds.Policy (load.At path cause) = Policy path cause
+file_refusal kinds.Workload (load.At path cause) = Workload path cause
+file_refusal kinds.Events (load.At path cause) = Events path cause

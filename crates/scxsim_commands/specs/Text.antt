@@ -1,4 +1,4 @@
--- Which bytes are a text that a file may hold.
+-- Bytes that are a text that a file may hold.
 use Rattle.std.specs.Prelude.{ℕ, ◌<◌, ◌≤◌, List, length, IsUtf8}
 use Rattle.scxsim_commands.specs.declared.refusal.Fault.{Fault}
 use Rattle.scxsim_commands.specs.declared.refusal.Fault.TheVariants.{Refused}

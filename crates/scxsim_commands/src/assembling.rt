@@ -13,7 +13,7 @@ use scx_isa::encode;
 use scxsim_output::{Out, write_all};
 use std::alloc::Global;
 
-/// Writes the raw slots of the program that the text in `bytes` stands for. The answer is true.
+/// Writes the raw slots of the program in the text in `bytes`. The answer is true.
 ///
 /// # Errors
 ///
@@ -42,7 +42,7 @@ pub fn asm<W: Out>(alloc: Global, bytes: &[u8], out: &mut W) -> Result<bool, Fau
     Ok(true)
 }
 
-/// The raw slots of the program that a text stands for.
+/// The raw slots of the program in a text.
 fn slots_of(alloc: Global, text: &str) -> Result<Vec<u8>, Refusal>
     requires { IsText text.now }
     ensures assembled { IfOk result (λ slots. IsAssembled text.now slots.items) }

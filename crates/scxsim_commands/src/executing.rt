@@ -46,7 +46,7 @@ pub fn exec<W: Out>(alloc: Global, bytes: &[u8], out: &mut W) -> Result<bool, Fa
     Ok(true)
 }
 
-/// How the program that `bytes` spell runs.
+/// Runs the program that `bytes` spell, once it is verified.
 #[tactic(auto, using(scx_isa::proofs::Programs::program_has_length))]
 fn run(alloc: Global, bytes: &[u8]) -> Result<Done, Refusal>
     ensures done { IfOk result (HasRun bytes.now) }

@@ -3,7 +3,7 @@ use std::io;
 use std::io::Read;
 use std::rt::Files;
 
-/// How many bytes a file may have.
+/// The most bytes of a file.
 pub const FILE_LIMIT: usize = 1_048_576;
 
 /// Reads a file, but no more of it than one byte past the limit, which shows it to be too large.

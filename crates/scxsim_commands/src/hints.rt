@@ -1,6 +1,7 @@
 use crate::refusal::Refusal;
 
-/// What a refused file seems to be, where a person may have meant something else, or what else may help.
+/// The likely nature of a refused file, where a person may have meant something else, or another
+/// way to help.
 #[derive(Clone, Copy, Debug, PartialEq, Eq)]
 pub enum Hint {
     /// An ELF object, as compilers write.
@@ -18,7 +19,7 @@ pub enum Hint {
 }
 
 impl Hint {
-    /// What to do, as one line without its line feed.
+    /// The advice, as one line without its line feed.
     pub fn advice(self) -> &'static str {
         match self {
             Hint::Object => {
@@ -36,7 +37,7 @@ impl Hint {
     }
 }
 
-/// What may be done about a refusal that isn't the fault of a file.
+/// A hint at a refusal that isn't the fault of a file.
 pub fn hint_of_refusal(refusal: &Refusal) -> Option<Hint> {
     match refusal {
         Refusal::TooManyStretches(_) => Some(Hint::LongRun),
@@ -44,7 +45,7 @@ pub fn hint_of_refusal(refusal: &Refusal) -> Option<Hint> {
     }
 }
 
-/// What a refused file of slots may have been meant as.
+/// A hint at what a refused file of slots may have been meant as.
 pub fn hint_of_slots(bytes: &[u8]) -> Option<Hint> {
     if bytes.starts_with(b"\x7fELF") {
         return Some(Hint::Object);
@@ -55,7 +56,7 @@ pub fn hint_of_slots(bytes: &[u8]) -> Option<Hint> {
     None
 }
 
-/// What a refused file of text may have been meant as.
+/// A hint at what a refused file of text may have been meant as.
 pub fn hint_of_text(bytes: &[u8]) -> Option<Hint> {
     if bytes.starts_with(b"\x7fELF") {
         return Some(Hint::Object);
@@ -72,7 +73,7 @@ pub fn hint_of_text(bytes: &[u8]) -> Option<Hint> {
     None
 }
 
-/// Whether a text of ASCII may have the byte.
+/// True if a text of ASCII may have the byte.
 fn is_of_text(byte: u8) -> bool {
     matches!(byte, b'\t' | b'\n' | b'\r' | b' '..=b'~')
 }

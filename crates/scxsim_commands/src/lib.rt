@@ -1,13 +1,15 @@
-//! What commands on programs and policies do with the bytes of one file: `exec`, `asm`, `dis`, and `check`,
-//! which says of each callback of a policy file whether its program is safe. They write to any `Out`.
+//! Commands on programs and policies: `exec`, `asm`, `dis`, and `check`, which says of each callback of a policy file
+//! whether its program is safe. They write to any `Out`.
 //!
 //! A command comes to what it wrote, or is refused with a cause, or ended by a write that failed. `finish`,
-//! which ends each command, writes the line of a refusal, and answers the status of the process.
+//! which ends each command, writes the line of a refusal, and answers the status of the process. `Window` is the part of
+//! a run that two words name.
 #![tactic(auto)]
 
 mod assembling;
 mod checking;
 mod disassembling;
+mod ejections;
 mod executing;
 mod file;
 mod finishing;
@@ -19,18 +21,21 @@ mod status;
 mod texts;
 mod verdict;
 mod verdict_lines;
+mod windows;
 
 pub use assembling::asm;
 pub use checking::check;
 pub use disassembling::dis;
+pub use ejections::Ejection;
 pub use executing::exec;
 pub use file::{FILE_LIMIT, read_file};
 pub use finishing::finish;
 pub use hints::{Hint, hint_of_refusal, hint_of_slots, hint_of_text};
 pub use lines::{Line, write_unread};
-pub use refusal::{Fault, MOST_STRETCHES, Refusal, Word};
+pub use refusal::{Fault, FileKind, MOST_STRETCHES, Refusal, Word};
 pub use scxsim_output::{Counted, Failed, Out, write_all};
 pub use status::{DONE, FAILED, REFUSED, USAGE};
 pub use texts::text;
 pub use verdict::{Verdict, Verdicts, are_accepted, judge};
 pub use verdict_lines::verdict_line;
+pub use windows::{Span, Window};

@@ -12,10 +12,10 @@ use scx_isa::Callback;
 use scx_verify::Fault;
 use scxsim_output::{Failed, Out, write_named};
 
-/// How many bytes the longest line takes, without a path.
+/// The bytes of the longest line, without a path.
 pub(crate) const LINE_CAPACITY: usize = 128;
 
-/// The text of one line, its line feed included, or what stands before a path or behind it. It takes no
+/// The text of one line, its line feed included, or the part before or after a path. It takes no
 /// memory from the allocator.
 pub type Line = ArrayString<LINE_CAPACITY>;
 
@@ -46,19 +46,19 @@ pub fn write_unread<W: Out>(path: &str, out: &mut W) -> Result<(), Failed>
 pub(crate) fn callback_line(
     before: &str,
     callback: Callback,
-    behind: &str,
+    after: &str,
     fault: Fault,
     slot: usize,
 ) -> Line
-    requires { length before.now + length behind.now ≤ 20 }
+    requires { length before.now + length after.now ≤ 20 }
     ensures { result.bytes
-        ≡ before.now ++ name_of callback ++ behind.now
+        ≡ before.now ++ name_of callback ++ after.now
         ++ lines.fault_text (fault_number fault) (fault_name fault) slot ++ codes "\n" }
 {
     let mut line = Line::new();
     line.push_str(before);
     line.push_str(short_name(callback));
-    line.push_str(behind);
+    line.push_str(after);
     push_fault(&mut line, fault.number(), short_fault(fault), slot);
     line
 }

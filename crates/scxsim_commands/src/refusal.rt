@@ -1,5 +1,5 @@
 ghost use Rattle.std.specs.Prelude.{◌≡◌};
-ghost use Rattle.scxsim_commands.specs.Refusals.{decode_refusal, verify_refusal, asm_refusal, build_refusal, policy_refusal, workload_refusal, events_refusal};
+ghost use Rattle.scxsim_commands.specs.Refusals.{decode_refusal, verify_refusal, asm_refusal, build_refusal, file_refusal};
 ghost use Rattle.scxsim_commands.specs.declared.refusal.Refusal.TheVariants.{NoMemory};
 ghost use Rattle.scxsim_commands.specs.declared.refusal.Fault.TheVariants.{Refused, WriteFailed};
 
@@ -78,12 +78,12 @@ pub enum Refusal {
     /// A word is to name a task, and the workload has none of that name.
     #[error("TASK names no task")]
     NoSuchTask,
-    /// A page would hold so many stretches of time, which are more than `MOST_STRETCHES`.
+    /// A page would hold that many stretches of time, which are more than `MOST_STRETCHES`.
     #[error("{0} stretches are too many")]
     TooManyStretches(u64),
 }
 
-/// How many stretches of time a page holds, at most.
+/// The most stretches of time on a page.
 pub const MOST_STRETCHES: u64 = 3_750_000;
 
 /// A word of a command that isn't a path.
@@ -96,7 +96,7 @@ pub enum Word {
 }
 
 impl Word {
-    /// What the word is called in the help.
+    /// The word's name in the help.
     pub fn name(self) -> &'static str {
         match self {
             Word::From => "FROM",
@@ -122,34 +122,26 @@ pub enum Fault {
     WriteFailed,
 }
 
+/// A kind of file that a run is read from.
+#[derive(Clone, Copy)]
+pub enum FileKind {
+    Policy,
+    Workload,
+    Events,
+}
+
 impl Refusal {
-    /// What a policy file is refused for.
-    pub fn of_policy(error: LoadError) -> Refusal
-        ensures { result ≡ policy_refusal error }
+    /// The refusal of a file that can't be read.
+    pub fn of_file(kind: FileKind, error: LoadError) -> Refusal
+        ensures { result ≡ file_refusal kind error }
     {
         match error {
             LoadError::NoMemory => Refusal::NoMemory,
-            LoadError::At { path, cause } => Refusal::Policy { path, cause },
-        }
-    }
-
-    /// What a workload file is refused for.
-    pub fn of_workload(error: LoadError) -> Refusal
-        ensures { result ≡ workload_refusal error }
-    {
-        match error {
-            LoadError::NoMemory => Refusal::NoMemory,
-            LoadError::At { path, cause } => Refusal::Workload { path, cause },
-        }
-    }
-
-    /// What a file of events is refused for.
-    pub fn of_events(error: LoadError) -> Refusal
-        ensures { result ≡ events_refusal error }
-    {
-        match error {
-            LoadError::NoMemory => Refusal::NoMemory,
-            LoadError::At { path, cause } => Refusal::Events { path, cause },
+            LoadError::At { path, cause } => match kind {
+                FileKind::Policy => Refusal::Policy { path, cause },
+                FileKind::Workload => Refusal::Workload { path, cause },
+                FileKind::Events => Refusal::Events { path, cause },
+            },
         }
     }
 }

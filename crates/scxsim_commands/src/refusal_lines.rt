@@ -1,6 +1,6 @@
 ghost use Rattle.std.specs.Prelude.{◌≡◌, ◌+◌, ◌≤◌, ◌++◌, length, codes, OnOk, OnErr};
 ghost use Rattle.std.specs.Io.KnownBytes.{Appends};
-ghost use Rattle.scxsim_output.specs.Output.{HasFailed, AppendsBeginning};
+ghost use Rattle.scxsim_output.specs.Output.{Counts, AppendsBeginning};
 ghost use Rattle.scxsim_commands.specs.Lines.{fault_text};
 ghost use Rattle.scxsim_commands.specs.RefusalLines as lines;
 
@@ -15,19 +15,17 @@ use scxsim_output::{Failed, Out, write_named};
 pub(crate) fn write_refusal<W: Out>(refusal: &Refusal, out: &mut W) -> Result<(), Failed>
     ensures ok { OnOk result
         (Appends (W.contents out.old) (W.contents out.new) (lines.refusal_line refusal.now)) }
-    ensures ok_failures { OnOk result (W.failure_count out.new ≡ W.failure_count out.old) }
     ensures err { OnErr result
         (AppendsBeginning (W.contents out.old) (W.contents out.new)
         (lines.refusal_line refusal.now)) }
-    ensures err_failures { OnErr result
-        (HasFailed (W.failure_count out.old) (W.failure_count out.new)) }
+    ensures failures { Counts result (W.failure_count out.old) (W.failure_count out.new) }
 {
     let start = start(refusal);
     let end = end(refusal);
     write_named(out, start.as_str(), path_of(refusal), end.as_str())
 }
 
-/// What stands before the path of a key; of a refusal without one, the whole line.
+/// The text before the path of a key; of a refusal without one, the whole line.
 fn start(refusal: &Refusal) -> Line
     ensures { result.bytes ≡ lines.start refusal.now }
 {
@@ -71,7 +69,7 @@ fn path_of(refusal: &Refusal) -> &str
     }
 }
 
-/// What stands behind the path of a key.
+/// The text after the path of a key.
 fn end(refusal: &Refusal) -> Line
     ensures { result.bytes ≡ lines.end refusal.now }
 {
@@ -83,7 +81,7 @@ fn end(refusal: &Refusal) -> Line
     }
 }
 
-/// The cause behind the path of a key, and the line feed.
+/// The cause after the path of a key, and the line feed.
 fn cause_end(cause: Cause) -> Line
     ensures { result.bytes ≡ codes ": " ++ lines.cause_text cause ++ codes "\n" }
 {

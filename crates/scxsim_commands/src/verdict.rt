@@ -12,10 +12,10 @@ use scx_maps::MapDefs;
 use scx_verify::{Fault, verify};
 use std::alloc::Global;
 
-/// What the verifier says of a program.
+/// The verifier's answer to a program.
 #[derive(Clone, Copy)]
 pub enum Verdict {
-    /// It is safe, and has so many instructions.
+    /// It is safe, and has that many instructions.
     Accepted(usize),
     /// It has that fault, at that slot.
     Refused(Fault, usize),
@@ -24,7 +24,7 @@ pub enum Verdict {
 /// The verdicts on the callbacks of a policy: none where there is no program.
 pub type Verdicts = PerCallback<Option<Verdict>>;
 
-/// Whether no program is refused.
+/// True if no program is refused.
 pub fn are_accepted(verdicts: &Verdicts) -> bool
     ensures { result ≡ are_accepted verdicts.now }
 {

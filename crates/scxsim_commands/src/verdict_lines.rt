@@ -9,7 +9,7 @@ use arrayvec::ArrayString;
 use itoa::Buffer;
 use scx_isa::{CALLBACKS, Callback};
 
-/// How many bytes the lines of all callbacks take at most, and some more.
+/// The most bytes of the lines of all callbacks, and some more.
 const LINES_CAPACITY: usize = 1024;
 
 /// The lines of a policy's callbacks. They take no memory from the allocator.

@@ -1,4 +1,4 @@
--- What the explanations of programs are of.
+-- Explanations of programs, and the programs that they are of.
 use Rattle.std.specs.Prelude.{◌≡◌, ℕ, List, map, Option, None, IfSome}
 use Rattle.scx_verify_explain.specs.declared.reasons.Explanation.{Explanation}
 use Rattle.scx_verify_explain.specs.Reasons.{fault_of}

@@ -1,2 +1,2 @@
-pub mod Explained
 pub mod Listed
+pub mod Explained

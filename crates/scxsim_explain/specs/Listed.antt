@@ -1,4 +1,4 @@
--- What `explain` writes: of each program the line of its verdict, and then its listing.
+-- The text that `explain` writes: of each program the line of its verdict, and then its listing.
 use Rattle.std.specs.Prelude.{◌≡◌, ℕ, List, [], ◌∷◌, ◌++◌, codes, Option, Some, None}
 use Rattle.std.specs.Io.KnownBytes.{Appends}
 use Rattle.scx_isa_semantics.specs.declared.callbacks.Callback.{Callback}
@@ -25,7 +25,7 @@ first_lines_of v (b ∷ bs) = line_on b (at v b) ++ first_lines_of v bs
 abbrev pub first_lines : Verdicts → List (List ℕ)
 first_lines v = first_lines_of v callbacks
 
--- a text of programs with these first lines: each behind an empty line, and with a listing
+-- a text of programs with these first lines: each after an empty line, and with a listing
 -- below its first
 abbrev pub IsListedBehind : List (List ℕ) → List ℕ → Type 0
 IsListedBehind [] text = text ≡ []

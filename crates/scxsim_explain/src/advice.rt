@@ -2,12 +2,12 @@ use crate::words::field_name;
 use scx_abs::Kind;
 use scx_isa::{CALLBACKS, Field, Helper, Size};
 use scx_verify_explain::{BadAccess, BadCall, BadField, BadFlow, BadValue, Origin, Reason};
-use scxsim_text::Text;
+use scxsim_output::Text;
 
-/// How to keep a pointer in an element that a number moves.
+/// Advice on a pointer into a map value that a number moves.
 const COMPARE_OR_MASK: &str = "compare the number first, or mask it";
 
-/// What to change.
+/// A change that would help.
 #[derive(Clone, Copy)]
 pub(crate) struct Advice {
     pub(crate) reason: Reason,

@@ -15,7 +15,7 @@ use scx_maps::MapDefs;
 use scx_verify_explain::{Explanation, Jumps, Listing, explanation_of};
 use scx_vm::Context;
 use scxsim_commands::{Refusal, Verdict, Verdicts, judge};
-use scxsim_text::Text;
+use scxsim_output::Text;
 use std::alloc::{AllocError, Global};
 
 /// A program, the verdict on it, and why it is refused, if it is.

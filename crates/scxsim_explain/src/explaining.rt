@@ -12,7 +12,7 @@ ghost use Rattle.scxsim_explain.specs.Listed.{IsListed, first_lines};
 use crate::explained::{ExplainedPolicy, explain_policy};
 use crate::writing::write_programs;
 use scx_load_policies::read_policy;
-use scxsim_commands::{Fault, Refusal, are_accepted, text};
+use scxsim_commands::{Fault, FileKind, Refusal, are_accepted, text};
 use scxsim_output::Out;
 use std::alloc::Global;
 
@@ -55,7 +55,7 @@ fn explained_in(alloc: Global, text: &str) -> Result<ExplainedPolicy, Refusal>
 {
     match read_policy(alloc, text) {
         Ok(policy) => explain_policy(alloc, policy),
-        Err(error) => Err(Refusal::of_policy(error)),
+        Err(error) => Err(Refusal::of_file(FileKind::Policy, error)),
     }
 }
 

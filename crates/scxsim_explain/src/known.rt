@@ -2,12 +2,12 @@ use crate::words::{from_top, push_brief};
 use scx_abs::{AbsState, Kind};
 use scx_isa::{REGISTERS, STACK_SIZE};
 use scx_verify_explain::{byte_kind, cell_of, is_pointer};
-use scxsim_text::Text;
+use scxsim_output::Text;
 
-/// How many registers are listed: all but r10, which is always the frame.
+/// The number of listed registers: all but r10, which is always the frame.
 const LISTED: usize = REGISTERS - 1;
 
-/// Items of a list, which commas stand between.
+/// Items of a list, with commas between them.
 #[derive(Drop)]
 struct Items<'a> {
     line: &'a mut Text,
@@ -99,8 +99,8 @@ fn push_stack(items: &mut Items<'_>, state: &AbsState) {
     }
 }
 
-/// Whether the next byte belongs to the same item as one: nothing is known of both, both are written, or
-/// both are parts of the same pointer.
+/// True if the next byte belongs to the same item as one: nothing is known of both, both are
+/// written, or both are parts of the same pointer.
 fn goes_on(state: &AbsState, byte: u16, next: u16) -> bool {
     let kind = byte_kind(state, byte);
     next < STACK_SIZE

@@ -6,10 +6,10 @@ use arrayvec::ArrayString;
 use scx_asm_text::Canonical;
 use scx_isa::{Helper, Insn};
 use scx_verify_explain::{Listing, Way, target_of};
-use scxsim_text::Text;
+use scxsim_output::Text;
 use std::fmt::Write;
 
-/// How many bytes the text of an instruction takes at most, with its target, and some more.
+/// The most bytes of the text of an instruction, with its target, and some more.
 const TEXT_CAPACITY: usize = 96;
 
 /// The text of an instruction. It takes no memory from the allocator.
@@ -50,7 +50,7 @@ fn helper_of(insn: Insn) -> Option<&'static str> {
     Helper::new(number).map(helper_name)
 }
 
-/// How long the longest text of the listing is.
+/// The length of the longest text of the listing.
 pub(crate) fn width_of(listing: &Listing) -> usize {
     let mut width = 0;
     for slot in 0..listing.slots() {

@@ -6,9 +6,9 @@ use scx_verify_explain::{
     BadAccess, BadCall, BadField, BadFlow, BadValue, Brought, Explanation, Leg, Memory, Origin,
     Place, Reach, Reason,
 };
-use scxsim_text::Text;
+use scxsim_output::Text;
 
-/// What begins a line of an explanation.
+/// The beginning of each line of an explanation.
 const MARGIN: &str = "      = ";
 
 /// Appends why a program is refused, and how control came there.
@@ -249,13 +249,13 @@ fn push_bytes(line: &mut Text, reach: Reach) {
     }
 }
 
-/// Appends the first and the last of so many bytes.
+/// Appends the first and the last of that many bytes.
 fn push_bytes_from(line: &mut Text, first: i128, count: u16) {
     line.show("", &first);
     line.show("..", &last_of(first, count));
 }
 
-/// The last of so many bytes from one on.
+/// The last of that many bytes from one on.
 fn last_of(first: i128, count: u16) -> i128 {
     first.saturating_add(i128::from(count)).saturating_sub(1)
 }

@@ -2,7 +2,7 @@ use scx_abs::Kind;
 use scx_abs_ranges::{Numbers, Offsets, Range};
 use scx_isa::{Field, Helper, Parameter, Register, STACK_SIZE};
 use scx_verify_explain::Place;
-use scxsim_text::Text;
+use scxsim_output::Text;
 
 /// The members of a range: one number, or from which to which, and by which step where it isn't 1.
 #[derive(Clone, Copy)]
@@ -93,7 +93,7 @@ fn push_element(line: &mut Text, map: u8, offsets: Offsets) {
     }
 }
 
-/// How far it is from one member of a range to the next.
+/// The distance from one member of a range to the next.
 pub(crate) fn step_of(shift: u8) -> i128 {
     match shift {
         0 => 1,
@@ -120,7 +120,7 @@ pub(crate) fn push_spoken(line: &mut Text, kind: Kind) {
     }
 }
 
-/// What a helper takes, in a sentence.
+/// The argument that a helper takes, in a sentence.
 pub(crate) fn wanted(parameter: Parameter) -> &'static str {
     match parameter {
         Parameter::Map => "a reference to a map",

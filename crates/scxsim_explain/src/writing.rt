@@ -1,17 +1,16 @@
-ghost use Rattle.std.specs.Prelude.{◌≡◌, ◌++◌, List, ℕ, map, OnOk, OnErr};
+ghost use Rattle.std.specs.Prelude.{◌≡◌, ◌++◌, List, ℕ, map, OnOk};
 ghost use Rattle.std.specs.Io.KnownBytes.{Appends};
-ghost use Rattle.scxsim_output.specs.Output.{HasFailed};
+ghost use Rattle.scxsim_output.specs.Output.{Counts};
 ghost use Rattle.scxsim_explain.specs.Explained.{first_line};
 ghost use Rattle.scxsim_explain.specs.Listed.{Grows, IsListed, IsListedBehind};
 
 use crate::explained::Explained;
 use crate::lines::{push_slot, width_of};
 use scxsim_commands::verdict_line;
-use scxsim_output::{Failed, Out, write_all};
-use scxsim_text::Text;
+use scxsim_output::{Failed, Out, Text, write_all};
 use std::alloc::{AllocError, Global};
 
-/// How many bytes a line takes at most, and many more.
+/// The most bytes of a line, and many more.
 const LINE_CAPACITY: usize = 0x40000;
 
 /// Room for a line, so that none takes memory once another was written.
@@ -27,9 +26,7 @@ pub(crate) fn write_programs<W: Out>(
 ) -> Result<(), Failed>
     ensures ok { OnOk result ((text : List ℕ) × IsListed (map first_line programs.now) text
         × Appends (W.contents out.old) (W.contents out.new) text) }
-    ensures ok_failures { OnOk result (W.failure_count out.new ≡ W.failure_count out.old) }
-    ensures err_failures { OnErr result
-        (HasFailed (W.failure_count out.old) (W.failure_count out.new)) }
+    ensures failures { Counts result (W.failure_count out.old) (W.failure_count out.new) }
 {
     let Some((first, rest)) = programs.split_first() else {
         return Ok(());
@@ -38,13 +35,11 @@ pub(crate) fn write_programs<W: Out>(
     write_rest(rest, line, out)
 }
 
-/// Writes the programs behind the first one, each behind an empty line.
+/// Writes the programs after the first one, each after an empty line.
 fn write_rest<W: Out>(programs: &[Explained], line: &mut Text, out: &mut W) -> Result<(), Failed>
     ensures ok { OnOk result ((text : List ℕ) × IsListedBehind (map first_line programs.now) text
         × Appends (W.contents out.old) (W.contents out.new) text) }
-    ensures ok_failures { OnOk result (W.failure_count out.new ≡ W.failure_count out.old) }
-    ensures err_failures { OnErr result
-        (HasFailed (W.failure_count out.old) (W.failure_count out.new)) }
+    ensures failures { Counts result (W.failure_count out.old) (W.failure_count out.new) }
 {
     for explained in programs {
         write_all(out, b"\n")?;
@@ -58,9 +53,7 @@ fn write_program<W: Out>(explained: &Explained, line: &mut Text, out: &mut W) ->
     ensures ok { OnOk result ((listing : List ℕ)
         × Appends (W.contents out.old) (W.contents out.new)
         (first_line explained.now ++ listing)) }
-    ensures ok_failures { OnOk result (W.failure_count out.new ≡ W.failure_count out.old) }
-    ensures err_failures { OnErr result
-        (HasFailed (W.failure_count out.old) (W.failure_count out.new)) }
+    ensures failures { Counts result (W.failure_count out.old) (W.failure_count out.new) }
 {
     let first = verdict_line(explained.listing.context().callback, explained.verdict);
     write_all(out, first.as_str().as_bytes())?;
@@ -70,9 +63,7 @@ fn write_program<W: Out>(explained: &Explained, line: &mut Text, out: &mut W) ->
 /// Writes the lines of a program's slots.
 fn write_listing<W: Out>(explained: &Explained, line: &mut Text, out: &mut W) -> Result<(), Failed>
     ensures ok { OnOk result (Grows (W.contents out.old) (W.contents out.new)) }
-    ensures ok_failures { OnOk result (W.failure_count out.new ≡ W.failure_count out.old) }
-    ensures err_failures { OnErr result
-        (HasFailed (W.failure_count out.old) (W.failure_count out.new)) }
+    ensures failures { Counts result (W.failure_count out.old) (W.failure_count out.new) }
 {
     let width = width_of(&explained.listing);
     for slot in 0..explained.listing.slots() {

@@ -14,7 +14,7 @@ use scx_sched::{Event, NewError, Policy, Sim, Sink};
 use scx_weights::Tree;
 use std::alloc::Global;
 
-/// Makes the machine of a policy, with these groups and tasks and so many processors, and gives it the
+/// Makes the machine of a policy, with these groups and tasks and `cpus` processors, and gives it the
 /// events, one after another. One that it refuses changes nothing, and the next one follows.
 ///
 /// A `Policy` has programs that `verify` accepted for its callbacks and its maps, and a limit of 1 to 30000

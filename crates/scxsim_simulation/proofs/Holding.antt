@@ -1,18 +1,22 @@
 -- The headline holds of a run through the events that its machine took.
-use Rattle.std.proofs.Common.{◌≡◌, ℕ, List, [], ◌∷◌, ◌++◌, Option, Result, Ok, Err, OnErr, sym, subst, ap, ◌∙◌}
+use Rattle.std.proofs.Common.{◌≡◌, ℕ, List, [], ◌∷◌, ◌++◌, Option, None, Result, Ok, Err, OnErr, sym, subst, ap, ◌∙◌}
+use Rattle.std.specs.List.{AllByRecursion}
 use Rattle.scx_weights.specs.Hierarchy.{idle}
 use Rattle.scx_sched_machine.specs.declared.events.Event.{Event}
 use Rattle.scx_sched_machine.specs.Callbacks.{AreAnswered}
 use Rattle.scx_sched_machine.specs.Policy.{PolicyState, IsTimeout}
 use Rattle.scx_sched_machine.proofs.Taking.{answered_append}
 use Rattle.scx_sched.specs.Sim.{SimState, after_event, calls_of}
+use Rattle.scx_sched.specs.Once.{IsOnce}
+use Rattle.scx_sched.specs.Waits.{IsTimely, HasWaits}
+use Rattle.scx_sched.specs.Usages.{AreBounded}
 use Rattle.scx_sched.proofs.First.{policy_started}
 use Rattle.scx_load_workloads.specs.Workload.{WorkloadState, IsWorkload}
 use Rattle.scxsim_headline.specs.Headline.{states_from, calls_of_all, NoneIsLate, EachFollows}
-use Rattle.scxsim_headline.proofs.Going.{AreOnce, AreCounted, AreTimely, AreAllBounded, follows_before}
+use Rattle.scxsim_headline.proofs.Going.{follows_before}
 use Rattle.scxsim_headline.proofs.Whole.{run_notes, run_last, run_never_stuck, run_once, run_counted, run_timely, run_bounded, run_follows}
 use Rattle.scxsim_trace.specs.Lines.{NameLists, names_of}
-use Rattle.scxsim_trace.specs.Runs.{StaysInOrder, StopsAtFailure}
+use Rattle.scxsim_trace.specs.Runs.{IsInOrder, StaysInOrder, StopsAtFailure}
 use Rattle.scxsim_simulation.specs.Runs.{IsBegun, run_of, IsOfHeadline, IsCutOff}
 use Rattle.scxsim_simulation.proofs.Belonging.{is_that_machine}
 use Rattle.scxsim_simulation.proofs.Shapes.{shape_is_right}
@@ -22,21 +26,10 @@ all_answered s [] h = tt
 all_answered s (e ∷ es) (now, well, more) =
     answered_append (calls_of s e) (calls_of_all (after_event s e) es) well.0 (all_answered (after_event s e) es more)
 
-all_once : (s : SimState) (events : List Event) → StaysInOrder s events → AreOnce (states_from s events)
-all_once s [] h = (h.once, tt)
-all_once s (e ∷ es) (now, well, more) = (now.once, all_once (after_event s e) es more)
-
-all_counted : (s : SimState) (events : List Event) → StaysInOrder s events → AreCounted (states_from s events)
-all_counted s [] h = (h.counted, tt)
-all_counted s (e ∷ es) (now, well, more) = (now.counted, all_counted (after_event s e) es more)
-
-all_timely : (s : SimState) (events : List Event) → StaysInOrder s events → AreTimely (states_from s events)
-all_timely s [] h = (h.timely, tt)
-all_timely s (e ∷ es) (now, well, more) = (now.timely, all_timely (after_event s e) es more)
-
-all_bounded : (s : SimState) (events : List Event) → StaysInOrder s events → AreAllBounded (states_from s events)
-all_bounded s [] h = (h.bounded, tt)
-all_bounded s (e ∷ es) (now, well, more) = (now.bounded, all_bounded (after_event s e) es more)
+-- what states in order have, each state has of a run that stays in order
+each_has : (P : SimState → Type 0) → ((s : SimState) → IsInOrder s → P s) → (s : SimState) (events : List Event) → StaysInOrder s events → AllByRecursion P (states_from s events)
+each_has P has s [] h = (has s h, tt)
+each_has P has s (e ∷ es) (now, well, more) = (has s now, each_has P has (after_event s e) es more)
 
 all_follow : (s : SimState) (events : List Event) → StaysInOrder s events → EachFollows events (states_from s events)
 all_follow s [] h = tt
@@ -56,10 +49,10 @@ headline_holds {policy} {w} {s} x events whole limit_is h =
       notes = sym (run_notes x.machine tree w.cpus events s x.first);
       last = run_last x.machine tree w.cpus events s x.first;
       never_stuck = run_never_stuck x.machine tree w.cpus events s x.first x.answered (all_answered s events h);
-      once = run_once x.machine tree w.cpus events s x.first (all_once s events h);
-      counted = run_counted x.machine tree w.cpus events s x.first (all_counted s events h);
-      timely = subst limit x.built.timeout (run_timely x.machine tree w.cpus events s x.first (all_follow s events h) (all_timely s events h));
-      bounded = run_bounded x.machine tree w.cpus events s x.first (all_bounded s events h);
+      once = run_once x.machine tree w.cpus events s x.first (each_has (λ t. IsOnce None t.state.world) (λ t now. now.once) s events h);
+      counted = run_counted x.machine tree w.cpus events s x.first (each_has (λ t. HasWaits None t.state.world) (λ t now. now.counted) s events h);
+      timely = subst limit x.built.timeout (run_timely x.machine tree w.cpus events s x.first (all_follow s events h) (each_has (λ t. IsTimely t.state) (λ t now. now.timely) s events h));
+      bounded = run_bounded x.machine tree w.cpus events s x.first (each_has (λ t. AreBounded t.state.world) (λ t now. now.bounded) s events h);
       follows = run_follows x.machine tree w.cpus events s x.first (all_follow s events h);
       shape = shape_is_right w whole;
       limit = subst IsTimeout (limit_of_text x) limit_is;

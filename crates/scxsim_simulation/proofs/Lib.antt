@@ -4,3 +4,4 @@ mod Passing
 mod Belonging
 mod Holding
 mod Causing
+pub mod PartCauses

@@ -1,12 +1,12 @@
--- How an error of another call is passed on: each as the refusal that it stands for, so that a
--- fault that was found is never told as want of memory.
+-- Errors of other calls, passed on: each as its own refusal, so that a fault that was found is
+-- never told as out of memory.
 use Rattle.std.specs.Prelude.{◌≡◌, Result, Ok, Err}
 use Rattle.scx_sched_machine.specs.declared.start.NewError.{NewError}
 use Rattle.scx_sched_machine.specs.declared.start.NewError.TheVariants.{InitFailed, BadShape, OutOfMemory}
 use Rattle.scxsim_commands.specs.declared.refusal.Refusal.{Refusal}
 use Rattle.scxsim_commands.specs.declared.refusal.Refusal.TheVariants.{NoMemory, Init}
 
--- what was made, or what its error stands for
+-- the value that was made, or the refusal of its error
 abbrev pub or_refusal : {A E : Type 0} → (E → Refusal) → Result A E → Result A Refusal
 or_refusal refusal_of (Ok made) = Ok made
 or_refusal refusal_of (Err e) = Err (refusal_of e)

@@ -20,7 +20,7 @@ use Rattle.scxsim_commands.specs.declared.refusal.Refusal.{Refusal}
 use Rattle.scxsim_commands.specs.declared.refusal.Refusal.TheVariants.{NoMemory, Policy, Events, Callback, Init}
 use Rattle.scxsim_simulation.specs.Runs.{IsBegun, IsPolicyFault}
 
--- the texts stand for the run of that file of events from that first state on; none of its events
+-- the texts give the run of that file of events from that first state on; none of its events
 -- is refused
 pub record IsReplayRun (policy events : List ℕ) (r : ReplayState) (s : SimState) : Type 0 where
   pub begun : IsBegun policy r.workload s

@@ -28,7 +28,7 @@ use Rattle.scxsim_commands.specs.declared.refusal.Refusal.{Refusal}
 use Rattle.scxsim_commands.specs.declared.refusal.Refusal.TheVariants.{NoMemory, Policy, Workload, Callback, Init}
 use Rattle.scxsim_simulation.specs.Machines.{IsMachineOf}
 
--- the policy that the text stands for begins with that state, on these processors and with these
+-- the policy of the text begins with that state, on these processors and with these
 -- groups and tasks; no callback got stuck before the first event
 pub record IsBegun (policy : List ℕ) (w : WorkloadState) (s : SimState) : Type 0 where
   pub file : PolicyFile
@@ -38,7 +38,7 @@ pub record IsBegun (policy : List ℕ) (w : WorkloadState) (s : SimState) : Type
   pub first : IsFirstState machine (idle w.groups w.homes) w.cpus s
   pub answered : AreAnswered (start_calls machine (idle w.groups w.homes) w.cpus)
 
--- the texts stand for the run of that workload from that first state on; none of its events is
+-- the texts give the run of that workload from that first state on; none of its events is
 -- refused
 pub record IsRun (policy workload : List ℕ) (w : WorkloadState) (s : SimState) : Type 0 where
   pub begun : IsBegun policy w s
@@ -94,7 +94,7 @@ pub record IsOfHeadline {policy : List ℕ} {w : WorkloadState} {s : SimState}
   pub machine : AllByRecursion (IsMachineOf x.file w) (run_of x events).states
 
 -- The machine took these events up to the first one of which a line wasn't written whole, and
--- none behind it.
+-- none after it.
 pub record IsCutOff {policy : List ℕ} {w : WorkloadState} {s : SimState} (x : IsBegun policy w s)
     (events : List Event) (old new : Option (List ℕ)) : Type 0 where
   pub done : List Event

@@ -1,16 +1,18 @@
-//! Runs of policies: `simulate` writes the trace of the run that a policy file and a workload file stand
-//! for, and `report` what came of it. Nothing is kept of a run but its state, and all memory is taken
-//! before the first write. A listener is told how far the run is.
+//! Runs of policies: `simulate` and `replay` write the trace of a run, of a workload or of a file of events, and
+//! `report` its outcome. No more of a run is kept than its state, and all memory is taken before the first write. A
+//! listener is told the run's progress.
 #![tactic(auto)]
 
-mod hearing;
+mod listener;
+mod parts;
 mod preparing;
 mod replaying;
 mod reporting;
 mod simulating;
 
-pub use hearing::{Heard, Listener, Nobody};
+pub use listener::{Heard, Listener, Nobody};
+pub use parts::{RunPart, prepare_part};
 pub use preparing::{Run, give_back, prepare};
-pub use replaying::{ReplayRun, prepare_replay, replay};
+pub use replaying::{prepare_replay, replay};
 pub use reporting::report;
 pub use simulating::simulate;

@@ -10,38 +10,56 @@ ghost use Rattle.scx_load_driver.specs.Driver.{remaining};
 ghost use Rattle.scx_load_driver.specs.Events.{workload_events};
 ghost use Rattle.scx_load_driver.specs.Runs.{AreAccepted};
 ghost use Rattle.scxsim_commands.specs.declared.refusal.Refusal.TheVariants.{NoMemory};
-ghost use Rattle.scxsim_commands.specs.Refusals.{policy_refusal, workload_refusal};
+ghost use Rattle.scxsim_commands.specs.Refusals.{file_refusal};
 ghost use Rattle.scxsim_simulation.specs.Runs.{IsRun, name_in, IsCause, IsPolicyFault, IsWorkloadFault, IsStartFault};
 ghost use Rattle.scxsim_simulation.specs.Refusals.{or_refusal, IsStartRefusal};
 
-use crate::hearing::{Heard, Listener};
+use crate::listener::{Heard, Listener};
 use scx_load_driver::Driver;
 use scx_load_files::LoadError;
 use scx_load_policies::{PolicyText, build, read_policy};
 use scx_load_workloads::{Workload, read_workload};
 use scx_sched::{NewError, Policy, Sim};
 use scx_weights::{Tree, TreeError};
-use scxsim_commands::Refusal;
+use scxsim_commands::{FileKind, Refusal};
 use scxsim_trace::Events;
 use std::alloc::{AllocError, Global};
 
-/// A run that is about to begin.
+/// A run that is about to begin, of a workload or of a file of events.
 #[derive(Drop)]
-pub struct Run {
+pub struct Run<E = Driver> {
     /// The policy's name, empty where its file gives none.
     pub policy_name: String,
     pub workload: Workload,
-    pub driver: Driver,
+    /// The source of its events.
+    pub driver: E,
     pub sim: Sim,
 }
 
-/// Gives back the memory of a machine, and of the events that it was run through.
+impl Run<Driver> {
+    /// The machine once more, with a driver of its own: for a caller who goes through the run twice.
+    ///
+    /// # Errors
+    ///
+    /// Memory ran out.
+    pub fn duplicate(&self, alloc: Global) -> Result<(Driver, Sim), AllocError>
+        ensures machine { IfOk result (λ copy. copy.1 ≡ self.now.sim) }
+        ensures events { IfOk result
+            (λ copy. remaining copy.0 copy.1 ≡ workload_events self.now.workload copy.1) }
+    {
+        let driver = Driver::new(alloc, &self.workload)?;
+        let sim = self.sim.duplicate(alloc)?;
+        Ok((driver, sim))
+    }
+}
+
+/// Gives back the memory of a machine and of its events.
 pub fn give_back<E: Events + Drop, L: Listener>(events: Heard<'_, E, L>, sim: Sim) {
     drop(events);
     drop(sim);
 }
 
-/// The run that the texts of a policy file and of a workload file stand for.
+/// The run of a policy file's text and a workload file's.
 ///
 /// # Errors
 ///
@@ -77,7 +95,7 @@ fn begin(alloc: Global, name: String, policy: Policy, workload: Workload) -> Res
 {
     workload.is_whole();
     match Driver::new(alloc, &workload) {
-        Ok(driver) => begin_at(alloc, name, policy, workload, driver),
+        Ok(driver) => begin_with(alloc, name, policy, workload, driver),
         Err(AllocError) => {
             drop(name);
             drop(policy);
@@ -87,14 +105,14 @@ fn begin(alloc: Global, name: String, policy: Policy, workload: Workload) -> Res
     }
 }
 
-/// The run of a workload under a policy, whose events are at hand.
-fn begin_at(
+/// The run of a workload under a policy, with the source of its events.
+pub(crate) fn begin_with<E: Drop>(
     alloc: Global,
     name: String,
     policy: Policy,
     workload: Workload,
-    driver: Driver,
-) -> Result<Run, Refusal>
+    driver: E,
+) -> Result<Run<E>, Refusal>
     ensures name { IfOk result (λ run. run.policy_name ≡ name) }
     ensures workload { IfOk result (λ run. run.workload ≡ workload) }
     ensures driver { IfOk result (λ run. run.driver ≡ driver) }
@@ -123,7 +141,7 @@ fn begin_at(
 
 /// The machine of a workload under a policy, before the first event.
 #[tactic(auto, using(crate::proofs::Shapes::shape_is_right))]
-pub(crate) fn start(alloc: Global, policy: Policy, workload: &Workload) -> Result<Sim, Refusal>
+fn start(alloc: Global, policy: Policy, workload: &Workload) -> Result<Sim, Refusal>
     ensures first { IfOk result
         (IsFirstState policy (idle workload.now.groups workload.now.homes) workload.now.cpus) }
     ensures answered { OnOk result (AreAnswered
@@ -145,33 +163,23 @@ pub(crate) fn policy_in(alloc: Global, text: &str) -> Result<PolicyText, Refusal
     ensures read { IfOk result (λ policy. policy_text text.now ≡ Ok policy) }
     ensures refused { IfErr result (IsPolicyFault text.now) }
 {
-    policy_or_refusal(read_policy(alloc, text))
-}
-
-/// A policy file that was read, or what it is refused for: its fault where one was found.
-fn policy_or_refusal(read: Result<PolicyText, LoadError>) -> Result<PolicyText, Refusal>
-    ensures { result ≡ or_refusal policy_refusal read }
-{
-    match read {
-        Ok(policy) => Ok(policy),
-        Err(error) => Err(Refusal::of_policy(error)),
-    }
+    or_refusal(FileKind::Policy, read_policy(alloc, text))
 }
 
 fn workload_in(alloc: Global, text: &str) -> Result<Workload, Refusal>
     ensures read { IfOk result (λ workload. workload_of text.now ≡ Ok workload) }
     ensures refused { IfErr result (IsWorkloadFault text.now) }
 {
-    workload_or_refusal(read_workload(alloc, text))
+    or_refusal(FileKind::Workload, read_workload(alloc, text))
 }
 
-/// A workload file that was read, or what it is refused for: its fault where one was found.
-fn workload_or_refusal(read: Result<Workload, LoadError>) -> Result<Workload, Refusal>
-    ensures { result ≡ or_refusal workload_refusal read }
+/// What was read of a file of that kind, or its refusal: its fault where one was found.
+pub(crate) fn or_refusal<T>(kind: FileKind, read: Result<T, LoadError>) -> Result<T, Refusal>
+    ensures { result ≡ or_refusal (file_refusal kind) read }
 {
     match read {
-        Ok(workload) => Ok(workload),
-        Err(error) => Err(Refusal::of_workload(error)),
+        Ok(made) => Ok(made),
+        Err(error) => Err(Refusal::of_file(kind, error)),
     }
 }
 
@@ -201,7 +209,7 @@ fn machine(alloc: Global, policy: Policy, tree: Tree, cpus: u32) -> Result<Sim, 
     }
 }
 
-/// What a machine whose shape is right is refused for: what init answered where it failed.
+/// The refusal of a machine whose shape is right: the answer of init where it failed.
 fn start_refusal(error: NewError) -> Refusal
     requires { error ≢ BadShape }
     ensures { IsStartRefusal error result }

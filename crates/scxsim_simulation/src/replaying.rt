@@ -11,35 +11,20 @@ ghost use Rattle.scx_load_replay.specs.Replay.{ReplayState};
 ghost use Rattle.scx_load_replay.specs.Replayer.{remaining};
 ghost use Rattle.scxsim_output.specs.Output.{HasFailed, AppendsBeginning};
 ghost use Rattle.scxsim_commands.specs.Outcome.{IfRefused, IsRefused};
-ghost use Rattle.scxsim_commands.specs.Refusals.{events_refusal};
-ghost use Rattle.scxsim_simulation.specs.Refusals.{or_refusal};
 ghost use Rattle.scxsim_simulation.specs.Runs.{name_in, IsOfHeadline, IsCutOff, IsStartFault};
 ghost use Rattle.scxsim_simulation.specs.Replays.{IsReplayRun, IsReplayCause, IsEventsFault, replay_text};
 
-use crate::hearing::Listener;
-use crate::preparing::{policy_in, start};
-use crate::simulating::write_events;
-use scx_load_files::LoadError;
+use crate::listener::Listener;
+use crate::preparing::{Run, begin_with, or_refusal, policy_in};
+use crate::simulating::write_trace;
 use scx_load_policies::build;
 use scx_load_replay::{Replay, Replayer, read_replay};
-use scx_load_workloads::Workload;
-use scx_sched::{Policy, Sim};
-use scxsim_commands::{Fault, Refusal};
+use scx_sched::Policy;
+use scxsim_commands::{Fault, FileKind, Refusal};
 use scxsim_output::Out;
 use std::alloc::Global;
 
-/// A run of a file of events that is about to begin.
-#[derive(Drop)]
-pub struct ReplayRun {
-    /// The policy's name, empty where its file gives none.
-    pub policy_name: String,
-    pub workload: Workload,
-    pub replayer: Replayer,
-    pub sim: Sim,
-}
-
-/// Writes the trace of the run that the texts of a policy file and of a file of events stand for. The
-/// answer is true.
+/// Writes the trace of the run of a policy file's text and a file of events. The answer is true.
 ///
 /// # Errors
 ///
@@ -73,25 +58,19 @@ pub fn replay<L: Listener, W: Out>(
     let run = prepare_replay(alloc, policy, events)?;
     run.workload.is_whole();
     run.sim.is_sound();
-    let ReplayRun {
-        workload,
-        replayer,
-        sim,
-        ..
-    } = run;
-    write_events(workload, replayer, sim, listener, out)?;
+    write_trace(run, listener, out)?;
     Ok(true)
 }
 
-/// The run that the texts of a policy file and of a file of events stand for.
+/// The run of a policy file's text and a file of events.
 ///
 /// # Errors
 ///
 /// The texts are refused.
-pub fn prepare_replay(alloc: Global, policy: &str, events: &str) -> Result<ReplayRun, Refusal>
+pub fn prepare_replay(alloc: Global, policy: &str, events: &str) -> Result<Run<Replayer>, Refusal>
     ensures run { IfOk result (λ run. (r : ReplayState)
         × IsReplayRun policy.now events.now r run.sim
-        × (run.workload ≡ r.workload) × (remaining run.replayer ≡ replay_events r)) }
+        × (run.workload ≡ r.workload) × (remaining run.driver ≡ replay_events r)) }
     ensures named { IfOk result (λ run. name_in policy.now ≡ Ok (string_bytes run.policy_name)) }
     ensures refused { IfErr result (IsReplayCause policy.now events.now) }
 {
@@ -106,17 +85,7 @@ fn events_in(alloc: Global, text: &str) -> Result<Replay, Refusal>
     ensures read { IfOk result (λ replay. replay_of text.now ≡ Ok replay) }
     ensures refused { IfErr result (IsEventsFault text.now) }
 {
-    events_or_refusal(read_replay(alloc, text))
-}
-
-/// A file of events that was read, or what it is refused for: its fault where one was found.
-fn events_or_refusal(read: Result<Replay, LoadError>) -> Result<Replay, Refusal>
-    ensures { result ≡ or_refusal events_refusal read }
-{
-    match read {
-        Ok(replay) => Ok(replay),
-        Err(error) => Err(Refusal::of_events(error)),
-    }
+    or_refusal(FileKind::Events, read_replay(alloc, text))
 }
 
 /// The run of a file of events under a policy.
@@ -126,10 +95,10 @@ fn begin_replay(
     name: String,
     policy: Policy,
     replay: Replay,
-) -> Result<ReplayRun, Refusal>
+) -> Result<Run<Replayer>, Refusal>
     ensures name { IfOk result (λ run. run.policy_name ≡ name) }
     ensures workload { IfOk result (λ run. run.workload ≡ replay.workload) }
-    ensures events { IfOk result (λ run. remaining run.replayer ≡ replay_events replay) }
+    ensures events { IfOk result (λ run. remaining run.driver ≡ replay_events replay) }
     ensures first { IfOk result
         (λ run. IsFirstState policy (idle replay.workload.groups replay.workload.homes)
         replay.workload.cpus run.sim) }
@@ -143,18 +112,5 @@ fn begin_replay(
 {
     replay.is_whole();
     let (workload, replayer) = replay.into_parts();
-    match start(alloc, policy, &workload) {
-        Ok(sim) => Ok(ReplayRun {
-            policy_name: name,
-            workload,
-            replayer,
-            sim,
-        }),
-        Err(refusal) => {
-            drop(name);
-            drop(workload);
-            drop(replayer);
-            Err(refusal)
-        }
-    }
+    begin_with(alloc, name, policy, workload, replayer)
 }

@@ -4,20 +4,20 @@ ghost use Rattle.scx_sched.specs.Sim.{SimState};
 ghost use Rattle.scx_load_workloads.specs.Workload.{WorkloadState};
 ghost use Rattle.scx_load_driver.specs.Driver.{remaining};
 ghost use Rattle.scx_load_driver.specs.Events.{workload_events};
-ghost use Rattle.scxsim_output.specs.Output.{HasFailed, AppendsBeginning};
+ghost use Rattle.scxsim_output.specs.Output.{Counts, HasFailed, AppendsBeginning};
 ghost use Rattle.scxsim_commands.specs.Outcome.{IfRefused, IsRefused};
 ghost use Rattle.scxsim_trace.specs.Runs.{StaysInOrder};
 ghost use Rattle.scxsim_simulation.specs.Runs.{IsRun, IsCause, IsOfHeadline, report_text};
 
-use crate::hearing::{Heard, Listener};
+use crate::listener::{Heard, Listener};
 use crate::preparing::{Run, give_back, prepare};
 use scxsim_commands::Fault;
 use scxsim_output::{Failed, Out};
 use scxsim_trace::{run_silently, write_report};
 use std::alloc::Global;
 
-/// Writes how long each task ran in the run that the texts of a policy file and of a workload file stand
-/// for, and whether the policy is in force at its end. The answer is true.
+/// Writes how long each task ran in the run of a policy file's text and a workload file's, and whether the
+/// policy is in force at its end. The answer is true.
 ///
 /// # Errors
 ///
@@ -60,12 +60,10 @@ fn write_end<L: Listener, W: Out>(run: Run, listener: &mut L, out: &mut W) -> Re
     requires { remaining run.driver run.sim ≡ workload_events run.workload run.sim }
     ensures ok { OnOk result
         (Appends (W.contents out.old) (W.contents out.new) (report_text run.workload run.sim)) }
-    ensures ok_failures { OnOk result (W.failure_count out.new ≡ W.failure_count out.old) }
     ensures err { OnErr result
         (AppendsBeginning (W.contents out.old) (W.contents out.new)
         (report_text run.workload run.sim)) }
-    ensures err_failures { OnErr result
-        (HasFailed (W.failure_count out.old) (W.failure_count out.new)) }
+    ensures failures { Counts result (W.failure_count out.old) (W.failure_count out.new) }
     ensures in_order { StaysInOrder run.sim (workload_events run.workload run.sim) }
 {
     let Run {

@@ -2,26 +2,22 @@ ghost use Rattle.std.specs.Prelude.{◌≡◌, true, Err, IfOk, OnOk, OnErr};
 ghost use Rattle.std.specs.Io.KnownBytes.{Appends};
 ghost use Rattle.scx_sched.specs.Sim.{SimState};
 ghost use Rattle.scx_load_workloads.specs.Workload.{WorkloadState};
-ghost use Rattle.scx_load_driver.specs.Driver.{remaining};
 ghost use Rattle.scx_load_driver.specs.Events.{workload_events};
 ghost use Rattle.scx_load_driver.specs.Runs.{notes_of_all};
-ghost use Rattle.scxsim_output.specs.Output.{HasFailed, AppendsBeginning};
+ghost use Rattle.scxsim_output.specs.Output.{Counts, HasFailed, AppendsBeginning};
 ghost use Rattle.scxsim_commands.specs.Outcome.{IfRefused, IsRefused};
 ghost use Rattle.scxsim_trace.specs.Lines.{names_of, note_lines};
 ghost use Rattle.scxsim_trace.specs.Runs.{StaysInOrder, StopsAtFailure};
 ghost use Rattle.scxsim_simulation.specs.Runs.{IsRun, IsCause, IsOfHeadline, IsCutOff, trace_text};
 
-use crate::hearing::{Heard, Listener};
+use crate::listener::{Heard, Listener};
 use crate::preparing::{Run, give_back, prepare};
-use scx_load_workloads::Workload;
-use scx_sched::Sim;
 use scxsim_commands::Fault;
 use scxsim_output::{Failed, Out};
 use scxsim_trace::{Events, write_run};
 use std::alloc::Global;
 
-/// Writes the trace of the run that the texts of a policy file and of a workload file stand for. The
-/// answer is true.
+/// Writes the trace of the run of a policy file's text and a workload file's. The answer is true.
 ///
 /// # Errors
 ///
@@ -60,52 +56,30 @@ pub fn simulate<L: Listener, W: Out>(
 }
 
 /// Writes a line for each note of the run.
-fn write_trace<L: Listener, W: Out>(run: Run, listener: &mut L, out: &mut W) -> Result<(), Failed>
-    requires { remaining run.driver run.sim ≡ workload_events run.workload run.sim }
-    ensures ok { OnOk result
-        (Appends (W.contents out.old) (W.contents out.new) (trace_text run.workload run.sim)) }
-    ensures ok_failures { OnOk result (W.failure_count out.new ≡ W.failure_count out.old) }
-    ensures ok_in_order { OnOk result
-        (StaysInOrder run.sim (workload_events run.workload run.sim)) }
-    ensures err { OnErr result
-        (AppendsBeginning (W.contents out.old) (W.contents out.new)
-        (trace_text run.workload run.sim)) }
-    ensures err_failures { OnErr result
-        (HasFailed (W.failure_count out.old) (W.failure_count out.new)) }
-    ensures err_stopped { OnErr result ((end : SimState) ×
-        StopsAtFailure (names_of run.workload) (workload_events run.workload run.sim) run.sim end
-        (W.contents out.old) (W.contents out.new)) }
-{
-    let Run {
-        workload,
-        driver,
-        sim,
-        ..
-    } = run;
-    write_events(workload, driver, sim, listener, out)
-}
-
-/// Writes a line for each note of these events.
-pub(crate) fn write_events<E: Events + Drop, L: Listener, W: Out>(
-    workload: Workload,
-    source: E,
-    mut sim: Sim,
+pub(crate) fn write_trace<E: Events + Drop, L: Listener, W: Out>(
+    run: Run<E>,
     listener: &mut L,
     out: &mut W,
 ) -> Result<(), Failed>
     ensures ok { OnOk result (Appends (W.contents out.old) (W.contents out.new)
-        (note_lines (names_of workload) (notes_of_all sim (E.remaining source sim)))) }
-    ensures ok_failures { OnOk result (W.failure_count out.new ≡ W.failure_count out.old) }
-    ensures ok_in_order { OnOk result (StaysInOrder sim (E.remaining source sim)) }
+        (note_lines (names_of run.workload)
+        (notes_of_all run.sim (E.remaining run.driver run.sim)))) }
+    ensures ok_in_order { OnOk result (StaysInOrder run.sim (E.remaining run.driver run.sim)) }
     ensures err { OnErr result (AppendsBeginning (W.contents out.old) (W.contents out.new)
-        (note_lines (names_of workload) (notes_of_all sim (E.remaining source sim)))) }
-    ensures err_failures { OnErr result
-        (HasFailed (W.failure_count out.old) (W.failure_count out.new)) }
+        (note_lines (names_of run.workload)
+        (notes_of_all run.sim (E.remaining run.driver run.sim)))) }
     ensures err_stopped { OnErr result ((end : SimState) ×
-        StopsAtFailure (names_of workload) (E.remaining source sim) sim end (W.contents out.old)
-        (W.contents out.new)) }
+        StopsAtFailure (names_of run.workload) (E.remaining run.driver run.sim) run.sim end
+        (W.contents out.old) (W.contents out.new)) }
+    ensures failures { Counts result (W.failure_count out.old) (W.failure_count out.new) }
 {
-    let mut events = Heard::new(source, workload.ms(), listener);
+    let Run {
+        workload,
+        driver,
+        mut sim,
+        ..
+    } = run;
+    let mut events = Heard::new(driver, workload.ms(), listener);
     let written = write_run(&mut sim, &mut events, &workload, out);
     give_back(events, sim);
     drop(workload);

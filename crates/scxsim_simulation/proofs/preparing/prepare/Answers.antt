@@ -1,4 +1,5 @@
 use Rattle.std.proofs.lemmas.Result.{err_from_is_err_and}
+use Rattle.scx_load_driver.specs.Driver.{DriverState}
 use Rattle.scxsim_simulation.specs.declared.preparing.Run.{Run}
 use Rattle.scxsim_simulation.proofs.Causing.{workload_cause}
 use Rattle.scxsim_simulation.proofs.Running.{run_is}
@@ -6,7 +7,7 @@ use Rattle.scxsim_simulation.proofs.preparing.prepare.Goals as goal
 
 pub returns-clause-run : goal.returns-clause-run
 returns-clause-run c =
-    run_is c.args.policy.now c.args.workload.now _ _ _ (λ (run : Run). run.workload) (λ (run : Run). run.sim) c.begin.result c.in_ok-text.ensures.read c.in_ok-workload.ensures.read c.in_ok-policy.ensures.built c.begin.ensures.workload c.begin.ensures.first c.begin.ensures.accepted c.begin.ensures.answered
+    run_is c.args.policy.now c.args.workload.now _ _ _ (λ (run : Run DriverState). run.workload) (λ (run : Run DriverState). run.sim) c.begin.result c.in_ok-text.ensures.read c.in_ok-workload.ensures.read c.in_ok-policy.ensures.built c.begin.ensures.workload c.begin.ensures.first c.begin.ensures.accepted c.begin.ensures.answered
 
 pub returns-in_err-workload-clause-refused : goal.returns-in_err-workload-clause-refused
 returns-in_err-workload-clause-refused c =

@@ -1,13 +1,13 @@
 use Rattle.std.proofs.lemmas.Result.{err_from_is_err_and}
-use Rattle.scx_load_replay.specs.Replayer.{remaining}
-use Rattle.scxsim_simulation.specs.declared.replaying.ReplayRun.{ReplayRun}
+use Rattle.scx_load_replay.specs.Replayer.{ReplayerState, remaining}
+use Rattle.scxsim_simulation.specs.declared.preparing.Run.{Run}
 use Rattle.scxsim_simulation.proofs.Causing.{events_cause}
 use Rattle.scxsim_simulation.proofs.Running.{replay_is}
 use Rattle.scxsim_simulation.proofs.replaying.prepare_replay.Goals as goal
 
 pub returns-clause-run : goal.returns-clause-run
 returns-clause-run c =
-    replay_is c.args.policy.now c.args.events.now _ _ _ (λ (run : ReplayRun). run.workload) (λ (run : ReplayRun). run.sim) (λ (run : ReplayRun). remaining run.replayer) c.begin_replay.result c.in_ok-text.ensures.read c.in_ok-replay.ensures.read c.in_ok-policy.ensures.built
+    replay_is c.args.policy.now c.args.events.now _ _ _ (λ (run : Run ReplayerState). run.workload) (λ (run : Run ReplayerState). run.sim) (λ (run : Run ReplayerState). remaining run.driver) c.begin_replay.result c.in_ok-text.ensures.read c.in_ok-replay.ensures.read c.in_ok-policy.ensures.built
     c.begin_replay.ensures.workload c.begin_replay.ensures.events c.begin_replay.ensures.first c.begin_replay.ensures.accepted c.begin_replay.ensures.answered
 
 pub returns-in_err-replay-clause-refused : goal.returns-in_err-replay-clause-refused

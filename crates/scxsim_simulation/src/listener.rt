@@ -3,9 +3,9 @@ ghost use Rattle.std.specs.Prelude.{◌≡◌};
 use scx_sched::{Eject, Event, Sim};
 use scxsim_trace::Events;
 
-/// Is told how far a run is.
+/// A listener is told the progress of a run.
 pub trait Listener {
-    /// So many of all milliseconds are over. Whatever is made of it, the run is the same.
+    /// `over` of all milliseconds are over. Whatever is made of it, the run is the same.
     fn hear(&mut self, over: u64, total: u32);
 
     /// The run is over, and that is why and when the policy was ejected, if it was.
@@ -20,11 +20,11 @@ impl Listener for Nobody {
     fn hear(&mut self, _over: u64, _total: u32) {}
 }
 
-/// The events of a run, of which each millisecond that is over is told to a listener.
+/// The events of a run. A listener is told each millisecond that is over.
 #[derive(Drop)]
 pub struct Heard<'a, E, L> {
     events: E,
-    /// How many milliseconds the run has.
+    /// The milliseconds of the run.
     total: u32,
     listener: &'a mut L,
 }

@@ -1,7 +1,7 @@
 ghost use Rattle.std.specs.Prelude.{◌≡◌, ℕ, ◌<◌, ◌^◌, IfOk, IfErr, IfSome, IfNone};
-ghost use Rattle.scxsim_windows.specs.Windows.{Says, IsPart, IsWindow, IsSpanRefusal, IsBadSpan};
+ghost use Rattle.scxsim_commands.specs.Windows.{Says, IsPart, IsWindow, IsSpanRefusal, IsBadSpan};
 
-use scxsim_commands::{Refusal, Word};
+use crate::{Refusal, Word};
 
 /// The words that name a part of a run: the millisecond with which it begins, and the one with which it ends.
 #[derive(Clone, Copy)]
@@ -18,12 +18,12 @@ pub struct Window {
 }
 
 impl Window {
-    /// The whole of a run of so many milliseconds, or the part that words name.
+    /// The whole of a run of `ms` milliseconds, or the part that words name.
     ///
     /// # Errors
     ///
     /// `FROM` is no number, or doesn't come before `TO` and the end of the run. `TO` is no number, or comes
-    /// behind the end of the run.
+    /// after the end of the run.
     pub fn of(span: Option<Span<'_>>, ms: u32) -> Result<Window, Refusal>
         ensures window { IfOk result (IsWindow ms span.entry) }
         ensures refused { IfErr result (IsBadSpan ms span.entry) }
@@ -38,7 +38,7 @@ impl Window {
     }
 }
 
-/// The part of a run of so many milliseconds that words name.
+/// The part of a run of `ms` milliseconds that words name.
 #[tactic(auto, using(crate::proofs::Parting::unsaid_from, crate::proofs::Parting::unsaid_to, crate::proofs::Parting::behind, crate::proofs::Parting::late, crate::proofs::Parting::outside))]
 fn part_of(span: Span<'_>, ms: u32) -> Result<Window, Refusal>
     ensures part { IfOk result (λ window. IsPart ms span.entry window.from window.to) }

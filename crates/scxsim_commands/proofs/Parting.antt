@@ -1,7 +1,7 @@
 -- Words that name no part of a run.
 use Rattle.std.proofs.Common.{arith, ◌≡◌, ℕ, ◌<◌, ◌≤◌, ◌^◌, sym, ◌∙◌}
-use Rattle.scxsim_windows.specs.declared.windows.Span.{Span}
-use Rattle.scxsim_windows.specs.Windows.{Says, IsPart}
+use Rattle.scxsim_commands.specs.declared.windows.Span.{Span}
+use Rattle.scxsim_commands.specs.Windows.{Says, IsPart}
 
 -- the first word says no moment
 pub unsaid_from : (ms : ℕ) (span : Span) → ms < 2 ^ 32 → ((m : ℕ) → m < 2 ^ 32 → ¬ Says span.from.now m) → (from to : ℕ) → ¬ IsPart ms span from to

@@ -1,8 +1,8 @@
--- Which part of a run two words name, and why they are refused.
+-- The part of a run that two words name, and why they are refused.
 use Rattle.std.specs.Prelude.{◌≡◌, ℕ, ◌<◌, ◌≤◌, max, List, Option, Some, None, Ok, ◌⊎◌}
 use Rattle.std.specs.Str.Parse.{IsNumeral, digits_value, without_leading_plus}
-use Rattle.scxsim_windows.specs.declared.windows.Span.{Span}
-use Rattle.scxsim_windows.specs.declared.windows.Window.{Window}
+use Rattle.scxsim_commands.specs.declared.windows.Span.{Span}
+use Rattle.scxsim_commands.specs.declared.windows.Window.{Window}
 use Rattle.scx_load_workloads.specs.Workload.{WorkloadState}
 use Rattle.scx_load_workloads.specs.Reading.{workload_of}
 use Rattle.scxsim_commands.specs.declared.refusal.Refusal.{Refusal}
@@ -15,7 +15,7 @@ Says text moment =
     IsNumeral 10 (without_leading_plus text)
     × (digits_value 10 (without_leading_plus text) ≡ moment)
 
--- the words name the part between these moments of a run of so many milliseconds
+-- the words name the part between these moments of a run of `ms` milliseconds
 pub record IsPart (ms : ℕ) (span : Span) (from to : ℕ) : Type 0 where
   pub begins : Says span.from.now from
   pub ends : Says span.to.now to
