@@ -1,5 +1,5 @@
 -- The place in a run in which a policy is ejected.
-use Rattle.std.proofs.Common.{◌≡◌, ℕ, false, List, [], ◌∷◌, Option, Some, None, Result, Ok, Err, refl, sym, ap, ◌∙◌, subst}
+use Rattle.std.proofs.Common.{◌≡◌, ℕ, ℤ, false, List, [], ◌∷◌, Option, Some, None, Result, Ok, Err, refl, sym, ap, ◌∙◌, subst}
 use Rattle.std.specs.Prelude.{IfSome, IfOk, OnOk, OnErr}
 use Rattle.scx_sched_world.specs.declared.eject.Eject.{Eject}
 use Rattle.scx_sched_world.specs.declared.eject.Eject.TheVariants as cause
@@ -9,7 +9,7 @@ use Rattle.scx_sched_machine.specs.Hearing.{Hears}
 use Rattle.scx_sched_machine.specs.Steps.{CallMade}
 use Rattle.scx_sched_machine.specs.Policy.{PolicyState}
 use Rattle.scx_sched.specs.Causes.{IsLast, IsCause, Waited, Went_wrong, EjectsOnce}
-use Rattle.scx_sched_machine.specs.Start.{first_state, IsRefusal}
+use Rattle.scx_sched_machine.specs.Start.{first_state, IsRefusal, start_calls, calls_before}
 use Rattle.scx_sched_machine.specs.declared.start.NewError.{NewError}
 use Rattle.scx_sched_machine.specs.declared.start.NewError.TheVariants as start
 use Rattle.scx_sched.specs.Sim.{SimState, IsFirstState, after_event, calls_of}
@@ -19,10 +19,10 @@ use Rattle.scx_load_driver.specs.Events.{workload_events}
 use Rattle.scx_load_workloads.specs.Workload.{WorkloadState}
 use Rattle.scxsim_faults.specs.declared.finder.Finder.{Finder}
 use Rattle.scxsim_faults.specs.declared.place.FaultPlace.{FaultPlace}
-use Rattle.scxsim_faults.specs.Places.{IsPlaceOf, IsPlaceAt, IsPlaceIn, IsPlaceUnder, In_event, At_start, IsPolicyOf, IsPlaceFound}
+use Rattle.scxsim_faults.specs.Places.{IsPlaceOf, IsPlaceAt, IsPlaceIn, IsPlaceAtStart, IsPlaceUnder, In_event, At_start, IsPolicyOf, IsPlaceFound}
 use Rattle.scxsim_faults.specs.Finding.{Finds, IsForFault, is_init_failed, IsUnderAny}
 use Rattle.scxsim_faults.proofs.Telling.{at_some}
-use Rattle.scxsim_faults.proofs.Heard.{last_heard}
+use Rattle.scxsim_faults.proofs.Heard.{last_heard, last_found}
 
 -- an ejection for a fault is that of the last call
 last_of : (s : SimState) (e : Event) (x : Eject) (f : Fault) (n : ℕ) → IsCause s e x → x ≡ cause.Fault f n → (m : CallMade) × IsLast m (calls_of s e)
@@ -114,17 +114,26 @@ in_event policy w tree cpus s r same count first there =
     let On : ℕ → Type 0 = λ n. IsFirstState policy tree n s in
     if_found_in (IsPlaceIn s (workload_events w s)) (IsPlaceUnder policy w) r (λ p x. In_event s (subst First same (subst On count first)) x) there
 
--- where the machine can't begin
-pub at_start : {E : Type 0} (policy : PolicyState) (w : WorkloadState) (tree : Hierarchy) (cpus : ℕ) (e : NewError) (r : Result (Option FaultPlace) E) → tree ≡ idle w.groups w.homes → cpus ≡ w.cpus
-    → IsRefusal policy tree cpus e → (is_init_failed e ≡ false → IfOk r (λ o. o ≡ None)) → IfOk r (λ o. IfSome o (IsPlaceUnder policy w))
-at_start policy w tree cpus e (Err x) same count refused none = tt
-at_start policy w tree cpus e (Ok None) same count refused none = tt
-at_start policy w tree cpus (start.InitFailed n) (Ok (Some p)) same count refused none =
+-- a machine that can't begin
+begins : (policy : PolicyState) (w : WorkloadState) (tree : Hierarchy) (cpus : ℕ) (n : ℤ) (p : FaultPlace) → tree ≡ idle w.groups w.homes → cpus ≡ w.cpus → first_state policy tree cpus ≡ Err n
+    → (m : CallMade) × IsLast m (start_calls policy tree cpus) × IsPlaceOf m p → IsPlaceAtStart policy w p
+begins policy w tree cpus n p same count fails found =
     let Fails : Hierarchy → Type 0 = λ t. first_state policy t w.cpus ≡ Err n in
-    let On : ℕ → Type 0 = λ k. first_state policy tree k ≡ Err n in
-    At_start n (subst Fails same (subst On count refused.1))
-at_start policy w tree cpus start.BadShape (Ok (Some p)) same count refused none = let bad : Some p ≡ None = none refl in absurd (cc)
-at_start policy w tree cpus start.OutOfMemory (Ok (Some p)) same count refused none = let bad : Some p ≡ None = none refl in absurd (cc)
+    let FailsOn : ℕ → Type 0 = λ k. first_state policy tree k ≡ Err n in
+    let Last : Hierarchy → Type 0 = λ t. IsLast found.0 (start_calls policy t w.cpus) in
+    let LastOn : ℕ → Type 0 = λ k. IsLast found.0 (start_calls policy tree k) in
+    record { answer = n; fails = subst Fails same (subst FailsOn count fails); failing = found.0; last = subst Last same (subst LastOn count found.1); place = found.2 }
+
+-- where the machine can't begin
+pub at_start : {E : Type 0} (policy : PolicyState) (w : WorkloadState) (tree : Hierarchy) (cpus : ℕ) (e : NewError) (f g : Finder) (r : Result (Option FaultPlace) E) → tree ≡ idle w.groups w.homes → cpus ≡ w.cpus
+    → IsRefusal policy tree cpus e → f.found ≡ None → Hears Finds f (calls_before policy tree cpus e) g → (is_init_failed e ≡ false → IfOk r (λ o. o ≡ None)) → IfOk r (λ o. IfSome o (λ p. g.found ≡ Some p))
+    → IfOk r (λ o. IfSome o (IsPlaceUnder policy w))
+at_start policy w tree cpus e f g (Err x) same count refused empty hears none kept = tt
+at_start policy w tree cpus e f g (Ok None) same count refused empty hears none kept = tt
+at_start policy w tree cpus (start.InitFailed n) f g (Ok (Some p)) same count refused empty hears none kept =
+    At_start (begins policy w tree cpus n p same count refused.1 (last_found (start_calls policy tree cpus) f g p empty hears kept))
+at_start policy w tree cpus start.BadShape f g (Ok (Some p)) same count refused empty hears none kept = let bad : Some p ≡ None = none refl in absurd (cc)
+at_start policy w tree cpus start.OutOfMemory f g (Ok (Some p)) same count refused empty hears none kept = let bad : Some p ≡ None = none refl in absurd (cc)
 
 -- of the policy that a text stands for
 pub under_text : {E : Type 0} (text : List ℕ) (policy : Option PolicyState) (w : WorkloadState) (r : Result (Option FaultPlace) E) → IfSome policy (IsPolicyOf text)

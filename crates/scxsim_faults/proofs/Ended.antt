@@ -14,8 +14,8 @@ use Rattle.scx_vm.specs.Programs.{VerifiedProgram}
 use Rattle.scx_vm.specs.Safe.{IsSafe}
 use Rattle.scx_verify.proofs.Following.{all_lead}
 use Rattle.scx_verify.proofs.Underway.{graph_fits}
-use Rattle.scx_vm_tagged.specs.declared.run.Ran.{Ran}
-use Rattle.scx_vm_tagged.specs.declared.run.Ran.TheVariants as ran
+use Rattle.scx_vm_tagged.specs.declared.run.Ending.{Ending}
+use Rattle.scx_vm_tagged.specs.declared.run.Ending.TheVariants as ran
 use Rattle.scx_vm_tagged.specs.Outcome.{answer_of}
 use Rattle.scx_vm_tagged.specs.Run.{IfDone, IfStuck, GetsStuckAt}
 use Rattle.scx_sched_world.specs.World.{WorldState}
@@ -26,7 +26,7 @@ use Rattle.scx_sched_machine.specs.Steps.{CallMade}
 use Rattle.scx_sched.specs.Causes.{EndsIn}
 
 -- it is never stuck
-pub is_not_stuck : (c : Context) (code : Code) (a : Arguments) (maps : Maps) (w : WorldState) (r : Ran) (maps' : Maps) (w' : WorldState) → IsSafe c code → HasShapes c.defs maps → FitsCallback c.callback a
+pub is_not_stuck : (c : Context) (code : Code) (a : Arguments) (maps : Maps) (w : WorldState) (r : Ending) (maps' : Maps) (w' : WorldState) → IsSafe c code → HasShapes c.defs maps → FitsCallback c.callback a
     → IfStuck r (λ slot. GetsStuckAt (host world_functions) c.callback code a maps w slot maps' w') → IfStuck r (λ slot. ⊥)
 is_not_stuck c code a maps w (ran.Done d) maps' w' safe shaped fits h = tt
 is_not_stuck c code a maps w (ran.Stuck slot) maps' w' safe shaped fits h =
@@ -34,7 +34,7 @@ is_not_stuck c code a maps w (ran.Stuck slot) maps' w' safe shaped fits h =
     (all_lead _ (graph_fits (answer_to world_functions) (after_query world_functions)) c.callback code h.steps 0 (start a maps) w slot h.stuck.state w' h.stuck.leads) h.stuck.stuck
 
 -- its maps keep their shapes
-pub keeps_shapes : (c : Context) (code : Code) (a : Arguments) (maps : Maps) (w : WorldState) (r : Ran) (n : ℕ) (maps' : Maps) (w' : WorldState) → IsSafe c code → HasShapes c.defs maps → FitsCallback c.callback a
+pub keeps_shapes : (c : Context) (code : Code) (a : Arguments) (maps : Maps) (w : WorldState) (r : Ending) (n : ℕ) (maps' : Maps) (w' : WorldState) → IsSafe c code → HasShapes c.defs maps → FitsCallback c.callback a
     → answer_of r ≡ Some n → IfDone r (λ done. Runs (host world_functions) c.callback code a maps w done.r0 done.steps maps' w') → HasShapes c.defs maps'
 keeps_shapes c code a maps w (ran.Stuck slot) n maps' w' safe shaped fits e h = let bad : None ≡ Some n = e in absurd (cc)
 keeps_shapes c code a maps w (ran.Done d) n maps' w' safe shaped fits e h =
@@ -42,7 +42,7 @@ keeps_shapes c code a maps w (ran.Done d) n maps' w' safe shaped fits e h =
     (all_lead _ (graph_fits (answer_to world_functions) (after_query world_functions)) c.callback code h.before 0 (start a maps) w h.slot h.state w' h.leads))
 
 -- it comes to an answer
-pub is_answered : (p : VerifiedProgram) (a : Args) (maps : Maps) (w : WorldState) (r : Ran) (n : ℕ) (maps' : Maps) (w' : WorldState) → answer_of r ≡ Some n
+pub is_answered : (p : VerifiedProgram) (a : Args) (maps : Maps) (w : WorldState) (r : Ending) (n : ℕ) (maps' : Maps) (w' : WorldState) → answer_of r ≡ Some n
     → IfDone r (λ done. Runs (host world_functions) p.context.callback p.code (program_arguments a) maps w done.r0 done.steps maps' w') → IfDone r (λ done. done.steps ≤ instruction_count p.code)
     → IsAnswered (record { callback = p.context.callback; program = p; arguments = a; maps = maps; world = w })
 is_answered p a maps w (ran.Stuck slot) n maps' w' e h bound = let bad : None ≡ Some n = e in absurd (cc)
@@ -52,7 +52,7 @@ same_answer : (k n : ℕ) → Some k ≡ Some n → k ≡ n
 same_answer k n e = cc
 
 -- it ends with that answer in that world
-pub ends_in : (p : VerifiedProgram) (a : Args) (maps : Maps) (w : WorldState) (r : Ran) (n : ℕ) (maps' : Maps) (w' : WorldState) → answer_of r ≡ Some n
+pub ends_in : (p : VerifiedProgram) (a : Args) (maps : Maps) (w : WorldState) (r : Ending) (n : ℕ) (maps' : Maps) (w' : WorldState) → answer_of r ≡ Some n
     → IfDone r (λ done. Runs (host world_functions) p.context.callback p.code (program_arguments a) maps w done.r0 done.steps maps' w') → IfDone r (λ done. done.steps ≤ instruction_count p.code)
     → EndsIn (record { callback = p.context.callback; program = p; arguments = a; maps = maps; world = w }) n w'
 ends_in p a maps w (ran.Stuck slot) n maps' w' e h bound = let bad : None ≡ Some n = e in absurd (cc)
@@ -62,7 +62,7 @@ ends_in p a maps w (ran.Done d) n maps' w' e h bound =
     subst To (same_answer d.r0 n e) (record { steps = d.steps; maps = maps'; run = h; in_bound = bound })
 
 -- and at that slot
-pub ends_at : (p : VerifiedProgram) (a : Arguments) (maps : Maps) (w : WorldState) (r : Ran) (n : ℕ) (w' : WorldState) (slot : ℕ) → answer_of r ≡ Some n
+pub ends_at : (p : VerifiedProgram) (a : Arguments) (maps : Maps) (w : WorldState) (r : Ending) (n : ℕ) (w' : WorldState) (slot : ℕ) → answer_of r ≡ Some n
     → IfDone r (λ done. EndsAt (host world_functions) p.context.callback p.code a maps w done.r0 w' slot) → EndsAt (host world_functions) p.context.callback p.code a maps w n w' slot
 ends_at p a maps w (ran.Stuck s) n w' slot e h = let bad : None ≡ Some n = e in absurd (cc)
 ends_at p a maps w (ran.Done d) n w' slot e h =

@@ -15,12 +15,12 @@ use Rattle.scx_sched_world.specs.World.{WorldState}
 use Rattle.scx_sched_world.specs.Helpers.{world_functions}
 use Rattle.scx_sched_machine.specs.Steps.{CallMade}
 use Rattle.scx_sched.specs.Causes.{EndsIn}
-use Rattle.scxsim_faults.specs.declared.created.Created.{Created}
 use Rattle.scxsim_faults.specs.declared.finder.Told.{Told}
 use Rattle.scxsim_faults.specs.declared.place.FaultPlace.{FaultPlace}
 use Rattle.scxsim_faults.specs.declared.place.HelperCall.{HelperCall}
+use Rattle.scxsim_faults.specs.declared.policy_queues.PolicyQueues.{PolicyQueues}
 use Rattle.scxsim_faults.specs.declared.running.Answered.{Answered}
-use Rattle.scxsim_faults.specs.Places.{IsFirstFault, IsFaultAt, IsPlaceOf}
+use Rattle.scxsim_faults.specs.Places.{IsFirstFault, IsFaultAt, HasQueues, IsPlaceOf}
 use Rattle.scxsim_faults.specs.Finding.{IsCallAt, IsToldAt, IsTold}
 use Rattle.scxsim_faults.proofs.Lasting.{has_run, none_up_to}
 
@@ -75,13 +75,13 @@ module _ (m : CallMade) (ran : Answered) (w : WorldState) where
   }
   told_at p (Some call) same answer (there, told) came exits = first_at p call there told (at_some HasCome ran.came _ told.came came)
 
--- of a callback that was run so
-pub told_is : (m : CallMade) (ran : Answered) (w : WorldState) (queues : Created) (p : FaultPlace) → m.callback ≡ m.program.context.callback
-    → EndsIn m ran.answer w → IfSome ran.came (HasCome m ran w) → Exits m ran w → IsTold m.program m.arguments ran w queues p → IsPlaceOf m p
-told_is m ran w queues p same ends came exits told = record {
+-- of a callback that ran to that end
+pub told_is : (m : CallMade) (ran : Answered) (w : WorldState) (queues : PolicyQueues) (p : FaultPlace) → m.callback ≡ m.program.context.callback
+    → EndsIn m ran.answer w → IfSome ran.came (HasCome m ran w) → Exits m ran w → HasQueues m w queues → IsTold m.program m.arguments ran w queues p → IsPlaceOf m p
+told_is m ran w queues p same ends came exits has told = record {
   callback = told.callback ∙ sym same;
   given = told.given;
-  answered = record { world = w; ends = rw told.answer ends; count = told.cpus };
+  answered = record { world = w; ends = rw told.answer ends; count = told.cpus; has_queues = subst (λ (q : PolicyQueues). HasQueues m w q) (sym told.queues_are) has };
   fault_at = told_at m ran w p p.call same told.answer told.told_at came exits;
 }
 

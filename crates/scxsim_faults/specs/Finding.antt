@@ -1,4 +1,4 @@
--- What a finder keeps of each callback that it hears, and what is made of it. No public clause
+-- What a finder keeps of each callback that it hears, and what is told of it. No public clause
 -- cites it.
 use Rattle.std.specs.Prelude.{◌≡◌, ℕ, ◌≤◌, Bool, true, false, length, Option, Some, None, IfSome}
 use Rattle.scx_isa_semantics.specs.declared.callbacks.Callback.TheVariants.{SelectCpu}
@@ -17,7 +17,7 @@ use Rattle.scx_sched_machine.specs.declared.start.NewError.TheVariants as start
 use Rattle.scx_sched_machine.specs.Policy.{PolicyState}
 use Rattle.scx_load_workloads.specs.Workload.{WorkloadState}
 use Rattle.scx_sched_machine.specs.Steps.{CallMade}
-use Rattle.scxsim_faults.specs.declared.created.Created.{Created}
+use Rattle.scxsim_faults.specs.declared.policy_queues.PolicyQueues.{PolicyQueues}
 use Rattle.scxsim_faults.specs.declared.finder.Finder.{Finder}
 use Rattle.scxsim_faults.specs.declared.place.FaultPlace.{FaultPlace}
 use Rattle.scxsim_faults.specs.declared.place.HelperCall.{HelperCall}
@@ -50,7 +50,7 @@ IsToldAt program ran w fault slot (Some call) =
 
 -- all that is told of a run
 pub record IsTold (program : VerifiedProgram) (a : Args) (ran : Answered) (w : WorldState)
-    (queues : Created) (p : FaultPlace) : Type 0 where
+    (queues : PolicyQueues) (p : FaultPlace) : Type 0 where
   pub callback : p.callback ≡ program.context.callback
   pub given : p.given ≡ a.first
   pub answer : p.answer ≡ ran.answer
@@ -58,11 +58,9 @@ pub record IsTold (program : VerifiedProgram) (a : Args) (ran : Answered) (w : W
   pub queues_are : p.queues ≡ queues
   pub told_at : IsToldAt program ran w p.fault p.slot p.call
 
--- the finder keeps the policy's queues, and the place of the call's first fault if it had one
-pub record Finds (f : Finder) (m : CallMade) (g : Finder) : Type 0 where
-  pub queues : g.queues ≡ f.queues
-  pub place : IfSome g.found (IsPlaceOf m)
-  pub with_queues : IfSome g.found (λ p. p.queues ≡ f.queues)
+-- told of the call, the finder keeps the place of its first fault if it had one
+abbrev pub Finds : Finder → CallMade → Finder → Type 0
+Finds f m g = IfSome g.found (IsPlaceOf m)
 
 -- the ejection is for that fault
 abbrev pub IsForFault : Fault → Eject → Type 0

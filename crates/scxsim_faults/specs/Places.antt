@@ -1,12 +1,15 @@
--- Where the fault of a policy came: at which call of a helper, and in which event of a run.
-use Rattle.std.specs.Prelude.{◌≡◌, ℕ, ℤ, ◌≤◌, List, ◌∷◌, ◌++◌, length, Option, Some, None, Ok, Err}
+-- The place of a policy's fault: the call of a helper, and the event of the run.
+use Rattle.std.specs.Prelude.{◌≡◌, ℕ, ℤ, ◌≤◌, List, ◌∷◌, ◌++◌, length, take, Option, Some, None, Ok, Err}
 use Rattle.scx_isa_semantics.specs.declared.callbacks.Callback.TheVariants.{SelectCpu}
 use Rattle.scx_isa_semantics.specs.declared.instructions.Insn.TheVariants as insn
 use Rattle.scx_isa_semantics.specs.Code.{at}
+use Rattle.scx_isa_semantics.specs.Elements.{Maps}
 use Rattle.scx_isa_semantics.specs.HostTables.{helper_at}
 use Rattle.scx_isa_semantics.specs.Machine.{Machine, start}
 use Rattle.scx_isa_semantics.specs.Steps.{step}
 use Rattle.scx_isa_semantics.specs.Runs.{Leads, LeadsTo}
+use Rattle.scx_vm.specs.Programs.{VerifiedProgram}
+use Rattle.scx_vm.specs.declared.arguments.Args.{Args}
 use Rattle.scx_vm.specs.Arguments.{program_arguments}
 use Rattle.scx_vm.specs.Host.{host}
 use Rattle.scx_vm_tagged.specs.Watched.{held, EndsAt}
@@ -18,7 +21,7 @@ use Rattle.scx_sched_world.specs.World.{WorldState}
 use Rattle.scx_sched_world.specs.Helpers.{world_functions}
 use Rattle.scx_sched_machine.specs.declared.events.Event.{Event}
 use Rattle.scx_sched_machine.specs.Policy.{PolicyState}
-use Rattle.scx_sched_machine.specs.Start.{first_state}
+use Rattle.scx_sched_machine.specs.Start.{first_state, start_calls}
 use Rattle.scx_sched_machine.specs.Steps.{CallMade}
 use Rattle.scx_sched.specs.Causes.{EndsIn, IsLast}
 use Rattle.scx_sched.specs.Sim.{SimState, IsFirstState, after_event, calls_of}
@@ -30,8 +33,20 @@ use Rattle.scx_load_driver.specs.Runs.{stepped_all}
 use Rattle.scx_load_driver.specs.Events.{workload_events}
 use Rattle.scxsim_faults.specs.declared.place.FaultPlace.{FaultPlace}
 use Rattle.scxsim_faults.specs.declared.place.HelperCall.{HelperCall}
+use Rattle.scxsim_faults.specs.declared.policy_queues.PolicyQueues.{PolicyQueues}
+use Rattle.scxsim_faults.specs.Queues.{listed, policy_queues}
 
 -- ---- in the run of one callback
+
+-- the call of a program as the callback that it was verified for
+abbrev pub call_of : VerifiedProgram → Args → Maps → WorldState → CallMade
+call_of p a maps w = record {
+  callback = p.context.callback;
+  program = p;
+  arguments = a;
+  maps = maps;
+  world = w;
+}
 
 -- The run of the callback's program, from its start, comes to a call of this helper at this slot,
 -- with these values in r1 to r5. Up to this call the callback has no fault. After it, it has that
@@ -73,17 +88,25 @@ abbrev pub IsFaultAt : CallMade → FaultPlace → Option HelperCall → Type 0
 IsFaultAt m p None = IsWrongAnswer m p.fault p.slot p.answer
 IsFaultAt m p (Some call) = IsFirstFault m p.fault p.slot call
 
--- the callback comes to that answer, on so many CPUs
-pub record HasAnswered (m : CallMade) (answer cpus : ℕ) : Type 0 where
+-- the policy's queues before the fault: at least those that were there as the callback began, and of
+-- those that are there as it ends the first ones
+pub record HasQueues (m : CallMade) (w : WorldState) (queues : PolicyQueues) : Type 0 where
+  pub count : ℕ
+  pub enough : length (policy_queues m.world) ≤ count
+  pub first : listed queues ≡ take count (policy_queues w)
+
+-- the callback comes to that answer, in a world with that many CPUs and these queues of the policy
+pub record HasAnswered (m : CallMade) (answer cpus : ℕ) (queues : PolicyQueues) : Type 0 where
   pub world : WorldState
   pub ends : EndsIn m answer world
   pub count : cpus ≡ length world.cpus
+  pub has_queues : HasQueues m world queues
 
 -- the place is where the first fault of that callback came
 pub record IsPlaceOf (m : CallMade) (p : FaultPlace) : Type 0 where
   pub callback : p.callback ≡ m.callback
   pub given : p.given ≡ m.arguments.first
-  pub answered : HasAnswered m p.answer p.cpus
+  pub answered : HasAnswered m p.answer p.cpus p.queues
   pub fault_at : IsFaultAt m p p.call
 
 -- ---- in a run of the machine
@@ -106,15 +129,22 @@ pub record IsPlaceIn (s : SimState) (events : List Event) (p : FaultPlace) : Typ
   pub whole : events ≡ done ++ event ∷ rest
   pub place : IsPlaceAt (stepped_all s done) event p
 
--- In the run of the workload under the policy the place is where it was ejected. If the machine
--- can't begin, since init or enable fails, nothing is said of the place.
+-- The machine can't begin, since init or enable fails. The callback that fails is the last one that
+-- is called, and the place is its.
+pub record IsPlaceAtStart (policy : PolicyState) (w : WorkloadState) (p : FaultPlace) : Type 0 where
+  pub answer : ℤ
+  pub fails : first_state policy (idle w.groups w.homes) w.cpus ≡ Err answer
+  pub failing : CallMade
+  pub last : IsLast failing (start_calls policy (idle w.groups w.homes) w.cpus)
+  pub place : IsPlaceOf failing p
+
+-- in the run of the workload under the policy the place is where it was ejected, or couldn't begin
 pub data IsPlaceUnder (policy : PolicyState) (w : WorkloadState) (p : FaultPlace) : Type 0 where
   In_event : (s : SimState) → IsFirstState policy (idle w.groups w.homes) w.cpus s
       → IsPlaceIn s (workload_events w s) p → IsPlaceUnder policy w p
-  At_start : (answer : ℤ) → first_state policy (idle w.groups w.homes) w.cpus ≡ Err answer
-      → IsPlaceUnder policy w p
+  At_start : IsPlaceAtStart policy w p → IsPlaceUnder policy w p
 
--- the text stands for that policy
+-- that is the policy of the text
 pub record IsPolicyOf (text : List ℕ) (policy : PolicyState) : Type 0 where
   pub file : PolicyFile
   pub read : policy_text text ≡ Ok file

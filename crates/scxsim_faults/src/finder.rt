@@ -7,34 +7,38 @@ ghost use Rattle.scx_sched_world.specs.declared.faults.Fault.TheVariants.{NoSuch
 ghost use Rattle.scxsim_faults.specs.Finding.{IsCallAt, IsToldAt, IsTold, Finds, IsForFault};
 ghost use Rattle.scxsim_faults.specs.declared.finder.Finder.{Finder};
 
-use crate::created::Created;
-use crate::look::{FirstFault, Look};
+use crate::look::Look;
 use crate::place::{FaultPlace, HelperCall};
+use crate::policy_queues::PolicyQueues;
 use crate::running::{Answered, run_seen};
 use scx_isa::{Callback, Helper, Insn, Program};
 use scx_maps::Maps;
-use scx_sched::{Eject, Fault, Hearer, Note, Sink};
+use scx_sched::{Eject, Fault, Hearer, Note};
 use scx_sched_world::World;
 use scx_verify::Verified;
 use scx_vm::Args;
 use scx_vm_run::Core;
 use scx_vm_tagged::Site;
-use std::marker::Model;
 
-/// Runs the callbacks of events instruction by instruction, and keeps where the first fault came in the last one.
+/// Runs callbacks instruction by instruction, and keeps the place of the first fault of the last one.
 #[derive(Drop)]
 pub(crate) struct Finder {
     found: Option<FaultPlace>,
-    queues: Created,
 }
 
 impl Finder {
-    /// A finder that has heard no callback, of a policy that has these queues.
-    pub(crate) fn new(queues: Created) -> Finder {
-        Finder {
-            found: None,
-            queues,
-        }
+    /// A finder that has heard no callback.
+    pub(crate) fn new() -> Finder
+        ensures { result.found ≡ None }
+    {
+        Finder { found: None }
+    }
+
+    /// The place of the last callback's first fault, if it had one.
+    pub(crate) fn found(&self) -> Option<FaultPlace>
+        ensures { result ≡ self.now.found }
+    {
+        self.found
     }
 
     /// The place of that fault, if the last callback had it.
@@ -70,13 +74,13 @@ struct Told {
     call: Option<HelperCall>,
 }
 
-/// The place of the first fault of a callback that was run so, if it had one.
+/// The place of the first fault of a callback that ran to that end, if it had one.
 fn place_of(
     program: &Verified,
     arguments: Args,
     ran: Answered,
     world: &World,
-    queues: Created,
+    queues: PolicyQueues,
 ) -> Option<FaultPlace>
     ensures { IfSome result (IsTold program.now arguments ran world.now queues) }
 {
@@ -93,7 +97,7 @@ fn place_of(
     })
 }
 
-/// The first fault of a callback that was run so.
+/// The first fault of a callback that ran to that end.
 fn told_of(program: &Verified, ran: Answered, world: &World) -> Option<Told>
     ensures { IfSome result
         (λ told. IsToldAt program.now ran world.now told.fault told.slot told.call) }
@@ -104,7 +108,7 @@ fn told_of(program: &Verified, ran: Answered, world: &World) -> Option<Told>
     }
 }
 
-/// That fault, at the call at which it came.
+/// The fault, with the call that had it.
 fn told_of_call(program: &Verified, ran: Answered, fault: Fault) -> Option<Told>
     ensures fault { IfSome result (λ told. told.fault ≡ fault) }
     ensures call { IfSome result (λ told. IfSome told.call (IsCallAt program.now ran told.slot)) }
@@ -119,7 +123,7 @@ fn told_of_call(program: &Verified, ran: Answered, fault: Fault) -> Option<Told>
     })
 }
 
-/// The fault of an answer that is no CPU, at the exit.
+/// The fault of an answer that is no CPU, with the slot of the exit.
 fn told_of_answer(callback: Callback, ran: Answered, cpus: u32) -> Option<Told>
     ensures none { IfSome result (λ told. told.call ≡ None) }
     ensures fault { IfSome result (λ told. told.fault ≡ NoSuchCpu) }
@@ -156,6 +160,13 @@ fn call_at(program: &Program, site: Site) -> Option<HelperCall>
     })
 }
 
+/// The count, or the least one if that is greater.
+fn at_least(least: usize, count: usize) -> usize
+    ensures { least ≤ result }
+{
+    if count < least { least } else { count }
+}
+
 impl Hearer for Finder {
     ghost Noted = { ⊤ };
 
@@ -179,80 +190,12 @@ impl Hearer for Finder {
         maps: &mut Maps,
         world: &mut World,
     ) -> u64 {
-        let ran = run_seen(program, arguments, maps, world, &mut FirstFault);
-        self.found = place_of(program, arguments, ran, world, self.queues);
-        ran.answer
-    }
-}
-
-/// A sink that runs init and enable instruction by instruction. It keeps the queues that are created, and where
-/// the first fault came.
-///
-/// In a contract it is nothing: whatever it keeps, runs are the same.
-#[derive(Drop)]
-pub(crate) struct Starter {
-    pub(crate) found: Option<FaultPlace>,
-    pub(crate) queues: Created,
-}
-
-impl Model for Starter {
-    ghost Value = { Unit {0} };
-
-    ghost view = { λ f. tt };
-}
-
-impl Starter {
-    pub(crate) fn new() -> Starter {
-        Starter {
-            found: None,
-            queues: Created::NONE,
-        }
-    }
-
-    pub(crate) fn found(&self) -> Option<FaultPlace> {
-        self.found
-    }
-
-    pub(crate) fn queues(&self) -> Created {
-        self.queues
-    }
-
-    /// Keeps the queues that were created, and the place of a fault, if it is the first one.
-    fn keep(&mut self, queues: Created, place: Option<FaultPlace>) {
-        self.queues = queues;
-        if self.found.is_none() {
-            self.found = place;
-        }
-    }
-}
-
-impl Sink for Starter {
-    ghost takes = { λ s n t. t ≡ s };
-
-    ghost has_failed = { λ s. false };
-
-    ghost failed_stays = { λ s t n failed takes. takes };
-
-    fn take(&mut self, _note: Note) {}
-
-    fn failed(&self) -> bool {
-        false
-    }
-
-    fn run(
-        &mut self,
-        _core: &mut Core,
-        program: &Verified,
-        arguments: Args,
-        maps: &mut Maps,
-        world: &mut World,
-    ) -> u64 {
-        let mut look = Look::new(program.program(), self.queues);
+        let before = PolicyQueues::count_in(world);
+        let mut look = Look::new(world, before);
         let ran = run_seen(program, arguments, maps, world, &mut look);
-        self.keep(
-            look.queues,
-            place_of(program, arguments, ran, world, look.queues),
-        );
+        let count = at_least(before, look.count());
+        let queues = PolicyQueues::first_in(world, count);
+        self.found = place_of(program, arguments, ran, world, queues);
         ran.answer
     }
 }

@@ -1,4 +1,4 @@
-ghost use Rattle.std.specs.Prelude.{◌≡◌, false, None, IfOk, IfSome};
+ghost use Rattle.std.specs.Prelude.{◌≡◌, false, Some, None, IfOk, IfSome};
 ghost use Rattle.scx_weights.specs.Hierarchy.{idle};
 ghost use Rattle.scx_load_driver.specs.Driver.{remaining};
 ghost use Rattle.scx_load_driver.specs.Events.{workload_events};
@@ -7,8 +7,7 @@ ghost use Rattle.scx_sched.specs.Sim.{after_event};
 ghost use Rattle.scxsim_faults.specs.Finding.{is_init_failed, IsUnderAny};
 ghost use Rattle.scxsim_faults.specs.Places.{IsPlaceAt, IsPlaceIn, IsPlaceUnder, IsPolicyOf, IsPlaceFound};
 
-use crate::created::Created;
-use crate::finder::{Finder, Starter};
+use crate::finder::Finder;
 use crate::place::FaultPlace;
 use scx_load_driver::Driver;
 use scx_load_files::LoadError;
@@ -18,9 +17,8 @@ use scx_sched::{Event, MAX_EVENTS, NewError, Policy, Sim, Unseen};
 use scx_weights::Tree;
 use std::alloc::{AllocError, Global};
 
-/// The place of the first fault of the callback for which a policy was ejected at that clock, in the run of a
-/// workload, or of the first fault in init or enable. None if there was no such fault, or the policy's text is
-/// refused.
+/// Finds the first fault of the callback for which a policy was ejected at that clock, in the run of a workload, or
+/// the first fault in init or enable. None if there was no such fault, or the policy's text is refused.
 ///
 /// # Errors
 ///
@@ -52,8 +50,12 @@ fn find_under_any(
     }
 }
 
-/// The policy of a file; none if the file is refused.
-fn policy_of(alloc: Global, text: &str) -> Result<Option<Policy>, AllocError>
+/// Reads and verifies a policy file; none if it is refused.
+///
+/// # Errors
+///
+/// Memory runs out.
+pub fn policy_of(alloc: Global, text: &str) -> Result<Option<Policy>, AllocError>
     ensures { IfOk result (λ policy. IfSome policy (IsPolicyOf text.now)) }
 {
     match read_policy(alloc, text) {
@@ -103,20 +105,21 @@ fn find_with(
     requires { tree ≡ idle workload.now.groups workload.now.homes }
     ensures { IfOk result (λ found. IfSome found (IsPlaceUnder policy workload.now)) }
 {
-    let mut starter = Starter::new();
-    match Sim::new_seen(alloc, policy, tree, workload.cpus(), &mut starter) {
+    let mut finder = Finder::new();
+    match Sim::new_seen(alloc, policy, tree, workload.cpus(), &mut finder) {
         Ok(mut sim) => {
-            let found = find_in(alloc, workload, &mut sim, clock, starter.queues());
+            let found = find_fault_in(alloc, workload, &mut sim, clock);
             drop(sim);
             found
         }
-        Err(error) => not_begun(error, starter.found()),
+        Err(error) => not_begun(error, finder.found()),
     }
 }
 
-/// The place of the fault in init or enable, if one of them failed.
+/// The place of the fault in init or enable, if one of them failed: what was found.
 fn not_begun(error: NewError, found: Option<FaultPlace>) -> Result<Option<FaultPlace>, AllocError>
-    ensures { is_init_failed error ≡ false → IfOk result (λ found. found ≡ None) }
+    ensures none { is_init_failed error ≡ false → IfOk result (λ place. place ≡ None) }
+    ensures kept { IfOk result (λ place. IfSome place (λ p. found ≡ Some p)) }
 {
     match error {
         NewError::InitFailed(_) => Ok(found),
@@ -125,26 +128,31 @@ fn not_begun(error: NewError, found: Option<FaultPlace>) -> Result<Option<FaultP
     }
 }
 
-/// The place of the fault in the run that begins with that machine.
-fn find_in(
+/// `find_fault` in the run that begins with that machine. None if the policy is ejected already.
+///
+/// # Errors
+///
+/// Memory runs out.
+pub fn find_fault_in(
     alloc: Global,
     workload: &Workload,
     sim: &mut Sim,
     clock: u64,
-    queues: Created,
 ) -> Result<Option<FaultPlace>, AllocError>
-    requires { sim.old.state.world.ejected ≡ None }
     ensures { IfOk result (λ found.
         IfSome found (IsPlaceIn sim.old (workload_events workload.now sim.old))) }
 {
+    if sim.ejected().is_some() {
+        return Ok(None);
+    }
     let mut driver = Driver::new(alloc, workload)?;
-    let found = go_through(&mut driver, sim, clock, queues);
+    let found = go_through(&mut driver, sim, clock);
     drop(driver);
     Ok(found)
 }
 
-/// Gives the machine the events that are left, up to the ejection.
-fn go_through(driver: &mut Driver, sim: &mut Sim, clock: u64, queues: Created) -> Option<FaultPlace>
+/// Gives the machine the remaining events, up to the ejection.
+fn go_through(driver: &mut Driver, sim: &mut Sim, clock: u64) -> Option<FaultPlace>
     requires { sim.old.state.world.ejected ≡ None }
     ensures { IfSome result (IsPlaceIn sim.old (remaining driver.old sim.old)) }
 {
@@ -152,7 +160,7 @@ fn go_through(driver: &mut Driver, sim: &mut Sim, clock: u64, queues: Created) -
         let Some(event) = driver.next(sim) else {
             return None;
         };
-        let found = step(sim, event, clock, queues);
+        let found = step(sim, event, clock);
         if sim.ejected().is_some() {
             return found;
         }
@@ -160,9 +168,9 @@ fn go_through(driver: &mut Driver, sim: &mut Sim, clock: u64, queues: Created) -
     None
 }
 
-/// Gives the machine one event, and answers where the fault came if it ejects the policy. An event of the clock
-/// is at the clock that it ends at, so callbacks are heard from a millisecond before that clock on.
-fn step(sim: &mut Sim, event: Event, clock: u64, queues: Created) -> Option<FaultPlace>
+/// Gives the machine one event, and returns the place of the fault if it ejects the policy. An event of the clock
+/// ends at the next millisecond, so callbacks are heard from a millisecond before that clock on.
+fn step(sim: &mut Sim, event: Event, clock: u64) -> Option<FaultPlace>
     requires { sim.old.state.world.ejected ≡ None }
     ensures state { sim.new ≡ after_event sim.old event }
     ensures place { IfSome result (IsPlaceAt sim.old event) }
@@ -171,17 +179,17 @@ fn step(sim: &mut Sim, event: Event, clock: u64, queues: Created) -> Option<Faul
         let _ = sim.step(event, &mut Unseen);
         None
     } else {
-        hear(sim, event, queues)
+        hear(sim, event)
     }
 }
 
 /// Gives the machine one event, and hears its callbacks.
-fn hear(sim: &mut Sim, event: Event, queues: Created) -> Option<FaultPlace>
+fn hear(sim: &mut Sim, event: Event) -> Option<FaultPlace>
     requires { sim.old.state.world.ejected ≡ None }
     ensures state { sim.new ≡ after_event sim.old event }
     ensures place { IfSome result (IsPlaceAt sim.old event) }
 {
-    let mut finder = Finder::new(queues);
+    let mut finder = Finder::new();
     let _ = sim.step_heard(event, &mut finder);
     match sim.ejected() {
         Some(why) => finder.found_for(why),

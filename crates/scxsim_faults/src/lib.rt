@@ -1,19 +1,21 @@
-//! Where the fault of a policy came: in which callback, at which slot, and with what its helper was called.
+//! The place of a policy's fault: the callback, the slot, and the call of a helper with its arguments.
 //!
-//! `find_fault` goes through a run again, up to the ejection. From a millisecond before it on, the policy's
-//! programs are run instruction by instruction, by the machine of the definitions; each comes to the same end
-//! as before, which the contract of `Sink::run` asks for.
+//! `find_fault` repeats a run up to the ejection. From a millisecond before it on, the policy's programs are run
+//! instruction by instruction, by the machine of the definitions; each comes to the same end as before, as the
+//! contract of `Hearer::call` asks. init and enable are run in this way too.
 #![tactic(auto)]
 
-mod created;
 mod finder;
 mod finding;
 mod look;
 mod place;
+mod policy_queues;
 mod running;
 mod words;
 
-pub use finding::find_fault;
+pub use finding::{find_fault, find_fault_in, policy_of};
 pub use place::{FaultPlace, HelperCall};
 pub use running::{Answered, run_seen};
-pub use words::{write_call, write_helper_call, write_place, write_policy_queues, write_reason};
+pub use words::{
+    is_local, write_call, write_helper_call, write_place, write_policy_queues, write_reason,
+};

@@ -1,4 +1,4 @@
-use crate::created::Created;
+use crate::policy_queues::PolicyQueues;
 use scx_isa::{Callback, Helper, Pointer, Value};
 use scx_sched::Fault;
 use scx_vm::Arg;
@@ -39,13 +39,14 @@ pub struct FaultPlace {
     pub fault: Fault,
     /// The call that had the fault. None where the callback's answer has it.
     pub call: Option<HelperCall>,
-    /// What the callback answered.
+    /// The callback's answer.
     pub answer: u64,
-    /// What the callback was given in r1.
+    /// The callback's argument in r1.
     pub given: Arg,
-    /// How many processors there are.
+    /// The number of CPUs.
     pub cpus: u32,
-    pub(crate) queues: Created,
+    /// The policy's queues before the fault.
+    pub(crate) queues: PolicyQueues,
 }
 
 impl FaultPlace {

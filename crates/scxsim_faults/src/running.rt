@@ -11,14 +11,15 @@ ghost use Rattle.scx_sched_world.specs.Helpers.{world_functions};
 ghost use Rattle.scx_sched_machine.specs.Budgets.{CanPush, program_pushes};
 ghost use Rattle.scx_sched_machine.specs.Callbacks.{IsAnswered};
 ghost use Rattle.scx_sched.specs.Causes.{EndsIn};
+ghost use Rattle.scxsim_faults.specs.Places.{call_of};
 
 use scx_maps::Maps;
 use scx_sched_world::World;
 use scx_verify::Verified;
 use scx_vm::Args;
-use scx_vm_tagged::{Ran, Site, Watch, run_watched};
+use scx_vm_tagged::{Ending, Site, Watch, run_watched};
 
-/// The end of a callback that a `Watch` was shown.
+/// The end of a callback that was shown to a `Watch`.
 #[derive(Clone, Copy)]
 pub struct Answered {
     pub answer: u64,
@@ -43,24 +44,11 @@ pub fn run_seen<W: Watch<World>>(
     ensures ended { record { answer = Some result.answer; maps = maps.new; outside = world.new }
         ≡ run_of (answer_to world_functions) (after_query world_functions)
         program.now.context.callback program.now.code (program_arguments arguments) maps.old world.old }
-    ensures answered { IsAnswered
-        (record {
-          callback = program.now.context.callback;
-          program = program.now;
-          arguments = arguments;
-          maps = maps.old;
-          world = world.old;
-        }) }
+    ensures answered { IsAnswered (call_of program.now arguments maps.old world.old) }
     ensures shapes { HasShapes program.now.context.defs maps.new }
     ensures few { world.new.queues.pushes ≤ world.old.queues.pushes + program_pushes }
-    ensures ends { EndsIn
-        (record {
-          callback = program.now.context.callback;
-          program = program.now;
-          arguments = arguments;
-          maps = maps.old;
-          world = world.old;
-        }) result.answer world.new }
+    ensures ends { EndsIn (call_of program.now arguments maps.old world.old) result.answer
+        world.new }
     ensures came { IfSome result.came
         (Came (host world_functions) W.awaited program.now.context.callback program.now.code
         (program_arguments arguments) maps.old world.old world.new) }
@@ -84,13 +72,13 @@ pub fn run_seen<W: Watch<World>>(
     }
 }
 
-/// What a run answered that wasn't stuck.
-fn answer_of(ran: Ran) -> u64
+/// The answer of a run that wasn't stuck.
+fn answer_of(ran: Ending) -> u64
     requires { IfStuck ran (λ slot. ⊥) }
     ensures { answer_of ran ≡ Some result }
 {
     match ran {
-        Ran::Done(done) => done.r0,
-        Ran::Stuck(_) => unreachable!(),
+        Ending::Done(done) => done.r0,
+        Ending::Stuck(_) => unreachable!(),
     }
 }

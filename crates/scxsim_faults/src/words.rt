@@ -2,10 +2,10 @@ use crate::place::{FaultPlace, HelperCall};
 use scx_isa::{Callback, Helper};
 use scx_sched::Fault;
 use scx_sched_world::{GLOBAL, LOCAL, LOCAL_ON, POLICY_END};
-use scxsim_text::Text;
+use scxsim_output::Text;
 use scxsim_trace::Names;
 
-/// What an argument of a helper is.
+/// The meaning of a helper's argument.
 #[derive(Clone, Copy)]
 enum Meaning {
     Task,
@@ -14,7 +14,7 @@ enum Meaning {
     Number,
 }
 
-/// What a helper is given, one after another.
+/// The meanings of a helper's arguments, in their order.
 fn meanings(helper: Helper) -> &'static [Meaning] {
     match helper {
         Helper::DsqInsert => &[
@@ -52,7 +52,7 @@ fn name_of(helper: Helper) -> &'static str {
     }
 }
 
-/// A queue as a policy names it.
+/// Writes a queue as a policy names it.
 fn write_queue(queue: u64, said: &mut Text) {
     if queue == GLOBAL {
         said.push("global");
@@ -65,12 +65,12 @@ fn write_queue(queue: u64, said: &mut Text) {
     }
 }
 
-/// Whether the id may be read as the local queue of a processor.
-fn is_local(queue: u64) -> bool {
+/// True if the number may be read as the local queue of a CPU.
+pub fn is_local(queue: u64) -> bool {
     LOCAL_ON <= queue && queue - LOCAL_ON <= u64::from(u32::MAX)
 }
 
-/// A slice of so many nanoseconds, in milliseconds where it is a whole number of them; the greatest has no end.
+/// Writes a slice, in milliseconds if it is a whole number of them; the greatest has no end.
 fn write_slice(ns: u64, said: &mut Text) {
     if ns == u64::MAX {
         said.push("no end");
@@ -83,7 +83,7 @@ fn write_slice(ns: u64, said: &mut Text) {
     }
 }
 
-/// `enqueue, slot 3: call 1002 dsq_insert`, or `select_cpu, slot 1: exit`.
+/// Writes `enqueue, slot 3: call 1002 dsq_insert`, or `select_cpu, slot 1: exit`.
 pub fn write_place(place: &FaultPlace, said: &mut Text) {
     said.push(place.callback.name());
     said.number(", slot ", place.slot as u64);
@@ -97,7 +97,7 @@ pub fn write_place(place: &FaultPlace, said: &mut Text) {
     }
 }
 
-/// The call with its arguments, `dsq_insert(a, queue 9, 2 ms, 0)`, or the answer.
+/// Writes the call with its arguments, `dsq_insert(a, queue 9, 2 ms, 0)`, or the answer.
 pub fn write_call<N: Names>(place: &FaultPlace, names: &N, said: &mut Text) {
     match place.call {
         Some(call) => write_helper_call(&call, names, said),
@@ -105,7 +105,7 @@ pub fn write_call<N: Names>(place: &FaultPlace, names: &N, said: &mut Text) {
     }
 }
 
-/// A helper's call with its arguments: `dsq_insert(a, queue 9, 2 ms, 0)`.
+/// Writes a helper's call with its arguments: `dsq_insert(a, queue 9, 2 ms, 0)`.
 pub fn write_helper_call<N: Names>(call: &HelperCall, names: &N, said: &mut Text) {
     said.push(name_of(call.helper));
     said.push("(");
@@ -147,7 +147,7 @@ fn write_task<N: Names>(task: Option<u16>, names: &N, said: &mut Text) {
     }
 }
 
-/// What is wrong with it: `no queue 9`.
+/// Writes the reason of the fault: `no queue 9`.
 pub fn write_reason<N: Names>(place: &FaultPlace, names: &N, said: &mut Text) {
     match place.call {
         Some(call) => write_reason_of(place, &call, names, said),
@@ -155,7 +155,7 @@ pub fn write_reason<N: Names>(place: &FaultPlace, names: &N, said: &mut Text) {
     }
 }
 
-/// What is wrong with a call.
+/// Writes the reason of a call's fault.
 fn write_reason_of<N: Names>(place: &FaultPlace, call: &HelperCall, names: &N, said: &mut Text) {
     let queue = queue_of(call);
     match place.fault {
@@ -181,7 +181,7 @@ fn queue_of(call: &HelperCall) -> u64 {
     }
 }
 
-/// The processor that a call names, as such or by its local queue.
+/// The CPU that a call names, directly or by its local queue.
 fn cpu_of(call: &HelperCall) -> u64 {
     match call.helper {
         Helper::DsqInsert | Helper::DsqInsertVtime => call.number_at(1).wrapping_sub(LOCAL_ON),
@@ -189,7 +189,7 @@ fn cpu_of(call: &HelperCall) -> u64 {
     }
 }
 
-/// How tasks wait in a queue into which a call may insert none.
+/// The order of a queue into which this call may insert no task.
 fn other_order(call: &HelperCall) -> &'static str {
     match call.helper {
         Helper::DsqInsert => "by virtual time",
@@ -246,7 +246,7 @@ fn write_no_room(place: &FaultPlace, queue: u64, said: &mut Text) {
     }
 }
 
-/// The queues that the policy has, where one is missing: `; the policy's queues are 0, 1`.
+/// Writes the queues that the policy has, if one is missing: `; the policy's queues are 0, 1`.
 pub fn write_policy_queues(place: &FaultPlace, said: &mut Text) {
     if place.fault == Fault::NoSuchQueue {
         write_queues(place.queues.ids(), said);

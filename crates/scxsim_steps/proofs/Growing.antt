@@ -5,7 +5,8 @@ use Rattle.scx_sched_machine.specs.declared.events.Event.{Event}
 use Rattle.scx_sched_machine.specs.Notes.{Takes}
 use Rattle.scx_sched.specs.Sim.{SimState, after_event, notes_of}
 use Rattle.scxsim_trace.specs.Lines.{NameLists}
-use Rattle.scxsim_steps.specs.Stepping.{notes_within, Grows, HasLines, Kept, Hears, TakesNote, GrowsBy}
+use Rattle.scxsim_trace.specs.Runs.{IsInOrder, Observed}
+use Rattle.scxsim_steps.specs.Stepping.{notes_within, events_within, Grows, HasLines, Kept, Hears, TakesNote, GrowsBy}
 
 -- one note, and then others
 one_grows : (is : Bool) (names : NameLists) (n : Note) (ns rest : List Note) (a b new : List ℕ) → Hears is names n a b → Grows names (ns ++ rest) b new → Grows names (cond is (n ∷ ns) ns ++ rest) a new
@@ -39,75 +40,70 @@ takes_grow (n ∷ ns) rest a b new (u, (stays, ms, names, heard), more) well g =
     let behind = takes_grow ns rest u b new more well (subst P (sym names) g) in
     one_grows (n.clock == a.ms) a.names n (filter (λ m. m.clock == a.ms) ns) rest a.text u.text new (heard (takes_well ns u b more well)).1 (subst R ms (subst Q names behind))
 
--- an event of that millisecond or before it, and then others
-within_next : (f : Bool) (ms : ℕ) (s : SimState) (e : Event) (es : List Event) (names : NameLists) (a new : List ℕ) → nat_lt ms s.state.world.clock ≡ f → f ≡ false
-    → Grows names (filter (λ n. n.clock == ms) (notes_of s e) ++ notes_within ms (after_event s e) es) a new → Grows names (notes_within ms s (e ∷ es)) a new
-within_next f ms s e es names a new is before g =
-    let P : Bool → Type 0 = λ c. Grows names (if c then [] else filter (λ n. n.clock == ms) (notes_of s e) ++ notes_within ms (after_event s e) es) a new in
-    subst P (sym (is ∙ before)) g
+-- ---- events up to the end of a millisecond
 
--- an event after it
-within_past : (ms : ℕ) (s : SimState) (e : Event) (es : List Event) → nat_lt ms s.state.world.clock ≡ true → notes_within ms s (e ∷ es) ≡ []
-within_past ms s e es is =
-    ap (λ c. if c then [] else filter (λ n. n.clock == ms) (notes_of s e) ++ notes_within ms (after_event s e) es) is
+-- the next event comes in time
+pub within_next : (ms clock : ℕ) (s : SimState) (e : Event) (es : List Event) (rest : SimState → List Event) → clock ≡ s.state.world.clock → nat_lt ms clock ≡ false → es ≡ e ∷ rest (after_event s e)
+    → events_within ms s es ≡ e ∷ events_within ms (after_event s e) (rest (after_event s e))
+within_next ms clock s e es rest at before next =
+    ap (λ l. events_within ms s l) next ∙ ap (λ f. if f then [] else e ∷ events_within ms (after_event s e) (rest (after_event s e))) (sym (ap (λ k. nat_lt ms k) at) ∙ before)
 
--- ---- a loop over events
+-- it comes after it
+pub within_past : (ms clock : ℕ) (s : SimState) (e : Event) (es rest : List Event) → clock ≡ s.state.world.clock → nat_lt ms clock ≡ true → es ≡ e ∷ rest → events_within ms s es ≡ []
+within_past ms clock s e es rest at past next =
+    ap (λ l. events_within ms s l) next ∙ ap (λ f. if f then [] else e ∷ events_within ms (after_event s e) rest) (sym (ap (λ k. nat_lt ms k) at) ∙ past)
 
--- what the page becomes from here on is what it becomes from the beginning
-pub record IsUnderWay (s0 : SimState) (es0 : List Event) (a0 : Kept) (s : SimState) (es : List Event) (a : Kept) : Type 0 where
-  pub ms : a.ms ≡ a0.ms
-  pub names : a.names ≡ a0.names
-  pub well : a.lost ≡ false → a0.lost ≡ false
-  pub grows : (new : List ℕ) → Grows a0.names (notes_within a0.ms s es) a.text new → Grows a0.names (notes_within a0.ms s0 es0) a0.text new
+-- no event comes
+pub within_none : (ms : ℕ) (s : SimState) (es : List Event) → es ≡ [] → events_within ms s es ≡ []
+within_none ms s es none = ap (λ l. events_within ms s l) none
 
--- at the beginning
-pub begun : (s : SimState) (es : List Event) (a : Kept) → IsUnderWay s es a s es a
-begun s es a = record { ms = refl; names = refl; well = λ w. w; grows = λ new g. g }
+-- ---- a run of them
 
--- an event further
-pub one_further : (s0 : SimState) (es0 : List Event) (a0 : Kept) (s t : SimState) (es rest : List Event) (e : Event) (a b : Kept)
-    → IsUnderWay s0 es0 a0 s es a → es ≡ e ∷ rest → nat_lt a0.ms s.state.world.clock ≡ false → t ≡ after_event s e → Takes TakesNote a (notes_of s e) b → b.lost ≡ false
-    → IsUnderWay s0 es0 a0 t rest b
-one_further s0 es0 a0 s t es rest e a b way next now state taken well =
-    let text : (new : List ℕ) → Grows a0.names (notes_within a0.ms t rest) b.text new → Grows a0.names (notes_within a0.ms s0 es0) a0.text new = λ new g.
-    let A : SimState → Type 0 = λ x. Grows a0.names (notes_within a0.ms x rest) b.text new in
-    let B : NameLists → Type 0 = λ x. Grows x (notes_within a0.ms (after_event s e) rest) b.text new in
-    let C : NameLists → Type 0 = λ x. Grows x (filter (λ n. n.clock == a.ms) (notes_of s e) ++ notes_within a0.ms (after_event s e) rest) a.text new in
-    let D : ℕ → Type 0 = λ k. Grows a0.names (filter (λ n. n.clock == k) (notes_of s e) ++ notes_within a0.ms (after_event s e) rest) a.text new in
-    let E : List Event → Type 0 = λ l. Grows a0.names (notes_within a0.ms s l) a.text new in
-    let there = subst B (sym way.names) (subst A state g) in
-    let here = takes_grow (notes_of s e) (notes_within a0.ms (after_event s e) rest) a b new taken well there in
-    way.grows new (subst E (sym next) (within_next false a0.ms s e rest a0.names a.text new now refl (subst D way.ms (subst C way.names here)))) in
-    record {
-      ms = takes_ms (notes_of s e) a b taken ∙ way.ms;
-      names = takes_names (notes_of s e) a b taken ∙ way.names;
-      well = λ w. way.well (takes_well (notes_of s e) a b taken w);
-      grows = text;
-    }
+-- nothing came
+none_grows : (a b : Kept) → b ≡ a → b.lost ≡ false → (a.lost ≡ false) × (b.text ≡ a.text)
+none_grows a b same well = (sym (ap (λ k. k.lost) same) ∙ well, ap (λ k. k.text) same)
 
--- the same of a sink that expected the event, and of what a source has left then
-pub next_event : (s0 : SimState) (es0 : List Event) (a0 : Kept) (s t : SimState) (es : List Event) (rest : SimState → List Event) (e : Event) (a u b : Kept) (ms clock : ℕ)
-    → IsUnderWay s0 es0 a0 s es a → es ≡ e ∷ rest (after_event s e) → a0.ms ≡ ms → clock ≡ s.state.world.clock → nat_lt ms clock ≡ false → u ≡ a → t ≡ after_event s e → Takes TakesNote u (notes_of s e) b → b.lost ≡ false
-    → IsUnderWay s0 es0 a0 t (rest t) b
-next_event s0 es0 a0 s t es rest e a u b ms clock way next is_ms is_clock before same state taken well =
-    let P : Kept → Type 0 = λ k. Takes TakesNote k (notes_of s e) b in
-    let Q : SimState → Type 0 = λ x. IsUnderWay s0 es0 a0 x (rest x) b in
-    let now : nat_lt a0.ms s.state.world.clock ≡ false = ap (λ m. nat_lt m s.state.world.clock) is_ms ∙ sym (ap (λ c. nat_lt ms c) is_clock) ∙ before in
-    subst Q (sym state) (one_further s0 es0 a0 s (after_event s e) es (rest (after_event s e)) e a b way next now refl (subst P same taken) well)
+-- an event, and then others
+one_event : (s t : SimState) (e : Event) (es : List Event) (a d c b : Kept) → d ≡ a → Takes TakesNote d (notes_of s e) c
+    → (c.lost ≡ true → (t ≡ after_event s e) × (b ≡ c) × IsInOrder (after_event s e)) → (c.lost ≡ false → GrowsBy (notes_within a.ms (after_event s e) es) c b)
+    → GrowsBy (filter (λ n. n.clock == a.ms) (notes_of s e) ++ notes_within a.ms (after_event s e) es) a b
+one_event s t e es a d c b stays took ends more well = go c.lost refl
+  where
+    taken : Takes TakesNote a (notes_of s e) c
+    taken = let P : Kept → Type 0 = λ k. Takes TakesNote k (notes_of s e) c in subst P stays took
 
--- no event is left
-pub at_end : (s0 : SimState) (es0 : List Event) (a0 : Kept) (s : SimState) (es : List Event) (a : Kept) → IsUnderWay s0 es0 a0 s es a → es ≡ [] → GrowsBy (notes_within a0.ms s0 es0) a0 a
-at_end s0 es0 a0 s es a way none well =
-    let P : List Event → Type 0 = λ l. Grows a0.names (notes_within a0.ms s l) a.text a.text in
-    (way.well well, way.grows a.text (subst P (sym none) refl))
+    go : (f : Bool) → c.lost ≡ f → (a.lost ≡ false) × Grows a.names (filter (λ n. n.clock == a.ms) (notes_of s e) ++ notes_within a.ms (after_event s e) es) a.text b.text
+    go true is = let bad : true ≡ false = sym is ∙ (sym (ap (λ (k : Kept). k.lost) (ends is).1) ∙ well) in absurd (cc)
+    go false is =
+        let P : NameLists → Type 0 = λ x. Grows x (notes_within a.ms (after_event s e) es) c.text b.text in
+        let there = subst P (takes_names (notes_of s e) a c taken) (more is well).1 in
+        (takes_well (notes_of s e) a c taken is, takes_grow (notes_of s e) (notes_within a.ms (after_event s e) es) a c b.text taken is there)
 
--- the next event comes after that millisecond
-pub at_past : (s0 : SimState) (es0 : List Event) (a0 : Kept) (s : SimState) (es rest : List Event) (e : Event) (a : Kept)
-    → IsUnderWay s0 es0 a0 s es a → es ≡ e ∷ rest → nat_lt a0.ms s.state.world.clock ≡ true → GrowsBy (notes_within a0.ms s0 es0) a0 a
-at_past s0 es0 a0 s es rest e a way next past well =
-    let P : List Event → Type 0 = λ l. Grows a0.names (notes_within a0.ms s l) a.text a.text in
-    let Q : List Note → Type 0 = λ l. Grows a0.names l a.text a.text in
-    (way.well well, way.grows a.text (subst P (sym next) (subst Q (sym (within_past a0.ms s e rest past)) refl)))
+-- the next event, if it comes in time
+next_grows : (e : Event) (es : List Event) (s : SimState) (a : Kept) (t : SimState) (b : Kept)
+    → ((c : Kept) → Observed (λ x m e y. y ≡ x) TakesNote (λ k. k.lost) (events_within c.ms (after_event s e) es) (after_event s e) c t b → GrowsBy (notes_within c.ms (after_event s e) es) c b)
+    → (f : Bool) → Observed (λ x m e y. y ≡ x) TakesNote (λ k. k.lost) (if f then [] else e ∷ events_within a.ms (after_event s e) es) s a t b
+    → GrowsBy (if f then [] else filter (λ n. n.clock == a.ms) (notes_of s e) ++ notes_within a.ms (after_event s e) es) a b
+next_grows e es s a t b rest true (still, same, order) = none_grows a b same
+next_grows e es s a t b rest false (d, c, stays, took, order, goes, ends, more) =
+    let Run : ℕ → Type 0 = λ k. Observed (λ x m e y. y ≡ x) TakesNote (λ k. k.lost) (events_within k (after_event s e) es) (after_event s e) c t b in
+    let Grown : ℕ → Type 0 = λ k. GrowsBy (notes_within k (after_event s e) es) c b in
+    let P : Kept → Type 0 = λ k. Takes TakesNote k (notes_of s e) c in
+    let ms : c.ms ≡ a.ms = takes_ms (notes_of s e) a c (subst P stays took) in
+    one_event s t e es a d c b stays took ends (λ f. subst Grown ms (rest c (subst Run (sym ms) (more f))))
+
+-- the page grows by the notes of the millisecond
+pub observed_grows : (es : List Event) (s : SimState) (a : Kept) (t : SimState) (b : Kept) → Observed (λ x m e y. y ≡ x) TakesNote (λ k. k.lost) (events_within a.ms s es) s a t b
+    → GrowsBy (notes_within a.ms s es) a b
+observed_grows [] s a t b (still, same, order) = none_grows a b same
+observed_grows (e ∷ es) s a t b ran = next_grows e es s a t b (λ c x. observed_grows es (after_event s e) c t b x) (nat_lt a.ms s.state.world.clock) ran
+
+-- and so by those of that number
+pub until_grows : (ms : ℕ) (es : List Event) (s : SimState) (a : Kept) (t : SimState) (b : Kept) → a.ms ≡ ms → Observed (λ x m e y. y ≡ x) TakesNote (λ k. k.lost) (events_within ms s es) s a t b
+    → GrowsBy (notes_within a.ms s es) a b
+until_grows ms es s a t b is ran =
+    let Run : ℕ → Type 0 = λ k. Observed (λ x m e y. y ≡ x) TakesNote (λ k. k.lost) (events_within k s es) s a t b in
+    observed_grows es s a t b (subst Run (sym is) ran)
 
 -- ---- the whole page
 

@@ -1,4 +1,4 @@
--- Which millisecond of a run a word names.
+-- The millisecond of a run that a word names.
 use Rattle.std.specs.Prelude.{◌≡◌, ℕ, ◌≤◌, List}
 use Rattle.std.specs.Str.Parse.{IsNumeral, digits_value, without_leading_plus}
 

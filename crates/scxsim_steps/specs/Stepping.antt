@@ -1,4 +1,4 @@
--- What is written of one millisecond of a run, and why it is refused.
+-- The page of one millisecond of a run, and the causes of a refusal.
 use Rattle.std.specs.Prelude.{◌≡◌, ℕ, ◌==◌, nat_lt, if◌then◌else◌, Bool, true, false, List, [], ◌∷◌, ◌++◌, codes}
 use Rattle.std.specs.List.{filter}
 use Rattle.scx_sched_world.specs.declared.notes.Note.{Note}
@@ -17,6 +17,12 @@ notes_within ms s (e ∷ es) =
     if nat_lt ms s.state.world.clock then []
     else filter (λ n. n.clock == ms) (notes_of s e) ++ notes_within ms (after_event s e) es
 
+-- the events up to the end of a millisecond: those before the first that comes after it
+abbrev pub events_within : ℕ → SimState → List Event → List Event
+events_within ms s [] = []
+events_within ms s (e ∷ es) =
+    if nat_lt ms s.state.world.clock then [] else e ∷ events_within ms (after_event s e) es
+
 -- a text grows by the lines of these notes, in their order, with words before each
 abbrev pub Grows : NameLists → List Note → List ℕ → List ℕ → Type 0
 Grows names [] old new = new ≡ old
@@ -30,7 +36,7 @@ pub record HasLines (names : NameLists) (notes : List Note) (text : List ℕ) : 
   pub grown : Grows names notes [] lines
   pub whole : text ≡ lines ++ rest
 
--- the word names a millisecond of the run that the two texts stand for, and the page has
+-- the word names a millisecond of the run of the two texts, and the page has
 -- the lines of its notes
 pub record IsStepped (policy workload word text : List ℕ) : Type 0 where
   pub of_workload : WorkloadState
@@ -41,7 +47,7 @@ pub record IsStepped (policy workload word text : List ℕ) : Type 0 where
   pub has_lines : HasLines (names_of of_workload)
       (notes_within ms first (workload_events of_workload first)) text
 
--- the word names no millisecond of the run that the two texts stand for
+-- the word names no millisecond of the run of the two texts
 pub record IsOutside (policy workload word : List ℕ) : Type 0 where
   pub of_workload : WorkloadState
   pub first : SimState
@@ -56,7 +62,7 @@ IsAnswer false policy workload word text =
 
 -- ---- while a run goes on
 
--- which millisecond it is, the names of tasks and groups, the page up to its last line of a
+-- the millisecond, the names of tasks and groups, the page up to its last line of a
 -- note, and whether there was no memory for one
 pub record Kept : Type 0 where
   pub ms : ℕ

@@ -1,32 +1,18 @@
-ghost use Rattle.std.specs.Prelude.{◌≡◌, ◌+◌, ◌≤◌, [], Some};
-ghost use Rattle.scx_isa_semantics.specs.Arguments.{FitsCallback};
-ghost use Rattle.scx_isa_semantics.specs.Endings.{run_of};
-ghost use Rattle.scx_maps.specs.Contents.{HasShapes};
-ghost use Rattle.scx_vm.specs.Arguments.{program_arguments};
-ghost use Rattle.scx_vm.specs.Host.{answer_to, after_query};
-ghost use Rattle.scx_sched_world.specs.Helpers.{world_functions};
-ghost use Rattle.scx_sched_machine.specs.Budgets.{CanPush, program_pushes};
-ghost use Rattle.scx_sched_machine.specs.Callbacks.{IsAnswered};
-
-use crate::lines::{Lines, end_row};
+use crate::lines::end_row;
 use crate::states::push_state;
 use crate::words::push_value;
 use scx_isa::{Callback, Pointer, Value};
 use scx_load_workloads::Workload;
-use scx_maps::Maps;
 use scx_sched::{Event, Sim};
-use scx_sched_world::World;
-use scx_verify::Verified;
 use scx_vm::{Arg, Args};
-use scxsim_faults::run_seen;
-use scxsim_text::Text;
+use scxsim_output::Text;
 use scxsim_trace::Names;
 use std::alloc::Global;
 
-/// How wide the column of a callback's name is.
+/// The width of the column of callbacks.
 const WIDTH: usize = 12;
 
-/// How far the millisecond is that is told.
+/// The progress of the millisecond that is told.
 #[derive(Clone, Copy, PartialEq, Eq)]
 enum Phase {
     Before,
@@ -36,10 +22,10 @@ enum Phase {
     Over,
 }
 
-/// What is told of a millisecond beside the lines of its notes.
+/// The account of a millisecond, beside the lines of its notes.
 #[derive(Drop)]
 pub(crate) struct Account<'a> {
-    alloc: Global,
+    pub(crate) alloc: Global,
     names: &'a Workload,
     ms: u64,
     phase: Phase,
@@ -49,7 +35,7 @@ pub(crate) struct Account<'a> {
 }
 
 impl<'a> Account<'a> {
-    /// Nothing has happened yet, and that text stands first.
+    /// An account that begins with that text, before anything has happened.
     pub(crate) fn new(alloc: Global, names: &'a Workload, ms: u64, text: Text) -> Account<'a> {
         Account {
             alloc,
@@ -61,7 +47,7 @@ impl<'a> Account<'a> {
         }
     }
 
-    /// That event comes next.
+    /// Expects an event, which comes next.
     pub(crate) fn expect(&mut self, sim: &Sim, event: Event) {
         let is_now = sim.clock() == self.ms;
         let is_clock = matches!(event, Event::Clock);
@@ -104,7 +90,7 @@ impl<'a> Account<'a> {
         push_state(self.alloc, self.names, sim, &mut self.text);
     }
 
-    /// Something comes of the event: what that is stands first.
+    /// Begins the account of the event, as something comes of it.
     pub(crate) fn begin(&mut self) {
         if let Some(event) = self.event {
             self.event = None;
@@ -115,42 +101,8 @@ impl<'a> Account<'a> {
         }
     }
 
-    /// Runs a program, and tells each of its instructions.
-    pub(crate) fn run(
-        &mut self,
-        program: &Verified,
-        arguments: Args,
-        maps: &mut Maps,
-        world: &mut World,
-    ) -> u64
-        requires shapes { HasShapes program.now.context.defs maps.old }
-        requires arguments { FitsCallback program.now.context.callback (program_arguments arguments) }
-        requires quiet { world.old.notes ≡ [] }
-        requires room { CanPush program_pushes world.old }
-        ensures ended { record { answer = Some result; maps = maps.new; outside = world.new }
-            ≡ run_of (answer_to world_functions) (after_query world_functions)
-            program.now.context.callback program.now.code (program_arguments arguments) maps.old
-            world.old }
-        ensures answered { IsAnswered
-            (record {
-              callback = program.now.context.callback;
-              program = program.now;
-              arguments = arguments;
-              maps = maps.old;
-              world = world.old;
-            }) }
-        ensures shapes { HasShapes program.now.context.defs maps.new }
-        ensures few { world.new.queues.pushes ≤ world.old.queues.pushes + program_pushes }
-    {
-        self.push_callback(program.callback(), arguments);
-        let mut lines = Lines::new(self.alloc, self.names, program.program(), &mut self.text);
-        let ran = run_seen(program, arguments, maps, world, &mut lines);
-        lines.end(program.callback(), ran.answer, world);
-        ran.answer
-    }
-
-    /// Tells a callback, with what it is given.
-    fn push_callback(&mut self, callback: Callback, arguments: Args) {
+    /// Tells a callback that begins, with its arguments.
+    pub(crate) fn push_callback(&mut self, callback: Callback, arguments: Args) {
         self.begin();
         let mut words = Text::new(self.alloc);
         push_argument("r1", arguments.first, self.names, &mut words);

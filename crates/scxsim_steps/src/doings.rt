@@ -1,12 +1,12 @@
 use crate::places::Place;
 use crate::words::{push_number, push_value};
 use scx_isa::{Helper, Insn, Operand, Pointer, Register, Value, Width};
-use scx_isa_arithmetic::immediate;
+use scx_isa_semantics::immediate;
 use scx_sched::What;
 use scx_sched_world::World;
 use scx_vm_tagged::Core;
 use scxsim_faults::{HelperCall, write_helper_call};
-use scxsim_text::Text;
+use scxsim_output::Text;
 use scxsim_trace::Names;
 use scxsim_views::{QueueName, fault_words};
 
@@ -17,9 +17,9 @@ pub(crate) struct Before {
     pub(crate) insn: Insn,
     /// From where it loads, if it does.
     source: Option<Place>,
-    /// How many notes the callback has made.
+    /// The number of notes that the callback has made.
     notes: usize,
-    /// Whether it has had a fault.
+    /// True if it has had a fault.
     is_faulty: bool,
 }
 
@@ -91,7 +91,7 @@ fn push_call<N: Names>(number: i32, core: &Core, names: &N, words: &mut Text) {
     }
 }
 
-/// Appends the look-up of an element: in which map, and where the key stands.
+/// Appends the look-up of an element: the map, and the place of the key.
 fn push_lookup<N: Names>(core: &Core, names: &N, words: &mut Text) {
     words.push("map_lookup_elem(");
     push_value(core.read(Register::R1), names, words);
@@ -115,7 +115,7 @@ pub(crate) fn push_after<N: Names>(
     push_effects(before, world, names, words);
 }
 
-/// Goes on behind what is said already, if anything is.
+/// Appends a comma after earlier words, if there are any.
 fn separate(words: &mut Text) {
     if !words.is_empty() {
         words.push(", ");
@@ -154,7 +154,7 @@ fn destination_of(insn: Insn) -> Option<Register> {
     }
 }
 
-/// Appends where control goes behind a jump.
+/// Appends the target of a jump.
 fn push_way(before: Before, slot: usize, words: &mut Text) {
     match before.insn {
         Insn::JumpIf { .. } if slot == before.slot.saturating_add(1) => words.push("goes on"),

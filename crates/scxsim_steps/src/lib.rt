@@ -1,12 +1,11 @@
 //! A millisecond of a run, instruction by instruction: each callback that is called in it, with what its instructions
-//! do, between the lines of the trace; and who runs and who waits before and after.
+//! do, between the lines of the trace; and the tasks that run and wait before and after.
 //!
 //! Each program comes to the end that the machine's own run of it comes to, which the contract of `Sink::run` asks for.
 #![tactic(auto)]
 
 mod account;
 mod doings;
-mod going;
 mod lines;
 mod moments;
 mod page;
@@ -15,6 +14,7 @@ mod starting;
 mod states;
 mod stepper;
 mod telling;
+mod until;
 mod words;
 
 pub use telling::step;

@@ -6,7 +6,7 @@ use scx_isa::{Callback, Program};
 use scx_load_workloads::Workload;
 use scx_sched_world::World;
 use scx_vm_tagged::{Core, Watch};
-use scxsim_text::Text;
+use scxsim_output::Text;
 use std::alloc::Global;
 
 /// Makes a line for each instruction of one run of a program.
@@ -14,7 +14,7 @@ use std::alloc::Global;
 pub(crate) struct Lines<'a, 'b> {
     names: &'a Workload,
     program: &'b Program,
-    /// How wide the column of instructions is.
+    /// The width of the column of instructions.
     width: usize,
     text: &'b mut Text,
     /// The instruction whose line isn't in the text yet, and what is said of it so far.
@@ -39,7 +39,7 @@ impl<'a, 'b> Lines<'a, 'b> {
         }
     }
 
-    /// The run is over, with that answer, and has left the world so.
+    /// Ends the run, with its answer and the world after it.
     pub(crate) fn end(&mut self, callback: Callback, answer: u64, world: &World) {
         if callback.answers() {
             push_answer(answer, &mut self.words);
@@ -47,7 +47,7 @@ impl<'a, 'b> Lines<'a, 'b> {
         self.finish(None, world);
     }
 
-    /// The instruction at that slot comes next: the line of the one before is finished.
+    /// Finishes the line of the instruction before, as the one at that slot comes next.
     fn go_on(&mut self, slot: usize, core: &Core, world: &World) {
         self.finish(Some((slot, core)), world);
         if let Some(insn) = self.program.at(slot) {
@@ -98,7 +98,7 @@ pub(crate) fn end_row(begin: usize, width: usize, second: &Text, text: &mut Text
     text.push("\n");
 }
 
-/// How wide the longest instruction is.
+/// The width of the longest instruction.
 fn width_of(program: &Program) -> usize {
     let mut width = 0;
     for slot in 0..program.slots() {

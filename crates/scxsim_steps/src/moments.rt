@@ -1,7 +1,7 @@
 ghost use Rattle.std.specs.Prelude.{◌≡◌, ℕ, ◌<◌, ◌^◌, IfSome, IfNone};
 ghost use Rattle.scxsim_steps.specs.Moments.{Says, IsMoment};
 
-/// The millisecond that a word names, in a run of so many.
+/// The millisecond that a word names, in a run of that many.
 #[tactic(auto, using(crate::proofs::Refusing::unsaid, crate::proofs::Refusing::past))]
 pub(crate) fn moment_in(word: &str, all: u32) -> Option<u64>
     ensures found { IfSome result (IsMoment all word.now) }

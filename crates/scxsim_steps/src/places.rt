@@ -1,7 +1,7 @@
 use crate::words::{field_name, push_element, push_stack};
 use scx_isa::{Field, Pointer, Register, Size, TaskId, Value};
 use scx_vm_tagged::Core;
-use scxsim_text::Text;
+use scxsim_output::Text;
 use scxsim_trace::Names;
 
 /// Where an instruction loads from or stores to.
@@ -13,7 +13,7 @@ pub(crate) enum Place {
 }
 
 impl Place {
-    /// The place that far behind what the register points to.
+    /// The place at that offset from the register's pointer.
     pub(crate) fn of(core: &Core, register: Register, offset: i16, size: Size) -> Option<Place> {
         match core.read(register) {
             Value::Pointer(Pointer::Task(task)) => {

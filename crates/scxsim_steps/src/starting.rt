@@ -1,13 +1,12 @@
 use crate::stepper::Stepper;
-use scx_load_files::LoadError;
-use scx_load_policies::{BuildError, PolicyText, build, read_policy};
 use scx_load_workloads::Workload;
 use scx_sched::{NewError, Policy, Sim};
 use scx_weights::Tree;
-use scxsim_text::Text;
+use scxsim_faults::policy_of;
+use scxsim_output::Text;
 use std::alloc::{AllocError, Global};
 
-/// What init and enable do, which are called before the first event. Nothing, where that isn't the millisecond 0.
+/// The text of init and enable, which are called before the first event: empty unless the millisecond is 0.
 ///
 /// # Errors
 ///
@@ -30,7 +29,7 @@ pub(crate) fn text_of_start(
     }
 }
 
-/// The same text behind a title, unless it is empty.
+/// The text after a title, unless it is empty.
 fn titled(alloc: Global, text: &Text) -> Text {
     let mut page = Text::new(alloc);
     if !text.is_empty() {
@@ -38,22 +37,6 @@ fn titled(alloc: Global, text: &Text) -> Text {
     }
     page.append(text);
     page
-}
-
-fn policy_of(alloc: Global, text: &str) -> Result<Option<Policy>, AllocError> {
-    match read_policy(alloc, text) {
-        Ok(text) => built(alloc, text),
-        Err(LoadError::NoMemory) => Err(AllocError),
-        Err(_) => Ok(None),
-    }
-}
-
-fn built(alloc: Global, text: PolicyText) -> Result<Option<Policy>, AllocError> {
-    match build(alloc, text) {
-        Ok(policy) => Ok(Some(policy)),
-        Err(BuildError::NoMemory) => Err(AllocError),
-        Err(BuildError::Refused { .. }) => Ok(None),
-    }
 }
 
 fn start_of(alloc: Global, policy: Policy, workload: &Workload) -> Result<Text, AllocError> {
@@ -66,7 +49,7 @@ fn start_of(alloc: Global, policy: Policy, workload: &Workload) -> Result<Text, 
     }
 }
 
-/// Makes the machine of the policy, and tells which callbacks that calls.
+/// Makes the machine of the policy, and tells the callbacks that are called for it.
 fn start_with(
     alloc: Global,
     policy: Policy,

@@ -3,6 +3,7 @@ ghost use Rattle.scxsim_trace.specs.Lines.{names_of, note_line};
 ghost use Rattle.scxsim_steps.specs.Stepping.{TakesNote};
 
 use crate::account::Account;
+use crate::lines::Lines;
 use crate::page::Page;
 use scx_load_workloads::Workload;
 use scx_maps::Maps;
@@ -11,9 +12,9 @@ use scx_sched_world::World;
 use scx_verify::Verified;
 use scx_vm::Args;
 use scx_vm_run::Core;
-use scxsim_output::{Failed, write_all};
-use scxsim_text::Text;
-use scxsim_trace::Trace;
+use scxsim_faults::run_seen;
+use scxsim_output::{Failed, Text, write_all};
+use scxsim_trace::{EventSink, Trace};
 use std::alloc::{AllocError, Global};
 use std::marker::Model;
 
@@ -27,7 +28,7 @@ pub(crate) struct Stepper<'a> {
     ms: u64,
     page: Page,
     lost: bool,
-    /// What comes behind the page.
+    /// The text that comes after the page.
     account: Account<'a>,
 }
 
@@ -46,7 +47,7 @@ impl<'a> Model for Stepper<'a> {
 }
 
 impl<'a> Stepper<'a> {
-    /// Nothing is written yet but what comes first.
+    /// A stepper that has written nothing but the first text.
     pub(crate) fn new(alloc: Global, names: &'a Workload, ms: u64, first: Text) -> Stepper<'a>
         ensures ms { result.ms ≡ ms }
         ensures names { result.names ≡ names_of names.now }
@@ -62,14 +63,7 @@ impl<'a> Stepper<'a> {
         }
     }
 
-    /// That event comes next.
-    pub(crate) fn expect(&mut self, sim: &Sim, event: Event)
-        ensures { self.new ≡ self.old }
-    {
-        self.account.expect(sim, event);
-    }
-
-    /// A note of that millisecond comes.
+    /// Writes a note of that millisecond.
     fn hear(&mut self, note: Note)
         ensures ms { self.new.ms ≡ self.old.ms }
         ensures names { self.new.names ≡ self.old.names }
@@ -86,14 +80,14 @@ impl<'a> Stepper<'a> {
         }
     }
 
-    /// Whether a note is of that millisecond.
+    /// True if the note is of that millisecond.
     fn is_now(&self, note: Note) -> bool
         ensures { result ≡ (note.clock == self.now.ms) }
     {
         note.clock == self.ms
     }
 
-    /// The run is over: what is left is written.
+    /// Ends the run: the remaining text is written.
     pub(crate) fn end(&mut self, sim: &Sim) -> Result<(), AllocError>
         ensures names { self.new.names ≡ self.old.names }
         ensures well { OnOk result (self.old.lost ≡ false) }
@@ -107,7 +101,7 @@ impl<'a> Stepper<'a> {
         Ok(())
     }
 
-    /// What was written where there were no notes.
+    /// The text that was written, if there were no notes.
     pub(crate) fn into_text(self) -> Text {
         let Stepper { page, account, .. } = self;
         drop(page);
@@ -115,7 +109,7 @@ impl<'a> Stepper<'a> {
         text
     }
 
-    /// What stands on the page.
+    /// The bytes of the page.
     pub(crate) fn into_page(self) -> Vec<u8>
         ensures { result.items ≡ self.entry.text }
     {
@@ -157,11 +151,25 @@ impl Sink for Stepper<'_> {
         if world.clock() != self.ms {
             return Unseen.run(core, program, arguments, maps, world);
         }
-        self.account.run(program, arguments, maps, world)
+        self.account.push_callback(program.callback(), arguments);
+        let alloc = self.account.alloc;
+        let text = &mut self.account.text;
+        let mut lines = Lines::new(alloc, self.names, program.program(), text);
+        let ran = run_seen(program, arguments, maps, world, &mut lines);
+        lines.end(program.callback(), ran.answer, world);
+        ran.answer
     }
 }
 
-/// Writes what is left.
+impl EventSink for Stepper<'_> {
+    ghost comes = { λ a s e b. b ≡ a };
+
+    fn event(&mut self, sim: &Sim, event: Event) {
+        self.account.expect(sim, event);
+    }
+}
+
+/// Writes the remaining text.
 fn push_rest(page: &mut Page, rest: &str) -> Result<(), AllocError>
     ensures { OnOk result (page.new.bytes.items ≡ page.old.bytes.items ++ rest.now) }
 {

@@ -7,10 +7,10 @@ ghost use Rattle.scxsim_commands.specs.Outcome.{IfRefused, IsRefused};
 ghost use Rattle.scxsim_simulation.specs.Runs.{IsCause};
 ghost use Rattle.scxsim_steps.specs.Stepping.{notes_within, HasLines, IsStepped, IsOutside, IsAnswer};
 
-use crate::going::go_through;
 use crate::moments::moment_in;
 use crate::starting::text_of_start;
 use crate::stepper::Stepper;
+use crate::until::go_until;
 use scx_load_workloads::Workload;
 use scx_sched::Sim;
 use scxsim_commands::{Fault, Refusal};
@@ -19,9 +19,9 @@ use scxsim_simulation::{Heard, Listener, Run, give_back, prepare};
 use scxsim_trace::Events;
 use std::alloc::{AllocError, Global};
 
-/// Writes what happens in that millisecond, by the clock of a trace, of the run that the texts of a policy file and
-/// of a workload file stand for: each callback that is called, instruction by instruction, and each note. The answer
-/// is true, or false where the word is refused.
+/// Writes what happens in that millisecond, by the clock of a trace, of the run of a policy file and a workload file:
+/// each callback that is called, instruction by instruction, and each note. The result is true, or false if the word
+/// is refused.
 ///
 /// # Errors
 ///
@@ -106,7 +106,7 @@ fn page_at<L: Listener>(
     page
 }
 
-/// The same of a run that is lent.
+/// The page of that millisecond of a run that is lent.
 #[tactic(auto, using(crate::proofs::Growing::lines_of_end))]
 fn page_from<E: Events>(
     alloc: Global,
@@ -121,7 +121,7 @@ fn page_from<E: Events>(
 {
     let first = text_of_start(alloc, policy, workload, ms)?;
     let mut stepper = Stepper::new(alloc, workload, ms, first);
-    go_through(sim, events, ms, &mut stepper);
+    go_until(sim, events, ms, &mut stepper);
     stepper.end(sim)?;
     Ok(stepper.into_page())
 }

@@ -1,6 +1,7 @@
 use scx_isa::{Field, Pointer, STACK_SIZE, Value};
-use scx_sched_world::{GLOBAL, LOCAL, LOCAL_ON};
-use scxsim_text::Text;
+use scx_sched_world::{GLOBAL, LOCAL};
+use scxsim_faults::is_local;
+use scxsim_output::Text;
 use scxsim_trace::Names;
 
 /// A millisecond in nanoseconds.
@@ -36,7 +37,7 @@ pub(crate) fn push_value<N: Names>(value: Value, names: &N, text: &mut Text) {
     }
 }
 
-/// Appends a number, and what it may stand for: a queue of the machine, a number below 0, or a time.
+/// Appends a number, and its possible meaning: a queue of the machine, a number below 0, or a time.
 pub(crate) fn push_number(n: u64, text: &mut Text) {
     text.number("", n);
     if n == GLOBAL {
@@ -53,11 +54,6 @@ pub(crate) fn push_number(n: u64, text: &mut Text) {
         text.number(" (", n / MS);
         text.push(" ms)");
     }
-}
-
-/// Whether the number may be read as the local queue of a processor.
-fn is_local(n: u64) -> bool {
-    LOCAL_ON <= n && n - LOCAL_ON <= u64::from(u32::MAX)
 }
 
 /// Appends a place on the stack, by its distance from the top.
