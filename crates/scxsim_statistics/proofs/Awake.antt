@@ -16,7 +16,7 @@ use Rattle.scxsim_views.specs.Watching.{noted_all, kept_of_all}
 use Rattle.scxsim_statistics.specs.declared.bursts.BurstFigures.{BurstFigures}
 use Rattle.scxsim_statistics.specs.Lengths.{Lengths, at_most_64_bits, with_length}
 use Rattle.scxsim_statistics.specs.Bursts.{no_bursts, bursts_at, burst_ms, with_woke, with_burst, with_ran, bursts_noted}
-use Rattle.scxsim_statistics.specs.Counting.{Counts, counts_after_note, counts_after_event}
+use Rattle.scxsim_statistics.specs.Counting.{RunCounts, counts_after_note, counts_after_event}
 use Rattle.scxsim_statistics.specs.Figures.{is_wake, is_sleep, burst_if, bursts_in, bursts_of, greatest, sends_to_sleep, ran_asleep_in, IsOfBursts}
 use Rattle.scxsim_statistics.proofs.Places.{at_changed, at_changed_by, part_stays}
 use Rattle.scxsim_statistics.proofs.Percentiles.{times_with, are_percentiles}
@@ -31,7 +31,7 @@ record Row : Type 0 where
 abbrev row_in : BurstFigures → Row
 row_in x = record { lengths = x.lengths; woke = x.woke }
 
-abbrev row : ℕ → Counts → Row
+abbrev row : ℕ → RunCounts → Row
 row t k = row_in (bursts_at k.bursts t)
 
 abbrev ended_if : Bool → ℕ → Row → Row
@@ -98,12 +98,12 @@ length_noted (Fault f) clock xs = refl
 
 -- several notes
 
-record AreNoted (t : ℕ) (ns : List Note) (k j : Counts) : Type 0 where
+record AreNoted (t : ℕ) (ns : List Note) (k j : RunCounts) : Type 0 where
   pub there : t < length j.bursts
   pub same : row t j ≡ row_all t ns (row t k)
   pub ran : (bursts_at j.bursts t).ran ≡ (bursts_at k.bursts t).ran
 
-notes_told : (t : ℕ) (ns : List Note) (k : Counts) → t < length k.bursts → AreNoted t ns k (noted_all counts_after_note ns k)
+notes_told : (t : ℕ) (ns : List Note) (k : RunCounts) → t < length k.bursts → AreNoted t ns k (noted_all counts_after_note ns k)
 notes_told t [] k within = record { there = within; same = refl; ran = refl }
 notes_told t (n ∷ ns) k within =
     let later = notes_told t ns (counts_after_note n.clock n.what k) (subst (λ m. t < m) (sym (length_noted n.what n.clock k.bursts)) within) in
@@ -123,12 +123,12 @@ row_said : (b : Bool) (ms : ℕ) (x : BurstFigures) → row_in (cond b (with_ran
 row_said true ms x = refl
 row_said false ms x = refl
 
-record IsEvent (t : ℕ) (s : SimState) (e : Event) (k : Counts) : Type 0 where
+record IsEvent (t : ℕ) (s : SimState) (e : Event) (k : RunCounts) : Type 0 where
   pub there : t < length (counts_after_event s e k).bursts
   pub same : row t (counts_after_event s e k) ≡ row t k
   pub ran : (bursts_at (counts_after_event s e k).bursts t).ran ≡ cond (sends_to_sleep t e) (ran_ms (task_at s.state.world t)) (bursts_at k.bursts t).ran
 
-event_told : (t : ℕ) (s : SimState) (e : Event) (k : Counts) → t < length k.bursts → IsEvent t s e k
+event_told : (t : ℕ) (s : SimState) (e : Event) (k : RunCounts) → t < length k.bursts → IsEvent t s e k
 event_told t s (event.Sleep u) k within =
     let ran : ℕ → ℕ = λ i. ran_ms (task_at s.state.world i) in
     let at = at_changed_by (λ i x. with_ran (ran i) x) k.bursts u t no_bursts within in
@@ -148,7 +148,7 @@ row_all_append t (n ∷ ns) ms r = row_all_append t ns ms (row_noted t n r)
 
 -- what is kept of a task after a run is what the notes of the run make of it, and how long it had
 -- run as it went to sleep last
-bursts_told : (t : ℕ) (es : List Event) (s : SimState) (k : Counts) → t < length k.bursts
+bursts_told : (t : ℕ) (es : List Event) (s : SimState) (k : RunCounts) → t < length k.bursts
     → (row t (kept_of_all counts_after_event counts_after_note s es k) ≡ row_all t (notes_of_all s es) (row t k))
     × ((bursts_at (kept_of_all counts_after_event counts_after_note s es k).bursts t).ran ≡ ran_asleep_in t (bursts_at k.bursts t).ran s es)
 bursts_told t [] s k within = (refl, refl)
@@ -224,7 +224,7 @@ lengths_told t [] r a b count total first = none_told t r a b count total
 lengths_told t (n ∷ ns) r a b count total first = one_told t ns (is_sleep t n.what) (is_wake t n.what) n.clock r a b (lengths_told t ns) count total first
 
 -- of a task of which nothing was counted before the run
-pub are_of_bursts : (t : ℕ) (s : SimState) (es : List Event) (k : Counts) → t < length k.bursts → bursts_at k.bursts t ≡ no_bursts
+pub are_of_bursts : (t : ℕ) (s : SimState) (es : List Event) (k : RunCounts) → t < length k.bursts → bursts_at k.bursts t ≡ no_bursts
     → IsOfBursts t s es (notes_of_all s es) (bursts_at (kept_of_all counts_after_event counts_after_note s es k).bursts t)
 are_of_bursts t s es k within unused =
     let ns = notes_of_all s es in

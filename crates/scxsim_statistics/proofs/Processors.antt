@@ -12,7 +12,7 @@ use Rattle.scx_sched.specs.Sim.{SimState, after_event, notes_of}
 use Rattle.scxsim_views.specs.Watching.{noted_all, kept_of_all}
 use Rattle.scxsim_statistics.specs.declared.tally.CpuFigures.{CpuFigures}
 use Rattle.scxsim_statistics.specs.Lengths.{one_if, at_most_64_bits, up}
-use Rattle.scxsim_statistics.specs.Counting.{Counts, unused_cpu, cpu_at, with_tick, with_begin, cpus_counted, counts_after_note, counts_after_event}
+use Rattle.scxsim_statistics.specs.Counting.{RunCounts, unused_cpu, cpu_at, with_tick, with_begin, cpus_counted, counts_after_note, counts_after_event}
 use Rattle.scxsim_statistics.specs.Figures.{is_tick, busy_in, idle_in}
 use Rattle.scxsim_statistics.proofs.Places.{at_changed_by, part_stays}
 use Rattle.scxsim_statistics.proofs.Told.{more_if}
@@ -48,12 +48,12 @@ length_noted (Stall t) cpus = refl
 length_noted (Fault f) cpus = refl
 
 -- the same of a processor that is there
-pub record IsSame (c : ℕ) (k j : Counts) : Type 0 where
+pub record IsSame (c : ℕ) (k j : RunCounts) : Type 0 where
   pub there : length j.cpus ≡ length k.cpus
   pub busy : (cpu_at j.cpus c).busy ≡ (cpu_at k.cpus c).busy
   pub idle : (cpu_at j.cpus c).idle ≡ (cpu_at k.cpus c).idle
 
-notes_keep : (ns : List Note) (k : Counts) (c : ℕ) → c < length k.cpus → IsSame c k (noted_all counts_after_note ns k)
+notes_keep : (ns : List Note) (k : RunCounts) (c : ℕ) → c < length k.cpus → IsSame c k (noted_all counts_after_note ns k)
 notes_keep [] k c within = record { there = refl; busy = refl; idle = refl }
 notes_keep (n ∷ ns) k c within =
     let one = note_keeps n.what k.cpus c within in
@@ -70,19 +70,19 @@ tick_said true false x = (refl, refl)
 tick_said false busy x = (refl, refl)
 
 -- what an event makes of a processor
-pub record IsTicked (c : ℕ) (s : SimState) (e : Event) (k : Counts) : Type 0 where
+pub record IsTicked (c : ℕ) (s : SimState) (e : Event) (k : RunCounts) : Type 0 where
   pub there : length (counts_after_event s e k).cpus ≡ length k.cpus
   pub busy : (cpu_at (counts_after_event s e k).cpus c).busy ≡ cond (is_tick c e && is_some (running s.state.world c)) (up (cpu_at k.cpus c).busy) (cpu_at k.cpus c).busy
   pub idle : (cpu_at (counts_after_event s e k).cpus c).idle ≡ cond (is_tick c e && not (is_some (running s.state.world c))) (up (cpu_at k.cpus c).idle) (cpu_at k.cpus c).idle
 
-untouched : (c : ℕ) (s : SimState) (e : Event) (k : Counts) → counts_after_event s e k ≡ k → is_tick c e ≡ false → IsTicked c s e k
+untouched : (c : ℕ) (s : SimState) (e : Event) (k : RunCounts) → counts_after_event s e k ≡ k → is_tick c e ≡ false → IsTicked c s e k
 untouched c s e k same neither = record {
-  there = ap (λ (j : Counts). length j.cpus) same;
-  busy = rw neither (ap (λ (j : Counts). (cpu_at j.cpus c).busy) same);
-  idle = rw neither (ap (λ (j : Counts). (cpu_at j.cpus c).idle) same);
+  there = ap (λ (j : RunCounts). length j.cpus) same;
+  busy = rw neither (ap (λ (j : RunCounts). (cpu_at j.cpus c).busy) same);
+  idle = rw neither (ap (λ (j : RunCounts). (cpu_at j.cpus c).idle) same);
 }
 
-is_ticked : (c : ℕ) (s : SimState) (e : Event) (k : Counts) → c < length k.cpus → IsTicked c s e k
+is_ticked : (c : ℕ) (s : SimState) (e : Event) (k : RunCounts) → c < length k.cpus → IsTicked c s e k
 is_ticked c s (event.Tick b) k within =
     let busy : ℕ → Bool = λ i. is_some (running s.state.world i) in
     let at = at_changed_by (λ i x. with_tick (busy i) x) k.cpus b c unused_cpu within in
@@ -106,7 +106,7 @@ none : (a : ℕ) → a ≡ a + 0
 none a = omega arith
 
 -- a processor's busy and idle ticks in a run are added to those that were counted before
-pub cpu_told : (c : ℕ) (es : List Event) (s : SimState) (k : Counts) (a b : ℕ) → c < length k.cpus
+pub cpu_told : (c : ℕ) (es : List Event) (s : SimState) (k : RunCounts) (a b : ℕ) → c < length k.cpus
     → (cpu_at k.cpus c).busy ≡ at_most_64_bits a → (cpu_at k.cpus c).idle ≡ at_most_64_bits b
     → ((cpu_at (kept_of_all counts_after_event counts_after_note s es k).cpus c).busy ≡ at_most_64_bits (a + busy_in c s es)) × ((cpu_at (kept_of_all counts_after_event counts_after_note s es k).cpus c).idle ≡ at_most_64_bits (b + idle_in c s es))
 cpu_told c [] s k a b within busy idle = (busy ∙ ap at_most_64_bits (none a), idle ∙ ap at_most_64_bits (none b))
@@ -125,11 +125,11 @@ cpu_told c (e ∷ es) s k a b within busy idle =
     )
 
 -- as many processors as before
-pub cpus_stay : (es : List Event) (s : SimState) (k : Counts) → length (kept_of_all counts_after_event counts_after_note s es k).cpus ≡ length k.cpus
+pub cpus_stay : (es : List Event) (s : SimState) (k : RunCounts) → length (kept_of_all counts_after_event counts_after_note s es k).cpus ≡ length k.cpus
 cpus_stay [] s k = refl
 cpus_stay (e ∷ es) s k = cpus_stay es (after_event s e) (noted_all counts_after_note (notes_of s e) (counts_after_event s e k)) ∙ in_notes (notes_of s e) (counts_after_event s e k) ∙ at_event e
   where
-    in_notes : (ns : List Note) (j : Counts) → length (noted_all counts_after_note ns j).cpus ≡ length j.cpus
+    in_notes : (ns : List Note) (j : RunCounts) → length (noted_all counts_after_note ns j).cpus ≡ length j.cpus
     in_notes [] j = refl
     in_notes (n ∷ ns) j = in_notes ns (counts_after_note n.clock n.what j) ∙ length_noted n.what j.cpus
 

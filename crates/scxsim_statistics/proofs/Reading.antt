@@ -1,4 +1,4 @@
--- The figures of the run that texts stand for.
+-- The figures of the run of two texts.
 use Rattle.std.proofs.Common.{◌≡◌, ℕ, List, Ok, length, sym, ap, subst, ◌∙◌}
 use Rattle.std.specs.Prelude.{String, string_bytes}
 use Rattle.std.specs.declared.alloc.Global.{Global}
@@ -21,7 +21,7 @@ all_there : (policy workload : List ℕ) (w : WorkloadState) (s : SimState) → 
 all_there policy workload w s run =
     tasks_stay (workload_events w s) s run.accepted ∙ (like_first run.begun.machine (idle w.groups w.homes) w.cpus s.state run.begun.first.0).1.0
 
--- figures of the run that two texts stand for, through all its events, are figures of the texts
+-- figures of the run of two texts, through all its events, are figures of the texts
 pub of_texts : (policy workload : List ℕ) (w : WorkloadState) (s : SimState) (es : List Event) (f : Figures)
     → f.workload ≡ w → IsRun policy workload w s → es ≡ workload_events w s → AreOfRun w s es (of_figures f) → name_in policy ≡ Ok (string_bytes f.policy_name) → AreOfTexts policy workload f
 of_texts policy workload w s es f same run events figures named =
@@ -40,7 +40,7 @@ all_listed : (policy events : List ℕ) (r : ReplayState) (s : SimState) → IsR
 all_listed policy events r s run =
     tasks_stay (replay_events r) s run.accepted ∙ (like_first run.begun.machine (idle r.workload.groups r.workload.homes) r.workload.cpus s.state run.begun.first.0).1.0
 
--- the same of a policy's text and a file of events
+-- figures of the run of a policy's text and a file of events are figures of these
 pub of_events : (policy events : List ℕ) (r : ReplayState) (w : WorkloadState) (s : SimState) (es : List Event) (f : Figures)
     → f.workload ≡ w → w ≡ r.workload → IsReplayRun policy events r s → es ≡ replay_events r → AreOfRun w s es (of_figures f) → name_in policy ≡ Ok (string_bytes f.policy_name) → AreOfEvents policy events f
 of_events policy events r w s es f same of run listed figures named =
@@ -55,6 +55,12 @@ of_events policy events r w s es f same of run listed figures named =
       named = named;
     }
 
--- what was taken over is the name that it was taken from
+-- a name that was taken over from the run is the policy's
 pub name_is : (policy : List ℕ) (f g : String Global) → f ≡ g → name_in policy ≡ Ok (string_bytes g) → name_in policy ≡ Ok (string_bytes f)
 name_is policy f g same named = named ∙ ap (λ n. Ok (string_bytes n)) (sym same)
+
+-- the run of two texts has that workload and begins with that state, however these are called
+pub is_run_of : (policy workload : List ℕ) (v w : WorkloadState) (s t : SimState) → v ≡ w → s ≡ t → IsRun policy workload w t → IsRun policy workload v s
+is_run_of policy workload v w s t same first run =
+    let P : WorkloadState → Type 0 = λ x. IsRun policy workload x s in
+    subst P (sym same) (subst (λ x. IsRun policy workload w x) (sym first) run)

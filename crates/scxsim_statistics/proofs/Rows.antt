@@ -16,7 +16,7 @@ use Rattle.scxsim_views.specs.declared.pauses.Pause.{Pause}
 use Rattle.scxsim_views.specs.Pauses.{sleeps, is_parked, doing_at, of_task, does, pause_of, ending_pause, doing_with, doing_after, ended_with, ended_by}
 use Rattle.scxsim_views.specs.Watching.{noted_all, kept_of_all}
 use Rattle.scxsim_statistics.specs.declared.tally.TaskFigures.{TaskFigures}
-use Rattle.scxsim_statistics.specs.Counting.{Counts, no_figures, figures_at, with_wake, with_stop, with_pause, after_pause, counted_for, cut_off, stop_counted, tasks_counted, counts_after_note, counts_after_event}
+use Rattle.scxsim_statistics.specs.Counting.{RunCounts, no_figures, figures_at, with_wake, with_stop, with_pause, after_pause, counted_for, cut_off, stop_counted, tasks_counted, counts_after_note, counts_after_event}
 use Rattle.scxsim_statistics.specs.Figures.{is_that, is_of, does_at}
 use Rattle.scxsim_statistics.proofs.Places.{at_changed}
 
@@ -157,7 +157,7 @@ pub record Row : Type 0 where
   pub doing : Doing
   pub figures : TaskFigures
 
-abbrev pub row : ℕ → Counts → Row
+abbrev pub row : ℕ → RunCounts → Row
 row t k = record { doing = doing_at k.doing t; figures = figures_at k.tasks t }
 
 abbrev pub figures_noted : Bool → ℕ → ℕ → What → Doing → TaskFigures → TaskFigures
@@ -172,12 +172,12 @@ row_all t [] r = r
 row_all t (n ∷ ns) r = row_all t ns (row_noted t n r)
 
 -- the task is there
-pub record IsThere (t : ℕ) (k : Counts) : Type 0 where
+pub record IsThere (t : ℕ) (k : RunCounts) : Type 0 where
   pub tasks : t < length k.tasks
   pub doing : t < length k.doing
 
 -- a task that is there is there after a note too
-pub there_noted : (t now : ℕ) (what : What) (k : Counts) → IsThere t k → IsThere t (counts_after_note now what k)
+pub there_noted : (t now : ℕ) (what : What) (k : RunCounts) → IsThere t k → IsThere t (counts_after_note now what k)
 there_noted t now what k there = record {
   tasks = subst (λ n. t < n) (sym (length_counted what (doing_after now what k.doing) (after_pause (ended_by now what k.doing) k.tasks) ∙ length_paused (ended_by now what k.doing) k.tasks)) there.tasks;
   doing = subst (λ n. t < n) (sym (length_doing (of_task what) now what k.doing)) there.doing;
@@ -188,7 +188,7 @@ count_joined : (b : Bool) (what : What) (now t : ℕ) (d e : Doing) (x y z : Tas
 count_joined true what now t d e x y z e_is y_is z_is = z_is ∙ ap (λ f. counted_for what f y) e_is ∙ ap (λ w. counted_for what (does now what d) w) y_is
 count_joined false what now t d e x y z e_is y_is z_is = z_is ∙ y_is
 
-figures_one : (t : ℕ) (n : Note) (k : Counts) → IsThere t k → figures_at (counts_after_note n.clock n.what k).tasks t ≡ (row_noted t n (row t k)).figures
+figures_one : (t : ℕ) (n : Note) (k : RunCounts) → IsThere t k → figures_at (counts_after_note n.clock n.what k).tasks t ≡ (row_noted t n (row t k)).figures
 figures_one t n k there =
     let q = ended_by n.clock n.what k.doing in
     count_joined (is_of t n.what) n.what n.clock t (doing_at k.doing t) (doing_at (doing_after n.clock n.what k.doing) t) (figures_at k.tasks t) (figures_at (after_pause q k.tasks) t) (figures_at (counts_after_note n.clock n.what k).tasks t)
@@ -199,7 +199,7 @@ figures_one t n k there =
 two_parts : (d : Doing) (x : TaskFigures) (r : Row) → d ≡ r.doing → x ≡ r.figures → record { doing = d; figures = x } ≡ r
 two_parts d x r same_doing same_figures = ap (λ e. record { doing = e; figures = x }) same_doing ∙ ap (λ y. record { doing = r.doing; figures = y }) same_figures
 
-row_one : (t : ℕ) (n : Note) (k : Counts) → IsThere t k → row t (counts_after_note n.clock n.what k) ≡ row_noted t n (row t k)
+row_one : (t : ℕ) (n : Note) (k : RunCounts) → IsThere t k → row t (counts_after_note n.clock n.what k) ≡ row_noted t n (row t k)
 row_one t n k there =
     two_parts (doing_at (counts_after_note n.clock n.what k).doing t) (figures_at (counts_after_note n.clock n.what k).tasks t) (row_noted t n (row t k))
     (doing_one (of_task n.what) n.clock n.what k.doing t there.doing) (figures_one t n k there)
@@ -207,13 +207,13 @@ row_one t n k there =
 -- ---- notes and events
 
 -- a task's row after what is counted of notes is what these notes make of its row alone
-pub row_of_notes : (t : ℕ) (ns : List Note) (k : Counts) → IsThere t k → IsThere t (noted_all counts_after_note ns k) × (row t (noted_all counts_after_note ns k) ≡ row_all t ns (row t k))
+pub row_of_notes : (t : ℕ) (ns : List Note) (k : RunCounts) → IsThere t k → IsThere t (noted_all counts_after_note ns k) × (row t (noted_all counts_after_note ns k) ≡ row_all t ns (row t k))
 row_of_notes t [] k there = (there, refl)
 row_of_notes t (n ∷ ns) k there =
     let later = row_of_notes t ns (counts_after_note n.clock n.what k) (there_noted t n.clock n.what k there) in
     (later.0, later.1 ∙ ap (λ r. row_all t ns r) (row_one t n k there))
 
-same_rows : (t : ℕ) (s : SimState) (e : Event) (k : Counts) → IsThere t k → IsThere t (counts_after_event s e k) × (row t (counts_after_event s e k) ≡ row t k)
+same_rows : (t : ℕ) (s : SimState) (e : Event) (k : RunCounts) → IsThere t k → IsThere t (counts_after_event s e k) × (row t (counts_after_event s e k) ≡ row t k)
 same_rows t s (event.Wake u) k there = (there, refl)
 same_rows t s (event.Sleep u) k there = (record { tasks = there.tasks; doing = there.doing }, refl)
 same_rows t s (event.Tick c) k there = (record { tasks = there.tasks; doing = there.doing }, refl)
@@ -226,7 +226,7 @@ row_all_append t [] ms r = refl
 row_all_append t (n ∷ ns) ms r = row_all_append t ns ms (row_noted t n r)
 
 -- a task's row after what is counted of a run is what the notes of the run make of it
-pub row_of_run : (t : ℕ) (es : List Event) (s : SimState) (k : Counts) → IsThere t k
+pub row_of_run : (t : ℕ) (es : List Event) (s : SimState) (k : RunCounts) → IsThere t k
     → IsThere t (kept_of_all counts_after_event counts_after_note s es k) × (row t (kept_of_all counts_after_event counts_after_note s es k) ≡ row_all t (notes_of_all s es) (row t k))
 row_of_run t [] s k there = (there, refl)
 row_of_run t (e ∷ es) s k there =
@@ -239,13 +239,13 @@ row_of_run t (e ∷ es) s k there =
     )
 
 -- as many tasks as before
-notes_keep : (ns : List Note) (k : Counts) → length (noted_all counts_after_note ns k).tasks ≡ length k.tasks
+notes_keep : (ns : List Note) (k : RunCounts) → length (noted_all counts_after_note ns k).tasks ≡ length k.tasks
 notes_keep [] k = refl
 notes_keep (n ∷ ns) k =
     let q = ended_by n.clock n.what k.doing in
     notes_keep ns (counts_after_note n.clock n.what k) ∙ length_counted n.what (doing_after n.clock n.what k.doing) (after_pause q k.tasks) ∙ length_paused q k.tasks
 
-event_keeps : (s : SimState) (e : Event) (k : Counts) → (counts_after_event s e k).tasks ≡ k.tasks
+event_keeps : (s : SimState) (e : Event) (k : RunCounts) → (counts_after_event s e k).tasks ≡ k.tasks
 event_keeps s (event.Wake u) k = refl
 event_keeps s (event.Sleep u) k = refl
 event_keeps s (event.Tick c) k = refl
@@ -253,7 +253,7 @@ event_keeps s event.Clock k = refl
 event_keeps s (event.SetWeight g x) k = refl
 
 -- what is counted of a run has as many tasks as before it
-pub tasks_kept : (es : List Event) (s : SimState) (k : Counts) → length (kept_of_all counts_after_event counts_after_note s es k).tasks ≡ length k.tasks
+pub tasks_kept : (es : List Event) (s : SimState) (k : RunCounts) → length (kept_of_all counts_after_event counts_after_note s es k).tasks ≡ length k.tasks
 tasks_kept [] s k = refl
 tasks_kept (e ∷ es) s k =
     tasks_kept es (after_event s e) (noted_all counts_after_note (notes_of s e) (counts_after_event s e k)) ∙ notes_keep (notes_of s e) (counts_after_event s e k) ∙ ap (λ xs. length xs) (event_keeps s e k)

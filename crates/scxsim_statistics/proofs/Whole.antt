@@ -17,9 +17,10 @@ use Rattle.scxsim_views.specs.declared.pauses.Pause.{Pause}
 use Rattle.scxsim_views.specs.declared.pauses.PauseKind.{PauseKind}
 use Rattle.scxsim_views.specs.declared.pauses.PauseKind.TheVariants as kind
 use Rattle.scxsim_views.specs.Pauses.{doing_at, pause_of, open_pause}
-use Rattle.scxsim_views.specs.Watching.{Watches, kept_of_all, CountsEvent, CountsNote}
+use Rattle.scxsim_trace.specs.Observing.{Watches}
+use Rattle.scxsim_views.specs.Watching.{kept_of_all, CountsEvent, CountsNote}
 use Rattle.scxsim_views.proofs.Keeping.{run_is_kept}
-use Rattle.scxsim_statistics.specs.declared.tally.Tally.{Tally}
+use Rattle.scxsim_statistics.specs.declared.tally.RunTally.{RunTally}
 use Rattle.scxsim_statistics.specs.declared.tally.TaskFigures.{TaskFigures}
 use Rattle.scxsim_statistics.specs.declared.tally.CpuFigures.{CpuFigures}
 use Rattle.scx_sched_world.specs.declared.eject.Eject.{Eject}
@@ -27,7 +28,7 @@ use Rattle.scxsim_statistics.specs.declared.gathering.Gathered.{Gathered}
 use Rattle.scxsim_statistics.specs.Lengths.{no_lengths, at_most_64_bits, length_of}
 use Rattle.scxsim_statistics.specs.Bursts.{no_bursts, bursts_at}
 use Rattle.scxsim_statistics.specs.Losses.{lost_at}
-use Rattle.scxsim_statistics.specs.Counting.{Counts, counts_of, no_figures, unused_cpu, nothing, figures_at, cpu_at, with_run, with_pause, with_pause_of, after_pause, has_run, counts_after_note, counts_after_event, ended_below, counts_at_end}
+use Rattle.scxsim_statistics.specs.Counting.{RunCounts, counts_of, no_figures, unused_cpu, nothing, figures_at, cpu_at, with_run, with_pause, with_pause_of, after_pause, has_run, counts_after_note, counts_after_event, ended_below, counts_at_end}
 use Rattle.scxsim_statistics.specs.Figures.{does_after, to_list, pauses_in, pauses_of, waits_of, is_wait, longest_of, wakes_of, stops_in, busy_in, idle_in, lost_in, lost_anywhere_in, of_counts, of_gathered, all_asleep, IsOfTask, IsOfBursts, IsOfCpu, AreOfRun}
 use Rattle.scxsim_statistics.proofs.Rows.{tasks_kept, with_option, pause_here, pause_there, of_pause, Row, row, row_all, IsThere, row_of_run}
 use Rattle.scxsim_statistics.proofs.Told.{wakes_told, stops_told, does_told, waits_told, waited_all, waited_append, pause_said, count_told, times_told, longest_told}
@@ -134,7 +135,7 @@ first_is n m t below =
 
 -- ---- the run
 
-abbrev pub final : WorkloadState → SimState → List Event → Counts
+abbrev pub final : WorkloadState → SimState → List Event → RunCounts
 final wl s es = counts_at_end (stepped_all s es).state.world (kept_of_all counts_after_event counts_after_note s es (nothing (length wl.homes) wl.cpus))
 
 task_of_run : (wl : WorkloadState) (s : SimState) (es : List Event) (t : ℕ) → t < length wl.homes → t < length (stepped_all s es).state.world.tasks
@@ -208,7 +209,7 @@ figures_told wl s es = record {
 -- ---- what was gathered
 
 -- a view that was shown a whole run, and had memory to its end, has counted all of the run
-pub gathered : {G : Type 0} (tally : G → Tally) (wl : WorkloadState) (s t : SimState) (es : List Event) (first shown last : G)
+pub gathered : {G : Type 0} (tally : G → RunTally) (wl : WorkloadState) (s t : SimState) (es : List Event) (first shown last : G)
     → counts_of (tally first) ≡ nothing (length wl.homes) wl.cpus
     → Watches (CountsEvent (λ g. is_err (tally g).result) (λ g. counts_of (tally g)) counts_after_event) (λ g. is_err (tally g).result) (CountsNote (λ g. is_err (tally g).result) (λ g. counts_of (tally g)) counts_after_note) es s first t shown
     → (is_err (tally last).result ≡ false → (is_err (tally shown).result ≡ false) × (counts_of (tally last) ≡ counts_at_end t.state.world (counts_of (tally shown))))
@@ -222,7 +223,7 @@ gathered tally wl s t es first shown last begins watched ends well =
     )
 
 -- an answer with the figures of a tally that counted all of a run has the figures of the run
-pub answered : {E : Type 0} (r : Result Gathered E) (x : Tally) (wl : WorkloadState) (s t : SimState) (es : List Event) (ejected : Option Eject)
+pub answered : {E : Type 0} (r : Result Gathered E) (x : RunTally) (wl : WorkloadState) (s t : SimState) (es : List Event) (ejected : Option Eject)
     → IfOk r (λ f. of_gathered f ≡ of_counts (counts_of x) ejected) → OnOk r (is_err x.result ≡ false) → ejected ≡ t.state.world.ejected
     → (is_err x.result ≡ false → (counts_of x ≡ final wl s es) × (t ≡ stepped_all s es)) → IfOk r (λ f. AreOfRun wl s es (of_gathered f))
 answered (Ok f) x wl s t es ejected same well end counts =

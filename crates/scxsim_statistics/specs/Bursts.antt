@@ -2,7 +2,7 @@
 -- that one ends.
 use Rattle.std.specs.Prelude.{ℕ, ◌+◌, ◌-◌, ◌*◌, ◌/◌, ◌==◌, if◌then◌else◌, List, slice_index_or, slice_set}
 use Rattle.scx_sched_world.specs.declared.notes.What.{What}
-use Rattle.scx_sched_world.specs.declared.notes.What.TheVariants.{Wake, Sleep, Insert, Move, Run, Stop, Idle, Weight, Stall, Fault}
+use Rattle.scx_sched_world.specs.declared.notes.What.TheVariants.{Wake, Sleep}
 use Rattle.scxsim_statistics.specs.Lengths.{no_lengths, at_most_64_bits, with_length}
 use Rattle.scxsim_statistics.specs.declared.bursts.BurstFigures.{BurstFigures}
 
@@ -46,14 +46,7 @@ slept_at xs t ms = slice_set xs t (with_ran ms (bursts_at xs t))
 abbrev pub bursts_noted : ℕ → What → List BurstFigures → List BurstFigures
 bursts_noted clock (Wake t) xs = woken_at xs t clock
 bursts_noted clock (Sleep t) xs = ended_at xs t clock
-bursts_noted clock (Insert t queue) xs = xs
-bursts_noted clock (Move t c) xs = xs
-bursts_noted clock (Run t c) xs = xs
-bursts_noted clock (Stop t c) xs = xs
-bursts_noted clock (Idle c) xs = xs
-bursts_noted clock (Weight g x) xs = xs
-bursts_noted clock (Stall t) xs = xs
-bursts_noted clock (Fault f) xs = xs
+bursts_noted clock what xs = xs
 
 -- how many times as long as they ran its finished bursts took, in hundredths, rounded down; 0 where
 -- nothing ran in them

@@ -1,8 +1,7 @@
--- What is counted as the notes of a run come: of each task and of each processor, one note and
--- one tick after another.
+-- The counts of each task and each CPU as a run goes on, one note and one event after another.
 use Rattle.std.specs.Prelude.{ℕ, zero, suc, ◌-◌, ◌==◌, if◌then◌else◌, Bool, true, false, List, length, replicate, Option, Some, None, is_some, slice_index_or, slice_set}
 use Rattle.scx_sched_world.specs.declared.notes.What.{What}
-use Rattle.scx_sched_world.specs.declared.notes.What.TheVariants.{Wake, Sleep, Insert, Move, Run, Stop, Idle, Weight, Stall, Fault}
+use Rattle.scx_sched_world.specs.declared.notes.What.TheVariants.{Wake, Sleep, Run, Stop}
 use Rattle.scx_sched_world.specs.World.{WorldState, task_at, running}
 use Rattle.scx_sched_machine.specs.declared.events.Event.{Event}
 use Rattle.scx_sched_machine.specs.declared.events.Event.TheVariants as event
@@ -20,10 +19,10 @@ use Rattle.scxsim_statistics.specs.Losses.{loses, lost_if, anywhere_if}
 use Rattle.scxsim_statistics.specs.declared.bursts.BurstFigures.{BurstFigures}
 use Rattle.scxsim_statistics.specs.declared.tally.TaskFigures.{TaskFigures}
 use Rattle.scxsim_statistics.specs.declared.tally.CpuFigures.{CpuFigures}
-use Rattle.scxsim_statistics.specs.declared.tally.Tally.{Tally}
+use Rattle.scxsim_statistics.specs.declared.tally.RunTally.{RunTally}
 
 -- what is counted
-pub record Counts : Type 0 where
+pub record RunCounts : Type 0 where
   pub tasks : List TaskFigures
   pub cpus : List CpuFigures
   pub doing : List Doing
@@ -32,7 +31,7 @@ pub record Counts : Type 0 where
   pub anywhere : ℕ  -- those in which some processor lost one
 
 -- what a tally has counted
-abbrev pub counts_of : Tally → Counts
+abbrev pub counts_of : RunTally → RunCounts
 counts_of t = record {
   tasks = t.tasks.items;
   cpus = t.cpus.items;
@@ -51,7 +50,7 @@ abbrev pub unused_cpu : CpuFigures
 unused_cpu = record { busy = 0; idle = 0; changes = 0; last = None }
 
 -- before the run
-abbrev pub nothing : ℕ → ℕ → Counts
+abbrev pub nothing : ℕ → ℕ → RunCounts
 nothing tasks cpus = record {
   tasks = replicate tasks no_figures;
   cpus = replicate cpus unused_cpu;
@@ -79,7 +78,7 @@ with_wake x = record x { wakes = up x.wakes }
 abbrev pub with_stop : TaskFigures → TaskFigures
 with_stop x = record x { stopped = up x.stopped }
 
--- a task's figures with so many milliseconds that it ran, in place of those before
+-- a task's figures with that many milliseconds that it ran, in place of those before
 abbrev pub with_run : ℕ → TaskFigures → TaskFigures
 with_run ms x = record x { run = ms }
 
@@ -100,7 +99,7 @@ with_wake_at tasks t = slice_set tasks t (with_wake (figures_at tasks t))
 abbrev pub cut_off : List TaskFigures → ℕ → List TaskFigures
 cut_off tasks t = slice_set tasks t (with_stop (figures_at tasks t))
 
--- the task of that number, if it is there, ran for so many milliseconds in all
+-- the task of that number, if it is there, ran for that many milliseconds in all
 abbrev pub has_run : List TaskFigures → ℕ → ℕ → List TaskFigures
 has_run tasks t ms = slice_set tasks t (with_run ms (figures_at tasks t))
 
@@ -113,19 +112,11 @@ abbrev pub after_pause : Option Pause → List TaskFigures → List TaskFigures
 after_pause None tasks = tasks
 after_pause (Some p) tasks = with_pause_at tasks p
 
--- what a note says of the task that it is of, which does so behind it: a wake is counted, and a
--- stop of one that doesn't sleep
+-- what a note counts for its task, which does `d` after it: a wake, or a stop if it doesn't sleep
 abbrev pub counted_for : What → Doing → TaskFigures → TaskFigures
 counted_for (Wake t) d x = with_wake x
 counted_for (Stop t c) d x = if sleeps d then x else with_stop x
-counted_for (Sleep t) d x = x
-counted_for (Run t c) d x = x
-counted_for (Insert t queue) d x = x
-counted_for (Move t c) d x = x
-counted_for (Idle c) d x = x
-counted_for (Weight g y) d x = x
-counted_for (Stall t) d x = x
-counted_for (Fault f) d x = x
+counted_for what d x = x
 
 -- the task of that number stops, and that is counted unless it sleeps or isn't there
 abbrev pub stop_counted : List Doing → List TaskFigures → ℕ → List TaskFigures
@@ -135,14 +126,7 @@ stop_counted ds tasks t = if sleeps (doing_at ds t) then tasks else cut_off task
 abbrev pub tasks_counted : What → List Doing → List TaskFigures → List TaskFigures
 tasks_counted (Wake t) ds tasks = with_wake_at tasks t
 tasks_counted (Stop t c) ds tasks = stop_counted ds tasks t
-tasks_counted (Sleep t) ds tasks = tasks
-tasks_counted (Run t c) ds tasks = tasks
-tasks_counted (Insert t queue) ds tasks = tasks
-tasks_counted (Move t c) ds tasks = tasks
-tasks_counted (Idle c) ds tasks = tasks
-tasks_counted (Weight g x) ds tasks = tasks
-tasks_counted (Stall t) ds tasks = tasks
-tasks_counted (Fault f) ds tasks = tasks
+tasks_counted what ds tasks = tasks
 
 -- ---- processors
 
@@ -171,58 +155,50 @@ begun_on cpus t c = slice_set cpus c (with_begin t (cpu_at cpus c))
 -- processors' figures after a note: where it tells that a task runs, the task begins to run there
 abbrev pub cpus_counted : What → List CpuFigures → List CpuFigures
 cpus_counted (Run t c) cpus = begun_on cpus t c
-cpus_counted (Wake t) cpus = cpus
-cpus_counted (Sleep t) cpus = cpus
-cpus_counted (Stop t c) cpus = cpus
-cpus_counted (Insert t queue) cpus = cpus
-cpus_counted (Move t c) cpus = cpus
-cpus_counted (Idle c) cpus = cpus
-cpus_counted (Weight g x) cpus = cpus
-cpus_counted (Stall t) cpus = cpus
-cpus_counted (Fault f) cpus = cpus
+cpus_counted what cpus = cpus
 
 -- ---- a run
 
 -- the pause that a note ends
-abbrev pub pause_counted : ℕ → What → Counts → Counts
+abbrev pub pause_counted : ℕ → What → RunCounts → RunCounts
 pause_counted clock what k = record k {
   tasks = after_pause (ended_by clock what k.doing) k.tasks;
   doing = doing_after clock what k.doing;
 }
 
 -- what a note counts beside the pause that it ends, of tasks that already do what it says
-abbrev pub counts_after_step : What → Counts → Counts
+abbrev pub counts_after_step : What → RunCounts → RunCounts
 counts_after_step what k = record k {
   tasks = tasks_counted what k.doing k.tasks;
   cpus = cpus_counted what k.cpus;
 }
 
 -- the burst that a note begins or ends
-abbrev pub burst_counted : ℕ → What → Counts → Counts
+abbrev pub burst_counted : ℕ → What → RunCounts → RunCounts
 burst_counted clock what k = record k { bursts = bursts_noted clock what k.bursts }
 
 -- a note
-abbrev pub counts_after_note : ℕ → What → Counts → Counts
+abbrev pub counts_after_note : ℕ → What → RunCounts → RunCounts
 counts_after_note clock what k =
     burst_counted clock what (counts_after_step what (pause_counted clock what k))
 
 -- what processors lose of the millisecond whose ticks begin with this one
-abbrev pub loss_counted : WorldState → ℕ → Counts → Counts
+abbrev pub loss_counted : WorldState → ℕ → RunCounts → RunCounts
 loss_counted w c k = record k {
   lost = lost_if (loses c k.doing) w k.lost;
   anywhere = anywhere_if (loses c k.doing) w k.anywhere;
 }
 
 -- a tick of a processor that runs a task before it, or none
-abbrev pub tick_counted : ℕ → Bool → Counts → Counts
+abbrev pub tick_counted : ℕ → Bool → RunCounts → RunCounts
 tick_counted c is_busy k = record k { cpus = with_tick_at k.cpus c is_busy }
 
 -- how long a task has run that goes to sleep in that world
-abbrev pub sleep_counted : WorldState → ℕ → Counts → Counts
+abbrev pub sleep_counted : WorldState → ℕ → RunCounts → RunCounts
 sleep_counted w t k = record k { bursts = slept_at k.bursts t (ran_ms (task_at w t)) }
 
 -- an event, by the state before it
-abbrev pub counts_after_event : SimState → Event → Counts → Counts
+abbrev pub counts_after_event : SimState → Event → RunCounts → RunCounts
 counts_after_event s (event.Tick c) k =
     tick_counted c (is_some (running s.state.world c)) (loss_counted s.state.world c k)
 counts_after_event s (event.Wake t) k = k
@@ -239,5 +215,5 @@ ended_below (suc t) w ds tasks =
     (has_run (ended_below t w ds tasks) t (ran_ms (task_at w t)))
 
 -- what is counted once the run has ended in that world
-abbrev pub counts_at_end : WorldState → Counts → Counts
+abbrev pub counts_at_end : WorldState → RunCounts → RunCounts
 counts_at_end w k = record k { tasks = ended_below (length w.tasks) w k.doing k.tasks }

@@ -1,9 +1,9 @@
--- What the figures say of the notes of a run.
+-- The figures of a run, from its notes and events.
 use Rattle.std.specs.Prelude.{◌≡◌, ℕ, ◌+◌, ◌<◌, ◌==◌, ◌&&◌, max, Bool, true, false, not, List, [], ◌∷◌, ◌++◌, length, map, replicate, sum, Option, Some, None, is_some, Ok, string_bytes, if◌then◌else◌, filter}
 use Rattle.std.specs.List.{list_any}
 use Rattle.scx_sched_world.specs.declared.notes.Note.{Note}
 use Rattle.scx_sched_world.specs.declared.notes.What.{What}
-use Rattle.scx_sched_world.specs.declared.notes.What.TheVariants.{Wake, Sleep, Insert, Move, Run, Stop, Idle, Weight, Stall, Fault}
+use Rattle.scx_sched_world.specs.declared.notes.What.TheVariants.{Wake, Sleep, Stop}
 use Rattle.scx_sched_world.specs.declared.eject.Eject.{Eject}
 use Rattle.scx_sched_world.specs.World.{WorldState, task_at, running}
 use Rattle.scx_sched_machine.specs.declared.events.Event.{Event}
@@ -27,8 +27,8 @@ use Rattle.scxsim_views.specs.Watching.{noted_all}
 use Rattle.scxsim_statistics.specs.Lengths.{one_if, at_most_64_bits, length_of}
 use Rattle.scxsim_statistics.specs.Percentiles.{ArePercentiles}
 use Rattle.scxsim_statistics.specs.Bursts.{bursts_at, burst_ms}
-use Rattle.scxsim_statistics.specs.Losses.{runs_nobody, nobody_below, lost_at}
-use Rattle.scxsim_statistics.specs.Counting.{Counts, figures_at, cpu_at}
+use Rattle.scxsim_statistics.specs.Losses.{is_cpu_idle, idle_below, lost_at}
+use Rattle.scxsim_statistics.specs.Counting.{RunCounts, counts_of, figures_at, cpu_at}
 use Rattle.scxsim_statistics.specs.declared.tally.TaskFigures.{TaskFigures}
 use Rattle.scxsim_statistics.specs.declared.tally.CpuFigures.{CpuFigures}
 use Rattle.scxsim_statistics.specs.declared.bursts.BurstFigures.{BurstFigures}
@@ -42,15 +42,15 @@ abbrev pub is_that : ℕ → Option ℕ → Bool
 is_that t None = false
 is_that t (Some u) = t == u
 
--- whether a note is of that task
+-- the note is of that task
 abbrev pub is_of : ℕ → What → Bool
 is_of t what = is_that t (of_task what)
 
--- what the task does behind a note, and behind several
+-- what the task does after a note, if it did `d` before it
 abbrev pub does_at : ℕ → Note → Doing → Doing
 does_at t n d = if is_of t n.what then does n.clock n.what d else d
 
--- what the task does behind notes, one after the other, if it did so before them
+-- what the task does after some notes, if it did `d` before them
 abbrev pub does_after : ℕ → Doing → List Note → Doing
 does_after t d [] = d
 does_after t d (n ∷ ns) = does_after t (does_at t n d) ns
@@ -96,28 +96,12 @@ longest_of (p ∷ ps) = max (length_of p) (longest_of ps)
 -- the note says that this task wakes
 abbrev pub is_wake : ℕ → What → Bool
 is_wake t (Wake u) = t == u
-is_wake t (Sleep u) = false
-is_wake t (Insert u queue) = false
-is_wake t (Move u c) = false
-is_wake t (Run u c) = false
-is_wake t (Stop u c) = false
-is_wake t (Idle c) = false
-is_wake t (Weight g x) = false
-is_wake t (Stall u) = false
-is_wake t (Fault f) = false
+is_wake t what = false
 
 -- the note says that this task stops, on whatever processor
 abbrev pub is_stop : ℕ → What → Bool
 is_stop t (Stop u c) = t == u
-is_stop t (Wake u) = false
-is_stop t (Sleep u) = false
-is_stop t (Insert u queue) = false
-is_stop t (Move u c) = false
-is_stop t (Run u c) = false
-is_stop t (Idle c) = false
-is_stop t (Weight g x) = false
-is_stop t (Stall u) = false
-is_stop t (Fault f) = false
+is_stop t what = false
 
 -- how often a task wakes in these notes
 abbrev pub wakes_of : ℕ → List Note → ℕ
@@ -134,15 +118,7 @@ stops_in t d (n ∷ ns) = one_if (is_stop t n.what && not (sleeps d)) + stops_in
 -- the note says that this task goes to sleep
 abbrev pub is_sleep : ℕ → What → Bool
 is_sleep t (Sleep u) = t == u
-is_sleep t (Wake u) = false
-is_sleep t (Insert u queue) = false
-is_sleep t (Move u c) = false
-is_sleep t (Run u c) = false
-is_sleep t (Stop u c) = false
-is_sleep t (Idle c) = false
-is_sleep t (Weight g x) = false
-is_sleep t (Stall u) = false
-is_sleep t (Fault f) = false
+is_sleep t what = false
 
 -- how many milliseconds the burst took that ends here, as a list; none where none ends
 abbrev pub burst_if : Bool → ℕ → ℕ → List ℕ
@@ -168,13 +144,10 @@ greatest (x ∷ xs) = max x (greatest xs)
 -- the event is that this task goes to sleep
 abbrev pub sends_to_sleep : ℕ → Event → Bool
 sends_to_sleep t (event.Sleep u) = t == u
-sends_to_sleep t (event.Wake u) = false
-sends_to_sleep t (event.Tick c) = false
-sends_to_sleep t event.Clock = false
-sends_to_sleep t (event.SetWeight g x) = false
+sends_to_sleep t e = false
 
 -- for how many milliseconds a task had run as it went to sleep last in these events from that state
--- on; so many as before where it doesn't
+-- on; as many as before if it doesn't
 abbrev pub ran_asleep_in : ℕ → ℕ → SimState → List Event → ℕ
 ran_asleep_in t ran s [] = ran
 ran_asleep_in t ran s (e ∷ es) =
@@ -186,10 +159,7 @@ ran_asleep_in t ran s (e ∷ es) =
 -- the event is a tick of this processor
 abbrev pub is_tick : ℕ → Event → Bool
 is_tick c (event.Tick b) = c == b
-is_tick c (event.Wake t) = false
-is_tick c (event.Sleep t) = false
-is_tick c event.Clock = false
-is_tick c (event.SetWeight g x) = false
+is_tick c e = false
 
 -- ticks of a processor that runs a task before them, and of one that runs none
 abbrev pub busy_in : ℕ → SimState → List Event → ℕ
@@ -208,35 +178,32 @@ idle_in c s (e ∷ es) =
 -- the ticks of a millisecond begin with this event
 abbrev pub begins_ticks : Event → Bool
 begins_ticks (event.Tick c) = c == 0
-begins_ticks (event.Wake t) = false
-begins_ticks (event.Sleep t) = false
-begins_ticks event.Clock = false
-begins_ticks (event.SetWeight g x) = false
+begins_ticks e = false
 
--- what each task does behind these notes
-abbrev pub doing_behind : List Note → List Doing → List Doing
-doing_behind ns ds = noted_all doing_after ns ds
+-- what each task does after these notes
+abbrev pub doing_after_notes : List Note → List Doing → List Doing
+doing_after_notes ns ds = noted_all doing_after ns ds
 
 -- In these events from that state on, while tasks do so before them: for how many milliseconds, as
--- their ticks begin, a task waits and this processor runs nobody
+-- their ticks begin, a task waits and this CPU is idle
 abbrev pub lost_in : ℕ → List Doing → SimState → List Event → ℕ
 lost_in c ds s [] = 0
 lost_in c ds s (e ∷ es) =
-    one_if ((begins_ticks e && list_any waits ds) && runs_nobody s.state.world c)
-    + lost_in c (doing_behind (notes_of s e) ds) (after_event s e) es
+    one_if ((begins_ticks e && list_any waits ds) && is_cpu_idle s.state.world c)
+    + lost_in c (doing_after_notes (notes_of s e) ds) (after_event s e) es
 
--- the same of some processor
+-- in the same events, for how many milliseconds a task waits and some CPU is idle
 abbrev pub lost_anywhere_in : List Doing → SimState → List Event → ℕ
 lost_anywhere_in ds s [] = 0
 lost_anywhere_in ds s (e ∷ es) =
     one_if ((begins_ticks e && list_any waits ds)
-    && nobody_below (length s.state.world.cpus) s.state.world)
-    + lost_anywhere_in (doing_behind (notes_of s e) ds) (after_event s e) es
+    && idle_below (length s.state.world.cpus) s.state.world)
+    + lost_anywhere_in (doing_after_notes (notes_of s e) ds) (after_event s e) es
 
 -- ---- a run
 
 -- the figures of a run: of its tasks, their bursts and its processors, for how many milliseconds
--- each processor and some processor ran nobody while a task waited, and how the policy ended
+-- each CPU and some CPU was idle while a task waited, and how the policy ended
 pub record RunFigures : Type 0 where
   pub tasks : List TaskFigures
   pub bursts : List BurstFigures
@@ -246,7 +213,7 @@ pub record RunFigures : Type 0 where
   pub ejected : Option Eject
 
 -- what was counted, and how the policy ended
-abbrev pub of_counts : Counts → Option Eject → RunFigures
+abbrev pub of_counts : RunCounts → Option Eject → RunFigures
 of_counts k o = record {
   tasks = k.tasks;
   bursts = k.bursts;
@@ -258,14 +225,7 @@ of_counts k o = record {
 
 -- those that were gathered
 abbrev pub of_gathered : Gathered → RunFigures
-of_gathered g = record {
-  tasks = g.tasks.items;
-  bursts = g.bursts.items;
-  cpus = g.cpus.items;
-  lost = g.losses.cpus.items;
-  anywhere = g.losses.anywhere;
-  ejected = g.ejected;
-}
+of_gathered g = of_counts (counts_of g.tally) g.ejected
 
 -- those that are handed out
 abbrev pub of_figures : Figures → RunFigures
@@ -278,7 +238,7 @@ of_figures f = record {
   ejected = f.ejected;
 }
 
--- of a task in a run with these notes that ends in that world
+-- the figures of a task in a run with these notes that ends in that world
 pub record IsOfTask (t : ℕ) (w : WorldState) (ns : List Note) (x : TaskFigures) : Type 0 where
   pub run : x.run ≡ ran_ms (task_at w t)
   pub wakes : x.wakes ≡ at_most_64_bits (wakes_of t ns)
@@ -320,7 +280,7 @@ pub record AreOfRun (w : WorkloadState) (s : SimState) (es : List Event) (f : Ru
   pub anywhere : f.anywhere ≡ at_most_64_bits (lost_anywhere_in (all_asleep w) s es)
   pub ejected : f.ejected ≡ (stepped_all s es).state.world.ejected
 
--- the figures of the run that the two texts stand for
+-- the figures of the run of the two texts
 pub record AreOfTexts (policy workload : List ℕ) (f : Figures) : Type 0 where
   pub first : SimState
   pub run : IsRun policy workload f.workload first
@@ -328,7 +288,7 @@ pub record AreOfTexts (policy workload : List ℕ) (f : Figures) : Type 0 where
   pub of_run : AreOfRun f.workload first (workload_events f.workload first) (of_figures f)
   pub named : name_in policy ≡ Ok (string_bytes f.policy_name)
 
--- the figures of the run that a policy's text and a file of events stand for
+-- the figures of the run of a policy's text and a file of events
 pub record AreOfEvents (policy events : List ℕ) (f : Figures) : Type 0 where
   pub r : ReplayState
   pub first : SimState

@@ -1,4 +1,4 @@
--- How often a task waited, or was awake, and for how long.
+-- Lengths of a task's waits or bursts, with their counts.
 use Rattle.std.specs.Prelude.{ℕ, ◌+◌, ◌-◌, ◌*◌, ◌/◌, ◌^◌, ◌==◌, ◌||◌, nat_lt, min, Bool, true, false, if◌then◌else◌, List, [], ◌∷◌}
 use Rattle.scxsim_views.specs.declared.pauses.Pause.{Pause}
 
@@ -20,7 +20,7 @@ one_if false = 0
 abbrev pub at_most_64_bits : ℕ → ℕ
 at_most_64_bits n = min n (2 ^ 64 - 1)
 
--- a count with so many more, up to the greatest number of 64 bits
+-- a count with `more` more, up to the greatest number of 64 bits
 abbrev pub up_by : ℕ → ℕ → ℕ
 up_by more n = at_most_64_bits (n + more)
 
@@ -65,7 +65,7 @@ with_wait p x = with_length p.since (length_of p) x
 abbrev pub mean : Lengths → ℕ
 mean x = if x.count == 0 then 0 else at_most_64_bits (x.total * 100) / x.count
 
--- the first of these lengths with which enough are reached, where so many are shorter than all of
+-- the first of these lengths with which enough are reached, where `shorter` are shorter than all of
 -- them; 0 where they never are
 abbrev pub first_reaching : ℕ → ℕ → List (ℕ × ℕ) → ℕ
 first_reaching enough shorter [] = 0
@@ -73,6 +73,6 @@ first_reaching enough shorter (e ∷ es) =
     if nat_lt (at_most_64_bits (up_by e.1 shorter * 100)) enough
     then first_reaching enough (up_by e.1 shorter) es else e.0
 
--- the least length that so many of 100 don't exceed
+-- the least length that `percent` of 100 don't exceed
 abbrev pub percentile : ℕ → Lengths → ℕ
 percentile percent x = first_reaching (at_most_64_bits (x.count * percent)) 0 x.times

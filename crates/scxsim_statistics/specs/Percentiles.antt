@@ -1,4 +1,4 @@
--- Percentiles: the least length that so many of 100 don't exceed.
+-- Percentiles: the least length that `percent` of 100 don't exceed.
 use Rattle.std.specs.Prelude.{ℕ, ◌+◌, ◌*◌, ◌^◌, ◌<◌, ◌≤◌, nat_lt, Bool, not, List, [], ◌∷◌, length}
 use Rattle.scxsim_statistics.specs.Lengths.{Lengths, one_if, percentile}
 
@@ -11,11 +11,11 @@ how_many test (l ∷ ls) = one_if (test l) + how_many test ls
 abbrev pub are_up_to : ℕ → ℕ → Bool
 are_up_to x l = not (nat_lt x l)
 
--- so many of 100 of these lengths don't exceed that one
+-- at least `percent` of 100 of these lengths don't exceed that one
 abbrev pub AreReached : ℕ → List ℕ → ℕ → Type 0
 AreReached percent ls x = length ls * percent ≤ how_many (are_up_to x) ls * 100
 
--- it is the least length that so many of 100 of these don't exceed
+-- it is the least length that `percent` of 100 of these don't exceed
 pub record IsPercentile (percent : ℕ) (ls : List ℕ) (x : ℕ) : Type 0 where
   pub reached : AreReached percent ls x
   pub least : (y : ℕ) → y < x → AreReached percent ls y → ⊥

@@ -6,6 +6,6 @@ use Rattle.scxsim_statistics.specs.Lengths.{at_most_64_bits}
 abbrev pub percent : ℕ → ℕ → ℕ
 percent part whole = if whole == 0 then 0 else at_most_64_bits (part * 10000) / whole
 
--- what was due, in parts of 10^28 of a millisecond, of so many milliseconds in all; 0 of none
+-- what was due, in parts of 10^28 of a millisecond, of `total` milliseconds in all; 0 of none
 abbrev pub due_percent : ℕ → ℕ → ℕ
 due_percent due total = if total == 0 then 0 else at_most_64_bits (due / 10 ^ 24 / total)

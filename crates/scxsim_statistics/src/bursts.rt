@@ -1,11 +1,11 @@
 ghost use Rattle.std.specs.Prelude.{◌≡◌, replicate, IfOk, OnOk};
 ghost use Rattle.scxsim_statistics.specs.Bursts.{no_bursts, with_woke, with_burst, with_ran, woken_at, ended_at, slept_at, bursts_noted, slowdown};
 
-use crate::counting::LengthCounts;
+use crate::length_counts::LengthCounts;
 use scx_sched::What;
 use std::alloc::{AllocError, Global};
 
-/// What became of a task's finished bursts.
+/// The finished bursts of a task.
 ///
 /// A burst goes from a wake, as its millisecond begins, to the next sleep, as that one ends.
 #[derive(Drop)]
@@ -13,7 +13,7 @@ pub struct BurstFigures {
     pub lengths: LengthCounts,
     /// The clock at which it woke last.
     woke: u64,
-    /// For how many milliseconds it had run as it went to sleep last, which is how long it ran in all of them.
+    /// The milliseconds that it had run as it last went to sleep: its run time in all of them.
     ran: u64,
 }
 
@@ -28,7 +28,7 @@ impl BurstFigures {
         }
     }
 
-    /// How many times as long as they ran they took, in hundredths, rounded down; 0 where nothing ran.
+    /// The lengths of all bursts by the time that the task ran in them, in hundredths, rounded down; 0 if it never ran.
     pub fn slowdown(&self) -> u64
         ensures { result ≡ slowdown self.now }
     {
@@ -68,7 +68,7 @@ pub(crate) fn unused_bursts(alloc: Global, count: usize) -> Result<Vec<BurstFigu
     Ok(bursts)
 }
 
-/// Something happens, at that clock.
+/// Counts a note of that clock.
 pub(crate) fn note_burst(
     bursts: &mut Vec<BurstFigures>,
     clock: u64,
@@ -110,7 +110,7 @@ fn end(bursts: &mut Vec<BurstFigures>, task: u16, clock: u64) -> Result<(), Allo
     }
 }
 
-/// A task goes to sleep, and has run for so many milliseconds.
+/// Counts a task that goes to sleep after `ran` milliseconds of running.
 pub(crate) fn sleep(bursts: &mut Vec<BurstFigures>, task: u16, ran: u64)
     ensures { bursts.new.items ≡ slept_at bursts.old.items task ran }
 {

@@ -1,6 +1,5 @@
 ghost use Rattle.std.specs.Prelude.{◌≡◌, false, length, is_err, IfOk, OnOk};
 ghost use Rattle.scx_sched_world.specs.World.{running};
-ghost use Rattle.scx_load_driver.specs.Driver.{remaining};
 ghost use Rattle.scx_sched_machine.specs.declared.events.Event.TheVariants.{Sleep, Tick};
 ghost use Rattle.scxsim_views.specs.Watching.{CountsEvent, CountsNote};
 ghost use Rattle.scxsim_statistics.specs.Counting.{counts_of, nothing, counts_after_event, counts_after_note, counts_at_end};
@@ -11,12 +10,11 @@ use crate::dues::Dues;
 use crate::groups::{GroupFigures, group_figures};
 use crate::losses::Losses;
 use crate::quotas::Quotas;
-use crate::tally::{CpuFigures, Tally, TaskFigures};
+use crate::tally::{CpuFigures, RunTally, TaskFigures};
 use scx_load_workloads::Workload;
 use scx_sched::{Eject, Event, Sim, What};
 use scxsim_simulation::{Heard, Listener, Run, give_back};
-use scxsim_trace::Events;
-use scxsim_views::{View, watch};
+use scxsim_trace::{Events, Observer, observe};
 use std::alloc::{AllocError, Global};
 
 /// The figures of a run.
@@ -31,47 +29,29 @@ pub struct Figures {
     pub bursts: Vec<BurstFigures>,
     pub cpus: Vec<CpuFigures>,
     pub losses: Losses,
-    /// Of each group in its order.
+    /// The figures of each group, in the workload's order.
     pub groups: Vec<GroupFigures>,
     pub quotas: Quotas,
 }
 
-/// Goes through the run, and answers its figures.
-pub(crate) fn gather<L: Listener>(
+/// Goes through the run, and returns its figures.
+pub(crate) fn gather<E: Events + Drop, L: Listener>(
     alloc: Global,
-    run: Run,
+    run: Run<E>,
     listener: &mut L,
 ) -> Result<Figures, AllocError>
     ensures name { IfOk result (λ figures. figures.policy_name ≡ run.policy_name) }
     ensures workload { IfOk result (λ figures. figures.workload ≡ run.workload) }
     ensures of_run { IfOk result (λ figures.
-        AreOfRun run.workload run.sim (remaining run.driver run.sim) (of_figures figures)) }
+        AreOfRun run.workload run.sim (E.remaining run.driver run.sim) (of_figures figures)) }
 {
     let Run {
         policy_name,
         workload,
         driver,
-        sim,
-        ..
+        mut sim,
     } = run;
-    gather_events(alloc, policy_name, workload, driver, sim, listener)
-}
-
-/// Goes through these events, and answers the figures.
-pub(crate) fn gather_events<E: Events + Drop, L: Listener>(
-    alloc: Global,
-    policy_name: String,
-    workload: Workload,
-    source: E,
-    mut sim: Sim,
-    listener: &mut L,
-) -> Result<Figures, AllocError>
-    ensures name { IfOk result (λ figures. figures.policy_name ≡ policy_name) }
-    ensures workload { IfOk result (λ figures. figures.workload ≡ workload) }
-    ensures of_run { IfOk result (λ figures.
-        AreOfRun workload sim (E.remaining source sim) (of_figures figures)) }
-{
-    let mut events = Heard::new(source, workload.ms(), listener);
+    let mut events = Heard::new(driver, workload.ms(), listener);
     let gathered = gather_from(alloc, &workload, &mut events, &mut sim);
     give_back(events, sim);
     match gathered {
@@ -84,25 +64,25 @@ pub(crate) fn gather_events<E: Events + Drop, L: Listener>(
     }
 }
 
-/// The figures with the policy's name and the workload that they are of.
+/// The gathered figures, with the policy's name and the workload.
 fn figures_of(policy_name: String, workload: Workload, gathered: Gathered) -> Figures
     ensures name { result.policy_name ≡ policy_name }
     ensures workload { result.workload ≡ workload }
-    ensures ejected { result.ejected ≡ gathered.ejected }
-    ensures tasks { result.tasks ≡ gathered.tasks }
-    ensures bursts { result.bursts ≡ gathered.bursts }
-    ensures cpus { result.cpus ≡ gathered.cpus }
-    ensures losses { result.losses ≡ gathered.losses }
+    ensures figures { of_figures result ≡ of_gathered gathered }
 {
     let Gathered {
         ejected,
-        tasks,
-        bursts,
-        cpus,
-        losses,
+        tally,
         groups,
         quotas,
     } = gathered;
+    let RunTally {
+        tasks,
+        cpus,
+        bursts,
+        losses,
+        ..
+    } = tally;
     Figures {
         policy_name,
         ejected,
@@ -116,14 +96,11 @@ fn figures_of(policy_name: String, workload: Workload, gathered: Gathered) -> Fi
     }
 }
 
-/// The figures of a run, without what it is of.
+/// The figures of a run, without the policy's name and the workload.
 #[derive(Drop)]
 struct Gathered {
     ejected: Option<Eject>,
-    tasks: Vec<TaskFigures>,
-    bursts: Vec<BurstFigures>,
-    cpus: Vec<CpuFigures>,
-    losses: Losses,
+    tally: RunTally,
     groups: Vec<GroupFigures>,
     quotas: Quotas,
 }
@@ -138,27 +115,27 @@ fn gather_from<E: Events>(
         AreOfRun workload.now sim.old (E.remaining events.old sim.old) (of_gathered gathered)) }
 {
     let mut gathering = Gathering::new(alloc, workload)?;
-    watch(sim, events, &mut gathering);
+    observe(sim, events, &mut gathering);
     gathering.end(sim);
     gathering.gathered(alloc, sim.ejected())
 }
 
-/// The figures of a run on their way.
+/// The figures of a run that goes on.
 #[derive(Drop)]
 struct Gathering<'a> {
     workload: &'a Workload,
-    tally: Tally,
+    tally: RunTally,
     dues: Dues,
 }
 
 impl<'a> Gathering<'a> {
-    /// All memory that a run takes before its first event is taken here.
+    /// Takes all memory that a run takes before its first event.
     fn new(alloc: Global, workload: &'a Workload) -> Result<Self, AllocError>
         ensures counts { IfOk result (λ gathering. counts_of gathering.tally
             ≡ nothing (length workload.now.homes) workload.now.cpus) }
         ensures well { IfOk result (λ gathering. is_err gathering.tally.result ≡ false) }
     {
-        let tally = Tally::new(alloc, workload.tasks().len(), workload.cpus() as usize)?;
+        let tally = RunTally::new(alloc, workload.tasks().len(), workload.cpus() as usize)?;
         let dues = Dues::new(alloc, workload)?;
         Ok(Gathering {
             workload,
@@ -175,25 +152,15 @@ impl<'a> Gathering<'a> {
     {
         let groups = self.groups(alloc)?;
         let Gathering { tally, dues, .. } = self;
-        let Tally {
-            tasks,
-            cpus,
-            bursts,
-            losses,
-            ..
-        } = tally;
         Ok(Gathered {
             ejected,
-            tasks,
-            bursts,
-            cpus,
-            losses,
+            tally,
             groups,
             quotas: dues.quotas,
         })
     }
 
-    /// The figures of all groups, if there was memory for all before them.
+    /// The figures of all groups, if memory hasn't run out before.
     fn groups(&self, alloc: Global) -> Result<Vec<GroupFigures>, AllocError>
         ensures { OnOk result (is_err self.now.tally.result ≡ false) }
     {
@@ -207,7 +174,7 @@ impl<'a> Gathering<'a> {
         self.workload.tasks().get(task as usize).copied()
     }
 
-    /// A processor is about to have run for a millisecond, or not to have.
+    /// Counts a tick of a CPU, before the machine takes it.
     fn tick(&mut self, sim: &Sim, cpu: u32)
         ensures { CountsEvent (λ g. is_err g.tally.result) (λ g. counts_of g.tally) counts_after_event
             self.old sim.now (Tick cpu) self.new }
@@ -221,7 +188,7 @@ impl<'a> Gathering<'a> {
         }
     }
 
-    /// A task is about to go to sleep.
+    /// Counts a burst that ends, before its task goes to sleep.
     fn sleep(&mut self, sim: &Sim, task: u16)
         ensures { CountsEvent (λ g. is_err g.tally.result) (λ g. counts_of g.tally) counts_after_event
             self.old sim.now (Sleep task) self.new }
@@ -230,7 +197,7 @@ impl<'a> Gathering<'a> {
         self.dues.settle();
     }
 
-    /// What is due to groups goes by who is runnable, and by their weights.
+    /// Follows the runnable tasks and the weights of groups, on which due shares depend.
     fn weigh(&mut self, what: What)
         ensures { self.new.tally ≡ self.old.tally }
     {
@@ -256,7 +223,7 @@ impl<'a> Gathering<'a> {
         }
     }
 
-    /// Adds what goes on at the end, and periods that aren't over.
+    /// Adds the pauses that go on at the end, and periods that aren't over.
     fn end(&mut self, sim: &Sim)
         ensures { is_err self.new.tally.result ≡ false → (is_err self.old.tally.result ≡ false)
             × (counts_of self.new.tally ≡ counts_at_end sim.now.state.world (counts_of self.old.tally)) }
@@ -266,7 +233,7 @@ impl<'a> Gathering<'a> {
     }
 }
 
-impl View for Gathering<'_> {
+impl Observer for Gathering<'_> {
     ghost expects = { CountsEvent (λ g. is_err g.tally.result) (λ g. counts_of g.tally) counts_after_event };
 
     ghost shows = { CountsNote (λ g. is_err g.tally.result) (λ g. counts_of g.tally) counts_after_note };
@@ -292,7 +259,7 @@ impl View for Gathering<'_> {
     }
 }
 
-/// Who runs on the processor.
+/// The task that runs on the CPU.
 fn running_on(sim: &Sim, cpu: u32) -> Option<u16>
     ensures { result ≡ running sim.now.state.world cpu }
 {

@@ -3,17 +3,17 @@ ghost use Rattle.scxsim_statistics.specs.Shares.{percent, due_percent};
 
 use crate::tally::TaskFigures;
 use scx_load_workloads::Workload;
-use scxsim_shares::{WHOLE, path_of};
+use scx_weights::{WHOLE, path_of};
 use std::alloc::{AllocError, Global};
 
-/// What became of a group, in hundredths of a percent of all that ran.
+/// The share that a group reached and the one that was due to it, in hundredths of a percent of all run time.
 #[derive(Clone, Copy)]
 pub struct GroupFigures {
     pub reached: u64,
     pub due: u64,
 }
 
-/// The figures of all groups, by what was due to each: milliseconds times its share of them.
+/// The figures of all groups, from the sum of shares that was due to each: milliseconds times its share of them.
 pub(crate) fn group_figures(
     alloc: Global,
     workload: &Workload,
@@ -32,7 +32,7 @@ pub(crate) fn group_figures(
     Ok(groups)
 }
 
-/// For how many milliseconds tasks of each group ran.
+/// The milliseconds that tasks of each group ran.
 fn group_runs(
     alloc: Global,
     workload: &Workload,
@@ -45,7 +45,7 @@ fn group_runs(
     Ok(runs)
 }
 
-/// For how many milliseconds all tasks ran.
+/// The milliseconds that all tasks ran.
 fn total_run(tasks: &[TaskFigures]) -> u64 {
     let mut total = 0u64;
     for task in tasks {
@@ -64,7 +64,7 @@ fn percent(part: u64, whole: u64) -> u64
     part.saturating_mul(10_000) / whole
 }
 
-/// What was due of a total, in hundredths of a percent, rounded down; 0 of nothing.
+/// A due sum of shares of a total, in hundredths of a percent, rounded down; 0 of nothing.
 fn due_percent(due: u128, total: u64) -> u64
     ensures { result ≡ due_percent due total }
 {
@@ -75,7 +75,7 @@ fn due_percent(due: u128, total: u64) -> u64
     parts.min(u128::from(u64::MAX)) as u64
 }
 
-/// A task of the group ran for so long, so each group that it lies in did.
+/// Adds the run time of a task to its group and to each group above that.
 fn add_run(workload: &Workload, runs: &mut [u64], group: u32, run: u64) {
     for level in &path_of(workload.groups(), group) {
         if let Some(group) = *level {
@@ -84,7 +84,7 @@ fn add_run(workload: &Workload, runs: &mut [u64], group: u32, run: u64) {
     }
 }
 
-/// So much more for that group.
+/// Adds to the sum of that group.
 fn add_at(sums: &mut [u64], group: usize, more: u64) {
     if let Some(sum) = sums.get_mut(group) {
         *sum = sum.saturating_add(more);

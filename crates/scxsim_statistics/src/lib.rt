@@ -1,22 +1,22 @@
-//! The figures of a run: how long each task ran and waited, how busy each processor was, and which share each
-//! group reached beside the one that is due to it.
+//! The figures of a run: each task's run time, waits and bursts, each CPU's busy and idle time, and each group's
+//! share beside the share that was due to it.
 #![tactic(auto)]
 
 mod bursts;
-mod counting;
 mod dues;
 mod gathering;
 mod groups;
+mod length_counts;
 mod losses;
 mod quotas;
 mod runs;
 mod tally;
 
 pub use bursts::BurstFigures;
-pub use counting::LengthCounts;
 pub use gathering::Figures;
 pub use groups::GroupFigures;
+pub use length_counts::LengthCounts;
 pub use losses::Losses;
 pub use quotas::{QuotaFigures, Quotas};
-pub use runs::{figures, replay_figures};
+pub use runs::{FiguresAndStart, figures, figures_and_start, replay_figures};
 pub use tally::{CpuFigures, TaskFigures};

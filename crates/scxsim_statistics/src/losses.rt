@@ -1,20 +1,20 @@
 ghost use Rattle.std.specs.Prelude.{◌≡◌, replicate, length, true, IfOk};
-ghost use Rattle.scxsim_statistics.specs.Losses.{runs_nobody, nobody_below, one_lost, lost_below, lost_if, anywhere_if};
+ghost use Rattle.scxsim_statistics.specs.Losses.{is_cpu_idle, idle_below, one_lost, lost_below, lost_if, anywhere_if};
 
 use scx_sched::Sim;
 use std::alloc::{AllocError, Global};
 
-/// For how many milliseconds nobody ran although a task waited.
+/// The milliseconds in which a CPU was idle although a task waited.
 #[derive(Drop)]
 pub struct Losses {
-    /// On each processor.
+    /// The milliseconds of each CPU.
     pub cpus: Vec<u64>,
-    /// On one processor at least.
+    /// The milliseconds in which some CPU was idle.
     pub anywhere: u64,
 }
 
 impl Losses {
-    /// Nothing is lost yet.
+    /// No losses.
     pub(crate) fn new(alloc: Global, cpus: usize) -> Result<Losses, AllocError>
         ensures cpus { IfOk result (λ losses. losses.cpus.items ≡ replicate cpus 0) }
         ensures anywhere { IfOk result (λ losses. losses.anywhere ≡ 0) }
@@ -25,7 +25,7 @@ impl Losses {
         })
     }
 
-    /// What processors that run nobody lose of a millisecond in which a task waits.
+    /// Adds a millisecond in which a task waits, for each idle CPU.
     pub(crate) fn add(&mut self, sim: &Sim)
         ensures cpus { self.new.cpus.items ≡ lost_if true sim.now.state.world self.old.cpus.items }
         ensures anywhere { self.new.anywhere
@@ -37,7 +37,7 @@ impl Losses {
         }
     }
 
-    /// What each of them loses.
+    /// Adds a millisecond to each idle CPU.
     #[tactic(auto, using(crate::proofs::Below::lost_more, crate::proofs::Below::lost_none))]
     fn add_each(&mut self, sim: &Sim)
         ensures cpus { self.new.cpus.items
@@ -45,7 +45,7 @@ impl Losses {
         ensures anywhere { self.new.anywhere ≡ self.old.anywhere }
     {
         for cpu in 0..sim.cpus() {
-            if runs_nobody(sim, cpu) {
+            if is_cpu_idle(sim, cpu) {
                 add_one(&mut self.cpus, cpu);
             }
         }
@@ -60,21 +60,21 @@ fn add_one(lost: &mut Vec<u64>, cpu: u32)
     }
 }
 
-/// Whether some processor runs nobody.
-#[tactic(auto, using(crate::proofs::Below::nobody_more))]
+/// True if some CPU is idle.
+#[tactic(auto, using(crate::proofs::Below::idle_more))]
 fn is_idle_anywhere(sim: &Sim) -> bool
     ensures { result
-        ≡ nobody_below (length sim.now.state.world.cpus) sim.now.state.world }
+        ≡ idle_below (length sim.now.state.world.cpus) sim.now.state.world }
 {
     let mut is_idle = false;
     for cpu in 0..sim.cpus() {
-        is_idle = is_idle || runs_nobody(sim, cpu);
+        is_idle = is_idle || is_cpu_idle(sim, cpu);
     }
     is_idle
 }
 
-fn runs_nobody(sim: &Sim, cpu: u32) -> bool
-    ensures { result ≡ runs_nobody sim.now.state.world cpu }
+fn is_cpu_idle(sim: &Sim, cpu: u32) -> bool
+    ensures { result ≡ is_cpu_idle sim.now.state.world cpu }
 {
     cpu < sim.cpus() && sim.running(cpu).is_none()
 }

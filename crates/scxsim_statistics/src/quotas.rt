@@ -1,26 +1,25 @@
 use scx_load_workloads::Workload;
-use scx_weights::Group;
-use scxsim_shares::path_of;
+use scx_weights::{Group, path_of};
 use std::alloc::{AllocError, Global};
 
-/// What became of the quota of a group, if it has one.
+/// The figures of the quota of a group, if it has one.
 #[derive(Clone, Copy)]
 pub struct QuotaFigures {
     pub quota_ms: Option<u32>,
     pub period_ms: u32,
-    /// For how many milliseconds tasks in it ran in the period at hand, also in groups within it.
+    /// The milliseconds that tasks of the group and of groups below it ran in the current period.
     used: u64,
-    /// The most that they ran in a period.
+    /// The most milliseconds that they ran in a period.
     pub most: u64,
-    /// How many periods there were, and in how many of them the quota was used up.
+    /// The number of periods, and of those in which the quota was used up.
     pub periods: u64,
     pub throttled_periods: u64,
-    /// For how many milliseconds of the clock it was used up.
+    /// The milliseconds by the clock in which it was used up.
     pub throttled: u64,
 }
 
 impl QuotaFigures {
-    /// A millisecond has passed, and the clock comes to this.
+    /// Ends a millisecond, as the clock comes to `clock`.
     fn pass(&mut self, clock: u64) {
         if self.is_used_up() {
             self.throttled = self.throttled.saturating_add(1);
@@ -30,7 +29,7 @@ impl QuotaFigures {
         }
     }
 
-    /// The run ends at this clock, and a period that has begun ends with it.
+    /// Ends a period that has begun, as the run ends at this clock.
     fn end(&mut self, clock: u64) {
         if !self.begins_period(clock) {
             self.end_period();
@@ -58,16 +57,16 @@ impl QuotaFigures {
     }
 }
 
-/// What became of the quotas of all groups.
+/// The figures of the quotas of all groups.
 #[derive(Drop)]
 pub struct Quotas {
     pub groups: Vec<QuotaFigures>,
-    /// Whether a group has a quota; where none has, nothing is counted.
+    /// True if a group has a quota. If none has one, nothing is counted.
     are_some: bool,
 }
 
 impl Quotas {
-    /// Nobody has run yet.
+    /// The quotas before a run.
     pub(crate) fn new(alloc: Global, workload: &Workload) -> Result<Quotas, AllocError> {
         let mut groups = Vec::with_capacity(alloc, workload.groups().len())?;
         for group in workload.groups() {
@@ -85,13 +84,13 @@ impl Quotas {
         Ok(Quotas { groups, are_some })
     }
 
-    /// Whether a group has a quota.
+    /// True if a group has a quota.
     pub fn are_some(&self) -> bool {
         let are_some = self.are_some;
         are_some
     }
 
-    /// A task of the group, which is one of these, ran for a millisecond.
+    /// Counts a millisecond that a task of the group ran.
     pub(crate) fn charge(&mut self, groups: &[Group], group: u32) {
         if !self.are_some {
             return;
@@ -110,7 +109,7 @@ impl Quotas {
         }
     }
 
-    /// A millisecond has passed, and the clock comes to this.
+    /// Ends a millisecond, as the clock comes to `clock`.
     pub(crate) fn pass(&mut self, clock: u64) {
         if !self.are_some {
             return;
@@ -120,7 +119,7 @@ impl Quotas {
         }
     }
 
-    /// The run ends at this clock.
+    /// Ends all periods that have begun, as the run ends at this clock.
     pub(crate) fn end(&mut self, clock: u64) {
         for group in self.groups.iter_mut() {
             group.end(clock);

@@ -5,7 +5,7 @@ ghost use Rattle.scxsim_trace.specs.Report.{ran_ms};
 ghost use Rattle.scxsim_statistics.specs.Counting.{counts_of, no_figures, unused_cpu, nothing, with_tick, with_begin, with_pause, with_wake_at, cut_off, has_run, with_pause_at, after_pause, stop_counted, with_tick_at, begun_on, pause_counted, counts_after_step, burst_counted, loss_counted, tick_counted, sleep_counted, counts_after_note, counts_at_end};
 
 use crate::bursts::{BurstFigures, note_burst, sleep, unused_bursts};
-use crate::counting::LengthCounts;
+use crate::length_counts::LengthCounts;
 use crate::losses::Losses;
 use scx_sched::{Sim, What};
 use scxsim_views::{Pause, PauseKind, Pauses};
@@ -14,16 +14,16 @@ use std::alloc::{AllocError, Global};
 /// A millisecond in nanoseconds.
 const MS: u64 = 1_000_000;
 
-/// What became of a task.
+/// The figures of a task.
 #[derive(Drop)]
 pub struct TaskFigures {
-    /// For how many milliseconds it ran.
+    /// The milliseconds that it ran.
     pub run: u64,
     pub waits: LengthCounts,
     pub wakes: u64,
-    /// How often it had to stop although it had work to do.
+    /// The number of times that it had to stop although it had work to do.
     pub stopped: u64,
-    /// For how many milliseconds it was parked.
+    /// The milliseconds that it was parked.
     pub parked: u64,
 }
 
@@ -53,13 +53,13 @@ impl TaskFigures {
     }
 }
 
-/// What became of a processor.
+/// The figures of a CPU.
 #[derive(Clone, Copy)]
 pub struct CpuFigures {
-    /// For how many milliseconds it ran a task, and for how many it ran none.
+    /// The milliseconds in which it ran a task, and those in which it ran none.
     pub busy: u64,
     pub idle: u64,
-    /// How often another task began to run on it than the one that had run there last.
+    /// The number of times that another task began to run on it than the one that had run there last.
     pub changes: u64,
     last: Option<u16>,
 }
@@ -109,24 +109,24 @@ fn unused_cpus(alloc: Global, count: usize) -> Result<Vec<CpuFigures>, AllocErro
     vec![in alloc; unused; count]
 }
 
-/// What is counted of tasks and processors.
+/// The counts of tasks and CPUs of a run that goes on.
 #[derive(Drop)]
-pub(crate) struct Tally {
+pub(crate) struct RunTally {
     pub(crate) tasks: Vec<TaskFigures>,
     pub(crate) cpus: Vec<CpuFigures>,
     pub(crate) bursts: Vec<BurstFigures>,
     pub(crate) losses: Losses,
     pauses: Pauses,
-    /// Whether there was memory for all.
+    /// An error once memory ran out.
     pub(crate) result: Result<(), AllocError>,
 }
 
-impl Tally {
-    pub(crate) fn new(alloc: Global, tasks: usize, cpus: usize) -> Result<Tally, AllocError>
+impl RunTally {
+    pub(crate) fn new(alloc: Global, tasks: usize, cpus: usize) -> Result<RunTally, AllocError>
         ensures counts { IfOk result (λ tally. counts_of tally ≡ nothing tasks cpus) }
         ensures well { IfOk result (λ tally. is_err tally.result ≡ false) }
     {
-        Ok(Tally {
+        Ok(RunTally {
             tasks: unused_tasks(alloc, tasks)?,
             cpus: unused_cpus(alloc, cpus)?,
             bursts: unused_bursts(alloc, tasks)?,
@@ -136,7 +136,7 @@ impl Tally {
         })
     }
 
-    /// A processor is about to have run for a millisecond, or not to have.
+    /// Counts a tick of a CPU that runs a task, or none.
     pub(crate) fn tick(&mut self, cpu: u32, is_busy: bool)
         ensures counts { counts_of self.new ≡ tick_counted cpu is_busy (counts_of self.old) }
         ensures result { self.new.result ≡ self.old.result }
@@ -155,7 +155,7 @@ impl Tally {
         }
     }
 
-    /// A task is about to go to sleep.
+    /// Keeps the run time of a task that is about to go to sleep.
     pub(crate) fn sleep(&mut self, sim: &Sim, task: u16)
         ensures counts { counts_of self.new
             ≡ sleep_counted sim.now.state.world task (counts_of self.old) }
@@ -165,7 +165,7 @@ impl Tally {
         sleep(&mut self.bursts, task, ran);
     }
 
-    /// Something happens. Once memory has run out, nothing is counted any more.
+    /// Counts a note. Once memory has run out, nothing is counted any more.
     pub(crate) fn show(&mut self, clock: u64, what: What)
         ensures { is_err self.new.result ≡ false
             → counts_of self.new ≡ counts_after_note clock what (counts_of self.old) }
@@ -214,7 +214,7 @@ impl Tally {
         }
     }
 
-    /// A task stops. One that sleeps, which is noted first, doesn't have to.
+    /// Counts a task that has to stop. One that sleeps doesn't have to; its sleep is noted first.
     fn stop(&mut self, task: u16)
         ensures tasks { self.new.tasks.items
             ≡ stop_counted self.old.pauses self.old.tasks.items task }
@@ -229,7 +229,7 @@ impl Tally {
         }
     }
 
-    /// Adds the pauses that go on at the end, and how long each task ran.
+    /// Adds the pauses that go on at the end, and the run time of each task.
     pub(crate) fn end(&mut self, sim: &Sim)
         ensures { is_err self.new.result ≡ false → (is_err self.old.result ≡ false)
             × (counts_of self.new ≡ counts_at_end sim.now.state.world (counts_of self.old)) }
@@ -258,7 +258,7 @@ impl Tally {
     }
 }
 
-/// For how many milliseconds the task has run; 0 where there is none.
+/// The milliseconds that the task has run; 0 if there is no such task.
 fn run_ms(sim: &Sim, task: u16) -> u64
     ensures { result ≡ ran_ms (task_at sim.now.state.world task) }
 {

@@ -1,11 +1,11 @@
--- How words and numbers are written in tables and in lists of values.
+-- Words and numbers in tables and in lists of values.
 use Rattle.std.specs.Prelude.{ℕ, zero, suc, ◌-◌, ◌/◌, ◌%◌, List, [], ◌++◌, codes, decimal, length, replicate, slice_index}
 
--- words with spaces after them, up to so many bytes
+-- words with spaces after them, up to `width` bytes
 unfoldable pub left : ℕ → List ℕ → List ℕ
 left width words = words ++ replicate (width - length words) 32
 
--- words with spaces before them, up to so many bytes
+-- words with spaces before them, up to `width` bytes
 unfoldable pub right : ℕ → List ℕ → List ℕ
 right width words = replicate (width - length words) 32 ++ words
 
@@ -17,7 +17,7 @@ fraction n = codes "." ++ decimal (n / 10 % 10) ++ decimal (n % 10)
 unfoldable pub hundredths : ℕ → List ℕ
 hundredths n = decimal (n / 100) ++ fraction n
 
--- a number of hundredths with spaces before it, up to so many characters: the period and what
+-- a number of hundredths with spaces before it, up to `width` characters: the period and what
 -- follows it are three
 unfoldable pub hundredths_right : ℕ → ℕ → List ℕ
 hundredths_right width n = right (width - 3) (decimal (n / 100)) ++ fraction n

@@ -10,7 +10,7 @@ use Rattle.scxsim_statistics.specs.declared.quotas.QuotaFigures.{QuotaFigures}
 use Rattle.scxsim_statistics.specs.declared.tally.CpuFigures.{CpuFigures}
 use Rattle.scxsim_statistics.specs.declared.tally.TaskFigures.{TaskFigures}
 use Rattle.scxsim_tables.specs.Cells.{left, right, numbers_right, hundredths_right, all_below}
-use Rattle.scxsim_tables.specs.Figures.{task_name, group_name, of_task, of_cpu, of_group, quota_of, has_quota}
+use Rattle.scxsim_tables.specs.Figures.{task_name, group_name, of_task, of_cpu, of_group, limit_of, has_quota}
 
 -- ---- tasks
 
@@ -26,7 +26,7 @@ task_cells name x =
     left 16 name ++ numbers_right (x.run ∷ x.waits.count ∷ []) ++ wait_cells x.waits
     ++ numbers_right (x.wakes ∷ x.stopped ∷ [])
 
--- for how long it was parked, where a group has a quota
+-- for how long it was parked, if a group has a quota
 unfoldable pub parked_cell : Bool → TaskFigures → List ℕ
 parked_cell parked x = if parked then numbers_right (x.parked ∷ []) else []
 
@@ -44,19 +44,19 @@ task_heads f = (if has_quota f then codes "   parked" else []) ++ codes "\n"
 unfoldable pub task_table : Figures → List ℕ
 task_table f = task_heads f ++ all_below (task_row f) (length f.tasks.items)
 
--- ---- processors
+-- ---- CPUs
 
--- the line of a processor
+-- the line of a CPU
 unfoldable pub cpu_line : ℕ → CpuFigures → List ℕ
 cpu_line c x =
     left 16 (decimal c) ++ numbers_right (x.busy ∷ x.idle ∷ []) ++ right 12 (decimal x.changes)
     ++ codes "\n"
 
--- the line of the processor of that number
+-- the line of the CPU of that number
 abbrev pub cpu_row : Figures → ℕ → List ℕ
 cpu_row f c = cpu_line c (of_cpu f c)
 
--- the processors
+-- the CPUs
 unfoldable pub cpu_table : Figures → List ℕ
 cpu_table f =
     codes "cpu                  busy     idle     changes\n"
@@ -88,19 +88,14 @@ quota_cells name quota x =
     left 16 name ++ numbers_right (quota ∷ x.period_ms ∷ x.most ∷ x.periods ∷ [])
     ++ right 12 (decimal x.throttled_periods) ++ right 9 (decimal x.throttled) ++ codes "\n"
 
--- the line of a group's quota; none where it has no quota
-unfoldable pub quota_line : List ℕ → Option ℕ → QuotaFigures → List ℕ
-quota_line name None x = []
-quota_line name (Some quota) x = quota_cells name quota x
-
--- the line of what is there
-abbrev pub quota_line_of : List ℕ → Option QuotaFigures → List ℕ
-quota_line_of name None = []
-quota_line_of name (Some x) = quota_line name x.quota_ms x
+-- the line of a group with that quota, if it has one
+abbrev pub quota_line : List ℕ → Option (ℕ × QuotaFigures) → List ℕ
+quota_line name None = []
+quota_line name (Some x) = quota_cells name x.0 x.1
 
 -- the line of the quota of the group of that number
 abbrev pub quota_row : Figures → ℕ → List ℕ
-quota_row f g = quota_line_of (group_name f g) (quota_of f g)
+quota_row f g = quota_line (group_name f g) (limit_of f g)
 
 -- the groups that have a quota, after an empty line
 unfoldable pub quota_rows : Figures → List ℕ
@@ -108,7 +103,7 @@ quota_rows f =
     codes "\ngroup               quota   period     most  periods   throttled      for\n"
     ++ all_below (quota_row f) (length f.quotas.groups.items)
 
--- the groups that have a quota; nothing where none has one
+-- the groups that have a quota; nothing if none has one
 unfoldable pub quota_table : Figures → List ℕ
 quota_table f = if has_quota f then quota_rows f else []
 
@@ -126,8 +121,8 @@ stall_end name clock = when_ejected clock ++ codes "stall " ++ name ++ codes "\n
 unfoldable pub fault_end : ℕ → ℕ → List ℕ → List ℕ
 fault_end number clock words = when_ejected clock ++ codes "fault " ++ decimal number ++ words
 
--- whether the policy is in force at the end, or when and why it was ejected; of a fault with these
--- words to it
+-- the policy is in force at the end, or when and why it was ejected; of a fault with these words to
+-- it
 abbrev pub policy_end : Figures → Option Eject → List ℕ → List ℕ
 policy_end f None words = codes "in force\n"
 policy_end f (Some (cause.Stall t clock)) words = stall_end (task_name f t) clock

@@ -13,9 +13,9 @@ use Rattle.scxsim_statistics.specs.declared.quotas.QuotaFigures.{QuotaFigures}
 use Rattle.scxsim_statistics.specs.declared.tally.CpuFigures.{CpuFigures}
 use Rattle.scxsim_statistics.specs.declared.tally.TaskFigures.{TaskFigures}
 use Rattle.scxsim_tables.specs.Cells.{hundredths, all_below}
-use Rattle.scxsim_tables.specs.Figures.{task_name, group_name, of_task, bursts_of, of_cpu, lost_of, of_group, quota_of, has_quota}
+use Rattle.scxsim_tables.specs.Figures.{task_name, group_name, of_task, bursts_of, of_cpu, lost_of, of_group, limit_of, has_quota}
 
--- what stands before a value, each with a comma after it
+-- the columns before a value, each with a comma after it
 unfoldable pub start : List ℕ → List ℕ → List ℕ → List ℕ
 start kind name figure = kind ++ codes "," ++ name ++ codes "," ++ figure ++ codes ","
 
@@ -82,9 +82,9 @@ task_values f t =
     wait_lines (task_name f t) (of_task f t) ++ stop_lines (task_name f t) (of_task f t)
     ++ burst_lines_of (task_name f t) (bursts_of f t)
 
--- ---- processors
+-- ---- CPUs
 
--- for how long a processor ran tasks and ran none, and how often another task began on it
+-- for how long a CPU ran tasks and ran none, and how often another task began on it
 unfoldable pub cpu_lines : List ℕ → CpuFigures → List ℕ
 cpu_lines name x =
     line (codes "cpu") name (codes "busy_ms") (decimal x.busy)
@@ -96,7 +96,7 @@ unfoldable pub lost_line : List ℕ → Option ℕ → List ℕ
 lost_line name None = []
 lost_line name (Some ms) = line (codes "cpu") name (codes "idle_while_waiting_ms") (decimal ms)
 
--- the lines of the processor of that number
+-- the lines of the CPU of that number
 unfoldable pub cpu_values : Figures → ℕ → List ℕ
 cpu_values f c = cpu_lines (decimal c) (of_cpu f c) ++ lost_line (decimal c) (lost_of f c)
 
@@ -137,21 +137,20 @@ unfoldable pub period_lines : List ℕ → QuotaFigures → List ℕ
 period_lines name x =
     line (codes "group") name (codes "periods") (decimal x.periods) ++ throttle_lines name x
 
--- the lines of a group's quota; none where it has no quota
-unfoldable pub quota_lines : List ℕ → Option ℕ → QuotaFigures → List ℕ
-quota_lines name None x = []
-quota_lines name (Some quota) x = use_lines name quota x ++ period_lines name x
+-- the lines of a group with that quota
+unfoldable pub quota_lines : List ℕ → ℕ → QuotaFigures → List ℕ
+quota_lines name quota x = use_lines name quota x ++ period_lines name x
 
--- the lines of what is there
-abbrev pub quota_lines_of : List ℕ → Option QuotaFigures → List ℕ
+-- the lines of a quota, if there is one
+abbrev pub quota_lines_of : List ℕ → Option (ℕ × QuotaFigures) → List ℕ
 quota_lines_of name None = []
-quota_lines_of name (Some x) = quota_lines name x.quota_ms x
+quota_lines_of name (Some x) = quota_lines name x.0 x.1
 
 -- the lines of the quota of the group of that number
 abbrev pub quota_values : Figures → ℕ → List ℕ
-quota_values f g = quota_lines_of (group_name f g) (quota_of f g)
+quota_values f g = quota_lines_of (group_name f g) (limit_of f g)
 
--- how long each task was parked, and what became of each quota; nothing where no group has one
+-- how long each task was parked, and the figures of each quota; nothing if no group has one
 unfoldable pub limit_values : Figures → List ℕ
 limit_values f =
     if has_quota f then
@@ -161,7 +160,7 @@ limit_values f =
 
 -- ---- the policy
 
--- whether the policy is in force at the end, or for which task or fault it was ejected
+-- the policy is in force at the end, or for which task or fault it was ejected
 abbrev pub ending : Figures → Option Eject → List ℕ
 ending f None = codes "in force"
 ending f (Some (cause.Stall t clock)) = codes "stall " ++ task_name f t
@@ -175,7 +174,7 @@ ejected_line name (Some (cause.Stall t clock)) =
 ejected_line name (Some (cause.Fault k clock)) =
     line (codes "policy") name (codes "ejected_at_ms") (decimal clock)
 
--- for how long some processor was idle while a task waited, and how the policy ended
+-- for how long some CPU was idle while a task waited, and how the policy ended
 unfoldable pub policy_values : Figures → List ℕ
 policy_values f =
     line (codes "policy") (string_bytes f.policy_name) (codes "idle_while_waiting_ms")

@@ -1,10 +1,10 @@
 ghost use Rattle.std.specs.Prelude.{◌≡◌};
-ghost use Rattle.scxsim_tables.specs.Figures.{task_name, group_name, has_quota};
+ghost use Rattle.scxsim_tables.specs.Figures.{task_name, group_name, limit_of, has_quota};
 
-use scxsim_statistics::Figures;
+use scxsim_statistics::{Figures, QuotaFigures};
 use scxsim_trace::Names;
 
-/// The name of the task of that number; an empty one where there is none.
+/// The name of the task of that number; an empty one if there is none.
 #[tactic(auto, using(std::proofs::lemmas::List::get_or_past))]
 pub(crate) fn task_name(figures: &Figures, number: usize) -> &str
     ensures { result.now ≡ task_name figures.now number }
@@ -16,7 +16,7 @@ pub(crate) fn task_name(figures: &Figures, number: usize) -> &str
     }
 }
 
-/// The name of the group of that number; an empty one where there is none.
+/// The name of the group of that number; an empty one if there is none.
 #[tactic(auto, using(std::proofs::lemmas::List::get_or_past, scx_load_workloads::proofs::Numbers::few_groups))]
 pub(crate) fn group_name(figures: &Figures, number: usize) -> &str
     ensures { result.now ≡ group_name figures.now number }
@@ -28,7 +28,16 @@ pub(crate) fn group_name(figures: &Figures, number: usize) -> &str
     }
 }
 
-/// Whether a group has a quota.
+/// The quota of the group of that number, with its figures, if it has one.
+pub(crate) fn limit_of(figures: &Figures, number: usize) -> Option<(u32, QuotaFigures)>
+    ensures { result ≡ limit_of figures.now number }
+{
+    let group = figures.quotas.groups.get(number).copied()?;
+    let quota_ms = group.quota_ms?;
+    Some((quota_ms, group))
+}
+
+/// True if a group has a quota.
 pub(crate) fn has_quota(figures: &Figures) -> bool
     ensures { result ≡ has_quota figures.now }
 {

@@ -1,8 +1,8 @@
 ghost use Rattle.std.specs.Prelude.{decimal};
-ghost use Rattle.scxsim_text.specs.Texts.{Puts};
+ghost use Rattle.scxsim_output.specs.Texts.{Puts};
 ghost use Rattle.scxsim_tables.specs.Cells.{left, right, numbers_right, fraction, hundredths, hundredths_right};
 
-use scxsim_text::Text;
+use scxsim_output::Text;
 
 /// Writes a number of hundredths, with a period before the last two digits.
 #[tactic(auto, unfolding(crate::specs::Cells::hundredths))]
@@ -13,7 +13,7 @@ pub(crate) fn write_hundredths(number: u64, page: &mut Text)
     write_fraction(number, page);
 }
 
-/// Writes a number of hundredths with spaces before it, up to so many characters.
+/// Writes a number of hundredths with spaces before it, up to `width` characters.
 #[tactic(auto, unfolding(crate::specs::Cells::hundredths_right, crate::specs::Cells::right))]
 pub(crate) fn write_hundredths_right(number: u64, width: usize, page: &mut Text)
     ensures { Puts page.old (hundredths_right width number) page.new }
@@ -41,7 +41,7 @@ pub(crate) fn write_numbers(numbers: &[u64], page: &mut Text)
     }
 }
 
-/// Writes words with spaces after them, up to so many bytes.
+/// Writes words with spaces after them, up to `width` bytes.
 #[tactic(auto, unfolding(crate::specs::Cells::left))]
 pub(crate) fn write_left(words: &str, width: usize, page: &mut Text)
     ensures { Puts page.old (left width words.now) page.new }
@@ -49,7 +49,7 @@ pub(crate) fn write_left(words: &str, width: usize, page: &mut Text)
     page.left(words, width);
 }
 
-/// Writes a number with spaces after it, up to so many characters.
+/// Writes a number with spaces after it, up to `width` characters.
 #[tactic(auto, unfolding(crate::specs::Cells::left))]
 pub(crate) fn write_number_left(number: u64, width: usize, page: &mut Text)
     ensures { Puts page.old (left width (decimal number)) page.new }
@@ -57,7 +57,7 @@ pub(crate) fn write_number_left(number: u64, width: usize, page: &mut Text)
     page.number_left(number, width);
 }
 
-/// Writes a number with spaces before it, up to so many characters.
+/// Writes a number with spaces before it, up to `width` characters.
 #[tactic(auto, unfolding(crate::specs::Cells::right))]
 pub(crate) fn write_number_right(number: u64, width: usize, page: &mut Text)
     ensures { Puts page.old (right width (decimal number)) page.new }

@@ -1,25 +1,25 @@
 ghost use Rattle.std.specs.Prelude.{◌<◌, length, Bool};
-ghost use Rattle.scxsim_text.specs.Texts.{Puts};
+ghost use Rattle.scxsim_output.specs.Texts.{Puts};
 ghost use Rattle.scxsim_tables.specs.Cells.{all_below};
-ghost use Rattle.scxsim_tables.specs.Tables.{wait_cells, task_cells, parked_cell, task_row, task_heads, task_table, cpu_line, cpu_row, cpu_table, group_line, group_row, group_table, quota_cells, quota_line, quota_line_of, quota_row, quota_rows, quota_table, when_ejected, stall_end, fault_end, policy_end, policy_row, lower_rows, table_rows};
+ghost use Rattle.scxsim_tables.specs.Tables.{wait_cells, task_cells, parked_cell, task_row, task_heads, task_table, cpu_line, cpu_row, cpu_table, group_line, group_row, group_table, quota_cells, quota_row, quota_rows, quota_table, when_ejected, stall_end, fault_end, policy_end, policy_row, lower_rows, table_rows};
 
-use crate::names::{group_name, has_quota, task_name};
+use crate::names::{group_name, has_quota, limit_of, task_name};
 use crate::numbers::{
     write_hundredths_right, write_left, write_number_left, write_number_right, write_numbers,
 };
 use scx_sched::{Eject, Fault};
 use scxsim_faults::{FaultPlace, write_call, write_reason};
+use scxsim_output::Text;
 use scxsim_statistics::{
     CpuFigures, Figures, GroupFigures, LengthCounts, QuotaFigures, TaskFigures,
 };
-use scxsim_text::Text;
 use scxsim_views::fault_words;
 
-/// What stands above the tables.
+/// The line of heads above the tasks, up to the column of parked times.
 pub(crate) const TASKS: &str =
     "task                  run    waits        mean      99%  longest    since    wakes  stopped";
 
-/// What stands behind that where a group has a quota.
+/// The head of parked times, if a group has a quota.
 const PARKED: &str = "   parked";
 
 const CPUS: &str = "cpu                  busy     idle     changes\n";
@@ -29,8 +29,8 @@ const GROUPS: &str = "group               share      due\n";
 const QUOTAS: &str =
     "\ngroup               quota   period     most  periods   throttled      for\n";
 
-/// Makes the figures tables for people, from the end of the first line on, with these words to the fault for
-/// which the policy was ejected, if it was for one.
+/// Writes the figures as tables for people, from the end of the first line on, with these words to the fault for which
+/// the policy was ejected, if it was for one.
 #[tactic(auto, unfolding(crate::specs::Tables::table_rows))]
 pub(crate) fn write_tables(figures: &Figures, words: &str, page: &mut Text)
     ensures { Puts page.old (table_rows figures.now words.now) page.new }
@@ -53,7 +53,7 @@ fn write_lower(figures: &Figures, words: &str, page: &mut Text)
     write_policy(figures, words, page);
 }
 
-/// Writes whether the policy is in force at the end, or when and why it was ejected.
+/// Writes that the policy is in force at the end, or the clock and the cause of its ejection.
 #[tactic(auto, unfolding(crate::specs::Tables::policy_row))]
 fn write_policy(figures: &Figures, words: &str, page: &mut Text)
     ensures { Puts page.old (policy_row figures.now words.now) page.new }
@@ -101,8 +101,7 @@ fn write_when(clock: u64, page: &mut Text)
     page.push(" ms: ");
 }
 
-/// Writes what is said of the fault for which the policy was ejected: where it came, if that is known, and what
-/// it is.
+/// Writes the words to the fault for which the policy was ejected: its place, if that is known, and its meaning.
 pub(crate) fn write_fault(figures: &Figures, place: Option<FaultPlace>, words: &mut Text) {
     let ejected = figures.ejected;
     match ejected {
@@ -114,8 +113,7 @@ pub(crate) fn write_fault(figures: &Figures, place: Option<FaultPlace>, words: &
     }
 }
 
-/// Writes in which callback and at which slot a fault came, and what it is: of a call in a few words, of an
-/// answer which one it was.
+/// Writes the callback and the slot of a fault, and its meaning: in a few words if it is of a call, or else the answer.
 fn write_place(figures: &Figures, place: FaultPlace, page: &mut Text) {
     page.push(" in ");
     page.push(place.callback.name());
@@ -130,7 +128,7 @@ fn write_place(figures: &Figures, place: FaultPlace, page: &mut Text) {
     page.push(")\n");
 }
 
-/// Writes what a fault is.
+/// Writes the meaning of a fault.
 fn write_words(fault: Fault, page: &mut Text) {
     page.push(" (");
     page.push(fault_words(fault));
@@ -190,7 +188,7 @@ fn write_cells(name: &str, task: &TaskFigures, page: &mut Text)
     write_numbers(&[task.wakes, task.stopped], page);
 }
 
-/// Writes how long a task's waits were.
+/// Writes the lengths of a task's waits.
 #[tactic(auto, unfolding(crate::specs::Tables::wait_cells))]
 fn write_waits(waits: &LengthCounts, page: &mut Text)
     ensures { Puts page.old (wait_cells waits.now) page.new }
@@ -200,8 +198,8 @@ fn write_waits(waits: &LengthCounts, page: &mut Text)
     write_numbers(&waited, page);
 }
 
-/// Writes for how long a task was parked, where a group has a quota.
-#[tactic(auto, unfolding(crate::specs::Tables::parked_cell), using(scxsim_text::proofs::Pieces::puts_nothing))]
+/// Writes the parked time of a task, if a group has a quota.
+#[tactic(auto, unfolding(crate::specs::Tables::parked_cell), using(scxsim_output::proofs::Pieces::puts_nothing))]
 fn write_parked(are_parked: bool, task: &TaskFigures, page: &mut Text)
     ensures { Puts page.old (parked_cell are_parked task.now) page.new }
 {
@@ -267,8 +265,8 @@ fn write_group(name: &str, group: GroupFigures, page: &mut Text)
     page.push("%\n");
 }
 
-/// Writes a line for each group that has a quota, where one has.
-#[tactic(auto, unfolding(crate::specs::Tables::quota_table), using(scxsim_text::proofs::Pieces::puts_nothing))]
+/// Writes a line for each group that has a quota, if one has.
+#[tactic(auto, unfolding(crate::specs::Tables::quota_table), using(scxsim_output::proofs::Pieces::puts_nothing))]
 fn write_quotas(figures: &Figures, page: &mut Text)
     ensures { Puts page.old (quota_table figures.now) page.new }
 {
@@ -291,35 +289,17 @@ fn write_quota_rows(figures: &Figures, page: &mut Text)
         (all_below (quota_row figures.now) (length figures.now.quotas.groups.items)) page.new }
 {
     for number in 0..figures.quotas.groups.len() {
-        write_quota_at(figures, number, page);
+        write_quota(figures, number, page);
     }
 }
 
-/// Writes the line of the quota of the group of that number.
-fn write_quota_at(figures: &Figures, number: usize, page: &mut Text)
+/// Writes the line of the quota of the group of that number, if it has one.
+#[tactic(auto, using(scxsim_output::proofs::Pieces::puts_nothing))]
+fn write_quota(figures: &Figures, number: usize, page: &mut Text)
     ensures { Puts page.old (quota_row figures.now number) page.new }
 {
-    let quota = figures.quotas.groups.get(number).copied();
-    write_quota_of(group_name(figures, number), quota, page);
-}
-
-/// Writes the line of a quota, if its figures are there.
-#[tactic(auto, using(scxsim_text::proofs::Pieces::puts_nothing))]
-fn write_quota_of(name: &str, quota: Option<QuotaFigures>, page: &mut Text)
-    ensures { Puts page.old (quota_line_of name.now quota) page.new }
-{
-    if let Some(quota) = quota {
-        write_quota(name, quota, page);
-    }
-}
-
-/// Writes the line of a group's quota, if it has one.
-#[tactic(auto, unfolding(crate::specs::Tables::quota_line), using(scxsim_text::proofs::Pieces::puts_nothing))]
-fn write_quota(name: &str, group: QuotaFigures, page: &mut Text)
-    ensures { Puts page.old (quota_line name.now group.quota_ms group) page.new }
-{
-    if let Some(quota_ms) = group.quota_ms {
-        write_quota_cells(name, quota_ms, group, page);
+    if let Some((quota_ms, group)) = limit_of(figures, number) {
+        write_quota_cells(group_name(figures, number), quota_ms, group, page);
     }
 }
 

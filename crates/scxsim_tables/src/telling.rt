@@ -1,6 +1,7 @@
 ghost use Rattle.std.specs.Prelude.{◌≡◌, ◌++◌, ℕ, List, true, is_some, Err, IfOk, IfErr, OnOk, OnErr, string_bytes};
 ghost use Rattle.std.specs.Io.KnownBytes.{Appends};
-ghost use Rattle.scxsim_output.specs.Output.{HasFailed, AppendsBeginning};
+ghost use Rattle.scxsim_output.specs.Output.{Counts, HasFailed, AppendsBeginning};
+ghost use Rattle.scxsim_commands.specs.declared.refusal.Refusal.TheVariants.{NoMemory};
 ghost use Rattle.scxsim_commands.specs.Outcome.{IfRefused, IsRefused};
 ghost use Rattle.scxsim_simulation.specs.Runs.{IsCause};
 ghost use Rattle.scxsim_simulation.specs.Replays.{IsReplayCause};
@@ -9,19 +10,17 @@ ghost use Rattle.scxsim_statistics.specs.declared.gathering.Figures.{Figures as 
 ghost use Rattle.scxsim_tables.specs.Tables.{table_rows, tables, is_for_fault};
 ghost use Rattle.scxsim_tables.specs.Values.{value_rows, values};
 
-use crate::listing::{COLUMNS, write_list};
 use crate::tables::{TASKS, write_fault, write_tables};
-use scx_sched::Eject;
+use crate::values::{COLUMNS, write_list};
+use scx_sched::{Eject, Sim};
 use scxsim_commands::{Fault, Refusal};
-use scxsim_faults::{FaultPlace, find_fault};
-use scxsim_output::{Failed, Out, write_all};
+use scxsim_faults::{FaultPlace, find_fault_in};
+use scxsim_output::{Failed, Out, Text, write_all};
 use scxsim_simulation::Listener;
-use scxsim_statistics::{Figures, figures, replay_figures};
-use scxsim_text::Text;
+use scxsim_statistics::{Figures, FiguresAndStart, figures, figures_and_start, replay_figures};
 use std::alloc::{AllocError, Global};
 
-/// Writes tables of the figures of the run that the texts of a policy file and of a workload file stand for.
-/// The answer is true.
+/// Writes tables of the figures of the run of a policy file's text and a workload file's. The answer is true.
 ///
 /// # Errors
 ///
@@ -55,7 +54,8 @@ pub fn stats<L: Listener, W: Out>(
     Ok(true)
 }
 
-/// Writes the same figures as comma-separated values. The answer is true.
+/// Writes the figures of the run of a policy file's text and a workload file's as comma-separated values. The answer is
+/// true.
 ///
 /// # Errors
 ///
@@ -84,13 +84,12 @@ pub fn stats_csv<L: Listener, W: Out>(
     ensures counted { result ≡ Err Fault.WriteFailed
         → HasFailed (W.failure_count out.old) (W.failure_count out.new) }
 {
-    let rows = values_of(alloc, policy, workload, listener)?;
-    write_rows(COLUMNS, rows.as_str(), out)?;
-    Ok(true)
+    let all = figures(alloc, policy, workload, listener)?;
+    write_values(alloc, all, out)
 }
 
-/// Writes the figures of the run that the texts of a policy file and of a file of events stand for, as
-/// comma-separated values. The answer is true.
+/// Writes the figures of the run of a policy file's text and a file of events as comma-separated values. The answer is
+/// true.
 ///
 /// # Errors
 ///
@@ -119,37 +118,44 @@ pub fn replay_csv<L: Listener, W: Out>(
     ensures counted { result ≡ Err Fault.WriteFailed
         → HasFailed (W.failure_count out.old) (W.failure_count out.new) }
 {
-    let rows = replay_values(alloc, policy, events, listener)?;
+    let all = replay_figures(alloc, policy, events, listener)?;
+    write_values(alloc, all, out)
+}
+
+/// Writes these figures as comma-separated values. The answer is true.
+fn write_values<W: Out>(alloc: Global, figures: Figures, out: &mut W) -> Result<bool, Fault>
+    ensures done { IfOk result (λ answer. (answer ≡ true)
+        × Appends (W.contents out.old) (W.contents out.new) (values figures)) }
+    ensures unfailed { OnOk result (W.failure_count out.new ≡ W.failure_count out.old) }
+    ensures refused { IfRefused result (λ refusal. refusal ≡ NoMemory) }
+    ensures quiet { IsRefused result → out.new ≡ out.old }
+    ensures cut { result ≡ Err Fault.WriteFailed
+        → AppendsBeginning (W.contents out.old) (W.contents out.new) (values figures) }
+    ensures counted { result ≡ Err Fault.WriteFailed
+        → HasFailed (W.failure_count out.old) (W.failure_count out.new) }
+{
+    let rows = rows_of_values(alloc, figures)?;
     write_rows(COLUMNS, rows.as_str(), out)?;
     Ok(true)
 }
 
-/// The rows of the values of the run of a file of events.
-fn replay_values<L: Listener>(
-    alloc: Global,
-    policy: &str,
-    events: &str,
-    listener: &mut L,
-) -> Result<String, Refusal>
-    ensures rows { IfOk result (λ rows. (f : AllFigures) × AreOfEvents policy.now events.now f
-        × (string_bytes rows ≡ value_rows f)) }
-    ensures refused { IfErr result (IsReplayCause policy.now events.now) }
+/// The rows of the values of these figures.
+fn rows_of_values(alloc: Global, figures: Figures) -> Result<String, Refusal>
+    ensures rows { IfOk result (λ rows. string_bytes rows ≡ value_rows figures) }
+    ensures refused { IfErr result (λ refusal. refusal ≡ NoMemory) }
 {
-    let all = replay_figures(alloc, policy, events, listener)?;
-    let rows = value_rows(alloc, &all);
-    drop(all);
+    let rows = value_rows(alloc, &figures);
+    drop(figures);
     Ok(rows?)
 }
 
-/// Writes what stands above rows, and then the rows.
+/// Writes the heads of columns, and then the rows.
 fn write_rows<W: Out>(head: &str, rows: &str, out: &mut W) -> Result<(), Failed>
     ensures ok { OnOk result
         (Appends (W.contents out.old) (W.contents out.new) (head.now ++ rows.now)) }
-    ensures ok_failures { OnOk result (W.failure_count out.new ≡ W.failure_count out.old) }
     ensures err { OnErr result
         (AppendsBeginning (W.contents out.old) (W.contents out.new) (head.now ++ rows.now)) }
-    ensures err_failures { OnErr result
-        (HasFailed (W.failure_count out.old) (W.failure_count out.new)) }
+    ensures failures { Counts result (W.failure_count out.old) (W.failure_count out.new) }
 {
     write_all(out, head.as_bytes())?;
     write_all(out, rows.as_bytes())
@@ -166,65 +172,48 @@ fn tables_of<L: Listener>(
         × (words : List ℕ) × (string_bytes rows ≡ table_rows f words)) }
     ensures refused { IfErr result (IsCause policy.now workload.now) }
 {
-    let all = figures(alloc, policy, workload, listener)?;
-    let rows = table_rows(alloc, policy, &all);
-    drop(all);
+    let FiguresAndStart { figures, start } = figures_and_start(alloc, policy, workload, listener)?;
+    let rows = table_rows(alloc, &figures, start);
+    drop(figures);
     Ok(rows?)
 }
 
-fn table_rows(alloc: Global, policy: &str, figures: &Figures) -> Result<String, AllocError>
+/// The rows of the tables of these figures, of a run that begins with that machine.
+fn table_rows(alloc: Global, figures: &Figures, start: Sim) -> Result<String, AllocError>
     ensures { IfOk result (λ rows. (words : List ℕ)
         × (string_bytes rows ≡ table_rows figures.now words)) }
 {
-    let words = words_of_fault(alloc, policy, figures)?;
+    let words = words_of_fault(alloc, figures, start)?;
     let mut rows = Text::new(alloc);
     write_tables(figures, words.as_str(), &mut rows);
     drop(words);
     rows.finish()
 }
 
-/// What is said of the fault for which the policy was ejected, if it was ejected for one.
-fn words_of_fault(alloc: Global, policy: &str, figures: &Figures) -> Result<String, AllocError> {
-    let place = place_of_fault(alloc, policy, figures)?;
+/// The words to the fault for which the policy was ejected, if it was ejected for one.
+fn words_of_fault(alloc: Global, figures: &Figures, start: Sim) -> Result<String, AllocError> {
+    let place = place_of_fault(alloc, figures, start)?;
     let mut words = Text::new(alloc);
     write_fault(figures, place, &mut words);
     words.finish()
 }
 
-/// Where the fault came for which the policy was ejected, if it was ejected for one.
+/// The place of the fault for which the policy was ejected, if it was ejected for one.
 fn place_of_fault(
     alloc: Global,
-    policy: &str,
     figures: &Figures,
+    mut start: Sim,
 ) -> Result<Option<FaultPlace>, AllocError>
     ensures { IfOk result (λ place. is_some place ≡ true
         → is_for_fault figures.now.ejected ≡ true) }
 {
     let ejected = figures.ejected;
-    match ejected {
-        Some(Eject::Fault(_, clock)) => {
-            let place = find_fault(alloc, policy, &figures.workload, clock)?;
-            Ok(place)
-        }
+    let place = match ejected {
+        Some(Eject::Fault(_, clock)) => find_fault_in(alloc, &figures.workload, &mut start, clock),
         Some(Eject::Stall(_, _)) | None => Ok(None),
-    }
-}
-
-/// The rows of the values.
-fn values_of<L: Listener>(
-    alloc: Global,
-    policy: &str,
-    workload: &str,
-    listener: &mut L,
-) -> Result<String, Refusal>
-    ensures rows { IfOk result (λ rows. (f : AllFigures) × AreOfTexts policy.now workload.now f
-        × (string_bytes rows ≡ value_rows f)) }
-    ensures refused { IfErr result (IsCause policy.now workload.now) }
-{
-    let all = figures(alloc, policy, workload, listener)?;
-    let rows = value_rows(alloc, &all);
-    drop(all);
-    Ok(rows?)
+    };
+    drop(start);
+    place
 }
 
 fn value_rows(alloc: Global, figures: &Figures) -> Result<String, AllocError>

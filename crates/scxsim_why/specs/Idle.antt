@@ -1,4 +1,4 @@
--- When processors are idle while somebody waits, in the run of two texts.
+-- The idle CPUs while tasks wait, in the run of two texts.
 use Rattle.std.specs.Prelude.{ℕ, ◌≡◌, List}
 use Rattle.scx_sched.specs.Sim.{SimState}
 use Rattle.scx_load_driver.specs.Events.{workload_events}
@@ -7,7 +7,7 @@ use Rattle.scxsim_simulation.specs.Runs.{IsRun}
 use Rattle.scxsim_account.specs.declared.idling.IdleFigures.{IdleFigures}
 use Rattle.scxsim_account.specs.Idling.{idle_of, figures_of}
 
--- of the run that the two texts stand for
+-- the idle figures of the run of the two texts
 pub record IsIdleOfTexts (policy workload : List ℕ) (x : IdleFigures) : Type 0 where
   pub of_workload : WorkloadState
   pub first : SimState

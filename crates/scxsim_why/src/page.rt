@@ -1,17 +1,17 @@
 use crate::finding::Findings;
+use crate::{
+    Ejected, write_calls, write_event, write_idle, write_last_lines, write_never, write_queues,
+    write_stall, write_stretches, write_undrained, write_unplaced, write_waits, write_worst,
+};
 use scx_isa::Callback;
 use scx_load_workloads::Workload;
 use scx_sched::Event;
 use scxsim_account::{Account, Cause, Ejection};
-use scxsim_account_text::{
-    Ejected, write_calls, write_event, write_idle, write_last_lines, write_never, write_queues,
-    write_stall, write_stretches, write_undrained, write_unplaced, write_waits, write_worst,
-};
 use scxsim_faults::{FaultPlace, write_call, write_policy_queues, write_reason};
-use scxsim_text::Text;
+use scxsim_output::Text;
 use std::alloc::{AllocError, Global};
 
-/// Makes the page, behind its first word.
+/// Makes the page after its first word.
 pub(crate) fn write_page(alloc: Global, found: &Findings, page: &mut Text) {
     let account = &found.account;
     let workload = &found.figures.workload;
@@ -20,7 +20,7 @@ pub(crate) fn write_page(alloc: Global, found: &Findings, page: &mut Text) {
     write_worst(alloc, workload, &account.waits, found.idle.has_waited, page);
     write_idle(workload, found.idle.lost, &account.stretches, page);
     write_undrained(&account.queues, page);
-    write_who_never_ran(alloc, found, page);
+    write_unrun(alloc, found, page);
     write_up_to_ejection(alloc, workload, account, page);
     write_waits(alloc, workload, &account.waits, page);
     write_stretches(
@@ -59,7 +59,7 @@ fn write_ending(
     }
 }
 
-/// Writes in which callback a fault came, and with what call.
+/// Writes the callback, the slot and the call of a fault.
 fn write_fault(workload: &Workload, place: FaultPlace, event: Event, page: &mut Text) {
     page.push(" in ");
     page.push(place.callback.name());
@@ -74,17 +74,17 @@ fn write_fault(workload: &Workload, place: FaultPlace, event: Event, page: &mut 
     page.push("\n");
 }
 
-/// The tasks that ran for no millisecond.
+/// The tasks that ran for 0 ms.
 #[derive(Drop)]
 struct Unrun {
     /// The tasks that never began to run.
     never: Vec<u16>,
-    /// The tasks that did, and were stopped before a tick of their processor, or were running as the run ended.
+    /// The tasks that did, and were stopped before a tick of their CPU, or were running as the run ended.
     briefly: Vec<u16>,
 }
 
-/// Writes who never ran, or for 0 ms.
-fn write_who_never_ran(alloc: Global, found: &Findings, page: &mut Text) {
+/// Writes the tasks that never ran, or ran for 0 ms.
+fn write_unrun(alloc: Global, found: &Findings, page: &mut Text) {
     match tasks_without_time(alloc, found) {
         Ok(tasks) => write_never(
             &found.figures.workload,

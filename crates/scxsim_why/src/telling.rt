@@ -1,6 +1,6 @@
-ghost use Rattle.std.specs.Prelude.{◌≡◌, ◌++◌, ℕ, List, true, Err, IfOk, IfErr, OnOk, OnErr};
+ghost use Rattle.std.specs.Prelude.{◌≡◌, ◌++◌, ℕ, List, true, Err, IfOk, IfErr, OnOk};
 ghost use Rattle.std.specs.Io.KnownBytes.{Appends};
-ghost use Rattle.scxsim_output.specs.Output.{HasFailed};
+ghost use Rattle.scxsim_output.specs.Output.{Counts, HasFailed};
 ghost use Rattle.scxsim_commands.specs.Outcome.{IfRefused, IsRefused};
 ghost use Rattle.scxsim_simulation.specs.Runs.{IsCause};
 ghost use Rattle.scxsim_why.specs.Pages.{page};
@@ -8,17 +8,15 @@ ghost use Rattle.scxsim_why.specs.Pages.{page};
 use crate::finding::{Findings, examine};
 use crate::page::write_page;
 use scxsim_commands::{Fault, Refusal};
-use scxsim_output::{Failed, Out, write_all};
+use scxsim_output::{Failed, Out, Text, write_all};
 use scxsim_simulation::Listener;
-use scxsim_text::Text;
 use std::alloc::{AllocError, Global};
 
 /// The page's first word.
 const POLICY: &str = "policy ";
 
-/// Writes why the run went as it did that the texts of a policy file and of a workload file stand for: how it
-/// ended, who waited longest, which processors were idle meanwhile, and what never happened. The answer is
-/// true.
+/// Writes why the run of a policy file's text and a workload file's went as it did: how it ended, which tasks waited
+/// longest, which CPUs were idle meanwhile, and what never happened. The answer is true.
 ///
 /// # Errors
 ///
@@ -40,7 +38,7 @@ pub fn why<L: Listener, W: Out>(
     ensures counted { result ≡ Err Fault.WriteFailed
         → HasFailed (W.failure_count out.old) (W.failure_count out.new) }
 {
-    let rest = told(alloc, policy, workload, listener)?;
+    let rest = rest_of_page(alloc, policy, workload, listener)?;
     write_both(POLICY, rest.as_str(), out)?;
     Ok(true)
 }
@@ -49,16 +47,14 @@ pub fn why<L: Listener, W: Out>(
 fn write_both<W: Out>(first: &str, rest: &str, out: &mut W) -> Result<(), Failed>
     ensures ok { OnOk result
         (Appends (W.contents out.old) (W.contents out.new) (first.now ++ rest.now)) }
-    ensures ok_failures { OnOk result (W.failure_count out.new ≡ W.failure_count out.old) }
-    ensures err_failures { OnErr result
-        (HasFailed (W.failure_count out.old) (W.failure_count out.new)) }
+    ensures failures { Counts result (W.failure_count out.old) (W.failure_count out.new) }
 {
     write_all(out, first.as_bytes())?;
     write_all(out, rest.as_bytes())
 }
 
-/// The page behind its first word. All memory is taken before the first byte is written.
-fn told<L: Listener>(
+/// The page after its first word. All memory is taken before the first byte is written.
+fn rest_of_page<L: Listener>(
     alloc: Global,
     policy: &str,
     workload: &str,

@@ -5,5 +5,5 @@ pub returns-clause-of_events : goal.returns-clause-of_events
 returns-clause-of_events g c =
     let found = c.in_ok-run.ensures.run in
     of_events c.args.policy.now c.args.events.now found.0 _ _ _ _
-    c.in_ok-gather_events.ensures.workload found.2 found.1 found.3 c.in_ok-gather_events.ensures.of_run
-    (name_is c.args.policy.now _ _ c.in_ok-gather_events.ensures.name c.in_ok-run.ensures.named)
+    c.in_ok-gather.ensures.workload found.2 found.1 found.3 c.in_ok-gather.ensures.of_run
+    (name_is c.args.policy.now _ _ c.in_ok-gather.ensures.name c.in_ok-run.ensures.named)

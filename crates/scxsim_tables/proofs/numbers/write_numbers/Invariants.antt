@@ -1,5 +1,5 @@
 use Rattle.std.proofs.Common.{get_or, decimal}
-use Rattle.scxsim_text.specs.Texts.{Puts}
+use Rattle.scxsim_output.specs.Texts.{Puts}
 use Rattle.scxsim_tables.specs.Cells.{all_below, right}
 use Rattle.scxsim_tables.proofs.numbers.write_numbers.Given as goal
 

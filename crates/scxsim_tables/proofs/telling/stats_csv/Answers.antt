@@ -1,12 +1,17 @@
-use Rattle.std.proofs.Common.{refl}
+use Rattle.std.specs.Io.KnownBytes.{Appends}
+use Rattle.scxsim_simulation.specs.Runs.{IsCause}
+use Rattle.scxsim_statistics.specs.Figures.{AreOfTexts}
+use Rattle.scxsim_tables.specs.Values.{values}
+use Rattle.scxsim_tables.proofs.Rows.{with_figures, no_memory_is_cause}
 use Rattle.scxsim_tables.proofs.telling.stats_csv.Goals as goal
 
 pub returns-clause-done : goal.returns-clause-done
 returns-clause-done g c =
-    let found = c.in_ok-rows.ensures.rows in
-    (refl, found.0, found.1, rw (c.as_str.ensures.value, found.2) at c.in_ok-write_rows.ensures.ok)
+    with_figures c.write_values.result _ (AreOfTexts c.args.policy.now c.args.workload.now) (λ f. Appends (g.W.Out.contents c.args.out.now) (g.W.Out.contents _) (values f)) c.in_ok-all.ensures.of_texts c.write_values.ensures.done
 
-pub returns-in_err-write_rows-clause-cut : goal.returns-in_err-write_rows-clause-cut
-returns-in_err-write_rows-clause-cut g c = λ _.
-    let found = c.in_ok-rows.ensures.rows in
-    (found.0, found.1, rw (c.as_str.ensures.value, found.2) at c.in_err-write_rows.ensures.err)
+pub returns-clause-refused : goal.returns-clause-refused
+returns-clause-refused g c =
+    no_memory_is_cause c.write_values.result (IsCause c.args.policy.now c.args.workload.now) tt c.write_values.ensures.refused
+
+pub returns-clause-cut : goal.returns-clause-cut
+returns-clause-cut g c = λ failed. (_, c.in_ok-all.ensures.of_texts, c.write_values.ensures.cut failed)

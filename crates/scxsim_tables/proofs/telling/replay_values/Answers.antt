@@ -1,4 +1,0 @@
-use Rattle.scxsim_tables.proofs.telling.replay_values.Goals as goal
-
-pub returns-clause-rows : goal.returns-clause-rows
-returns-clause-rows g c = (_, c.in_ok-all.ensures.of_events, c.in_ok-rows.ensures)
