@@ -8,14 +8,14 @@ pub(crate) struct Grid {
 }
 
 impl Grid {
-    /// So many rows of no time.
+    /// Returns rows of no time.
     pub(crate) fn new(alloc: Global, rows: usize) -> Result<Grid, AllocError> {
         Ok(Grid {
             rows: vec![in alloc; [0u64; CELLS]; rows]?,
         })
     }
 
-    /// Adds a stretch of time to the characters of a row in which it lies.
+    /// Adds the time between two moments to the characters of a row in which it lies.
     pub(crate) fn add(&mut self, row: usize, scale: Scale, since: u64, until: u64) {
         let Some(sums) = self.rows.get_mut(row) else {
             return;

@@ -1,18 +1,17 @@
-//! The chart of a run for a terminal: a line of characters for each processor and each task, 100 columns of plain
-//! ASCII. A character stands for some time, of which sums are kept as the run goes; the lines are written once it
-//! is over.
+//! The chart of a run for a terminal, `gantt`: a line of characters for each processor and each task, 100 columns of
+//! plain ASCII. A character shows some time. Sums are kept as the run goes, and the lines are written at its end.
 #![tactic(auto)]
 
-mod gathering;
+mod activities;
+mod chart_sums;
+mod chart_text;
+mod gantt_charts;
 mod grids;
 mod marks;
-mod places;
 mod rows;
 mod scales;
-mod telling;
 mod titles;
-mod writing;
 
-pub use scxsim_windows::{Span, Window};
-pub use telling::gantt;
+pub use gantt_charts::gantt;
+pub use scxsim_commands::{Span, Window};
 pub use titles::title;

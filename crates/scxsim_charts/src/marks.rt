@@ -1,4 +1,4 @@
-use crate::gathering::Chart;
+use crate::chart_sums::Chart;
 
 /// The letters of tasks, in their order.
 const LETTERS: &[u8; 52] = b"ABCDEFGHIJKLMNOPQRSTUVWXYZabcdefghijklmnopqrstuvwxyz";
@@ -9,7 +9,7 @@ pub(crate) fn letter(task: usize) -> Option<char> {
 }
 
 impl Chart {
-    /// The character of a processor: who had it for the most part, or why nobody did.
+    /// The character of a processor: the task that had it for at least half, or why it was idle.
     pub(crate) fn cpu_mark(&self, cpu: usize, cell: usize) -> char {
         if self.rows.by_group {
             let ran = self.sums.cpus.sum(cpu, cell);
@@ -58,7 +58,7 @@ impl Chart {
         }
     }
 
-    /// The character of a task: what it did for the most part, but that it ran is shown unless it waited for longer.
+    /// The character of a task: its main activity, but a run is shown unless it waited for longer.
     fn own_mark(&self, row: usize, cell: usize, ran: u64) -> char {
         let length = self.scale.length(cell);
         let paused = self.paused(row, cell);
@@ -88,7 +88,7 @@ impl Chart {
         }
     }
 
-    /// For how long it had work to do and didn't run.
+    /// The time that it had work to do and didn't run.
     fn paused(&self, row: usize, cell: usize) -> u64 {
         self.sums
             .waited
@@ -97,7 +97,7 @@ impl Chart {
             .saturating_add(self.sums.parked.sum(row, cell))
     }
 
-    /// The character of a group: how many tenths of all processors' time its tasks ran.
+    /// The character of a group: the tenths of all processors' time that its tasks ran.
     fn group_mark(&self, row: usize, cell: usize, ran: u64) -> char {
         let could = self
             .scale
@@ -113,7 +113,7 @@ impl Chart {
     }
 }
 
-/// How many tenths one time is of another, rounded down, 9 at most.
+/// One time in tenths of another, rounded down, at most 9.
 fn tenths(part: u64, whole: u64) -> u64 {
     (part.saturating_mul(10) / whole.max(1)).min(9)
 }
@@ -122,7 +122,7 @@ fn digit(tenths: u64) -> char {
     char::from(b'0'.saturating_add(tenths.min(9) as u8))
 }
 
-/// Whether one time is at least half of another.
+/// True if one time is at least half of another.
 fn is_half(part: u64, whole: u64) -> bool {
     part > 0 && part.saturating_mul(2) >= whole
 }

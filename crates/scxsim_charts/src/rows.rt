@@ -1,15 +1,15 @@
 use scx_load_workloads::Workload;
 
-/// How many lines a chart has for processors and tasks, at most; with more the tasks of a group share one.
+/// The most lines of a chart for processors and tasks; with more the tasks of a group share one.
 const MOST_ROWS: usize = 64;
 
-/// Which lines there are.
+/// The lines of a chart.
 #[derive(Clone, Copy)]
 pub(crate) struct Rows {
     pub(crate) cpus: usize,
     pub(crate) tasks: usize,
     groups: usize,
-    /// Whether tasks are added up by their groups.
+    /// True if tasks are added up by their groups.
     pub(crate) by_group: bool,
 }
 
@@ -25,7 +25,7 @@ impl Rows {
         }
     }
 
-    /// How many rows of sums there are for tasks, or for groups.
+    /// The number of rows of sums for tasks, or for groups.
     pub(crate) fn of_tasks(self) -> usize {
         if self.by_group {
             self.groups
@@ -34,7 +34,7 @@ impl Rows {
         }
     }
 
-    /// How many rows of sums there are for processors: one for each task on each, unless tasks are added up.
+    /// The number of rows of sums for processors: one for each task on each, unless tasks are added up.
     pub(crate) fn of_cpus(self) -> usize {
         if self.by_group {
             self.cpus

@@ -1,21 +1,21 @@
-use scxsim_windows::Window;
+use scxsim_commands::Window;
 
-/// How many characters of a line stand for time.
+/// The number of a line's characters that show time.
 pub(crate) const CELLS: usize = 81;
 
 const WIDTH: u64 = CELLS as u64;
 
-/// How many characters lie between two numbers of the axis, at least.
+/// The least number of characters between two numbers of the axis.
 const APART: u64 = 16;
 
-/// Which time the characters of a line stand for: either each for so many milliseconds, or so many for each
-/// millisecond. Times are counted in parts of a millisecond, of which a character has a whole number.
+/// A scale of time: a character is some milliseconds, or a millisecond is some characters. Times are counted in
+/// parts of a millisecond, of which a character has a whole number.
 #[derive(Clone, Copy)]
 pub(crate) struct Scale {
     window: Window,
-    /// How many parts a millisecond has, at least 1.
+    /// The parts of a millisecond, at least 1.
     parts: u64,
-    /// How many parts a character has, at least 1.
+    /// The parts of a character, at least 1.
     step: u64,
 }
 
@@ -31,7 +31,7 @@ impl Scale {
         }
     }
 
-    /// How many parts lie between the beginning of the window and a moment of it.
+    /// The parts between the beginning of the window and a moment of it.
     fn place(self, moment: u64) -> u64 {
         let moment = moment.min(self.window.to);
         moment
@@ -39,19 +39,19 @@ impl Scale {
             .saturating_mul(self.parts)
     }
 
-    /// In which character a moment lies; that behind the last one where the window ends.
+    /// The character in which a moment lies; the one after the last at the end of the window.
     pub(crate) fn cell(self, moment: u64) -> usize {
         let cell = self.place(moment) / self.step.max(1);
         cell.min(WIDTH) as usize
     }
 
-    /// How many characters are needed.
+    /// The number of characters that are needed.
     pub(crate) fn used(self) -> usize {
         let cells = self.place(self.window.to).div_ceil(self.step.max(1));
         cells.min(WIDTH) as usize
     }
 
-    /// How much of a stretch of time lies in a character.
+    /// The time between two moments that lies in a character.
     pub(crate) fn overlap(self, cell: usize, since: u64, until: u64) -> u64 {
         let begin = (cell as u64).saturating_mul(self.step);
         let end = begin.saturating_add(self.step);
@@ -59,23 +59,23 @@ impl Scale {
         until.saturating_sub(self.place(since).max(begin))
     }
 
-    /// How long the time of a character is: the last one may have less.
+    /// The time of a character: the last one may have less.
     pub(crate) fn length(self, cell: usize) -> u64 {
         self.overlap(cell, self.window.from, self.window.to)
     }
 
-    /// The first character behind a stretch of time.
+    /// The first character after that moment.
     pub(crate) fn end_cell(self, until: u64) -> usize {
         let cells = self.place(until).div_ceil(self.step.max(1));
         cells.min(WIDTH) as usize
     }
 
-    /// Whether the moment lies in the window.
+    /// True if the moment lies in the window.
     pub(crate) fn has(self, moment: u64) -> bool {
         self.window.from <= moment && moment < self.window.to
     }
 
-    /// How many characters lie between two numbers of the axis: as many as are whole milliseconds.
+    /// The number of characters between two numbers of the axis: they are whole milliseconds.
     pub(crate) fn apart(self) -> usize {
         let parts = self.parts.max(1);
         parts.max(APART.saturating_sub(APART % parts)) as usize
@@ -87,7 +87,7 @@ impl Scale {
         self.window.from.saturating_add(parts / self.parts.max(1))
     }
 
-    /// How many milliseconds a character has; none where it has less than one.
+    /// The milliseconds of a character; none where it has less than one.
     pub(crate) fn ms_a_cell(self) -> Option<u64> {
         if self.parts == 1 {
             Some(self.step)
@@ -96,7 +96,7 @@ impl Scale {
         }
     }
 
-    /// How many characters a millisecond has, where it has more than one.
+    /// The number of characters of a millisecond, where it has more than one.
     pub(crate) fn cells_a_ms(self) -> u64 {
         self.parts
     }

@@ -1,13 +1,13 @@
-use scxsim_text::Text;
+use scxsim_output::Text;
 use std::alloc::{AllocError, Global};
 
-/// How many characters of a file's name a title has, at most.
+/// The most characters of a file's name in a title.
 const MOST: usize = 23;
 
 /// The title of a chart: the names of its two files.
 ///
-/// Of each it has the last part of the path without `.toml`, at most 23 characters, and `?` for all that isn't
-/// plain ASCII.
+/// Each is the last part of the path without `.toml`, at most 23 characters, with `?` for all that isn't plain
+/// ASCII.
 ///
 /// # Errors
 ///

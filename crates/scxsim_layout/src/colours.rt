@@ -1,9 +1,9 @@
 use scx_load_workloads::Workload;
 
-/// How many colours there are for tasks.
+/// The number of colours for tasks.
 pub(crate) const COLOURS: usize = 6;
 
-/// What decides the colour of a task.
+/// The rule for the colours of tasks: one for each task, or one for each group.
 #[derive(Clone, Copy)]
 pub(crate) enum Colouring {
     ByTask,
@@ -20,7 +20,7 @@ impl Colouring {
         }
     }
 
-    /// The colour of a task, in the group with tasks that so many stand before.
+    /// The colour of a task in the `group`th group with tasks.
     pub(crate) fn colour(self, task: usize, group: usize) -> usize {
         match self {
             Colouring::ByTask => task % COLOURS,
@@ -29,7 +29,7 @@ impl Colouring {
     }
 }
 
-/// Whether all tasks are in one group.
+/// True if all tasks are in one group.
 fn is_one_group(homes: &[u32]) -> bool {
     match homes.first() {
         Some(first) => homes.iter().all(|home| home == first),

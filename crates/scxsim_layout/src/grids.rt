@@ -9,7 +9,7 @@ pub struct Grid {
 }
 
 impl Grid {
-    /// So many rows of no time.
+    /// Returns rows of no time.
     ///
     /// # Errors
     ///
@@ -21,7 +21,7 @@ impl Grid {
         })
     }
 
-    /// Adds a stretch of time to the columns of a row in which it lies.
+    /// Adds the time between two moments to the columns of a row in which it lies.
     #[inline(always)]
     pub fn add(&mut self, row: usize, scale: Scale, since: Mark, until: Mark) {
         if since.column == until.column {
@@ -31,7 +31,7 @@ impl Grid {
         }
     }
 
-    /// The same of a stretch that goes on in other columns.
+    /// Adds time that lies in several columns.
     fn add_all(&mut self, row: usize, scale: Scale, since: Mark, until: Mark) {
         for column in since.column..until.column.saturating_add(1) {
             let ms = scale.overlap(column, since.moment, until.moment);

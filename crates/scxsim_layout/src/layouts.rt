@@ -8,24 +8,24 @@ use crate::scales::Scale;
 use scx_load_workloads::Workload;
 use std::alloc::{AllocError, Global};
 
-/// How many columns all rows have together, at most.
+/// The most columns of all rows together.
 const MOST_CELLS: u64 = 48_000;
 
-/// How many columns a row has, at most.
+/// The most columns of a row.
 const MOST_COLUMNS: u64 = 1300;
 
-/// How wide a bar of its own is at least, for each row and at all, in hundredths of a pixel.
+/// The least width of a bar, for each row of the picture and in all, in hundredths of a pixel.
 const LEAST_A_ROW: u64 = 16;
 
 const LEAST: u64 = 200;
 
-/// How wide a step of a strip is at least, in hundredths of a pixel.
+/// The least width of a strip's step, in hundredths of a pixel.
 const STEP_WIDTH: u64 = 500;
 
-/// How many steps all strips have together, at most.
+/// The most steps of all strips together.
 const MOST_STEPS: u64 = 7000;
 
-/// Where a task is shown.
+/// The row and the colour of a task.
 #[derive(Clone, Copy)]
 pub struct TaskPlace {
     /// Its row, or that of its group.
@@ -35,23 +35,23 @@ pub struct TaskPlace {
     pub colour: usize,
 }
 
-/// Which rows there are, what is shown in which, and where which moment is.
+/// The layout of a picture: its rows, the row and colour of each task, and its scale of time.
 #[derive(Drop)]
 pub struct Layout {
     pub scale: Scale,
     pub rows: Vec<Row>,
-    /// The strip of each group's share, if it is shown by itself.
+    /// The strip that shows each group's share, if one does.
     groups: Vec<Option<usize>>,
     tasks: Vec<TaskPlace>,
     pub folding: Folding,
     pub strips: usize,
-    /// How high all rows are together, in pixels.
+    /// The height of all rows together, in pixels.
     pub high: u64,
-    /// How many milliseconds a bar of its own has, at least.
+    /// The least milliseconds of a bar of its own.
     pub least: u64,
 }
 
-/// How many milliseconds a bar of its own has, at least, where there are so many rows.
+/// The least milliseconds of a bar of its own in a picture with this many rows.
 fn least_of(scale: Scale, rows: u64) -> u64 {
     let width = rows.saturating_mul(LEAST_A_ROW).max(LEAST);
     width.saturating_mul(scale.step).div_ceil(scale.wide.max(1))
@@ -78,7 +78,7 @@ impl Layout {
         self.folding.cpu_row(cpu)
     }
 
-    /// Where a task is shown, if there is such a task.
+    /// The row and the colour of a task, if there is such a task.
     #[inline(always)]
     pub fn task(&self, task: u16) -> Option<TaskPlace> {
         self.tasks.get(task as usize).copied()
@@ -89,7 +89,7 @@ impl Layout {
         self.rows.get(row).copied()
     }
 
-    /// How many columns a step of a strip has.
+    /// The number of columns of a strip's step.
     pub fn strip_columns(&self) -> u64 {
         let least = self.scale.columns.saturating_mul(self.strips as u64) / MOST_STEPS;
         let wide = STEP_WIDTH.div_ceil(self.scale.wide.max(1));
@@ -108,7 +108,7 @@ impl Layout {
         }
     }
 
-    /// Whether runs and waits in that row may be bars of their own.
+    /// True if runs and waits in that row may be bars of their own.
     pub fn has_bars(&self, row: usize) -> bool {
         match self.row(row) {
             Some(row) => row.has_bars(),
@@ -116,13 +116,13 @@ impl Layout {
         }
     }
 
-    /// The strip of a group's share, if it is shown by itself.
+    /// The strip that shows a group's share, if one does.
     pub fn strip(&self, group: u32) -> Option<usize> {
         self.groups.get(group as usize).copied()?
     }
 }
 
-/// A layout on its way.
+/// A layout while its rows are added.
 #[derive(Drop)]
 struct Plan {
     rows: Vec<Row>,
@@ -130,9 +130,9 @@ struct Plan {
     tasks: Vec<TaskPlace>,
     folding: Folding,
     colouring: Colouring,
-    /// Whether there are several groups, so that their shares say something.
+    /// True if there are several groups, so that shares are shown.
     has_shares: bool,
-    /// How many strips, groups at the top and groups with tasks there are so far.
+    /// The numbers of strips, of groups without a parent and of groups with tasks so far.
     strips: usize,
     tops: usize,
     leaves: usize,
@@ -294,7 +294,7 @@ impl Plan {
         }
     }
 
-    /// Keeps which strip shows the share of a group: that of the last row that has one.
+    /// Keeps the strip that shows a group's share: that of the last row that has one.
     fn place_group(&mut self, group: u32, depth: u64) {
         if !self.folding.has_strip(depth) || self.strips == 0 {
             return;
@@ -304,7 +304,7 @@ impl Plan {
         }
     }
 
-    /// Adds the rows of the tasks of a group, or keeps that they are shown in its row.
+    /// Adds the rows of a group's tasks, or keeps that its row shows them.
     fn push_tasks(
         &mut self,
         workload: &Workload,
@@ -322,7 +322,7 @@ impl Plan {
         Ok(())
     }
 
-    /// Adds the row of a task of a group, before which stand so many that have tasks, or keeps its row alone.
+    /// Adds the row of a task of the `group`th group with tasks, or keeps that the group's row shows it.
     fn push_task(
         &mut self,
         task: u16,

@@ -1,14 +1,14 @@
 use crate::grids::Grid;
 use std::alloc::{AllocError, Global};
 
-/// How many shades there are.
+/// The number of shades.
 pub const LEVELS: u64 = 16;
 
-/// How full a column is, in sixteenths.
+/// The shade of a column: its time, in sixteenths of a full column.
 #[derive(Clone, Copy)]
 pub enum Level {
     Empty,
-    /// Less than any shade says.
+    /// Some time, but less than the faintest shade.
     Tiny,
     Full(u64),
 }
@@ -24,7 +24,7 @@ impl Level {
         }
     }
 
-    /// Whether no time is in it.
+    /// True if it has no time.
     pub fn is_empty(self) -> bool {
         match self {
             Level::Empty => true,
@@ -32,7 +32,7 @@ impl Level {
         }
     }
 
-    /// The number of its shade; 0 is fainter than any. None is empty.
+    /// The number of its shade; 0 is fainter than any. An empty column has none.
     pub fn shade(self) -> Option<u64> {
         match self {
             Level::Empty => None,
@@ -41,7 +41,7 @@ impl Level {
         }
     }
 
-    /// In which third of a full column it is, if there is some time in it.
+    /// The third of a full column that its time reaches, if it has some.
     pub fn third(self) -> Option<u64> {
         match self {
             Level::Empty => None,
@@ -51,23 +51,23 @@ impl Level {
     }
 }
 
-/// The columns of a row, as shades: how many sixteenths of a column are full.
+/// The columns of a row as shades, in sixteenths of a full column.
 ///
-/// What rounding leaves goes on to the next column, and what is left at the end into a line behind the last one. So
-/// widths times shades are what is added up.
+/// A remainder goes to the next column, and the last one becomes a short line at the end. So widths times shades
+/// are the sum of all time.
 #[derive(Drop)]
 pub struct Levels {
     pub levels: Vec<Level>,
     /// The milliseconds of a full column, and all milliseconds.
     pub unit: u64,
     pub sum: u64,
-    /// The last column with some time, and what rounding leaves there, in sixteenths of a millisecond.
+    /// The last column with some time, and the remainder there, in sixteenths of a millisecond.
     pub last: u64,
     pub rest: u64,
 }
 
 impl Levels {
-    /// So many empty columns.
+    /// Returns this many empty columns.
     ///
     /// # Errors
     ///
@@ -82,7 +82,7 @@ impl Levels {
         })
     }
 
-    /// Takes the columns of a row, of which one holds so many milliseconds.
+    /// Takes the columns of a row; a full column has `unit` milliseconds.
     pub fn take(&mut self, grid: &Grid, row: usize, unit: u64) {
         self.unit = unit.max(1);
         self.sum = 0;
@@ -107,7 +107,7 @@ impl Levels {
         self.rest = carry;
     }
 
-    /// Whether no time is in any column.
+    /// True if no column has time.
     pub fn is_empty(&self) -> bool {
         self.sum == 0
     }

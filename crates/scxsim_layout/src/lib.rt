@@ -1,6 +1,5 @@
-//! Where in a picture what of a run stands: which rows there are, in which of them a processor or a task is shown
-//! and in which colour, in which column a moment lies; grids of such rows and columns, in which time is summed; and the sheet on
-//! which it is written, with its colours and patterns.
+//! The layout of a picture of a run: its rows and their colours, and its scale of time in columns. Beside it, grids
+//! that add up time by row and column, and the sheet on which a picture is written, with its colours and patterns.
 #![tactic(auto)]
 
 mod colours;

@@ -1,6 +1,6 @@
 use crate::sheets::Sheet;
 
-/// From which length on a time is in seconds.
+/// The least length that is written in seconds.
 const LONG: u64 = 10_000;
 
 /// Adds a time, in milliseconds, or in seconds if it is long.
@@ -14,7 +14,7 @@ pub fn put_time(sheet: &mut Sheet, ms: u64) {
     }
 }
 
-/// Adds so many milliseconds as seconds, without zeros at the end.
+/// Adds milliseconds as seconds, without zeros at the end.
 pub fn put_seconds(sheet: &mut Sheet, ms: u64) {
     sheet.number(ms / 1000);
     let rest = ms % 1000;

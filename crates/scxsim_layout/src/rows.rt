@@ -1,13 +1,13 @@
 use crate::groups::tops;
 use scx_load_workloads::Workload;
 
-/// How many rows a picture has, at most.
+/// The most rows of a picture.
 pub(crate) const MOST_ROWS: usize = 128;
 
-/// How many of them are left for groups where processors are added up by fours.
+/// The rows left for groups where processors are added up by fours.
 const GROUP_ROWS: usize = 112;
 
-/// What is added up, so that there aren't too many rows; each kind adds up what those before it do.
+/// A way to keep the number of rows small: each variant adds up what those before it do, and more.
 #[derive(Clone, Copy)]
 pub enum Folding {
     Nothing,
@@ -15,7 +15,7 @@ pub enum Folding {
     Tasks,
     /// Processors by fours.
     Cpus,
-    /// Groups with those within them, and, where so many stand at the top, these by so many.
+    /// Groups with those within them, and this many groups without a parent in each row.
     Groups(usize),
 }
 
@@ -38,7 +38,7 @@ impl Folding {
         }
     }
 
-    /// Whether the tasks of a group are added up.
+    /// True if the tasks of a group are added up.
     pub fn by_group(self) -> bool {
         match self {
             Folding::Nothing => false,
@@ -46,7 +46,7 @@ impl Folding {
         }
     }
 
-    /// How many processors are added up in a row.
+    /// The number of processors added up in a row.
     pub(crate) fn cpus_a_row(self) -> u32 {
         match self {
             Folding::Nothing | Folding::Tasks => 1,
@@ -63,7 +63,7 @@ impl Folding {
         }
     }
 
-    /// Whether a group has a row of its own: the one that so many groups at the top stand before.
+    /// True if a group at that depth has a row of its own, after `tops_before` groups without a parent.
     pub(crate) fn has_row(self, depth: u64, tops_before: usize) -> bool {
         match self {
             Folding::Nothing | Folding::Tasks | Folding::Cpus => true,
@@ -71,7 +71,7 @@ impl Folding {
         }
     }
 
-    /// Whether the share of a group at that depth is shown.
+    /// True if the share of a group at that depth is shown.
     pub(crate) fn has_strip(self, depth: u64) -> bool {
         match self {
             Folding::Nothing | Folding::Tasks | Folding::Cpus => true,
@@ -80,17 +80,17 @@ impl Folding {
     }
 }
 
-/// What a row shows.
+/// The processors, groups or task of a row.
 #[derive(Clone, Copy)]
 pub enum Kind {
     /// Processors, from the first to the last.
     Cpus { first: u32, last: u32 },
-    /// A group, or several that stand at the top.
+    /// A group, or several without a parent.
     Groups { first: u32, last: u32 },
     Task(u16),
 }
 
-/// From where to where something is drawn, from top to bottom, in pixels.
+/// A horizontal band of a picture, in pixels.
 #[derive(Clone, Copy)]
 pub struct Band {
     pub top: u64,
@@ -108,26 +108,26 @@ impl Band {
 #[derive(Clone, Copy)]
 pub struct Row {
     pub kind: Kind,
-    /// How many processors or tasks are added up in it.
+    /// The number of processors or tasks added up in it.
     pub members: u64,
-    /// In how many groups it lies.
+    /// The number of groups that it lies in.
     pub depth: u64,
-    /// Which of six colours its tasks have.
+    /// The colour of its tasks, one of six.
     pub colour: usize,
-    /// Which of the strips of shares it has, if one.
+    /// Its strip of shares, if it has one.
     pub strip: Option<usize>,
-    /// Where it begins, below the first row's top, in pixels.
+    /// Its top, in pixels below the first row's.
     pub top: u64,
-    /// How high its strip is, and what is below that.
+    /// The heights of its strip, and of the runs and waits below that.
     pub strip_tall: u64,
     pub tall: u64,
 }
 
-/// How high rows are, by how many there are, in pixels.
+/// The heights of rows in pixels: the more rows, the lower each.
 #[derive(Clone, Copy)]
 struct Heights {
     tall: u64,
-    /// How high the runs and waits of a group are, where its tasks are added up.
+    /// The height of a group's runs and waits, where its tasks are added up.
     group: u64,
     strip: u64,
     gap: u64,
@@ -152,7 +152,7 @@ impl Heights {
 }
 
 impl Heights {
-    /// How high the runs and waits of a row are.
+    /// The height of a row's runs and waits.
     fn of_runs(self, row: Row) -> u64 {
         if !row.has_runs() {
             0
@@ -164,10 +164,10 @@ impl Heights {
     }
 }
 
-/// How far groups, and tasks and processors, are from each other.
+/// The gap above a group, and between processors and tasks.
 const GROUP_GAP: u64 = 8;
 
-/// Gives each row its place. The answer is how high they are together.
+/// Gives each row its place, and returns the height of all rows.
 pub(crate) fn place(rows: &mut [Row]) -> u64 {
     let heights = Heights::of(rows.len());
     let mut top = 0u64;
@@ -193,7 +193,7 @@ pub(crate) fn place(rows: &mut [Row]) -> u64 {
 }
 
 impl Row {
-    /// Where its runs begin, and how high they are, in pixels: a row of processors has nothing else.
+    /// The band of its runs. A row of processors has nothing else.
     pub fn runs(self) -> Band {
         let high = self.tall.saturating_sub(4);
         Band {
@@ -206,7 +206,7 @@ impl Row {
         }
     }
 
-    /// The same of its waits.
+    /// The band of its waits, below its runs.
     pub fn waits(self) -> Band {
         let runs = self.runs();
         let high = self.tall.saturating_sub(4);
@@ -216,7 +216,7 @@ impl Row {
         }
     }
 
-    /// The middle of what stands before it.
+    /// The middle of its strip, or of its runs and waits: its name is written there.
     pub fn middle(self) -> u64 {
         let high = if self.strip_tall > 0 {
             self.strip_tall
@@ -226,12 +226,12 @@ impl Row {
         self.top.saturating_add(high / 2)
     }
 
-    /// Whether runs and waits are shown in it.
+    /// True if it shows runs and waits.
     pub fn has_runs(self) -> bool {
         self.members > 0
     }
 
-    /// Whether runs and waits may be bars of their own.
+    /// True if its runs and waits may be bars of their own.
     pub fn has_bars(self) -> bool {
         match self.kind {
             Kind::Cpus { .. } => self.members == 1,
@@ -240,7 +240,7 @@ impl Row {
         }
     }
 
-    /// Whether it shows processors.
+    /// True if it shows processors.
     pub fn is_cpu(self) -> bool {
         match self.kind {
             Kind::Cpus { .. } => true,
@@ -248,7 +248,7 @@ impl Row {
         }
     }
 
-    /// Whether it shows groups.
+    /// True if it shows groups.
     pub fn is_group(self) -> bool {
         match self.kind {
             Kind::Groups { .. } => true,

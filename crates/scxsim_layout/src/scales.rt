@@ -1,26 +1,26 @@
 ghost use Rattle.scxsim_layout.specs.Columns.{Covers};
 
-/// Where the plot begins, and how wide it is at most, in hundredths of a pixel.
+/// The left side of the plot, and its greatest width, in hundredths of a pixel.
 pub const LEFT: u64 = 18_000;
 
 pub const PLOT: u64 = 130_000;
 
-/// Which time a column stands for, and where it is: each for as many whole milliseconds, but the last one may
-/// have less. Places are in hundredths of a pixel.
+/// A scale of time: columns of equally many whole milliseconds, of which the last one may have fewer. Widths are in
+/// hundredths of a pixel.
 #[derive(Clone, Copy)]
 pub struct Scale {
     pub from: u64,
     pub to: u64,
-    /// How many milliseconds a column has, at least 1.
+    /// The milliseconds of a column, at least 1.
     pub step: u64,
-    /// How many columns there are, at least 1.
+    /// The number of columns, at least 1.
     pub columns: u64,
-    /// How wide a column is.
+    /// The width of a column.
     pub wide: u64,
 }
 
 impl Scale {
-    /// The scale of a part of a run, with at most so many columns.
+    /// The scale of a part of a run, with at most this many columns.
     pub(crate) fn new(from: u64, to: u64, most: u64) -> Scale
         ensures { Covers from to result }
     {
@@ -36,38 +36,38 @@ impl Scale {
         }
     }
 
-    /// How many milliseconds there are.
+    /// The milliseconds of the window.
     pub fn length(self) -> u64 {
         self.to.saturating_sub(self.from).max(1)
     }
 
-    /// How many milliseconds of the window lie before a moment.
+    /// The milliseconds of the window before a moment.
     pub fn before(self, moment: u64) -> u64 {
         moment.min(self.to).saturating_sub(self.from)
     }
 
-    /// How much of a stretch of time lies in the window.
+    /// The milliseconds between two moments that lie in the window.
     pub fn within(self, since: u64, until: u64) -> u64 {
         self.before(until).saturating_sub(self.before(since))
     }
 
-    /// Where a moment is.
+    /// The place of a moment.
     pub fn x(self, moment: u64) -> u64 {
         let wide = self.before(moment).saturating_mul(self.wide);
         LEFT.saturating_add(wide / self.step.max(1))
     }
 
-    /// Where a column begins.
+    /// The left side of a column.
     pub fn column_x(self, column: u64) -> u64 {
         LEFT.saturating_add(column.saturating_mul(self.wide))
     }
 
-    /// How wide a stretch of time is.
+    /// The width of the time between two moments.
     pub fn width(self, since: u64, until: u64) -> u64 {
         self.x(until).saturating_sub(self.x(since))
     }
 
-    /// A moment with its column: the last one, where it comes behind all.
+    /// A moment with its column: the last one, if it comes after all.
     pub fn mark(self, moment: u64) -> Mark {
         let column = self.before(moment) / self.step.max(1);
         Mark {
@@ -76,7 +76,7 @@ impl Scale {
         }
     }
 
-    /// How much of a stretch of time lies in a column.
+    /// The milliseconds between two moments that lie in a column.
     pub fn overlap(self, column: u64, since: u64, until: u64) -> u64 {
         let begin = column.saturating_mul(self.step);
         let end = begin.saturating_add(self.step);
@@ -84,12 +84,12 @@ impl Scale {
         until.saturating_sub(self.before(since).max(begin))
     }
 
-    /// Whether the moment lies in the window.
+    /// True if the moment lies in the window.
     pub fn has(self, moment: u64) -> bool {
         self.from <= moment && moment < self.to
     }
 
-    /// Where the window ends.
+    /// The right side of the window.
     pub fn end_x(self) -> u64 {
         self.x(self.to)
     }
@@ -106,7 +106,7 @@ pub struct Mark {
 #[derive(Clone, Copy)]
 pub struct Now {
     pub mark: Mark,
-    /// How many milliseconds lie before the end of its column; no end is the last one's.
+    /// The milliseconds before the end of its column; the last column doesn't end.
     end: u64,
 }
 
@@ -128,7 +128,7 @@ impl Now {
         }
     }
 
-    /// A column is behind, or several are.
+    /// Goes to the column of the moment.
     fn turn(&mut self, scale: Scale) {
         self.mark = scale.mark(self.mark.moment);
         let next = self.mark.column.saturating_add(1);

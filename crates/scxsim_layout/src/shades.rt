@@ -1,7 +1,7 @@
 use crate::scales::{Mark, Scale};
 use std::alloc::{AllocError, Global};
 
-/// Who ran in a column.
+/// The colours of the tasks that ran in a column.
 #[derive(Clone, Copy)]
 pub enum Shade {
     Nobody,
@@ -11,7 +11,7 @@ pub enum Shade {
 }
 
 impl Shade {
-    /// Whether somebody ran, and the same did in both.
+    /// True if a task ran, and the shades are equal.
     pub fn is_same(self, other: Shade) -> bool {
         match self {
             Shade::Nobody => false,
@@ -35,7 +35,7 @@ impl Shade {
     }
 }
 
-/// Who ran, by row and column.
+/// The shade of each column, by row.
 #[derive(Drop)]
 pub struct Shades {
     columns: usize,
@@ -43,7 +43,7 @@ pub struct Shades {
 }
 
 impl Shades {
-    /// So many rows in which nobody ran.
+    /// Returns rows in which no task ran.
     ///
     /// # Errors
     ///
@@ -65,7 +65,7 @@ impl Shades {
         }
     }
 
-    /// The same of a stretch that goes on in other columns.
+    /// Adds a run that lies in several columns.
     fn mix_all(&mut self, row: usize, scale: Scale, since: Mark, until: Mark, colour: usize) {
         for column in since.column..until.column.saturating_add(1) {
             if scale.overlap(column, since.moment, until.moment) > 0 {
@@ -83,7 +83,7 @@ impl Shades {
         }
     }
 
-    /// Who ran in a column of a row.
+    /// The shade of a column of a row.
     pub fn shade(&self, row: usize, column: u64) -> Shade {
         match self.cells.get(self.place(row, column)) {
             Some(shade) => *shade,
@@ -98,7 +98,7 @@ impl Shades {
     }
 }
 
-/// Who ran in a column in which somebody of that colour ran too.
+/// The shade of a column in which a task of that colour ran too.
 fn mixed(before: Shade, colour: usize) -> Shade {
     match before {
         Shade::Nobody => Shade::One(colour),

@@ -1,7 +1,7 @@
 use itoa::Buffer;
 use std::alloc::{AllocError, Global};
 
-/// The text of a picture on its way. Where memory runs out, that is kept, and the text is given to nobody.
+/// The text of a picture while it is written. If memory runs out, that is kept, and the text isn't given out.
 #[derive(Drop)]
 pub struct Sheet {
     text: String,
@@ -54,7 +54,7 @@ impl Sheet {
         }
     }
 
-    /// Adds words with what stands for characters that have a meaning in SVG.
+    /// Adds words, with the characters that have a meaning in SVG quoted.
     pub fn put_quoted(&mut self, words: &str) {
         for letter in words.bytes() {
             self.put_byte(letter);

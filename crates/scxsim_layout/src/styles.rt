@@ -1,7 +1,7 @@
-//! What the classes of a picture look like, on light paper and on dark, and the patterns of waits.
+//! The style sheet of a picture, for light paper and for dark, and its patterns.
 
-/// Colours on light paper, and what doesn't depend on it. The colours of tasks can be told apart by colour-blind
-/// readers (Okabe and Ito).
+/// Colours on light paper, and all rules that don't depend on the paper. Colour-blind readers can tell the colours of
+/// tasks apart (Okabe and Ito).
 pub const LIGHT: &str = "<style>\n\
 text{fill:#1b1f24}\n\
 .paper{fill:#fff}.ink{fill:#1b1f24}.faint{fill:#5a626a}.wrong{fill:#c24f00}\n\
@@ -50,7 +50,7 @@ pub const QUEUES: &str = "<defs>\n\
 <pattern id=\"q7\" width=\"6\" height=\"6\" patternUnits=\"userSpaceOnUse\"><path class=\"wp\" d=\"M0 0h6v6h-6z\"/>\
 <path class=\"wl\" d=\"M0 1H6M1 0V6\"/></pattern>\n";
 
-/// The patterns of other waits, and of processors that are idle while somebody waits.
+/// The patterns of other waits, and of processors that are idle while a task waits.
 pub const OTHERS: &str = "\
 <pattern id=\"qh\" width=\"6\" height=\"6\" patternUnits=\"userSpaceOnUse\"><path class=\"wp\" d=\"M0 0h6v6h-6z\"/>\
 <path class=\"wl\" stroke-width=\"1.3\" d=\"M0 4L3 1L6 4\"/></pattern>\n\

@@ -1,3 +1,3 @@
-mod Drawn
 mod Refusing
 mod Summing
+mod Written

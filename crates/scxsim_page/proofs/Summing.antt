@@ -6,7 +6,7 @@ use Rattle.scx_sched_machine.specs.declared.events.Event.{Event}
 use Rattle.scx_sched_machine.specs.Notes.{Takes}
 use Rattle.scx_sched.specs.Sim.{SimState, after_event, notes_of}
 use Rattle.scx_load_driver.specs.Runs.{stepped_all}
-use Rattle.scxsim_views.specs.Watching.{is_at_end, moment, IsShown, AreWatched, Watches}
+use Rattle.scxsim_trace.specs.Observing.{is_at_end, moment, IsShown, AreWatched, Watches}
 use Rattle.scxsim_page.specs.Stretches.{Counts, after_note, after_notes, after_events, all_counted, stretches_of}
 
 -- each note counts, and each is shown
@@ -31,3 +31,9 @@ run_is_counted events s t k l watched =
     let whole : events ≡ watched.done = watched.whole ∙ ap (λ rest. watched.done ++ rest) (watched.all refl) ∙ append-nil watched.done in
     ap (λ (x : SimState). all_counted x.state.world.clock l) (watched.state ∙ ap (λ es. stepped_all s es) (sym whole))
     ∙ ap (λ x. all_counted (stepped_all s events).state.world.clock x) (events_counted watched.done s k l watched.shown ∙ ap (λ es. after_events s es k) (sym whole))
+
+-- of a run of the same machine through the same events, counted from the same beginning
+pub counted_alike : (count : ℕ) (s t : SimState) (given all : SimState → List Event) (k l : Counts)
+    → count ≡ stretches_of t (given t) k → t ≡ s → ((x : SimState) → given x ≡ all x) → k ≡ l → count ≡ stretches_of s (all s) l
+counted_alike count s t given all k l counted same each begin =
+    counted ∙ ap (λ es. stretches_of t es k) (each t) ∙ ap (λ x. stretches_of x (all x) k) same ∙ ap (λ x. stretches_of s (all s) x) begin

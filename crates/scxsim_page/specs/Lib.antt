@@ -1,3 +1,2 @@
 pub mod Stretches
-pub mod Drawing
 pub mod Pages

@@ -1,14 +1,15 @@
--- What `view` writes, and why it is refused.
+-- The text that `view` writes, and the causes of its refusals.
 use Rattle.std.specs.Prelude.{◌≡◌, ℕ, ◌<◌, List, ◌++◌, Option, ◌⊎◌}
 use Rattle.scx_sched.specs.Sim.{SimState}
 use Rattle.scx_load_workloads.specs.Workload.{WorkloadState}
 use Rattle.scxsim_commands.specs.declared.refusal.TheConstants.{MOST_STRETCHES}
 use Rattle.scxsim_commands.specs.declared.refusal.Refusal.{Refusal}
 use Rattle.scxsim_commands.specs.declared.refusal.Refusal.TheVariants.{TooManyStretches}
-use Rattle.scxsim_simulation.specs.Runs.{IsRun, IsCause}
-use Rattle.scxsim_windows.specs.declared.windows.Window.{Window}
-use Rattle.scxsim_windows.specs.Windows.{IsWindow, HasBadSpan}
-use Rattle.scxsim_windows.specs.declared.windows.Span.{Span}
+use Rattle.scxsim_simulation.specs.Runs.{IsRun}
+use Rattle.scxsim_simulation.specs.Parts.{IsPartCause}
+use Rattle.scxsim_commands.specs.declared.windows.Window.{Window}
+use Rattle.scxsim_commands.specs.Windows.{IsWindow}
+use Rattle.scxsim_commands.specs.declared.windows.Span.{Span}
 use Rattle.scxsim_template.specs.declared.template.TheConstants.{TOP, CODE}
 use Rattle.scxsim_page.specs.Stretches.{stretches_in}
 
@@ -16,16 +17,16 @@ use Rattle.scxsim_page.specs.Stretches.{stretches_in}
 abbrev pub page : List ℕ → List ℕ
 page made = TOP.now ++ made ++ CODE.now
 
--- in that window the run has so many stretches, more than a page holds
+-- in that window the run has more stretches than a page holds; the refusal has their number
 abbrev pub IsPast : Window → WorkloadState → SimState → Refusal → Type 0
 IsPast window w s r =
     (r ≡ TooManyStretches (stretches_in window w s)) × MOST_STRETCHES < stretches_in window w s
 
--- the part of the run that words name has so many
+-- the part of the run that words name has too many
 abbrev pub HasTooMany : WorkloadState → SimState → Option Span → Refusal → Type 0
 HasTooMany w s span r = (window : Window) × IsWindow w.ms span window × IsPast window w s r
 
--- the texts stand for a run of which that part has so many
+-- the texts are those of a run of which that part has too many
 abbrev pub IsTooLarge : List ℕ → List ℕ → Option Span → Refusal → Type 0
 IsTooLarge policy workload span r =
     (w : WorkloadState) × (s : SimState) × IsRun policy workload w s × HasTooMany w s span r
@@ -33,5 +34,4 @@ IsTooLarge policy workload span r =
 -- the texts are refused, or the words are, or a page would be too large
 abbrev pub IsPageCause : List ℕ → List ℕ → Option Span → Refusal → Type 0
 IsPageCause policy workload span r =
-    (IsCause policy workload r ⊎ HasBadSpan workload span r)
-    ⊎ IsTooLarge policy workload span r
+    IsPartCause policy workload span r ⊎ IsTooLarge policy workload span r

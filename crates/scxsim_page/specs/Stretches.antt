@@ -1,4 +1,5 @@
--- How many stretches the page of a part of a run holds: of time in which a task waited, or ran.
+-- The number of stretches in the page of a part of a run. A stretch is time in which a task waited
+-- or ran.
 use Rattle.std.specs.Prelude.{◌≡◌, ℕ, ◌+◌, ◌-◌, ◌^◌, min, max, Bool, true, false, nat_lt, List, [], ◌∷◌, length, replicate, count_by, Option, None, Some, slice_index_or, slice_set}
 use Rattle.scx_sched_world.specs.declared.notes.Note.{Note}
 use Rattle.scx_sched_world.specs.declared.notes.What.{What}
@@ -8,11 +9,11 @@ use Rattle.scx_sched.specs.Sim.{SimState, after_event, notes_of}
 use Rattle.scx_load_workloads.specs.Workload.{WorkloadState}
 use Rattle.scx_load_driver.specs.Events.{workload_events}
 use Rattle.scx_load_driver.specs.Runs.{stepped_all}
-use Rattle.scxsim_windows.specs.declared.windows.Window.{Window}
-use Rattle.scxsim_views.specs.Watching.{is_at_end, moment}
+use Rattle.scxsim_commands.specs.declared.windows.Window.{Window}
+use Rattle.scxsim_trace.specs.Observing.{is_at_end, moment}
 
--- what is counted: since when each task has waited or run, if it does, and how many stretches have
--- ended
+-- the beginning of each task's wait or run, if it waits or runs, and the number of stretches that
+-- have ended
 pub record Counts : Type 0 where
   pub window : Window
   pub since : List (Option ℕ)
@@ -31,7 +32,7 @@ has_lasted now (Some since) = nat_lt since now
 abbrev pub at_most_64_bits : ℕ → ℕ
 at_most_64_bits n = min n (2 ^ 64 - 1)
 
--- so many, and one more if there is one
+-- the count, and one more for a stretch that has lasted
 abbrev pub with_one : Bool → ℕ → ℕ
 with_one true count = at_most_64_bits (count + 1)
 with_one false count = count
@@ -80,7 +81,7 @@ all_counted clock k =
 abbrev pub stretches_of : SimState → List Event → Counts → ℕ
 stretches_of s es k = all_counted (stepped_all s es).state.world.clock (after_events s es k)
 
--- before the first event so many tasks sleep
+-- before the first event all of these tasks sleep
 abbrev pub none_yet : Window → ℕ → Counts
 none_yet window tasks = record { window = window; since = replicate tasks None; count = 0 }
 

@@ -1,34 +1,29 @@
-ghost use Rattle.std.specs.Prelude.{◌≡◌, ℕ, List, true, Err, IfOk, OnOk, OnErr};
-ghost use Rattle.std.specs.Io.KnownBytes.{Appends};
-ghost use Rattle.scxsim_output.specs.Output.{HasFailed};
-ghost use Rattle.scxsim_commands.specs.Outcome.{IfRefused, IsRefused};
-ghost use Rattle.scxsim_commands.specs.declared.refusal.Refusal.TheVariants.{NoMemory};
-ghost use Rattle.scxsim_page.specs.Pages.{page};
-ghost use Rattle.scxsim_page.specs.Drawing.{Grows, Draws};
+ghost use Rattle.std.specs.Prelude.{OnOk};
+ghost use Rattle.scxsim_output.specs.Output.{Counts};
+ghost use Rattle.scxsim_pictures.specs.Sketching.{Grows};
 
-use crate::courses::Course;
 use crate::heads::{Paths, head};
+use crate::recording::Recording;
 use crate::tails::ids_text;
 use scx_load_workloads::Workload;
-use scx_sched::{Event, Sim, What};
-use scxsim_commands::{Fault, Refusal};
+use scx_sched::What;
+use scxsim_commands::Window;
 use scxsim_output::{Failed, Out, write_all};
-use scxsim_simulation::{Heard, Listener, Run, give_back};
-use scxsim_template::{CODE, TOP};
-use scxsim_trace::Events;
-use scxsim_views::{View, watch};
-use scxsim_windows::Window;
+use scxsim_pictures::Sketch;
+use scxsim_trace::Names;
 use std::alloc::{AllocError, Global};
 
-/// What is made of a run for its page.
+/// A page without the text that all pages have: the head of its data, the stretches of its run, and the data that
+/// are known at the end.
 #[derive(Drop)]
 pub(crate) struct Draft {
     head: String,
-    course: Course,
+    recording: Recording,
+    is_over: bool,
 }
 
 impl Draft {
-    /// A draft of a run in which nothing has happened yet. All its memory is taken here.
+    /// A draft before the first event. Takes all of its memory.
     pub(crate) fn new(
         alloc: Global,
         paths: Paths<'_>,
@@ -37,218 +32,65 @@ impl Draft {
     ) -> Result<Draft, AllocError> {
         Ok(Draft {
             head: head(alloc, paths, workload, window)?,
-            course: Course::new(alloc, workload.tasks().len(), window)?,
+            recording: Recording::new(alloc, workload.tasks().len(), window)?,
+            is_over: false,
         })
     }
-}
 
-/// Goes through the run, and writes its page, if there was memory for a draft. The answer is true.
-///
-/// # Errors
-///
-/// There was no memory for a draft, and then nothing is written, or writing fails.
-pub(crate) fn write_run<L: Listener, W: Out>(
-    run: Run,
-    draft: Result<Draft, AllocError>,
-    listener: &mut L,
-    out: &mut W,
-) -> Result<bool, Fault>
-    ensures done { IfOk result (λ answer. (answer ≡ true) × (made : List ℕ)
-        × Appends (W.contents out.old) (W.contents out.new) (page made)) }
-    ensures unfailed { OnOk result (W.failure_count out.new ≡ W.failure_count out.old) }
-    ensures refused { IfRefused result (λ refusal. refusal ≡ NoMemory) }
-    ensures quiet { IsRefused result → out.new ≡ out.old }
-    ensures counted { result ≡ Err Fault.WriteFailed
-        → HasFailed (W.failure_count out.old) (W.failure_count out.new) }
-{
-    let Run {
-        workload,
-        driver,
-        mut sim,
-        ..
-    } = run;
-    let mut events = Heard::new(driver, workload.ms(), listener);
-    let written = write_events(&mut sim, &mut events, draft, out);
-    give_back(events, sim);
-    drop(workload);
-    written
-}
-
-/// The same of a run that is lent.
-fn write_events<E: Events, W: Out>(
-    sim: &mut Sim,
-    events: &mut E,
-    draft: Result<Draft, AllocError>,
-    out: &mut W,
-) -> Result<bool, Fault>
-    ensures done { IfOk result (λ answer. (answer ≡ true) × (made : List ℕ)
-        × Appends (W.contents out.old) (W.contents out.new) (page made)) }
-    ensures unfailed { OnOk result (W.failure_count out.new ≡ W.failure_count out.old) }
-    ensures refused { IfRefused result (λ refusal. refusal ≡ NoMemory) }
-    ensures quiet { IsRefused result → out.new ≡ out.old }
-    ensures counted { result ≡ Err Fault.WriteFailed
-        → HasFailed (W.failure_count out.old) (W.failure_count out.new) }
-{
-    let Ok(mut draft) = draft else {
-        return Err(Fault::Refused(Refusal::NoMemory));
-    };
-    let written = write_draft(sim, events, &mut draft, out);
-    drop(draft);
-    written?;
-    Ok(true)
-}
-
-/// Writes the page, up to the first write that fails.
-fn write_draft<E: Events, W: Out>(
-    sim: &mut Sim,
-    events: &mut E,
-    draft: &mut Draft,
-    out: &mut W,
-) -> Result<(), Failed>
-    ensures ok { OnOk result ((made : List ℕ)
-        × Appends (W.contents out.old) (W.contents out.new) (page made)) }
-    ensures ok_failures { OnOk result (W.failure_count out.new ≡ W.failure_count out.old) }
-    ensures err_failures { OnErr result
-        (HasFailed (W.failure_count out.old) (W.failure_count out.new)) }
-{
-    write_all(out, TOP.as_bytes())?;
-    write_all(out, draft.head.as_bytes())?;
-    write_stretches(sim, events, &mut draft.course, out)?;
-    write_tail(&draft.course, out)?;
-    write_all(out, CODE.as_bytes())
-}
-
-/// Gives the events to the machine, one after another, and writes the stretches that they end.
-fn write_stretches<E: Events, W: Out>(
-    sim: &mut Sim,
-    events: &mut E,
-    course: &mut Course,
-    out: &mut W,
-) -> Result<(), Failed>
-    ensures ok { OnOk result (Grows (W.contents out.old) (W.contents out.new)) }
-    ensures ok_failures { OnOk result (W.failure_count out.new ≡ W.failure_count out.old) }
-    ensures err_failures { OnErr result
-        (HasFailed (W.failure_count out.old) (W.failure_count out.new)) }
-{
-    write_notes(sim, events, course, out)?;
-    write_tasks(sim, course, out)?;
-    course.lines.end();
-    write_lines(course, out)
-}
-
-/// Writes the stretches that notes end.
-fn write_notes<E: Events, W: Out>(
-    sim: &mut Sim,
-    events: &mut E,
-    course: &mut Course,
-    out: &mut W,
-) -> Result<(), Failed>
-    ensures ok { OnOk result (Grows (W.contents out.old) (W.contents out.new)) }
-    ensures ok_failures { OnOk result (W.failure_count out.new ≡ W.failure_count out.old) }
-    ensures err_failures { OnErr result
-        (HasFailed (W.failure_count out.old) (W.failure_count out.new)) }
-{
-    let mut drawing = Drawing {
-        course,
-        out,
-        failed: false,
-    };
-    watch(sim, events, &mut drawing);
-    if drawing.failed {
-        return Err(Failed);
-    }
-    Ok(())
-}
-
-/// Writes the stretches that go on as the run ends.
-fn write_tasks<W: Out>(sim: &Sim, course: &mut Course, out: &mut W) -> Result<(), Failed>
-    ensures ok { OnOk result (Grows (W.contents out.old) (W.contents out.new)) }
-    ensures ok_failures { OnOk result (W.failure_count out.new ≡ W.failure_count out.old) }
-    ensures err_failures { OnErr result
-        (HasFailed (W.failure_count out.old) (W.failure_count out.new)) }
-{
-    for task in 0..sim.tasks() {
-        course.end_task(sim.clock(), task);
-        write_if_full(course, out)?;
-    }
-    Ok(())
-}
-
-/// Writes what only the end of a run says.
-fn write_tail<W: Out>(course: &Course, out: &mut W) -> Result<(), Failed>
-    ensures ok { OnOk result (Grows (W.contents out.old) (W.contents out.new)) }
-    ensures ok_failures { OnOk result (W.failure_count out.new ≡ W.failure_count out.old) }
-    ensures err_failures { OnErr result
-        (HasFailed (W.failure_count out.old) (W.failure_count out.new)) }
-{
-    write_all(out, course.ended.text().as_bytes())?;
-    write_all(out, ids_text(course.queue_ids(), true).as_bytes())?;
-    write_all(out, ids_text(course.queue_ids(), false).as_bytes())
-}
-
-/// Writes the lines that aren't written yet.
-fn write_lines<W: Out>(course: &mut Course, out: &mut W) -> Result<(), Failed>
-    ensures ok { OnOk result (Grows (W.contents out.old) (W.contents out.new)) }
-    ensures ok_failures { OnOk result (W.failure_count out.new ≡ W.failure_count out.old) }
-    ensures err_failures { OnErr result
-        (HasFailed (W.failure_count out.old) (W.failure_count out.new)) }
-{
-    let written = write_all(out, course.lines.letters());
-    course.lines.clear();
-    written
-}
-
-/// The same, if there is no room for another line.
-#[inline(always)]
-#[tactic(auto, using(crate::proofs::Drawn::grown_by_none))]
-fn write_if_full<W: Out>(course: &mut Course, out: &mut W) -> Result<(), Failed>
-    ensures ok { OnOk result (Grows (W.contents out.old) (W.contents out.new)) }
-    ensures ok_failures { OnOk result (W.failure_count out.new ≡ W.failure_count out.old) }
-    ensures err_failures { OnErr result
-        (HasFailed (W.failure_count out.old) (W.failure_count out.new)) }
-{
-    if course.lines.is_full() {
-        write_lines(course, out)
-    } else {
-        Ok(())
+    /// Writes the last lines, and then the ejection and the ids of queues.
+    fn write_rest<W: Out>(&self, out: &mut W) -> Result<(), Failed>
+        ensures ok { OnOk result (Grows (W.contents out.old) (W.contents out.new)) }
+        ensures failures { Counts result (W.failure_count out.old) (W.failure_count out.new) }
+    {
+        let ids = self.recording.queue_ids();
+        write_all(out, self.recording.lines.letters())?;
+        write_all(out, self.recording.ended.text().as_bytes())?;
+        write_all(out, ids_text(ids, true).as_bytes())?;
+        write_all(out, ids_text(ids, false).as_bytes())
     }
 }
 
-/// The course of a run, and where its lines go, up to the first write that fails.
-#[derive(Drop)]
-struct Drawing<'a, W> {
-    course: &'a mut Course,
-    out: &'a mut W,
-    failed: bool,
-}
+impl Sketch for Draft {
+    ghost use Rattle.std.specs.Prelude.{⊤};
 
-impl<W: Out> View for Drawing<'_, W> {
-    ghost expects = { λ s _ _ t. t ≡ s };
+    // Any text.
+    ghost writes = { λ _ _ _. ⊤ };
 
-    ghost shows = { λ s _ _ _ t. Draws (λ x. x.out.ghost_name)
-        (λ x. record {
-          contents = W.contents x.out.now;
-          failures = W.failure_count x.out.now;
-          failed
-              = x.failed;
-        }) s t };
+    fn beginning(&self) -> &str {
+        self.head.as_str()
+    }
 
-    ghost has_failed = { λ s. s.failed };
-
-    fn expect(&mut self, _sim: &Sim, _event: Event) {}
-
+    #[inline(always)]
     fn show(&mut self, moment: u64, clock: u64, what: What) {
-        if self.failed {
-            return;
-        }
-        self.course.show(moment, clock, what);
-        if write_if_full(self.course, self.out).is_err() {
-            self.failed = true;
-        }
+        self.recording.lines.clear_if_full();
+        self.recording.show(moment, clock, what);
     }
 
-    fn failed(&self) -> bool {
-        let failed = self.failed;
-        failed
+    fn end_cpu(&mut self, _moment: u64, _cpu: u32) {
+        self.recording.lines.clear_if_full();
+    }
+
+    fn end_task(&mut self, moment: u64, task: u16) {
+        self.recording.lines.clear_if_full();
+        self.recording.end_task(moment, task);
+    }
+
+    fn end(&mut self, _moment: u64) {
+        self.recording.lines.clear_if_full();
+        self.recording.lines.end();
+        self.is_over = true;
+    }
+
+    /// Writes the lines that aren't written yet, if there is no room for another, or the rest, if the run is over.
+    #[inline(always)]
+    #[tactic(auto, using(crate::proofs::Written::grown_by_text, crate::proofs::Written::grown_by_any, crate::proofs::Written::grown_by_nothing))]
+    fn write<N: Names, W: Out>(&self, _names: &N, out: &mut W) -> Result<(), Failed> {
+        if self.is_over {
+            self.write_rest(out)
+        } else if self.recording.lines.is_full() {
+            write_all(out, self.recording.lines.letters())
+        } else {
+            Ok(())
+        }
     }
 }

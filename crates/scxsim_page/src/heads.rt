@@ -1,7 +1,7 @@
 use scx_load_workloads::Workload;
-use scxsim_text::Text;
+use scxsim_commands::Window;
+use scxsim_output::Text;
 use scxsim_trace::Names;
-use scxsim_windows::Window;
 use std::alloc::{AllocError, Global};
 
 /// The paths of the two files, of which a page has the names.
@@ -11,11 +11,11 @@ pub struct Paths<'a> {
     pub workload: &'a str,
 }
 
-/// How many characters of a file's name a page has, at most.
+/// The most characters of a file's name in a page.
 const MOST: usize = 40;
 
-/// What the words and the workload say of a run, as JSON. No name of a task or a group has a character that would
-/// have to be quoted.
+/// The names of the files and the contents of the workload, as JSON. No name of a task or a group has a character
+/// that would have to be quoted.
 pub(crate) fn head(
     alloc: Global,
     paths: Paths<'_>,
@@ -42,7 +42,7 @@ fn push_head(text: &mut Text, paths: Paths<'_>, contents: &Workload, window: Win
     text.push("]}</script>\n<script id=\"stretches\" type=\"text/plain\">\n");
 }
 
-/// How many processors there are, which part of the run is shown, and how long the run is.
+/// The number of processors, the length of the run, and the part of it that is shown.
 fn push_lengths(text: &mut Text, contents: &Workload, window: Window) {
     text.number("\",\"processors\":", u64::from(contents.cpus()));
     text.number(",\"ms\":", u64::from(contents.ms()));

@@ -1,19 +1,19 @@
-//! The page of a run, which a browser shows without a network: what the two files say, each stretch of time in
-//! which a task ran or waited, in the order in which they end, and the code that draws them. Where there could be
-//! too many stretches, a first way through the run counts them; then one writes them.
+//! The page of a run, `view`, which a browser shows without a network. It has the contents of the two files, each
+//! stretch of time in which a task ran or waited, in the order of their ends, and the code that draws them. If there
+//! could be too many stretches, a first pass over the run counts them; then a pass writes them.
 #![tactic(auto)]
 
-mod counting;
-mod courses;
+mod base64_lines;
 mod drafts;
 mod heads;
-mod lines;
-mod queues;
+mod passes;
+mod queue_numbers;
+mod recording;
+mod run_pages;
+mod stretch_count;
 mod stretches;
 mod tails;
-mod tasks;
-mod telling;
-mod ways;
+mod task_states;
 
 pub use heads::Paths;
-pub use telling::view;
+pub use run_pages::view;

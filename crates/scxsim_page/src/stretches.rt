@@ -1,9 +1,9 @@
-use scxsim_windows::Window;
+use scxsim_commands::Window;
 
-/// What stands in a stretch in place of a processor where it is no run.
+/// The processor of a stretch that isn't a run.
 pub(crate) const NOWHERE: u8 = 255;
 
-/// How a stretch ended.
+/// The end of a stretch.
 #[derive(Clone, Copy)]
 pub(crate) enum End {
     /// With the run of the workload.
@@ -19,7 +19,7 @@ pub(crate) enum End {
     WentOn,
     /// A new period of its group let it go.
     LetGo,
-    /// It went on behind the part of the run that is shown.
+    /// It went on after the part of the run that is shown.
     CutOff,
 }
 
@@ -38,7 +38,7 @@ impl End {
     }
 }
 
-/// How a stretch began.
+/// The beginning of a stretch.
 #[derive(Clone, Copy)]
 pub(crate) enum Beginning {
     /// Something else ended, or it had begun before the part of the run that is shown.
@@ -88,7 +88,7 @@ pub(crate) const NOTHING: Stretch = Stretch {
 };
 
 impl Stretch {
-    /// What of it lies in the window, if some does.
+    /// The part of it that lies in the window, if it isn't empty.
     #[inline(always)]
     pub(crate) fn within(self, window: Window) -> Option<Stretch> {
         let mut part = self;

@@ -1,10 +1,10 @@
-use scxsim_views::Part;
+use scxsim_pictures::Part;
 use std::fmt::Write;
 
-/// How many ids are written at once.
+/// The number of ids that are written at once.
 const IDS: usize = 8;
 
-/// How the policy ended.
+/// The end of the policy: in force to the end, or ejected.
 #[derive(Clone, Copy)]
 pub(crate) enum Ended {
     InForce,
@@ -13,7 +13,7 @@ pub(crate) enum Ended {
 }
 
 impl Ended {
-    /// The beginning of what only the end of the run says, as JSON.
+    /// The ejection as JSON, with the text between the stretches and it.
     pub(crate) fn text(self) -> Part {
         let mut text = Part::new();
         let _ = text.try_push_str(
@@ -33,7 +33,7 @@ impl Ended {
     }
 }
 
-/// The first ids of queues, or those behind them.
+/// The first ids of queues, or those after them.
 pub(crate) fn ids_text(ids: &[u64], are_first: bool) -> Part {
     let mut text = Part::new();
     for (number, id) in ids.iter().enumerate() {

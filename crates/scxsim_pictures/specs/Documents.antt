@@ -1,4 +1,4 @@
--- What `timeline` writes.
+-- The text that `timeline` writes.
 use Rattle.std.specs.Prelude.{ℕ, List, ◌++◌, codes}
 
 -- a document of the Chrome trace format with these objects, from its first byte to its last

@@ -1,1 +1,4 @@
+pub mod NoteLines
+pub mod Sketching
+pub mod Pictures
 pub mod Documents

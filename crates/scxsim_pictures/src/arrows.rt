@@ -1,10 +1,10 @@
 use std::alloc::{AllocError, Global};
 
-/// A task woke at that moment, and hasn't stopped since.
+/// The wake of a task that hasn't stopped since.
 #[derive(Clone, Copy)]
 struct Woken {
     moment: u64,
-    /// Whether a slice of its track begins there.
+    /// True if a slice of its track begins there.
     is_shown: bool,
 }
 
@@ -16,16 +16,16 @@ pub(crate) struct Arrow {
     pub(crate) number: u64,
 }
 
-/// Which tasks have woken and not stopped since.
+/// The tasks that have woken and not stopped since.
 #[derive(Drop)]
 pub(crate) struct Arrows {
     woken: Vec<Option<Woken>>,
-    /// How many arrows there are.
+    /// The number of arrows.
     count: u64,
 }
 
 impl Arrows {
-    /// None of so many tasks has woken.
+    /// None of these tasks has woken.
     pub(crate) fn new(alloc: Global, tasks: usize) -> Result<Arrows, AllocError> {
         Ok(Arrows {
             woken: vec![in alloc; None; tasks]?,
@@ -49,8 +49,7 @@ impl Arrows {
         }
     }
 
-    /// The task stops. The answer is the arrow from its wake, if it woke since it stopped last and an arrow can
-    /// begin there.
+    /// The task stops. Returns the arrow from its wake, if it woke since it stopped last and an arrow can begin there.
     pub(crate) fn stop(&mut self, task: u16) -> Option<Arrow> {
         let woken = self.woken.get_mut(task as usize)?.take()?;
         if !woken.is_shown {
@@ -64,7 +63,7 @@ impl Arrows {
     }
 }
 
-/// The same, where a slice of the task's track begins at that moment.
+/// The wake after a slice of the task's track has begun at that moment.
 fn shown(woken: Option<Woken>, since: u64) -> Option<Woken> {
     let woken = woken?;
     Some(Woken {

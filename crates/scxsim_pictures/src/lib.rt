@@ -1,16 +1,32 @@
-//! A timeline of a run, which is written as it goes, in the Chrome trace format, which Perfetto opens. It shows
-//! who ran on each processor, in which queue each task waited and what else happened to it, when each was parked,
-//! how many waited in each queue, and when the policy was ejected.
+//! Pictures of a run: a timeline in the Chrome trace format, which Perfetto opens, and a drawing in SVG.
+//!
+//! The timeline is written as the run goes. It shows the runs of tasks on each processor, the waits of tasks by queue,
+//! their wakes, inserts and moves, the times that they were parked, the length of each queue, and the ejection.
+//!
+//! The drawing has a row for each processor, each group and each task of a run or of a part of it. Long runs and waits
+//! are bars of their own; shorter ones are added up in columns, whose shades say how much of them ran. Sums are kept as
+//! the run goes (`scxsim_sums`), in the rows and columns of `scxsim_layout`, and the picture is drawn at its end
+//! (`scxsim_shapes`).
+//!
+//! The timeline and the page of `scxsim_page` are written by a `Sketch`: `write_document` shows it a run, and writes its
+//! texts between a head and an end.
 #![tactic(auto)]
 
 mod arrows;
-mod charting;
 mod documents;
-mod lengths;
+mod gathering;
+mod note_lines;
 mod objects;
-mod running;
+mod queue_lengths;
+mod runners;
+mod sketches;
+mod svg_pictures;
+mod timelines;
+mod track_titles;
 mod tracks;
-mod writing;
 
-pub use charting::timeline;
-pub use writing::write_document;
+pub use documents::write_document;
+pub use note_lines::Part;
+pub use sketches::Sketch;
+pub use svg_pictures::picture;
+pub use timelines::timeline;

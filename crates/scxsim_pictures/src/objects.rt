@@ -1,25 +1,25 @@
-//! The objects of the Chrome trace format: each is an event, and `ph` says of which kind. Times are in
-//! microseconds. Each stands in a line of its own, behind the end of the one before it. No name has a
-//! character that would have to be quoted.
+//! The objects of the Chrome trace format: each is an event, and `ph` is its kind. Times are in microseconds. An
+//! object begins with the comma and the line feed after the one before it. No name has a character that would have
+//! to be quoted.
 
 ghost use Rattle.std.specs.Prelude.{◌+◌, ◌≤◌, length};
 ghost use Rattle.arrayvec.specs.ArrayString.{array_string_len};
 
 use crate::arrows::Arrow;
-use crate::lengths::Length;
+use crate::note_lines::{Line, Part, push_number};
+use crate::queue_lengths::Length;
 use crate::tracks::{CPUS, EJECTIONS, QUEUES, TASKS, WAITS, WAKES};
 use scx_sched_world::{BUILTIN, GLOBAL, HELD, PARKED, POLICY_END};
-use scxsim_views::{Line, Part, push_number};
 
 /// A millisecond in microseconds.
 const MS: u64 = 1000;
 
-/// From one moment to another a task ran on a processor, or was parked.
+/// The slice of a task that ran on a processor, or was parked, between two moments.
 pub(crate) fn slice(pid: u32, tid: u32, task: u16, since: u64, until: u64) -> Line {
     named(slice_start(pid, tid, since, until), task, name_end())
 }
 
-/// From one moment to another a task waited in a queue.
+/// The slice of a task that waited in a queue between two moments.
 pub(crate) fn wait(task: u16, queue: u64, since: u64, until: u64) -> Line {
     let mut text = slice_start(WAITS, u32::from(task), since, until);
     push_queue(&mut text, queue);
@@ -27,7 +27,7 @@ pub(crate) fn wait(task: u16, queue: u64, since: u64, until: u64) -> Line {
     Line::nameless(text)
 }
 
-/// What stands before the name of a slice.
+/// The start of a slice, up to its name.
 fn slice_start(pid: u32, tid: u32, since: u64, until: u64) -> Part
     ensures { array_string_len result ≤ 150 }
 {
@@ -41,7 +41,7 @@ fn slice_start(pid: u32, tid: u32, since: u64, until: u64) -> Part
     start
 }
 
-/// An arrow begins at the slice of a task that waits, where it woke.
+/// The start of an arrow, at the wake of a task in the slice of its wait.
 pub(crate) fn arrow_start(task: u16, arrow: Arrow) -> Line {
     let mut text = arrow_at("s", WAITS, u32::from(task), arrow.moment);
     push_number(&mut text, ",\"id\":", arrow.number);
@@ -49,7 +49,7 @@ pub(crate) fn arrow_start(task: u16, arrow: Arrow) -> Line {
     Line::nameless(text)
 }
 
-/// It ends at the slice of a processor, where the task began to run.
+/// The end of an arrow, at the beginning of the task's run on a processor.
 pub(crate) fn arrow_end(cpu: u32, moment: u64, arrow: Arrow) -> Line {
     let mut text = arrow_at("f", CPUS, cpu, moment);
     push_number(&mut text, ",\"bp\":\"e\",\"id\":", arrow.number);
@@ -57,7 +57,7 @@ pub(crate) fn arrow_end(cpu: u32, moment: u64, arrow: Arrow) -> Line {
     Line::nameless(text)
 }
 
-/// What stands before the number of an arrow.
+/// The start of an arrow's object, up to its number.
 fn arrow_at(phase: &str, pid: u32, tid: u32, moment: u64) -> Part
     requires { length phase.now ≤ 1 }
     ensures { array_string_len result ≤ 150 }
@@ -101,7 +101,7 @@ pub(crate) fn fault(moment: u64, number: u8) -> Line {
     Line::nameless(text)
 }
 
-/// So many tasks wait in a queue from now on.
+/// The length of a queue from now on.
 pub(crate) fn count(moment: u64, length: Length) -> Line {
     let mut text = Part::new();
     push_number(&mut text, ",\n{\"ph\":\"C\",\"pid\":", u64::from(QUEUES));
@@ -113,8 +113,7 @@ pub(crate) fn count(moment: u64, length: Length) -> Line {
     Line::nameless(text)
 }
 
-/// What stands before the name of something that happens; `scope` says whether it is of one track (`t`) or of
-/// all (`g`).
+/// The start of an instant, up to its name; `scope` is `t` for one track and `g` for all.
 fn instant(moment: u64, track: u32, scope: &str) -> Part
     requires { length scope.now ≤ 1 }
     ensures { array_string_len result ≤ 150 }
@@ -129,7 +128,7 @@ fn instant(moment: u64, track: u32, scope: &str) -> Part
     start
 }
 
-/// The end of an object behind its name.
+/// The end of an object, after its name.
 fn name_end() -> Part {
     let mut end = Part::new();
     end.push_str("\"}");
@@ -144,7 +143,7 @@ fn named(start: Part, task: u16, end: Part) -> Line {
     }
 }
 
-/// Appends what a queue is called, as in a trace.
+/// Appends the name of a queue, as in a trace.
 fn push_queue(text: &mut Part, queue: u64)
     requires { array_string_len text.old ≤ 200 }
     ensures { array_string_len text.new ≤ array_string_len text.old + 26 }

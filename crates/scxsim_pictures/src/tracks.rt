@@ -1,4 +1,4 @@
-//! The groups of tracks, and those tracks of which each stands for one kind of what happens to tasks.
+//! The numbers of groups of tracks, and of the tracks for kinds of notes.
 
 pub(crate) const CPUS: u32 = 0;
 
@@ -6,10 +6,10 @@ pub(crate) const TASKS: u32 = 1;
 
 pub(crate) const QUEUES: u32 = 2;
 
-/// When tasks are parked.
+/// The times that tasks were parked.
 pub(crate) const PARKED: u32 = 3;
 
-/// When tasks wait, by queue.
+/// The waits of tasks, by queue.
 pub(crate) const WAITS: u32 = 4;
 
 pub(crate) const WAKES: u32 = 0;

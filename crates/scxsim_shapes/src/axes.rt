@@ -1,16 +1,16 @@
 use crate::drawing::Picture;
 use scxsim_layout::{LEFT, Scale, Sheet, put_seconds};
 
-/// How far two numbers of the axis are from each other, at least, in hundredths of a pixel.
+/// The least distance between two numbers of the axis, in hundredths of a pixel.
 const APART: u64 = 9000;
 
-/// From which end of a picture on its moments are in seconds.
+/// The least end of a picture whose moments are in seconds.
 const LONG: u64 = 10_000;
 
-/// How many numbers there are, at most.
+/// The most numbers of an axis.
 const MOST: u64 = 16;
 
-/// How many milliseconds lie between two numbers: 1, 2 or 5, or ten, a hundred or so on as many.
+/// The milliseconds between two numbers: 1, 2 or 5 times a power of ten.
 fn ms_between(scale: Scale) -> u64 {
     let mut unit = 1u64;
     for _ in 0..7 {
@@ -25,7 +25,7 @@ fn ms_between(scale: Scale) -> u64 {
     unit
 }
 
-/// Whether times are in seconds.
+/// True if times are in seconds.
 pub(crate) fn is_long(scale: Scale) -> bool {
     scale.to >= LONG
 }
@@ -50,7 +50,7 @@ impl Picture {
         sheet.put("\"/>\n");
     }
 
-    /// What the columns beside the plot are.
+    /// Draws the titles of the columns beside the plot.
     fn draw_titles(&self, sheet: &mut Sheet) {
         let unit = if is_long(self.gathered.layout.scale) {
             "s"

@@ -1,21 +1,21 @@
 use crate::drawing::Picture;
 use scxsim_layout::{Band, LEFT, LEVELS, Level, Levels, Row, Scale, Shade, Sheet};
 
-/// What is drawn of the columns of a row.
+/// A kind of time in the columns of a row, and its colour and band.
 #[derive(Clone, Copy)]
 pub(crate) struct Coat {
     /// The class of its colour.
     pub(crate) class: &'static str,
     pub(crate) words: &'static str,
     pub(crate) band: Band,
-    /// Of all columns only those in which this ran, if that matters.
+    /// The columns that are drawn: those of this shade, or all.
     pub(crate) shade: Option<Shade>,
 }
 
-/// How many shades there are, with what is fainter than any.
+/// The number of shades, with one that is fainter than any.
 const SHADES: usize = 17;
 
-/// Which shades there are, by their numbers.
+/// True for each shade that some column has, by number.
 type Worn = [bool; SHADES];
 
 fn is_worn(worn: &Worn, shade: u64) -> bool {
@@ -34,7 +34,7 @@ impl Picture {
         }
     }
 
-    /// Which shades the columns of a coat have.
+    /// The shades that the columns of a coat have.
     fn worn(&self, levels: &Levels, row: usize, coat: Coat) -> Worn {
         let mut worn = [false; SHADES];
         let mut column = 0u64;
@@ -124,7 +124,7 @@ impl Picture {
         path.flush(sheet);
     }
 
-    /// Whether a coat has that column.
+    /// True if a coat has that column.
     fn is_in(&self, column: u64, row: usize, coat: Coat) -> bool {
         match coat.shade {
             None => true,
@@ -137,7 +137,7 @@ impl Picture {
 const IDLE: [&str; 3] = ["qi i1", "qi i2", "qi"];
 
 impl Picture {
-    /// Hatches the columns that were taken, by how much of them a processor was idle while somebody waited.
+    /// Hatches the columns in which a processor was idle while a task waited: the longer, the darker.
     pub(crate) fn draw_idle(&self, sheet: &mut Sheet, levels: &Levels, row: Row) {
         let mut third = 0u64;
         for class in IDLE {
@@ -166,7 +166,7 @@ impl Picture {
     }
 }
 
-/// Boxes of columns on their way: those that lie side by side are one.
+/// Hatched boxes of columns while they are drawn: columns side by side are one box.
 #[derive(Clone, Copy)]
 struct Hatches {
     scale: Scale,
@@ -223,7 +223,7 @@ fn put_middle(sheet: &mut Sheet, band: Band) {
     sheet.put_hundredths(" ", twice.saturating_mul(50));
 }
 
-/// Adds which part of a column one number is of another, with four digits.
+/// Adds one number as a part of another, with four digits.
 fn put_part(sheet: &mut Sheet, part: u64, whole: u64) {
     let parts = part.saturating_mul(10_000) / whole.max(1);
     sheet.put_number(".", parts / 1000 % 10);
@@ -232,14 +232,14 @@ fn put_part(sheet: &mut Sheet, part: u64, whole: u64) {
     sheet.number(parts % 10);
 }
 
-/// A path of columns of one shade on its way: those that lie side by side are one line.
+/// A path of columns of one shade while it is drawn: columns side by side are one line.
 #[derive(Clone, Copy)]
 struct Path {
     level: u64,
-    /// How far below the middle it is.
+    /// Its distance below the middle.
     shift: u64,
     is_begun: bool,
-    /// Where the last line ended that was drawn.
+    /// The end of the last line that was drawn.
     at: u64,
     /// The line at hand.
     first: u64,
@@ -272,7 +272,7 @@ impl Path {
         }
     }
 
-    /// Adds a column behind those that were added.
+    /// Adds a column after those that were added.
     fn push(&mut self, sheet: &mut Sheet, column: u64) {
         if column == self.end && self.first < self.end {
             self.end = column.saturating_add(1);

@@ -11,10 +11,10 @@ pub struct Picture {
     pub gathered: Gathered,
 }
 
-/// How far the first row is below the legend, in pixels: the notes and the axis are there.
+/// The distance of the first row below the legend, in pixels: the line on columns and the axis are there.
 const AXIS: u64 = 58;
 
-/// What is left below the last row.
+/// The space below the last row.
 const BELOW: u64 = 16;
 
 /// The classes of the colours of columns.
@@ -79,7 +79,7 @@ impl Picture {
         sheet.put("h-1600z\"/>\n");
     }
 
-    /// Draws the ground behind the time after an ejection.
+    /// Draws the ground of the time after an ejection.
     fn draw_ground(&self, sheet: &mut Sheet) {
         let layout = &self.gathered.layout;
         let Some(ejection) = self.gathered.ejection else {
@@ -113,7 +113,7 @@ impl Picture {
         sheet.put("\" y=\"-26\">ejected</text>\n");
     }
 
-    /// Draws what is added up in columns, of all rows.
+    /// Draws the columns of all rows.
     fn draw_sums(&self, sheet: &mut Sheet, levels: &mut Levels) {
         let mut place = 0usize;
         for row in &self.gathered.layout.rows {
@@ -160,7 +160,7 @@ impl Picture {
         self.draw_cells(sheet, levels, place, parked);
     }
 
-    /// Draws who ran on a processor: columns of tasks of one colour have that.
+    /// Draws the columns of a processor, in the colour of the tasks that ran, if all have one.
     fn draw_cpu(&self, sheet: &mut Sheet, levels: &Levels, place: usize, coat: Coat) {
         for colour in 0..STROKES.len() {
             let one = Coat {

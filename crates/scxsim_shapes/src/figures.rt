@@ -43,7 +43,7 @@ impl Picture {
         sheet.put("</text>\n");
     }
 
-    /// Draws for how long a row ran and waited. A processor has its share of the time in place of a length.
+    /// Draws the time that a row ran and waited. A processor has its share of the time in place of a length.
     fn draw_figures(&self, sheet: &mut Sheet, row: Row, total: Total) {
         if !row.has_runs() {
             return;
@@ -69,7 +69,7 @@ impl Picture {
     }
 }
 
-/// Adds how long something took: in milliseconds, or in seconds, with a digit behind the point if there are few.
+/// Adds a time in milliseconds, or in seconds, with a digit after the point if there are few.
 fn put_length(sheet: &mut Sheet, ms: u64, is_long: bool) {
     if !is_long {
         sheet.number(ms);
@@ -80,7 +80,7 @@ fn put_length(sheet: &mut Sheet, ms: u64, is_long: bool) {
     }
 }
 
-/// Draws the letters of a task on its colour. The answer is where its name begins.
+/// Draws the letters of a task on its colour. Returns the place where its name begins.
 fn draw_chip(sheet: &mut Sheet, row: Row, task: u16, x: u64) -> u64 {
     let side = row.tall.saturating_sub(2).min(18);
     let wide = letters(task as usize)

@@ -1,26 +1,26 @@
 use crate::drawing::Picture;
+use scxsim_commands::Ejection;
 use scxsim_layout::{Folding, Sheet, put_time};
-use scxsim_windows::Ejection;
 
-/// Where the first line of a legend is, how far its lines are from each other, and how wide they are, in pixels.
+/// The top of a legend's first line, the distance between lines, and their right end, in pixels.
 const TOP: u64 = 56;
 
 const LINE: u64 = 22;
 
 const RIGHT: u64 = 1584;
 
-/// How wide two letters of a legend are, and what stands before and behind the words.
+/// The width of two letters of a legend, and of an entry without its words.
 const TWO_LETTERS: u64 = 13;
 
 const SWATCH: u64 = 58;
 
-/// How many entries a legend has, at most: the last ones are those of the policy's queues.
+/// The most entries of a legend: the last ones are those of the policy's queues.
 const ENTRIES: usize = 27;
 
 /// The place in a legend of the first queue of the policy.
 const FIRST_QUEUE: usize = 11;
 
-/// Where an entry of the legend stands, in pixels.
+/// The place of an entry of the legend, in pixels.
 #[derive(Clone, Copy)]
 pub(crate) struct Pen {
     x: u64,
@@ -28,12 +28,12 @@ pub(crate) struct Pen {
 }
 
 impl Pen {
-    /// Where the first entry stands.
+    /// The place of the first entry.
     fn first() -> Pen {
         Pen { x: 16, y: TOP }
     }
 
-    /// Where an entry of that width stands.
+    /// The place of an entry of that width.
     fn at(self, width: u64) -> Pen {
         if self.x.saturating_add(width) > RIGHT {
             Pen {
@@ -45,8 +45,8 @@ impl Pen {
         }
     }
 
-    /// What stands behind an entry of that width.
-    fn behind(self, width: u64) -> Pen {
+    /// The place after an entry of that width.
+    fn after(self, width: u64) -> Pen {
         Pen {
             x: self.x.saturating_add(width),
             y: self.y,
@@ -54,7 +54,7 @@ impl Pen {
     }
 }
 
-/// An entry of the legend: what is drawn before its words, and a number behind them, if any.
+/// An entry of the legend: a swatch, words, and a number after them, if any.
 #[derive(Clone, Copy)]
 struct Entry {
     swatch: &'static str,
@@ -77,7 +77,7 @@ impl Entry {
     }
 }
 
-/// How many digits a number has, if there is one.
+/// The number of digits of a number, if there is one.
 fn digits(number: Option<u64>) -> u64 {
     let Some(number) = number else {
         return 0;
@@ -115,18 +115,18 @@ const QUEUES: [&str; 8] = [
 ];
 
 impl Picture {
-    /// Where the legend ends, in pixels.
+    /// The end of the legend, in pixels.
     pub(crate) fn legend_end(&self) -> u64 {
         let mut pen = Pen::first();
         for place in 0..ENTRIES {
             if let Some(entry) = self.entry(place) {
-                pen = pen.at(entry.width()).behind(entry.width());
+                pen = pen.at(entry.width()).after(entry.width());
             }
         }
         pen.y.saturating_add(LINE)
     }
 
-    /// Draws the title, the legend, and what is added up.
+    /// Draws the title, the legend, and a line on columns and folded rows.
     pub(crate) fn draw_heading(&self, sheet: &mut Sheet, title: &str) {
         self.draw_title(sheet, title);
         let mut pen = Pen::first();
@@ -134,7 +134,7 @@ impl Picture {
             if let Some(entry) = self.entry(place) {
                 pen = pen.at(entry.width());
                 draw_entry(sheet, entry, pen);
-                pen = pen.behind(entry.width());
+                pen = pen.after(entry.width());
             }
         }
         self.draw_notes(sheet);
@@ -150,7 +150,7 @@ impl Picture {
         sheet.put("</tspan></text>\n");
     }
 
-    /// Adds how the policy ended.
+    /// Adds whether and why the policy was ejected.
     fn put_end(&self, sheet: &mut Sheet) {
         match self.gathered.ejection {
             None => sheet.put(">in force to the end"),
@@ -185,7 +185,7 @@ impl Picture {
         put_time(sheet, ms);
     }
 
-    /// Adds what is added up, below the legend.
+    /// Adds a line on columns and folded rows, below the legend.
     fn draw_notes(&self, sheet: &mut Sheet) {
         let layout = &self.gathered.layout;
         let notes = match layout.folding {
@@ -287,7 +287,7 @@ impl Picture {
         }
     }
 
-    /// What colours say.
+    /// The words for the colours of runs.
     fn runs_words(&self) -> &'static str {
         let layout = &self.gathered.layout;
         if layout.folding.by_group() {
@@ -299,7 +299,7 @@ impl Picture {
         }
     }
 
-    /// Whether a processor was idle while somebody waited.
+    /// True if a processor was idle while a task waited.
     fn is_some_idle(&self) -> bool {
         let layout = &self.gathered.layout;
         let mut place = 0usize;
@@ -320,7 +320,7 @@ impl Picture {
         false
     }
 
-    /// Whether columns of processors are there.
+    /// True if processors have columns, in which several tasks may run.
     fn has_several(&self) -> bool {
         self.gathered.layout.scale.step > 1
     }

@@ -1,4 +1,5 @@
-//! What a picture looks like: title, legend, axis, names, strips, columns, bars and what else is drawn, as text of SVG.
+//! The drawing of a picture as SVG text: title, legend, axis, names of rows, strips of shares, columns, bars, wakes,
+//! long waits and the ejection. It draws the sums of `scxsim_sums` in the layout of `scxsim_layout`.
 #![tactic(auto)]
 
 mod axes;

@@ -5,7 +5,7 @@ use scxsim_sums::Queue;
 /// The letters of the first tasks; those of the others are two and three.
 const LETTERS: &[u8; 26] = b"ABCDEFGHIJKLMNOPQRSTUVWXYZ";
 
-/// How many letters a task has.
+/// The number of a task's letters.
 pub(crate) fn letters(task: usize) -> u64 {
     if task < 26 {
         1
@@ -74,7 +74,7 @@ impl Picture {
         }
     }
 
-    /// Adds where a task waited.
+    /// Adds the queue in which a task waited.
     pub(crate) fn put_queue(&self, sheet: &mut Sheet, queue: Queue) {
         match queue {
             Queue::Policy(place) => {

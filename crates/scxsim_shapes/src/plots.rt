@@ -5,12 +5,12 @@ use crate::strips::fill;
 use scxsim_layout::{Band, Row, Sheet, put_time};
 use scxsim_sums::{Bar, Doing, Queue, Wait};
 
-/// How wide a bar is from which on there is a gap behind it, and how wide that is, in hundredths of a pixel.
+/// The least width of a bar with a gap after it, and the width of the gap, in hundredths of a pixel.
 const WIDE: u64 = 400;
 
 const GAP: u64 = 100;
 
-/// How high a bar is that has a letter, in pixels.
+/// The least height of a bar with a letter, in pixels.
 const TALL: u64 = 10;
 
 /// The classes of waits in a policy's queues.
@@ -39,7 +39,7 @@ impl Picture {
     }
 
     fn draw_bar(&self, sheet: &mut Sheet, bar: Bar, row: Row) {
-        match bar.stretch.doing {
+        match bar.doing {
             Doing::Runs(_) => {
                 self.draw_box(sheet, bar, fill(bar.colour), row.runs());
                 self.draw_letters(sheet, bar, row.runs());
@@ -50,19 +50,19 @@ impl Picture {
 
     fn draw_box(&self, sheet: &mut Sheet, bar: Bar, class: &str, band: Band) {
         let scale = self.gathered.layout.scale;
-        let width = scale.width(bar.stretch.since, bar.stretch.until);
+        let width = scale.width(bar.since, bar.until);
         let gap = if width >= WIDE { GAP } else { 0 };
         sheet.put("<rect class=\"");
         sheet.put(class);
-        sheet.put_hundredths("\" x=\"", scale.x(bar.stretch.since));
+        sheet.put_hundredths("\" x=\"", scale.x(bar.since));
         sheet.put_number("\" y=\"", band.top);
         sheet.put_hundredths("\" width=\"", width.saturating_sub(gap));
         sheet.put_number("\" height=\"", band.tall);
         sheet.put("\"><title>");
-        sheet.put(self.task_name(bar.stretch.task));
-        self.put_doing(sheet, bar.stretch.doing);
-        sheet.put_number(", ", bar.stretch.since);
-        sheet.put_number(" to ", bar.stretch.until);
+        sheet.put(self.task_name(bar.task));
+        self.put_doing(sheet, bar.doing);
+        sheet.put_number(", ", bar.since);
+        sheet.put_number(" to ", bar.until);
         sheet.put(" ms</title></rect>\n");
     }
 
@@ -77,13 +77,13 @@ impl Picture {
     /// Draws the letters of the task on a bar, if they fit.
     fn draw_letters(&self, sheet: &mut Sheet, bar: Bar, band: Band) {
         let scale = self.gathered.layout.scale;
-        let task = bar.stretch.task as usize;
-        let width = scale.width(bar.stretch.since, bar.stretch.until);
+        let task = bar.task as usize;
+        let width = scale.width(bar.since, bar.until);
         let needs = letters(task).saturating_mul(800).saturating_add(600);
         if width < needs || band.tall < TALL {
             return;
         }
-        let x = scale.x(bar.stretch.since);
+        let x = scale.x(bar.since);
         sheet.put("<text class=\"");
         sheet.put(ink(bar.colour));
         sheet.put_hundredths("\" x=\"", x.saturating_add(width / 2));
@@ -93,7 +93,7 @@ impl Picture {
         sheet.put("</text>\n");
     }
 
-    /// Draws where tasks woke, as one path.
+    /// Draws the wakes of tasks, as one path.
     pub(crate) fn draw_wakes(&self, sheet: &mut Sheet) {
         if self.gathered.bars.wakes.is_empty() {
             return;
@@ -110,7 +110,7 @@ impl Picture {
         sheet.put("\"><title>wakes</title></path>\n");
     }
 
-    /// Draws a frame round each wait that stands out.
+    /// Draws a frame round each notable wait.
     pub(crate) fn draw_waits(&self, sheet: &mut Sheet) {
         let layout = &self.gathered.layout;
         for wait in &self.gathered.longest.waits {

@@ -2,13 +2,13 @@ use crate::drawing::Picture;
 use scxsim_layout::{Band, LEFT, Row, Sheet};
 use scxsim_sums::{PARTS, Portions, Share, Shares};
 
-/// What is due and isn't reached is hatched from this on: 3 %.
+/// The least lack of a share that is hatched: 3 %.
 const LACKS: u64 = 300;
 
-/// A share that falls this far short of what is due stands out: 5 %.
+/// The least lack of a group's whole share that is marked: 5 %.
 const SHORT: u64 = 500;
 
-/// Up to which share the strips of a picture go, where no group has more than 60 %.
+/// The greatest share with which strips are scaled to the shares: 60 %.
 const MOST_OF_SOME: u64 = 6000;
 
 /// The classes of colours.
@@ -22,7 +22,7 @@ pub(crate) fn fill(colour: usize) -> &'static str {
     }
 }
 
-/// A strip on its way: where it is, and which share its top is.
+/// A strip of a group's share: its band, and the share at its top.
 #[derive(Clone, Copy)]
 struct Strip {
     strip: usize,
@@ -31,7 +31,7 @@ struct Strip {
 }
 
 impl Strip {
-    /// Adds where a share is, from top to bottom, in tenths of a pixel.
+    /// Adds the height of a share in the picture, to a tenth of a pixel.
     fn put_y(self, sheet: &mut Sheet, part: u64) {
         let tall = self.band.tall.saturating_mul(10);
         let high = part.min(self.top).saturating_mul(tall) / self.top.max(1);
@@ -48,7 +48,7 @@ impl Strip {
 }
 
 impl Picture {
-    /// Up to which share strips go: all, or less where no group has and is due as much.
+    /// The share at the top of strips: all, or less if all groups have and are due less.
     fn strip_top(&self) -> u64 {
         let shares = &self.gathered.shares;
         let mut most = 0u64;
@@ -99,7 +99,7 @@ impl Picture {
     }
 }
 
-/// Begins a text that says whether something is wrong.
+/// Begins a text in the colour of faults, or in a faint one.
 fn put_class(sheet: &mut Sheet, is_wrong: bool) {
     if is_wrong {
         sheet.put("<text class=\"wrong h");
@@ -108,7 +108,7 @@ fn put_class(sheet: &mut Sheet, is_wrong: bool) {
     }
 }
 
-/// Adds the shape of a group's share, or the line of what is due to it.
+/// Adds the shape of a group's share, or the line of its due share.
 fn put_outline(sheet: &mut Sheet, shares: &Shares, strip: Strip, is_filled: bool) {
     let mut portions = Portions::new(shares, strip.strip);
     sheet.put_hundredths("M", LEFT);
@@ -130,13 +130,13 @@ fn put_outline(sheet: &mut Sheet, shares: &Shares, strip: Strip, is_filled: bool
     }
 }
 
-/// Where a step ends: the last one with the window.
+/// The right side of a step. The last one ends with the window.
 fn step_end(shares: &Shares, step: u64) -> u64 {
     let scale = shares.scale;
     scale.column_x(step.saturating_add(1)).min(scale.end_x())
 }
 
-/// Hatches what a group lacks of what is due to it.
+/// Hatches the lack of a group's share below its due share.
 fn put_lacks(sheet: &mut Sheet, shares: &Shares, strip: Strip) {
     let mut portions = Portions::new(shares, strip.strip);
     let mut is_begun = false;

@@ -1,36 +1,30 @@
-use crate::places::Doing;
+use crate::activities::Doing;
 use scxsim_layout::Scale;
 use std::alloc::{AllocError, Global};
 
-/// How many bars of their own a picture has, at most: as many as are wide enough.
+/// The most bars of a picture: as many as are wide enough.
 const MOST: usize = 9500;
 
-/// With how many rows a picture still has wakes.
+/// The most rows of a picture that shows wakes.
 const WAKE_ROWS: usize = 40;
 
-/// How many wakes a row has, at most, and how far they are from each other, in hundredths of a pixel.
+/// The most wakes of a row, and the least distance between two of them, in hundredths of a pixel.
 const WAKES_A_ROW: usize = 170;
 
 const APART: u64 = 800;
 
-/// A task did something from one moment to another.
+/// A bar in a row: a task did one thing from one moment to another.
 #[derive(Clone, Copy)]
-pub struct Stretch {
+pub struct Bar {
+    pub row: usize,
     pub task: u16,
     pub doing: Doing,
     pub since: u64,
     pub until: u64,
-}
-
-/// What a task did, in a row, as a bar of its own.
-#[derive(Clone, Copy)]
-pub struct Bar {
-    pub row: usize,
-    pub stretch: Stretch,
     pub colour: usize,
 }
 
-/// A task woke: its row, and where that is.
+/// A task woke: its row, and the place of that moment.
 #[derive(Clone, Copy)]
 pub struct Woken {
     pub row: usize,
@@ -43,12 +37,12 @@ pub struct Bars {
     pub bars: Vec<Bar>,
     pub wakes: Vec<Woken>,
     most_wakes: usize,
-    /// Where the next wake of each row may be.
+    /// The least place of the next wake of each row.
     next: Vec<u64>,
 }
 
 impl Bars {
-    /// No bars for so many rows.
+    /// No bars yet, for this many rows.
     pub(crate) fn new(alloc: Global, rows: usize) -> Result<Bars, AllocError> {
         let most_wakes = if rows <= WAKE_ROWS {
             rows.saturating_mul(WAKES_A_ROW)
@@ -65,7 +59,7 @@ impl Bars {
         })
     }
 
-    /// Keeps a bar, if there is room for it. The answer is whether there is.
+    /// Keeps a bar, if there is room for it. Returns whether there is.
     pub(crate) fn push(&mut self, bar: Bar) -> bool {
         self.bars.len() < MOST && self.bars.push(bar).is_ok()
     }

@@ -1,30 +1,29 @@
-use crate::bars::{Bar, Bars, Stretch};
+use crate::activities::{Doing, Stay};
+use crate::bars::{Bar, Bars};
 use crate::idles::Idles;
-use crate::longest::Longest;
-use crate::places::{Doing, Stay};
-use crate::queues::{Queue, Queues};
+use crate::longest_waits::Longest;
+use crate::queues::{DrawnQueues, Queue};
 use crate::shares::Shares;
 use crate::sums::Sums;
 use scx_load_workloads::Workload;
 use scx_sched::What;
+use scxsim_commands::Ejection;
 use scxsim_layout::{Layout, Mark, TaskPlace};
-use scxsim_windows::Ejection;
 use std::alloc::{AllocError, Global};
 
-/// What a picture keeps of a run.
+/// The sums, bars and shares of a picture.
 #[derive(Drop)]
 pub struct Gathered {
     pub layout: Layout,
     pub sums: Sums,
     pub bars: Bars,
-    pub queues: Queues,
+    pub queues: DrawnQueues,
     pub shares: Shares,
     pub longest: Longest,
     pub ejection: Option<Ejection>,
 }
 
-/// From when to when a task did something, for how many milliseconds that are in the picture, and where the task is
-/// shown.
+/// A task did one thing between two moments: the milliseconds of it in the picture, and the task's row.
 #[derive(Clone, Copy)]
 struct Piece {
     task: u16,
@@ -35,7 +34,7 @@ struct Piece {
 }
 
 impl Gathered {
-    /// Nothing, in that layout.
+    /// No sums yet, in that layout.
     pub(crate) fn new(
         alloc: Global,
         workload: &Workload,
@@ -46,7 +45,7 @@ impl Gathered {
         let cpus = layout.cpu_row(workload.cpus() as usize).saturating_add(1);
         let sums = Sums::new(alloc, rows, cpus, columns)?;
         let bars = Bars::new(alloc, rows)?;
-        let queues = Queues::new(alloc)?;
+        let queues = DrawnQueues::new(alloc)?;
         let shares = Shares::new(alloc, workload, &layout)?;
         Ok(Gathered {
             layout,
@@ -59,7 +58,7 @@ impl Gathered {
         })
     }
 
-    /// Keeps what a task did up to now.
+    /// Adds what a task did up to that moment.
     #[inline(always)]
     pub(crate) fn add(&mut self, task: u16, stay: Stay, until: Mark) {
         let since = stay.since;
@@ -146,7 +145,7 @@ impl Gathered {
         }
     }
 
-    /// Keeps something as a bar of its own, if its row has bars and there is room. The answer is whether it did.
+    /// Keeps a bar, if its row has bars and there is room. Returns whether it did.
     fn keep_bar(&mut self, row: usize, piece: Piece, doing: Doing) -> bool {
         let colour = match doing {
             Doing::Runs(_) => piece.place.colour,
@@ -155,12 +154,10 @@ impl Gathered {
         self.layout.has_bars(row)
             && self.bars.push(Bar {
                 row,
-                stretch: Stretch {
-                    task: piece.task,
-                    doing,
-                    since: piece.since.moment,
-                    until: piece.until.moment,
-                },
+                task: piece.task,
+                doing,
+                since: piece.since.moment,
+                until: piece.until.moment,
                 colour,
             })
     }

@@ -1,30 +1,27 @@
-ghost use Rattle.std.specs.Prelude.{◌≡◌, true, false};
-
+use crate::activities::{Activities, Doing};
 use crate::gathered::Gathered;
 use crate::idles::Idles;
-use crate::places::{Doing, Places};
 use crate::queues::Queue;
 use scx_load_workloads::Workload;
-use scx_sched::{Event, Note, Sink, What};
+use scx_sched::{Event, Sim, What};
+use scxsim_commands::Window;
 use scxsim_layout::{Layout, Now};
-use scxsim_windows::Window;
+use scxsim_trace::Observer;
 use std::alloc::{AllocError, Global};
 
-/// A picture on its way: a sink, which never fails, of the notes of a run.
+/// The sums of a picture while its run goes on. It never fails.
 #[derive(Drop)]
 pub struct Gathering {
-    places: Places,
+    activities: Activities,
     idles: Idles,
     now: Now,
-    is_at_end: bool,
-    /// Whether waits of tasks may be bars of their own.
+    /// True if waits of tasks may be bars of their own.
     has_bars: bool,
     gathered: Gathered,
 }
 
 impl Gathering {
-    /// Nothing of the run of a workload, of which that part is in the picture. All memory that is taken before the
-    /// first event is taken here.
+    /// No sums yet of that part of a workload's run. Takes all memory, before the first event.
     ///
     /// # Errors
     ///
@@ -37,28 +34,18 @@ impl Gathering {
         let layout = Layout::new(alloc, workload, window.from, window.to)?;
         let cpus = workload.cpus() as usize;
         let columns = layout.scale.columns as usize;
-        let places = Places::new(alloc, workload.tasks().len())?;
+        let activities = Activities::new(alloc, workload.tasks().len())?;
         let idles = Idles::new(alloc, cpus, columns)?;
         Ok(Gathering {
-            places,
+            activities,
             idles,
             now: Now::first(layout.scale),
-            is_at_end: false,
             has_bars: !layout.folding.by_group(),
             gathered: Gathered::new(alloc, workload, layout)?,
         })
     }
 
-    /// An event comes next: a tick or a sleep as its millisecond ends, another one as it begins.
-    #[inline(always)]
-    pub fn expect(&mut self, event: Event) {
-        self.is_at_end = match event {
-            Event::Tick(_) | Event::Sleep(_) => true,
-            Event::Wake(_) | Event::SetWeight(_, _) | Event::Clock => false,
-        };
-    }
-
-    /// What is kept once the run is over, at that moment, of the tasks of these groups.
+    /// The sums of the run, which ends at that moment. `homes` has the group of each task.
     pub fn end(mut self, moment: u64, homes: &[u32]) -> Gathered {
         self.pass(moment);
         let mut task = 0u16;
@@ -68,12 +55,12 @@ impl Gathering {
         }
         let Gathering {
             mut gathered,
-            places,
+            activities,
             idles,
             ..
         } = self;
         gathered.end(&idles, moment, homes);
-        drop(places);
+        drop(activities);
         drop(idles);
         gathered
     }
@@ -86,7 +73,7 @@ impl Gathering {
         }
         let scale = self.gathered.layout.scale;
         self.now.pass(scale, moment);
-        let waits = self.places.waiting > 0;
+        let waits = self.activities.waiting > 0;
         self.idles.pass(scale, self.now.mark, waits);
         self.gathered.shares.pass(moment);
     }
@@ -95,7 +82,7 @@ impl Gathering {
     #[inline(always)]
     fn change(&mut self, task: u16, doing: Option<Doing>) {
         let now = self.now.mark;
-        let Some(stay) = self.places.change(task, doing, now) else {
+        let Some(stay) = self.activities.change(task, doing, now) else {
             return;
         };
         if stay.since.moment < now.moment {
@@ -108,9 +95,9 @@ impl Gathering {
         }
     }
 
-    /// Tasks and processors do something else.
+    /// Adds what ends with a note of this moment.
     #[inline(always)]
-    fn show(&mut self, what: What) {
+    fn note(&mut self, what: What) {
         match what {
             What::Wake(task) => {
                 self.change(task, Some(Doing::Waits(Queue::Held)));
@@ -152,22 +139,18 @@ impl Gathering {
     }
 }
 
-impl Sink for Gathering {
-    ghost takes = { λ s n t. false ≡ true → t ≡ s };
+impl Observer for Gathering {
+    ghost use Rattle.std.specs.Prelude.{false};
 
-    ghost has_failed = { λ s. false };
-
-    ghost failed_stays = { λ s t n failed takes. takes failed };
+    ghost has_failed = { λ _. false };
 
     #[inline(always)]
-    fn take(&mut self, note: Note) {
-        let moment = if self.is_at_end {
-            note.clock.saturating_add(1)
-        } else {
-            note.clock
-        };
+    fn expect(&mut self, _sim: &Sim, _event: Event) {}
+
+    #[inline(always)]
+    fn show(&mut self, moment: u64, _clock: u64, what: What) {
         self.pass(moment);
-        self.show(note.what);
+        self.note(what);
     }
 
     fn failed(&self) -> bool {

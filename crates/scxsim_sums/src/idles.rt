@@ -4,26 +4,26 @@ use std::alloc::{AllocError, Global};
 /// A processor is idle.
 #[derive(Clone, Copy)]
 struct Idle {
-    /// For how long somebody had waited when that began, and in which column it did.
+    /// The time with a waiting task before that began, and its column.
     waited: u64,
     column: u64,
 }
 
-/// For how long somebody has waited, and since when each processor is idle.
+/// The time in which a task waited, and the beginning of each processor's idle time.
 #[derive(Drop)]
 pub(crate) struct Idles {
     cpus: Vec<Option<Idle>>,
-    /// For how many milliseconds somebody has waited up to now.
+    /// The milliseconds so far in which a task waited.
     waited: u64,
-    /// The same up to the end of each column that is behind.
+    /// Those milliseconds up to the end of each earlier column.
     ends: Vec<u64>,
-    /// Up to which millisecond of the window and in which column this is.
+    /// The millisecond of the window up to which this is known, and its column.
     now: u64,
     column: u64,
 }
 
 impl Idles {
-    /// So many processors are idle, and nobody has waited.
+    /// All processors are idle, and no task has waited.
     pub(crate) fn new(alloc: Global, cpus: usize, columns: usize) -> Result<Idles, AllocError> {
         let idle = Some(Idle {
             waited: 0,
@@ -38,7 +38,7 @@ impl Idles {
         })
     }
 
-    /// Time passes, while somebody waits or nobody does.
+    /// Time passes, while a task waits or none does.
     #[inline(always)]
     pub(crate) fn pass(&mut self, scale: Scale, to: Mark, waits: bool) {
         if to.column != self.column {
@@ -48,7 +48,7 @@ impl Idles {
         self.wait(before, waits);
     }
 
-    /// Somebody waits up to that millisecond of the window, or nobody does.
+    /// A task waits up to that millisecond of the window, or none does.
     #[inline(always)]
     fn wait(&mut self, before: u64, waits: bool) {
         if waits {
@@ -80,7 +80,7 @@ impl Idles {
         }
     }
 
-    /// A processor runs. Adds for how long it was idle while somebody waited.
+    /// A processor runs. Adds the time that it was idle while a task waited.
     pub(crate) fn run(&mut self, layout: &Layout, grid: &mut Grid, cpu: u32) {
         self.add(layout, grid, cpu as usize);
         if let Some(place) = self.cpus.get_mut(cpu as usize) {
@@ -88,14 +88,14 @@ impl Idles {
         }
     }
 
-    /// The run ends. Adds for how long processors that are idle were so while somebody waited.
+    /// The run ends. Adds the time that idle processors were idle while a task waited.
     pub(crate) fn end(&self, layout: &Layout, grid: &mut Grid) {
         for cpu in 0..self.cpus.len() {
             self.add(layout, grid, cpu);
         }
     }
 
-    /// Adds for how long a processor was idle while somebody waited, if it is idle.
+    /// Adds the time that a processor was idle while a task waited, if it is idle.
     fn add(&self, layout: &Layout, grid: &mut Grid, cpu: usize) {
         let Some(Some(idle)) = self.cpus.get(cpu).copied() else {
             return;

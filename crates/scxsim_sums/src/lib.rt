@@ -1,24 +1,25 @@
-//! What a picture counts of a run: who ran and waited for how long, by row and column; what is long enough for a bar
-//! of its own; which share each group had, and which was due to it. It is a sink of the run's notes.
+//! The sums that a picture shows of a run: how long tasks ran and waited, by row and column; bars for runs and waits
+//! that are long enough; and the share that each group had and the share due to it. A `Gathering` adds them up as the
+//! run goes.
 #![tactic(auto)]
 
+mod activities;
 mod bars;
 mod gathered;
 mod gathering;
 mod idles;
-mod longest;
-mod places;
+mod longest_waits;
 mod portions;
 mod queues;
 mod shares;
 mod sums;
 
-pub use bars::{Bar, Bars, Stretch, Woken};
+pub use activities::Doing;
+pub use bars::{Bar, Bars, Woken};
 pub use gathered::Gathered;
 pub use gathering::Gathering;
-pub use longest::{Longest, Wait};
-pub use places::Doing;
+pub use longest_waits::{Longest, Wait};
 pub use portions::{PARTS, Portions, Share};
-pub use queues::{Queue, Queues, Used};
+pub use queues::{DrawnQueues, Queue, Used};
 pub use shares::Shares;
 pub use sums::{Sums, Total};

@@ -1,9 +1,9 @@
 use crate::shares::{Shares, WHOLE};
 
-/// Shares are in parts of this many.
+/// A whole share, in the parts that shares are counted in.
 pub const PARTS: u64 = 10_000;
 
-/// How many parts of what is due, as it is counted, are one part of a millisecond's share.
+/// The parts of `WHOLE` in one part of a share.
 const DUE_PARTS: u64 = WHOLE / PARTS;
 
 /// A group's share, and what is due to it.
@@ -13,12 +13,12 @@ pub struct Share {
     pub due: u64,
 }
 
-/// Which part of what ran some time is.
+/// The share that some time is of all time.
 fn part_of(ms: u64, all: u64) -> u64 {
     ms.saturating_mul(PARTS) / all.max(1)
 }
 
-/// What a group ran, what was due to it, and what ran in all, over some steps.
+/// The time that a group ran, the time due to it and the time that all groups ran, over some steps.
 #[derive(Clone, Copy)]
 struct Portion {
     ran: u64,
@@ -33,7 +33,7 @@ const NONE: Portion = Portion {
 };
 
 impl Portion {
-    /// The one with another step.
+    /// The portion with another step.
     fn with(self, shares: &Shares, strip: usize, step: u64) -> Portion {
         Portion {
             ran: self.ran.saturating_add(shares.ran(strip, step)),
@@ -42,7 +42,7 @@ impl Portion {
         }
     }
 
-    /// The one without a step that it has.
+    /// The portion without a step that it has.
     fn without(self, shares: &Shares, strip: usize, step: u64) -> Portion {
         Portion {
             ran: self.ran.saturating_sub(shares.ran(strip, step)),
@@ -64,14 +64,14 @@ impl Portion {
 pub struct Portions {
     strip: usize,
     portion: Portion,
-    /// The first step in it, the first one behind it, and how many there are on either side of the one in its middle.
+    /// The first step in it, the first one after it, and the number of steps on either side of the middle one.
     first: u64,
     end: u64,
     around: u64,
 }
 
 impl Portions {
-    /// Those of a strip, from its first step on.
+    /// The shares of a strip, from its first step on.
     pub fn new(shares: &Shares, strip: usize) -> Portions {
         Portions {
             strip,

@@ -1,13 +1,13 @@
 use scx_sched_world::{GLOBAL, HELD, LOCAL_ON, PARKED, POLICY_END};
 use std::alloc::{AllocError, Global};
 
-/// How many queues a policy may have.
+/// The most queues of a policy.
 const MOST: usize = 16;
 
-/// Where a task is that doesn't run and doesn't sleep.
+/// The queue of a task that neither runs nor sleeps.
 #[derive(Clone, Copy)]
 pub enum Queue {
-    /// A queue of the policy: of those it has used, the one in this place.
+    /// A queue of the policy, by its place among those it has used.
     Policy(usize),
     /// The queue of all processors.
     Global,
@@ -41,20 +41,20 @@ pub struct Used {
 
 /// The queues that a policy has used, in the order of their first use, and which queues are drawn.
 #[derive(Drop)]
-pub struct Queues {
+pub struct DrawnQueues {
     pub policy: Vec<Used>,
     pub global: bool,
     pub held: bool,
     pub built_in: bool,
     pub local: bool,
     pub parked: bool,
-    /// Whether some waits are too short to be drawn by themselves.
+    /// True if some waits are too short to be drawn by themselves.
     pub short: bool,
 }
 
-impl Queues {
-    pub(crate) fn new(alloc: Global) -> Result<Queues, AllocError> {
-        Ok(Queues {
+impl DrawnQueues {
+    pub(crate) fn new(alloc: Global) -> Result<DrawnQueues, AllocError> {
+        Ok(DrawnQueues {
             policy: Vec::with_capacity(alloc, MOST)?,
             global: false,
             held: false,
@@ -122,7 +122,7 @@ impl Queues {
     }
 }
 
-/// The first place in which a queue of that id stands, or the first behind all.
+/// The place of the queue of that id, or the first place after all.
 fn place_of(used: &[Used], id: u64) -> usize {
     let mut place = 0usize;
     for one in used {

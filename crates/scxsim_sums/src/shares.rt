@@ -1,55 +1,55 @@
+use crate::activities::Doing;
 use crate::bars::{Bar, Bars};
-use crate::places::Doing;
 use scx_load_workloads::Workload;
 use scx_weights::MAX_DEPTH;
 use scxsim_layout::{Grid, Kind, Layout, Row, Scale};
 use std::alloc::{AllocError, Global};
 
-/// A share of all, in parts of this many.
+/// A share of all, in the parts that dues are counted in.
 pub(crate) const WHOLE: u64 = 1_000_000_000;
 
-/// A group, and which share is due to it.
+/// A group, and the share due to it.
 #[derive(Clone, Copy)]
 struct GroupShare {
     parent: Option<u32>,
     weight: u32,
-    /// How many of its own tasks are runnable, and of the groups right within it active.
+    /// The number of its own tasks that are runnable, and of the groups right within it that are active.
     active: u32,
     /// Its share of all by weight, now.
     share: u64,
     strip: Option<usize>,
 }
 
-/// What each group had and what was due to it by its weight, by steps of time.
+/// The time that each group ran and the time due to it by its weight, by steps.
 ///
-/// Of what its parent has, or of all, a group with a runnable task is due as much as its weight is of the weights
-/// of those beside it that have one too.
+/// A group with a runnable task gets a part of its parent's share, or of all: its weight, divided by the sum of the
+/// weights of all groups beside it that have a runnable task too.
 #[derive(Drop)]
 pub struct Shares {
     groups: Vec<GroupShare>,
-    /// The sum of the weights of active groups at the top, and then of those in each group.
+    /// The sum of the weights of active groups without a parent, and then of those in each group.
     sums: Vec<u64>,
-    /// Whether shares are those of earlier weights.
+    /// True if shares are those of earlier weights.
     is_stale: bool,
-    /// How many processors run.
+    /// The number of processors that run.
     busy: u64,
-    /// How many milliseconds of processors are behind for which nothing is due yet.
+    /// The milliseconds of processors that have passed since dues were added last.
     unpaid: u64,
-    /// Up to which millisecond of the window this is known, and where the step ends in which that lies.
+    /// The millisecond of the window up to which this is known, and the end of its step.
     now: u64,
     end: u64,
     pub scale: Scale,
-    /// How many columns of the picture a step has.
+    /// The number of the picture's columns in a step.
     columns: u64,
-    /// What ran, by strip and step, and last what ran of all groups.
+    /// The time that ran, by strip and step, and last that of all groups.
     ran: Grid,
     strips: usize,
-    /// What was due, by strip and step.
+    /// The time that was due, by strip and step.
     due: Vec<u64>,
 }
 
 impl Shares {
-    /// The shares of groups in which nobody is runnable.
+    /// The shares of groups without a runnable task.
     pub(crate) fn new(
         alloc: Global,
         workload: &Workload,
@@ -80,46 +80,42 @@ impl Shares {
     /// Another task of the group is runnable.
     #[inline(always)]
     pub(crate) fn activate(&mut self, group: u32) {
-        let mut at = Some(group);
-        for _ in 0..MAX_DEPTH {
-            at = self.activate_one(at);
-        }
-    }
-
-    /// Something more in a group is active. The answer is its parent, if the group became active so.
-    #[inline(always)]
-    fn activate_one(&mut self, group: Option<u32>) -> Option<u32> {
-        let group = self.groups.get_mut(group? as usize)?;
-        group.active = group.active.saturating_add(1);
-        if group.active != 1 {
-            return None;
-        }
-        self.is_stale = true;
-        group.parent
+        self.change(group, true);
     }
 
     /// A task of the group is no longer runnable.
     #[inline(always)]
     pub(crate) fn deactivate(&mut self, group: u32) {
+        self.change(group, false);
+    }
+
+    /// One task of a group more is active, or one less. The groups that it lies in change with it.
+    #[inline(always)]
+    fn change(&mut self, group: u32, is_more: bool) {
         let mut at = Some(group);
         for _ in 0..MAX_DEPTH {
-            at = self.deactivate_one(at);
+            at = self.change_one(at, is_more);
         }
     }
 
-    /// Something less in a group is active. The answer is its parent, if the group is no longer active.
+    /// One more in a group is active, or one less. Returns its parent, if that changed whether the group is active.
     #[inline(always)]
-    fn deactivate_one(&mut self, group: Option<u32>) -> Option<u32> {
+    fn change_one(&mut self, group: Option<u32>, is_more: bool) -> Option<u32> {
         let group = self.groups.get_mut(group? as usize)?;
         let was = group.active;
-        group.active = was.saturating_sub(1);
-        if was != 1 {
+        group.active = if is_more {
+            was.saturating_add(1)
+        } else {
+            was.saturating_sub(1)
+        };
+        if (was == 0) == (group.active == 0) {
             return None;
         }
         self.is_stale = true;
         group.parent
     }
 
+    /// The group has that weight from now on.
     pub(crate) fn weigh(&mut self, group: u32, weight: u32) {
         self.is_stale = true;
         if let Some(group) = self.groups.get_mut(group as usize) {
@@ -153,7 +149,7 @@ impl Shares {
         }
     }
 
-    /// The same, where what is due changes, or a step ends.
+    /// Time passes up to that millisecond of the window, and dues change or a step ends.
     fn pass_steps(&mut self, until: u64) {
         let first = self.now / self.scale.step.max(1);
         if self.is_stale {
@@ -184,7 +180,7 @@ impl Shares {
         }
     }
 
-    /// Adds in a step what is due to all groups for the milliseconds behind.
+    /// Adds the time due to all groups since dues were added last to a step.
     fn pay(&mut self, step: u64) {
         if self.unpaid == 0 {
             return;
@@ -200,7 +196,7 @@ impl Shares {
         self.unpaid = 0;
     }
 
-    /// Takes what all tasks ran, from the columns of rows and from bars.
+    /// Takes the runs of all tasks, from the columns of rows and from bars.
     pub(crate) fn take(&mut self, layout: &Layout, homes: &[u32], ran: &Grid, bars: &Bars) {
         if self.strips == 0 {
             return;
@@ -219,7 +215,7 @@ impl Shares {
         }
     }
 
-    /// Takes what ran in a row that shows tasks of a group.
+    /// Takes the runs in a row that shows tasks of a group.
     fn take_row(&mut self, ran: &Grid, row: usize, group: u32) {
         for step in 0..self.scale.columns {
             let first = step.saturating_mul(self.columns);
@@ -235,18 +231,18 @@ impl Shares {
         let Some(group) = group else {
             return;
         };
-        if !bar.stretch.doing.runs() {
+        if !bar.doing.runs() {
             return;
         }
-        let since = self.scale.mark(bar.stretch.since);
-        let until = self.scale.mark(bar.stretch.until);
+        let since = self.scale.mark(bar.since);
+        let until = self.scale.mark(bar.until);
         for step in since.column..until.column.saturating_add(1) {
             let ms = self.scale.overlap(step, since.moment, until.moment);
             self.add_ran(group, step, ms);
         }
     }
 
-    /// Adds what ran in a step to a group, to those that it lies in, and to all.
+    /// Adds run time in a step to a group, to those that it lies in, and to all.
     fn add_ran(&mut self, group: u32, step: u64, ms: u64) {
         self.ran.add_at(self.strips, step, ms);
         let mut at = Some(group);
@@ -255,7 +251,7 @@ impl Shares {
         }
     }
 
-    /// The same of one group. The answer is its parent.
+    /// Adds run time in a step to one group, and returns its parent.
     fn add_ran_one(&mut self, group: Option<u32>, step: u64, ms: u64) -> Option<u32> {
         let group = self.groups.get(group? as usize)?;
         let parent = group.parent;
@@ -265,17 +261,17 @@ impl Shares {
         parent
     }
 
-    /// What ran in a step, of a strip, in milliseconds.
+    /// The milliseconds that the groups of a strip ran in a step.
     pub fn ran(&self, strip: usize, step: u64) -> u64 {
         self.ran.sum(strip, step)
     }
 
-    /// What ran of all groups in a step, in milliseconds.
+    /// The milliseconds that all groups ran in a step.
     pub fn all(&self, step: u64) -> u64 {
         self.ran.sum(self.strips, step)
     }
 
-    /// What was due in a step, in parts of a millisecond.
+    /// The time due in a step, in parts of a millisecond.
     pub fn due(&self, strip: usize, step: u64) -> u64 {
         match self.due.get(place_of(self.scale, strip, step)) {
             Some(due) => *due,
@@ -367,14 +363,14 @@ fn group_of(row: Row, homes: &[u32]) -> Option<u32> {
     }
 }
 
-/// Where what is due to a strip in a step stands.
+/// The place of the time due to a strip in a step.
 fn place_of(scale: Scale, strip: usize, step: u64) -> usize {
     strip
         .saturating_mul(scale.columns as usize)
         .saturating_add(step as usize)
 }
 
-/// Where the sum of the weights of those with this parent stands.
+/// The place of the sum of the weights of the groups with this parent.
 fn place(parent: Option<u32>) -> usize {
     match parent {
         None => 0,

@@ -1,7 +1,7 @@
 use scxsim_layout::{Grid, Shades};
 use std::alloc::{AllocError, Global};
 
-/// How long a row ran and waited in all.
+/// The time that a row ran and waited in all.
 #[derive(Clone, Copy)]
 pub struct Total {
     pub ran: u64,
@@ -10,23 +10,23 @@ pub struct Total {
 
 const NOTHING: Total = Total { ran: 0, waited: 0 };
 
-/// How long who did what, by row and column.
+/// The time that tasks ran, waited and were parked, by row and column.
 #[derive(Drop)]
 pub struct Sums {
-    /// All that ran, but for what is a bar of its own.
+    /// Runs, except bars of their own.
     pub ran: Grid,
-    /// In rows of tasks all waits that aren't bars, and in those of processors for how long they were idle while
-    /// somebody waited.
+    /// Waits that aren't bars in rows of tasks, and the time that they were idle while a task waited in rows of
+    /// processors.
     pub waited: Grid,
-    /// For how long tasks were parked, but for bars.
+    /// The time that tasks were parked, except bars.
     pub parked: Grid,
-    /// Who ran on processors.
+    /// The colours of the tasks that ran on processors.
     pub shades: Shades,
     totals: Vec<Total>,
 }
 
 impl Sums {
-    /// Sums of no time, of so many rows, of which the first ones are processors.
+    /// Sums of no time, for this many rows, of which the first ones are processors.
     pub(crate) fn new(
         alloc: Global,
         rows: usize,
@@ -42,7 +42,7 @@ impl Sums {
         })
     }
 
-    /// For how long a row ran and waited.
+    /// The time that a row ran and waited.
     pub fn total(&self, row: usize) -> Total {
         match self.totals.get(row) {
             Some(total) => *total,

@@ -1,5 +1,5 @@
-//! The page that a browser shows of a run, without the run: what stands before its data, and behind it. The
-//! texts are made by `tools/page` of `web/page.html`, `web/page.css` and `web/page.js`, and edited nowhere else.
+//! The text that all pages of `scxsim_page` have, before the data of a run and after it. `tools/page` makes it from
+//! `web/page.html`, `web/page.css` and `web/page.js`; edit those.
 #![tactic(auto)]
 
 mod template;

@@ -1,6 +1,6 @@
-//! Made by tools/page of what stands in web/.
+//! Made by tools/page from web/.
 
-/// What stands in a page before its data.
+/// The text of a page before its data.
 pub const TOP: &str = "<!doctype html>\n\
 <html lang=\"en\">\n\
 <head>\n\
@@ -88,7 +88,7 @@ header, .tools, .legend, aside { padding-left: 10px; padding-right: 10px; }\n\
 <div id=\"tip\" role=\"tooltip\" hidden></div>\n\
 <div id=\"live\" aria-live=\"polite\"></div>\n";
 
-/// What stands behind it.
+/// The text of a page after its data.
 pub const CODE: &str = "<script>\n\
 \"use strict\";\n\
 // The page of a run: it reads the stretches that stand in the page, and draws those that are in sight.\n\

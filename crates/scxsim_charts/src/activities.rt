@@ -1,0 +1,126 @@
+use scx_sched::What;
+use scx_sched_world::{HELD, PARKED};
+use std::alloc::{AllocError, Global};
+
+/// The activity of a task that doesn't sleep.
+#[derive(Clone, Copy)]
+pub(crate) enum Activity {
+    /// It runs on this processor.
+    Runs(u32),
+    Waits,
+    /// It waits in no queue, as the policy hasn't put it into one.
+    IsHeld,
+    /// A group that it lies in has used up its quota.
+    IsParked,
+}
+
+/// A task did one thing from one moment to another.
+#[derive(Clone, Copy)]
+pub(crate) struct Interval {
+    pub(crate) task: u16,
+    pub(crate) doing: Activity,
+    pub(crate) since: u64,
+    pub(crate) until: u64,
+}
+
+impl Activity {
+    /// True if the task waits for a processor. One that is parked doesn't.
+    fn is_waiting(self) -> bool {
+        match self {
+            Activity::Waits | Activity::IsHeld => true,
+            Activity::Runs(_) | Activity::IsParked => false,
+        }
+    }
+}
+
+/// The activity of a task, and its beginning.
+#[derive(Clone, Copy)]
+struct Stay {
+    doing: Activity,
+    since: u64,
+}
+
+/// The activity of each task.
+#[derive(Drop)]
+pub(crate) struct Activities {
+    stays: Vec<Option<Stay>>,
+    /// The number of tasks that wait for a processor.
+    waiting: usize,
+}
+
+impl Activities {
+    /// All of these tasks sleep.
+    pub(crate) fn new(alloc: Global, tasks: usize) -> Result<Activities, AllocError> {
+        Ok(Activities {
+            stays: vec![in alloc; None; tasks]?,
+            waiting: 0,
+        })
+    }
+
+    /// Takes a note. Returns the interval that it ends, if it ends one.
+    pub(crate) fn show(&mut self, moment: u64, what: What) -> Option<Interval> {
+        match what {
+            What::Wake(task) => self.change(task, Some(Activity::Waits), moment),
+            What::Sleep(task) => self.change(task, None, moment),
+            What::Insert(task, queue) => self.change(task, Some(doing_in(queue)), moment),
+            What::Move(task, _) => self.change(task, Some(Activity::Waits), moment),
+            What::Run(task, cpu) => self.change(task, Some(Activity::Runs(cpu)), moment),
+            What::Stop(task, _) => self.change(task, None, moment),
+            What::Idle(_) | What::Weight(_, _) | What::Stall(_) | What::Fault(_) => None,
+        }
+    }
+
+    /// The run ends at that moment. Returns the last interval of the task.
+    pub(crate) fn end(&mut self, moment: u64, task: u16) -> Option<Interval> {
+        self.change(task, None, moment)
+    }
+
+    /// True if a task waits for a processor.
+    pub(crate) fn somebody_waits(&self) -> bool {
+        0 < self.waiting
+    }
+
+    /// The task does this from that moment on, or sleeps.
+    fn change(&mut self, task: u16, doing: Option<Activity>, moment: u64) -> Option<Interval> {
+        let place = self.stays.get_mut(task as usize)?;
+        let before = *place;
+        *place = stay_of(doing, moment);
+        if is_waiting(doing) {
+            self.waiting = self.waiting.saturating_add(1);
+        }
+        let stay = before?;
+        if stay.doing.is_waiting() {
+            self.waiting = self.waiting.saturating_sub(1);
+        }
+        Some(Interval {
+            task,
+            doing: stay.doing,
+            since: stay.since,
+            until: moment,
+        })
+    }
+}
+
+fn stay_of(doing: Option<Activity>, since: u64) -> Option<Stay> {
+    let doing = doing?;
+    Some(Stay { doing, since })
+}
+
+/// True if a task that does this waits for a processor.
+fn is_waiting(doing: Option<Activity>) -> bool {
+    match doing {
+        Some(doing) => doing.is_waiting(),
+        None => false,
+    }
+}
+
+/// The activity of a task in the queue of that id.
+fn doing_in(queue: u64) -> Activity {
+    if queue == HELD {
+        Activity::IsHeld
+    } else if queue == PARKED {
+        Activity::IsParked
+    } else {
+        Activity::Waits
+    }
+}

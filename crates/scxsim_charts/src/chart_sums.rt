@@ -1,0 +1,205 @@
+use crate::activities::{Activities, Activity, Interval};
+use crate::grids::Grid;
+use crate::rows::Rows;
+use crate::scales::Scale;
+use scx_load_workloads::Workload;
+use scx_sched::{Event, Sim, What};
+use scxsim_commands::Ejection;
+use scxsim_simulation::{Heard, Listener, Run, give_back};
+use scxsim_trace::{Observer, observe};
+use std::alloc::{AllocError, Global};
+
+/// The time of each activity, by row and character.
+#[derive(Drop)]
+pub(crate) struct Sums {
+    /// Rows of processors.
+    pub(crate) cpus: Grid,
+    /// Rows of tasks, or of groups.
+    pub(crate) ran: Grid,
+    pub(crate) waited: Grid,
+    pub(crate) held: Grid,
+    pub(crate) parked: Grid,
+    /// Rows of processors: how long each was idle while a task waited.
+    pub(crate) lost: Grid,
+}
+
+impl Sums {
+    fn new(alloc: Global, rows: Rows) -> Result<Sums, AllocError> {
+        Ok(Sums {
+            cpus: Grid::new(alloc, rows.of_cpus())?,
+            ran: Grid::new(alloc, rows.of_tasks())?,
+            waited: Grid::new(alloc, rows.of_tasks())?,
+            held: Grid::new(alloc, rows.of_tasks())?,
+            parked: Grid::new(alloc, rows.of_tasks())?,
+            lost: Grid::new(alloc, rows.cpus)?,
+        })
+    }
+}
+
+/// A chart, with the workload whose run it shows.
+#[derive(Drop)]
+pub(crate) struct Chart {
+    pub(crate) workload: Workload,
+    pub(crate) scale: Scale,
+    pub(crate) rows: Rows,
+    pub(crate) sums: Sums,
+    pub(crate) ejection: Option<Ejection>,
+}
+
+/// Goes through the run, and returns its chart.
+pub(crate) fn gather<L: Listener>(
+    alloc: Global,
+    run: Run,
+    scale: Scale,
+    listener: &mut L,
+) -> Result<Chart, AllocError> {
+    let Run {
+        workload,
+        driver,
+        mut sim,
+        ..
+    } = run;
+    let mut gathering = Gathering::new(alloc, &workload, scale)?;
+    let mut events = Heard::new(driver, workload.ms(), listener);
+    observe(&mut sim, &mut events, &mut gathering);
+    gathering.end(&sim);
+    let Gathering {
+        gathered,
+        activities,
+        ..
+    } = gathering;
+    drop(activities);
+    give_back(events, sim);
+    Ok(chart_of(workload, scale, gathered))
+}
+
+fn chart_of(workload: Workload, scale: Scale, gathered: Gathered) -> Chart {
+    let Gathered {
+        rows,
+        sums,
+        ejection,
+    } = gathered;
+    Chart {
+        workload,
+        scale,
+        rows,
+        sums,
+        ejection,
+    }
+}
+
+/// The rows and sums of a chart, and the ejection.
+#[derive(Drop)]
+struct Gathered {
+    rows: Rows,
+    sums: Sums,
+    ejection: Option<Ejection>,
+}
+
+/// A chart while its run goes on.
+#[derive(Drop)]
+struct Gathering<'a> {
+    workload: &'a Workload,
+    scale: Scale,
+    activities: Activities,
+    gathered: Gathered,
+}
+
+impl<'a> Gathering<'a> {
+    /// Takes all memory, before the first event.
+    fn new(alloc: Global, workload: &'a Workload, scale: Scale) -> Result<Self, AllocError> {
+        let rows = Rows::new(workload);
+        let activities = Activities::new(alloc, workload.tasks().len())?;
+        let sums = Sums::new(alloc, rows)?;
+        Ok(Gathering {
+            workload,
+            scale,
+            activities,
+            gathered: Gathered {
+                rows,
+                sums,
+                ejection: None,
+            },
+        })
+    }
+
+    /// Adds an interval, if there is one.
+    fn add(&mut self, interval: Option<Interval>) {
+        let Some(interval) = interval else {
+            return;
+        };
+        let row = self.gathered.rows.of_task(self.workload, interval.task);
+        self.gathered.add(self.scale, interval, row);
+    }
+
+    /// Adds the current millisecond to each processor that runs nobody, if a task waits.
+    fn lose(&mut self, sim: &Sim) {
+        if !self.activities.somebody_waits() {
+            return;
+        }
+        let clock = sim.clock();
+        let scale = self.scale;
+        let lost = &mut self.gathered.sums.lost;
+        for cpu in 0..sim.cpus() {
+            if sim.running(cpu).is_none() {
+                lost.add(cpu as usize, scale, clock, clock.saturating_add(1));
+            }
+        }
+    }
+
+    /// Adds the last interval of each task.
+    fn end(&mut self, sim: &Sim) {
+        for task in 0..sim.tasks() {
+            let interval = self.activities.end(sim.clock(), task);
+            self.add(interval);
+        }
+    }
+}
+
+impl Gathered {
+    /// Adds an interval of the task of that row.
+    fn add(&mut self, scale: Scale, interval: Interval, row: usize) {
+        let Interval {
+            task,
+            doing,
+            since,
+            until,
+        } = interval;
+        let sums = &mut self.sums;
+        match doing {
+            Activity::Runs(cpu) => {
+                let on_cpu = self.rows.of_cpu(cpu as usize, task as usize);
+                sums.cpus.add(on_cpu, scale, since, until);
+                sums.ran.add(row, scale, since, until);
+            }
+            Activity::Waits => sums.waited.add(row, scale, since, until),
+            Activity::IsHeld => sums.held.add(row, scale, since, until),
+            Activity::IsParked => sums.parked.add(row, scale, since, until),
+        }
+    }
+}
+
+impl Observer for Gathering<'_> {
+    ghost use Rattle.std.specs.Prelude.{false};
+
+    ghost has_failed = { λ _. false };
+
+    /// The ticks of a millisecond begin with that of processor 0.
+    fn expect(&mut self, sim: &Sim, event: Event) {
+        if let Event::Tick(0) = event {
+            self.lose(sim);
+        }
+    }
+
+    fn show(&mut self, moment: u64, _clock: u64, what: What) {
+        let interval = self.activities.show(moment, what);
+        self.add(interval);
+        if let Some(ejection) = Ejection::of(moment, what) {
+            self.gathered.ejection = Some(ejection);
+        }
+    }
+
+    fn failed(&self) -> bool {
+        false
+    }
+}

@@ -1,0 +1,106 @@
+use crate::base64_lines::Base64Lines;
+use crate::queue_numbers::{QueueNumbers, local_number};
+use crate::stretches::{End, NOWHERE, Stretch};
+use crate::tails::Ended;
+use crate::task_states::TaskStates;
+use scx_sched::What;
+use scx_sched_world::PARKED;
+use scxsim_commands::Window;
+use std::alloc::{AllocError, Global};
+
+/// The stretches of a part of a run while it goes on: those that haven't ended yet, and the lines of those that have.
+#[derive(Drop)]
+pub(crate) struct Recording {
+    window: Window,
+    tasks: TaskStates,
+    queues: QueueNumbers,
+    /// The task that left a processor with the last note, if it ended the last stretch. It may have been parked.
+    stopped: Option<u16>,
+    /// The ejection, if the policy was ejected.
+    pub(crate) ended: Ended,
+    pub(crate) lines: Base64Lines,
+}
+
+impl Recording {
+    /// All of these tasks sleep.
+    pub(crate) fn new(
+        alloc: Global,
+        tasks: usize,
+        window: Window,
+    ) -> Result<Recording, AllocError> {
+        Ok(Recording {
+            window,
+            tasks: TaskStates::new(alloc, tasks)?,
+            queues: QueueNumbers::new(),
+            stopped: None,
+            ended: Ended::InForce,
+            lines: Base64Lines::new(),
+        })
+    }
+
+    /// Adds the stretch that ends with this note, if one does.
+    #[inline(always)]
+    pub(crate) fn show(&mut self, moment: u64, clock: u64, what: What) {
+        let now = moment.saturating_add(clock);
+        let stopped = self.stopped;
+        self.stopped = None;
+        let stretch = match what {
+            What::Wake(task) => {
+                self.tasks.wake(now, task);
+                None
+            }
+            What::Sleep(task) => self.tasks.sleep(now, task),
+            What::Insert(task, id) => {
+                if id == PARKED && stopped == Some(task) {
+                    self.lines.park_last();
+                }
+                let queue = self.queues.number(id);
+                self.tasks.enter(now, task, queue)
+            }
+            What::Move(task, cpu) => self.tasks.enter(now, task, local_number(cpu)),
+            What::Run(task, cpu) => self.tasks.run(now, task, place_of(cpu)),
+            What::Stop(task, _) => self.tasks.stop(now, task),
+            What::Stall(task) => {
+                self.ended = Ended::Stall { moment, task };
+                None
+            }
+            What::Fault(fault) => {
+                let number = fault.number();
+                self.ended = Ended::Fault { moment, number };
+                None
+            }
+            What::Idle(_) | What::Weight(_, _) => None,
+        };
+        self.add(stretch);
+    }
+
+    /// Adds the task's last stretch, as the run of the workload ends.
+    pub(crate) fn end_task(&mut self, moment: u64, task: u16) {
+        let stretch = self.tasks.end(moment.saturating_mul(2), task);
+        self.add(stretch);
+    }
+
+    /// The ids of the policy's queues, in the order of their numbers.
+    pub(crate) fn queue_ids(&self) -> &[u64] {
+        self.queues.ids()
+    }
+
+    /// Adds the part of the stretch that lies in the window.
+    #[inline(always)]
+    fn add(&mut self, stretch: Option<Stretch>) {
+        let Some(stretch) = stretch else { return };
+        let Some(stretch) = stretch.within(self.window) else {
+            return;
+        };
+        if let End::Stopped = stretch.end {
+            self.stopped = Some(stretch.task);
+        }
+        self.lines.add(stretch);
+    }
+}
+
+/// A processor, as a stretch has it.
+#[inline(always)]
+fn place_of(cpu: u32) -> u8 {
+    cpu.min(u32::from(NOWHERE)) as u8
+}

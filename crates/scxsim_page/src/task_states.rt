@@ -1,0 +1,173 @@
+use crate::queue_numbers::{LOCAL_NUMBER, NO_QUEUE, PARKED_NUMBER};
+use crate::stretches::{Beginning, End, NOWHERE, Stretch, moment_of};
+use std::alloc::{AllocError, Global};
+
+/// The activity of a task.
+#[derive(Clone, Copy)]
+enum Doing {
+    /// It sleeps, or it left its processor and is in no queue yet.
+    Neither,
+    Waits { queue: u16 },
+    Runs { place: u8 },
+}
+
+#[derive(Clone, Copy)]
+struct TaskState {
+    doing: Doing,
+    /// The queue from which it came last.
+    queue: u16,
+    beginning: Beginning,
+    is_asleep: bool,
+    /// The beginning of its activity, as in a stretch.
+    since: u64,
+}
+
+const ASLEEP: TaskState = TaskState {
+    doing: Doing::Neither,
+    queue: NO_QUEUE,
+    beginning: Beginning::GoesOn,
+    is_asleep: true,
+    since: 0,
+};
+
+/// The activity of each task. Times are those of stretches.
+#[derive(Drop)]
+pub(crate) struct TaskStates {
+    tasks: Vec<TaskState>,
+}
+
+impl TaskStates {
+    /// All of these tasks sleep.
+    pub(crate) fn new(alloc: Global, tasks: usize) -> Result<TaskStates, AllocError> {
+        Ok(TaskStates {
+            tasks: vec![in alloc; ASLEEP; tasks]?,
+        })
+    }
+
+    pub(crate) fn wake(&mut self, now: u64, number: u16) {
+        if let Some(task) = self.tasks.get_mut(number as usize) {
+            task.is_asleep = false;
+            task.beginning = Beginning::Woke;
+            task.begin(now, Doing::Waits { queue: NO_QUEUE });
+        }
+    }
+
+    /// The task sleeps from now on. If it runs, the note of its stop comes next.
+    #[inline(always)]
+    pub(crate) fn sleep(&mut self, now: u64, number: u16) -> Option<Stretch> {
+        let task = self.tasks.get_mut(number as usize)?;
+        task.is_asleep = true;
+        task.waits_in()?;
+        task.end(number, now, End::Slept)
+    }
+
+    /// The task comes to a queue.
+    #[inline(always)]
+    pub(crate) fn enter(&mut self, now: u64, number: u16, queue: u16) -> Option<Stretch> {
+        let task = self.tasks.get_mut(number as usize)?;
+        let before = task.waits_in();
+        let is_new = match before {
+            Some(before) => before == NO_QUEUE,
+            None => true,
+        };
+        let stretch = task.leave(number, now, before, queue);
+        if is_new || queue < LOCAL_NUMBER {
+            task.queue = queue;
+        }
+        task.begin(now, Doing::Waits { queue });
+        stretch
+    }
+
+    #[inline(always)]
+    pub(crate) fn run(&mut self, now: u64, number: u16, place: u8) -> Option<Stretch> {
+        let task = self.tasks.get_mut(number as usize)?;
+        let stretch = match task.waits_in() {
+            Some(_) => task.end(number, now, End::Ran),
+            None => None,
+        };
+        task.begin(now, Doing::Runs { place });
+        stretch
+    }
+
+    /// The task leaves its processor. It may have been parked, which isn't known yet.
+    #[inline(always)]
+    pub(crate) fn stop(&mut self, now: u64, number: u16) -> Option<Stretch> {
+        let task = self.tasks.get_mut(number as usize)?;
+        if task.is_asleep {
+            return task.end(number, now, End::Slept);
+        }
+        let stretch = task.end(number, now, End::Stopped);
+        task.beginning = Beginning::WasStopped;
+        stretch
+    }
+
+    /// The run of the workload ends.
+    pub(crate) fn end(&mut self, now: u64, number: u16) -> Option<Stretch> {
+        let task = self.tasks.get_mut(number as usize)?;
+        task.end(number, now, End::RunOver)
+    }
+}
+
+impl TaskState {
+    #[inline(always)]
+    fn begin(&mut self, now: u64, doing: Doing) {
+        self.doing = doing;
+        self.since = now;
+    }
+
+    /// The queue in which it waits, if it waits.
+    #[inline(always)]
+    fn waits_in(&self) -> Option<u16> {
+        match self.doing {
+            Doing::Waits { queue } => Some(queue),
+            Doing::Neither | Doing::Runs { .. } => None,
+        }
+    }
+
+    /// Ends the wait in the queue in which it waited before, if it did, as it comes to another.
+    #[inline(always)]
+    fn leave(&mut self, number: u16, now: u64, before: Option<u16>, queue: u16) -> Option<Stretch> {
+        let before = before?;
+        let stretch = self.end(number, now, end_of_wait(before, queue));
+        if before == PARKED_NUMBER {
+            self.beginning = Beginning::WasLetGo;
+        }
+        stretch
+    }
+
+    /// Ends its activity. There is no stretch of no time.
+    #[inline(always)]
+    fn end(&mut self, number: u16, now: u64, end: End) -> Option<Stretch> {
+        let (place, queue) = match self.doing {
+            Doing::Neither => return None,
+            Doing::Waits { queue } => (NOWHERE, queue),
+            Doing::Runs { place } => (place, self.queue),
+        };
+        self.doing = Doing::Neither;
+        if moment_of(now) <= moment_of(self.since) {
+            return None;
+        }
+        let beginning = self.beginning;
+        self.beginning = Beginning::GoesOn;
+        Some(Stretch {
+            since: self.since,
+            until: now,
+            task: number,
+            queue,
+            place,
+            beginning,
+            end,
+        })
+    }
+}
+
+/// The end of the wait of a task that comes to another queue.
+fn end_of_wait(before: u16, queue: u16) -> End {
+    if before == PARKED_NUMBER {
+        End::LetGo
+    } else if queue == PARKED_NUMBER {
+        End::Parked
+    } else {
+        End::WentOn
+    }
+}

@@ -1,0 +1,27 @@
+use scxsim_commands::Window;
+use scxsim_shapes::Picture;
+use scxsim_simulation::{Heard, Listener, Run, give_back};
+use scxsim_sums::Gathering;
+use scxsim_trace::observe;
+use std::alloc::{AllocError, Global};
+
+/// Goes through the run, and returns its picture.
+pub(crate) fn gather<L: Listener>(
+    alloc: Global,
+    run: Run,
+    window: Window,
+    listener: &mut L,
+) -> Result<Picture, AllocError> {
+    let mut gathering = Gathering::new(alloc, &run.workload, window)?;
+    let Run {
+        workload,
+        driver,
+        mut sim,
+        ..
+    } = run;
+    let mut events = Heard::new(driver, workload.ms(), listener);
+    observe(&mut sim, &mut events, &mut gathering);
+    let gathered = gathering.end(sim.clock(), workload.tasks());
+    give_back(events, sim);
+    Ok(Picture { workload, gathered })
+}

@@ -1,0 +1,87 @@
+use crate::queues::Queue;
+use scxsim_layout::Mark;
+use std::alloc::{AllocError, Global};
+
+/// The activity of a task that doesn't sleep.
+#[derive(Clone, Copy)]
+pub enum Doing {
+    /// It runs on this processor.
+    Runs(u32),
+    Waits(Queue),
+}
+
+impl Doing {
+    /// True if it runs.
+    pub(crate) fn runs(self) -> bool {
+        match self {
+            Doing::Runs(_) => true,
+            Doing::Waits(_) => false,
+        }
+    }
+
+    /// True if it waits for a processor. A parked task doesn't.
+    pub(crate) fn waits(self) -> bool {
+        match self {
+            Doing::Runs(_) => false,
+            Doing::Waits(queue) => !queue.is_parked(),
+        }
+    }
+}
+
+/// The activity of a task and its beginning, and the beginning of its wait, if it waits.
+#[derive(Clone, Copy)]
+pub(crate) struct Stay {
+    pub(crate) doing: Doing,
+    pub(crate) since: Mark,
+    pub(crate) waits_since: Option<u64>,
+}
+
+/// The activity of each task.
+#[derive(Drop)]
+pub(crate) struct Activities {
+    stays: Vec<Option<Stay>>,
+    /// The number of tasks that wait.
+    pub(crate) waiting: u64,
+}
+
+impl Activities {
+    /// All of these tasks sleep.
+    pub(crate) fn new(alloc: Global, tasks: usize) -> Result<Activities, AllocError> {
+        Ok(Activities {
+            stays: vec![in alloc; None; tasks]?,
+            waiting: 0,
+        })
+    }
+
+    /// The task does this from now on, or sleeps. Returns what it did before.
+    #[inline(always)]
+    pub(crate) fn change(&mut self, task: u16, doing: Option<Doing>, now: Mark) -> Option<Stay> {
+        let place = self.stays.get_mut(task as usize)?;
+        let before = *place;
+        let after = stay_of(before, doing, now);
+        *place = after;
+        let less = u64::from(waits_since(before).is_some());
+        let more = u64::from(waits_since(after).is_some());
+        self.waiting = self.waiting.saturating_add(more).saturating_sub(less);
+        before
+    }
+}
+
+fn waits_since(stay: Option<Stay>) -> Option<u64> {
+    stay?.waits_since
+}
+
+#[inline(always)]
+fn stay_of(before: Option<Stay>, doing: Option<Doing>, now: Mark) -> Option<Stay> {
+    let doing = doing?;
+    let waits_since = if doing.waits() {
+        Some(waits_since(before).unwrap_or(now.moment))
+    } else {
+        None
+    };
+    Some(Stay {
+        doing,
+        since: now,
+        waits_since,
+    })
+}
