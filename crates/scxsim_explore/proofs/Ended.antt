@@ -1,42 +1,21 @@
--- What stands at the end of a search.
+-- The end of a search.
 use Rattle.std.proofs.Common.{◌≡◌, ℕ, ◌+◌, ◌-◌, ◌^◌, ◌≤◌, min, List, ◌++◌, Bool, true, false, Option, Some, None, Result, Ok, Err, inl, inr, ◌⊎◌, refl, ap, sym, ◌∙◌, subst}
-use Rattle.std.proofs.KnownBytes.{Appends-trans}
 use Rattle.std.specs.Prelude.{OnOk, IfOk, IfSome, IsSome, flat_map, unwrap_or}
 use Rattle.std.specs.Io.KnownBytes.{Appends}
 use Rattle.scx_load_workloads.specs.Workload.{WorkloadState}
 use Rattle.scx_sched.specs.Sim.{SimState}
 use Rattle.scx_explore_findings.specs.declared.finding.Sort.{Sort}
-use Rattle.scx_explore_machines.specs.declared.bounds.Bounds.{Bounds}
-use Rattle.scx_explore_machines.specs.declared.bounds.Mode.{Mode}
+use Rattle.scx_explore_bounds.specs.declared.bounds.Bounds.{Bounds}
+use Rattle.scx_explore_states.specs.declared.form.Form.{Form}
 use Rattle.scx_explore_audit.specs.declared.table.Moves.{Moves}
 use Rattle.scx_explore.specs.declared.course.End.{End}
 use Rattle.scx_explore.specs.declared.course.End.TheVariants.{Ended, At, Full}
 use Rattle.scx_explore.specs.declared.progress.Level.{Level}
 use Rattle.scx_explore.specs.declared.starts.Starts.{Starts}
 use Rattle.scx_explore.specs.Ends.{HasNoNew, IsEndOf, done_of}
-use Rattle.scxsim_explore.specs.Lists.{Counts, Nones, alike_line, count_lines, kept_line, misfit_line, nones_text, start_lines}
+use Rattle.scxsim_explore_lines.specs.Summary.{Depths, Nones, summary_text}
 use Rattle.scxsim_explore.specs.Telling.{CantBeLooked, HasNoChanges, IsEnded, IsGoneThrough, IsReach, IsSure, IsThrough, MayBeLooked, moves_of}
-use Rattle.scxsim_explore.specs.Unfound.{AreCounted, AreEndLines, concluded, misfit_of, reach_of}
-use Rattle.scxsim_explore.specs.Machines.{IsFresh}
-use Rattle.scxsim_explore.proofs.Same.{same_fresh}
-use Rattle.scxsim_explore.proofs.Written.{three_on}
-
-with_counts : {A E : Type 0} (r : Result A E) (m : Mode) (alike : Bool) (levels : List (Option Level)) (last : Option Level) (misfit : Option ℕ) (a b : Option (List ℕ))
-    → OnOk r (Appends a b (count_lines m (record { alike = alike; levels = levels; last = last; misfit = misfit }))) → OnOk r (AreCounted m last misfit a b)
-with_counts (Ok x) m alike levels last misfit a b text = (record { alike = alike; levels = levels; last = last; misfit = misfit }, record { last = refl; misfit = refl }, text)
-with_counts (Err x) m alike levels last misfit a b text = text
-
--- the lines of counts
-pub counted : {A E : Type 0} (r : Result A E) (m : Mode) (alike : Bool) (levels : List (Option Level)) (last : Option Level) (misfit : Option ℕ) (a b c d : Option (List ℕ))
-    → Appends a b (alike_line alike) → Appends b c (flat_map (kept_line m) levels ++ kept_line m last) → OnOk r (Appends c d (misfit_line m misfit)) → OnOk r (AreCounted m last misfit a d)
-counted r m alike levels last misfit a b c d first next end =
-    with_counts r m alike levels last misfit a d (three_on r a b c d _ _ _ first next end)
-
--- all lines at the end
-pub end_lines : {A E : Type 0} (r : Result A E) (starts : Starts) (n : Nones) (last : Option Level) (misfit : Option ℕ) (a b c d : Option (List ℕ))
-    → Appends a b (start_lines starts) → AreCounted n.bounds.mode last misfit b c → OnOk r (Appends c d (nones_text n)) → OnOk r (AreEndLines n last misfit a d)
-end_lines (Ok x) starts n last misfit a b c d first (counts, same, next) end = (starts, counts, same, Appends-trans a c d _ _ (Appends-trans a b c _ _ first next) end)
-end_lines (Err x) starts n last misfit a b c d first next end = end
+use Rattle.scxsim_explore.specs.Unfound.{concluded, misfit_of, reach_of}
 
 -- ---- of which lists it is said
 
@@ -45,7 +24,7 @@ at_end b last Ended none is = is
 at_end b last (At depth) none is = absurd (cc)
 at_end b last (Full depth) none is = absurd (cc)
 
-at_depth : (b : Bounds) (c : Counts) (end : End) (depth : ℕ) → c.misfit ≡ misfit_of end → IsEndOf b c.last end → reach_of end ≡ Some depth → (depth ≡ done_of c.last) × IsThrough b c depth
+at_depth : (b : Bounds) (c : Depths) (end : End) (depth : ℕ) → c.misfit ≡ misfit_of end → IsEndOf b c.last end → reach_of end ≡ Some depth → (depth ≡ done_of c.last) × IsThrough b c depth
 at_depth b c Ended depth misfit is some = absurd (cc)
 at_depth b c (At deep) depth misfit (done, far) some =
     let same : deep ≡ depth = ap (λ (o : Option ℕ). unwrap_or o 0) some in
@@ -54,7 +33,7 @@ at_depth b c (Full deep) depth misfit done some =
     let same : deep ≡ depth = ap (λ (o : Option ℕ). unwrap_or o 0) some in
     (sym same ∙ done, inr (inl (subst IsSome (sym misfit) refl)))
 
-misfit_at : (b : Bounds) (c : Counts) (end : End) → c.misfit ≡ misfit_of end → IsEndOf b c.last end → IfSome c.misfit (λ depth. depth ≡ min (done_of c.last + 1) (2 ^ 64 - 1))
+misfit_at : (b : Bounds) (c : Depths) (end : End) → c.misfit ≡ misfit_of end → IsEndOf b c.last end → IfSome c.misfit (λ depth. depth ≡ min (done_of c.last + 1) (2 ^ 64 - 1))
 misfit_at b c Ended misfit is = subst (λ (o : Option ℕ). IfSome o (λ depth. depth ≡ min (done_of c.last + 1) (2 ^ 64 - 1))) (sym misfit) tt
 misfit_at b c (At deep) misfit is = subst (λ (o : Option ℕ). IfSome o (λ depth. depth ≡ min (done_of c.last + 1) (2 ^ 64 - 1))) (sym misfit) tt
 misfit_at b c (Full deep) misfit is =
@@ -64,7 +43,7 @@ if_some : (o : Option ℕ) (P Q : ℕ → Type 0) → ((n : ℕ) → P n → Q n
 if_some None P Q f h = h
 if_some (Some n) P Q f h = f n h
 
-reach_is : (b : Bounds) (w : WorkloadState) (c : Counts) (n : Nones) (end : End) → c.misfit ≡ misfit_of end → IsEndOf b c.last end
+reach_is : (b : Bounds) (w : WorkloadState) (c : Depths) (n : Nones) (end : End) → c.misfit ≡ misfit_of end → IsEndOf b c.last end
     → (n.reach ≡ None → reach_of end ≡ None) → (n.reach ≡ None → IsSome n.again ⊎ CantBeLooked b w)
     → IfSome n.reach (λ depth. (reach_of end ≡ Some depth) ⊎ ((reach_of end ≡ None) × (depth ≡ done_of c.last))) → IsReach b w c n
 reach_is b w c n end misfit is any looked some = record {
@@ -81,24 +60,23 @@ reach_is b w c n end misfit is any looked some = record {
     of_some depth (inl at) = at_depth b c end depth misfit is at
     of_some depth (inr (none, done)) = (done, inr (inr (at_end b c.last end none is)))
 
--- what stands at the end
-pub ended : (policy : List ℕ) (w : WorkloadState) (s : SimState) (bounds : Bounds) (n : Nones) (last : Option Level) (end : End) (a b : Option (List ℕ))
-    → IsEndOf bounds last end → n.bounds ≡ bounds → IfSome n.again (IsGoneThrough policy w s n)
+-- what is written at the end
+pub ended : (form : Form) (w : WorkloadState) (s : SimState) (bounds : Bounds) (starts : Starts) (d : Depths) (n : Nones) (end : End) (a b : Option (List ℕ))
+    → IsEndOf bounds d.last end → d.misfit ≡ misfit_of end → n.bounds ≡ bounds → IfSome n.again (IsGoneThrough form w s n)
     → (n.reach ≡ None → reach_of end ≡ None) → (n.reach ≡ None → IsSome n.again ⊎ CantBeLooked bounds w)
-    → IfSome n.reach (λ depth. (reach_of end ≡ Some depth) ⊎ ((reach_of end ≡ None) × (depth ≡ done_of last)))
-    → AreEndLines n last (misfit_of end) a b → IsEnded policy w s bounds a b
-ended policy w s bounds n last end a b is within again any looked some (starts, counts, same, text) = record {
+    → IfSome n.reach (λ depth. (reach_of end ≡ Some depth) ⊎ ((reach_of end ≡ None) × (depth ≡ done_of d.last)))
+    → Appends a b (summary_text starts d n) → IsEnded form w s bounds a b
+ended form w s bounds starts d n end a b is misfit within again any looked some lines = record {
   starts = starts;
-  counts = counts;
+  depths = d;
   nones = n;
   bounds = within;
-  lines = text;
-  reach = reach_is bounds w counts n end same.misfit (subst (λ (l : Option Level). IsEndOf bounds l end) (sym same.last) is) any looked
-      (subst (λ (l : Option Level). IfSome n.reach (λ depth. (reach_of end ≡ Some depth) ⊎ ((reach_of end ≡ None) × (depth ≡ done_of l)))) (sym same.last) some);
+  lines = lines;
+  reach = reach_is bounds w d n end misfit is any looked some;
   again = again;
 }
 
--- ---- what is said behind an audit
+-- ---- what is said after an audit
 
 -- bounds stay
 pub concluded_bounds : {E : Type 0} (r : Result Bool E) (done : ℕ) (moves : Moves) (n m : Nones) → m ≡ concluded r done moves n → m.bounds ≡ n.bounds
@@ -140,17 +118,17 @@ concluded_some (Err e) done moves n m is =
     subst (λ (x : Nones). IfSome x.reach (λ depth. (n.reach ≡ Some depth) ⊎ ((n.reach ≡ None) × (depth ≡ done)))) (sym is) (of_done done n.reach)
 
 -- and what is said to be gone through once more is so
-pub concluded_again : {E : Type 0} (r : Result Bool E) (done : ℕ) (moves : Moves) (policy : List ℕ) (w : WorkloadState) (s : SimState) (n m : Nones) → m ≡ concluded r done moves n
-    → MayBeLooked n.bounds w moves → (r ≡ Ok true → IsSure policy n.bounds moves n.reach n.sorts s) → IfSome m.again (IsGoneThrough policy w s m)
-concluded_again (Ok true) done moves policy w s n m is may sure =
-    let through : IsGoneThrough policy w s (record n { again = Some moves }) moves = record { of_mode = may.of_mode; all = may.all; changes = may.changes; sure = sure refl } in
-    subst (λ (x : Nones). IfSome x.again (IsGoneThrough policy w s x)) (sym is) through
-concluded_again (Ok false) done moves policy w s n m is may sure = subst (λ (x : Nones). IfSome x.again (IsGoneThrough policy w s x)) (sym is) tt
-concluded_again (Err e) done moves policy w s n m is may sure = subst (λ (x : Nones). IfSome x.again (IsGoneThrough policy w s x)) (sym is) tt
+pub concluded_again : {E : Type 0} (r : Result Bool E) (done : ℕ) (moves : Moves) (form : Form) (w : WorkloadState) (s : SimState) (n m : Nones) → m ≡ concluded r done moves n
+    → MayBeLooked n.bounds w moves → (r ≡ Ok true → IsSure form n.bounds moves n.reach n.sorts s) → IfSome m.again (IsGoneThrough form w s m)
+concluded_again (Ok true) done moves form w s n m is may sure =
+    let through : IsGoneThrough form w s (record n { again = Some moves }) moves = record { of_mode = may.of_mode; all = may.all; changes = may.changes; sure = sure refl } in
+    subst (λ (x : Nones). IfSome x.again (IsGoneThrough form w s x)) (sym is) through
+concluded_again (Ok false) done moves form w s n m is may sure = subst (λ (x : Nones). IfSome x.again (IsGoneThrough form w s x)) (sym is) tt
+concluded_again (Err e) done moves form w s n m is may sure = subst (λ (x : Nones). IfSome x.again (IsGoneThrough form w s x)) (sym is) tt
 
 -- states weren't gone through once more
-pub not_looked : (policy : List ℕ) (w : WorkloadState) (s : SimState) (n m : Nones) (reach : Option ℕ) → m ≡ record n { again = None; reach = reach } → IfSome m.again (IsGoneThrough policy w s m)
-not_looked policy w s n m reach is = subst (λ (x : Nones). IfSome x.again (IsGoneThrough policy w s x)) (sym is) tt
+pub not_looked : (form : Form) (w : WorkloadState) (s : SimState) (n m : Nones) (reach : Option ℕ) → m ≡ record n { again = None; reach = reach } → IfSome m.again (IsGoneThrough form w s m)
+not_looked form w s n m reach is = subst (λ (x : Nones). IfSome x.again (IsGoneThrough form w s x)) (sym is) tt
 
 -- nor is more said of lists then than the search did
 pub unlooked_some : (done : ℕ) (n m : Nones) → m ≡ record n { again = None; reach = n.reach } → IfSome m.reach (λ depth. (n.reach ≡ Some depth) ⊎ ((n.reach ≡ None) × (depth ≡ done)))
@@ -172,12 +150,6 @@ few_cant_be b w few is moves may = go b.few is may.all
 -- lists of a mode in which weights change, or that isn't one of such moves
 pub mode_cant_be : (b : Bounds) (w : WorkloadState) (r : Option Moves) → (r ≡ None → IsSome (moves_of b.mode) → ¬ HasNoChanges b.mode w) → r ≡ None → CantBeLooked b w
 mode_cant_be b w r none is moves may = none is (subst IsSome (sym may.of_mode) refl) may.changes
-
--- what is sure of one machine of the texts is so of any
-pub sure_of : (policy workload : List ℕ) (b : Bounds) (moves : Moves) (limit : Option ℕ) (sorts : List Sort) (s t : SimState)
-    → IsFresh policy workload s → IsFresh policy workload t → IsSure policy b moves limit sorts s → IsSure policy b moves limit sorts t
-sure_of policy workload b moves limit sorts s t h k sure =
-    subst (λ (x : SimState). IsSure policy b moves limit sorts x) (same_fresh policy workload s t h k) sure
 
 -- an answer that is yes
 pub is_yes : {E : Type 0} (P : Type 0) (r : Result Bool E) → r ≡ Ok true → IfOk r (λ (closed : Bool). closed ≡ true → P) → P

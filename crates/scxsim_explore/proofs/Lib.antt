@@ -1,7 +1,5 @@
-mod Clocks
+mod Copies
 mod Ended
 mod Named
-mod Rest
-mod Same
+mod Started
 mod Told
-mod Written

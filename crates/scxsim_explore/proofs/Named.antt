@@ -4,13 +4,15 @@ use Rattle.std.proofs.lemmas.Slice.Eq.{bytes_eq-Decides}
 use Rattle.scx_maps.specs.Lending.{all_bytes}
 use Rattle.scx_load_workloads.specs.Limit.{numeral}
 use Rattle.scx_sched.specs.Sim.{SimState}
-use Rattle.scx_explore_machines.specs.declared.bounds.Bounds.{Bounds}
-use Rattle.scx_explore_machines.specs.declared.bounds.Mode.{Mode}
-use Rattle.scx_explore_machines.specs.declared.bounds.Mode.TheVariants as mode
+use Rattle.scx_explore_bounds.specs.declared.bounds.Bounds.{Bounds}
+use Rattle.scx_explore_bounds.specs.declared.bounds.Mode.{Mode}
+use Rattle.scx_explore_bounds.specs.declared.bounds.Mode.TheVariants as mode
 use Rattle.scxsim_explore.specs.declared.limits.Limit.{Limit}
 use Rattle.scxsim_explore.specs.declared.limits.Limit.TheVariants as limit
 use Rattle.scxsim_explore.specs.declared.limits.Lists.{Lists}
-use Rattle.scxsim_explore.specs.Words.{IsBoundsOf, IsDepth, IsFew, IsNoDepth, IsNoFew, IsNoMode, IsPastWords, IsSmall, few_word, mode_word, most_depth}
+use Rattle.scx_load_workloads.specs.Workload.{WorkloadState}
+use Rattle.std.specs.Prelude.{IfSome}
+use Rattle.scxsim_explore.specs.Words.{HasManyChanges, IsBoundsOf, IsDepth, IsFew, IsLarge, IsNoDepth, IsNoFew, IsNoMode, IsPastIn, IsPastWords, IsSmall, few_word, mode_word, most_depth}
 
 -- a word that is the same text
 pub is_word : (word text : List ℕ) → bytes_eq word text ≡ true → word ≡ text
@@ -86,3 +88,18 @@ past_few l m depth past mode deep (is, wrong) = subst (IsPastWords l) (sym is) (
 -- a machine that is small enough
 pub is_small : (s : SimState) → length s.state.world.tasks ≤ 8 → length s.state.world.cpus ≤ 4 → length (all_bytes s.state.maps) ≤ 4096 → IsSmall s
 is_small s tasks cpus maps = record { tasks = tasks; cpus = cpus; maps = maps }
+
+-- a machine that is past a limit of its size
+pub past_size : (b : Bounds) (w : WorkloadState) (s : SimState) (past : Limit) → IsLarge s past → IsPastIn b w s past
+past_size b w s limit.Mode large = absurd large
+past_size b w s limit.Depth large = absurd large
+past_size b w s limit.Few large = absurd large
+past_size b w s limit.Tasks large = large
+past_size b w s limit.Cpus large = large
+past_size b w s limit.Maps large = large
+past_size b w s limit.Changes large = absurd large
+
+-- a workload that is past the limit on changes, if it is
+pub past_changes : (b : Bounds) (w : WorkloadState) (s : SimState) (r : Option Limit) → IsSmall s → IfSome r (λ (past : Limit). (past ≡ limit.Changes) × HasManyChanges b w) → IfSome r (IsPastIn b w s)
+past_changes b w s None small many = many
+past_changes b w s (Some past) small (is, many) = subst (IsPastIn b w s) (sym is) (small, many)

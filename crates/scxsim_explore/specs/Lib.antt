@@ -1,5 +1,4 @@
-pub mod Lists
-pub mod Machines
-pub mod Telling
-pub mod Unfound
 pub mod Words
+pub mod Telling
+pub mod Beginning
+pub mod Unfound

@@ -8,10 +8,10 @@ use Rattle.scxsim_trace.specs.Lines.{names_of}
 use Rattle.scx_explore_findings.specs.declared.finding.Sort.{Sort}
 use Rattle.scx_explore_findings.specs.declared.finding.Finding.{Finding}
 use Rattle.scx_explore_findings.specs.Findings.{Shows}
-use Rattle.scx_explore_machines.specs.Events.{most_events}
-use Rattle.scx_explore_machines.specs.declared.bounds.Bounds.{Bounds}
-use Rattle.scx_explore_machines.specs.declared.bounds.Mode.{Mode}
-use Rattle.scx_explore_machines.specs.declared.bounds.Mode.TheVariants as mode
+use Rattle.scx_explore_bounds.specs.Events.{most_events}
+use Rattle.scx_explore_bounds.specs.declared.bounds.Bounds.{Bounds}
+use Rattle.scx_explore_bounds.specs.declared.bounds.Mode.{Mode}
+use Rattle.scx_explore_bounds.specs.declared.bounds.Mode.TheVariants as mode
 use Rattle.scx_explore_states.specs.declared.form.Form.{Form}
 use Rattle.scx_explore_audit.specs.declared.table.Moves.{Moves}
 use Rattle.scx_explore_audit.specs.declared.table.Moves.TheVariants as moves
@@ -19,13 +19,14 @@ use Rattle.scx_explore_audit.specs.Closed.{AreNumbersOf, Respects}
 use Rattle.scx_explore_audit.specs.Laws.{NoneIn}
 use Rattle.scx_explore_workloads.specs.Files.{IsFileOf}
 use Rattle.scx_explore.specs.declared.starts.Starts.{Starts}
-use Rattle.scx_explore.specs.Forms.{IsFormOf}
+use Rattle.scx_explore_bounds.specs.Forms.{IsFormOf}
 use Rattle.scx_explore.specs.Ends.{HasNoNew, done_of}
 use Rattle.scxsim_simulation.specs.Runs.{IsRun}
 use Rattle.scxsim_explore.specs.declared.limits.Limit.{Limit}
 use Rattle.scxsim_explore.specs.declared.limits.Lists.{Lists}
-use Rattle.scxsim_explore.specs.Words.{IsBoundsOf, IsPast, IsPastTexts, IsWithin}
-use Rattle.scxsim_explore.specs.Lists.{Counts, Nones, end_text, file_text, limit_line, memory_line, told_text}
+use Rattle.scxsim_explore_lines.specs.Found.{told_text}
+use Rattle.scxsim_explore_lines.specs.Summary.{Depths, Nones, memory_line, summary_text}
+use Rattle.scxsim_explore.specs.Words.{IsBoundsOf, IsPast, IsWithin, limit_line}
 
 -- The text after the trace of a list, if there is one. A list of `events` has none. In the other modes
 -- it is the file of a workload with the same parts, whose events begin with the list.
@@ -50,7 +51,7 @@ AreTold m w s (t ∷ ts) old new =
     (between : Option (List ℕ)) × Shows w.homes s t.events t.finding
     × HasFile m w s t.events t.file
     × Appends old between
-    (told_text (names_of w) s t.finding m t.events ++ file_text t.file)
+    (told_text (names_of w) s t.finding m t.events t.file)
     × AreTold m w s ts between new
 
 -- lists are written, each of which the machine shows
@@ -71,21 +72,18 @@ HasNoChanges mode.Events w = w.changes ≡ []
 HasNoChanges mode.Milliseconds w = ⊤
 HasNoChanges mode.Workloads w = ⊤
 
--- with that form and numbers of the machine's queues, no list of such moves, of any number or of at
--- most so many, shows anything of these sorts, if what the form leaves out of a state changes nothing
--- in runs of fewer events than that
+-- With that form and numbers of the machine's queues, no list of such moves shows anything of these
+-- sorts, of any number of moves or up to the limit, if what the form leaves out of a state changes
+-- nothing in runs of fewer events than `room`.
 abbrev pub IsSureBy : Form → Moves → Option ℕ → List Sort → SimState → ℕ → Type 0
 IsSureBy form moves limit sorts first room =
     (ids : List ℕ) × AreNumbersOf first ids
     × (Respects form ids moves sorts first room → NoneIn moves limit sorts first)
 
--- the same with the form of the policy's programs, in runs of fewer events than lists within the
--- bounds may have
+-- This is sure with a room no greater than the most events of a list within the bounds.
 pub record IsSure
-    (policy : List ℕ) (b : Bounds) (moves : Moves) (limit : Option ℕ) (sorts : List Sort)
+    (form : Form) (b : Bounds) (moves : Moves) (limit : Option ℕ) (sorts : List Sort)
     (first : SimState) : Type 0 where
-  pub form : Form
-  pub of_policy : IsFormOf policy b form
   pub room : ℕ
   pub few :
       room ≤ most_events b (length first.state.world.tasks) (length first.state.world.cpus)
@@ -95,12 +93,12 @@ pub record IsSure
 -- all that are made of such moves, and where it is sure that none of these shows anything of their
 -- sorts. Of tasks that are overtaken nothing is said.
 pub record IsGoneThrough
-    (policy : List ℕ) (w : WorkloadState) (first : SimState) (n : Nones) (moves : Moves) : Type 0
+    (form : Form) (w : WorkloadState) (first : SimState) (n : Nones) (moves : Moves) : Type 0
   where
     pub of_mode : moves_of n.bounds.mode ≡ Some moves
     pub all : n.bounds.few ≡ None
     pub changes : HasNoChanges n.bounds.mode w
-    pub sure : IsSure policy n.bounds moves n.reach n.sorts first
+    pub sure : IsSure form n.bounds moves n.reach n.sorts first
 
 -- all lists within the bounds are made of such moves, so that they may be gone through once more
 pub record MayBeLooked (b : Bounds) (w : WorkloadState) (moves : Moves) : Type 0 where
@@ -113,45 +111,46 @@ abbrev pub CantBeLooked : Bounds → WorkloadState → Type 0
 CantBeLooked b w = (moves : Moves) → ¬ MayBeLooked b w moves
 
 -- the search went as far as the bounds ask, or a depth doesn't fit, or the last one has no new state
-abbrev pub IsThrough : Bounds → Counts → ℕ → Type 0
-IsThrough b c depth = (b.depth ≤ depth) ⊎ (IsSome c.misfit ⊎ HasNoNew c.last)
+abbrev pub IsThrough : Bounds → Depths → ℕ → Type 0
+IsThrough b d depth = (b.depth ≤ depth) ⊎ (IsSome d.misfit ⊎ HasNoNew d.last)
 
--- Of which lists it is said that nothing was found in them. Of lists of any length only where they
--- were gone through once more; where they can't be, the search says it, and then its last depth has
--- no new state. Otherwise of lists up to the last depth.
-pub record IsReach (b : Bounds) (w : WorkloadState) (c : Counts) (n : Nones) : Type 0 where
-  pub any : n.reach ≡ None → IsSome n.again ⊎ (CantBeLooked b w × HasNoNew c.last)
-  pub some : IfSome n.reach (λ depth. (depth ≡ done_of c.last) × IsThrough b c depth)
-  pub misfit : IfSome c.misfit (λ depth. depth ≡ min (done_of c.last + 1) (2 ^ 64 - 1))
+-- The lists of which it is said that nothing was found in them. These are lists of any length only if
+-- they were audited or, where they can't be, if the last depth of the search has no new state.
+-- Otherwise they are lists up to the last depth.
+pub record IsReach (b : Bounds) (w : WorkloadState) (d : Depths) (n : Nones) : Type 0 where
+  pub any : n.reach ≡ None → IsSome n.again ⊎ (CantBeLooked b w × HasNoNew d.last)
+  pub some : IfSome n.reach (λ depth. (depth ≡ done_of d.last) × IsThrough b d depth)
+  pub misfit : IfSome d.misfit (λ depth. depth ≡ min (done_of d.last + 1) (2 ^ 64 - 1))
 
--- The end is written of lists within the bounds: how far the search came, and what it found in none
--- of these lists. If a line says that states were gone through once more, what the lines below it say
--- holds. Otherwise they are only what the search says.
+-- The summary is written of lists within the bounds: how far the search came, and what it found in
+-- none of these lists. If a line says that states were audited, what the lines below it say holds.
+-- Otherwise they are only what the search says.
 pub record IsEnded
-    (policy : List ℕ) (w : WorkloadState) (first : SimState) (b : Bounds)
+    (form : Form) (w : WorkloadState) (first : SimState) (b : Bounds)
     (old new : Option (List ℕ)) : Type 0
   where
     pub starts : Starts
-    pub counts : Counts
+    pub depths : Depths
     pub nones : Nones
     pub bounds : nones.bounds ≡ b
-    pub lines : Appends old new (end_text starts counts nones)
-    pub reach : IsReach b w counts nones
-    pub again : IfSome nones.again (IsGoneThrough policy w first nones)
+    pub lines : Appends old new (summary_text starts depths nones)
+    pub reach : IsReach b w depths nones
+    pub again : IfSome nones.again (IsGoneThrough form w first nones)
 
 -- ---- all of it
 
--- lists are written, each of which the machine shows, then the end, and then a line if memory ran out
+-- lists are written, each of which the machine shows, then the summary, and then a line if memory ran
+-- out
 abbrev pub IsTold :
-    List ℕ → WorkloadState → SimState → Bounds → Bool → Option (List ℕ) → Option (List ℕ) → Type 0
-IsTold policy w s b whole old new =
+    Form → WorkloadState → SimState → Bounds → Bool → Option (List ℕ) → Option (List ℕ) → Type 0
+IsTold form w s b whole old new =
     (between : Option (List ℕ)) × (end : Option (List ℕ)) × HasTold b.mode w s old between
-    × IsEnded policy w s b between end × Appends end new (memory_line whole)
+    × IsEnded form w s b between end × Appends end new (memory_line whole)
 
 -- Lists within the bounds are written of which the machine that the texts stand for shows that they
--- are accepted and end in what is said of them, each with its events and its trace, and behind them
--- how far the search came and what it has found in no list. The machine is past no limit. The last
--- line says whether memory ran out meanwhile.
+-- are accepted and end in what is said of them, each with its events and its trace; then the summary,
+-- with states written in the form that the policy's programs decide. The machine is past no limit.
+-- The last line says whether memory ran out meanwhile.
 pub record IsExplored
     (policy workload : List ℕ) (b : Bounds) (whole : Bool) (old new : Option (List ℕ)) : Type 0
   where
@@ -159,20 +158,9 @@ pub record IsExplored
     pub first : SimState
     pub run : IsRun policy workload of_workload first
     pub within : IsWithin b of_workload first
-    pub told : IsTold policy of_workload first b whole old new
-
--- the line of a limit is written that the run of the texts is past
-abbrev pub IsLimitedIn :
-    List ℕ → List ℕ → Bounds → Option (List ℕ) → Option (List ℕ) → Type 0
-IsLimitedIn policy workload b old new =
-    (past : Limit) × IsPastTexts policy workload b past × Appends old new (limit_line past)
-
--- what is written where the answer is that, of lists within bounds that words named
-abbrev pub IsAnswerWithin :
-    Bool → List ℕ → List ℕ → Bounds → Option (List ℕ) → Option (List ℕ) → Type 0
-IsAnswerWithin true policy workload b old new = IsExplored policy workload b true old new
-IsAnswerWithin false policy workload b old new =
-    IsLimitedIn policy workload b old new ⊎ IsExplored policy workload b false old new
+    pub form : Form
+    pub of_policy : IsFormOf policy b form
+    pub told : IsTold form of_workload first b whole old new
 
 -- the line of a limit is written that a word or the run of the texts is past
 abbrev pub IsLimited :

@@ -1,14 +1,13 @@
--- The words that name lists of events, and what is past a limit.
+-- The words that bound the lists of a search, and the limits of words and machines.
 use Rattle.std.specs.Prelude.{◌≡◌, ◌≢◌, ℕ, ◌<◌, ◌≤◌, ⊤, ◌⊎◌, List, length, Option, Some, None, option_map, codes}
 use Rattle.scx_maps.specs.Lending.{all_bytes}
 use Rattle.scx_load_workloads.specs.Limit.{numeral}
 use Rattle.scx_load_workloads.specs.Workload.{WorkloadState}
 use Rattle.scx_sched.specs.Sim.{SimState}
-use Rattle.scx_explore_machines.specs.declared.bounds.Bounds.{Bounds}
-use Rattle.scx_explore_machines.specs.declared.bounds.Mode.{Mode}
-use Rattle.scx_explore_machines.specs.declared.bounds.Mode.TheVariants as mode
+use Rattle.scx_explore_bounds.specs.declared.bounds.Bounds.{Bounds}
+use Rattle.scx_explore_bounds.specs.declared.bounds.Mode.{Mode}
+use Rattle.scx_explore_bounds.specs.declared.bounds.Mode.TheVariants as mode
 use Rattle.scxsim_simulation.specs.Runs.{IsRun}
-use Rattle.scxsim_explore.specs.Machines.{IsFresh}
 use Rattle.scxsim_explore.specs.declared.limits.Lists.{Lists}
 use Rattle.scxsim_explore.specs.declared.limits.Limit.{Limit}
 use Rattle.scxsim_explore.specs.declared.limits.Limit.TheVariants as limit
@@ -50,7 +49,17 @@ pub record IsBoundsOf (l : Lists) (b : Bounds) : Type 0 where
   pub depth : IsDepth b.mode l.depth.now b.depth
   pub few : IsFew (few_word l) b.few
 
--- ---- limits: of several the first one counts, in the order in which they stand here
+-- ---- limits: of several the first one counts, in this order
+
+-- the line of a limit
+abbrev pub limit_line : Limit → List ℕ
+limit_line limit.Mode = codes "refused: word MODE: no such mode\n"
+limit_line limit.Depth = codes "refused: word DEPTH: out of range\n"
+limit_line limit.Few = codes "refused: word K: out of range\n"
+limit_line limit.Tasks = codes "refused: explore: too many tasks\n"
+limit_line limit.Cpus = codes "refused: explore: too many processors\n"
+limit_line limit.Maps = codes "refused: explore: maps too large\n"
+limit_line limit.Changes = codes "refused: explore: too many changes\n"
 
 -- MODE is the word of no mode
 abbrev pub IsNoMode : List ℕ → Type 0
@@ -64,7 +73,7 @@ IsNoDepth m word = (depth : ℕ) → ¬ IsDepth m word depth
 abbrev pub IsNoFew : Option (List ℕ) → Type 0
 IsNoFew word = (few : Option ℕ) → ¬ IsFew word few
 
--- which of the words is wrong, with none wrong before it
+-- the first wrong word has that limit
 abbrev pub IsPastWords : Lists → Limit → Type 0
 IsPastWords l limit.Mode = IsNoMode l.mode.now
 IsPastWords l limit.Depth = (m : Mode) × (l.mode.now ≡ mode_word m) × IsNoDepth m l.depth.now
@@ -76,13 +85,13 @@ IsPastWords l limit.Cpus = ⊥
 IsPastWords l limit.Maps = ⊥
 IsPastWords l limit.Changes = ⊥
 
--- the machine is small enough: so many tasks, processors and bytes of maps at most
+-- the machine is small enough: the most tasks, CPUs and bytes of maps
 pub record IsSmall (s : SimState) : Type 0 where
   pub tasks : length s.state.world.tasks ≤ 8
   pub cpus : length s.state.world.cpus ≤ 4
   pub maps : length (all_bytes s.state.maps) ≤ 4096
 
--- the machine is too large in that, and not in what stands before it
+-- the machine is past that limit of its size, and past none before it
 abbrev pub IsLarge : SimState → Limit → Type 0
 IsLarge s limit.Tasks = 8 < length s.state.world.tasks
 IsLarge s limit.Cpus = (length s.state.world.tasks ≤ 8) × (4 < length s.state.world.cpus)
@@ -121,18 +130,7 @@ IsPast policy workload l past =
     IsPastWords l past
     ⊎ ((b : Bounds) × IsBoundsOf l b × IsPastTexts policy workload b past)
 
--- the run of the texts is past no limit in lists within the bounds
+-- the workload and its machine are past no limit in lists within the bounds
 pub record IsWithin (b : Bounds) (w : WorkloadState) (s : SimState) : Type 0 where
   pub small : IsSmall s
   pub changes : ¬ HasManyChanges b w
-
--- ---- how far that is judged, which no public clause cites
-
--- the run of the texts has a machine that is small enough
-abbrev pub IsSmallRun : List ℕ → List ℕ → Type 0
-IsSmallRun policy workload = (s : SimState) × IsFresh policy workload s × IsSmall s
-
--- the run of the texts has a machine that is too large in that, or small enough
-abbrev pub IsJudged : List ℕ → List ℕ → Option Limit → Type 0
-IsJudged policy workload None = IsSmallRun policy workload
-IsJudged policy workload (Some past) = (s : SimState) × IsFresh policy workload s × IsLarge s past

@@ -1,45 +1,23 @@
 ghost use Rattle.std.specs.Prelude.{◌≡◌, ◌≢◌, ◌≤◌, ◌⊎◌, true, false, [], length, Some, None, Ok, IfSome, IfOk, IsSome, IsOk, IsErr};
-ghost use Rattle.scx_explore_machines.specs.Events.{most_events};
-ghost use Rattle.scxsim_explore.specs.Machines.{IsFresh};
+ghost use Rattle.scxsim_explore_lines.specs.Summary.{nones_of};
+ghost use Rattle.scx_explore_bounds.specs.Events.{most_events};
 ghost use Rattle.scx_explore.specs.Ends.{done_of};
-ghost use Rattle.scxsim_explore.specs.Telling.{CantBeLooked, HasNoChanges, IsGoneThrough, IsSure, IsSureBy, MayBeLooked, moves_of};
-ghost use Rattle.scxsim_explore.specs.Unfound.{concluded, nones_of};
+ghost use Rattle.scxsim_explore.specs.Telling.{CantBeLooked, HasNoChanges, IsGoneThrough, IsSure, MayBeLooked, moves_of};
+ghost use Rattle.scxsim_explore.specs.Unfound.{concluded};
 
 use crate::beginning::Begun;
-use crate::machines::{fresh, make_machines};
-use scx_explore::{Bounds, Course, End, Form, Mode, Search, Sort, form_of};
+use scx_explore::{Bounds, Course, End, Form, Mode, Search};
 use scx_explore_audit::{Moves, Table, none_in_lists};
-use scx_explore_path::Path;
+use scx_explore_findings::Path;
 use scx_load_workloads::Workload;
 use scx_sched::Sim;
+use scxsim_explore_lines::Unfound;
 use std::alloc::{AllocError, Global};
 
-/// The most machines that are made to go through states once more: one for each event of a list.
+/// The most machines of an audit: one for each event of a list.
 const MOST_MACHINES: usize = 8192;
 
-/// The texts of which machines are made.
-#[derive(Clone, Copy)]
-pub(crate) struct Texts<'a> {
-    pub(crate) policy: &'a str,
-    pub(crate) workload: &'a str,
-}
-
-/// What was found in none of the lists.
-#[derive(Clone, Copy)]
-pub(crate) struct Unfound<'a> {
-    /// The mode and the wakes and sleeps of the lists.
-    pub(crate) bounds: Bounds,
-    /// How many events or milliseconds they have at most; none where they may have any number of them.
-    pub(crate) reach: Option<usize>,
-    /// What wasn't found, but for tasks that are overtaken.
-    pub(crate) sorts: &'a [Sort],
-    /// Whether none of these was found.
-    pub(crate) is_overtaken: bool,
-    /// By which moves the states were gone through once more, if they were.
-    pub(crate) again: Option<Moves>,
-}
-
-/// What was found in none of the lists, after an audit of the states if there was one.
+/// The sorts that are in none of the lists, after an audit of the states if there was one.
 #[derive(Clone, Copy)]
 pub(crate) struct Audited<'a> {
     pub(crate) unfound: Unfound<'a>,
@@ -51,54 +29,28 @@ pub(crate) struct Audited<'a> {
 /// missing, or the audit has no room, the answer is only about lists as long as those that were searched.
 pub(crate) fn look_again<'a>(
     begun: &Begun,
-    texts: Texts<'_>,
+    form: Form,
     about: &Workload,
     course: &Course,
     end: End,
     unfound: Unfound<'a>,
 ) -> Audited<'a>
-    requires { IsFresh texts.policy.now texts.workload.now begun.now.machines }
     ensures bounds { result.unfound.bounds ≡ unfound.entry.bounds }
     ensures again { IfSome result.unfound.again
-        (IsGoneThrough texts.entry.policy.now about.now begun.now.machines
-        (nones_of result.unfound)) }
+        (IsGoneThrough form about.now begun.now.machines (nones_of result.unfound)) }
     ensures any { result.unfound.reach ≡ None → unfound.entry.reach ≡ None }
     ensures looked { result.unfound.reach ≡ None
         → IsSome result.unfound.again ⊎ CantBeLooked unfound.entry.bounds about.now }
     ensures some { IfSome result.unfound.reach (λ depth. (unfound.entry.reach ≡ Some depth)
         ⊎ ((unfound.entry.reach ≡ None) × (depth ≡ done_of course.now.last))) }
 {
-    match moves_within(unfound.bounds, about) {
-        Some(moves) => look_by(begun, texts, about, course, end, unfound, moves),
-        None => Audited {
+    let Some(moves) = moves_within(unfound.bounds, about) else {
+        return Audited {
             unfound: unlooked(unfound, unfound.reach),
             is_whole: true,
-        },
-    }
-}
-
-/// Audits the states by these moves.
-fn look_by<'a>(
-    begun: &Begun,
-    texts: Texts<'_>,
-    about: &Workload,
-    course: &Course,
-    end: End,
-    unfound: Unfound<'a>,
-    moves: Moves,
-) -> Audited<'a>
-    requires fresh { IsFresh texts.policy.now texts.workload.now begun.now.machines }
-    requires may { MayBeLooked unfound.bounds about.now moves }
-    ensures bounds { result.unfound.bounds ≡ unfound.entry.bounds }
-    ensures again { IfSome result.unfound.again
-        (IsGoneThrough texts.entry.policy.now about.now begun.now.machines
-        (nones_of result.unfound)) }
-    ensures any { result.unfound.reach ≡ None → unfound.entry.reach ≡ None }
-    ensures looked { result.unfound.reach ≡ None → IsSome result.unfound.again }
-    ensures some { IfSome result.unfound.reach (λ depth. (unfound.entry.reach ≡ Some depth)
-        ⊎ ((unfound.entry.reach ≡ None) × (depth ≡ done_of course.now.last))) }
-{
-    let closed = is_closed(begun, texts, about, course, end, moves, unfound);
+        };
+    };
+    let closed = is_closed(begun, form, about, course, end, moves, unfound);
     concluded(closed, course.done(), moves, unfound)
 }
 
@@ -150,7 +102,7 @@ fn looked<'a>(unfound: Unfound<'a>, moves: Moves) -> Unfound<'a>
     }
 }
 
-/// Whether each state is kept that was met.
+/// True if each state that was met is kept.
 fn is_kept_whole(search: &Search, end: End) -> bool {
     match end {
         End::Ended | End::At(_) => search.keeps_all(),
@@ -169,7 +121,7 @@ fn moves_within(bounds: Bounds, about: &Workload) -> Option<Moves>
     }
 }
 
-/// The moves of lists of the mode, where no weight changes in them.
+/// The moves of lists of the mode, if no weight changes in them.
 fn moves_in(mode: Mode, about: &Workload) -> Option<Moves>
     ensures of_mode { IfSome result (λ moves. moves_of mode ≡ Some moves) }
     ensures changes { IfSome result (λ moves. HasNoChanges mode about.now) }
@@ -202,29 +154,28 @@ fn event_moves(about: &Workload) -> Option<Moves>
 /// Memory runs out.
 fn is_closed(
     begun: &Begun,
-    texts: Texts<'_>,
+    form: Form,
     about: &Workload,
     course: &Course,
     end: End,
     moves: Moves,
     unfound: Unfound<'_>,
 ) -> Result<bool, AllocError>
-    requires { IsFresh texts.policy.now texts.workload.now begun.now.machines }
-    ensures { result ≡ Ok true → IsSure texts.entry.policy.now unfound.entry.bounds moves
+    ensures { result ≡ Ok true → IsSure form unfound.entry.bounds moves
         unfound.entry.reach unfound.entry.sorts.now begun.now.machines }
 {
     let count = machines_of(course, begun.machines.first());
     if unfound.sorts.is_empty() || count > MOST_MACHINES || !is_kept_whole(&begun.search, end) {
         return Ok(false);
     }
-    let mut path = path_in(begun.machines.alloc(), texts, count)?;
-    let closed = is_closed_along(begun, texts.policy, about, moves, unfound, &mut path);
+    let mut path = path_in(begun.machines.alloc(), begun.machines.first(), count)?;
+    let closed = is_closed_along(begun, form, about, moves, unfound, &mut path);
     drop(path);
     closed
 }
 
-/// How many machines it takes: one for each event of the longest list that was searched, or of the longest one of a
-/// state and one move more.
+/// The number of machines that it takes: one for each event of the longest list that was searched, or of the longest
+/// one of a state and one move more.
 fn machines_of(course: &Course, sim: &Sim) -> usize {
     let searched = Bounds {
         depth: course.done(),
@@ -233,57 +184,20 @@ fn machines_of(course: &Course, sim: &Sim) -> usize {
     Search::most_events(searched, sim)
 }
 
-/// A path along lists of so many events of the machine of the texts.
+/// A path from that machine along lists of at most `count` events.
 ///
 /// # Errors
 ///
 /// Memory runs out.
-fn path_in(alloc: Global, texts: Texts<'_>, count: usize) -> Result<Path, AllocError>
-    ensures { IfOk result
-        (λ path. IsFresh texts.entry.policy.now texts.entry.workload.now path.root) }
+fn path_in(alloc: Global, first: &Sim, count: usize) -> Result<Path, AllocError>
+    ensures { IfOk result (λ path. path.root ≡ first.now) }
 {
-    let Ok(sims) = make_machines(alloc, texts.policy, texts.workload, count) else {
-        return Err(AllocError);
-    };
-    match fresh(alloc, texts.policy, texts.workload) {
-        Ok(root) => Path::new(alloc, root, sims),
-        Err(refusal) => {
-            drop(refusal);
-            drop(sims);
-            Err(AllocError)
-        }
-    }
+    let root = first.duplicate(alloc)?;
+    Path::new(alloc, root, count)
 }
 
-/// The same as `is_closed`, with a path that begins in that machine, under that policy.
+/// As `is_closed`, along a path from the machine in which lists begin.
 fn is_closed_along(
-    begun: &Begun,
-    policy: &str,
-    about: &Workload,
-    moves: Moves,
-    unfound: Unfound<'_>,
-    path: &mut Path,
-) -> Result<bool, AllocError>
-    ensures { result ≡ Ok true → IsSure policy.now unfound.entry.bounds moves
-        unfound.entry.reach unfound.entry.sorts.now path.old.root }
-{
-    let form = form_of(begun.machines.alloc(), policy, unfound.bounds)?;
-    if !is_within(path, unfound.bounds) {
-        return Ok(false);
-    }
-    is_closed_by(begun, form, about, moves, unfound, path)
-}
-
-/// Whether the path is for no longer lists than there are within the bounds.
-fn is_within(path: &Path, bounds: Bounds) -> bool
-    ensures { result ≡ true → path.now.room ≤ most_events bounds
-        (length path.now.root.state.world.tasks) (length path.now.root.state.world.cpus) }
-{
-    path.room() <= Search::most_events(bounds, path.sim_at(0))
-}
-
-/// The same, with states that are written in that form.
-fn is_closed_by(
     begun: &Begun,
     form: Form,
     about: &Workload,
@@ -291,9 +205,12 @@ fn is_closed_by(
     unfound: Unfound<'_>,
     path: &mut Path,
 ) -> Result<bool, AllocError>
-    ensures { result ≡ Ok true → IsSureBy form moves unfound.entry.reach
-        unfound.entry.sorts.now path.old.root path.old.room }
+    ensures { result ≡ Ok true → IsSure form unfound.entry.bounds moves
+        unfound.entry.reach unfound.entry.sorts.now path.old.root }
 {
+    if !is_within(path, unfound.bounds) {
+        return Ok(false);
+    }
     let table = Table {
         form,
         numbers: begun.search.numbers(),
@@ -303,4 +220,12 @@ fn is_closed_by(
         limit: unfound.reach,
     };
     none_in_lists(begun.machines.alloc(), table, about.tasks(), path)
+}
+
+/// True if no list within the bounds is shorter than the path's room.
+fn is_within(path: &Path, bounds: Bounds) -> bool
+    ensures { result ≡ true → path.now.room ≤ most_events bounds
+        (length path.now.root.state.world.tasks) (length path.now.root.state.world.cpus) }
+{
+    path.room() <= Search::most_events(bounds, path.sim_at(0))
 }

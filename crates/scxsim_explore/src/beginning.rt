@@ -1,39 +1,38 @@
-ghost use Rattle.std.specs.Prelude.{◌≡◌, Ok, All, IfOk, IfErr};
-ghost use Rattle.scx_explore_path.specs.Path.{IsAs};
-ghost use Rattle.scx_load_workloads.specs.Reading.{workload_of};
+ghost use Rattle.std.specs.Prelude.{◌≡◌, IfOk, IfErr};
 ghost use Rattle.scxsim_commands.specs.declared.refusal.Refusal.TheVariants.{NoMemory};
+ghost use Rattle.scx_explore_bounds.specs.Forms.{IsFormOf};
 ghost use Rattle.scxsim_simulation.specs.Runs.{IsCause};
-ghost use Rattle.scxsim_explore.specs.Machines.{IsFresh};
+ghost use Rattle.scxsim_explore.specs.Beginning.{IsStart, IsStartOf};
 
-use crate::machines::{Machines, fresh, make_machines};
+use crate::limits::{Limit, limit_of};
+use crate::machines::Machines;
 use scx_explore::{Bounds, Form, Mode, SORTS, Search, Starts, form_of, starts_of};
 use scx_isa::CALLBACKS;
-use scx_load_workloads::{Workload, read_workload};
+use scx_load_workloads::Workload;
 use scx_sched::{Event, Sim};
 use scxsim_commands::Refusal;
+use scxsim_simulation::{Run, prepare};
 use std::alloc::{AllocError, Global};
 
-/// How much memory a search takes, in bytes.
+/// The memory of a search, in bytes.
 const ROOM: usize = 268_435_456;
 
-/// How many machines a search has at least.
+/// The least number of machines of a search.
 const LEAST_HANDS: usize = 4;
 
-/// How many more it has for its states, for each event or millisecond of a list behind the first one. Each is made of
-/// the texts, which takes as long as a hundred events do.
+/// The machines that a search has for its states, for each event or millisecond of a list after the first one.
 const HANDS: usize = 16;
 
-/// The longest lists of which all states on the way to one keep their machines, so that one without a machine is soon
-/// come to.
+/// The length of the longest lists along which each state keeps its machine.
 const SHORT: usize = 64;
 
-/// How many machines a search through such lists has at most.
+/// The most machines of a search through such lists.
 const MOST_OF_SHORT: usize = 128;
 
-/// How many one through longer lists has at most.
+/// The most machines of a search through longer lists.
 const MOST_HANDS: usize = 1024;
 
-/// How much is written of a search: what was found of each sort, the longest wait, and the most instructions of each
+/// The most lists that a search writes: one for each sort, for the longest wait, and for the most instructions of each
 /// callback.
 const MOST_TOLD: usize = SORTS.len() + 1 + CALLBACKS.len();
 
@@ -41,9 +40,9 @@ const MOST_TOLD: usize = SORTS.len() + 1 + CALLBACKS.len();
 #[derive(Drop)]
 pub(crate) struct Begun {
     pub(crate) search: Search,
-    /// What callbacks took before any event.
+    /// The instructions of callbacks before any event.
     pub(crate) starts: Starts,
-    /// Those that show what is found.
+    /// The machines that show what is found.
     pub(crate) machines: Machines,
     /// The list at hand.
     pub(crate) events: Vec<Event>,
@@ -51,53 +50,127 @@ pub(crate) struct Begun {
     pub(crate) is_whole: bool,
 }
 
-/// The workload of a text that was read before.
+/// The instructions of callbacks before any event, and the form in which states are kept.
+#[derive(Clone, Copy)]
+struct Setup {
+    starts: Starts,
+    form: Form,
+}
+
+/// A search, or why there is none.
+#[derive(Drop)]
+pub(crate) enum Start {
+    /// The workload or its machine is past that limit.
+    Past(Limit),
+    /// The search of a workload, with what is kept of a state.
+    Within {
+        begun: Begun,
+        about: Workload,
+        form: Form,
+    },
+}
+
+/// Reads both files, verifies the policy's programs, and begins the search within the bounds, unless the machine is past
+/// a limit. All memory of the search is taken here.
 ///
 /// # Errors
 ///
-/// Memory runs out.
-pub(crate) fn workload_in(alloc: Global, text: &str) -> Result<Workload, Refusal>
-    ensures read { IfOk result (λ workload. workload_of text.now ≡ Ok workload) }
-    ensures refused { IfErr result (λ refusal. refusal ≡ NoMemory) }
+/// The texts are refused, or memory runs out.
+pub(crate) fn start_of_texts(
+    alloc: Global,
+    policy: &str,
+    workload: &str,
+    bounds: Bounds,
+) -> Result<Start, Refusal>
+    ensures start { IfOk result (IsStart policy.now workload.now bounds) }
+    ensures refused { IfErr result (IsCause policy.now workload.now) }
 {
-    match read_workload(alloc, text) {
-        Ok(workload) => Ok(workload),
-        Err(error) => {
-            drop(error);
+    let run = prepare(alloc, policy, workload)?;
+    match setup_of(alloc, policy, &run.workload, bounds) {
+        Ok(setup) => start_of_run(alloc, run, setup, bounds),
+        Err(AllocError) => {
+            drop(run);
             Err(Refusal::NoMemory)
         }
     }
 }
 
-/// The search through lists within the bounds of the machine of the texts, which were read before. All of its memory
-/// is taken here.
+/// The instructions of callbacks before any event, and the form of states in lists within the bounds.
 ///
 /// # Errors
 ///
 /// Memory runs out.
-pub(crate) fn begin(
+fn setup_of(
     alloc: Global,
     policy: &str,
-    workload: &str,
     about: &Workload,
     bounds: Bounds,
-) -> Result<Begun, Refusal>
-    ensures fresh { IfOk result (λ begun. IsFresh policy.now workload.now begun.machines) }
-    ensures refused { IfErr result (IsCause policy.now workload.now) }
+) -> Result<Setup, AllocError>
+    ensures { IfOk result (λ setup. IsFormOf policy.now bounds setup.form) }
 {
     let starts = starts_of(alloc, policy, about)?;
-    let machines = Machines::new(alloc, policy, workload, told_by(bounds.mode))?;
-    match search_in(alloc, policy, workload, about, bounds, machines.first()) {
+    let form = form_of(alloc, policy, bounds)?;
+    Ok(Setup { starts, form })
+}
+
+/// Begins the search of a run, unless its machine is past a limit.
+///
+/// # Errors
+///
+/// Memory runs out.
+fn start_of_run(alloc: Global, run: Run, setup: Setup, bounds: Bounds) -> Result<Start, Refusal>
+    ensures start { IfOk result (IsStartOf run.workload run.sim setup.form bounds) }
+    ensures refused { IfErr result (λ refusal. refusal ≡ NoMemory) }
+{
+    let Run {
+        policy_name,
+        workload: about,
+        driver,
+        sim,
+    } = run;
+    drop(policy_name);
+    drop(driver);
+    if let Some(limit) = limit_of(&sim, &about, bounds) {
+        drop(sim);
+        drop(about);
+        return Ok(Start::Past(limit));
+    }
+    let form = setup.form;
+    match begin(alloc, &about, sim, setup, bounds) {
+        Ok(begun) => Ok(Start::Within { begun, about, form }),
+        Err(AllocError) => {
+            drop(about);
+            Err(Refusal::NoMemory)
+        }
+    }
+}
+
+/// Begins the search from that machine.
+///
+/// # Errors
+///
+/// Memory runs out.
+fn begin(
+    alloc: Global,
+    about: &Workload,
+    first: Sim,
+    setup: Setup,
+    bounds: Bounds,
+) -> Result<Begun, AllocError>
+    ensures { IfOk result (λ begun. begun.machines ≡ first) }
+{
+    let machines = Machines::new(alloc, first, told_by(bounds.mode))?;
+    match search_in(alloc, setup.form, bounds, machines.first(), about) {
         Ok((search, events)) => Ok(Begun {
             search,
-            starts,
+            starts: setup.starts,
             machines,
             events,
             is_whole: true,
         }),
-        Err(refusal) => {
+        Err(AllocError) => {
             drop(machines);
-            Err(refusal)
+            Err(AllocError)
         }
     }
 }
@@ -105,46 +178,36 @@ pub(crate) fn begin(
 /// The search, and room for a list of such a machine.
 fn search_in(
     alloc: Global,
-    policy: &str,
-    workload: &str,
-    about: &Workload,
+    form: Form,
     bounds: Bounds,
-    sim: &Sim,
-) -> Result<(Search, Vec<Event>), Refusal>
-    ensures { IfErr result (IsCause policy.now workload.now) }
-{
-    let events = Vec::with_capacity(alloc, Search::most_events(bounds, sim))?;
-    match search_of(alloc, policy, workload, about, bounds) {
+    first: &Sim,
+    about: &Workload,
+) -> Result<(Search, Vec<Event>), AllocError> {
+    let events = Vec::with_capacity(alloc, Search::most_events(bounds, first))?;
+    match search_of(alloc, form, bounds, first, about) {
         Ok(search) => Ok((search, events)),
-        Err(refusal) => {
+        Err(AllocError) => {
             drop(events);
-            Err(refusal)
+            Err(AllocError)
         }
     }
 }
 
+/// The search from the state of that machine.
 fn search_of(
     alloc: Global,
-    policy: &str,
-    workload: &str,
-    about: &Workload,
+    form: Form,
     bounds: Bounds,
-) -> Result<Search, Refusal>
-    ensures { IfErr result (IsCause policy.now workload.now) }
-{
-    let form = form_of(alloc, policy, bounds)?;
-    let sims = make_machines(alloc, policy, workload, hands(bounds.depth))?;
-    match fresh(alloc, policy, workload) {
-        Ok(root) => search_from(alloc, form, bounds, root, sims, about),
-        Err(refusal) => {
-            drop(sims);
-            Err(refusal)
-        }
-    }
+    first: &Sim,
+    about: &Workload,
+) -> Result<Search, AllocError> {
+    let root = first.duplicate(alloc)?;
+    let machines = hands(bounds.depth);
+    Search::new(alloc, form, bounds, root, machines, about, ROOM)
 }
 
-/// How many machines serve to tell what was found: one goes through a list once more from the beginning, and one to
-/// write its trace. Of milliseconds two more for each list see whether it is that of a workload file.
+/// The number of machines that tell what was found. One goes through a list once more, and one writes its trace. For
+/// each list of milliseconds two more look for its workload file.
 fn told_by(mode: Mode) -> usize {
     match mode {
         Mode::Events => 2,
@@ -152,7 +215,7 @@ fn told_by(mode: Mode) -> usize {
     }
 }
 
-/// How many machines a search of that depth has.
+/// The number of machines of a search of that depth.
 fn hands(depth: usize) -> usize {
     let most = if depth > SHORT {
         MOST_HANDS
@@ -164,22 +227,4 @@ fn hands(depth: usize) -> usize {
         .saturating_mul(HANDS)
         .saturating_add(LEAST_HANDS)
         .min(most)
-}
-
-/// The search from these machines, which are the same.
-fn search_from(
-    alloc: Global,
-    form: Form,
-    bounds: Bounds,
-    root: Sim,
-    sims: Vec<Sim>,
-    about: &Workload,
-) -> Result<Search, Refusal>
-    requires { All (IsAs root) sims.items }
-    ensures { IfErr result (λ refusal. refusal ≡ NoMemory) }
-{
-    match Search::new(alloc, form, bounds, root, sims, about, ROOM) {
-        Ok(search) => Ok(search),
-        Err(AllocError) => Err(Refusal::NoMemory),
-    }
 }

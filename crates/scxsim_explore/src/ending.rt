@@ -1,37 +1,31 @@
-ghost use Rattle.std.specs.Prelude.{◌≡◌, ◌≤◌, ◌++◌, true, IfOk, OnOk, OnErr, flat_map, length};
-ghost use Rattle.std.specs.Io.KnownBytes.{Appends};
-ghost use Rattle.scxsim_output.specs.Output.{HasFailed};
-ghost use Rattle.scxsim_explore.specs.Lists.{kept_line, none_lines, overtaken_line, nones_text};
-ghost use Rattle.scxsim_explore.specs.Machines.{IsFresh};
+ghost use Rattle.std.specs.Prelude.{◌≡◌, ◌≤◌, true, IfOk, OnOk, length};
+ghost use Rattle.scxsim_output.specs.Output.{Counts};
 ghost use Rattle.scx_explore.specs.Ends.{IsEndOf};
 ghost use Rattle.scxsim_explore.specs.Telling.{IsEnded};
-ghost use Rattle.scxsim_explore.specs.Unfound.{AreCounted, AreEndLines, misfit_of, nones_of, reach_of};
+ghost use Rattle.scxsim_explore.specs.Unfound.{misfit_of, reach_of};
 
-use crate::auditing::{Texts, Unfound, look_again};
+use crate::auditing::look_again;
 use crate::beginning::Begun;
-use crate::lines::{write_again, write_alike, write_level, write_misfit, write_none, write_starts};
-use scx_explore::{Bounds, Course, End, Level, Mode, SORTS, Search, Sort};
+use scx_explore::{Course, End, Form, Mode, SORTS, Search, Sort};
 use scx_load_workloads::Workload;
+use scxsim_explore_lines::{Reached, Unfound, write_summary};
 use scxsim_output::{Failed, Out};
 
-/// Writes what callbacks took before any event, how far the search came, and what it found in none of the lists. The
-/// answer is false if memory has run out for this, or for a workload file.
+/// Writes what callbacks took before any event, how far the search came, and what is in none of the lists. The answer
+/// is false if memory ran out for this, or for a workload file.
 pub(crate) fn write_end<W: Out>(
     begun: &Begun,
-    texts: Texts<'_>,
+    form: Form,
     about: &Workload,
     course: &Course,
     end: End,
     out: &mut W,
 ) -> Result<bool, Failed>
-    requires fresh { IsFresh texts.policy.now texts.workload.now begun.now.machines }
-    requires end { IsEndOf course.now.bounds course.now.last end }
-    ensures ok { OnOk result (IsEnded texts.entry.policy.now about.now begun.now.machines
+    requires { IsEndOf course.now.bounds course.now.last end }
+    ensures ok { OnOk result (IsEnded form about.now begun.now.machines
         course.now.bounds (W.contents out.old) (W.contents out.new)) }
     ensures memory { IfOk result (λ whole. whole ≡ true → begun.now.is_whole ≡ true) }
-    ensures ok_failures { OnOk result (W.failure_count out.new ≡ W.failure_count out.old) }
-    ensures err_failures { OnErr result
-        (HasFailed (W.failure_count out.old) (W.failure_count out.new)) }
+    ensures failures { Counts result (W.failure_count out.old) (W.failure_count out.new) }
 {
     let mut places = SORTS;
     let count = gather_unfound(&begun.search, course.bounds.mode, &mut places);
@@ -42,13 +36,18 @@ pub(crate) fn write_end<W: Out>(
         is_overtaken: !begun.search.has_found(Sort::Overtaken),
         again: None,
     };
-    let looked = look_again(begun, texts, about, course, end, unfound);
-    write_lines(begun, course, end, looked.unfound, out)?;
+    let looked = look_again(begun, form, about, course, end, unfound);
+    let reached = Reached {
+        are_tasks_alike: begun.search.are_tasks_alike(),
+        levels: course.levels(),
+        last: course.last,
+        misfit: misfit_of(end),
+    };
+    write_summary(begun.starts, reached, looked.unfound, out)?;
     Ok(looked.is_whole && begun.is_whole)
 }
 
-/// Where all lists of so many events or milliseconds were gone through, how many that is; none where it were those of
-/// any length.
+/// The greatest length of which all lists were tried; none if no list leads to a further state.
 fn reach_of(end: End) -> Option<usize>
     ensures { result ≡ reach_of end }
 {
@@ -58,7 +57,7 @@ fn reach_of(end: End) -> Option<usize>
     }
 }
 
-/// Gathers the sorts that weren't found, but for tasks that are overtaken, and answers how many they are.
+/// Gathers the sorts that weren't found, without overtaken tasks, and returns their number.
 fn gather_unfound(search: &Search, mode: Mode, places: &mut [Sort]) -> usize
     ensures { result ≤ length places.new }
 {
@@ -71,7 +70,7 @@ fn gather_unfound(search: &Search, mode: Mode, places: &mut [Sort]) -> usize
     count.min(places.len())
 }
 
-/// Puts it behind the first so many, where there is a place, and answers how many they are then.
+/// Puts a sort after the first `count`, if there is a place, and returns how many there are then.
 fn put(places: &mut [Sort], count: usize, sort: Sort) -> usize {
     match places.get_mut(count) {
         Some(place) => {
@@ -82,7 +81,7 @@ fn put(places: &mut [Sort], count: usize, sort: Sort) -> usize {
     }
 }
 
-/// Whether it is asked about in such lists: where clocks are free, each policy has stalls.
+/// True if lists of the mode are asked about that sort. If clocks are free, each policy has stalls.
 fn is_sought(sort: Sort, mode: Mode) -> bool {
     match sort {
         Sort::Fault(_) | Sort::Idle => true,
@@ -91,140 +90,12 @@ fn is_sought(sort: Sort, mode: Mode) -> bool {
     }
 }
 
-fn write_lines<W: Out>(
-    begun: &Begun,
-    course: &Course,
-    end: End,
-    unfound: Unfound<'_>,
-    out: &mut W,
-) -> Result<(), Failed>
-    ensures ok { OnOk result (AreEndLines (nones_of unfound.entry) course.now.last
-        (misfit_of end) (W.contents out.old) (W.contents out.new)) }
-    ensures ok_failures { OnOk result (W.failure_count out.new ≡ W.failure_count out.old) }
-    ensures err_failures { OnErr result
-        (HasFailed (W.failure_count out.old) (W.failure_count out.new)) }
-{
-    write_starts(begun.starts, out)?;
-    write_counts(&begun.search, unfound.bounds.mode, course, end, out)?;
-    write_nones(unfound, out)
-}
-
-/// Writes how many states and events each depth has.
-fn write_counts<W: Out>(
-    search: &Search,
-    mode: Mode,
-    course: &Course,
-    end: End,
-    out: &mut W,
-) -> Result<(), Failed>
-    ensures ok { OnOk result (AreCounted mode course.now.last (misfit_of end)
-        (W.contents out.old) (W.contents out.new)) }
-    ensures ok_failures { OnOk result (W.failure_count out.new ≡ W.failure_count out.old) }
-    ensures err_failures { OnErr result
-        (HasFailed (W.failure_count out.old) (W.failure_count out.new)) }
-{
-    write_alike(search.are_tasks_alike(), out)?;
-    write_depths(mode, course.levels(), course.last, out)?;
-    write_misfit(mode, misfit_of(end), out)
-}
-
-/// Which depth doesn't fit, if one doesn't.
+/// The depth that doesn't fit, if one is too large.
 fn misfit_of(end: End) -> Option<u64>
     ensures { result ≡ misfit_of end }
 {
     match end {
         End::Ended | End::At(_) => None,
         End::Full(depth) => Some((depth as u64).saturating_add(1)),
-    }
-}
-
-fn write_depths<W: Out>(
-    mode: Mode,
-    levels: &[Option<Level>],
-    last: Option<Level>,
-    out: &mut W,
-) -> Result<(), Failed>
-    ensures ok { OnOk result (Appends (W.contents out.old) (W.contents out.new)
-        (flat_map (kept_line mode) levels.now ++ kept_line mode last)) }
-    ensures ok_failures { OnOk result (W.failure_count out.new ≡ W.failure_count out.old) }
-    ensures err_failures { OnErr result
-        (HasFailed (W.failure_count out.old) (W.failure_count out.new)) }
-{
-    write_levels(mode, levels, out)?;
-    write_kept(mode, last, out)
-}
-
-#[tactic(auto, using(crate::proofs::Written::none_written))]
-fn write_levels<W: Out>(mode: Mode, levels: &[Option<Level>], out: &mut W) -> Result<(), Failed>
-    ensures ok { OnOk result (Appends (W.contents out.old) (W.contents out.new)
-        (flat_map (kept_line mode) levels.now)) }
-    ensures ok_failures { OnOk result (W.failure_count out.new ≡ W.failure_count out.old) }
-    ensures err_failures { OnErr result
-        (HasFailed (W.failure_count out.old) (W.failure_count out.new)) }
-{
-    for level in levels {
-        write_kept(mode, *level, out)?;
-    }
-    Ok(())
-}
-
-#[tactic(auto, using(crate::proofs::Written::none_written))]
-fn write_kept<W: Out>(mode: Mode, level: Option<Level>, out: &mut W) -> Result<(), Failed>
-    ensures ok { OnOk result (Appends (W.contents out.old) (W.contents out.new)
-        (kept_line mode level)) }
-    ensures ok_failures { OnOk result (W.failure_count out.new ≡ W.failure_count out.old) }
-    ensures err_failures { OnErr result
-        (HasFailed (W.failure_count out.old) (W.failure_count out.new)) }
-{
-    match level {
-        Some(level) => write_level(mode, level, out),
-        None => Ok(()),
-    }
-}
-
-/// Writes whether states were gone through once more, and a line for each sort.
-fn write_nones<W: Out>(unfound: Unfound<'_>, out: &mut W) -> Result<(), Failed>
-    ensures ok { OnOk result (Appends (W.contents out.old) (W.contents out.new)
-        (nones_text (nones_of unfound.entry))) }
-    ensures ok_failures { OnOk result (W.failure_count out.new ≡ W.failure_count out.old) }
-    ensures err_failures { OnErr result
-        (HasFailed (W.failure_count out.old) (W.failure_count out.new)) }
-{
-    write_again(unfound.again, out)?;
-    write_sorts(unfound.bounds, unfound.reach, unfound.sorts, out)?;
-    write_overtaken(unfound, out)
-}
-
-#[tactic(auto, using(crate::proofs::Written::none_written))]
-fn write_sorts<W: Out>(
-    bounds: Bounds,
-    reach: Option<usize>,
-    sorts: &[Sort],
-    out: &mut W,
-) -> Result<(), Failed>
-    ensures ok { OnOk result (Appends (W.contents out.old) (W.contents out.new)
-        (none_lines bounds reach sorts.now)) }
-    ensures ok_failures { OnOk result (W.failure_count out.new ≡ W.failure_count out.old) }
-    ensures err_failures { OnErr result
-        (HasFailed (W.failure_count out.old) (W.failure_count out.new)) }
-{
-    for sort in sorts {
-        write_none(bounds, reach, *sort, out)?;
-    }
-    Ok(())
-}
-
-#[tactic(auto, using(crate::proofs::Written::none_written))]
-fn write_overtaken<W: Out>(unfound: Unfound<'_>, out: &mut W) -> Result<(), Failed>
-    ensures ok { OnOk result (Appends (W.contents out.old) (W.contents out.new)
-        (overtaken_line unfound.entry.bounds unfound.entry.reach unfound.entry.is_overtaken)) }
-    ensures ok_failures { OnOk result (W.failure_count out.new ≡ W.failure_count out.old) }
-    ensures err_failures { OnErr result
-        (HasFailed (W.failure_count out.old) (W.failure_count out.new)) }
-{
-    if unfound.is_overtaken {
-        write_none(unfound.bounds, unfound.reach, Sort::Overtaken, out)
-    } else {
-        Ok(())
     }
 }

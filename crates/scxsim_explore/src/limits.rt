@@ -1,12 +1,11 @@
 ghost use Rattle.std.specs.Prelude.{◌≡◌, true, false, IfOk, IfErr, IfSome, Some, None, option_map};
-ghost use Rattle.scxsim_explore.specs.Lists.{limit_line};
-ghost use Rattle.scxsim_explore.specs.Words.{HasManyChanges, IsBoundsOf, IsDepth, IsFew, IsLarge, IsNoDepth, IsNoFew, IsNoMode, IsPastWords, IsSmall, mode_word, most_depth};
+ghost use Rattle.scxsim_explore.specs.Words.{HasManyChanges, IsBoundsOf, IsDepth, IsFew, IsLarge, IsNoDepth, IsNoFew, IsNoMode, IsPastIn, IsPastWords, IsSmall, IsWithin, limit_line, mode_word, most_depth};
 
 use scx_explore::{Bounds, MOST_CHANGES, MOST_TASKS, Mode};
 use scx_load_workloads::{Workload, numeral};
 use scx_sched::Sim;
 
-/// The most processors of a machine that is explored.
+/// The most CPUs of a machine that is explored.
 const MOST_CPUS: u32 = 4;
 
 /// The most bytes that a policy's maps may have.
@@ -21,18 +20,18 @@ const MOST_MS: u32 = 65_535;
 /// The most wakes and sleeps that a list may be bound to.
 const MOST_FEW: u32 = 64;
 
-/// The words that say which lists are gone through.
+/// The words that bound the lists of a search.
 #[derive(Clone, Copy)]
 pub struct Lists<'a> {
     /// `events`, `ms` or `workloads`.
     pub mode: &'a str,
-    /// How many events or milliseconds a list has at most.
+    /// The most events or milliseconds of a list.
     pub depth: &'a str,
-    /// How many wakes and sleeps, where that is bounded.
+    /// The most wakes and sleeps of a list, if that is bounded.
     pub few: Option<&'a str>,
 }
 
-/// Why nothing is explored.
+/// The reason why nothing is explored.
 #[derive(Clone, Copy)]
 pub(crate) enum Limit {
     /// MODE isn't one of the three.
@@ -43,7 +42,7 @@ pub(crate) enum Limit {
     Few,
     /// There are more than eight tasks.
     Tasks,
-    /// There are more than four processors.
+    /// There are more than four CPUs.
     Cpus,
     /// Maps have more than 4,096 bytes.
     Maps,
@@ -68,7 +67,7 @@ impl Limit {
     }
 }
 
-/// How far the search goes, as the words say it.
+/// The bounds that the words name.
 ///
 /// # Errors
 ///
@@ -149,9 +148,20 @@ fn few_in(word: &str) -> Result<Option<u8>, Limit>
     Ok(Some(few as u8))
 }
 
-/// Which limit the machine is past, if it is past one.
+/// The first limit that the machine or its workload is past, if there is one.
+pub(crate) fn limit_of(sim: &Sim, about: &Workload, bounds: Bounds) -> Option<Limit>
+    ensures within { result ≡ None → IsWithin bounds about.now sim.now }
+    ensures past { IfSome result (IsPastIn bounds about.now sim.now) }
+{
+    match size_limit(sim) {
+        Some(limit) => Some(limit),
+        None => changes_limit(about, bounds),
+    }
+}
+
+/// The limit of its size that the machine is past, if there is one.
 #[tactic(auto, using(crate::proofs::Named::is_small))]
-pub(crate) fn limit_of(sim: &Sim) -> Option<Limit>
+fn size_limit(sim: &Sim) -> Option<Limit>
     ensures small { result ≡ None → IsSmall sim.now }
     ensures large { IfSome result (IsLarge sim.now) }
 {
@@ -167,8 +177,21 @@ pub(crate) fn limit_of(sim: &Sim) -> Option<Limit>
     None
 }
 
-/// Whether the workload changes weights more often than such a search can try.
-pub(crate) fn is_past_changes(about: &Workload, bounds: Bounds) -> bool
+/// The limit on changes of weights, if the workload is past it.
+fn changes_limit(about: &Workload, bounds: Bounds) -> Option<Limit>
+    ensures few { result ≡ None → ¬ HasManyChanges bounds about.now }
+    ensures many { IfSome result (λ limit. (limit ≡ Limit.Changes)
+        × HasManyChanges bounds about.now) }
+{
+    if is_past_changes(about, bounds) {
+        Some(Limit::Changes)
+    } else {
+        None
+    }
+}
+
+/// True if the workload changes weights more often than such a search can try.
+fn is_past_changes(about: &Workload, bounds: Bounds) -> bool
     ensures few { result ≡ false → ¬ HasManyChanges bounds about.now }
     ensures many { result ≡ true → HasManyChanges bounds about.now }
 {

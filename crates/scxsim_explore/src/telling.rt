@@ -1,50 +1,45 @@
-ghost use Rattle.std.specs.Prelude.{◌≡◌, false, None, IfSome, IfOk, IsOk, IsErr, OnOk, OnErr, option_map, string_bytes};
+ghost use Rattle.std.specs.Prelude.{◌≡◌, false, None, IfSome, IfOk, IsOk, IsErr, OnOk, option_map, string_bytes};
 ghost use Rattle.scx_explore.specs.Ends.{IsEndOf};
 ghost use Rattle.scx_explore_workloads.specs.Files.{IsFileOf};
-ghost use Rattle.scxsim_output.specs.Output.{HasFailed};
-ghost use Rattle.scxsim_explore.specs.Machines.{IsFresh};
+ghost use Rattle.scxsim_output.specs.Output.{Counts};
 ghost use Rattle.scxsim_explore.specs.Telling.{HasFile, HasTold, IsTold};
 
-use crate::auditing::Texts;
 use crate::beginning::Begun;
 use crate::ending::write_end;
-use crate::lines::write_memory;
 use crate::machines::Machines;
-use crate::showing::{Told, write_if_shown};
+use crate::showing::write_if_shown;
 use crate::watcher::Watcher;
-use scx_explore::{Bounds, Course, End, Found, Mode, SORTS, Search};
+use scx_explore::{Bounds, Course, End, Form, Found, Mode, SORTS, Search};
 use scx_explore_workloads::workload_file;
 use scx_isa::CALLBACKS;
 use scx_load_workloads::Workload;
 use scx_sched::{Event, Sim};
+use scxsim_explore_lines::{Told, write_memory};
 use scxsim_output::{Failed, Out};
 use std::alloc::AllocError;
 
-/// After how many states a watcher is told of them.
+/// The number of states after which a watcher is told of them.
 const PACE: u64 = 1024;
 
-/// Writes what the search finds, as it does, and at its end how far it came. The texts are those of the machines. The
-/// answer is false if memory ran out meanwhile, which the last line says.
+/// Writes what the search finds, as it does, and at its end how far it came. The answer is false if memory ran out
+/// meanwhile, which the last line says.
 pub(crate) fn tell<V: Watcher, W: Out>(
     begun: &mut Begun,
-    texts: Texts<'_>,
+    form: Form,
     about: &Workload,
     bounds: Bounds,
     watcher: &mut V,
     out: &mut W,
 ) -> Result<bool, Failed>
-    requires { IsFresh texts.policy.now texts.workload.now begun.old.machines }
-    ensures ok { IfOk result (λ whole. IsTold texts.entry.policy.now about.now begun.old.machines
-        bounds whole (W.contents out.old) (W.contents out.new)) }
-    ensures ok_failures { OnOk result (W.failure_count out.new ≡ W.failure_count out.old) }
-    ensures err_failures { OnErr result
-        (HasFailed (W.failure_count out.old) (W.failure_count out.new)) }
+    ensures ok { IfOk result (λ whole. IsTold form about.now begun.old.machines bounds
+        whole (W.contents out.old) (W.contents out.new)) }
+    ensures failures { Counts result (W.failure_count out.old) (W.failure_count out.new) }
 {
     let mut course = Course::new(bounds);
     let end = search(begun, about, &mut course, watcher, out)?;
     watcher.pause();
     write_most(begun, about, bounds.mode, out)?;
-    let is_whole = write_end(begun, texts, about, &course, end, out)?;
+    let is_whole = write_end(begun, form, about, &course, end, out)?;
     write_memory(is_whole, out)
 }
 
@@ -61,9 +56,7 @@ fn search<V: Watcher, W: Out>(
     ensures end { IfOk result (IsEndOf course.new.bounds course.new.last) }
     ensures told { OnOk result (HasTold course.old.bounds.mode about.now begun.old.machines
         (W.contents out.old) (W.contents out.new)) }
-    ensures ok_failures { OnOk result (W.failure_count out.new ≡ W.failure_count out.old) }
-    ensures err_failures { OnErr result
-        (HasFailed (W.failure_count out.old) (W.failure_count out.new)) }
+    ensures failures { Counts result (W.failure_count out.old) (W.failure_count out.new) }
 {
     let mut shown = 0;
     for count in 0..u64::MAX {
@@ -78,14 +71,14 @@ fn search<V: Watcher, W: Out>(
     Ok(End::Full(course.done()))
 }
 
-/// Tells the watcher how far the search is, if that is due before the state of that number.
+/// Tells the watcher how far the search is, if that is due before the `count`th state.
 fn tell_watcher<V: Watcher>(count: u64, search: &Search, course: &Course, watcher: &mut V) {
     if count % PACE == 0 {
         watcher.watch(course.done(), search.states(), search.bytes());
     }
 }
 
-/// Writes what was found behind the first so many, and answers how many that makes.
+/// Writes what was found after the first `shown`, and returns how many were found.
 fn write_new<V: Watcher, W: Out>(
     begun: &mut Begun,
     about: &Workload,
@@ -97,16 +90,14 @@ fn write_new<V: Watcher, W: Out>(
     ensures same { begun.new.machines ≡ begun.old.machines }
     ensures told { OnOk result (HasTold mode about.now begun.old.machines
         (W.contents out.old) (W.contents out.new)) }
-    ensures ok_failures { OnOk result (W.failure_count out.new ≡ W.failure_count out.old) }
-    ensures err_failures { OnErr result
-        (HasFailed (W.failure_count out.old) (W.failure_count out.new)) }
+    ensures failures { Counts result (W.failure_count out.old) (W.failure_count out.new) }
 {
     for place in shown..SORTS.len() {
         let Some(found) = begun.search.found(place) else {
             return Ok(place);
         };
         watcher.pause();
-        write_one(begun, about, mode, found, out)?;
+        write_one(begun, about, mode, Some(found), out)?;
     }
     Ok(SORTS.len())
 }
@@ -121,37 +112,21 @@ fn write_most<W: Out>(
     ensures same { begun.new.machines ≡ begun.old.machines }
     ensures told { OnOk result (HasTold mode about.now begun.old.machines
         (W.contents out.old) (W.contents out.new)) }
-    ensures ok_failures { OnOk result (W.failure_count out.new ≡ W.failure_count out.old) }
-    ensures err_failures { OnErr result
-        (HasFailed (W.failure_count out.old) (W.failure_count out.new)) }
+    ensures failures { Counts result (W.failure_count out.old) (W.failure_count out.new) }
 {
     let wait = begun.search.longest_wait();
-    write_if_found(begun, about, mode, wait, out)?;
-    write_instructions(begun, about, mode, out)
-}
-
-fn write_instructions<W: Out>(
-    begun: &mut Begun,
-    about: &Workload,
-    mode: Mode,
-    out: &mut W,
-) -> Result<(), Failed>
-    ensures same { begun.new.machines ≡ begun.old.machines }
-    ensures told { OnOk result (HasTold mode about.now begun.old.machines
-        (W.contents out.old) (W.contents out.new)) }
-    ensures ok_failures { OnOk result (W.failure_count out.new ≡ W.failure_count out.old) }
-    ensures err_failures { OnErr result
-        (HasFailed (W.failure_count out.old) (W.failure_count out.new)) }
-{
+    write_one(begun, about, mode, wait, out)?;
     for callback in CALLBACKS {
         let most = begun.search.most_instructions(callback);
-        write_if_found(begun, about, mode, most, out)?;
+        write_one(begun, about, mode, most, out)?;
     }
     Ok(())
 }
 
+/// Writes what was found, its list and the list's trace, if something was found and machines that weren't searched show
+/// it too.
 #[tactic(auto, using(crate::proofs::Told::told_nothing))]
-fn write_if_found<W: Out>(
+fn write_one<W: Out>(
     begun: &mut Begun,
     about: &Workload,
     mode: Mode,
@@ -161,31 +136,11 @@ fn write_if_found<W: Out>(
     ensures same { begun.new.machines ≡ begun.old.machines }
     ensures told { OnOk result (HasTold mode about.now begun.old.machines
         (W.contents out.old) (W.contents out.new)) }
-    ensures ok_failures { OnOk result (W.failure_count out.new ≡ W.failure_count out.old) }
-    ensures err_failures { OnErr result
-        (HasFailed (W.failure_count out.old) (W.failure_count out.new)) }
+    ensures failures { Counts result (W.failure_count out.old) (W.failure_count out.new) }
 {
-    match found {
-        Some(found) => write_one(begun, about, mode, found, out),
-        None => Ok(()),
-    }
-}
-
-/// Writes what was found, with its list and the trace of that, if machines that weren't searched show it too.
-fn write_one<W: Out>(
-    begun: &mut Begun,
-    about: &Workload,
-    mode: Mode,
-    found: Found,
-    out: &mut W,
-) -> Result<(), Failed>
-    ensures same { begun.new.machines ≡ begun.old.machines }
-    ensures told { OnOk result (HasTold mode about.now begun.old.machines
-        (W.contents out.old) (W.contents out.new)) }
-    ensures ok_failures { OnOk result (W.failure_count out.new ≡ W.failure_count out.old) }
-    ensures err_failures { OnErr result
-        (HasFailed (W.failure_count out.old) (W.failure_count out.new)) }
-{
+    let Some(found) = found else {
+        return Ok(());
+    };
     begun.search.list_of(found, &mut begun.events);
     let events = begun.events.as_slice();
     let found_file = file_in(mode, &mut begun.machines, about, events);
@@ -226,7 +181,7 @@ fn text_of(file: &Option<String>) -> Option<&str>
     }
 }
 
-/// The workload file whose events begin with the list, where lists are of milliseconds and there is one.
+/// The workload file whose events begin with the list, if lists are of milliseconds and there is one.
 fn file_in(
     mode: Mode,
     machines: &mut Machines,
@@ -271,7 +226,7 @@ fn file_of(
     file
 }
 
-/// The same, with two machines, of which there are enough.
+/// Writes what is told with two of the machines, of which there are enough.
 #[tactic(auto, using(crate::proofs::Told::told_nothing))]
 fn write_with<W: Out>(
     machines: &mut Machines,
@@ -284,9 +239,7 @@ fn write_with<W: Out>(
     ensures same { machines.new ≡ machines.old }
     ensures told { OnOk result (HasTold told.entry.mode about.now machines.old
         (W.contents out.old) (W.contents out.new)) }
-    ensures ok_failures { OnOk result (W.failure_count out.new ≡ W.failure_count out.old) }
-    ensures err_failures { OnErr result
-        (HasFailed (W.failure_count out.old) (W.failure_count out.new)) }
+    ensures failures { Counts result (W.failure_count out.old) (W.failure_count out.new) }
 {
     let Some(first) = machines.take() else {
         return Ok(());
@@ -300,7 +253,7 @@ fn write_with<W: Out>(
     }
 }
 
-/// The same, with these machines, which are given back where nothing fails.
+/// Writes what is told with these machines, which are given back if nothing fails.
 fn write_by<W: Out>(
     machines: &mut Machines,
     first: Sim,
@@ -316,9 +269,7 @@ fn write_by<W: Out>(
     ensures same { machines.new ≡ machines.old }
     ensures told { OnOk result (HasTold told.entry.mode about.now machines.old
         (W.contents out.old) (W.contents out.new)) }
-    ensures ok_failures { OnOk result (W.failure_count out.new ≡ W.failure_count out.old) }
-    ensures err_failures { OnErr result
-        (HasFailed (W.failure_count out.old) (W.failure_count out.new)) }
+    ensures failures { Counts result (W.failure_count out.old) (W.failure_count out.new) }
 {
     let mut first = first;
     let mut second = second;

@@ -1,7 +1,7 @@
 /// Is told how far a search is.
 pub trait Watcher {
-    /// All lists of so many steps were gone through, and so many states were met, which take so many bytes.
-    /// Whatever is made of it, the search is the same.
+    /// All lists of `depth` steps were tried, and `states` states were met, which take that many bytes. Whatever is
+    /// made of it, the search is the same.
     fn watch(&mut self, depth: usize, states: usize, bytes: usize);
 
     /// Something is about to be written.

@@ -1,7 +1,9 @@
-use Rattle.scxsim_explore.proofs.Ended.{sure_of}
+use Rattle.std.proofs.Common.{◌∙◌, subst}
+use Rattle.scx_sched.specs.Sim.{SimState}
+use Rattle.scxsim_explore.specs.Telling.{IsSure}
 use Rattle.scxsim_explore.proofs.auditing.is_closed.Goals as goal
 
 pub returns : goal.returns
 returns c = λ is.
-    sure_of c.args.texts.policy.now c.args.texts.workload.now c.args.unfound.bounds c.args.moves c.args.unfound.reach c.args.unfound.sorts.now
-    c.in_ok-path.path.root c.args.begun.now.machines c.in_ok-path.ensures c.requires (c.is_closed_along-closed.ensures is)
+    let root = c.in_ok-path.ensures ∙ c.first-2.ensures in
+    subst (λ (s : SimState). IsSure c.args.form c.args.unfound.bounds c.args.moves c.args.unfound.reach c.args.unfound.sorts.now s) root (c.is_closed_along-closed.ensures is)

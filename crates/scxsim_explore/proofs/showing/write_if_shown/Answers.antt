@@ -1,7 +1,7 @@
 use Rattle.std.proofs.Common.{subst}
 use Rattle.scx_sched.specs.Sim.{SimState}
 use Rattle.scx_load_driver.specs.Runs.{stepped_all}
-use Rattle.scx_explore_path.specs.Path.{IsAs}
+use Rattle.scx_explore_findings.specs.Path.{IsAs}
 use Rattle.scxsim_explore.proofs.showing.write_if_shown.Goals as goal
 
 pub write_where-requires-clause-shown : goal.write_where-requires-clause-shown

@@ -9,4 +9,4 @@ returns-clause-ok g c =
     let found = rw c.new-course.ensures.bounds at c.in_ok-end.ensures.told in
     let most = rw c.search.ensures.same at c.in_ok-write_most.ensures.told in
     let end = rw (c.write_most.ensures.same, c.search.ensures.same, c.search.ensures.bounds, c.new-course.ensures.bounds) at c.in_ok-is_whole.ensures.ok in
-    told_and_end c.write_memory.result c.args.texts.policy.now w s c.args.bounds _ _ _ _ (told_more m w s _ _ _ found most) end c.write_memory.ensures.ok
+    told_and_end c.write_memory.result c.args.form w s c.args.bounds _ _ _ _ (told_more m w s _ _ _ found most) end c.write_memory.ensures.ok

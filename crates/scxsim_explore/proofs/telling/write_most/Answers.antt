@@ -1,7 +1,12 @@
-use Rattle.scxsim_explore.proofs.Told.{told_then}
+use Rattle.scxsim_explore.proofs.Told.{none_so_far, more_so_far}
 use Rattle.scxsim_explore.proofs.telling.write_most.Goals as goal
 
-pub returns-clause-told : goal.returns-clause-told
-returns-clause-told g c =
-    let rest = rw c.write_if_found.ensures.same at c.write_instructions.ensures.told in
-    told_then c.write_instructions.result c.args.mode c.args.about.now c.args.begun.now.machines _ _ _ c.in_ok-write_if_found.ensures.told rest
+pub loop-callback-init : goal.loop-callback-init
+loop-callback-init g c =
+    let one = c.in_ok-write_one.ensures in
+    more_so_far c.args.mode c.args.about.now c.args.begun.now.machines _ _ _ _ _ _ _ _ (none_so_far c.args.mode c.args.about.now c.args.begun.now.machines _ _) c.write_one.ensures.same one.told one.failures
+
+pub loop-callback-preserved : goal.loop-callback-preserved
+loop-callback-preserved g c =
+    let one = c.in_ok-write_one-2.ensures in
+    more_so_far c.args.mode c.args.about.now c.args.begun.now.machines _ _ _ _ _ _ _ _ c.loop-callback.invariant c.write_one-in-loop-callback.ensures.same one.told one.failures

@@ -1,11 +1,7 @@
-use Rattle.std.specs.Prelude.{◌≡◌}
-use Rattle.scxsim_explore.specs.Telling.{HasTold}
+use Rattle.scxsim_explore.proofs.Told.{IsSoFar}
 use Rattle.scxsim_explore.proofs.telling.write_new.Given as goal
 
--- what is written so far are lists that the machine shows, and no write has failed
+-- what is written so far are lists that the machine shows
 abbrev pub invariant-loop-place : goal.invariant-loop-place
-invariant-loop-place g l = record {
-  same : l.begun.machines ≡ l.initial.begun.machines;
-  told : HasTold l.mode l.about l.initial.begun.machines (g.W.Out.contents l.initial.out) (g.W.Out.contents l.out);
-  unfailed : g.W.Out.failure_count l.out ≡ g.W.Out.failure_count l.initial.out;
-}
+invariant-loop-place g l =
+    IsSoFar l.mode l.about l.initial.begun.machines l.begun.machines (g.W.Out.contents l.initial.out) (g.W.Out.contents l.out) (g.W.Out.failure_count l.initial.out) (g.W.Out.failure_count l.out)

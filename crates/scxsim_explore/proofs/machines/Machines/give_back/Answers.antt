@@ -1,7 +1,7 @@
 use Rattle.std.proofs.Common.{sym, subst}
 use Rattle.scx_sched.specs.Sim.{SimState}
-use Rattle.scx_explore_path.specs.Path.{IsAs}
-use Rattle.scxsim_explore.proofs.Same.{kept_all}
+use Rattle.scx_explore_findings.specs.Path.{IsAs}
+use Rattle.scxsim_explore.proofs.Copies.{kept_all}
 use Rattle.scxsim_explore.proofs.machines.Machines.give_back.Goals as goal
 
 pub invariant_of-self : goal.invariant_of-self

@@ -1,7 +1,0 @@
-use Rattle.scxsim_explore.proofs.Written.{two_on}
-use Rattle.scxsim_explore.proofs.lines.write_idle.Goals as goal
-
-pub returns-clause-ok : goal.returns-clause-ok
-returns-clause-ok g c =
-    let first = rw c.from.ensures at c.in_ok-write_number.ensures.ok in
-    two_on c.write_task.result _ _ _ _ _ first c.write_task.ensures.ok

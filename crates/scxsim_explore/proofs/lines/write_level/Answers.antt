@@ -1,7 +1,0 @@
-use Rattle.scxsim_explore.proofs.Written.{three_on}
-use Rattle.scxsim_explore.proofs.lines.write_level.Goals as goal
-
-pub returns-clause-ok : goal.returns-clause-ok
-returns-clause-ok g c =
-    let first = rw c.depth_unit.ensures at c.in_ok-write_number.ensures.ok in
-    three_on c.write_tried.result _ _ _ _ _ _ _ first c.in_ok-write_number-2.ensures.ok c.write_tried.ensures.ok

@@ -1,5 +1,0 @@
-use Rattle.scxsim_explore.proofs.Written.{two_on}
-use Rattle.scxsim_explore.proofs.lines.write_overtaken.Goals as goal
-
-pub returns-clause-ok : goal.returns-clause-ok
-returns-clause-ok g c = two_on c.write_task-2.result _ _ _ _ _ c.in_ok-write_task.ensures.ok c.write_task-2.ensures.ok

@@ -1,5 +1,0 @@
-use Rattle.scxsim_explore.proofs.Written.{two_on}
-use Rattle.scxsim_explore.proofs.lines.write_wait.Goals as goal
-
-pub returns-clause-ok : goal.returns-clause-ok
-returns-clause-ok g c = two_on c.write_task.result _ _ _ _ _ c.in_ok-write_number.ensures.ok c.write_task.ensures.ok

@@ -1,7 +1,0 @@
-use Rattle.scxsim_explore.proofs.Written.{two_on}
-use Rattle.scxsim_explore.proofs.lines.write_weight.Goals as goal
-
-pub returns-clause-ok : goal.returns-clause-ok
-returns-clause-ok g c =
-    let last = rw c.from.ensures at c.write_number.ensures.ok in
-    two_on c.write_number.result _ _ _ _ _ c.in_ok-write_group.ensures.ok last

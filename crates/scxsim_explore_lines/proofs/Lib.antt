@@ -1,0 +1,3 @@
+mod Rest
+mod Clocks
+mod Written

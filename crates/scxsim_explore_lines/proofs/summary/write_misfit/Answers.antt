@@ -1,0 +1,4 @@
+use Rattle.scxsim_explore_lines.proofs.summary.write_misfit.Goals as goal
+
+pub returns-in-Some-clause-ok : goal.returns-in-Some-clause-ok
+returns-in-Some-clause-ok g c = rw c.in-Some.is (rw c.misfit_end.ensures at c.write_number.ensures.ok)

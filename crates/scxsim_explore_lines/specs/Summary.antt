@@ -1,0 +1,180 @@
+-- The lines at the end of a search: instructions before any event, how far the search came, and what
+-- is in none of the lists.
+use Rattle.std.specs.Prelude.{ℕ, List, [], ◌++◌, Bool, true, false, Option, Some, None, codes, decimal, flat_map}
+use Rattle.scx_isa_semantics.specs.declared.callbacks.Callback.{Callback}
+use Rattle.scx_isa_semantics.specs.declared.callbacks.Callback.TheVariants.{Init, Enable}
+use Rattle.scx_sched_world.specs.Faults.{fault_number}
+use Rattle.scx_explore_findings.specs.declared.finding.Sort.{Sort}
+use Rattle.scx_explore_findings.specs.declared.finding.Sort.TheVariants as sort
+use Rattle.scx_explore_bounds.specs.declared.bounds.Bounds.{Bounds}
+use Rattle.scx_explore_bounds.specs.declared.bounds.Mode.{Mode}
+use Rattle.scx_explore_bounds.specs.declared.bounds.Mode.TheVariants as mode
+use Rattle.scx_explore_audit.specs.declared.table.Moves.{Moves}
+use Rattle.scx_explore_audit.specs.declared.table.Moves.TheVariants as moves
+use Rattle.scx_explore.specs.declared.progress.Level.{Level}
+use Rattle.scx_explore.specs.declared.starts.Starts.{Starts}
+use Rattle.scxsim_explore_lines.specs.declared.summary.Reached.{Reached}
+use Rattle.scxsim_explore_lines.specs.declared.summary.Unfound.{Unfound}
+use Rattle.scxsim_explore_lines.specs.Found.{most_words}
+
+-- ---- before any event
+
+-- a callback takes that many instructions before any event
+abbrev pub run_line : Callback → ℕ → List ℕ
+run_line b n = most_words b n ++ codes " before any event\n"
+
+-- the line of a callback, if it runs before any event
+abbrev pub start_line : Callback → Option ℕ → List ℕ
+start_line b None = []
+start_line b (Some n) = run_line b n
+
+-- the lines of both callbacks that may
+abbrev pub start_lines : Starts → List ℕ
+start_lines x = start_line Init x.init ++ start_line Enable x.enable
+
+-- ---- how far the search came
+
+-- tasks of a group may change places in a state, or may not
+abbrev pub alike_line : Bool → List ℕ
+alike_line false = []
+alike_line true = codes "tasks of a group count as alike\n"
+
+-- the unit of a depth, after its number
+abbrev pub depth_unit : Mode → List ℕ
+depth_unit mode.Events = codes ""
+depth_unit mode.Milliseconds = codes " ms"
+depth_unit mode.Workloads = codes " ms"
+
+-- how many events were tried and, where states had no room, how often such were gone through
+abbrev pub tried_words : ℕ → Option ℕ → List ℕ
+tried_words events None = codes " events " ++ decimal events ++ codes "\n"
+tried_words events (Some n) =
+    (codes " events " ++ decimal events ++ codes "") ++ (codes " again " ++ decimal n ++ codes "\n")
+
+-- how many states were met and events tried up to a depth
+abbrev pub level_line : Mode → Level → List ℕ
+level_line m l =
+    (codes "depth " ++ decimal l.depth ++ depth_unit m)
+    ++ (codes " states " ++ decimal l.states ++ codes "") ++ tried_words l.events l.again
+
+-- the line of a depth, if it is told
+abbrev pub kept_line : Mode → Option Level → List ℕ
+kept_line m None = []
+kept_line m (Some l) = level_line m l
+
+-- the end of the line of a depth that doesn't fit
+abbrev pub misfit_end : Mode → List ℕ
+misfit_end mode.Events = codes " does not fit\n"
+misfit_end mode.Milliseconds = codes " ms does not fit\n"
+misfit_end mode.Workloads = codes " ms does not fit\n"
+
+-- the depth that doesn't fit, if one is too large
+abbrev pub misfit_line : Mode → Option ℕ → List ℕ
+misfit_line m None = []
+misfit_line m (Some depth) = codes "depth " ++ decimal depth ++ misfit_end m
+
+-- How far a search came: whether tasks of a group count as alike, the depths before the last one that
+-- are told, the last one, and the depth that doesn't fit.
+pub record Depths : Type 0 where
+  pub alike : Bool
+  pub levels : List (Option Level)
+  pub last : Option Level
+  pub misfit : Option ℕ
+
+-- what a program keeps of it
+abbrev pub depths_of : Reached → Depths
+depths_of r = record {
+  alike = r.are_tasks_alike;
+  levels = r.levels.now;
+  last = r.last;
+  misfit = r.misfit;
+}
+
+-- the lines that say it
+abbrev pub depth_lines : Mode → Depths → List ℕ
+depth_lines m d =
+    alike_line d.alike ++ (flat_map (kept_line m) d.levels ++ kept_line m d.last)
+    ++ misfit_line m d.misfit
+
+-- ---- what is in none of the lists
+
+-- a sort
+abbrev pub sort_words : Sort → List ℕ
+sort_words (sort.Fault f) = codes "fault " ++ decimal (fault_number f) ++ codes ""
+sort_words sort.Stall = codes "stall"
+sort_words sort.Idle = codes "idle"
+sort_words sort.Overtaken = codes "overtaken"
+
+-- the words before a depth up to which there is none
+abbrev pub up_to : Mode → List ℕ
+up_to mode.Events = codes " none up to depth "
+up_to mode.Milliseconds = codes " none up to "
+up_to mode.Workloads = codes " none up to "
+
+-- lists of any length, or up to that many events or milliseconds
+abbrev pub reach_words : Mode → Option ℕ → List ℕ
+reach_words m None = codes " none in any list"
+reach_words m (Some depth) = up_to m ++ decimal depth ++ depth_unit m
+
+-- how many wakes and sleeps a list has at most, if that is bounded, and the line's end
+abbrev pub few_words : Option ℕ → List ℕ
+few_words None = codes "\n"
+few_words (Some few) = codes " with " ++ decimal few ++ codes " wakes and sleeps\n"
+
+-- the sort is in none of these lists
+abbrev pub none_line : Bounds → Option ℕ → Sort → List ℕ
+none_line b reach x = sort_words x ++ reach_words b.mode reach ++ few_words b.few
+
+-- a line for each sort
+abbrev pub none_lines : Bounds → Option ℕ → List Sort → List ℕ
+none_lines b reach sorts = flat_map (none_line b reach) sorts
+
+-- the line of overtaken tasks, if it is told
+abbrev pub overtaken_line : Bounds → Option ℕ → Bool → List ℕ
+overtaken_line b reach false = []
+overtaken_line b reach true = none_line b reach sort.Overtaken
+
+-- the states were audited, by such moves
+abbrev pub again_line : Option Moves → List ℕ
+again_line None = []
+again_line (Some moves.Events) = codes "gone through once more for faults and idle processors\n"
+again_line (Some moves.Milliseconds) =
+    codes "gone through once more for faults, stalls and idle processors\n"
+
+-- What is in none of the lists that were searched within these bounds: the most events or
+-- milliseconds of a list, where that is bounded; the sorts, whether overtaken tasks are one of them,
+-- and by which moves the states were audited, if they were.
+pub record Nones : Type 0 where
+  pub bounds : Bounds
+  pub reach : Option ℕ
+  pub sorts : List Sort
+  pub overtaken : Bool
+  pub again : Option Moves
+
+-- what a program keeps of it
+abbrev pub nones_of : Unfound → Nones
+nones_of u = record {
+  bounds = u.bounds;
+  reach = u.reach;
+  sorts = u.sorts.now;
+  overtaken = u.is_overtaken;
+  again = u.again;
+}
+
+-- the lines that say it
+abbrev pub nones_text : Nones → List ℕ
+nones_text n =
+    again_line n.again ++ none_lines n.bounds n.reach n.sorts
+    ++ overtaken_line n.bounds n.reach n.overtaken
+
+-- ---- all of it
+
+-- the summary: what callbacks take before any event, how far the search came, and what is in none of
+-- the lists
+abbrev pub summary_text : Starts → Depths → Nones → List ℕ
+summary_text x d n = start_lines x ++ depth_lines n.bounds.mode d ++ nones_text n
+
+-- memory ran out after the first line, so that lines are missing
+abbrev pub memory_line : Bool → List ℕ
+memory_line true = []
+memory_line false = codes "incomplete: out of memory\n"

@@ -1,0 +1,348 @@
+ghost use Rattle.std.specs.Prelude.{◌≡◌, ◌++◌, IfOk, OnOk, Some, flat_map};
+ghost use Rattle.std.specs.Io.KnownBytes.{Appends};
+ghost use Rattle.scxsim_output.specs.Output.{Counts};
+ghost use Rattle.scxsim_explore_lines.specs.Summary.{again_line, alike_line, depth_lines, depth_unit, depths_of, few_words, kept_line, level_line, memory_line, misfit_end, misfit_line, none_line, none_lines, nones_of, nones_text, overtaken_line, reach_words, run_line, sort_words, start_line, start_lines, summary_text, tried_words, up_to};
+
+use crate::found::write_most;
+use crate::pieces::{write_number, write_text};
+use scx_explore::{Bounds, Level, Mode, Sort, Starts};
+use scx_explore_audit::Moves;
+use scx_isa::Callback;
+use scxsim_output::{Failed, Out};
+
+/// The depths that a search reached.
+#[derive(Clone, Copy)]
+pub struct Reached<'a> {
+    /// True if tasks of a group may change places in a state.
+    pub are_tasks_alike: bool,
+    /// The depths before the last one that are told.
+    pub levels: &'a [Option<Level>],
+    /// The last depth of which all lists were tried.
+    pub last: Option<Level>,
+    /// The depth whose states don't fit, if one is too large.
+    pub misfit: Option<u64>,
+}
+
+/// The sorts of findings that are in none of the lists.
+#[derive(Clone, Copy)]
+pub struct Unfound<'a> {
+    /// The mode and the wakes and sleeps of the lists.
+    pub bounds: Bounds,
+    /// The most events or milliseconds of a list; none for lists of any length.
+    pub reach: Option<usize>,
+    /// The sorts, without overtaken tasks.
+    pub sorts: &'a [Sort],
+    /// True if overtaken tasks are one of them.
+    pub is_overtaken: bool,
+    /// The moves that an audit of the states tried, if there was one.
+    pub again: Option<Moves>,
+}
+
+/// Writes the lines at the end: instructions before any event, how far the search came, and what is in none of the
+/// lists.
+pub fn write_summary<W: Out>(
+    starts: Starts,
+    reached: Reached<'_>,
+    unfound: Unfound<'_>,
+    out: &mut W,
+) -> Result<(), Failed>
+    ensures ok { OnOk result (Appends (W.contents out.old) (W.contents out.new)
+        (summary_text starts (depths_of reached.entry) (nones_of unfound.entry))) }
+    ensures failures { Counts result (W.failure_count out.old) (W.failure_count out.new) }
+{
+    write_starts(starts, out)?;
+    write_reached(unfound.bounds.mode, reached, out)?;
+    write_nones(unfound, out)
+}
+
+/// Writes the most instructions of the callbacks that ran before any event.
+fn write_starts<W: Out>(starts: Starts, out: &mut W) -> Result<(), Failed>
+    ensures ok { OnOk result
+        (Appends (W.contents out.old) (W.contents out.new) (start_lines starts)) }
+    ensures failures { Counts result (W.failure_count out.old) (W.failure_count out.new) }
+{
+    write_start(Callback::Init, starts.init, out)?;
+    write_start(Callback::Enable, starts.enable, out)
+}
+
+/// Writes the most instructions of a callback before any event, if it ran.
+fn write_start<W: Out>(
+    callback: Callback,
+    instructions: Option<u64>,
+    out: &mut W,
+) -> Result<(), Failed>
+    ensures ok { OnOk result (Appends (W.contents out.old) (W.contents out.new)
+        (start_line callback instructions)) }
+    ensures failures { Counts result (W.failure_count out.old) (W.failure_count out.new) }
+{
+    match instructions {
+        Some(instructions) => write_run(callback, instructions, out),
+        None => write_text(out, ""),
+    }
+}
+
+fn write_run<W: Out>(callback: Callback, instructions: u64, out: &mut W) -> Result<(), Failed>
+    ensures ok { OnOk result (Appends (W.contents out.old) (W.contents out.new)
+        (run_line callback instructions)) }
+    ensures failures { Counts result (W.failure_count out.old) (W.failure_count out.new) }
+{
+    write_most(callback, instructions, out)?;
+    write_text(out, " before any event\n")
+}
+
+/// Writes how many states and events each depth has.
+fn write_reached<W: Out>(mode: Mode, reached: Reached<'_>, out: &mut W) -> Result<(), Failed>
+    ensures ok { OnOk result (Appends (W.contents out.old) (W.contents out.new)
+        (depth_lines mode (depths_of reached.entry))) }
+    ensures failures { Counts result (W.failure_count out.old) (W.failure_count out.new) }
+{
+    write_text(out, alike_text(reached.are_tasks_alike))?;
+    write_depths(mode, reached.levels, reached.last, out)?;
+    write_misfit(mode, reached.misfit, out)
+}
+
+/// The line on tasks that may change places, if they may.
+fn alike_text(are_alike: bool) -> &'static str
+    ensures { result.now ≡ alike_line are_alike }
+{
+    if are_alike {
+        "tasks of a group count as alike\n"
+    } else {
+        ""
+    }
+}
+
+/// Writes the lines of all depths that are told, the last one at the end.
+fn write_depths<W: Out>(
+    mode: Mode,
+    levels: &[Option<Level>],
+    last: Option<Level>,
+    out: &mut W,
+) -> Result<(), Failed>
+    ensures ok { OnOk result (Appends (W.contents out.old) (W.contents out.new)
+        (flat_map (kept_line mode) levels.now ++ kept_line mode last)) }
+    ensures failures { Counts result (W.failure_count out.old) (W.failure_count out.new) }
+{
+    write_levels(mode, levels, out)?;
+    write_kept(mode, last, out)
+}
+
+fn write_levels<W: Out>(mode: Mode, levels: &[Option<Level>], out: &mut W) -> Result<(), Failed>
+    ensures ok { OnOk result (Appends (W.contents out.old) (W.contents out.new)
+        (flat_map (kept_line mode) levels.now)) }
+    ensures failures { Counts result (W.failure_count out.old) (W.failure_count out.new) }
+{
+    for level in levels {
+        write_kept(mode, *level, out)?;
+    }
+    Ok(())
+}
+
+/// Writes the line of a depth, if it is told.
+fn write_kept<W: Out>(mode: Mode, level: Option<Level>, out: &mut W) -> Result<(), Failed>
+    ensures ok { OnOk result (Appends (W.contents out.old) (W.contents out.new)
+        (kept_line mode level)) }
+    ensures failures { Counts result (W.failure_count out.old) (W.failure_count out.new) }
+{
+    match level {
+        Some(level) => write_level(mode, level, out),
+        None => write_text(out, ""),
+    }
+}
+
+/// Writes how many states were met and events tried up to a depth.
+fn write_level<W: Out>(mode: Mode, level: Level, out: &mut W) -> Result<(), Failed>
+    ensures ok { OnOk result (Appends (W.contents out.old) (W.contents out.new)
+        (level_line mode level)) }
+    ensures failures { Counts result (W.failure_count out.old) (W.failure_count out.new) }
+{
+    write_number(out, "depth ", level.depth as u64, depth_unit(mode))?;
+    write_number(out, " states ", level.states as u64, "")?;
+    write_tried(level.events, level.again, out)
+}
+
+/// Writes how many events were tried and, if states had no room, how often such were gone through.
+fn write_tried<W: Out>(events: u64, again: Option<u64>, out: &mut W) -> Result<(), Failed>
+    ensures ok { OnOk result (Appends (W.contents out.old) (W.contents out.new)
+        (tried_words events again)) }
+    ensures failures { Counts result (W.failure_count out.old) (W.failure_count out.new) }
+{
+    match again {
+        Some(again) => write_tried_again(events, again, out),
+        None => write_number(out, " events ", events, "\n"),
+    }
+}
+
+fn write_tried_again<W: Out>(events: u64, again: u64, out: &mut W) -> Result<(), Failed>
+    ensures ok { OnOk result (Appends (W.contents out.old) (W.contents out.new)
+        (tried_words events (Some again))) }
+    ensures failures { Counts result (W.failure_count out.old) (W.failure_count out.new) }
+{
+    write_number(out, " events ", events, "")?;
+    write_number(out, " again ", again, "\n")
+}
+
+/// The unit of a depth, after its number.
+fn depth_unit(mode: Mode) -> &'static str
+    ensures { result.now ≡ depth_unit mode }
+{
+    match mode {
+        Mode::Events => "",
+        Mode::Milliseconds | Mode::Workloads => " ms",
+    }
+}
+
+/// Writes which depth doesn't fit, if one is too large.
+fn write_misfit<W: Out>(mode: Mode, depth: Option<u64>, out: &mut W) -> Result<(), Failed>
+    ensures ok { OnOk result (Appends (W.contents out.old) (W.contents out.new)
+        (misfit_line mode depth)) }
+    ensures failures { Counts result (W.failure_count out.old) (W.failure_count out.new) }
+{
+    match depth {
+        Some(depth) => write_number(out, "depth ", depth, misfit_end(mode)),
+        None => write_text(out, ""),
+    }
+}
+
+/// The end of the line of a depth that doesn't fit.
+fn misfit_end(mode: Mode) -> &'static str
+    ensures { result.now ≡ misfit_end mode }
+{
+    match mode {
+        Mode::Events => " does not fit\n",
+        Mode::Milliseconds | Mode::Workloads => " ms does not fit\n",
+    }
+}
+
+/// Writes whether the states were audited, and a line for each sort.
+fn write_nones<W: Out>(unfound: Unfound<'_>, out: &mut W) -> Result<(), Failed>
+    ensures ok { OnOk result (Appends (W.contents out.old) (W.contents out.new)
+        (nones_text (nones_of unfound.entry))) }
+    ensures failures { Counts result (W.failure_count out.old) (W.failure_count out.new) }
+{
+    write_text(out, again_text(unfound.again))?;
+    write_sorts(unfound.bounds, unfound.reach, unfound.sorts, out)?;
+    write_overtaken(unfound, out)
+}
+
+/// The line on an audit of the states, if there was one.
+fn again_text(again: Option<Moves>) -> &'static str
+    ensures { result.now ≡ again_line again }
+{
+    match again {
+        Some(Moves::Events) => "gone through once more for faults and idle processors\n",
+        Some(Moves::Milliseconds) => {
+            "gone through once more for faults, stalls and idle processors\n"
+        }
+        None => "",
+    }
+}
+
+fn write_sorts<W: Out>(
+    bounds: Bounds,
+    reach: Option<usize>,
+    sorts: &[Sort],
+    out: &mut W,
+) -> Result<(), Failed>
+    ensures ok { OnOk result (Appends (W.contents out.old) (W.contents out.new)
+        (none_lines bounds reach sorts.now)) }
+    ensures failures { Counts result (W.failure_count out.old) (W.failure_count out.new) }
+{
+    for sort in sorts {
+        write_none(bounds, reach, *sort, out)?;
+    }
+    Ok(())
+}
+
+fn write_overtaken<W: Out>(unfound: Unfound<'_>, out: &mut W) -> Result<(), Failed>
+    ensures ok { OnOk result (Appends (W.contents out.old) (W.contents out.new)
+        (overtaken_line unfound.entry.bounds unfound.entry.reach unfound.entry.is_overtaken)) }
+    ensures failures { Counts result (W.failure_count out.old) (W.failure_count out.new) }
+{
+    if unfound.is_overtaken {
+        write_none(unfound.bounds, unfound.reach, Sort::Overtaken, out)
+    } else {
+        write_text(out, "")
+    }
+}
+
+/// Writes that a sort is in none of these lists: in none of any length, or in none up to a depth.
+fn write_none<W: Out>(
+    bounds: Bounds,
+    reach: Option<usize>,
+    sort: Sort,
+    out: &mut W,
+) -> Result<(), Failed>
+    ensures ok { OnOk result (Appends (W.contents out.old) (W.contents out.new)
+        (none_line bounds reach sort)) }
+    ensures failures { Counts result (W.failure_count out.old) (W.failure_count out.new) }
+{
+    write_sort(sort, out)?;
+    write_reach(bounds.mode, reach, out)?;
+    write_few(bounds.few, out)
+}
+
+fn write_sort<W: Out>(sort: Sort, out: &mut W) -> Result<(), Failed>
+    ensures ok { OnOk result (Appends (W.contents out.old) (W.contents out.new) (sort_words sort)) }
+    ensures failures { Counts result (W.failure_count out.old) (W.failure_count out.new) }
+{
+    match sort {
+        Sort::Fault(fault) => write_number(out, "fault ", u64::from(fault.number()), ""),
+        Sort::Stall => write_text(out, "stall"),
+        Sort::Idle => write_text(out, "idle"),
+        Sort::Overtaken => write_text(out, "overtaken"),
+    }
+}
+
+fn write_reach<W: Out>(mode: Mode, reach: Option<usize>, out: &mut W) -> Result<(), Failed>
+    ensures ok { OnOk result (Appends (W.contents out.old) (W.contents out.new)
+        (reach_words mode reach)) }
+    ensures failures { Counts result (W.failure_count out.old) (W.failure_count out.new) }
+{
+    match reach {
+        Some(depth) => write_number(out, up_to(mode), depth as u64, depth_unit(mode)),
+        None => write_text(out, " none in any list"),
+    }
+}
+
+/// The words before a depth up to which there is none.
+fn up_to(mode: Mode) -> &'static str
+    ensures { result.now ≡ up_to mode }
+{
+    match mode {
+        Mode::Events => " none up to depth ",
+        Mode::Milliseconds | Mode::Workloads => " none up to ",
+    }
+}
+
+fn write_few<W: Out>(few: Option<u8>, out: &mut W) -> Result<(), Failed>
+    ensures ok { OnOk result (Appends (W.contents out.old) (W.contents out.new) (few_words few)) }
+    ensures failures { Counts result (W.failure_count out.old) (W.failure_count out.new) }
+{
+    match few {
+        Some(few) => write_number(out, " with ", u64::from(few), " wakes and sleeps\n"),
+        None => write_text(out, "\n"),
+    }
+}
+
+/// Writes that memory ran out, unless all is whole. The answer is the flag.
+pub fn write_memory<W: Out>(is_whole: bool, out: &mut W) -> Result<bool, Failed>
+    ensures ok { IfOk result (λ whole.
+        Appends (W.contents out.old) (W.contents out.new) (memory_line whole)) }
+    ensures whole { IfOk result (λ whole. whole ≡ is_whole) }
+    ensures failures { Counts result (W.failure_count out.old) (W.failure_count out.new) }
+{
+    write_text(out, memory_text(is_whole))?;
+    Ok(is_whole)
+}
+
+/// The last line, if memory ran out.
+fn memory_text(is_whole: bool) -> &'static str
+    ensures { result.now ≡ memory_line is_whole }
+{
+    if is_whole {
+        ""
+    } else {
+        "incomplete: out of memory\n"
+    }
+}
