@@ -1,22 +1,21 @@
 use crate::console::Console;
-use crate::ending::{Ending, end};
-use crate::files::{RunFiles, Unread, files_of, hint_of_files};
+use crate::ending::{Ending, end, end_unread};
+use crate::files::{RunFiles, files_of, hint_of_files};
 use crate::remarks::{named, remark_of_run};
 use scxsim_charts::{Span, gantt, title};
 use scxsim_commands::{Fault, Hint, Out, Refusal, hint_of_refusal, text};
-use scxsim_drawing::picture;
 use scxsim_page::{Paths, view};
-use scxsim_pictures::timeline;
-use scxsim_progress::Progress;
+use scxsim_pictures::{picture, timeline};
+use scxsim_remarks::Progress;
 use scxsim_simulation::{Listener, replay, report, simulate};
 use scxsim_steps::step;
 use scxsim_story::story;
 use scxsim_tables::{replay_csv, stats, stats_csv};
 use scxsim_why::why;
-use scxsim_words::{Account, Course, Part, Replay, Summary};
+use scxsim_words::{Account, Part};
 use std::alloc::Global;
 
-/// What names a run: the paths of its files, of which the second is a workload or a file of events, and the
+/// The words of a run: the paths of its files, of which the second is a workload or a file of events, and the
 /// words of a part, of a task or of a millisecond of it.
 #[derive(Clone, Copy)]
 pub(crate) struct RunWords<'a> {
@@ -26,22 +25,17 @@ pub(crate) struct RunWords<'a> {
     pub(crate) subject: Option<&'a str>,
 }
 
-/// The texts of the files of a run, and what names it.
-#[derive(Clone, Copy)]
-struct RunTexts<'a> {
-    policy: &'a str,
-    workload: &'a str,
-    words: RunWords<'a>,
-}
-
 /// Writes an account of the run of these files, and says meanwhile on standard error how far it is.
-pub(crate) fn tell<'a, R: AllocGlobal + Console, W: Out>(
+pub(crate) fn tell<R: AllocGlobal + Console, W: Out>(
     rt: &R,
     account: Account,
-    words: RunWords<'a>,
+    words: RunWords<'_>,
     out: &mut W,
-) -> Result<Ending, Unread<'a>> {
-    let files = files_of(rt, words.policy, words.workload)?;
+) -> Ending {
+    let files = match files_of(rt, words.policy, words.workload) {
+        Ok(files) => files,
+        Err(unread) => return end_unread(unread, out),
+    };
     let mut progress = Progress::new(rt, is_progress_seen(rt, account));
     let outcome = write_account(rt.alloc(), account, &files, words, &mut progress, out);
     let ejected = if is_ejection_told(account) {
@@ -58,10 +52,10 @@ pub(crate) fn tell<'a, R: AllocGlobal + Console, W: Out>(
         named(words.workload, &files.workload),
     );
     let hint = hint_of_outcome(&outcome, &files);
-    Ok(end(outcome, hint, remark, out))
+    end(outcome, hint, remark, out)
 }
 
-/// What may help where the run was refused.
+/// A hint at what may help, where the run was refused.
 pub(crate) fn hint_of_outcome(outcome: &Result<bool, Fault>, files: &RunFiles) -> Option<Hint> {
     match outcome {
         Err(Fault::Refused(refusal)) => match hint_of_refusal(refusal) {
@@ -72,26 +66,27 @@ pub(crate) fn hint_of_outcome(outcome: &Result<bool, Fault>, files: &RunFiles) -
     }
 }
 
-/// Whether a line on standard error is seen, and tears nothing. What is written as the run goes would be torn
-/// by it on the same terminal, and says itself how far the run is.
+/// True if a line on standard error is seen, and tears nothing. Output that is written as the run goes would be
+/// torn by it on the same terminal, and shows the progress itself.
 fn is_progress_seen<R: Console>(rt: &R, account: Account) -> bool {
-    match account {
-        Account::Course(_) | Account::Replay(Replay::Trace) => {
-            rt.shows_errors() && !rt.shows_output()
-        }
-        Account::Summary(_) | Account::Replay(Replay::StatsCsv) => rt.shows_errors(),
-    }
+    rt.shows_errors() && !(is_written_meanwhile(account) && rt.shows_output())
 }
 
-/// Whether standard error says where the fault came for which the policy was ejected: where the output says no more
-/// than which it was.
-fn is_ejection_told(account: Account) -> bool {
+/// True if the account is written as the run goes, not at its end.
+fn is_written_meanwhile(account: Account) -> bool {
     matches!(
         account,
-        Account::Course(Course::Trace) | Account::Summary(Summary::Report)
+        Account::Trace | Account::Timeline | Account::View | Account::Replay
     )
 }
 
+/// True if standard error says where the fault came for which the policy was ejected: if the output only names
+/// the fault.
+fn is_ejection_told(account: Account) -> bool {
+    matches!(account, Account::Trace | Account::Report)
+}
+
+/// Writes an account of the run of these files, of which the second is a workload or a file of events.
 fn write_account<L: Listener, W: Out>(
     alloc: Global,
     account: Account,
@@ -100,166 +95,41 @@ fn write_account<L: Listener, W: Out>(
     listener: &mut L,
     out: &mut W,
 ) -> Result<bool, Fault> {
-    let texts = texts_of(files, words)?;
-    match account {
-        Account::Course(course) => write_course(alloc, course, texts, listener, out),
-        Account::Summary(summary) => write_summary(alloc, summary, texts, listener, out),
-        Account::Replay(what) => write_replay(alloc, what, texts, listener, out),
-    }
-}
-
-fn texts_of<'a>(files: &'a RunFiles, words: RunWords<'a>) -> Result<RunTexts<'a>, Fault> {
     let policy = text(files.policy.as_slice())?;
-    let workload = text(files.workload.as_slice())?;
-    Ok(RunTexts {
-        policy,
-        workload,
-        words,
-    })
-}
-
-fn write_course<L: Listener, W: Out>(
-    alloc: Global,
-    course: Course,
-    texts: RunTexts<'_>,
-    listener: &mut L,
-    out: &mut W,
-) -> Result<bool, Fault> {
-    let RunTexts {
-        policy,
-        workload,
-        ..
-    } = texts;
-    match course {
-        Course::Trace => simulate(alloc, policy, workload, listener, out),
-        Course::Timeline => timeline(alloc, policy, workload, listener, out),
-        Course::View => write_view(alloc, texts, listener, out),
+    let second = text(files.workload.as_slice())?;
+    let subject = words.subject.unwrap_or("");
+    let span = span_of(words.part);
+    match account {
+        Account::Trace => simulate(alloc, policy, second, listener, out),
+        Account::Timeline => timeline(alloc, policy, second, listener, out),
+        Account::View => {
+            let paths = paths_of(words);
+            view(alloc, paths, policy, second, span, listener, out)
+        }
+        Account::Report => report(alloc, policy, second, listener, out),
+        Account::Stats => stats(alloc, policy, second, listener, out),
+        Account::StatsCsv => stats_csv(alloc, policy, second, listener, out),
+        Account::Why => why(alloc, policy, second, listener, out),
+        Account::Story => story(alloc, policy, second, subject, listener, out),
+        Account::Step => step(alloc, policy, second, subject, listener, out),
+        Account::Picture => {
+            let title = title_of(alloc, words)?;
+            picture(alloc, title.as_str(), policy, second, span, listener, out)
+        }
+        Account::Gantt => {
+            let title = title_of(alloc, words)?;
+            gantt(alloc, title.as_str(), policy, second, span, listener, out)
+        }
+        Account::Replay => replay(alloc, policy, second, listener, out),
+        Account::ReplayCsv => replay_csv(alloc, policy, second, listener, out),
     }
 }
 
-fn write_summary<L: Listener, W: Out>(
-    alloc: Global,
-    summary: Summary,
-    texts: RunTexts<'_>,
-    listener: &mut L,
-    out: &mut W,
-) -> Result<bool, Fault> {
-    let RunTexts {
-        policy,
-        workload,
-        ..
-    } = texts;
-    match summary {
-        Summary::Report => report(alloc, policy, workload, listener, out),
-        Summary::Stats => stats(alloc, policy, workload, listener, out),
-        Summary::StatsCsv => stats_csv(alloc, policy, workload, listener, out),
-        Summary::Why => why(alloc, policy, workload, listener, out),
-        Summary::Story => write_story(alloc, texts, listener, out),
-        Summary::Step => write_steps(alloc, texts, listener, out),
-        Summary::Picture => write_picture(alloc, texts, listener, out),
-        Summary::Gantt => write_chart(alloc, texts, listener, out),
-    }
-}
-
-fn write_story<L: Listener, W: Out>(
-    alloc: Global,
-    texts: RunTexts<'_>,
-    listener: &mut L,
-    out: &mut W,
-) -> Result<bool, Fault> {
-    let RunTexts {
-        policy,
-        workload,
-        words,
-    } = texts;
-    let task = words.subject.unwrap_or("");
-    story(alloc, policy, workload, task, listener, out)
-}
-
-fn write_steps<L: Listener, W: Out>(
-    alloc: Global,
-    texts: RunTexts<'_>,
-    listener: &mut L,
-    out: &mut W,
-) -> Result<bool, Fault> {
-    let RunTexts {
-        policy,
-        workload,
-        words,
-    } = texts;
-    let ms = words.subject.unwrap_or("");
-    step(alloc, policy, workload, ms, listener, out)
-}
-
-/// Of a run of a file of events, which stands in the place of a workload.
-fn write_replay<L: Listener, W: Out>(
-    alloc: Global,
-    what: Replay,
-    texts: RunTexts<'_>,
-    listener: &mut L,
-    out: &mut W,
-) -> Result<bool, Fault> {
-    let RunTexts {
-        policy,
-        workload: events,
-        ..
-    } = texts;
-    match what {
-        Replay::Trace => replay(alloc, policy, events, listener, out),
-        Replay::StatsCsv => replay_csv(alloc, policy, events, listener, out),
-    }
-}
-
-/// The page of a run, or of a part of it.
-fn write_view<L: Listener, W: Out>(
-    alloc: Global,
-    texts: RunTexts<'_>,
-    listener: &mut L,
-    out: &mut W,
-) -> Result<bool, Fault> {
-    let RunTexts {
-        policy,
-        workload,
-        words,
-    } = texts;
-    let paths = Paths {
+fn paths_of<'a>(words: RunWords<'a>) -> Paths<'a> {
+    Paths {
         policy: words.policy,
         workload: words.workload,
-    };
-    let span = span_of(words.part);
-    view(alloc, paths, policy, workload, span, listener, out)
-}
-
-fn write_picture<L: Listener, W: Out>(
-    alloc: Global,
-    texts: RunTexts<'_>,
-    listener: &mut L,
-    out: &mut W,
-) -> Result<bool, Fault> {
-    let RunTexts {
-        policy,
-        workload,
-        words,
-    } = texts;
-    let title = title_of(alloc, words)?;
-    let span = span_of(words.part);
-    picture(alloc, title.as_str(), policy, workload, span, listener, out)
-}
-
-fn write_chart<L: Listener, W: Out>(
-    alloc: Global,
-    texts: RunTexts<'_>,
-    listener: &mut L,
-    out: &mut W,
-) -> Result<bool, Fault> {
-    let RunTexts {
-        policy,
-        workload,
-        words,
-    } = texts;
-    let title = title_of(alloc, words)?;
-    let span = span_of(words.part);
-    gantt(alloc, title.as_str(), policy, workload, span, listener, out)
+    }
 }
 
 fn title_of(alloc: Global, words: RunWords<'_>) -> Result<String, Refusal> {

@@ -1,5 +1,5 @@
-//! The command `cases`: runs the commands that stand in files of cases, in memory, and compares what each writes
-//! with the text behind it. docs/CASES.md has the format.
+//! The command `cases`: runs the commands of files of cases, in memory, and compares what each writes with the
+//! text after it. docs/CASES.md has the format.
 
 mod commands;
 mod marks;
@@ -18,14 +18,15 @@ use scxsim_commands::{DONE, FAILED, Out, REFUSED, write_unread};
 use std::io;
 use std::io::ErrorKind;
 
-/// How many commands were run, and of how many another thing came than stands in the file.
+/// The number of commands that were run, and of those that came to another thing than the file
+/// says.
 #[derive(Clone, Copy)]
 struct Tally {
     commands: u32,
     differing: u32,
 }
 
-/// The cases of a file so far.
+/// The cases of a file, up to here.
 #[derive(Drop)]
 struct Cases<'a, R> {
     rt: &'a R,
@@ -112,7 +113,7 @@ fn run_parts<R: AllocGlobal + Print>(
     Ok(tally)
 }
 
-/// What the part behind says that is written to standard error.
+/// The text that the next part gives for standard error.
 fn said_behind<'a>(parts: &[Part<'a>], place: usize) -> Option<&'a str> {
     let next = parts.get(place.saturating_add(1))?;
     match mark_of(next.mark)? {
@@ -142,7 +143,7 @@ impl<'a, R: AllocGlobal + Print> Cases<'a, R> {
         }
     }
 
-    /// Keeps a file for the commands behind it.
+    /// Keeps a file for the commands after it.
     fn keep(&mut self, name: &'a str, form: Form<'a>, part: Part<'a>) -> io::Result<()> {
         match bytes_of(self.rt.alloc(), part.text, form)? {
             Some(bytes) => Ok(self.files.push(StagedFile { name, bytes })?),

@@ -3,7 +3,7 @@ use std::io;
 use std::io::IsTerminal;
 use std::rt::Clock;
 
-/// What the program reaches outside of its words and its output.
+/// The program's surroundings, apart from its words and its output.
 pub trait Console: Clock + Eprint {
     /// The bytes of the file at a path, or as many of them as show that it is too large.
     ///
@@ -12,10 +12,10 @@ pub trait Console: Clock + Eprint {
     /// Memory ran out, or the file could not be opened or read.
     fn read(&self, path: &str) -> io::Result<Vec<u8>>;
 
-    /// Whether standard error is a terminal.
+    /// True if standard error is a terminal.
     fn shows_errors(&self) -> bool;
 
-    /// Whether standard output is one.
+    /// True if standard output is one.
     fn shows_output(&self) -> bool;
 }
 

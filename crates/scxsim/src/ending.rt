@@ -1,17 +1,18 @@
-use scxsim_commands::{Fault, Hint, Out, Refusal, finish};
+use crate::files::Unread;
+use scxsim_commands::{FAILED, Fault, Hint, Out, Refusal, finish, write_unread};
 
-/// How the program ends: its status, and what is said of a refused file.
+/// The end of the program: its status, and the message on a refused file.
 #[derive(Drop)]
 pub struct Ending {
     pub status: u8,
     pub said: Said,
 }
 
-/// What is said of a refused file on standard error.
+/// The message on a refused file, on standard error.
 #[derive(Drop)]
 pub enum Said {
     Nothing,
-    /// What it seems to be.
+    /// A hint at its nature.
     Hint(Hint),
     /// Where it is wrong, as compilers write it, in whole lines.
     Remark(String),
@@ -54,6 +55,17 @@ pub(crate) fn in_silence(status: u8) -> Ending {
 /// Ends a command for which there is no memory, and answers the status.
 pub fn end_without_memory<W: Out>(out: &mut W) -> u8 {
     finish(Err(Fault::Refused(Refusal::NoMemory)), out)
+}
+
+/// Ends a command that has a file which isn't read.
+pub(crate) fn end_unread<W: Out>(unread: Unread<'_>, out: &mut W) -> Ending {
+    match unread {
+        Unread::NoMemory => in_silence(end_without_memory(out)),
+        Unread::At(path) => {
+            let _ = write_unread(path, out);
+            in_silence(FAILED)
+        }
+    }
 }
 
 /// Says it on standard error. Whether that can be written doesn't matter.

@@ -27,7 +27,7 @@ pub(crate) fn files_of<'a, R: Console>(
     Ok(RunFiles { policy, workload })
 }
 
-/// What a person may have meant by a refused one of these files.
+/// A hint at what a person may have meant by a refused one of these files.
 pub(crate) fn hint_of_files(files: &RunFiles) -> Option<Hint> {
     match hint_of_text(files.policy.as_slice()) {
         Some(hint) => Some(hint),

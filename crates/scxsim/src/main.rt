@@ -1,6 +1,6 @@
 //! The program `scxsim`, which verifies policies and runs workloads under them, and runs, assembles and
-//! disassembles BPF programs. Its words are read by `scxsim_words`; what the commands do stands in
-//! `scxsim_commands`, `scxsim_explain`, `scxsim_simulation` and those above it, whose calls are passed on here. All that it
+//! disassembles BPF programs. Its words are read by `scxsim_words`; the commands are
+//! in `scxsim_commands`, `scxsim_explain`, `scxsim_simulation` and those above it. All that it
 //! reaches outside is a `Console`, so a command can be run whole in memory, as those of files of cases are.
 //!
 //! A policy is verified, in `crates/scxsim/data/verdicts.txt`:
@@ -33,12 +33,11 @@ use scxsim_commands::FAILED;
 pub use scxsim_commands::{
     Counted, Failed, Fault, Out, Refusal, asm, check, dis, exec, finish, text,
 };
-pub use scxsim_drawing::picture;
 pub use scxsim_explain::explain;
 pub use scxsim_explore::explore;
 use scxsim_output::Blocks;
 pub use scxsim_page::view;
-pub use scxsim_pictures::timeline;
+pub use scxsim_pictures::{picture, timeline};
 pub use scxsim_simulation::{Listener, replay, report, simulate};
 pub use scxsim_steps::step;
 pub use scxsim_story::story;
@@ -49,10 +48,10 @@ use std::io::BufWriter;
 use std::process::ExitCode;
 use std::rt::Env;
 
-/// How many bytes standard output is handed at once, but for the last ones.
+/// The bytes that standard output is handed at once, but for the last ones.
 const BLOCK: usize = 65_536;
 
-/// The same of a search, which may be ended long after it has found something.
+/// The block of a search, which may be ended long after it has found something.
 const SEARCH_BLOCK: usize = 1;
 
 fn main(rt: HostRuntime) -> ExitCode {
@@ -73,7 +72,7 @@ fn main(rt: HostRuntime) -> ExitCode {
     }
 }
 
-/// Whether the process's words ask for a search.
+/// True if the process's words ask for a search.
 fn is_search<R: AllocGlobal + Env>(rt: &R) -> bool {
     match words_of(rt) {
         Ok(words) => match words.get(1) {

@@ -3,8 +3,6 @@ use crate::console::Console;
 use crate::ending::{Ending, end_without_memory, in_silence};
 use crate::requests::run_request;
 use crate::usage::{explain_usage, write_usage};
-use clap::Error;
-use clap::error::ErrorKind as WordsErrorKind;
 use scxsim_commands::{Out, USAGE};
 use scxsim_words::{Request, read_words};
 use std::convert::AsStr;
@@ -12,13 +10,18 @@ use std::io::ErrorKind;
 use std::rt::Env;
 use std::{env, io};
 
-/// How many words stand before the files of `cases`: the program's name and the command's.
+/// The words before the files of `cases`: the program's name and the command's.
 const WORDS_BEFORE_FILES: usize = 2;
 
 /// Does what the process's words ask for.
 pub(crate) fn run<R: AllocGlobal + Env + Console + Print, W: Out>(rt: &R, out: &mut W) -> Ending {
     match words_of(rt) {
-        Ok(words) => run_process_words(rt, words.as_slice(), out),
+        Ok(words) => match read_words(rt.alloc(), words.as_slice()) {
+            Ok(Some(Request::Cases)) => run_cases(rt, words.as_slice(), out),
+            Ok(Some(request)) => run_request(rt, request, out),
+            Ok(None) => in_silence(USAGE),
+            Err(error) => in_silence(explain_usage(rt.alloc(), &error, out)),
+        },
         Err(error) if error.kind() == ErrorKind::OutOfMemory => {
             in_silence(end_without_memory(out))
         }
@@ -30,17 +33,15 @@ pub(crate) fn words_of<R: AllocGlobal + Env>(rt: &R) -> io::Result<Vec<String>> 
     Ok(env::args(rt)?.collect(rt.alloc())?)
 }
 
-fn run_process_words<R: AllocGlobal + Console + Print, W: Out>(
+/// Runs the files of cases that the process's words name.
+fn run_cases<R: AllocGlobal + Console + Print, W: Out>(
     rt: &R,
     words: &[String],
     out: &mut W,
 ) -> Ending {
-    match read_words(rt.alloc(), words) {
-        Ok(Some(Request::Cases)) => match words.get(WORDS_BEFORE_FILES..) {
-            Some(files) => run_files(rt, files, out),
-            None => in_silence(USAGE),
-        },
-        read => run_read(rt, read, out),
+    match words.get(WORDS_BEFORE_FILES..) {
+        Some(files) => run_files(rt, files, out),
+        None => in_silence(USAGE),
     }
 }
 
@@ -50,21 +51,9 @@ pub(crate) fn run_words<R: AllocGlobal + Console, S: AsStr, W: Out>(
     words: &[S],
     out: &mut W,
 ) -> Ending {
-    run_read(rt, read_words(rt.alloc(), words), out)
-}
-
-/// Does what was read of the words.
-fn run_read<R: AllocGlobal + Console, W: Out>(
-    rt: &R,
-    read: Result<Option<Request<'_>>, Error>,
-    out: &mut W,
-) -> Ending {
-    match read {
+    match read_words(rt.alloc(), words) {
         Ok(Some(request)) => run_request(rt, request, out),
         Ok(None) => in_silence(USAGE),
-        Err(error) if error.kind() == WordsErrorKind::OutOfMemory => {
-            in_silence(end_without_memory(out))
-        }
         Err(error) => in_silence(explain_usage(rt.alloc(), &error, out)),
     }
 }

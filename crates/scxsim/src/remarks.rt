@@ -1,9 +1,8 @@
 use scx_sched::Eject;
-use scxsim_commands::Fault;
+use scxsim_commands::{Fault, Verdicts};
 use scxsim_remarks::{
     NamedText, remark_on_fault, remark_on_file, remark_on_run, remarks_on_callbacks,
 };
-use scxsim_words::PolicyCommand;
 use std::alloc::Global;
 
 /// A file's text, if it is one.
@@ -30,17 +29,16 @@ pub(crate) fn remark_of_run(
     }
 }
 
-/// Where a policy's file is wrong, if it or one of its callbacks was refused. What `explain` writes of a callback
-/// shows that itself.
+/// The place where a policy's file is wrong, if it was refused, or one of its callbacks by these verdicts.
 pub(crate) fn remark_of_policy(
     alloc: Global,
-    command: PolicyCommand,
     outcome: &Result<bool, Fault>,
+    verdicts: &Verdicts,
     policy: Option<NamedText<'_>>,
 ) -> Option<String> {
-    match (command, outcome) {
-        (_, Err(Fault::Refused(refusal))) => remark_on_file(alloc, refusal, policy?),
-        (PolicyCommand::Verify, Ok(false)) => remarks_on_callbacks(alloc, policy?),
+    match outcome {
+        Err(Fault::Refused(refusal)) => remark_on_file(alloc, refusal, policy?),
+        Ok(false) => remarks_on_callbacks(alloc, policy?, verdicts),
         _ => None,
     }
 }

@@ -1,39 +1,22 @@
 use crate::accounts::{RunWords, tell};
 use crate::console::Console;
-use crate::ending::{Ending, end, end_without_memory, in_silence};
-use crate::files::{Unread, bytes_of};
+use crate::ending::{Ending, end, end_unread, in_silence};
+use crate::files::bytes_of;
 use crate::remarks::{named, remark_of_policy, remark_of_program};
 use crate::searches::{SearchWords, search};
 use crate::usage::write_usage;
-use scxsim_commands::{
-    FAILED, Fault, Out, asm, check, dis, exec, hint_of_slots, hint_of_text, write_unread,
-};
+use scxsim_commands::{Fault, Out, Verdicts, asm, check, dis, exec, hint_of_slots, hint_of_text};
 use scxsim_explain::explain;
 use scxsim_explore::Lists;
 use scxsim_words::{PolicyCommand, ProgramCommand, Request};
 use std::alloc::Global;
 
+/// Does a command's work with its files.
 pub(crate) fn run_request<R: AllocGlobal + Console, W: Out>(
     rt: &R,
     request: Request<'_>,
     out: &mut W,
 ) -> Ending {
-    match do_request(rt, request, out) {
-        Ok(ending) => ending,
-        Err(Unread::NoMemory) => in_silence(end_without_memory(out)),
-        Err(Unread::At(path)) => {
-            let _ = write_unread(path, out);
-            in_silence(FAILED)
-        }
-    }
-}
-
-/// Does a command's work with its files.
-fn do_request<'a, R: AllocGlobal + Console, W: Out>(
-    rt: &R,
-    request: Request<'a>,
-    out: &mut W,
-) -> Result<Ending, Unread<'a>> {
     match request {
         Request::Program { command, path } => work_on_program(rt, command, path, out),
         Request::Policy { command, path } => work_on_policy(rt, command, path, out),
@@ -66,27 +49,30 @@ fn do_request<'a, R: AllocGlobal + Console, W: Out>(
             };
             search(rt, words, out)
         }
-        Request::Cases => Ok(in_silence(write_usage(
+        Request::Cases => in_silence(write_usage(
             "error: a file of cases can't run files of cases\n",
             out,
-        ))),
+        )),
     }
 }
 
-fn work_on_program<'a, R: AllocGlobal + Console, W: Out>(
+fn work_on_program<R: AllocGlobal + Console, W: Out>(
     rt: &R,
     command: ProgramCommand,
-    path: &'a str,
+    path: &str,
     out: &mut W,
-) -> Result<Ending, Unread<'a>> {
-    let bytes = bytes_of(rt, path)?;
+) -> Ending {
+    let bytes = match bytes_of(rt, path) {
+        Ok(bytes) => bytes,
+        Err(unread) => return end_unread(unread, out),
+    };
     let outcome = do_program(rt.alloc(), command, bytes.as_slice(), out);
     let hint = match command {
         ProgramCommand::Exec | ProgramCommand::Dis => hint_of_slots(bytes.as_slice()),
         ProgramCommand::Asm => hint_of_text(bytes.as_slice()),
     };
     let remark = remark_of_program(rt.alloc(), &outcome, named(path, bytes.as_slice()));
-    Ok(end(outcome, hint, remark, out))
+    end(outcome, hint, remark, out)
 }
 
 fn do_program<W: Out>(
@@ -102,26 +88,33 @@ fn do_program<W: Out>(
     }
 }
 
-fn work_on_policy<'a, R: AllocGlobal + Console, W: Out>(
+fn work_on_policy<R: AllocGlobal + Console, W: Out>(
     rt: &R,
     command: PolicyCommand,
-    path: &'a str,
+    path: &str,
     out: &mut W,
-) -> Result<Ending, Unread<'a>> {
-    let bytes = bytes_of(rt, path)?;
-    let outcome = do_policy(rt.alloc(), command, bytes.as_slice(), out);
-    let remark = remark_of_policy(rt.alloc(), command, &outcome, named(path, bytes.as_slice()));
-    Ok(end(outcome, hint_of_text(bytes.as_slice()), remark, out))
+) -> Ending {
+    let bytes = match bytes_of(rt, path) {
+        Ok(bytes) => bytes,
+        Err(unread) => return end_unread(unread, out),
+    };
+    let mut verdicts = Verdicts::none();
+    let outcome = do_policy(rt.alloc(), command, bytes.as_slice(), &mut verdicts, out);
+    let policy = named(path, bytes.as_slice());
+    let remark = remark_of_policy(rt.alloc(), &outcome, &verdicts, policy);
+    end(outcome, hint_of_text(bytes.as_slice()), remark, out)
 }
 
+/// Leaves the verdicts of `verify`. What `explain` writes shows the places itself.
 fn do_policy<W: Out>(
     alloc: Global,
     command: PolicyCommand,
     bytes: &[u8],
+    verdicts: &mut Verdicts,
     out: &mut W,
 ) -> Result<bool, Fault> {
     match command {
-        PolicyCommand::Verify => check(alloc, bytes, out),
+        PolicyCommand::Verify => check(alloc, bytes, verdicts, out),
         PolicyCommand::Explain => explain(alloc, bytes, out),
     }
 }

@@ -1,14 +1,14 @@
 use crate::accounts::hint_of_outcome;
 use crate::console::Console;
-use crate::ending::{Ending, end};
-use crate::files::{RunFiles, Unread, files_of};
+use crate::ending::{Ending, end, end_unread};
+use crate::files::{RunFiles, files_of};
 use crate::remarks::{named, remark_of_run};
 use scxsim_commands::{Fault, Out, text};
 use scxsim_explore::{Lists, Watcher, explore};
-use scxsim_progress::SearchProgress;
+use scxsim_remarks::SearchProgress;
 use std::alloc::Global;
 
-/// What names a search: the paths of its files, and which lists of events it goes through.
+/// The words of a search: the paths of its files, and the lists of events that it goes through.
 #[derive(Clone, Copy)]
 pub(crate) struct SearchWords<'a> {
     pub(crate) policy: &'a str,
@@ -18,12 +18,15 @@ pub(crate) struct SearchWords<'a> {
 
 /// Writes what is found in lists of events under the policy of these files, and says meanwhile on standard error how
 /// far it is. What is found is written when nothing is said.
-pub(crate) fn search<'a, R: AllocGlobal + Console, W: Out>(
+pub(crate) fn search<R: AllocGlobal + Console, W: Out>(
     rt: &R,
-    words: SearchWords<'a>,
+    words: SearchWords<'_>,
     out: &mut W,
-) -> Result<Ending, Unread<'a>> {
-    let files = files_of(rt, words.policy, words.workload)?;
+) -> Ending {
+    let files = match files_of(rt, words.policy, words.workload) {
+        Ok(files) => files,
+        Err(unread) => return end_unread(unread, out),
+    };
     let mut progress = SearchProgress::new(rt, rt.shows_errors());
     let outcome = write_search(rt.alloc(), &files, words.lists, &mut progress, out);
     progress.pause();
@@ -35,7 +38,7 @@ pub(crate) fn search<'a, R: AllocGlobal + Console, W: Out>(
         named(words.workload, &files.workload),
     );
     let hint = hint_of_outcome(&outcome, &files);
-    Ok(end(outcome, hint, remark, out))
+    end(outcome, hint, remark, out)
 }
 
 fn write_search<V: Watcher, W: Out>(

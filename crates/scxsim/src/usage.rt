@@ -9,6 +9,9 @@ use std::alloc::Global;
 
 /// Writes why `clap` refused the words, or the help or the version that they ask for.
 pub(crate) fn explain_usage<W: Out>(alloc: Global, error: &clap::Error, out: &mut W) -> u8 {
+    if error.kind() == ErrorKind::OutOfMemory {
+        return end_without_memory(out);
+    }
     match (error.to_string(alloc), error.kind()) {
         (Ok(text), ErrorKind::DisplayVersion) => write_version(text.as_str(), out),
         (Ok(text), _) => write_usage(text.as_str(), out),

@@ -1,7 +1,7 @@
 use scx_load_places::{Place, line_at};
-use scxsim_text::Text;
+use scxsim_output::Text;
 
-/// How many characters of a line are shown at most.
+/// The most characters of a line that are shown.
 const SHOWN: usize = 100;
 
 /// The line of a place with its number, and a mark below the column. Nothing where there is no such line, or it is

@@ -1,11 +1,11 @@
 use crate::named_text::NamedText;
 use scx_load_workloads::{Workload, read_workload};
 use scxsim_faults::{FaultPlace, find_fault, write_place, write_reason};
-use scxsim_text::Text;
+use scxsim_output::Text;
 use std::alloc::Global;
 
-/// Of the fault for which the policy was ejected at that clock, or failed before the start: which instruction had
-/// it. None where there is none, or memory ran out.
+/// A remark on the fault for which the policy was ejected at that clock, or failed before the
+/// start: the instruction that had it. None where there is none, or memory ran out.
 pub fn remark_on_fault(
     alloc: Global,
     policy: NamedText<'_>,

@@ -22,7 +22,7 @@ enum Table {
     Change,
 }
 
-/// A key, and the table that it stands in.
+/// A key, and its table.
 #[derive(Clone, Copy)]
 struct Key<'a> {
     table: Table,
@@ -136,7 +136,7 @@ fn top(word: &str) -> Key<'_> {
     }
 }
 
-/// The table of each element of the array at that key, if an array may stand there.
+/// The table of each element of the array at that key, if an array may be there.
 fn array_of(key: &str) -> Option<Table> {
     if key == "map" {
         Some(Table::Map)

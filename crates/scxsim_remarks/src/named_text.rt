@@ -1,7 +1,7 @@
 use crate::excerpt::write_excerpt;
 use scx_isa::Callback;
 use scx_load_places::{Place, place_of_slot};
-use scxsim_text::Text;
+use scxsim_output::Text;
 use std::alloc::{AllocError, Global};
 
 /// The text of a file, and the path by which it was named.

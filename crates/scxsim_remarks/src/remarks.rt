@@ -8,11 +8,11 @@ use scx_load_places::{Place, first_toml_fault, place_of_key, place_of_line};
 use scx_load_workloads::read_workload;
 use scx_verify::Fault;
 use scxsim_commands::Refusal;
-use scxsim_text::Text;
+use scxsim_output::Text;
 use std::alloc::{AllocError, Global};
 
-/// Of a refusal of a run's files, of which the second may be a file of events: where it stands, and what may have been meant. None where it stands nowhere in
-/// a text, or memory ran out.
+/// A remark on a refusal of a run's files, of which the second may be a file of events: its place,
+/// and what may have been meant. None where it has no place in a text, or memory ran out.
 pub fn remark_on_run(
     alloc: Global,
     refusal: &Refusal,
@@ -37,7 +37,8 @@ pub fn remark_on_run(
     }
 }
 
-/// Of a refusal of a policy's file alone, or of a text for the assembler; as `remark_on_run`.
+/// A remark on a refusal of a policy's file alone, or of a text for the assembler; as
+/// `remark_on_run`.
 pub fn remark_on_file(alloc: Global, refusal: &Refusal, file: NamedText<'_>) -> Option<String> {
     match refusal {
         Refusal::Policy { path, cause } => remark_on_policy(alloc, file, path, *cause),
@@ -46,7 +47,7 @@ pub fn remark_on_file(alloc: Global, refusal: &Refusal, file: NamedText<'_>) -> 
     }
 }
 
-/// Of a line of assembler text.
+/// A remark on a line of assembler text.
 fn remark_on_line(
     alloc: Global,
     file: NamedText<'_>,
@@ -60,7 +61,7 @@ fn remark_on_line(
     file.error_at(alloc, Place { line, column: 1 }, &what).ok()
 }
 
-/// Of a key of a policy file. What is no policy may be a workload.
+/// A remark on a key of a policy file. A text that is no policy may be a workload.
 fn remark_on_policy(
     alloc: Global,
     policy: NamedText<'_>,
@@ -84,7 +85,7 @@ fn hint_at_workload(alloc: Global, path: &str) -> Result<String, AllocError> {
     said.finish()
 }
 
-/// Of a key of a file.
+/// A remark on a key of a file.
 fn remark_on_key(
     alloc: Global,
     file: NamedText<'_>,
@@ -124,7 +125,7 @@ fn remark_at(
     file.error_at(alloc, place, &what).ok()
 }
 
-/// Of a text that is no TOML document.
+/// A remark on a text that is no TOML document.
 fn remark_on_toml(alloc: Global, file: NamedText<'_>) -> Option<String> {
     let fault = first_toml_fault(alloc, file.text)?;
     let mut what = Text::new(alloc);
@@ -151,7 +152,7 @@ fn remark_on_unknown(
     file.error_at(alloc, place, &what).ok()
 }
 
-/// Of a callback that the verifier refuses. One that is given as slots has no line.
+/// A remark on a callback that the verifier refuses. One that is given as slots has no line.
 pub(crate) fn remark_on_callback(
     alloc: Global,
     policy: NamedText<'_>,

@@ -1,4 +1,4 @@
-/// What is done with the file of a program.
+/// A command on the file of a program.
 #[derive(Clone, Copy)]
 pub enum ProgramCommand {
     Exec,
@@ -6,51 +6,34 @@ pub enum ProgramCommand {
     Dis,
 }
 
-/// What is done with a policy file.
+/// A command on a policy file.
 #[derive(Clone, Copy)]
 pub enum PolicyCommand {
     Verify,
     Explain,
 }
 
-/// What is written of a run.
+/// An account of a run.
 #[derive(Clone, Copy)]
 pub enum Account {
-    Course(Course),
-    Summary(Summary),
-    /// Of a file of events in the place of a workload.
-    Replay(Replay),
-}
-
-/// What is written as the run goes.
-#[derive(Clone, Copy)]
-pub enum Course {
     Trace,
-    Timeline,
-    View,
-}
-
-/// What is written at its end.
-#[derive(Clone, Copy)]
-pub enum Summary {
     Report,
     Stats,
     StatsCsv,
     Why,
     Story,
     Step,
+    Timeline,
     Picture,
+    View,
     Gantt,
+    /// The trace of a file of events, in the place of a workload.
+    Replay,
+    /// The metrics of a file of events.
+    ReplayCsv,
 }
 
-/// What is written of the run of a file of events.
-#[derive(Clone, Copy)]
-pub enum Replay {
-    Trace,
-    StatsCsv,
-}
-
-/// The words that name a part of a run.
+/// The bounds of a part of a run, as they were given.
 #[derive(Clone, Copy)]
 pub struct Part<'a> {
     pub from: &'a str,
@@ -73,20 +56,20 @@ pub enum Request<'a> {
         policy: &'a str,
         /// The workload file, or the file of events.
         workload: &'a str,
-        /// None where it is of the whole run.
+        /// `None` for the whole run.
         part: Option<Part<'a>>,
-        /// The name of a task, or a millisecond, where it is of one.
+        /// The name of a task, or a millisecond, if the output is about one.
         subject: Option<&'a str>,
     },
-    /// Of all lists of events that the words name.
+    /// A search through sequences of events.
     Explore {
         policy: &'a str,
         workload: &'a str,
         mode: &'a str,
         depth: &'a str,
-        /// How many wakes and sleeps a list has at most, where that is bounded.
+        /// The most wakes and sleeps in a sequence, if they are bounded.
         few: Option<&'a str>,
     },
-    /// Of the files that the words behind the command name.
+    /// The files of cases that follow the command.
     Cases,
 }

@@ -1,18 +1,18 @@
-use crate::forms::{Form, Kind, Word, forms};
+use crate::forms::{Argument, Form, Kind, forms};
 use crate::requests::{Account, Part, Request};
 use clap::{Arg, ArgMatches, Command, Error};
 use std::alloc::{AllocError, Global};
 use std::convert::AsStr;
 
-/// The version, which nothing else says: scripts ask the program for it.
-const VERSION: &str = "0.9.0";
+/// The version. It is written here alone: scripts ask the program for it.
+const VERSION: &str = "0.10.0";
 
-/// What the words ask for. `clap` refuses words that name no command and no file, so there is a
-/// request wherever it accepts the words.
+/// The request of a command line. `clap` refuses words that name no command and its files, so there is a
+/// request wherever it accepts them.
 ///
 /// # Errors
 ///
-/// The words are no command with its files, or ask for help or for the version, or memory ran out.
+/// The words are no command with its arguments, or ask for help or for the version, or memory ran out.
 pub fn read_words<'a, S: AsStr>(
     alloc: Global,
     words: &'a [S],
@@ -24,73 +24,73 @@ pub fn read_words<'a, S: AsStr>(
     }
 }
 
-/// The command of this name, with the files that its words give.
+/// The command of this name, with the files that its arguments name.
 fn request_of<'a>(name: &str, command: &ArgMatches<'a>) -> Option<Request<'a>> {
     match form_named(name)?.kind {
         Kind::Program(of) => Some(Request::Program {
             command: of,
-            path: text_of(command, Word::Slots)?,
+            path: text_of(command, Argument::Slots)?,
         }),
         Kind::Policy(of) => Some(Request::Policy {
             command: of,
-            path: text_of(command, Word::Policy)?,
+            path: text_of(command, Argument::Policy)?,
         }),
         Kind::Run(account) | Kind::Part(account) | Kind::Task(account) | Kind::Moment(account) =>
-            run_of(account, command, Word::Workload),
-        Kind::Replay(account) => run_of(account, command, Word::Events),
+            run_of(account, command, Argument::Workload),
+        Kind::Replay(account) => run_of(account, command, Argument::Events),
         Kind::Explore | Kind::ExploreFew => explore_of(command),
         Kind::Cases => Some(Request::Cases),
     }
 }
 
 /// A command of a run, with its second file.
-fn run_of<'a>(account: Account, command: &ArgMatches<'a>, second: Word) -> Option<Request<'a>> {
+fn run_of<'a>(account: Account, command: &ArgMatches<'a>, second: Argument) -> Option<Request<'a>> {
     Some(Request::Run {
         account,
-        policy: text_of(command, Word::Policy)?,
+        policy: text_of(command, Argument::Policy)?,
         workload: text_of(command, second)?,
         part: part_of(command),
-        subject: text_of(command, Word::Task).or(text_of(command, Word::Moment)),
+        subject: text_of(command, Argument::Task).or(text_of(command, Argument::Moment)),
     })
 }
 
-/// A search through lists of events.
+/// A search through sequences of events.
 fn explore_of<'a>(command: &ArgMatches<'a>) -> Option<Request<'a>> {
     Some(Request::Explore {
-        policy: text_of(command, Word::Policy)?,
-        workload: text_of(command, Word::Workload)?,
-        mode: text_of(command, Word::Mode)?,
-        depth: text_of(command, Word::Depth)?,
-        few: text_of(command, Word::Few),
+        policy: text_of(command, Argument::Policy)?,
+        workload: text_of(command, Argument::Workload)?,
+        mode: text_of(command, Argument::Mode)?,
+        depth: text_of(command, Argument::Depth)?,
+        few: text_of(command, Argument::Few),
     })
 }
 
-/// The words that name a part of a run, where the command has some.
+/// The bounds of a part of a run, if the command takes them.
 fn part_of<'a>(command: &ArgMatches<'a>) -> Option<Part<'a>> {
     Some(Part {
-        from: text_of(command, Word::From)?,
-        to: text_of(command, Word::To)?,
+        from: text_of(command, Argument::From)?,
+        to: text_of(command, Argument::To)?,
     })
 }
 
-/// What stands for that word, if the command reads it.
-fn text_of<'a>(command: &ArgMatches<'a>, word: Word) -> Option<&'a str> {
-    command.get_str(word.name())
+/// The value of an argument, if the command takes it.
+fn text_of<'a>(command: &ArgMatches<'a>, argument: Argument) -> Option<&'a str> {
+    command.get_str(argument.name())
 }
 
 fn form_named(name: &str) -> Option<&'static Form> {
     forms().iter().find(|form| form.name == name)
 }
 
-/// The commands and their words.
+/// The program with its commands and their arguments.
 fn scxsim<'a>(alloc: Global) -> Result<Command<'a>, AllocError> {
     let mut program = Command::new(alloc, "scxsim")
         .about(
-            "Runs workloads on simulated processors under a CPU scheduling policy in BPF, after verifying it.",
+            "Verify CPU scheduling policies in BPF, and run workloads under them on simulated CPUs",
         )
         .version(VERSION)
         .after_help(
-            "scxsim help COMMAND says what a command reads and writes, with an example.\nA refused file is one line on standard output, with status 1. docs/REFUSALS.md explains each.",
+            "scxsim help COMMAND explains the arguments and the output of a command, with an example.\nIf a file is refused, one line on standard output says why, and the status is 1;\ndocs/REFUSALS.md explains each refusal.",
         )
         .subcommand_required(true)
         .arg_required_else_help(true);
@@ -115,19 +115,25 @@ fn with_command<'a>(
     }
 }
 
-/// A command with its words.
+/// A command with its arguments.
 fn command_of<'a>(alloc: Global, form: &Form) -> Result<Command<'a>, AllocError> {
     let mut command = Command::new(alloc, form.name)
         .about(form.about)
         .after_help(form.example);
-    for word in form.kind.words() {
-        command = with_word(alloc, command, word.name(), word.help(), word.may_be_many())?;
+    for argument in form.kind.arguments() {
+        command = with_argument(
+            alloc,
+            command,
+            argument.name(),
+            argument.help(),
+            argument.may_be_many(),
+        )?;
     }
     Ok(command)
 }
 
-/// The command, which reads one word more, or several in its place where these may be. One has to be there.
-fn with_word<'a>(
+/// The command with one argument more, which has to be there; if it may be many, with one or more of it.
+fn with_argument<'a>(
     alloc: Global,
     command: Command<'a>,
     name: &'a str,

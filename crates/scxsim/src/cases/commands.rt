@@ -6,7 +6,7 @@ use crate::process::run_words;
 use scxsim_commands::Counted;
 use std::alloc::{AllocError, Global};
 
-/// What a command did.
+/// The outcome of a command.
 #[derive(Drop)]
 pub(crate) struct Found {
     pub(crate) written: Vec<u8>,
@@ -31,7 +31,7 @@ fn words_of<'a>(alloc: Global, text: &'a str) -> Result<Vec<&'a str>, AllocError
 }
 
 impl Found {
-    /// Whether the command ended and wrote as wanted.
+    /// True if the command ended and wrote as wanted.
     pub(crate) fn is_wanted(
         &self,
         command: &Command<'_>,

@@ -1,4 +1,4 @@
-/// How the text of a part stands for bytes.
+/// A form in which the text of a part gives bytes.
 #[derive(Clone, Copy)]
 pub(crate) enum Form<'a> {
     /// As it is.
@@ -15,16 +15,16 @@ pub(crate) enum Form<'a> {
     LinesWith(&'a str),
 }
 
-/// What a part is.
+/// The kind of a part.
 #[derive(Clone, Copy)]
 pub(crate) enum Mark<'a> {
-    /// The name of the cases behind it.
+    /// The name of the cases after it.
     Case(&'a str),
     /// A file of that name.
     File(&'a str, Form<'a>),
     /// A command, and what it writes to standard output.
     Command(Command<'a>),
-    /// What the command before it writes to standard error.
+    /// The text that the command before it writes to standard error.
     Said,
 }
 
@@ -39,7 +39,7 @@ pub(crate) struct Command<'a> {
     pub(crate) form: Form<'a>,
 }
 
-/// What the line of a part says, none where it says nothing that is known.
+/// The mark on the line of a part; none where it isn't known.
 pub(crate) fn mark_of<'a>(line: &'a str) -> Option<Mark<'a>> {
     let line = line.strip_suffix(" --")?;
     if line == "stderr" {
@@ -56,7 +56,7 @@ pub(crate) fn mark_of<'a>(line: &'a str) -> Option<Mark<'a>> {
     }
 }
 
-/// What stands before the name of the form, and the form.
+/// The text before the name of the form, and the form.
 fn form_of<'a>(line: &'a str) -> Option<(&'a str, Form<'a>)> {
     match line.rsplit_once(" (") {
         Some((words, name)) => Some((words, form_named(name.strip_suffix(')')?)?)),

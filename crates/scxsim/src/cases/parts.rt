@@ -5,13 +5,13 @@ use std::alloc::{AllocError, Global};
 pub(crate) struct Part<'a> {
     /// The number of that line, from 1 on.
     pub(crate) line: usize,
-    /// What stands in it behind its beginning.
+    /// The text of its first line after the sign.
     pub(crate) mark: &'a str,
-    /// The lines behind it without the last line feed; none where there are no lines.
+    /// The lines after it without the last line feed; none where there are no lines.
     pub(crate) text: Option<&'a str>,
 }
 
-/// The parts of a file of cases. What stands before the first one is for people.
+/// The parts of a file of cases. The text before the first one is for people.
 pub(crate) fn parts_of<'a>(alloc: Global, text: &'a str) -> Result<Vec<Part<'a>>, AllocError> {
     let mut parts = Vec::new(alloc);
     let mut line = 1usize;
@@ -55,7 +55,7 @@ fn part_in<'a>(line: usize, piece: &'a str) -> Part<'a> {
     }
 }
 
-/// How many lines a piece has, of which the last ends without a line feed.
+/// The number of lines of a piece, of which the last ends without a line feed.
 fn lines_of(piece: &str) -> usize {
     let line_feeds = piece.bytes().filter(|byte| *byte == b'\n').count();
     line_feeds.saturating_add(1)

@@ -13,8 +13,8 @@ pub(crate) struct StagedFile<'a> {
     pub(crate) bytes: Vec<u8>,
 }
 
-/// What a command reaches: files in memory, of which the last of a name counts, no terminal, and a clock that
-/// stands still.
+/// The surroundings of a command: files in memory, of which the last of a name counts, no terminal,
+/// and a clock that stays at one time.
 #[derive(Drop)]
 pub(crate) struct Stage<'a> {
     pub(crate) alloc: Global,

@@ -1,7 +1,7 @@
 use crate::cases::marks::Form;
 use std::alloc::{AllocError, Global};
 
-/// The bytes that the text of a part stands for, none where they can't be read.
+/// The bytes that the text of a part gives, none where they can't be read.
 pub(crate) fn bytes_of(
     alloc: Global,
     text: Option<&str>,
@@ -50,7 +50,7 @@ fn byte_of(high: u32, low: u32) -> u8 {
     (high.wrapping_mul(16).wrapping_add(low) & 255) as u8
 }
 
-/// Whether the output is what the text stands for.
+/// True if the output is as the text says.
 pub(crate) fn is_as_wanted(found: &[u8], wanted: &[u8], form: Form<'_>) -> bool {
     match form {
         Form::Text | Form::Cut | Form::Hex => found == wanted,

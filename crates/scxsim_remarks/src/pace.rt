@@ -1,10 +1,10 @@
 use std::fmt;
 use std::time::Duration;
 
-/// How far a search is, and how fast.
+/// The progress of a search, and its speed.
 #[derive(Clone, Copy)]
 pub struct Pace {
-    /// All lists of so many events or milliseconds were gone through.
+    /// All lists up to this number of events or milliseconds were gone through.
     depth: usize,
     states: usize,
     /// States a second.
@@ -14,7 +14,7 @@ pub struct Pace {
 }
 
 impl Pace {
-    /// So many states were met, they take so many bytes, and they took so long.
+    /// The states that were met, their bytes, and the time that they took.
     pub fn new(depth: usize, states: usize, bytes: usize, took: Duration) -> Pace {
         let took = u64::try_from(took.as_millis()).unwrap_or(u64::MAX);
         let rate = if took == 0 {

@@ -1,7 +1,7 @@
 use std::fmt;
 use std::time::Duration;
 
-/// Which part of a run is over, and how long the rest takes if it goes on as it did.
+/// The part of a run that is over, and the time that the rest takes if it goes on as it did.
 #[derive(Clone, Copy)]
 pub struct Estimate {
     /// In percent, rounded down.
@@ -11,7 +11,7 @@ pub struct Estimate {
 }
 
 impl Estimate {
-    /// So many of all milliseconds of the run are over, and they took so long.
+    /// `over` of all milliseconds of the run are over, and they took that long.
     pub fn new(over: u64, total: u32, took: Duration) -> Estimate {
         let total = u64::from(total);
         let took = u64::try_from(took.as_millis()).unwrap_or(u64::MAX);
@@ -40,7 +40,7 @@ impl fmt::Display for Estimate {
     }
 }
 
-/// Writes so many seconds in their two largest units.
+/// Writes seconds in their two largest units.
 fn write_time<W: fmt::Write>(f: &mut fmt::Formatter<W>, seconds: u64) -> fmt::Result {
     let minutes = seconds / 60;
     if minutes == 0 {

@@ -2,10 +2,10 @@ use std::fmt;
 use std::rt::Clock;
 use std::time::{Duration, Instant};
 
-/// How many milliseconds a command may take before anything is said of it.
+/// The milliseconds that a command may take before anything is said of it.
 const PATIENCE: u64 = 2000;
 
-/// How many milliseconds a line stands before it is written again.
+/// The milliseconds for which a line is left before it is written again.
 const PAUSE: u64 = 250;
 
 /// Goes to the beginning of the terminal's line.
@@ -18,7 +18,7 @@ const CLEAR: &str = "\x1b[K";
 #[derive(Clone, Copy)]
 pub(crate) struct Line {
     began: Instant,
-    /// How long after that it is written next.
+    /// The time after that at which it is written next.
     due: Duration,
     is_there: bool,
 }
@@ -33,7 +33,7 @@ impl Line {
         })
     }
 
-    /// How long the command has taken, where it is time to write the line.
+    /// The time that the command has taken, where the line is due.
     pub(crate) fn took_if_due<R: Clock>(&mut self, rt: &R) -> Option<Duration> {
         let took = self.began.elapsed(rt).ok()?;
         if took < self.due {
