@@ -56,7 +56,7 @@ const CLOCK: [Shape; 1] = [Shape {
     value_size: 8,
 }];
 
-/// Verifies each callback so many times.
+/// Verifies each callback `times` times.
 pub(crate) fn verify_callbacks(alloc: Global, times: u64) -> Sum {
     let mut sum = 0u64;
     for (callback, text) in WITHOUT_SELECT_CPU {
@@ -65,19 +65,19 @@ pub(crate) fn verify_callbacks(alloc: Global, times: u64) -> Sum {
     Some(sum)
 }
 
-/// Verifies a callback so many times.
+/// Verifies a callback `times` times.
 fn verify_one(alloc: Global, callback: Callback, text: &str, times: u64) -> Sum {
     let bytes = slots_of(alloc, text)?;
     verify_times(alloc, bytes.as_slice(), callback, &CLOCK, times)
 }
 
-/// The raw slots that the text stands for.
+/// The raw slots of the program of a text.
 fn slots_of(alloc: Global, text: &str) -> Option<Vec<u8>> {
     let program = assembled(alloc, text)?;
     encoded(alloc, &program)
 }
 
-/// Runs each callback so many times.
+/// Runs each callback `times` times.
 pub(crate) fn run_callbacks(alloc: Global, times: u64) -> Sum {
     let mut sum = 0u64;
     for (callback, text) in WITHOUT_SELECT_CPU {
@@ -86,22 +86,22 @@ pub(crate) fn run_callbacks(alloc: Global, times: u64) -> Sum {
     Some(sum)
 }
 
-/// Runs the program that counts so many times.
+/// Runs the program that counts `times` times.
 pub(crate) fn run_counting(alloc: Global, times: u64) -> Sum {
     run_one(alloc, Callback::Init, COUNTING, times)
 }
 
-/// Runs a callback so many times.
+/// Runs a callback `times` times.
 fn run_one(alloc: Global, callback: Callback, text: &str, times: u64) -> Sum {
     let program = assembled(alloc, text)?;
     let verified = accepted(alloc, program, callback, &CLOCK)?;
     run_times(alloc, &verified, times)
 }
 
-/// Runs a program so many times, over maps and a host of its own, which keep what a run leaves.
+/// Runs a program `times` times, over maps and a host of its own, which keep what a run leaves.
 fn run_times(alloc: Global, verified: &Verified, times: u64) -> Sum {
     let mut maps = Maps::new(alloc, verified.defs()).ok()?;
-    let mut host = host();
+    let mut host = OneTask::new();
     let mut core = Core::new();
     let arguments = given(verified.callback());
     // The host has room for as many calls as can be counted.
@@ -114,17 +114,7 @@ fn run_times(alloc: Global, verified: &Verified, times: u64) -> Sum {
     Some(sum)
 }
 
-fn host() -> OneTask {
-    OneTask {
-        weight: 50,
-        slice: 5_000_000,
-        vtime: 1000,
-        called: None,
-        given: [Arg::Unset; 5],
-    }
-}
-
-/// What a callback is given.
+/// The arguments of a callback.
 fn given(callback: Callback) -> Args
     ensures { FitsCallback callback (values.program_arguments result) }
 {

@@ -25,7 +25,7 @@ use std::process::ExitCode;
 use std::rt::{Env, Files};
 use std::{env, io, str};
 
-/// What the work comes to; `None` where it can't be done.
+/// The result of the work; `None` if it can't be done.
 type Sum = Option<u64>;
 
 fn main(rt: HostRuntime) -> ExitCode {
@@ -52,7 +52,7 @@ fn work_of<R: AllocGlobal + Files>(rt: &R, words: &[String]) -> Sum {
     work_named(rt, work.as_str(), on.as_str(), times)
 }
 
-/// Does the work of that name so many times.
+/// Does the work of that name `times` times.
 fn work_named<R: AllocGlobal + Files>(rt: &R, work: &str, on: &str, times: u64) -> Sum {
     match work {
         "maps" => count_times(rt.alloc(), times),
@@ -65,7 +65,7 @@ fn work_named<R: AllocGlobal + Files>(rt: &R, work: &str, on: &str, times: u64) 
     }
 }
 
-/// Does the work of that name so many times on a file.
+/// Does the work of that name `times` times on a file.
 fn on_file<R: AllocGlobal + Files>(rt: &R, work: &str, path: &str, times: u64) -> Sum {
     let bytes = read(rt, path)?;
     on_bytes(rt.alloc(), work, bytes.as_slice(), times)

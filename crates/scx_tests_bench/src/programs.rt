@@ -92,7 +92,7 @@ pub(crate) fn verify_init_times(alloc: Global, bytes: &[u8], times: u64) -> Sum 
     verify_times(alloc, bytes, Callback::Init, &VALUE, times)
 }
 
-/// Verifies a program so many times. Each time it is decoded anew, since `verify` takes it.
+/// Verifies a program `times` times. It is decoded anew each time, since `verify` takes it.
 pub(crate) fn verify_times(
     alloc: Global,
     bytes: &[u8],
@@ -109,7 +109,7 @@ pub(crate) fn verify_times(
     Some(sum)
 }
 
-/// A number that depends on what is said of a program.
+/// A number that depends on the verdict on a program.
 fn verdict(alloc: Global, program: Program, callback: Callback, defs: &MapDefs) -> Sum {
     match verify(alloc, program, callback, defs) {
         Ok(verified) => Some(verified.instructions() as u64),
@@ -118,7 +118,7 @@ fn verdict(alloc: Global, program: Program, callback: Callback, defs: &MapDefs) 
     }
 }
 
-/// Runs the program that the bytes spell so many times, as a plain one.
+/// Runs the program of the bytes `times` times, as a plain one.
 pub(crate) fn run_times(alloc: Global, bytes: &[u8], times: u64) -> Sum {
     let program = decoded(alloc, bytes)?;
     let verified = accepted(alloc, program, Callback::Plain, &[])?;

@@ -15,7 +15,7 @@ pub enum Order {
     Vtime,
 }
 
-/// Goes round that often with so many tasks: a pop, a removal and two pushes a time.
+/// Goes round `times` times with that many tasks: a pop, a removal and two pushes each time.
 pub fn go_round(alloc: Global, order: Order, tasks: &str, times: u64) -> Sum {
     let tasks = tasks.parse().ok()?;
     go_round_counted::<Brand>(alloc, order, tasks, times, Blank::new(1))

@@ -9,13 +9,26 @@ use scx_vm::{Answer, Arg, Env};
 #[derive(Drop)]
 pub struct OneTask {
     pub weight: u32,
-    /// What is left of the task's slice, in nanoseconds.
+    /// The rest of the task's slice, in nanoseconds.
     pub slice: u64,
     pub vtime: u64,
     /// The helper that was called last.
     pub called: Option<Helper>,
-    /// What it was given.
+    /// The arguments of that call.
     pub given: [Arg; 5],
+}
+
+impl OneTask {
+    /// A host whose task has the weight 50, 5 ms left of its slice, and the virtual time 1000.
+    pub fn new() -> OneTask {
+        OneTask {
+            weight: 50,
+            slice: 5_000_000,
+            vtime: 1000,
+            called: None,
+            given: [Arg::Unset; 5],
+        }
+    }
 }
 
 impl Env for OneTask {

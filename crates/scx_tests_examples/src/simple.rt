@@ -33,7 +33,7 @@ out:
 exit
 ";
 
-/// Takes the default choice of a processor, and inserts the task there if that is idle.
+/// Takes the default choice of a CPU, and inserts the task there if that is idle.
 pub const SELECT_CPU: &str = "r6 = r1
 call 1005
 r7 = r0
@@ -50,7 +50,7 @@ r0 = r7
 exit
 ";
 
-/// Inserts a task into queue 0 by its virtual time, which is no more than 20 ms behind that of now.
+/// Inserts a task into queue 0 by its virtual time, which is at most 20 ms before that of now.
 pub const ENQUEUE_BY_VTIME: &str = "r6 = r1
 r7 = r2
 *(u32 *)(r10 - 4) = 0
@@ -84,7 +84,7 @@ call 1002
 exit
 ";
 
-/// Moves a task from queue 0 to the processor's own queue.
+/// Moves a task from queue 0 to the CPU's own queue.
 pub const DISPATCH: &str = "r1 = 0
 call 1004
 exit
@@ -108,7 +108,7 @@ out:
 exit
 ";
 
-/// Charges a task, by its weight, for what it used of its slice.
+/// Charges a task, by its weight, for the part of its slice that it used.
 pub const STOPPING: &str = "r2 = 20000000
 r3 = *(u64 *)(r1 + 8)
 r2 -= r3

@@ -1,13 +1,9 @@
-//! Tests of the libraries that a host is made of: dispatch queues, the tree of weights and limits, and array maps.
+//! Tests of the libraries that make up a host: dispatch queues, and the tree of weights and limits.
 #![tactic(auto)]
 
 #[cfg(test)]
-mod limits;
-#[cfg(test)]
-mod maps;
-#[cfg(test)]
-mod queues;
-#[cfg(test)]
 mod same;
+#[cfg(test)]
+mod tests;
 #[cfg(test)]
 mod weights;

@@ -1,6 +1,6 @@
 use crate::same::expect_same;
+use scx_tests_examples::Numbers;
 use scx_weights::{Group, Tree, TreeError};
-use std::alloc::Global;
 use std::process::Abort;
 
 macro_rules! group {
@@ -172,13 +172,19 @@ fn sleeping_tasks_take_no_share(rt: HostRuntime) {
     drop(tree);
 }
 
-/// Why groups and the groups of tasks make no tree, if they make none.
-fn refusal(alloc: Global, groups: &[Group], tasks: &[u32]) -> Option<TreeError> {
-    Tree::new(alloc, groups, tasks).err()
+/// The tree of these groups and tasks is refused for that reason, or made.
+pub(crate) fn expect_refusal<R: AllocGlobal + Abort>(
+    rt: &R,
+    groups: &[Group],
+    tasks: &[u32],
+    wanted: Option<TreeError>,
+    case: usize,
+) {
+    expect_same(rt, Tree::new(rt.alloc(), groups, tasks).err(), wanted, case);
 }
 
-/// A group, the group of a task, and what is wrong with them: of several faults the first in the order of
-/// their numbers.
+/// A group, the group of a task, and why they are refused: of several faults the first in the order of their
+/// numbers.
 type Fault = (Group, u32, TreeError);
 
 /// One group and one task that make no tree.
@@ -193,12 +199,11 @@ const FAULTY: [Fault; 5] = [
 #[test]
 fn a_faulty_group_is_refused(rt: HostRuntime) {
     for (number, &(group, task, error)) in FAULTY.iter().enumerate() {
-        let found = refusal(rt.alloc(), &[group], &[task]);
-        expect_same(&rt, found, Some(error), number);
+        expect_refusal(&rt, &[group], &[task], Some(error), number);
     }
 }
 
-/// The same of two groups.
+/// Two groups and one task that make no tree.
 const FAULTY_PAIRS: [([Group; 2], u32, TreeError); 3] = [
     (
         [group!(Some(1), 1), group!(None, 1)],
@@ -220,8 +225,7 @@ const FAULTY_PAIRS: [([Group; 2], u32, TreeError); 3] = [
 #[test]
 fn faulty_pairs_of_groups_are_refused(rt: HostRuntime) {
     for (number, &(groups, task, error)) in FAULTY_PAIRS.iter().enumerate() {
-        let found = refusal(rt.alloc(), &groups, &[task]);
-        expect_same(&rt, found, Some(error), number);
+        expect_refusal(&rt, &groups, &[task], Some(error), number);
     }
 }
 
@@ -232,7 +236,7 @@ const CHAIN: [Group; 4] = [
     group!(Some(2), 1),
 ];
 
-/// The same of four groups, of which the last is too deep.
+/// Four groups, of which the last is too deep, and one task.
 const FAULTY_CHAINS: [([Group; 4], u32, TreeError); 3] = [
     (CHAIN, 3, TreeError::TooDeep),
     (CHAIN, 0, TreeError::TooDeep),
@@ -251,8 +255,7 @@ const FAULTY_CHAINS: [([Group; 4], u32, TreeError); 3] = [
 #[test]
 fn faulty_chains_of_groups_are_refused(rt: HostRuntime) {
     for (number, &(groups, task, error)) in FAULTY_CHAINS.iter().enumerate() {
-        let found = refusal(rt.alloc(), &groups, &[task]);
-        expect_same(&rt, found, Some(error), number);
+        expect_refusal(&rt, &groups, &[task], Some(error), number);
     }
 }
 
@@ -271,8 +274,7 @@ const FAULTY_LISTS: [(&[Group], &[u32], TreeError); 4] = [
 #[test]
 fn faulty_lists_are_refused(rt: HostRuntime) {
     for (number, &(groups, tasks, error)) in FAULTY_LISTS.iter().enumerate() {
-        let found = refusal(rt.alloc(), groups, tasks);
-        expect_same(&rt, found, Some(error), number);
+        expect_refusal(&rt, groups, tasks, Some(error), number);
     }
 }
 
@@ -291,8 +293,7 @@ const SIZES: [Size; 3] = [
 #[test]
 fn groups_and_tasks_are_limited(rt: HostRuntime) {
     for &(groups, tasks, wanted) in &SIZES {
-        let found = refusal(rt.alloc(), groups, tasks);
-        expect_same(&rt, found, wanted, tasks.len());
+        expect_refusal(&rt, groups, tasks, wanted, tasks.len());
     }
 }
 
@@ -348,7 +349,7 @@ impl Plain {
         self.homes.get(task).copied().unwrap_or(0)
     }
 
-    /// Whether the task of that number is active, or the one that is counted in any case.
+    /// True if the task of that number is active, or is the one that is counted in any case.
     fn counts(&self, number: usize, task: usize) -> bool {
         number == task || self.active.get(number).copied().unwrap_or(false)
     }
@@ -386,7 +387,7 @@ impl Plain {
         sum
     }
 
-    /// How many tasks share the group of that task, the task counted.
+    /// The number of tasks that share the group of that task, the task counted.
     fn sharers(&self, task: usize, home: u32) -> u128 {
         let mut sharers = 0u128;
         for (number, other) in self.homes.iter().enumerate() {
@@ -404,7 +405,7 @@ impl Plain {
         self.share(&marks, home, self.sharers(task, home))
     }
 
-    /// The share of each of so many tasks of a group, of 10,000.
+    /// The share of each of `sharers` tasks of a group, of 10,000.
     fn share(&self, marks: &[bool], home: u32, sharers: u128) -> u32 {
         let mut whole = sharers;
         let mut part = 10_000u128;
@@ -419,23 +420,6 @@ impl Plain {
         }
         let weight = part.checked_div(whole).unwrap_or(0).max(1);
         u32::try_from(weight).unwrap_or(0)
-    }
-}
-
-/// Numbers that look random (the generator of Knuth's MMIX).
-#[derive(Drop)]
-struct Numbers {
-    state: u64,
-}
-
-impl Numbers {
-    fn below(&mut self, limit: u32) -> u32 {
-        self.state = self
-            .state
-            .wrapping_mul(6_364_136_223_846_793_005)
-            .wrapping_add(1_442_695_040_888_963_407);
-        let number = (self.state >> 33) as u32;
-        number.checked_rem(limit).unwrap_or(0)
     }
 }
 
@@ -514,7 +498,7 @@ fn compare_many(rt: &impl Abort, numbers: &mut Numbers, tree: &mut Tree, plain: 
 
 #[test]
 fn running_sums_agree_with_the_whole_tree(rt: HostRuntime) {
-    let mut numbers = Numbers { state: 1 };
+    let mut numbers = Numbers::new(1);
     let mut plain = large(&mut numbers);
     let mut tree = asleep(&rt, &plain.groups, &plain.homes);
     compare_many(&rt, &mut numbers, &mut tree, &mut plain);

@@ -35,6 +35,14 @@ fn expect_events<R: AllocGlobal + Abort>(rt: &R, text: &str, events: &[Event]) {
     drop(workload);
 }
 
+const WAKE: Event = Event::Wake(0);
+
+const TICK: Event = Event::Tick(0);
+
+const MS: Event = Event::Clock;
+
+const SLEEP: Event = Event::Sleep(0);
+
 /// The task runs for 2 ms and sleeps for 3.
 const SLEEPER: &str = "cpus = 1
 ms = 6
@@ -43,21 +51,7 @@ task = [{ name = 'a', group = 'g', run = 2, sleep = 3 }]
 ";
 
 const SLEEPS: [Event; 15] = [
-    Event::Wake(0),
-    Event::Tick(0),
-    Event::Clock,
-    Event::Tick(0),
-    Event::Sleep(0),
-    Event::Clock,
-    Event::Tick(0),
-    Event::Clock,
-    Event::Tick(0),
-    Event::Clock,
-    Event::Tick(0),
-    Event::Clock,
-    Event::Wake(0),
-    Event::Tick(0),
-    Event::Clock,
+    WAKE, TICK, MS, TICK, SLEEP, MS, TICK, MS, TICK, MS, TICK, MS, WAKE, TICK, MS,
 ];
 
 #[test]
@@ -65,7 +59,7 @@ fn a_task_runs_and_sleeps(rt: HostRuntime) {
     expect_events(&rt, SLEEPER, &SLEEPS);
 }
 
-/// Changes that are not in the order of their times, and a task that wakes first behind one of a greater number.
+/// Changes out of the order of their times, and a task that first wakes after one of a greater number.
 const CHANGES: &str = "cpus = 2
 ms = 2
 group = [{ name = 'g' }, { name = 'h' }]

@@ -20,9 +20,9 @@ pub(crate) fn defs(rt: &impl Abort) -> MapDefs {
     MapDefs::new(&[shape]).expect(rt, "the shape is within the limits")
 }
 
-/// The program that the text stands for, verified as that callback.
+/// The program of the text, verified as that callback.
 pub(crate) fn program<R: AllocGlobal + Abort>(rt: &R, callback: Callback, text: &str) -> Verified {
-    let program = assemble(rt.alloc(), text).expect(rt, "the text stands for a program");
+    let program = assemble(rt.alloc(), text).expect(rt, "the text is a program");
     verify(rt.alloc(), program, callback, &defs(rt)).expect(rt, "the program is safe")
 }
 
@@ -40,7 +40,7 @@ pub(crate) fn policy<R: AllocGlobal + Abort>(rt: &R, texts: &[(Callback, &str)])
     policy_within(rt, 30_000, texts)
 }
 
-/// The same, under which a task may wait so many milliseconds.
+/// The policy whose callbacks have these texts, under which a task may wait `timeout_ms` milliseconds.
 pub(crate) fn policy_within<R: AllocGlobal + Abort>(
     rt: &R,
     timeout_ms: u32,
@@ -57,7 +57,7 @@ pub(crate) const TWO_MILLISECONDS: &[(Callback, &str)] = &[
     (Callback::Dispatch, DISPATCH),
 ];
 
-/// So many tasks in one group.
+/// Tasks in one group.
 pub(crate) fn tree<R: AllocGlobal + Abort>(rt: &R, tasks: &[u32]) -> Tree {
     Tree::new(rt.alloc(), &[Group::new(None, 100)], tasks).expect(rt, "the tasks are in the group")
 }

@@ -5,7 +5,7 @@ use scx_sched::{Note, Sink};
 use std::alloc::Global;
 use std::fmt::Write;
 
-/// Takes so many notes, and fails at the next.
+/// A sink that takes `left` more notes, and fails at the next.
 #[derive(Drop)]
 pub(crate) struct Recorder {
     /// A line for each note.

@@ -20,7 +20,7 @@ pub(crate) struct Session {
 }
 
 impl Session {
-    /// A machine, and room for so many notes.
+    /// A machine, and room for `room` notes.
     pub(crate) fn of<R: AllocGlobal + Abort>(
         rt: &R,
         policy: Policy,
@@ -35,12 +35,12 @@ impl Session {
         }
     }
 
-    /// Two tasks that take turns of 2 ms on one processor, and room for so many notes.
+    /// Two tasks that take turns of 2 ms on one CPU, and room for `room` notes.
     pub(crate) fn taking_turns<R: AllocGlobal + Abort>(rt: &R, room: usize) -> Session {
         Session::of(rt, policy(rt, TWO_MILLISECONDS), tree(rt, &[0, 0]), 1, room)
     }
 
-    /// So many tasks on one processor, of which nobody is put anywhere, and each may wait five milliseconds.
+    /// Tasks on one CPU that are held, each of which may wait five milliseconds.
     pub(crate) fn holding<R: AllocGlobal + Abort>(rt: &R, tasks: usize) -> Session {
         let homes = vec![in rt.alloc(); 0_u32; tasks].expect(rt, "memory is ample");
         let policy = policy_within(rt, 5, &[(Callback::Enqueue, "exit")]);
@@ -55,7 +55,7 @@ impl Session {
         }
     }
 
-    /// So many milliseconds go by on the one processor.
+    /// That many milliseconds go by on the one CPU.
     pub(crate) fn go_by(&mut self, rt: &impl Abort, milliseconds: u32) {
         for _ in 0..milliseconds {
             self.run(rt, &[Event::Tick(0), Event::Clock]);
@@ -72,7 +72,7 @@ impl Session {
         }
     }
 
-    /// What was noted is this, a line for each note.
+    /// The notes are these, a line each.
     pub(crate) fn noted(&self, rt: &impl Abort, wanted: &str) {
         expect_same(rt, self.recorder.text.as_str(), wanted, "notes");
     }
@@ -90,14 +90,14 @@ impl Session {
         self.sim.place(task)
     }
 
-    /// The task has waited so many milliseconds.
+    /// The task has waited `wanted` milliseconds.
     pub(crate) fn has_waited(&self, rt: &impl Abort, task: u16, wanted: u64) {
         let known = task < self.sim.tasks();
         assert!(rt; known);
         expect_same(rt, self.sim.wait(task), wanted, task);
     }
 
-    /// What the machine says of itself and of a task.
+    /// The machine's own figures, and those of a task.
     fn seen(&self, rt: &impl Abort, task: u16) -> Seen {
         let known = task < self.sim.tasks();
         assert!(rt; known);

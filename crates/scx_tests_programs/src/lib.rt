@@ -2,20 +2,10 @@
 #![tactic(auto)]
 
 #[cfg(test)]
-mod arrays_on_both;
-#[cfg(test)]
-mod both_machines;
-#[cfg(test)]
-mod both_passes;
-#[cfg(test)]
-mod explanations;
-#[cfg(test)]
 mod malicious;
 #[cfg(test)]
 mod programs;
 #[cfg(test)]
-mod runs;
-#[cfg(test)]
 mod same;
 #[cfg(test)]
-mod telling;
+mod tests;

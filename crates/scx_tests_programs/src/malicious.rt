@@ -1,4 +1,4 @@
-//! Bytes that nobody meant as a program: callbacks of scx_simple cut short or with a byte changed, and
+//! Bytes that aren't meant as a program: callbacks of scx_simple cut short or with a byte changed, and
 //! bytes from a fixed generator. Whatever they are, they get an answer, and what is decoded is encoded
 //! to the same bytes.
 
@@ -6,7 +6,7 @@ use crate::same::expect_same;
 use scx_asm::assemble;
 use scx_isa::{Callback, decode, encode, flow};
 use scx_maps::{MapDefs, Shape};
-use scx_tests_examples::WITHOUT_SELECT_CPU;
+use scx_tests_examples::{WITHOUT_SELECT_CPU, xorshift};
 use scx_verify::verify;
 use std::alloc::{AllocError, Global};
 use std::process::Abort;
@@ -51,7 +51,7 @@ fn judge_beginnings<R: AllocGlobal + Abort>(rt: &R, code: &[u8], callback: Callb
 }
 
 fn judge_beginnings_of<R: AllocGlobal + Abort>(rt: &R, callback: Callback, text: &str) {
-    let code = code_of(rt.alloc(), text).expect(rt, "the text stands for a program");
+    let code = code_of(rt.alloc(), text).expect(rt, "the text is a program");
     judge_beginnings(rt, code.as_slice(), callback);
 }
 
@@ -77,7 +77,7 @@ fn change_each_byte<R: AllocGlobal + Abort>(rt: &R, code: &mut [u8], callback: C
 }
 
 fn change_each_byte_of<R: AllocGlobal + Abort>(rt: &R, callback: Callback, text: &str) {
-    let mut code = code_of(rt.alloc(), text).expect(rt, "the text stands for a program");
+    let mut code = code_of(rt.alloc(), text).expect(rt, "the text is a program");
     change_each_byte(rt, code.as_mut_slice(), callback);
 }
 
@@ -88,25 +88,15 @@ fn changed_bytes_are_judged(rt: HostRuntime) {
     }
 }
 
-/// The next number of a fixed walk (Marsaglia's xorshift).
-fn next(state: &mut u64) -> u64 {
-    let mut x = *state;
-    x ^= x.wrapping_shl(13);
-    x ^= x >> 7;
-    x ^= x.wrapping_shl(17);
-    *state = x;
-    x
-}
-
 /// Up to 15 slots and a part of one. Opcodes of the profile come often, and small registers and offsets.
 fn bytes_of_walk(alloc: Global, state: &mut u64) -> Result<Vec<u8>, AllocError> {
     let opcodes = [
         0xb7u8, 0xbf, 0x07, 0x0f, 0x7b, 0x79, 0x15, 0x55, 0x05, 0x85, 0x18, 0x95,
     ];
     let mut bytes = Vec::new(alloc);
-    let length = next(state) % 124;
+    let length = xorshift(state) % 124;
     for place in 0..length {
-        let number = next(state);
+        let number = xorshift(state);
         let byte = match place % 8 {
             _ if number % 16 == 0 => (number >> 32 & 0xff) as u8,
             0 => opcodes[((number >> 16) % 12) as usize],
@@ -119,7 +109,7 @@ fn bytes_of_walk(alloc: Global, state: &mut u64) -> Result<Vec<u8>, AllocError> 
     Ok(bytes)
 }
 
-/// Whether the next bytes of the walk get an answer.
+/// True if the next bytes of the walk get an answer.
 fn is_judged(alloc: Global, defs: &MapDefs, state: &mut u64) -> Result<bool, AllocError> {
     let bytes = bytes_of_walk(alloc, state)?;
     let judged = judge(alloc, defs, bytes.as_slice(), Callback::Plain);

@@ -1,4 +1,4 @@
-//! Tests of programs and their bytes: of `scx_isa`'s public calls. Which slots are refused stands in files of cases.
+//! Tests of programs and their bytes, by the public calls of `scx_isa`. Refused slots are in files of cases.
 
 use crate::same::expect_same;
 use scx_isa::{Insn, Operand, Operation, Register, Width, decode, encode};

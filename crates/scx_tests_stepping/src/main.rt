@@ -1,5 +1,5 @@
-//! A caller of the libraries: it reads a policy and a workload, takes their machine through the events one by
-//! one, and says who runs and what came of it. docs/LIBRARY.md goes through it part by part.
+//! A caller of the libraries: it reads a policy and a workload, gives their machine the events one by one, and writes
+//! which tasks run and for how long. docs/LIBRARY.md goes through it part by part.
 #![tactic(auto)]
 
 ghost use Rattle.std.specs.Prelude.{◌≡◌, true, false};
@@ -11,7 +11,7 @@ use std::alloc::Global;
 use std::io;
 use std::process::ExitCode;
 
-/// Tasks in one line, two milliseconds each.
+/// Tasks take turns of two milliseconds.
 const POLICY: &str = r#"name = "short_slices"
 [code]
 init = """
@@ -33,7 +33,7 @@ exit
 """
 "#;
 
-/// Two tasks that never sleep, on one processor.
+/// Two tasks that never sleep, on one CPU.
 const WORKLOAD: &str = r#"cpus = 1
 ms = 4
 [[group]]
@@ -46,7 +46,7 @@ name = "b"
 group = "g"
 "#;
 
-/// Counts how often a task has to leave its processor. It never fails, so it may take notes in any way.
+/// Counts the stops of tasks. It never fails, so it may take notes in any way.
 #[derive(Drop)]
 struct Stops {
     count: u64,
@@ -125,7 +125,7 @@ fn follow<R: Print>(rt: &R, driver: &mut Driver, sim: &mut Sim) -> io::Result<()
     println!(rt; "{} events, {} stops", sim.events(), stops.count)
 }
 
-/// Says who runs on each processor.
+/// Writes the task that runs on each CPU.
 fn write_running<R: Print>(rt: &R, sim: &Sim) -> io::Result<()> {
     let clock = sim.clock();
     for cpu in 0..sim.cpus() {
@@ -137,7 +137,7 @@ fn write_running<R: Print>(rt: &R, sim: &Sim) -> io::Result<()> {
     Ok(())
 }
 
-/// Says of each task where it is, for how long it ran, and for how long it has waited.
+/// Writes each task's place, run time and wait.
 fn write_tasks<R: Print>(rt: &R, sim: &Sim) -> io::Result<()> {
     for task in 0..sim.tasks() {
         let (place, run_ns, wait) = (sim.place(task), sim.run_ns(task), sim.wait(task));

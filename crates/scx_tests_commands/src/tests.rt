@@ -1,0 +1,12 @@
+mod beginnings;
+mod commands;
+mod failures;
+mod finishing;
+mod limits;
+mod lines;
+mod memory;
+mod pauses;
+mod progress;
+mod runs;
+mod texts;
+mod writers;

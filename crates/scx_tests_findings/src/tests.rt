@@ -1,0 +1,5 @@
+mod files;
+mod findings;
+mod machines;
+mod quotas;
+mod states;

@@ -1,4 +1,0 @@
-use Rattle.scx_tests_host.proofs.queues.ask.Given as goal
-
-abbrev pub ghosts-ask_counted : goal.ghosts-ask_counted
-ghosts-ask_counted g a = record { name = a.blank.name; parts = a.blank.parts }

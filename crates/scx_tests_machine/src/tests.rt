@@ -1,0 +1,6 @@
+mod crowds;
+mod files;
+mod largest;
+mod refusals;
+mod steps;
+mod turns;

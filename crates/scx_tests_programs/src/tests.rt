@@ -1,0 +1,6 @@
+mod arrays_on_both;
+mod both_machines;
+mod both_passes;
+mod explanations;
+mod runs;
+mod telling;
