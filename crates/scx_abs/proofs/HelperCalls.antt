@@ -8,12 +8,13 @@ use Rattle.scx_isa_semantics.specs.declared.host_tables.Helper.{Helper}
 use Rattle.scx_isa_semantics.specs.declared.host_tables.Helper.TheVariants as helper
 use Rattle.scx_isa_semantics.specs.declared.host_tables.Parameter.{Parameter}
 use Rattle.scx_isa_semantics.specs.declared.host_tables.Parameter.TheVariants as parameter
+use Rattle.scx_isa_semantics.specs.declared.rules.Rules.{Rules}
 use Rattle.scx_isa_semantics.specs.declared.values.Value.{Value}
 use Rattle.scx_isa_semantics.specs.declared.values.Value.TheVariants as value
 use Rattle.scx_isa_semantics.specs.declared.values.Pointer.TheVariants as pointer
 use Rattle.scx_isa_semantics.specs.Arithmetic.{at_distance}
 use Rattle.scx_isa_semantics.specs.Memory.{Stack, stack_size, aligned_within, load}
-use Rattle.scx_isa_semantics.specs.HostTables.{parameters, is_allowed}
+use Rattle.scx_isa_semantics.specs.HostTables.{parameters, is_known, is_allowed, if_known}
 use Rattle.scx_isa_semantics.specs.Elements.{Maps, elements, element}
 use Rattle.scx_isa_semantics.specs.Locations as location
 use Rattle.scx_isa_semantics.specs.Locations.{on_stack, in_element, address}
@@ -178,8 +179,15 @@ allowed_sound shapes h a m (Err why) b g p e = tt
 allowed_sound shapes h a m (Ok fine) b g p e = rw p (called_sound shapes h a m g (e ∙ p))
 
 -- the rule of helper calls is sound
-pub call_sound : (shapes : List Shape) (c : Callback) (h : Option Helper) (a : AbsState) (m : Machine) → IsProper a → IsMember shapes a m → IsSoundFor shapes (call_rule shapes c h a) (call_helper c m h)
+call_sound : (shapes : List Shape) (c : Callback) (h : Option Helper) (a : AbsState) (m : Machine) → IsProper a → IsMember shapes a m → IsSoundFor shapes (call_rule shapes c h a) (call_helper c m h)
 call_sound shapes c None a m w g = tt
 call_sound shapes c (Some h) a m w g =
     elim (is_allowed h c) as (λ b. IsSoundFor shapes (if b then call_allowed shapes h a else Err HelperNotHere) (if b && takes_all m (parameters h) 1 then call_effect m h else effect.Stuck))
     [ true ↦ allowed_sound shapes h a m (arguments_check shapes a (parameters h) 1) (takes_all m (parameters h) 1) g (arguments_pass shapes a m (parameters h) 1 w g) refl | false ↦ tt ]
+
+-- and whichever helpers a machine by its rules has
+pub known_sound : (r : Rules) (shapes : List Shape) (c : Callback) (h : Option Helper) (a : AbsState) (m : Machine) → IsProper a → IsMember shapes a m
+    → IsSoundFor shapes (call_rule shapes c (if_known r h) a) (call_helper c m h)
+known_sound r shapes c None a m w g = tt
+known_sound r shapes c (Some h) a m w g =
+    elim (is_known h r) as (λ b. IsSoundFor shapes (call_rule shapes c (if b then Some h else None) a) (call_helper c m (Some h))) [ true ↦ call_sound shapes c (Some h) a m w g | false ↦ tt ]

@@ -29,7 +29,7 @@ use Rattle.scx_isa_semantics.specs.Memory.{size_bytes, access_size, stack_size}
 use Rattle.scx_isa_semantics.specs.Meaning.{pointer_step, is_plain}
 use Rattle.scx_isa_semantics.proofs.Numbers.{immediate_below, wide_immediate_below}
 use Rattle.scx_isa_encoding.specs.Spelling.{IsOperand}
-use Rattle.scx_isa_semantics.specs.HostTables.{is_writable, helper_at, answers, parameters, is_allowed}
+use Rattle.scx_isa_semantics.specs.HostTables.{is_writable, helper_known, answers, parameters, is_allowed}
 use Rattle.scx_maps.specs.declared.shape.Shape.{Shape}
 use Rattle.scx_abs_ranges.specs.declared.ranges.Range.{Range}
 use Rattle.scx_abs_ranges.specs.Ranges.{IsWellFormed, IsRange, CoversRange, join_ranges, single, is_single}
@@ -394,32 +394,32 @@ end_proper k = tt
 
 -- rules keep states proper
 pub rule_proper : RulesKeepProper
-rule_proper shapes c (insn.Binary w o d x) a fits p = sets_proper a (number d) (binary_kind shapes a w o d x) p (binary_is_proper shapes a w o d x fits p)
-rule_proper shapes c (insn.Negate w d) a fits p =
+rule_proper c (insn.Binary w o d x) a fits p = sets_proper a (number d) (binary_kind c.defs a w o d x) p (binary_is_proper c.defs a w o d x fits p)
+rule_proper c (insn.Negate w d) a fits p =
     sets_proper a (number d) (number_kind (negated_range w) (kind_at a (number d))) p
     (number_is_proper (negated_range w) (kind_at a (number d)) (λ r h. negative_range w r h) (kind_is_proper a (number d) p))
-rule_proper shapes c (insn.SignExtend e d r) a fits p =
+rule_proper c (insn.SignExtend e d r) a fits p =
     sets_proper a (number d) (number_kind (extended_range e) (kind_at a (number r))) p
     (number_is_proper (extended_range e) (kind_at a (number r)) (λ q h. extension_range e q h) (kind_is_proper a (number r) p))
-rule_proper shapes c (insn.ByteSwap o w d) a fits p =
+rule_proper c (insn.ByteSwap o w d) a fits p =
     sets_proper a (number d) (number_kind (swapped_range o w) (kind_at a (number d))) p
     (number_is_proper (swapped_range o w) (kind_at a (number d)) (λ r h. swap_range o w r h) (kind_is_proper a (number d) p))
-rule_proper shapes c (insn.LoadImmediate d low_half high_half) a fits p =
+rule_proper c (insn.LoadImmediate d low_half high_half) a fits p =
     sets_proper a (number d) (Ok (Num (single (wide_immediate low_half high_half)))) p
     (single_range (wide_immediate low_half high_half) (wide_immediate_below low_half high_half fits.0 fits.1))
-rule_proper shapes c (insn.LoadMapReference d k) a fits p = sets_proper a (number d) (map_kind shapes k) p (map_is_proper shapes k)
-rule_proper shapes c (insn.Load access d r offset) a fits p = sets_proper a (number d) (load_kind shapes a access r offset) p (load_is_proper shapes a access r offset p)
-rule_proper shapes c (insn.Store s r offset x) a fits p =
-    then_proper (usable (kind_at a (number r))) (λ base. operand_kind a Bits64 x >>= λ k. area_of shapes base offset (size_bytes s) >>= λ t. stored_in a s k t)
-    (λ base. then_kept (operand_kind a Bits64 x) (λ k. area_of shapes base offset (size_bytes s) >>= λ t. stored_in a s k t) (operand_is_proper a Bits64 x fits.1 p)
-    (λ k q. then_proper (area_of shapes base offset (size_bytes s)) (λ t. stored_in a s k t) (λ t. stored_proper a s k t p q)))
-rule_proper shapes c (insn.JumpIf w k r x offset) a fits p =
+rule_proper c (insn.LoadMapReference d k) a fits p = sets_proper a (number d) (map_kind c.defs k) p (map_is_proper c.defs k)
+rule_proper c (insn.Load access d r offset) a fits p = sets_proper a (number d) (load_kind c.defs a access r offset) p (load_is_proper c.defs a access r offset p)
+rule_proper c (insn.Store s r offset x) a fits p =
+    then_proper (usable (kind_at a (number r))) (λ base. operand_kind a Bits64 x >>= λ k. area_of c.defs base offset (size_bytes s) >>= λ t. stored_in a s k t)
+    (λ base. then_kept (operand_kind a Bits64 x) (λ k. area_of c.defs base offset (size_bytes s) >>= λ t. stored_in a s k t) (operand_is_proper a Bits64 x fits.1 p)
+    (λ k q. then_proper (area_of c.defs base offset (size_bytes s)) (λ t. stored_in a s k t) (λ t. stored_proper a s k t p q)))
+rule_proper c (insn.JumpIf w k r x offset) a fits p =
     then_kept (usable (kind_at a (number r))) (λ j. operand_kind a w x >>= λ l. comparison_rule a (number r) w k (null_test w k x) j l) (usable_kind (kind_at a (number r)) (kind_is_proper a (number r) p))
     (λ j q. then_proper (operand_kind a w x) (λ l. comparison_rule a (number r) w k (null_test w k x) j l) (λ l. compared_proper a (number r) w k (null_test w k x) j l p q))
-rule_proper shapes c (insn.Goto offset) a fits p = (tt, p)
-rule_proper shapes c (insn.GotoLong offset) a fits p = (tt, p)
-rule_proper shapes c (insn.Call k) a fits p = call_proper shapes c (helper_at k) a p
-rule_proper shapes c insn.Exit a fits p = elim (answers c) as (λ t. FlowsIn (if t then end_rule (kind_at a 0) else Ok (flows None None))) [ true ↦ end_proper (kind_at a 0) | false ↦ (tt, tt) ]
+rule_proper c (insn.Goto offset) a fits p = (tt, p)
+rule_proper c (insn.GotoLong offset) a fits p = (tt, p)
+rule_proper c (insn.Call k) a fits p = call_proper c.defs c.callback (helper_known c.rules k) a p
+rule_proper c insn.Exit a fits p = elim (answers c.callback) as (λ t. FlowsIn (if t then end_rule (kind_at a 0) else Ok (flows None None))) [ true ↦ end_proper (kind_at a 0) | false ↦ (tt, tt) ]
 
 -- ---- states that cover each other
 

@@ -26,7 +26,7 @@ use Rattle.scx_abs.proofs.Registers.{set_sound}
 use Rattle.scx_abs.proofs.Operations.{binary_gives, number_gives, map_gives}
 use Rattle.scx_abs.proofs.Accesses.{load_sound, store_sound}
 use Rattle.scx_abs.proofs.Branches.{jump_sound}
-use Rattle.scx_abs.proofs.HelperCalls.{call_sound}
+use Rattle.scx_abs.proofs.HelperCalls.{known_sound}
 use Rattle.scx_abs.proofs.Starts.{begins_sound}
 
 end_sound : (shapes : List Shape) (maps : Maps) (k : Kind) (v : Value) → Stands maps k v → IsSoundFor shapes (end_rule k) (end_with v)
@@ -36,30 +36,30 @@ end_sound shapes maps k v h = tt
 
 -- the law of rules
 pub rules_sound : RulesAreSound
-rules_sound shapes c (insn.Binary w o d x) a m fits p h =
-    set_sound shapes a m (number d) (binary_kind shapes a w o d x) (binary m w o (m.registers (number d)) x) h (binary_gives shapes a m w o d x fits p h)
-rules_sound shapes c (insn.Negate w d) a m fits p h =
-    set_sound shapes a m (number d) (number_kind (negated_range w) (kind_at a (number d))) (on_number (negative w) (m.registers (number d))) h
+rules_sound c (insn.Binary w o d x) a m fits p h =
+    set_sound c.defs a m (number d) (binary_kind c.defs a w o d x) (binary m w o (m.registers (number d)) x) h (binary_gives c.defs a m w o d x fits p h)
+rules_sound c (insn.Negate w d) a m fits p h =
+    set_sound c.defs a m (number d) (number_kind (negated_range w) (kind_at a (number d))) (on_number (negative w) (m.registers (number d))) h
     (number_gives m.maps (negative w) (negated_range w) (kind_at a (number d)) (m.registers (number d)) (negatives_are_sound w) (kind_is_proper a (number d) p) (h.registers (number d)))
-rules_sound shapes c (insn.SignExtend e d r) a m fits p h =
-    set_sound shapes a m (number d) (number_kind (extended_range e) (kind_at a (number r))) (on_number (sign_extension e) (m.registers (number r))) h
+rules_sound c (insn.SignExtend e d r) a m fits p h =
+    set_sound c.defs a m (number d) (number_kind (extended_range e) (kind_at a (number r))) (on_number (sign_extension e) (m.registers (number r))) h
     (number_gives m.maps (sign_extension e) (extended_range e) (kind_at a (number r)) (m.registers (number r)) (extensions_are_sound e) (kind_is_proper a (number r) p) (h.registers (number r)))
-rules_sound shapes c (insn.ByteSwap o w d) a m fits p h =
-    set_sound shapes a m (number d) (number_kind (swapped_range o w) (kind_at a (number d))) (on_number (byte_swapped o w) (m.registers (number d))) h
+rules_sound c (insn.ByteSwap o w d) a m fits p h =
+    set_sound c.defs a m (number d) (number_kind (swapped_range o w) (kind_at a (number d))) (on_number (byte_swapped o w) (m.registers (number d))) h
     (number_gives m.maps (byte_swapped o w) (swapped_range o w) (kind_at a (number d)) (m.registers (number d)) (swaps_are_sound o w) (kind_is_proper a (number d) p) (h.registers (number d)))
-rules_sound shapes c (insn.LoadImmediate d low_half high_half) a m fits p h =
-    set_sound shapes a m (number d) (Ok (Num (single (wide_immediate low_half high_half)))) (Some (value.Number (wide_immediate low_half high_half))) h (in_single (wide_immediate low_half high_half))
-rules_sound shapes c (insn.LoadMapReference d k) a m fits p h =
-    set_sound shapes a m (number d) (map_kind shapes k) (map_reference m.maps k) h (map_gives shapes m.maps k h.maps)
-rules_sound shapes c (insn.Load access d r offset) a m fits p h = load_sound shapes a m access d r offset p h
-rules_sound shapes c (insn.Store s r offset x) a m fits p h = store_sound shapes a m s r offset x fits.1 p h
-rules_sound shapes c (insn.JumpIf w k r x offset) a m fits p h = jump_sound shapes a m w k r x fits.1 p h
-rules_sound shapes c (insn.Goto offset) a m fits p h = h
-rules_sound shapes c (insn.GotoLong offset) a m fits p h = h
-rules_sound shapes c (insn.Call k) a m fits p h = call_sound shapes c (helper_at k) a m p h
-rules_sound shapes c insn.Exit a m fits p h =
-    elim (answers c) as (λ b. IsSoundFor shapes (if b then end_rule (kind_at a 0) else Ok (flows None None)) (if b then end_with (m.registers 0) else effect.Ended 0))
-    [ true ↦ end_sound shapes m.maps (kind_at a 0) (m.registers 0) (h.registers 0) | false ↦ tt ]
+rules_sound c (insn.LoadImmediate d low_half high_half) a m fits p h =
+    set_sound c.defs a m (number d) (Ok (Num (single (wide_immediate low_half high_half)))) (Some (value.Number (wide_immediate low_half high_half))) h (in_single (wide_immediate low_half high_half))
+rules_sound c (insn.LoadMapReference d k) a m fits p h =
+    set_sound c.defs a m (number d) (map_kind c.defs k) (map_reference m.maps k) h (map_gives c.defs m.maps k h.maps)
+rules_sound c (insn.Load access d r offset) a m fits p h = load_sound c.defs a m access d r offset p h
+rules_sound c (insn.Store s r offset x) a m fits p h = store_sound c.defs a m s r offset x fits.1 p h
+rules_sound c (insn.JumpIf w k r x offset) a m fits p h = jump_sound c.defs a m w k r x fits.1 p h
+rules_sound c (insn.Goto offset) a m fits p h = h
+rules_sound c (insn.GotoLong offset) a m fits p h = h
+rules_sound c (insn.Call k) a m fits p h = known_sound c.rules c.defs c.callback (helper_at k) a m p h
+rules_sound c insn.Exit a m fits p h =
+    elim (answers c.callback) as (λ b. IsSoundFor c.defs (if b then end_rule (kind_at a 0) else Ok (flows None None)) (if b then end_with (m.registers 0) else effect.Ended 0))
+    [ true ↦ end_sound c.defs m.maps (kind_at a 0) (m.registers 0) (h.registers 0) | false ↦ tt ]
 
 -- the law of the start
 pub start_sound : StartIsSound

@@ -14,6 +14,7 @@ use Rattle.scx_isa_semantics.specs.Meaning.{act}
 use Rattle.scx_isa_semantics.specs.Runs.{Fits}
 use Rattle.scx_isa_encoding.specs.Spelling.{IsInsn}
 use Rattle.scx_maps.specs.declared.shape.Shape.{Shape}
+use Rattle.scx_vm.specs.declared.context.Context.{Context}
 use Rattle.scx_maps.specs.Contents.{HasShapes}
 use Rattle.scx_abs.specs.declared.faults.Why.{Why}
 use Rattle.scx_abs.specs.declared.states.AbsState.{AbsState}
@@ -46,9 +47,9 @@ IsSoundFor shapes (Ok next) e = FlowsIn shapes next e
 -- instruction's numbers fit their fields, and the state is proper.
 abbrev pub RulesAreSound : Type 0
 RulesAreSound =
-    (shapes : List Shape) (c : Callback) (i : Insn) (a : AbsState) (m : Machine)
-    → IsInsn i → IsProper a → IsMember shapes a m
-    → IsSoundFor shapes (rule shapes c i a) (act c i m)
+    (c : Context) (i : Insn) (a : AbsState) (m : Machine)
+    → IsInsn i → IsProper a → IsMember c.defs a m
+    → IsSoundFor c.defs (rule c i a) (act c.callback i m)
 
 -- whether it is a call of a helper, or a jump that tests a register for 0
 abbrev pub is_call_or_null_test : Insn → Bool
@@ -59,9 +60,9 @@ is_call_or_null_test i = false
 -- The rule is sound for the instructions of some kind.
 abbrev pub RulesAreSoundFor : (Insn → Type 0) → Type 0
 RulesAreSoundFor IsOfKind =
-    (shapes : List Shape) (c : Callback) (i : Insn) (a : AbsState) (m : Machine)
-    → IsOfKind i → IsInsn i → IsProper a → IsMember shapes a m
-    → IsSoundFor shapes (rule shapes c i a) (act c i m)
+    (c : Context) (i : Insn) (a : AbsState) (m : Machine)
+    → IsOfKind i → IsInsn i → IsProper a → IsMember c.defs a m
+    → IsSoundFor c.defs (rule c i a) (act c.callback i m)
 
 -- The rule is sound for each instruction but calls of helpers and tests for 0.
 abbrev pub PlainRulesAreSound : Type 0
@@ -110,5 +111,5 @@ FlowsProper next = IfSome next.on IsProper × IfSome next.jump IsProper
 -- fit their fields.
 abbrev pub RulesKeepProper : Type 0
 RulesKeepProper =
-    (shapes : List Shape) (c : Callback) (i : Insn) (a : AbsState)
-    → IsInsn i → IsProper a → IfOk (rule shapes c i a) FlowsProper
+    (c : Context) (i : Insn) (a : AbsState)
+    → IsInsn i → IsProper a → IfOk (rule c i a) FlowsProper

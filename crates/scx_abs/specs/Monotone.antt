@@ -1,11 +1,10 @@
 -- The laws of rules and joins against the order. Rules are monotone: what passes in a state passes
 -- in each state that it covers, and what flows on is covered too; so no check is stronger where
 -- more is known. A join is the least that covers both, and grows with each.
-use Rattle.std.specs.Prelude.{List, Option, Result, Ok, Err, IfSome}
+use Rattle.std.specs.Prelude.{Option, Result, Ok, Err, IfSome}
 use Rattle.scx_isa_semantics.specs.declared.instructions.Insn.{Insn}
-use Rattle.scx_isa_semantics.specs.declared.callbacks.Callback.{Callback}
 use Rattle.scx_isa_encoding.specs.Spelling.{IsInsn}
-use Rattle.scx_maps.specs.declared.shape.Shape.{Shape}
+use Rattle.scx_vm.specs.declared.context.Context.{Context}
 use Rattle.scx_abs.specs.declared.faults.Why.{Why}
 use Rattle.scx_abs.specs.declared.kinds.Kind.{Kind}
 use Rattle.scx_abs.specs.declared.kinds.Cell.{Cell}
@@ -37,9 +36,9 @@ pub record CoversFlows (next other : Next) : Type 0 where
 -- flows on is covered. The instruction's numbers fit their fields.
 abbrev pub RulesAreMonotone : Type 0
 RulesAreMonotone =
-    (shapes : List Shape) (c : Callback) (i : Insn) (b a : AbsState)
+    (c : Context) (i : Insn) (b a : AbsState)
     → IsInsn i → IsProper b → IsProper a → CoversState b a
-    → PassesToo CoversFlows (rule shapes c i b) (rule shapes c i a)
+    → PassesToo CoversFlows (rule c i b) (rule c i a)
 
 -- ---- joins
 

@@ -17,15 +17,15 @@ use Rattle.scx_isa_semantics.specs.declared.operations.Size.{Size}
 use Rattle.scx_isa_semantics.specs.declared.operations.Size.TheVariants as size
 use Rattle.scx_isa_semantics.specs.declared.operations.Access.{Access}
 use Rattle.scx_isa_semantics.specs.declared.operations.Access.TheVariants as access
-use Rattle.scx_isa_semantics.specs.declared.callbacks.Callback.{Callback}
 use Rattle.scx_isa_semantics.specs.declared.registers.Register.{Register}
 use Rattle.scx_isa_semantics.specs.Registers.{number}
 use Rattle.scx_isa_semantics.specs.Arithmetic.{at_distance, wide_immediate}
 use Rattle.scx_isa_semantics.specs.Memory.{size_bytes, access_size, stack_size}
 use Rattle.scx_isa_semantics.specs.declared.host_tables.Field.{Field}
-use Rattle.scx_isa_semantics.specs.HostTables.{field_at, is_writable, helper_at, answers}
+use Rattle.scx_isa_semantics.specs.HostTables.{field_at, is_writable, helper_known, answers}
 use Rattle.scx_isa_semantics.specs.Meaning.{pointer_step, is_plain}
 use Rattle.scx_maps.specs.declared.shape.Shape.{Shape}
+use Rattle.scx_vm.specs.declared.context.Context.{Context}
 use Rattle.scx_abs_ranges.specs.declared.ranges.Range.{Range}
 use Rattle.scx_abs_ranges.specs.Ranges.{single, is_single}
 use Rattle.scx_abs_ranges.specs.Cuts.{cut}
@@ -271,23 +271,23 @@ end_rule k = Err BadReturn
 
 -- ---- all instructions
 
--- the rule of an instruction in a callback, with maps of these shapes: what flows on, or a refusal
-abbrev pub rule : List Shape → Callback → Insn → AbsState → Result Next Why
-rule shapes c (insn.Binary w o d x) a = sets a (number d) (binary_kind shapes a w o d x)
-rule shapes c (insn.Negate w d) a =
+-- the rule of an instruction in a context: what flows on, or a refusal
+abbrev pub rule : Context → Insn → AbsState → Result Next Why
+rule c (insn.Binary w o d x) a = sets a (number d) (binary_kind c.defs a w o d x)
+rule c (insn.Negate w d) a =
     sets a (number d) (number_kind (negated_range w) (kind_at a (number d)))
-rule shapes c (insn.SignExtend e d r) a =
+rule c (insn.SignExtend e d r) a =
     sets a (number d) (number_kind (extended_range e) (kind_at a (number r)))
-rule shapes c (insn.ByteSwap o w d) a =
+rule c (insn.ByteSwap o w d) a =
     sets a (number d) (number_kind (swapped_range o w) (kind_at a (number d)))
-rule shapes c (insn.LoadImmediate d low_half high_half) a =
+rule c (insn.LoadImmediate d low_half high_half) a =
     sets a (number d) (Ok (Num (single (wide_immediate low_half high_half))))
-rule shapes c (insn.LoadMapReference d k) a = sets a (number d) (map_kind shapes k)
-rule shapes c (insn.Load access d r offset) a =
-    sets a (number d) (load_kind shapes a access r offset)
-rule shapes c (insn.Store s r offset x) a = store_rule shapes a s r offset x
-rule shapes c (insn.JumpIf w k r x offset) a = jump_rule a w k r x
-rule shapes c (insn.Goto offset) a = Ok (flows None (Some a))
-rule shapes c (insn.GotoLong offset) a = Ok (flows None (Some a))
-rule shapes c (insn.Call k) a = call_rule shapes c (helper_at k) a
-rule shapes c insn.Exit a = if answers c then end_rule (kind_at a 0) else Ok (flows None None)
+rule c (insn.LoadMapReference d k) a = sets a (number d) (map_kind c.defs k)
+rule c (insn.Load access d r offset) a =
+    sets a (number d) (load_kind c.defs a access r offset)
+rule c (insn.Store s r offset x) a = store_rule c.defs a s r offset x
+rule c (insn.JumpIf w k r x offset) a = jump_rule a w k r x
+rule c (insn.Goto offset) a = Ok (flows None (Some a))
+rule c (insn.GotoLong offset) a = Ok (flows None (Some a))
+rule c (insn.Call k) a = call_rule c.defs c.callback (helper_known c.rules k) a
+rule c insn.Exit a = if answers c.callback then end_rule (kind_at a 0) else Ok (flows None None)

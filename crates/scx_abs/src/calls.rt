@@ -1,5 +1,5 @@
 ghost use Rattle.std.specs.Prelude.{◌≡◌, ◌+◌, ◌≤◌, drop};
-ghost use Rattle.scx_isa_semantics.specs.HostTables.{parameters, helper_at};
+ghost use Rattle.scx_isa_semantics.specs.HostTables.{parameters, helper_known};
 ghost use Rattle.scx_abs.specs.Changes.{went_on};
 ghost use Rattle.scx_abs.specs.Calls.{key_in, key_check, task_check, map_check, number_check, takes, argument_check, arguments_check, element_of, answer_kind, call_allowed, call_rule};
 ghost use Rattle.scx_abs.specs.States.{kind_at};
@@ -18,9 +18,9 @@ use scx_vm::Context;
 /// here, and each argument is of the kind that it takes.
 pub fn called(state: &AbsState, number: i32, context: &Context) -> Result<Change, Why>
     ensures { went_on state.now result
-        ≡ call_rule context.now.defs context.now.callback (helper_at number) state.now }
+        ≡ call_rule context.now.defs context.now.callback (helper_known context.now.rules number) state.now }
 {
-    let Some(helper) = Helper::new(number) else {
+    let Some(helper) = Helper::known(number, context.rules) else {
         return Err(Why::UnknownHelper);
     };
     if !helper.is_allowed(context.callback) {

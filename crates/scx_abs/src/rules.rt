@@ -30,7 +30,7 @@ pub struct Next {
 /// checks that fails. A register that is written is checked first, then the registers that are
 /// read, the destination before the source, then the address, and then the value that is stored.
 pub fn transfer(state: &AbsState, insn: &Insn, context: &Context) -> Result<Next, Why>
-    ensures { result ≡ rule context.now.defs context.now.callback insn.now state.now }
+    ensures { result ≡ rule context.now insn.now state.now }
 {
     let defs = &context.defs;
     match *insn {
@@ -181,7 +181,7 @@ fn followed(state: &AbsState, flow: Result<Flow, Why>) -> Result<Next, Why>
 
 /// Checks the end of the program, at which the callbacks that answer a number have one in r0.
 pub fn ended(state: &AbsState, context: &Context) -> Result<(), Why>
-    ensures { ended_on result ≡ rule context.now.defs context.now.callback Insn.Exit state.now }
+    ensures { ended_on result ≡ rule context.now Insn.Exit state.now }
 {
     if context.callback.answers() {
         check_answer(state.kind(Register::R0))
@@ -202,7 +202,7 @@ fn check_answer(kind: Kind) -> Result<(), Why>
 
 /// The end sends nothing on.
 fn end(state: &AbsState, context: &Context) -> Result<Next, Why>
-    ensures { result ≡ rule context.now.defs context.now.callback Insn.Exit state.now }
+    ensures { result ≡ rule context.now Insn.Exit state.now }
 {
     ended(state, context)?;
     Ok(next_of(state, &Flow::End))

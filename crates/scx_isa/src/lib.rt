@@ -38,6 +38,6 @@ pub use program::{MAX_SLOTS, Program};
 pub use scx_isa_encoding::{DecodeFault, Exclusion};
 pub use scx_isa_semantics::{
     Access, ByteOrder, CALLBACKS, Callback, Comparison, Extension, Field, Helper, Insn, Operand,
-    Operation, Parameter, PerCallback, Pointer, REGISTERS, Register, STACK_SIZE, Size, StackByte,
-    SwapWidth, TaskId, Value, Width,
+    Operation, Parameter, PerCallback, Pointer, REGISTERS, Register, Rules, STACK_SIZE, Size,
+    StackByte, SwapWidth, TaskId, Value, Width,
 };

@@ -2,10 +2,11 @@ ghost use Rattle.std.specs.Prelude.{◌≡◌, ◌<◌, IfSome, slice_get};
 ghost use Rattle.scx_isa_semantics.specs.declared.host_tables.TheConstants.{MAX_ARGUMENTS};
 ghost use Rattle.scx_isa_semantics.specs.Arithmetic.{at_distance};
 ghost use Rattle.scx_isa_semantics.specs.Memory.{size_bytes};
-ghost use Rattle.scx_isa_semantics.specs.HostTables.{field_at, is_writable, helper_at, parameters, is_allowed};
+ghost use Rattle.scx_isa_semantics.specs.HostTables.{field_at, is_writable, helper_at, helper_known, is_known, parameters, is_allowed};
 
 use crate::callbacks::Callback;
 use crate::operations::Size;
+use crate::rules::Rules;
 
 /// A task of the machine, numbered from 0.
 #[derive(Clone, Copy, Debug, PartialEq, Eq)]
@@ -38,6 +39,8 @@ pub enum Helper {
     CpuIdle,
     TaskByPid,
     DsqNrQueued,
+    /// Known by Linux rules alone.
+    KickCpu,
 }
 
 /// The most arguments that a helper takes, in r1 to r5.
@@ -97,8 +100,28 @@ impl Helper {
             1006 => Some(Helper::CpuIdle),
             1007 => Some(Helper::TaskByPid),
             1008 => Some(Helper::DsqNrQueued),
+            1009 => Some(Helper::KickCpu),
             _ => None,
         }
+    }
+
+    /// The helper of that number, if a machine by these rules has it.
+    pub fn known(number: i32, rules: Rules) -> Option<Helper>
+        ensures { result ≡ helper_known rules number }
+    {
+        let helper = Helper::new(number)?;
+        if helper.is_known(rules) {
+            Some(helper)
+        } else {
+            None
+        }
+    }
+
+    /// True if a machine by these rules has it.
+    pub fn is_known(self, rules: Rules) -> bool
+        ensures { result ≡ is_known self rules }
+    {
+        !matches!((self, rules), (Helper::KickCpu, Rules::Plain))
     }
 
     /// The kind of the argument with this number, 0 for r1; `None` past the last one.
@@ -113,6 +136,7 @@ impl Helper {
                 Some(Parameter::Task)
             }
             (Helper::DsqInsert, 1..=3) | (Helper::DsqInsertVtime, 1..=4) => Some(Parameter::Number),
+            (Helper::KickCpu, 0..=1) => Some(Parameter::Number),
             (
                 Helper::CreateDsq
                 | Helper::DsqMoveToLocal
@@ -146,6 +170,14 @@ impl Helper {
             (Helper::DsqInsert | Helper::DsqInsertVtime | Helper::CpuIdle, _) => matches!(
                 callback,
                 Callback::SelectCpu | Callback::Enqueue | Callback::Dispatch
+            ),
+            (Helper::KickCpu, _) => matches!(
+                callback,
+                Callback::SelectCpu
+                    | Callback::Enqueue
+                    | Callback::Dispatch
+                    | Callback::Running
+                    | Callback::Stopping
             ),
         }
     }

@@ -14,6 +14,7 @@ mod little_endian;
 mod operations;
 mod per_callback;
 mod registers;
+mod rules;
 mod values;
 
 pub use arithmetic::{
@@ -28,4 +29,5 @@ pub use little_endian::{read, read_number, read_word, write_number};
 pub use operations::{Access, ByteOrder, Comparison, Extension, Operation, Size, SwapWidth, Width};
 pub use per_callback::PerCallback;
 pub use registers::{REGISTERS, Register};
+pub use rules::Rules;
 pub use values::{Pointer, STACK_SIZE, StackByte, Value};

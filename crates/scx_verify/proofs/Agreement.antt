@@ -58,7 +58,7 @@ not_before : (c : Context) (code : Code) (v w : Why) (i j : ℕ) → IsFirstRefu
 not_before c code v w i j r k lt =
     let here : k.states i ≡ Some r.state = forward_same c code v w i j r k (suc i) i (omega arith) (omega arith) (omega (arith, lt)) ∙ r.here in
     let passed = k.earlier i r.insn r.state lt r.there here in
-    failed_passed (rule c.defs c.callback r.insn r.state) v passed.0 r.fails passed.1
+    failed_passed (rule c r.insn r.state) v passed.0 r.fails passed.1
 
 same_insn : (i j : Insn) → Some i ≡ Some j → i ≡ j
 same_insn i j e = cc
@@ -73,7 +73,7 @@ at_one_slot : (c : Context) (code : Code) (v w : Why) (i : ℕ) → IsFirstRefus
 at_one_slot c code v w i r k =
     let insn : k.insn ≡ r.insn = same_insn k.insn r.insn (sym k.there ∙ r.there) in
     let state : k.state ≡ r.state = some_same k.state r.state (sym k.here ∙ forward_same c code v w i i r k (suc i) i (omega arith) (omega arith) (omega arith) ∙ r.here) in
-    same_why (rule c.defs c.callback k.insn k.state) v w (ap (λ d. rule c.defs c.callback d k.state) insn ∙ ap (λ a. rule c.defs c.callback r.insn a) state ∙ r.fails) k.fails
+    same_why (rule c k.insn k.state) v w (ap (λ d. rule c d k.state) insn ∙ ap (λ a. rule c r.insn a) state ∙ r.fails) k.fails
 
 -- the law of checks
 pub first_refusals_agree : FirstRefusalsAgree

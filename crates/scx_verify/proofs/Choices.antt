@@ -11,12 +11,13 @@ use Rattle.scx_isa_semantics.specs.declared.registers.Register.{Register}
 use Rattle.scx_isa_semantics.specs.declared.host_tables.Helper.{Helper}
 use Rattle.scx_isa_semantics.specs.declared.host_tables.Helper.TheVariants.{MapLookupElem}
 use Rattle.scx_isa_semantics.specs.declared.host_tables.Parameter.TheVariants as parameter
+use Rattle.scx_isa_semantics.specs.declared.rules.Rules.{Rules}
 use Rattle.scx_isa_semantics.specs.declared.values.Value.{Value}
 use Rattle.scx_isa_semantics.specs.declared.values.Value.TheVariants as value
 use Rattle.scx_isa_semantics.specs.declared.values.Pointer.TheVariants as pointer
 use Rattle.scx_isa_semantics.specs.Registers.{number}
 use Rattle.scx_isa_semantics.specs.Memory.{size_bytes, access_size, stack_size}
-use Rattle.scx_isa_semantics.specs.HostTables.{helper_at, is_allowed}
+use Rattle.scx_isa_semantics.specs.HostTables.{helper_at, is_known, is_allowed, if_known}
 use Rattle.scx_isa_semantics.specs.Elements.{Maps}
 use Rattle.scx_isa_semantics.specs.Locations as location
 use Rattle.scx_isa_semantics.specs.Locations.{Location, address}
@@ -165,9 +166,19 @@ call_chosen shapes c a m (Some MapLookupElem) next p h e = go (is_allowed MapLoo
     go false f = absurd (cc)
 call_chosen shapes c a m (Some g) next p h e = refl
 
+-- whichever helpers a machine by its rules has
+known_chosen : (r : Rules) (shapes : List Shape) (c : Callback) (a : AbsState) (m : Machine) (o : Option Helper) (next : Next) → IsProper a → IsMember shapes a m → call_rule shapes c (if_known r o) a ≡ Ok next
+    → call_of shapes a o ≡ call_op m o
+known_chosen r shapes c a m None next p h e = refl
+known_chosen r shapes c a m (Some g) next p h e = go (is_known g r) e
+  where
+    go : (b : Bool) → call_rule shapes c (if b then Some g else None) a ≡ ok next → call_of shapes a (Some g) ≡ call_op m (Some g)
+    go true f = call_chosen shapes c a m (Some g) next p h f
+    go false f = absurd (cc)
+
 -- the law
 pub typing_chooses : TypingChooses
-typing_chooses shapes c t (insn.Load x d r k) a m next p h e = load_chosen shapes a m x d r k next p h e
-typing_chooses shapes c t (insn.Store s r k x) a m next p h e = store_chosen shapes a m s r k x next p h e
-typing_chooses shapes c t (insn.Call k) a m next p h e = call_chosen shapes c a m (helper_at k) next p h e
-typing_chooses shapes c t i a m next p h e = refl
+typing_chooses c t (insn.Load x d r k) a m next p h e = load_chosen c.defs a m x d r k next p h e
+typing_chooses c t (insn.Store s r k x) a m next p h e = store_chosen c.defs a m s r k x next p h e
+typing_chooses c t (insn.Call k) a m next p h e = known_chosen c.rules c.defs c.callback a m (helper_at k) next p h e
+typing_chooses c t i a m next p h e = refl

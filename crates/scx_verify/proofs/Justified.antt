@@ -67,9 +67,9 @@ ok next = Ok next
 
 -- the rule at the slot, in the typing's state and in the forward state
 passes_here : (c : Context) (code : Code) (typed : States) (s : ℕ) (i : Insn) (a : AbsState) (here : IsCovered typed s a) (p : Passes c typed s i here.state) → IsInsn i → IsProper here.state → IsProper a
-    → PassesToo CoversFlows (ok p.next) (rule c.defs c.callback i a)
+    → PassesToo CoversFlows (ok p.next) (rule c i a)
 passes_here c code typed s i a here p fits more proper =
-    subst (λ r. PassesToo CoversFlows r (rule c.defs c.callback i a)) p.passes (rules_monotone c.defs c.callback i here.state a fits more proper here.covers)
+    subst (λ r. PassesToo CoversFlows r (rule c i a)) p.passes (rules_monotone c i here.state a fits more proper here.covers)
 
 flows_covered : (c : Context) (code : Code) (states typed : States) (s t : ℕ) (x : AbsState) → IsProgram code → IsTyping c code typed → (f : FlowsTo c code states s t x) → IsProper f.state → CoversSome (typed s) f.state
     → CoversSome (typed t) x

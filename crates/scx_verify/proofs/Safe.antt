@@ -93,9 +93,9 @@ effect_goes shapes states s i next (effect.Ask q go) c f h = absurd (cc)
 effect_goes shapes states s i next (effect.Ended n) c f h = absurd (cc)
 
 -- the instruction there passes its checks, and what it does flows on
-pub flows_in : (c : Context) (code : Code) (s : ℕ) (i : Insn) (a : AbsState) (m : Machine) (next : Next) → IsProgram code → at code s ≡ Some i → IsProper a → IsMember c.defs a m → rule c.defs c.callback i a ≡ Ok next
+pub flows_in : (c : Context) (code : Code) (s : ℕ) (i : Insn) (a : AbsState) (m : Machine) (next : Next) → IsProgram code → at code s ≡ Some i → IsProper a → IsMember c.defs a m → rule c i a ≡ Ok next
     → FlowsIn c.defs next (act c.callback i m)
-flows_in c code s i a m next program there proper h e = rw e at (rules_sound c.defs c.callback i a m (occupant_fits false code s program.insns i there) proper h)
+flows_in c code s i a m next program there proper h e = rw e at (rules_sound c i a m (occupant_fits false code s program.insns i there) proper h)
 
 -- a step leads to where the typing stands for it
 pub step_at : (c : Context) (code : Code) (states : States) (s t : ℕ) (m k : Machine) → IsProgram code → IsTyping c code states → IsAt c.defs states s m → LeadsTo any_answer (step c.callback code s m) tt t k tt → IsAt c.defs states t k

@@ -95,11 +95,11 @@ arrives_later : (c : Context) (code : Code) (states : States) (s t : ℕ) (a : A
 arrives_later c code states s t a (inl h) = inl h
 arrives_later c code states s t a (inr h) = inr (h.0, omega (arith, h.1), h.2)
 
-passes_skip : (c : Context) (code : Code) (states : States) (s : ℕ) → PassesBefore c code states s → ((i : Insn) (a : AbsState) → at code s ≡ Some i → states s ≡ Some a → (next : Next) × (rule c.defs c.callback i a ≡ Ok next))
+passes_skip : (c : Context) (code : Code) (states : States) (s : ℕ) → PassesBefore c code states s → ((i : Insn) (a : AbsState) → at code s ≡ Some i → states s ≡ Some a → (next : Next) × (rule c i a ≡ Ok next))
     → PassesBefore c code states (s + 1)
 passes_skip c code states s before now v i a lt there here = go (cases_eq v s)
   where
-    go : (v ≡ s) ⊎ (v ≡ s → ⊥) → (next : Next) × (rule c.defs c.callback i a ≡ Ok next)
+    go : (v ≡ s) ⊎ (v ≡ s → ⊥) → (next : Next) × (rule c i a ≡ Ok next)
     go (inl e) = now i a (rw e at there) (rw e at here)
     go (inr n) = before v i a (omega (arith, lt, n)) there here
 
@@ -136,13 +136,13 @@ same_next n k e = cc
 record Sends (c : Context) (code : Code) (states : States) (s : ℕ) (i : Insn) (a : AbsState) (next : Next) : Type 0 where
   there : at code s ≡ Some i
   here : states s ≡ Some a
-  passes : rule c.defs c.callback i a ≡ ok next
+  passes : rule c i a ≡ ok next
 
 flows_sent : (c : Context) (code : Code) (states : States) (s v t : ℕ) (i : Insn) (a b : AbsState) (next : Next) → Sends c code states s i a next → v ≡ s → FlowsTo c code states v t b → IsSent s i next t b
 flows_sent c code states s v t i a b next sends e f =
     let insn : f.insn ≡ i = same_insn f.insn i (sym f.there ∙ ap (λ u. at code u) e ∙ sends.there) in
     let state : f.state ≡ a = same_state f.state a (sym f.here ∙ ap states e ∙ sends.here) in
-    let out : f.next ≡ next = same_next f.next next (sym f.passes ∙ ap (λ j. rule c.defs c.callback j f.state) insn ∙ ap (λ d. rule c.defs c.callback i d) state ∙ sends.passes) in
+    let out : f.next ≡ next = same_next f.next next (sym f.passes ∙ ap (λ j. rule c j f.state) insn ∙ ap (λ d. rule c i d) state ∙ sends.passes) in
     sent_same s v t i f.insn next f.next b e insn out f.sent
 
 -- the same instruction in states that are the same there
@@ -183,12 +183,12 @@ pub kept_proper : (o : Option AbsState) (a : AbsState) (P : AbsState → Type 0)
 kept_proper None a P e h = absurd (cc)
 kept_proper (Some x) a P e h = subst IsProper (same_state x a e) h.proper
 
-sent_proper : (c : Context) (i : Insn) (a : AbsState) (next : Next) → IsInsn i → IsProper a → rule c.defs c.callback i a ≡ Ok next → FlowsProper next
-sent_proper c i a next fits p e = subst (λ (r : Result Next Why). IfOk r FlowsProper) e (rule_proper c.defs c.callback i a fits p)
+sent_proper : (c : Context) (i : Insn) (a : AbsState) (next : Next) → IsInsn i → IsProper a → rule c i a ≡ Ok next → FlowsProper next
+sent_proper c i a next fits p e = subst (λ (r : Result Next Why). IfOk r FlowsProper) e (rule_proper c i a fits p)
 
 -- a slot whose checks pass
 pub visited_more : (c : Context) (code : Code) (s : ℕ) (states between after : List (Option AbsState)) (i : Insn) (a : AbsState) (next : Next) (to : ℕ)
-    → IsProgram code → Flows code → IsVisited c code s states → at code s ≡ Some i → states_of states s ≡ Some a → rule c.defs c.callback i a ≡ Ok next → target s i ≡ Some to
+    → IsProgram code → Flows code → IsVisited c code s states → at code s ≡ Some i → states_of states s ≡ Some a → rule c i a ≡ Ok next → target s i ≡ Some to
     → IsGiven states to next.jump between → IsGiven between (s + size i) next.on after → IsVisited c code (s + 1) after
 visited_more c code s states between after i a next to program flow h there here passes is jump on =
     let faultless = flow s i there in
@@ -210,7 +210,7 @@ visited_more c code s states between after i a next to program flow h there here
           (λ b p. arrives_sent c code (states_of states) (states_of after) s i a next to sends is same u b p) (second u);
       passes = passes_skip c code (states_of after) s
           (λ v j b lt t k. h.passes v j b lt t (sym (same v (omega (arith, lt))) ∙ k))
-          (λ j b t k. (next, ap (λ d. rule c.defs c.callback j d) (same_state b a (sym k ∙ same s (omega arith) ∙ here)) ∙ ap (λ e. rule c.defs c.callback e a) (same_insn j i (sym t ∙ there)) ∙ passes));
+          (λ j b t k. (next, ap (λ d. rule c j d) (same_state b a (sym k ∙ same s (omega arith) ∙ here)) ∙ ap (λ e. rule c e a) (same_insn j i (sym t ∙ there)) ∙ passes));
     }
 
 -- ---- the forward states
@@ -229,7 +229,7 @@ visited_forward c code s states flow h t le = least_same (states_of states t) (A
 
 -- a slot where a check fails
 pub visited_refuses : (c : Context) (code : Code) (s : ℕ) (states : List (Option AbsState)) (i : Insn) (a : AbsState) (why : Why) → Flows code → IsVisited c code s states
-    → at code s ≡ Some i → states_of states s ≡ Some a → rule c.defs c.callback i a ≡ Err why → IsFirstRefusal c code why s
+    → at code s ≡ Some i → states_of states s ≡ Some a → rule c i a ≡ Err why → IsFirstRefusal c code why s
 visited_refuses c code s states i a why flow h there here fails = record {
   states = states_of states;
   forward = visited_forward c code s states flow h;
@@ -255,7 +255,7 @@ visited_typing c code n states flow all h = record {
   insns = λ s i a there here. passes s i a there here;
 }
   where
-    covered : (s t : ℕ) (i : Insn) (a b : AbsState) (next : Next) → at code s ≡ Some i → states_of states s ≡ Some a → rule c.defs c.callback i a ≡ Ok next → IsSent s i next t b → CoversSome (states_of states t) b
+    covered : (s t : ℕ) (i : Insn) (a b : AbsState) (next : Next) → at code s ≡ Some i → states_of states s ≡ Some a → rule c i a ≡ Ok next → IsSent s i next t b → CoversSome (states_of states t) b
     covered s t i a b next there here e sent =
         least_covers (states_of states t) (Arrives c code (states_of states) n t) b (h.least t)
         (inr (s, omega (arith, at_within code s i there, all), record { insn = i; state = a; next = next; there = there; here = here; passes = e; sent = sent }))

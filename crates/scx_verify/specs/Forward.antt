@@ -28,7 +28,7 @@ pub record FlowsTo (c : Context) (code : Code) (states : States) (s t : ℕ) (a 
   pub next : Next
   pub there : at code s ≡ Some insn
   pub here : states s ≡ Some state
-  pub passes : rule c.defs c.callback insn state ≡ Ok next
+  pub passes : rule c insn state ≡ Ok next
   pub sent : IsSent s insn next t a
 
 -- that state flows to the slot from a slot before the n-th, or is the one in which the
@@ -55,7 +55,7 @@ abbrev pub PassesBefore : Context → Code → States → ℕ → Type 0
 PassesBefore c code states n =
     (s : ℕ) (i : Insn) (a : AbsState)
     → s < n → at code s ≡ Some i → states s ≡ Some a
-    → (next : Next) × (rule c.defs c.callback i a ≡ Ok next)
+    → (next : Next) × (rule c i a ≡ Ok next)
 
 -- these are the forward states up to that slot
 abbrev pub AreForward : Context → Code → States → ℕ → Type 0
@@ -71,4 +71,4 @@ pub record IsFirstRefusal (c : Context) (code : Code) (why : Why) (slot : ℕ) :
   pub state : AbsState
   pub there : at code slot ≡ Some insn
   pub here : states slot ≡ Some state
-  pub fails : rule c.defs c.callback insn state ≡ Err why
+  pub fails : rule c insn state ≡ Err why

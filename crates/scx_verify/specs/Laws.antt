@@ -1,10 +1,8 @@
 -- The laws of typings and of refusals, which are the contracts of public functions without
 -- bodies of their own.
-use Rattle.std.specs.Prelude.{◌≡◌, ◌≢◌, ◌≤◌, ℕ, List, Some, Ok}
-use Rattle.scx_isa_semantics.specs.declared.callbacks.Callback.{Callback}
+use Rattle.std.specs.Prelude.{◌≡◌, ◌≢◌, ◌≤◌, ℕ, Some, Ok}
 use Rattle.scx_isa_semantics.specs.declared.instructions.Insn.{Insn}
 use Rattle.scx_isa_semantics.specs.Machine.{Machine}
-use Rattle.scx_maps.specs.declared.shape.Shape.{Shape}
 use Rattle.scx_abs.specs.declared.rules.Next.{Next}
 use Rattle.scx_abs.specs.Stands.{IsMember}
 use Rattle.scx_abs.specs.Rules.{rule}
@@ -56,7 +54,6 @@ RefusalsAreJustified =
 -- the abstract state stands for, if that is proper.
 abbrev pub TypingChooses : Type 0
 TypingChooses =
-    (shapes : List Shape) (c : Callback) (t : ℕ) (i : Insn) (a : AbsState)
-    (m : Machine) (next : Next)
-    → IsProper a → IsMember shapes a m → rule shapes c i a ≡ Ok next
-    → op_of shapes c t i a ≡ chosen c m t i
+    (c : Context) (t : ℕ) (i : Insn) (a : AbsState) (m : Machine) (next : Next)
+    → IsProper a → IsMember c.defs a m → rule c i a ≡ Ok next
+    → op_of c.defs c.callback t i a ≡ chosen c.callback m t i

@@ -108,7 +108,7 @@ IsFollowed r to before after = (next : Next) × (r ≡ Ok next) × IsPassedOn ne
 -- an instruction was done in the state, if there is one
 abbrev pub IsStep : Context → Insn → ℕ → Option AbsState → Walk → Walk → Type 0
 IsStep c i to None before after = after ≡ before
-IsStep c i to (Some a) before after = IsFollowed (rule c.defs c.callback i a) to before after
+IsStep c i to (Some a) before after = IsFollowed (rule c i a) to before after
 
 -- a check failed, or memory ran out
 abbrev pub IsStopped : Result Next Why → ℕ → VerifyError → Type 0
@@ -119,4 +119,4 @@ IsStopped r slot error =
 -- an instruction's check failed in the state, if there is one, or memory ran out
 abbrev pub IsStoppedAt : Context → Insn → ℕ → Option AbsState → VerifyError → Type 0
 IsStoppedAt c i slot None error = ⊥
-IsStoppedAt c i slot (Some a) error = IsStopped (rule c.defs c.callback i a) slot error
+IsStoppedAt c i slot (Some a) error = IsStopped (rule c i a) slot error

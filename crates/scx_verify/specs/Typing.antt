@@ -29,7 +29,7 @@ pub record CoversNext (states : States) (s : ℕ) (i : Insn) (next : Next) : Typ
 -- what flows on from an instruction whose checks all pass is covered
 pub record Passes (c : Context) (states : States) (s : ℕ) (i : Insn) (a : AbsState) : Type 0 where
   pub next : Next
-  pub passes : rule c.defs c.callback i a ≡ Ok next
+  pub passes : rule c i a ≡ Ok next
   pub covered : CoversNext states s i next
 
 -- the states are a typing: proper, covering the start, with all checks passed and all flows covered

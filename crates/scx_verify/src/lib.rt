@@ -25,4 +25,4 @@ mod translate;
 
 pub use faults::{Fault, VerifyError};
 pub use laws::{refusals_agree, refusals_are_justified, typed_is_safe, typing_chooses};
-pub use programs::{Verified, verify};
+pub use programs::{Verified, verify, verify_by};

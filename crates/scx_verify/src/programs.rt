@@ -10,16 +10,17 @@ ghost use Rattle.scx_verify.specs.Faults.{IsRefusal, IsJustified};
 use crate::faults::VerifyError;
 use crate::pass::pass;
 use scx_abs::Context;
-use scx_isa::{Callback, MAX_SLOTS, Program, flow};
+use scx_isa::{Callback, MAX_SLOTS, Program, Rules, flow};
 use scx_maps::MapDefs;
 use scx_vm::Packed;
 use std::alloc::{AllocError, Global};
 use std::marker::Model;
 
-/// A program that `verify` accepted, which alone makes one: it is safe as that callback, with maps of
-/// those shapes.
+/// A program that was verified, which is safe as that callback, with maps of those shapes, on a machine by
+/// those rules. Verification alone makes one.
 ///
-/// In a contract it is the list of the program's slots, the callback and the shapes.
+/// In a contract it is the list of the program's slots, and its context: the callback, the shapes and the
+/// rules.
 #[derive(Drop)]
 pub struct Verified {
     ops: Vec<Packed>,
@@ -67,6 +68,13 @@ impl Verified {
         &self.context.defs
     }
 
+    /// The rules of the machine that it was verified for.
+    pub fn rules(&self) -> Rules
+        ensures { result ≡ self.now.context.rules }
+    {
+        self.context.rules
+    }
+
     /// The number of its instructions, which is as many steps as a run of it takes at most.
     pub fn instructions(&self) -> usize
         ensures count { result ≡ instruction_count self.now.code }
@@ -93,11 +101,7 @@ impl Verified {
     }
 }
 
-/// Verifies a program for a callback and maps of these shapes: asks `flow`, and then goes over the
-/// slots once, in order.
-///
-/// The first faulty instruction is refused, with the first of its checks that fails. An instruction
-/// that nothing leads to is looked at by `flow` alone.
+/// Verifies a program for a callback and maps of these shapes, by plain rules, as `verify_by` does.
 pub fn verify(
     alloc: Global,
     program: Program,
@@ -115,10 +119,26 @@ pub fn verify(
     // And it has no typing, unless memory ran out.
     ensures justified { IfErr result (IsJustified (context callback defs.now) program) }
 {
-    let context = Context {
-        callback,
-        defs: *defs,
-    };
+    verify_by(alloc, program, Context::new(callback, *defs))
+}
+
+/// Verifies a program for a callback, maps of some shapes and a machine by some rules: asks `flow`, and
+/// then goes over the slots once, in order.
+///
+/// The first faulty instruction is refused, with the first of its checks that fails. An instruction
+/// that nothing leads to is looked at by `flow` alone.
+pub fn verify_by(alloc: Global, program: Program, context: Context) -> Result<Verified, VerifyError>
+    // What is accepted is that program, in that context.
+    ensures program { IfOk result (λ verified. verified.code ≡ program) }
+    ensures context { IfOk result (λ verified. verified.context ≡ context) }
+    // It has a typing, and so it is safe.
+    ensures typed { OnOk result (IsTyped context program) }
+    ensures safe { OnOk result (IsSafe context program) }
+    // What is refused has that fault first, at that slot.
+    ensures refused { IfErr result (IsRefusal context program) }
+    // And it has no typing, unless memory ran out.
+    ensures justified { IfErr result (IsJustified context program) }
+{
     flow(&program)?;
     let ops = pass(alloc, &program, &context)?;
     Ok(Verified {

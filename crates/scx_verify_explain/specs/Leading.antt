@@ -39,7 +39,7 @@ sent_by_jump s i (Ok next) =
 abbrev pub jump_of : Context → ℕ → Option Insn → Option AbsState → Option ℕ
 jump_of c s None a = None
 jump_of c s (Some i) None = None
-jump_of c s (Some i) (Some a) = sent_by_jump s i (rule c.defs c.callback i a)
+jump_of c s (Some i) (Some a) = sent_by_jump s i (rule c i a)
 
 -- Where control jumps from the instruction at a slot, as far as is known what it may do there.
 -- Where it goes on to the same slot too, it needn't jump to get there.

@@ -15,7 +15,7 @@ use Rattle.scx_isa_semantics.specs.declared.host_tables.Field.{Field}
 use Rattle.scx_isa_semantics.specs.declared.host_tables.Helper.{Helper}
 use Rattle.scx_isa_semantics.specs.declared.host_tables.Parameter.{Parameter}
 use Rattle.scx_isa_semantics.specs.declared.host_tables.Parameter.TheVariants as parameter
-use Rattle.scx_isa_semantics.specs.HostTables.{field_at, is_writable, helper_at, is_allowed}
+use Rattle.scx_isa_semantics.specs.HostTables.{field_at, is_writable, helper_known, is_allowed}
 use Rattle.scx_isa_semantics.specs.Arithmetic.{at_distance}
 use Rattle.scx_isa_semantics.specs.Code.{Code, at, size}
 use Rattle.scx_isa_semantics.specs.Meaning.{is_plain}
@@ -232,10 +232,12 @@ IsFieldSaid i a (field.ReadOnly f) =
     AccessesField i a f × IsTrue (is_store i) × IsFalse (is_writable f)
 
 -- of a call of that number
-abbrev pub IsCallSaid : Callback → ℤ → AbsState → BadCall → Type 0
-IsCallSaid c n a (call.Unknown k) = (k ≡ n) × (helper_at n ≡ None)
+abbrev pub IsCallSaid : Context → ℤ → AbsState → BadCall → Type 0
+IsCallSaid c n a (call.Unknown k) = (k ≡ n) × (helper_known c.rules n ≡ None)
 IsCallSaid c n a (call.NotHere k b) =
-    (k ≡ n) × (b ≡ c) × ((h : Helper) × (helper_at n ≡ Some h) × IsFalse (is_allowed h c))
+    (k ≡ n)
+    × (b ≡ c.callback)
+    × ((h : Helper) × (helper_known c.rules n ≡ Some h) × IsFalse (is_allowed h c.callback))
 IsCallSaid c n a (call.Argument k r kind p) =
     (k ≡ n) × Takes n r p × (kind_at a (number r) ≡ kind) × IsFalse (is_taken p kind)
 
@@ -245,7 +247,7 @@ IsRuleSaid c i a (reason.Flow b) = ⊥
 IsRuleSaid c i a (reason.Value b) = IsValueSaid c.callback i a b
 IsRuleSaid c i a (reason.Access b) = IsAccessSaid c.defs i a b
 IsRuleSaid c i a (reason.Field b) = IsFieldSaid i a b
-IsRuleSaid c i a (reason.Call b) = (n : ℤ) × (i ≡ insn.Call n) × IsCallSaid c.callback n a b
+IsRuleSaid c i a (reason.Call b) = (n : ℤ) × (i ≡ insn.Call n) × IsCallSaid c n a b
 IsRuleSaid c i a (reason.UnknownMap m n) =
     LoadsMap i m × (map_kind c.defs m ≡ Err UnknownMap) × (n ≡ length c.defs)
 

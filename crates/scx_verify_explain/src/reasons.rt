@@ -260,7 +260,7 @@ fn reason_of_rule(context: &Context, why: Why, state: &AbsState, insn: Insn) -> 
         Why::TaskField => Some(Reason::Field(bad_field(state, insn)?)),
         Why::UnknownHelper | Why::HelperNotHere | Why::BadArgument => {
             let number = called_in(insn)?;
-            Some(Reason::Call(bad_call(state, why, number, context.callback)?))
+            Some(Reason::Call(bad_call(state, why, number, context)?))
         }
         Why::UnknownMap => {
             let map = unknown_map(insn, defs)?;
@@ -405,11 +405,12 @@ fn adds_to_element(state: &AbsState, insn: Insn) -> bool {
     }
 }
 
-fn bad_call(state: &AbsState, why: Why, number: i32, callback: Callback) -> Option<BadCall>
+fn bad_call(state: &AbsState, why: Why, number: i32, context: &Context) -> Option<BadCall>
     ensures fault { IfSome result (λ call. call_fault call ≡ why) }
-    ensures said { IfSome result (IsCallSaid callback number state.now) }
+    ensures said { IfSome result (IsCallSaid context.now number state.now) }
 {
-    match (why, Helper::new(number)) {
+    let callback = context.callback;
+    match (why, Helper::known(number, context.rules)) {
         (Why::UnknownHelper, None) => Some(BadCall::Unknown(number)),
         (Why::HelperNotHere, Some(helper)) if !helper.is_allowed(callback) => {
             Some(BadCall::NotHere { number, callback })

@@ -1,7 +1,7 @@
 use Rattle.std.proofs.Common.{rules}
 use Rattle.scx_verify.proofs.Safe.{typed_safe}
 use Rattle.scx_verify.proofs.Justified.{refusal_justified}
-use Rattle.scx_verify.proofs.programs.verify.Goals as goal
+use Rattle.scx_verify.proofs.programs.verify_by.Goals as goal
 
 pub invariant_of-result : goal.invariant_of-result
 invariant_of-result c =
