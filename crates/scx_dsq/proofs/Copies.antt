@@ -10,8 +10,7 @@ use Rattle.scx_dsq.specs.declared.queues.Queues.TheInside.{Inside}
 use Rattle.scx_dsq.specs.Queues.{Entries, is_in}
 use Rattle.scx_dsq.specs.Laws.{IsSound}
 use Rattle.scx_dsq.specs.Heaps.{HeapState}
-use Rattle.scx_dsq.specs.Order.{IsOrder}
-use Rattle.scx_dsq.specs.Kept.{ids_of, arrays_of, IsOfOneSort, by_links, by_heap, Keeps, IsSpare, state_of, value_of, IsKept, IsCopy, AreCopies, HaveRoomFor, AreSame, blank}
+use Rattle.scx_dsq.specs.Kept.{ids_of, arrays_of, IsOfOneSort, by_links, by_heap, Keeps, state_of, value_of, IsKept, IsCopy, AreCopies, HaveRoomFor, AreSame}
 use Rattle.scx_dsq.proofs.Keeping.{same_state}
 
 -- what is the same of each of two queues is the same of all

@@ -4,8 +4,7 @@ use Rattle.std.specs.List.{position_or_len}
 use Rattle.std.proofs.lemmas.Bool.{eq-eqb, eqb-true, ne_eqb, cases_lt}
 use Rattle.std.proofs.lemmas.List.{get_or-set_same, get_or-set_other, length-map, get_or_past, get_or_default}
 use Rattle.std.proofs.lemmas.List.Sums.{position_or_len_is, passes_at_first}
-use Rattle.scx_dsq.specs.declared.entries.Rank.{Rank}
-use Rattle.scx_dsq.specs.declared.entries.Rank.TheVariants.{Fifo, Vtime}
+use Rattle.scx_dsq.specs.declared.entries.Rank.TheVariants.{Fifo}
 use Rattle.scx_dsq.specs.declared.entries.Entry.{Entry}
 use Rattle.scx_dsq.specs.declared.heap.Item.{Item}
 use Rattle.scx_dsq.specs.declared.queue.Queue.{Queue}
@@ -102,19 +101,12 @@ module _ (i j : Inside) (k : ℕ) (q new : Queue) (h : IsKept i) (inside : k < l
           n (sym found ∙ here)
 
   -- what a call costs on the one queue that it changes, where all ids stay
-  pub paid : (steps : ℕ) → IsCheap q.heap.items new.heap.items steps → ((t : ℕ) (p : Entry) → Waits (state_of i) q.id t p → p.rank ≡ Fifo → steps ≡ 0) → IsPaid (value_of i) (value_of j) q.id steps
+  pub paid : (steps : ℕ) → IsCheap q.heap.items new.heap.items steps → ((t : ℕ) (p : Entry) → Waits (state_of i) q.id t p → same_sort p.rank Fifo ≡ true → steps ≡ 0) → IsPaid (value_of i) (value_of j) q.id steps
   paid steps cheap fifo = record {
     cheap = rw (array_is i k q h inside read, array_after) cheap;
     fifo = fifo;
     others = array_beside;
   }
-
--- ---- the sort of a task
-
--- what is of one sort with FIFO is FIFO
-pub is_fifo : (r : Rank) → same_sort r Fifo ≡ true → r ≡ Fifo
-is_fifo Fifo e = refl
-is_fifo (Vtime k) e = absurd (cc)
 
 -- what a call costs on a queue, by another name of its id
 pub paid_by : {old new : QueuesValue} {steps : ℕ} (id other : ℕ) → id ≡ other → IsPaid old new id steps → IsPaid old new other steps

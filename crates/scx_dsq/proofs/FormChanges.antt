@@ -4,24 +4,26 @@ use Rattle.std.proofs.lemmas.Bool.{both_ways}
 use Rattle.std.proofs.lemmas.List.{length-set}
 use Rattle.std.proofs.lemmas.List.Sums.{count_by-le-length}
 use Rattle.scx_dsq.specs.declared.entries.Rank.{Rank}
-use Rattle.scx_dsq.specs.declared.entries.Rank.TheVariants.{Fifo, Vtime}
+use Rattle.scx_dsq.specs.declared.entries.Rank.TheVariants.{Fifo, Front, Vtime}
 use Rattle.scx_dsq.specs.declared.entries.Entry.{Entry}
 use Rattle.scx_dsq.specs.declared.heap.Item.{Item}
 use Rattle.scx_dsq.specs.declared.links.Link.{Link}
 use Rattle.scx_dsq.specs.declared.links.Ends.{Ends}
 use Rattle.scx_dsq.specs.declared.queue.Queue.{Queue}
+use Rattle.scx_dsq.specs.Entries.{same_sort}
 use Rattle.scx_dsq.specs.Queues.{Entries, QueueState, entry_at, is_in}
 use Rattle.scx_dsq.specs.Laws.{HasOwnStamps}
-use Rattle.scx_dsq.specs.Links.{no_ends, link_at, links_appended, links_unlinked, In, NobodyIsIn, HasLeastStamp, IsLast, IsNext, IsThreaded}
+use Rattle.scx_dsq.specs.Links.{no_ends, link_at, links_appended, links_linked, links_unlinked, In, NobodyIsIn, HasFirstTurn, IsLast, IsNext, IsThreaded}
 use Rattle.scx_dsq.specs.Heaps.{IsHeap, HasSpots, IsAbsent, first_item}
 use Rattle.scx_dsq.specs.Holdings.{Holds, entry_for}
-use Rattle.scx_dsq.specs.Kept.{IsOfOneSort, by_links, by_heap, mixes, CanAppend, with_last, CanInsert, Inserted, CanLeave, TakenOut, without_linked}
+use Rattle.scx_dsq.specs.Kept.{IsOfOneSort, by_links, by_heap, mixes, CanLink, with_linked, CanInsert, Inserted, CanUnlink, CanLeave, TakenOut, without_linked}
+use Rattle.scx_dsq.proofs.Orders.{later_turn, earlier_turn}
 use Rattle.scx_dsq.proofs.Standing.{Changed, this, other, changed, unchanged, waits_below, is_in_from, another, same_entry, count-set}
 use Rattle.scx_dsq.proofs.Holdings.{holds_empty, holds_others, holds_with, holds_without, holds_vtime, holds_absent}
 use Rattle.scx_dsq.proofs.Fronts.{NobodyIn, nobody_counts}
-use Rattle.scx_dsq.proofs.LinkReads.{IsWithin, appended_others, unlinked_others}
-use Rattle.scx_dsq.proofs.Threads.{last_within, ahead_within, behind_within, threaded_same}
-use Rattle.scx_dsq.proofs.ThreadsWith.{threaded_with}
+use Rattle.scx_dsq.proofs.LinkReads.{IsWithin, appended_others, prepended_others, unlinked_others}
+use Rattle.scx_dsq.proofs.Threads.{last_within, first_within, ahead_within, behind_within, threaded_same}
+use Rattle.scx_dsq.proofs.ThreadsWith.{threaded_with, threaded_ahead}
 use Rattle.scx_dsq.proofs.ThreadsWithout.{threaded_without}
 use Rattle.scx_dsq.proofs.Forms.{threaded_empty}
 
@@ -53,10 +55,10 @@ one_more entries id t p within free here =
     let more : count_by (is_in id) (set entries t (Some p)) + 0 ≡ count_by (is_in id) entries + 1 = rw (free, is_in_from id p here) at (count-set entries id t (Some p) within) in
     omega (arith, more, count_by-le-length (is_in id) (set entries t (Some p)), length-set entries t (Some p))
 
--- ---- a task enters a queue in FIFO order
+-- ---- a task enters a queue in FIFO order, at its end or at its front
 
 module _ (s : QueueState) (links : List Link) (q : Queue) (t : ℕ) (p : Entry) (stamps : HasOwnStamps s) (within : t < length s.entries) (free : entry_at s.entries t ≡ None) (here : p.queue ≡ q.id)
-    (late : (u : ℕ) (o : Entry) → entry_at s.entries u ≡ Some o → o.stamp < p.stamp) (long : length links ≡ length s.entries) (fits : mixes Fifo q ≡ false) (form : IsOfOneSort s.entries links q) where
+    (long : length links ≡ length s.entries) (fits : mixes Fifo q ≡ false) (form : IsOfOneSort s.entries links q) where
   -- a queue that takes FIFO tasks has its tasks between its ends
   as_threaded : IsOfOneSort s.entries links q → IsThreaded s.entries links q.id q.ends × (q.heap.items ≡ [])
   as_threaded (by_links h empty) = (h, empty)
@@ -65,23 +67,29 @@ module _ (s : QueueState) (links : List Link) (q : Queue) (t : ℕ) (p : Entry) 
       let nobody = nobody_held s q.id (subst (Holds s.entries q.id) empty h) in
       (subst (IsThreaded s.entries links q.id) (sym none) (threaded_empty s links q.id nobody), empty)
 
-  -- a queue that takes FIFO tasks takes this one at its end
-  pub can_append : CanAppend links q t
-  can_append =
+  -- a queue that takes FIFO tasks takes this one at its end or at its front
+  pub can_link : CanLink links q t
+  can_link =
       let h = (as_threaded form).0 in
       let one = one_more s.entries q.id t p within free here in
       let count = h.count in
       record {
         task = omega arith;
+        first = subst (λ n. IsWithin n q.ends.first) (sym long) (first_within s.entries q.id q.ends.first h.first);
         last = subst (λ n. IsWithin n q.ends.last) (sym long) (last_within s.entries q.id q.ends.last h.last);
         count = omega arith;
       }
 
-  -- such a queue keeps its tasks, with this one at its end
-  pub form_appended : p.rank ≡ Fifo → IsOfOneSort (set s.entries t (Some p)) (links_appended links q.ends t) (with_last q t)
-  form_appended is =
+  -- such a queue keeps its tasks, with this one there
+  pub form_linked : (rank : Rank) → p.rank ≡ rank → same_sort rank Fifo ≡ true → ((u : ℕ) (o : Entry) → entry_at s.entries u ≡ Some o → o.stamp < p.stamp)
+      → IsOfOneSort (set s.entries t (Some p)) (links_linked rank links q.ends t) (with_linked rank q t)
+  form_linked Fifo is order late =
       let h = as_threaded form in
-      by_links (threaded_with s.entries q.id t p here free within late links q.ends long stamps is h.0) h.1
+      by_links (threaded_with s.entries q.id t p here free within (λ u o e. later_turn o.rank p.rank o.stamp p.stamp is (late u o e)) links q.ends long stamps (ap (λ r. same_sort r Fifo) is) h.0) h.1
+  form_linked Front is order late =
+      let h = as_threaded form in
+      by_links (threaded_ahead s.entries q.id t p here free within (λ u o e. earlier_turn o.rank p.rank o.stamp p.stamp is (late u o e)) links q.ends long stamps (ap (λ r. same_sort r Fifo) is) h.0) h.1
+  form_linked (Vtime k) is order late = absurd (cc)
 
   last_elsewhere : IsOfOneSort s.entries links q → (id u : ℕ) (o : Entry) → id ≢ q.id → In s.entries id u o → q.ends.last ≢ Some u
   last_elsewhere (by_heap h none) id u o n w e = let gone : None ≡ Some u = sym (ap (λ (x : Ends). x.last) none) ∙ e in absurd (cc)
@@ -89,14 +97,24 @@ module _ (s : QueueState) (links : List Link) (q : Queue) (t : ℕ) (p : Entry) 
       let k : IsLast s.entries q.id u = subst (λ l. MatchOption l (NobodyIsIn s.entries q.id) (IsLast s.entries q.id)) e h.last in
       n (sym w.1 ∙ ap (λ (x : Entry). x.queue) (same_entry s.entries u o k.entry w.0 k.waits.0) ∙ k.waits.1)
 
+  first_elsewhere : IsOfOneSort s.entries links q → (id u : ℕ) (o : Entry) → id ≢ q.id → In s.entries id u o → q.ends.first ≢ Some u
+  first_elsewhere (by_heap h none) id u o n w e = let gone : None ≡ Some u = sym (ap (λ (x : Ends). x.first) none) ∙ e in absurd (cc)
+  first_elsewhere (by_links h empty) id u o n w e =
+      let k : HasFirstTurn s.entries q.id u = subst (λ f. MatchOption f (NobodyIsIn s.entries q.id) (HasFirstTurn s.entries q.id)) e h.first in
+      n (sym w.1 ∙ ap (λ (x : Entry). x.queue) (same_entry s.entries u o k.entry w.0 k.waits.0) ∙ k.waits.1)
+
   not_entering : (id u : ℕ) (o : Entry) → In s.entries id u o → u ≢ t
   not_entering id u o w e = let there : entry_at s.entries t ≡ Some o = subst (λ v. entry_at s.entries v ≡ Some o) e w.0 in absurd (cc)
 
-  -- and the links in other queues stay
-  pub appended_agree : (id : ℕ) → id ≢ q.id → (u : ℕ) (o : Entry) → In s.entries id u o → link_at (links_appended links q.ends t) u ≡ link_at links u
+  appended_agree : (id : ℕ) → id ≢ q.id → (u : ℕ) (o : Entry) → In s.entries id u o → link_at (links_appended links q.ends t) u ≡ link_at links u
   appended_agree id n u o w =
-      let h = (as_threaded form).0 in
-      appended_others links q.ends t (omega arith) (subst (λ m. IsWithin m q.ends.last) (sym long) (last_within s.entries q.id q.ends.last h.last)) u (not_entering id u o w) (last_elsewhere form id u o n w)
+      appended_others links q.ends t can_link.task can_link.last u (not_entering id u o w) (last_elsewhere form id u o n w)
+
+  -- and the links in other queues stay
+  pub linked_agree : (rank : Rank) (id : ℕ) → id ≢ q.id → (u : ℕ) (o : Entry) → In s.entries id u o → link_at (links_linked rank links q.ends t) u ≡ link_at links u
+  linked_agree Fifo id n u o w = appended_agree id n u o w
+  linked_agree Front id n u o w = prepended_others links q.ends t can_link.task can_link.first u (not_entering id u o w) (first_elsewhere form id u o n w)
+  linked_agree (Vtime k) id n u o w = appended_agree id n u o w
 
 -- ---- a task enters a queue by virtual time
 
@@ -105,7 +123,7 @@ pub as_held : (s : QueueState) (links : List Link) (q : Queue) (k : ℕ) → mix
 as_held s links q k fits (by_heap h none) = (h, none)
 as_held s links q k fits (by_links h empty) =
     let first = not_some q.ends.first fits in
-    let nobody : NobodyIn s q.id = subst (λ o. MatchOption o (NobodyIsIn s.entries q.id) (HasLeastStamp s.entries q.id)) first h.first in
+    let nobody : NobodyIn s q.id = subst (λ o. MatchOption o (NobodyIsIn s.entries q.id) (HasFirstTurn s.entries q.id)) first h.first in
     (subst (Holds s.entries q.id) (sym empty) (holds_empty s q.id nobody), ends_of_nobody s links q.id q.ends nobody first h)
 
 module _ (s : QueueState) (links : List Link) (q : Queue) (x : Item) (within : x.task < length s.entries) (free : entry_at s.entries x.task ≡ None) (fits : mixes (Vtime x.priority.key) q ≡ false) (form : IsOfOneSort s.entries links q) where
@@ -132,23 +150,22 @@ module _ (s : QueueState) (links : List Link) (q : Queue) (x : Item) (within : x
 -- ---- a task leaves
 
 module _ (s : QueueState) (links : List Link) (q : Queue) (t : ℕ) (p : Entry) (stamps : HasOwnStamps s) (waits : In s.entries q.id t p) (long : length links ≡ length s.entries) where
-  left_threaded : p.rank ≡ Fifo → IsOfOneSort s.entries links q → IsThreaded s.entries links q.id q.ends × (q.heap.items ≡ [])
+  left_threaded : same_sort p.rank Fifo ≡ true → IsOfOneSort s.entries links q → IsThreaded s.entries links q.id q.ends × (q.heap.items ≡ [])
   left_threaded is (by_links h empty) = (h, empty)
-  left_threaded is (by_heap h none) = let bad : true ≡ false = rw is at (holds_vtime s.entries q.id q.heap.items h t p waits) in absurd (cc)
+  left_threaded is (by_heap h none) = absurd (both_ways (same_sort p.rank Fifo) (holds_vtime s.entries q.id q.heap.items h t p waits) is)
 
   -- the queue of a task that waits by virtual time has its tasks in its heap
   pub left_held : (k : ℕ) → p.rank ≡ Vtime k → IsOfOneSort s.entries links q → Holds s.entries q.id q.heap.items × (q.ends ≡ no_ends)
   left_held k is (by_heap h none) = (h, none)
-  left_held k is (by_links h empty) = let fifo = h.sort t p waits in absurd (cc)
+  left_held k is (by_links h empty) = let bad : false ≡ true = rw is at (h.sort t p waits) in absurd (cc)
 
   some_there : 0 < count_by (is_in q.id) s.entries
   some_there =
       let less : count_by (is_in q.id) (set s.entries t None) + 1 ≡ count_by (is_in q.id) s.entries + 0 = rw (waits.0, is_in_from q.id p waits.1) at (count-set s.entries q.id t None (waits_below s.entries t p waits.0)) in
       omega arith
 
-  -- a task that waits can be taken out, by its links or from the heap
-  pub can_leave : (rank : Rank) (spots : List ℕ) → p.rank ≡ rank → HasSpots q.heap.items spots → IsHeap q.heap.items → IsOfOneSort s.entries links q → CanLeave rank links spots q t
-  can_leave Fifo spots is stand heap form =
+  can_unlink : same_sort p.rank Fifo ≡ true → IsOfOneSort s.entries links q → CanUnlink links q t
+  can_unlink is form =
       let h = (left_threaded is form).0 in
       let within = waits_below s.entries t p waits.0 in
       let some = some_there in
@@ -159,10 +176,15 @@ module _ (s : QueueState) (links : List Link) (q : Queue) (t : ℕ) (p : Entry) 
         behind = subst (λ n. IsWithin n (link_at links t).behind) (sym long) (behind_within s.entries q.id t (link_at links t).behind (h.behind t p waits));
         count = omega arith;
       }
+
+  -- a task that waits can be taken out, by its links or from the heap
+  pub can_leave : (rank : Rank) (spots : List ℕ) → p.rank ≡ rank → HasSpots q.heap.items spots → IsHeap q.heap.items → IsOfOneSort s.entries links q → CanLeave rank links spots q t
+  can_leave Fifo spots is stand heap form = can_unlink (ap (λ r. same_sort r Fifo) is) form
+  can_leave Front spots is stand heap form = can_unlink (ap (λ r. same_sort r Fifo) is) form
   can_leave (Vtime k) spots is stand heap form = record { task = (left_held k is form).0.all t p waits; stand = stand; heap = heap }
 
   -- the queue of a FIFO task keeps the others after it was taken out
-  pub form_unlinked : p.rank ≡ Fifo → IsOfOneSort s.entries links q → IsOfOneSort (set s.entries t None) (links_unlinked links t) (without_linked links q t)
+  pub form_unlinked : same_sort p.rank Fifo ≡ true → IsOfOneSort s.entries links q → IsOfOneSort (set s.entries t None) (links_unlinked links t) (without_linked links q t)
   form_unlinked is form =
       let h = left_threaded is form in
       by_links (threaded_without s.entries q.id t p waits stamps links q.ends long h.0) h.1
@@ -181,7 +203,7 @@ module _ (s : QueueState) (links : List Link) (q : Queue) (t : ℕ) (p : Entry) 
   in_one_queue id u o r n w k = n (sym w.1 ∙ ap (λ (x : Entry). x.queue) (same_entry s.entries u o r w.0 k.0) ∙ k.1)
 
   -- the links in other queues stay
-  pub unlinked_agree : p.rank ≡ Fifo → IsOfOneSort s.entries links q → (id : ℕ) → id ≢ q.id → (u : ℕ) (o : Entry) → In s.entries id u o → link_at (links_unlinked links t) u ≡ link_at links u
+  pub unlinked_agree : same_sort p.rank Fifo ≡ true → IsOfOneSort s.entries links q → (id : ℕ) → id ≢ q.id → (u : ℕ) (o : Entry) → In s.entries id u o → link_at (links_unlinked links t) u ≡ link_at links u
   unlinked_agree is form id n u o w =
       let h = (left_threaded is form).0 in
       let ahead = h.ahead t p waits in
@@ -189,7 +211,7 @@ module _ (s : QueueState) (links : List Link) (q : Queue) (t : ℕ) (p : Entry) 
       unlinked_others links t (subst (λ m. IsWithin m (link_at links t).ahead) (sym long) (ahead_within s.entries q.id t (link_at links t).ahead ahead))
       (subst (λ m. IsWithin m (link_at links t).behind) (sym long) (behind_within s.entries q.id t (link_at links t).behind behind)) u (not_ahead (link_at links t).ahead ahead) (not_behind (link_at links t).behind behind)
     where
-      not_ahead : (a : Option ℕ) → MatchOption a (HasLeastStamp s.entries q.id t) (λ v. IsNext s.entries q.id v t) → a ≢ Some u
+      not_ahead : (a : Option ℕ) → MatchOption a (HasFirstTurn s.entries q.id t) (λ v. IsNext s.entries q.id v t) → a ≢ Some u
       not_ahead None h e = absurd (cc)
       not_ahead (Some v) h e = let same : v ≡ u = cc in in_one_queue id u o h.entry n w (subst (λ x. In s.entries q.id x h.entry) same h.waits)
 

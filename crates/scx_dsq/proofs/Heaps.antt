@@ -11,7 +11,7 @@ use Rattle.scx_dsq.specs.declared.entries.Entry.{Entry}
 use Rattle.scx_dsq.specs.declared.priority.Priority.{Priority}
 use Rattle.scx_dsq.specs.declared.heap.Item.{Item}
 use Rattle.scx_dsq.specs.Heaps.{comes_before, parent, IsBehind, IsHeap, IsHeapBut, IsHeapAround, IsFirstChild, Fell, Rose, Settled}
-use Rattle.scx_dsq.proofs.Orders.{Below, before_from, before-asym, before-trans}
+use Rattle.scx_dsq.proofs.Orders.{Below, by_stamps, before-asym, before-trans}
 
 -- ---- the order
 
@@ -34,11 +34,11 @@ unfolding as_place
 not_before p q h = record { keys = keys (cases_lt p.key q.key); stamps = λ e. stamps e (cases_lt p.stamp q.stamp) }
   where
     keys : (p.key < q.key) ⊎ (q.key ≤ p.key) → q.key ≤ p.key
-    keys (inl lt) = absurd (both_ways _ h (before_from (as_place p) (as_place q) (record { keys = omega arith; stamps = λ e. absurd (omega arith) })))
+    keys (inl lt) = absurd (both_ways _ h (by_stamps 0 p.key p.stamp 0 q.key q.stamp (record { keys = omega arith; stamps = λ e. absurd (omega arith) })))
     keys (inr le) = le
 
     stamps : q.key ≡ p.key → (p.stamp < q.stamp) ⊎ (q.stamp ≤ p.stamp) → q.stamp < p.stamp + 1
-    stamps e (inl lt) = absurd (both_ways _ h (before_from (as_place p) (as_place q) (record { keys = omega arith; stamps = λ f. lt })))
+    stamps e (inl lt) = absurd (both_ways _ h (by_stamps 0 p.key p.stamp 0 q.key q.stamp (record { keys = omega arith; stamps = λ f. lt })))
     stamps e (inr le) = omega arith
 
 same_priority : (p r : Priority) → r.key ≡ p.key → r.stamp ≡ p.stamp → p ≡ r
@@ -74,11 +74,11 @@ not-trans p q r h k = false_from_ne_true _ (λ t. both_ways _ (reversed (cases_e
             let b = second.keys in
             let c = first.stamps (omega arith) in
             let d = second.stamps (omega arith) in
-            before-asym (as_place r) (as_place p) (before_from (as_place r) (as_place p) (record { keys = omega arith; stamps = λ f. omega arith }))
+            before-asym (as_place r) (as_place p) (by_stamps 0 r.key r.stamp 0 p.key p.stamp (record { keys = omega arith; stamps = λ f. omega arith }))
     reversed (inr n) =
         let a = first.keys in
         let b = second.keys in
-        before-asym (as_place r) (as_place p) (before_from (as_place r) (as_place p) (record { keys = omega arith; stamps = λ f. absurd (n f) }))
+        before-asym (as_place r) (as_place p) (by_stamps 0 r.key r.stamp 0 p.key p.stamp (record { keys = omega arith; stamps = λ f. absurd (n f) }))
 
 -- ---- the cost
 

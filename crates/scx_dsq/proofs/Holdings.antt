@@ -19,7 +19,7 @@ use Rattle.scx_dsq.specs.Holdings.{entry_for, Holds}
 use Rattle.scx_dsq.proofs.Heaps.{itself, not_before, not-trans}
 use Rattle.scx_dsq.proofs.HeapEdits.{absent_is_apart}
 use Rattle.scx_dsq.proofs.Fronts.{NobodyIn, nobody_counts}
-use Rattle.scx_dsq.proofs.Orders.{before_from}
+use Rattle.scx_dsq.proofs.Orders.{by_stamps}
 use Rattle.scx_dsq.proofs.Standing.{is_in_from, another, count-set, Changed, this, other, changed, unchanged, same_entry}
 
 -- ---- tasks in an array
@@ -218,4 +218,4 @@ holds_front s id (r ∷ rs) stamps heap h = record {
         let apart_too : x.priority.stamp ≢ r.priority.stamp = subst (λ (v : Entry). v.stamp ≢ r.priority.stamp) (sym entry) apart in
         let below = not_before x.priority r.priority late in
         subst (λ v. is_before (entry_for id r.priority) v ≡ true) entry
-        (before_from (entry_for id r.priority) (entry_for id x.priority) (record { keys = below.keys; stamps = λ same. let no_later = below.stamps same in omega (arith, no_later, apart_too) }))
+        (by_stamps id r.priority.key r.priority.stamp id x.priority.key x.priority.stamp (record { keys = below.keys; stamps = λ same. let no_later = below.stamps same in omega (arith, no_later, apart_too) }))

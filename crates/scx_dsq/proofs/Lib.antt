@@ -17,6 +17,7 @@ pub mod Keeping
 pub mod QueueReads
 pub mod Costs
 pub mod Pushes
+pub mod FrontLaws
 pub mod Removals
 pub mod Ordering
 pub mod Makings

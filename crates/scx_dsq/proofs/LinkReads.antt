@@ -4,7 +4,7 @@ use Rattle.std.proofs.lemmas.Bool.{cases_eq}
 use Rattle.std.proofs.lemmas.List.{get_or-set_same, get_or-set_other, length-set}
 use Rattle.scx_dsq.specs.declared.links.Link.{Link}
 use Rattle.scx_dsq.specs.declared.links.Ends.{Ends}
-use Rattle.scx_dsq.specs.Links.{no_link, link_at, with_ahead, with_behind, links_appended, links_unlinked}
+use Rattle.scx_dsq.specs.Links.{no_link, link_at, with_ahead, with_behind, links_appended, links_prepended, links_unlinked}
 
 -- there is no task, or one of a number below that one
 abbrev pub IsWithin : ℕ → Option ℕ → Type 0
@@ -89,6 +89,37 @@ module _ (links : List Link) (ends : Ends) (t : ℕ) (within : t < length links)
   appended_behind-last u e =
       subst (λ o. (link_at (with_behind (set links t new) o (Some t)) u).behind ≡ Some t) (sym e)
       (behind_here (set links t new) u (Some t) (subst (IsWithin (length (set links t new))) e still))
+
+-- ---- a task put at the front
+
+module _ (links : List Link) (ends : Ends) (t : ℕ) (within : t < length links) (first : IsWithin (length links) ends.first) where
+  abbrev head : Link
+  head = record { ahead = None; behind = ends.first }
+
+  first_still : IsWithin (length (set links t head)) ends.first
+  first_still = subst (λ n. IsWithin n ends.first) (sym (length-set links t head)) first
+
+  -- the links of tasks but for it and the first one stay
+  pub prepended_others : (u : ℕ) → u ≢ t → ends.first ≢ Some u → link_at (links_prepended links ends t) u ≡ link_at links u
+  prepended_others u n m = ahead_kept (set links t head) ends.first (Some t) u m ∙ get_or-set_other links t u head no_link n
+
+  -- the one that was first waits right behind it
+  pub prepended_behind : (link_at (links_prepended links ends t) t).behind ≡ ends.first
+  prepended_behind = behind_stays (set links t head) ends.first (Some t) t first_still ∙ ap (λ (l : Link). l.behind) (get_or-set_same links t head no_link within)
+
+  -- and it waits behind nobody
+  pub prepended_ahead : ends.first ≢ Some t → (link_at (links_prepended links ends t) t).ahead ≡ None
+  prepended_ahead n = ap (λ (l : Link). l.ahead) (ahead_kept (set links t head) ends.first (Some t) t n ∙ get_or-set_same links t head no_link within)
+
+  -- who waits right behind the others stays
+  pub prepended_behind-other : (u : ℕ) → u ≢ t → (link_at (links_prepended links ends t) u).behind ≡ (link_at links u).behind
+  prepended_behind-other u n = behind_stays (set links t head) ends.first (Some t) u first_still ∙ ap (λ (l : Link). l.behind) (get_or-set_other links t u head no_link n)
+
+  -- and the one that was first has it right ahead
+  pub prepended_ahead-first : (u : ℕ) → ends.first ≡ Some u → (link_at (links_prepended links ends t) u).ahead ≡ Some t
+  prepended_ahead-first u e =
+      subst (λ o. (link_at (with_ahead (set links t head) o (Some t)) u).ahead ≡ Some t) (sym e)
+      (ahead_here (set links t head) u (Some t) (subst (IsWithin (length (set links t head))) e first_still))
 
 -- ---- a task taken out
 

@@ -4,7 +4,7 @@ use Rattle.std.specs.Vec.{with_item, with_items}
 use Rattle.std.proofs.lemmas.Bool.{ne_eqb}
 use Rattle.std.proofs.lemmas.List.{with_items_is, length-set, length-map, get_or_default}
 use Rattle.scx_dsq.specs.declared.entries.Rank.{Rank}
-use Rattle.scx_dsq.specs.declared.entries.Rank.TheVariants.{Fifo, Vtime}
+use Rattle.scx_dsq.specs.declared.entries.Rank.TheVariants.{Fifo, Front, Vtime}
 use Rattle.scx_dsq.specs.declared.entries.Entry.{Entry}
 use Rattle.scx_dsq.specs.declared.links.Link.{Link}
 use Rattle.scx_dsq.specs.declared.queue.Queue.{Queue}
@@ -16,7 +16,8 @@ use Rattle.scx_dsq.specs.Links.{link_at, with_ahead, links_unlinked}
 use Rattle.scx_dsq.specs.Heaps.{HasSpots, KeepsOthers, IsCheap}
 use Rattle.scx_dsq.specs.Arrays.{IsPaid}
 use Rattle.scx_dsq.specs.Holdings.{Holds}
-use Rattle.scx_dsq.specs.Kept.{IsOfOneSort, by_links, by_heap, Keeps, CanLeave, Left, front_in, sort_in, state_of, value_of, IsKept}
+use Rattle.scx_dsq.specs.Kept.{IsOfOneSort, by_links, by_heap, Keeps, CanLeave, Unlinked, Left, front_in, sort_in, state_of, value_of, IsKept}
+use Rattle.scx_dsq.proofs.Orders.{alike_arrival}
 use Rattle.scx_dsq.proofs.Standing.{waits_below}
 use Rattle.scx_dsq.proofs.LinkReads.{length-with_ahead, length-with_behind}
 use Rattle.scx_dsq.proofs.Holdings.{spots_elsewhere, holds_apart}
@@ -26,7 +27,7 @@ use Rattle.scx_dsq.proofs.Forms.{form_front, front_answer, front_alike, front_ah
 use Rattle.scx_dsq.proofs.Sound.{sound_without_task}
 use Rattle.scx_dsq.proofs.QueueReads.{row_at}
 use Rattle.scx_dsq.proofs.Keeping.{id_at, IsChanged, changed_state, changed_arrays, changed_keeps}
-use Rattle.scx_dsq.proofs.Costs.{paid, is_fifo}
+use Rattle.scx_dsq.proofs.Costs.{paid}
 
 links_long : (links : List Link) (t : ℕ) → length (links_unlinked links t) ≡ length links
 links_long links t =
@@ -75,8 +76,8 @@ module _ (i : Inside) (k t : ℕ) (p : Entry) (q : Queue) (h : IsKept i) (w : Is
   row : Keeps i.entries.items i.links.items i.spots.items q
   row = row_at i k q h w.inside w.read
 
-  left_by : (rank : Rank) (new : Queue) (linked : List Link) (stood : List ℕ) → p.rank ≡ rank → Left rank i.links.items i.spots.items q t linked stood new → IsLeft i t p q new linked stood
-  left_by Fifo new linked stood is e = rw (e.queue, e.threads, e.stays) (record {
+  left_unlinked : (new : Queue) (linked : List Link) (stood : List ℕ) → same_sort p.rank Fifo ≡ true → Unlinked i.links.items i.spots.items q t linked stood new → IsLeft i t p q new linked stood
+  left_unlinked new linked stood is e = rw (e.queue, e.threads, e.stays) (record {
     id = refl;
     links = links_long i.links.items t;
     spots = refl;
@@ -89,6 +90,10 @@ module _ (i : Inside) (k t : ℕ) (p : Entry) (q : Queue) (h : IsKept i) (w : Is
       stand = row.stand;
     };
   })
+
+  left_by : (rank : Rank) (new : Queue) (linked : List Link) (stood : List ℕ) → p.rank ≡ rank → Left rank i.links.items i.spots.items q t linked stood new → IsLeft i t p q new linked stood
+  left_by Fifo new linked stood is e = left_unlinked new linked stood (ap (λ r. same_sort r Fifo) is) e
+  left_by Front new linked stood is e = left_unlinked new linked stood (ap (λ r. same_sort r Fifo) is) e
   left_by (Vtime key) new linked stood is e = rw e.1 (record {
     id = e.0.id;
     links = refl;
@@ -121,17 +126,15 @@ module _ (i : Inside) (k t : ℕ) (p : Entry) (q : Queue) (h : IsKept i) (w : Is
     removed_state = changed_state i j k t q new None linked stood i.pushes w.inside w.read (left_by p.rank new linked stood refl e).id c
 
     -- what the removal costs in the heap it costs in all, if it costs nothing in FIFO order
-    pub removed_paid : (steps : ℕ) → IsCheap q.heap.items new.heap.items steps → (p.rank ≡ Fifo → steps ≡ 0) → IsPaid (value_of i) (value_of j) p.queue steps
+    pub removed_paid : (steps : ℕ) → IsCheap q.heap.items new.heap.items steps → (same_sort p.rank Fifo ≡ true → steps ≡ 0) → IsPaid (value_of i) (value_of j) p.queue steps
     removed_paid steps cheap free =
         let id = removed_id in
         let state = changed_state i j k t q new None linked stood i.pushes w.inside w.read id c in
         let arrays = changed_arrays i j k t q new None linked stood i.pushes w.inside w.read id c in
         subst (λ v. IsPaid (value_of i) (value_of j) v steps) w.is (paid i j k q new h w.inside w.read (ap (λ (s : QueueState). s.ids) state) arrays steps cheap fifo)
       where
-        fifo : (u : ℕ) (o : Entry) → Waits (state_of i) q.id u o → o.rank ≡ Fifo → steps ≡ 0
-        fifo u o there is =
-            let alike : same_sort p.rank o.rank ≡ true = h.sound.sorts t u p o w.waits there.0 (sym w.is ∙ sym there.1) in
-            free (is_fifo p.rank (subst (λ r. same_sort p.rank r ≡ true) is alike))
+        fifo : (u : ℕ) (o : Entry) → Waits (state_of i) q.id u o → same_sort o.rank Fifo ≡ true → steps ≡ 0
+        fifo u o there is = free (alike_arrival o.rank p.rank (h.sound.sorts u t o p there.0 w.waits (there.1 ∙ w.is)) is)
 
   -- what the code leaves of the queues
   pub left : (new : Queue) (links linked : List Link) (spots stood : List ℕ) → links ≡ i.links.items → spots ≡ i.spots.items → Left p.rank links spots q t linked stood new
@@ -158,34 +161,39 @@ module _ (i : Inside) (k t : ℕ) (p : Entry) (q : Queue) (h : IsKept i) (w : Is
 -- what may leave by a rank may leave by another one of its sort
 pub like_leave : (r s : Rank) (links : List Link) (spots : List ℕ) (q : Queue) (t : ℕ) → same_sort r s ≡ true → CanLeave r links spots q t → CanLeave s links spots q t
 like_leave Fifo Fifo links spots q t alike can = can
+like_leave Fifo Front links spots q t alike can = can
 like_leave Fifo (Vtime k) links spots q t alike can = absurd (cc)
+like_leave Front Fifo links spots q t alike can = can
+like_leave Front Front links spots q t alike can = can
+like_leave Front (Vtime k) links spots q t alike can = absurd (cc)
 like_leave (Vtime l) Fifo links spots q t alike can = absurd (cc)
+like_leave (Vtime l) Front links spots q t alike can = absurd (cc)
 like_leave (Vtime l) (Vtime k) links spots q t alike can = can
 
 -- what has left by a rank has left by another one of its sort
 pub like_left : (r s : Rank) (links linked : List Link) (spots stood : List ℕ) (q new : Queue) (t : ℕ) → same_sort r s ≡ true → Left s links spots q t linked stood new → Left r links spots q t linked stood new
 like_left Fifo Fifo links linked spots stood q new t alike left = left
+like_left Fifo Front links linked spots stood q new t alike left = left
 like_left Fifo (Vtime k) links linked spots stood q new t alike left = absurd (cc)
+like_left Front Fifo links linked spots stood q new t alike left = left
+like_left Front Front links linked spots stood q new t alike left = left
+like_left Front (Vtime k) links linked spots stood q new t alike left = absurd (cc)
 like_left (Vtime l) Fifo links linked spots stood q new t alike left = absurd (cc)
+like_left (Vtime l) Front links linked spots stood q new t alike left = absurd (cc)
 like_left (Vtime l) (Vtime k) links linked spots stood q new t alike left = left
-
--- a rank of the sort of a FIFO entry is that
-pub like_fifo : (r s : Rank) → same_sort r s ≡ true → r ≡ Fifo → s ≡ Fifo
-like_fifo Fifo Fifo alike e = refl
-like_fifo Fifo (Vtime k) alike e = absurd (cc)
-like_fifo (Vtime l) s alike e = absurd (cc)
 
 -- a rank with the key 0 is of its sort
 pub alike_keyless : (r s : Rank) → s ≡ keyless r → same_sort r s ≡ true
 alike_keyless Fifo s e = rw e refl
+alike_keyless Front s e = rw e refl
 alike_keyless (Vtime k) s e = rw e refl
 
 -- the front of a queue, and a rank of its sort
 pub record IsLeaving (i : Inside) (k t : ℕ) (p : Entry) (q : Queue) (rank : Rank) : Type 0 where
   pub waiting : IsWaiting i k t p q
   pub alike : same_sort p.rank rank ≡ true
-  pub fifo : p.rank ≡ Fifo → rank ≡ Fifo
-  pub ahead : rank ≡ Fifo → (link_at i.links.items t).ahead ≡ None
+  pub fifo : same_sort p.rank Fifo ≡ true → same_sort rank Fifo ≡ true
+  pub ahead : same_sort rank Fifo ≡ true → (link_at i.links.items t).ahead ≡ None
   pub can : CanLeave rank i.links.items i.spots.items q t
 
 -- the front of the queue that was read, by the rank that the queue tells
@@ -193,8 +201,8 @@ pub leaving : (i : Inside) (k id t : ℕ) (q r : Queue) (rank : Rank) → IsKept
 leaving i k id t q r rank h at f read again told = record {
   waiting = w;
   alike = alike;
-  fifo = like_fifo f.entry.rank rank alike;
-  ahead = λ e. front_ahead (state_of i) i.links.items q t f.entry here front (sym same ∙ e) row.tasks;
+  fifo = alike_arrival f.entry.rank rank alike;
+  ahead = λ e. front_ahead (state_of i) i.links.items q t f.entry here front (subst (λ r. same_sort r Fifo ≡ true) same e) row.tasks;
   can = like_leave f.entry.rank rank i.links.items i.spots.items q t alike (can_remove i k t f.entry q h w);
 }
   where

@@ -6,7 +6,7 @@ use Rattle.std.proofs.lemmas.List.{length_push}
 use Rattle.std.proofs.lemmas.List.Quantifiers.{all_pairs_push}
 use Rattle.std.proofs.lemmas.List.Folds.{list_any_at, list_any-append}
 use Rattle.scx_dsq.specs.declared.entries.Rank.{Rank}
-use Rattle.scx_dsq.specs.declared.entries.Rank.TheVariants.{Fifo, Vtime}
+use Rattle.scx_dsq.specs.declared.entries.Rank.TheVariants.{Fifo, Front, Vtime}
 use Rattle.scx_dsq.specs.declared.entries.Entry.{Entry}
 use Rattle.scx_dsq.specs.Entries.{same_sort}
 use Rattle.scx_dsq.specs.Queues.{QueueState, exists, entry_at, entry_of}
@@ -34,12 +34,18 @@ sound_with_queue s id new room h = record {
 
 same_sort-sym : (a b : Rank) → same_sort a b ≡ true → same_sort b a ≡ true
 same_sort-sym Fifo Fifo h = h
+same_sort-sym Fifo Front h = h
 same_sort-sym Fifo (Vtime x) h = h
+same_sort-sym Front Fifo h = h
+same_sort-sym Front Front h = h
+same_sort-sym Front (Vtime x) h = h
 same_sort-sym (Vtime x) Fifo h = h
+same_sort-sym (Vtime x) Front h = h
 same_sort-sym (Vtime x) (Vtime y) h = h
 
 same_sort-self : (a : Rank) → same_sort a a ≡ true
 same_sort-self Fifo = refl
+same_sort-self Front = refl
 same_sort-self (Vtime x) = refl
 
 -- those in the queue are of the sort, if none clashes

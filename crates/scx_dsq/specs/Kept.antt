@@ -4,7 +4,7 @@ use Rattle.std.specs.Prelude.{◌≡◌, ℕ, ◌+◌, ◌<◌, ◌≤◌, List,
 use Rattle.std.specs.List.{list_any}
 use Rattle.std.specs.List.Sorted.{IsPermutation}
 use Rattle.scx_dsq.specs.declared.entries.Rank.{Rank}
-use Rattle.scx_dsq.specs.declared.entries.Rank.TheVariants.{Fifo, Vtime}
+use Rattle.scx_dsq.specs.declared.entries.Rank.TheVariants.{Fifo, Front, Vtime}
 use Rattle.scx_dsq.specs.declared.heap.Item.{Item}
 use Rattle.scx_dsq.specs.declared.links.Link.{Link}
 use Rattle.scx_dsq.specs.declared.queue.Queue.{Queue}
@@ -13,7 +13,7 @@ use Rattle.scx_dsq.specs.declared.errors.QueueError.{QueueError}
 use Rattle.scx_dsq.specs.declared.errors.QueueError.TheVariants.{NoSuchQueue, AlreadyThere, Mixed, TooManyQueues}
 use Rattle.scx_dsq.specs.Queues.{Entries, QueueState, entry_at}
 use Rattle.scx_dsq.specs.Laws.{IsSound}
-use Rattle.scx_dsq.specs.Links.{no_ends, link_at, or_else, ends_appended, links_unlinked, ends_unlinked, IsThreaded}
+use Rattle.scx_dsq.specs.Links.{no_ends, link_at, or_else, ends_linked, links_unlinked, ends_unlinked, IsThreaded}
 use Rattle.scx_dsq.specs.Heaps.{HeapState, IsHeap, HasSpots, IsAbsent, IsIn, KeepsOthers, first_item}
 use Rattle.scx_dsq.specs.Holdings.{Holds}
 use Rattle.scx_dsq.specs.Arrays.{QueuesValue}
@@ -61,6 +61,7 @@ sort_in q = sort_of q.ends.first
 -- whether a kept queue has tasks of the other sort than this rank
 abbrev pub mixes : Rank → Queue → Bool
 mixes Fifo q = is_some (first_item q.heap.items)
+mixes Front q = is_some (first_item q.heap.items)
 mixes (Vtime k) q = is_some q.ends.first
 
 -- ---- whether a task may go into a queue
@@ -93,15 +94,16 @@ IsRefused live entries id t rank TooManyQueues = ⊥
 
 -- ---- a task that enters
 
--- the task and the last one of the queue have links, and there are more links than tasks in it
-pub record CanAppend (links : List Link) (q : Queue) (t : ℕ) : Type 0 where
+-- the task and both ends of the queue have links, and there are more links than tasks in it
+pub record CanLink (links : List Link) (q : Queue) (t : ℕ) : Type 0 where
   pub task : t < length links
+  pub first : MatchOption q.ends.first (Unit {0}) (λ u. u < length links)
   pub last : MatchOption q.ends.last (Unit {0}) (λ u. u < length links)
   pub count : q.ends.count < length links
 
--- the queue with that task at its end
-abbrev pub with_last : Queue → ℕ → Queue
-with_last q t = record q { ends = ends_appended q.ends t }
+-- the queue with that task at its front or at its end
+abbrev pub with_linked : Rank → Queue → ℕ → Queue
+with_linked rank q t = record q { ends = ends_linked rank q.ends t }
 
 -- the queue's heap has room for the item, whose task has a spot and isn't in it
 pub record CanInsert (spots : List ℕ) (q : Queue) (x : Item) : Type 0 where
@@ -144,6 +146,7 @@ pub record CanTakeOut (spots : List ℕ) (q : Queue) (t : ℕ) : Type 0 where
 -- the task may be taken out of the queue, by the sort of its rank
 abbrev pub CanLeave : Rank → List Link → List ℕ → Queue → ℕ → Type 0
 CanLeave Fifo links spots q t = CanUnlink links q t
+CanLeave Front links spots q t = CanUnlink links q t
 CanLeave (Vtime k) links spots q t = CanTakeOut spots q t
 
 -- the task was taken out of the queue's links, and no spot has changed
@@ -170,6 +173,7 @@ pub record TakenOut (spots : List ℕ) (q : Queue) (t : ℕ) (stood : List ℕ) 
 -- the task was taken out of the queue, by the sort of its rank
 abbrev pub Left : Rank → List Link → List ℕ → Queue → ℕ → List Link → List ℕ → Queue → Type 0
 Left Fifo links spots q t linked stood new = Unlinked links spots q t linked stood new
+Left Front links spots q t linked stood new = Unlinked links spots q t linked stood new
 Left (Vtime k) links spots q t linked stood new = TakenOut spots q t stood new × (linked ≡ links)
 
 -- ---- one as another

@@ -1,8 +1,9 @@
 -- What holds of the queues after any calls: a task waits in a queue that was created, those in one
 -- queue are of one sort, and no two entries have the same stamp. Then in how many queues a task
--- waits, and how calls change that.
+-- waits, and how calls change that, and what a push to the front changes.
 use Rattle.std.specs.Prelude.{◌≡◌, ◌≢◌, ℕ, ◌+◌, ◌<◌, ◌≤◌, Bool, ◌==◌, length, Some, None, is_some, IsSome, IsTrue, AllPairs, count_by, if◌then◌else◌}
 use Rattle.scx_dsq.specs.declared.entries.Rank.{Rank}
+use Rattle.scx_dsq.specs.declared.entries.Rank.TheVariants.{Front}
 use Rattle.scx_dsq.specs.declared.entries.Entry.{Entry}
 use Rattle.scx_dsq.specs.Entries.{same_sort}
 use Rattle.scx_dsq.specs.Queues.{QueueState, exists, task_count, entry_of, is_in, IsFront, front_of}
@@ -90,3 +91,24 @@ HasOneFront = (s : QueueState) (id t u : ℕ) → IsFront s id t → IsFront s i
 -- who is before all others there is the front that is computed
 abbrev pub FrontIsFirst : Type 0
 FrontIsFirst = (s : QueueState) (id t : ℕ) → IsFront s id t → front_of s id ≡ Some t
+
+-- ---- pushes to the front
+
+-- the task of an accepted push to the front is the front
+abbrev pub FrontPushLeads : Type 0
+FrontPushLeads =
+    (s : QueueState) (id t : ℕ)
+    → t < task_count s → IsStamped s → push_refusal s id t Front ≡ None
+    → front_of (after_push s id t Front) id ≡ Some t
+
+-- all others wait as before, so their order is as it was
+abbrev pub FrontPushMovesNone : Type 0
+FrontPushMovesNone =
+    (s : QueueState) (id t u : ℕ) → u ≢ t → entry_of (after_push s id t Front) u ≡ entry_of s u
+
+-- a pop takes the task out again, and leaves all but the number of pushes as it was
+abbrev pub PopUndoesFrontPush : Type 0
+PopUndoesFrontPush =
+    (s : QueueState) (id t : ℕ)
+    → t < task_count s → IsStamped s → push_refusal s id t Front ≡ None
+    → after_pop (after_push s id t Front) id ≡ record s { pushes = s.pushes + 1 }

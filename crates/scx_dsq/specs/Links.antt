@@ -1,10 +1,12 @@
--- FIFO queues as lists threaded through one array, which has at a task's number whom the task waits
--- right behind, and who waits right behind it. No public clause cites it.
-use Rattle.std.specs.Prelude.{◌≡◌, ℕ, ◌+◌, ◌-◌, ◌<◌, ◌≤◌, ◌⊎◌, List, slice_index_or, slice_set, Option, Some, None, MatchOption, count_by}
-use Rattle.scx_dsq.specs.declared.entries.Rank.TheVariants.{Fifo}
+-- Queues in order of arrival as lists threaded through one array, which has at a task's number the
+-- tasks right before and right after it. No public clause cites it.
+use Rattle.std.specs.Prelude.{◌≡◌, ℕ, ◌+◌, ◌-◌, ◌⊎◌, List, slice_index_or, slice_set, Option, Some, None, MatchOption, count_by, IsTrue, ◌≤ℤ◌, ◌<ℤ◌}
+use Rattle.scx_dsq.specs.declared.entries.Rank.{Rank}
+use Rattle.scx_dsq.specs.declared.entries.Rank.TheVariants.{Fifo, Front, Vtime}
 use Rattle.scx_dsq.specs.declared.entries.Entry.{Entry}
 use Rattle.scx_dsq.specs.declared.links.Link.{Link}
 use Rattle.scx_dsq.specs.declared.links.Ends.{Ends}
+use Rattle.scx_dsq.specs.Entries.{same_sort, turn}
 use Rattle.scx_dsq.specs.Queues.{Entries, entry_at, is_in}
 
 -- a link with nobody ahead and nobody behind
@@ -57,6 +59,29 @@ abbrev pub ends_appended : Ends → ℕ → Ends
 ends_appended ends t =
     record { first = instead ends.last (Some t) ends.first; last = Some t; count = ends.count + 1 }
 
+-- a task put at the front
+abbrev pub links_prepended : List Link → Ends → ℕ → List Link
+links_prepended links ends t =
+    with_ahead (slice_set links t (record { ahead = None; behind = ends.first })) ends.first
+    (Some t)
+
+-- the ends of a queue with that task put at its front
+abbrev pub ends_prepended : Ends → ℕ → Ends
+ends_prepended ends t =
+    record { first = Some t; last = instead ends.first (Some t) ends.last; count = ends.count + 1 }
+
+-- a task put at the front by that rank, else at the end
+abbrev pub links_linked : Rank → List Link → Ends → ℕ → List Link
+links_linked Fifo links ends t = links_appended links ends t
+links_linked Front links ends t = links_prepended links ends t
+links_linked (Vtime key) links ends t = links_appended links ends t
+
+-- the ends of a queue with that task put there
+abbrev pub ends_linked : Rank → Ends → ℕ → Ends
+ends_linked Fifo ends t = ends_appended ends t
+ends_linked Front ends t = ends_prepended ends t
+ends_linked (Vtime key) ends t = ends_appended ends t
+
 -- a task taken out: those beside it are linked to each other
 abbrev pub links_unlinked : List Link → ℕ → List Link
 links_unlinked links t =
@@ -81,38 +106,38 @@ In entries id t p = (entry_at entries t ≡ Some p) × (p.queue ≡ id)
 abbrev pub NobodyIsIn : Entries → ℕ → Type 0
 NobodyIsIn entries id = (t : ℕ) (p : Entry) → In entries id t p → ⊥
 
--- the task waits in the queue, and none there has a lesser stamp
-pub record HasLeastStamp (entries : Entries) (id t : ℕ) : Type 0 where
+-- the task waits in the queue, and none there has an earlier turn
+pub record HasFirstTurn (entries : Entries) (id t : ℕ) : Type 0 where
   pub entry : Entry
   pub waits : In entries id t entry
-  pub first : (u : ℕ) (q : Entry) → In entries id u q → entry.stamp ≤ q.stamp
+  pub first : (u : ℕ) (q : Entry) → In entries id u q → turn entry ≤ℤ turn q
 
--- the task waits in the queue, and none there has a greater stamp
+-- the task waits in the queue, and none there has a later turn
 pub record IsLast (entries : Entries) (id t : ℕ) : Type 0 where
   pub entry : Entry
   pub waits : In entries id t entry
-  pub last : (u : ℕ) (q : Entry) → In entries id u q → q.stamp ≤ entry.stamp
+  pub last : (u : ℕ) (q : Entry) → In entries id u q → turn q ≤ℤ turn entry
 
--- the second task waits right behind the first
+-- the second task waits right after the first
 pub record IsNext (entries : Entries) (id t u : ℕ) : Type 0 where
   pub entry : Entry
   pub entry_behind : Entry
   pub waits : In entries id t entry
   pub waits_behind : In entries id u entry_behind
-  pub before : entry.stamp < entry_behind.stamp
+  pub before : turn entry <ℤ turn entry_behind
   pub none_between : (v : ℕ) (q : Entry)
-      → In entries id v q → (q.stamp ≤ entry.stamp) ⊎ (entry_behind.stamp ≤ q.stamp)
+      → In entries id v q → (turn q ≤ℤ turn entry) ⊎ (turn entry_behind ≤ℤ turn q)
 
--- links and ends of a queue lead through the tasks that wait there, all of them in FIFO order
+-- links and ends of a queue lead through the tasks that wait there, all in order of arrival
 pub record IsThreaded (entries : Entries) (links : List Link) (id : ℕ) (ends : Ends) : Type 0 where
-  pub first : MatchOption ends.first (NobodyIsIn entries id) (HasLeastStamp entries id)
+  pub first : MatchOption ends.first (NobodyIsIn entries id) (HasFirstTurn entries id)
   pub last : MatchOption ends.last (NobodyIsIn entries id) (IsLast entries id)
   pub ahead : (t : ℕ) (p : Entry)
       → In entries id t p
-      → MatchOption (link_at links t).ahead (HasLeastStamp entries id t)
+      → MatchOption (link_at links t).ahead (HasFirstTurn entries id t)
       (λ u. IsNext entries id u t)
   pub behind : (t : ℕ) (p : Entry)
       → In entries id t p
       → MatchOption (link_at links t).behind (IsLast entries id t) (IsNext entries id t)
   pub count : ends.count ≡ count_by (is_in id) entries
-  pub sort : (t : ℕ) (p : Entry) → In entries id t p → p.rank ≡ Fifo
+  pub sort : (t : ℕ) (p : Entry) → In entries id t p → IsTrue (same_sort p.rank Fifo)

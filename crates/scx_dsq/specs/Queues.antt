@@ -4,7 +4,7 @@
 use Rattle.std.specs.Prelude.{◌≡◌, ◌≢◌, ℕ, ◌<◌, Bool, false, ◌==◌, ◌&&◌, not, List, length, slice_index_or, Option, Some, None, IsTrue, HoldsAt, count_by, position, option_map}
 use Rattle.std.specs.List.{list_any, list_all}
 use Rattle.scx_dsq.specs.declared.entries.Rank.{Rank}
-use Rattle.scx_dsq.specs.declared.entries.Rank.TheVariants.{Fifo, Vtime}
+use Rattle.scx_dsq.specs.declared.entries.Rank.TheVariants.{Fifo, Front, Vtime}
 use Rattle.scx_dsq.specs.declared.entries.Entry.{Entry}
 use Rattle.scx_dsq.specs.Entries.{is_before}
 
@@ -92,6 +92,7 @@ is_right_behind entries p (Some q) =
 -- which task has that one; behind an entry by virtual time nobody is looked for
 abbrev pub next_by : Rank → Entries → Entry → Option ℕ
 next_by Fifo entries p = position (is_right_behind entries p) entries
+next_by Front entries p = position (is_right_behind entries p) entries
 next_by (Vtime key) entries p = None
 
 -- whom an entry in order of arrival has right behind it in its queue; none behind no entry

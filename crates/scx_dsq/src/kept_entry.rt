@@ -1,7 +1,8 @@
-ghost use Rattle.std.specs.Prelude.{◌≡◌};
+ghost use Rattle.std.specs.Prelude.{◌≡◌, IsTrue};
 ghost use Rattle.scx_dsq.specs.declared.entries.Entry.{Entry};
 ghost use Rattle.scx_dsq.specs.declared.entries.Rank.TheVariants.{Fifo};
-ghost use Rattle.scx_dsq.specs.Entries.{keyless, rank_of};
+ghost use Rattle.scx_dsq.specs.Entries.{keyless, same_sort};
+ghost use Rattle.scx_dsq.specs.KeptEntries.{rank_of, way_of};
 ghost use Rattle.scx_dsq.specs.Holdings.{entry_for};
 
 use crate::entries::{Entry, Rank};
@@ -10,12 +11,20 @@ use crate::steps::Steps;
 use std::marker::Model;
 use std::sync::ledger::Ledger;
 
+/// The way by which a task came into its queue.
+#[derive(Clone, Copy)]
+pub enum Way {
+    AtEnd,
+    AtFront,
+    ByVtime,
+}
+
 /// An entry as the queues keep it. Its key and its stamp are a `Priority`, which only the counted call
 /// compares.
 #[derive(Clone, Copy)]
 pub struct KeptEntry {
     queue: u64,
-    is_fifo: bool,
+    way: Way,
     priority: Priority,
 }
 
@@ -24,11 +33,11 @@ impl Model for KeptEntry {
 
     ghost Value = { Entry };
 
-    ghost use Rattle.scx_dsq.specs.KeptEntries.{entry_in, HasKeyOfSort, entry_kept, entry_back};
+    ghost use Rattle.scx_dsq.specs.KeptEntries.{entry_in, HasKeyOfWay, entry_kept, entry_back};
 
     ghost view = { entry_in };
 
-    ghost invariant = { HasKeyOfSort };
+    ghost invariant = { HasKeyOfWay };
 
     ghost inverse = { entry_kept };
 
@@ -38,12 +47,13 @@ impl Model for KeptEntry {
 impl KeptEntry {
     /// The entry of a task in a FIFO queue. Its key is 0.
     #[inline(always)]
-    pub fn fifo(queue: u64, stamp: u64) -> KeptEntry
-        ensures { result ≡ record { queue = queue; rank = Fifo; stamp = stamp } }
+    pub fn in_order(queue: u64, rank: Rank, stamp: u64) -> KeptEntry
+        requires { IsTrue (same_sort rank Fifo) }
+        ensures { result ≡ record { queue = queue; rank = rank; stamp = stamp } }
     {
         KeptEntry {
             queue,
-            is_fifo: true,
+            way: way_in_order(rank),
             priority: Priority::new(0, stamp),
         }
     }
@@ -55,7 +65,7 @@ impl KeptEntry {
     {
         KeptEntry {
             queue,
-            is_fifo: false,
+            way: Way::ByVtime,
             priority,
         }
     }
@@ -73,11 +83,7 @@ impl KeptEntry {
     pub fn sort(self) -> Rank
         ensures { result ≡ keyless self.rank }
     {
-        if self.is_fifo {
-            Rank::Fifo
-        } else {
-            Rank::Vtime(0)
-        }
+        rank_by(self.way, 0)
     }
 
     /// The entry with its key and its stamp as numbers. Nothing counts how these are compared, so the call
@@ -89,20 +95,32 @@ impl KeptEntry {
         let (key, stamp) = self.priority.numbers(steps);
         Entry {
             queue: self.queue,
-            rank: rank_by(self.is_fifo, key),
+            rank: rank_by(self.way, key),
             stamp,
         }
     }
 }
 
-/// The rank of an entry of that sort with that key.
+/// The way by which a task of that rank comes into a FIFO queue.
 #[inline(always)]
-fn rank_by(is_fifo: bool, key: u64) -> Rank
-    ensures { result ≡ rank_of is_fifo key }
+fn way_in_order(rank: Rank) -> Way
+    requires { IsTrue (same_sort rank Fifo) }
+    ensures { result ≡ way_of rank }
 {
-    if is_fifo {
-        Rank::Fifo
-    } else {
-        Rank::Vtime(key)
+    match rank {
+        Rank::Front => Way::AtFront,
+        _ => Way::AtEnd,
+    }
+}
+
+/// The rank of an entry by that way with that key.
+#[inline(always)]
+fn rank_by(way: Way, key: u64) -> Rank
+    ensures { result ≡ rank_of way key }
+{
+    match way {
+        Way::AtEnd => Rank::Fifo,
+        Way::AtFront => Rank::Front,
+        Way::ByVtime => Rank::Vtime(key),
     }
 }

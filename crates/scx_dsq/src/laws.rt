@@ -1,4 +1,4 @@
-ghost use Rattle.scx_dsq.specs.Laws.{PushAddsOne, PopTakesOne, RemovalTakesOne, OthersChangeNone, HasOneFront, FrontIsFirst};
+ghost use Rattle.scx_dsq.specs.Laws.{PushAddsOne, PopTakesOne, RemovalTakesOne, OthersChangeNone, HasOneFront, FrontIsFirst, FrontPushLeads, FrontPushMovesNone, PopUndoesFrontPush};
 
 /// Where a task waits is conserved: each accepted push adds one appearance of its task, each pop and
 /// each removal of a task that waits takes one, and nothing else changes any. The function does
@@ -15,4 +15,12 @@ pub fn appearances_are_conserved()
 pub fn fronts_are_unique()
     ensures one { HasOneFront }
     ensures first { FrontIsFirst }
+{}
+
+/// A task that is pushed to the front of a queue is its front, and the others wait as before. The
+/// function does nothing: its contract is the law.
+pub fn front_pushes_lead()
+    ensures leads { FrontPushLeads }
+    ensures others { FrontPushMovesNone }
+    ensures undone { PopUndoesFrontPush }
 {}

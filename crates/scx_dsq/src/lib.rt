@@ -1,8 +1,9 @@
 //! Dispatch queues, where tasks wait between waking and running (Linux,
 //! Documentation/scheduler/sched-ext.rst, "Dispatch Queues").
 //!
-//! A queue has an id and is either FIFO or ordered by virtual time. `Queues` holds all of them, and
-//! each task waits in at most one. All memory is taken by `Queues::new`: no later call takes any.
+//! A queue has an id and is either FIFO or ordered by virtual time. A task goes to the end of a FIFO
+//! queue, or to its front. `Queues` holds all queues, and each task waits in at most one. All memory is
+//! taken by `Queues::new`: no later call takes any.
 //!
 //! A task is put into queue 0, if there is room and it is one of the tasks, in `crates/scx_tests_bench/src/queues.rt`:
 //!
@@ -32,6 +33,6 @@ mod steps;
 
 pub use entries::{Entry, Rank};
 pub use errors::QueueError;
-pub use laws::{appearances_are_conserved, fronts_are_unique};
+pub use laws::{appearances_are_conserved, front_pushes_lead, fronts_are_unique};
 pub use queues::Queues;
 pub use steps::Steps;

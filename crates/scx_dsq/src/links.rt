@@ -1,5 +1,5 @@
 ghost use Rattle.std.specs.Prelude.{◌≡◌, ◌<◌, length, MatchOption, None};
-ghost use Rattle.scx_dsq.specs.Links.{link_at, no_link, no_ends, instead, with_ahead, with_behind, links_appended, ends_appended, links_unlinked, ends_unlinked};
+ghost use Rattle.scx_dsq.specs.Links.{link_at, no_link, no_ends, instead, with_ahead, with_behind, links_appended, ends_appended, links_prepended, ends_prepended, links_unlinked, ends_unlinked};
 
 use crate::optional_task::OptionalTask;
 
@@ -56,6 +56,24 @@ pub fn append(links: &mut [Link], ends: &mut Ends, task: u32)
     };
     lead_on(links, ends.last, &mut ends.first, here);
     ends.last = here;
+    ends.count += 1;
+}
+
+/// Puts a task at the front of a queue.
+pub fn prepend(links: &mut [Link], ends: &mut Ends, task: u32)
+    requires task { task < length links.old }
+    requires first { MatchOption ends.old.first (Unit {0}) (λ t. t < length links.old) }
+    requires count { ends.old.count < length links.old }
+    ensures links { links.new ≡ links_prepended links.old ends.old task }
+    ensures ends { ends.new ≡ ends_prepended ends.old task }
+{
+    let here = OptionalTask::some(task);
+    links[task as usize] = Link {
+        ahead: OptionalTask::none(),
+        behind: ends.first,
+    };
+    lead_back(links, ends.first, &mut ends.last, here);
+    ends.first = here;
     ends.count += 1;
 }
 

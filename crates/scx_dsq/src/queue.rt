@@ -1,12 +1,13 @@
-ghost use Rattle.std.specs.Prelude.{◌≡◌, ◌-◌, ◌≤◌, length, None, IfOk};
+ghost use Rattle.std.specs.Prelude.{◌≡◌, ◌-◌, ◌≤◌, length, None, IfOk, IsTrue};
 ghost use Rattle.scx_dsq.specs.declared.entries.Rank.TheVariants.{Fifo};
+ghost use Rattle.scx_dsq.specs.Entries.{same_sort};
 ghost use Rattle.scx_dsq.specs.Heaps.{IsCheap};
-ghost use Rattle.scx_dsq.specs.Kept.{front_in, len_in, sort_in, mixes, CanAppend, with_last, CanInsert, Inserted, CanTakeOut, TakenOut, CanLeave, Left, IsCopy, blank};
-ghost use Rattle.scx_dsq.specs.Links.{link_at, links_appended};
+ghost use Rattle.scx_dsq.specs.Kept.{front_in, len_in, sort_in, mixes, CanLink, with_linked, CanInsert, Inserted, CanTakeOut, TakenOut, CanLeave, Left, IsCopy, blank};
+ghost use Rattle.scx_dsq.specs.Links.{link_at, links_linked};
 
 use crate::entries::Rank;
 use crate::heap::{Heap, Item};
-use crate::links::{Ends, Link, append, unlink, unlink_first};
+use crate::links::{Ends, Link, append, prepend, unlink, unlink_first};
 use crate::steps::Steps;
 use std::alloc::{AllocError, Global};
 use std::sync::ledger::Ledger;
@@ -78,19 +79,23 @@ impl Queue {
         ensures { result ≡ mixes rank self.now }
     {
         match rank {
-            Rank::Fifo => self.heap.front().is_some(),
+            Rank::Fifo | Rank::Front => self.heap.front().is_some(),
             Rank::Vtime(_) => self.ends.first.get().is_some(),
         }
     }
 }
 
-/// Puts a task at the end of a queue in FIFO order.
-pub fn append_to(links: &mut [Link], queue: &mut Queue, task: u32)
-    requires { CanAppend links.old queue.old task }
-    ensures queue { queue.new ≡ with_last queue.old task }
-    ensures links { links.new ≡ links_appended links.old queue.old.ends task }
+/// Puts a task into a queue in FIFO order: at its front by that rank, else at its end.
+#[inline(always)]
+pub fn link_in(links: &mut [Link], queue: &mut Queue, task: u32, rank: Rank)
+    requires { CanLink links.old queue.old task }
+    ensures queue { queue.new ≡ with_linked rank queue.old task }
+    ensures links { links.new ≡ links_linked rank links.old queue.old.ends task }
 {
-    append(links, &mut queue.ends, task);
+    match rank {
+        Rank::Front => prepend(links, &mut queue.ends, task),
+        Rank::Fifo | Rank::Vtime(_) => append(links, &mut queue.ends, task),
+    }
 }
 
 /// Puts an item into the heap of a queue by virtual time.
@@ -120,11 +125,11 @@ pub fn leave<L: Ledger>(
     requires { CanLeave rank links.old spots.old queue.old task }
     ensures left { Left rank links.old spots.old queue.old task links.new spots.new queue.new }
     ensures cost { IsCheap queue.old.heap.items queue.new.heap.items (steps.new - steps.old) }
-    ensures fifo { rank ≡ Fifo → steps.new ≡ steps.old }
+    ensures fifo { IsTrue (same_sort rank Fifo) → steps.new ≡ steps.old }
     ensures more { steps.old ≤ steps.new }
 {
     match rank {
-        Rank::Fifo => unlink(links, &mut queue.ends, task),
+        Rank::Fifo | Rank::Front => unlink(links, &mut queue.ends, task),
         Rank::Vtime(_) => leave_heap(spots, queue, task, steps),
     }
 }
@@ -140,14 +145,14 @@ pub fn leave_first<L: Ledger>(
     steps: &mut Steps<L>,
 )
     requires leave { CanLeave rank links.old spots.old queue.old task }
-    requires ahead { rank ≡ Fifo → (link_at links.old task).ahead ≡ None }
+    requires ahead { IsTrue (same_sort rank Fifo) → (link_at links.old task).ahead ≡ None }
     ensures left { Left rank links.old spots.old queue.old task links.new spots.new queue.new }
     ensures cost { IsCheap queue.old.heap.items queue.new.heap.items (steps.new - steps.old) }
-    ensures fifo { rank ≡ Fifo → steps.new ≡ steps.old }
+    ensures fifo { IsTrue (same_sort rank Fifo) → steps.new ≡ steps.old }
     ensures more { steps.old ≤ steps.new }
 {
     match rank {
-        Rank::Fifo => unlink_first(links, &mut queue.ends, task),
+        Rank::Fifo | Rank::Front => unlink_first(links, &mut queue.ends, task),
         Rank::Vtime(_) => leave_heap(spots, queue, task, steps),
     }
 }

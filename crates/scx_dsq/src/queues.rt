@@ -1,7 +1,8 @@
-ghost use Rattle.std.specs.Prelude.{◌≡◌, ◌≢◌, ℕ, ◌+◌, ◌-◌, ◌^◌, ◌<◌, ◌≤◌, ◌==◌, [], ◌∷◌, ◌++◌, map, length, vec_capacity, true, false, is_some, is_ok, slice_get, slice_index_or, All, HoldsAt, Some, IsSome, IfSome, IfNone, IfOk, IfErr, OnOk, OnErr};
+ghost use Rattle.std.specs.Prelude.{◌≡◌, ◌≢◌, ℕ, ◌+◌, ◌-◌, ◌^◌, ◌<◌, ◌≤◌, ◌==◌, [], ◌∷◌, ◌++◌, map, length, vec_capacity, true, false, is_some, is_ok, slice_get, slice_index_or, All, HoldsAt, Some, IsSome, IfSome, IfNone, IfOk, IfErr, OnOk, OnErr, IsTrue};
 ghost use Rattle.std.specs.List.{list_any};
 ghost use Rattle.scx_dsq.specs.declared.entries.Entry.{Entry};
-ghost use Rattle.scx_dsq.specs.declared.entries.Rank.TheVariants.{Fifo, Vtime};
+ghost use Rattle.scx_dsq.specs.declared.entries.Rank.TheVariants.{Fifo, Front, Vtime};
+ghost use Rattle.scx_dsq.specs.Entries.{same_sort};
 ghost use Rattle.scx_dsq.specs.Queues.{IsQueueAt, Waits, IsFront, exists, task_count, entry_of, queue_of, len_of, front_of, behind_of};
 ghost use Rattle.scx_dsq.specs.Calls.{refused_or_done, create_refusal, after_create, clashes, push_refusal, after_push, without_task, after_remove, after_pop, empty};
 ghost use Rattle.scx_dsq.specs.Laws.{HasOneOfEach, WaitsInAQueue, HasOneSort, IsStamped, HasOwnStamps, StandsInSoMany};
@@ -16,7 +17,7 @@ use crate::heap::{Heap, Item};
 use crate::kept_entry::KeptEntry;
 use crate::links::{Ends, Link};
 use crate::priority::Priority;
-use crate::queue::{Queue, append_to, insert_into, leave, leave_first};
+use crate::queue::{Queue, insert_into, leave, leave_first, link_in};
 use crate::steps::Steps;
 use std::alloc::{AllocError, Global};
 use std::marker::Model;
@@ -125,6 +126,24 @@ impl Queues {
         }
     }
 
+    /// Puts a task at the front of a FIFO queue, before all that wait there: `NoSuchQueue`, `AlreadyThere`
+    /// if the task waits in any queue, `Mixed` if tasks wait in this one by virtual time.
+    pub fn push_front(&mut self, id: u64, task: u32) -> Result<(), QueueError>
+        requires task { task < task_count self.old.state }
+        requires few { self.old.state.pushes < 2 ^ 63 }
+        ensures answer { result ≡ refused_or_done (push_refusal self.old.state id task Front) }
+        ensures state { self.new.state ≡ after_push self.old.state id task Front }
+        ensures arrays { self.new.arrays ≡ self.old.arrays }
+        ensures unchanged { OnErr result (self.new ≡ self.old) }
+        ensures tasks { task_count self.new.state ≡ task_count self.old.state }
+        ensures pushes { self.new.state.pushes ≤ self.old.state.pushes + 1 }
+    {
+        match self.place(id) {
+            Some(place) => self.push_front_at(place, id, task),
+            None => Err(QueueError::NoSuchQueue),
+        }
+    }
+
     /// The place of the queue of that id among all, in the order in which they were created. It stays there.
     #[inline(always)]
     pub fn place(&self, id: u64) -> Option<usize>
@@ -178,9 +197,48 @@ impl Queues {
         ensures tasks { task_count self.new.state ≡ task_count self.old.state }
         ensures pushes { self.new.state.pushes ≤ self.old.state.pushes + 1 }
     {
-        admit_at(&self.live, &self.entries, place, id, task, Rank::Fifo)?;
-        append_to(&mut self.links, &mut self.live[place], task);
-        self.entries[task as usize] = Some(KeptEntry::fifo(id, self.pushes));
+        self.push_in_order_at(place, id, task, Rank::Fifo)
+    }
+
+    /// `push_front` of the queue of that id, which is at that place.
+    #[inline(always)]
+    pub fn push_front_at(&mut self, place: usize, id: u64, task: u32) -> Result<(), QueueError>
+        requires place { IsQueueAt self.old.state place id }
+        requires task { task < task_count self.old.state }
+        requires few { self.old.state.pushes < 2 ^ 63 }
+        ensures answer { result ≡ refused_or_done (push_refusal self.old.state id task Front) }
+        ensures state { self.new.state ≡ after_push self.old.state id task Front }
+        ensures arrays { self.new.arrays ≡ self.old.arrays }
+        ensures unchanged { OnErr result (self.new ≡ self.old) }
+        ensures tasks { task_count self.new.state ≡ task_count self.old.state }
+        ensures pushes { self.new.state.pushes ≤ self.old.state.pushes + 1 }
+    {
+        self.push_in_order_at(place, id, task, Rank::Front)
+    }
+
+    /// Puts a task by that rank into the FIFO queue of that id, which is at that place.
+    #[inline(always)]
+    fn push_in_order_at(
+        &mut self,
+        place: usize,
+        id: u64,
+        task: u32,
+        rank: Rank,
+    ) -> Result<(), QueueError>
+        requires order { IsTrue (same_sort rank Fifo) }
+        requires place { IsQueueAt self.old.state place id }
+        requires task { task < task_count self.old.state }
+        requires few { self.old.state.pushes < 2 ^ 63 }
+        ensures answer { result ≡ refused_or_done (push_refusal self.old.state id task rank) }
+        ensures state { self.new.state ≡ after_push self.old.state id task rank }
+        ensures arrays { self.new.arrays ≡ self.old.arrays }
+        ensures unchanged { OnErr result (self.new ≡ self.old) }
+        ensures tasks { task_count self.new.state ≡ task_count self.old.state }
+        ensures pushes { self.new.state.pushes ≤ self.old.state.pushes + 1 }
+    {
+        admit_at(&self.live, &self.entries, place, id, task, rank)?;
+        link_in(&mut self.links, &mut self.live[place], task, rank);
+        self.entries[task as usize] = Some(KeptEntry::in_order(id, rank, self.pushes));
         self.pushes += 1;
         Ok(())
     }
@@ -419,7 +477,7 @@ impl Queues {
         ensures { result ≡ behind_of self.now.state task }
     {
         match entry.sort() {
-            Rank::Fifo => self.link_behind(task, entry),
+            Rank::Fifo | Rank::Front => self.link_behind(task, entry),
             Rank::Vtime(_) => None,
         }
     }
@@ -428,7 +486,7 @@ impl Queues {
     fn link_behind(&self, task: u32, entry: KeptEntry) -> Option<u32>
         requires task { task < task_count self.now.state }
         requires waits { entry_of self.now.state task ≡ Some entry }
-        requires fifo { entry.rank ≡ Fifo }
+        requires fifo { IsTrue (same_sort entry.rank Fifo) }
         ensures { result ≡ behind_of self.now.state task }
     {
         let Some(index) = find(&self.live, &self.order, &self.guesses, entry.queue()) else {

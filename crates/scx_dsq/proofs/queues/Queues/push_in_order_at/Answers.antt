@@ -1,54 +1,53 @@
 use Rattle.std.proofs.Common.{◌<◌, ◌∙◌, ap, refl, arith}
 use Rattle.std.proofs.lemmas.List.{length-set}
 use Rattle.std.proofs.lemmas.Result.{err_from_is_err_and}
-use Rattle.scx_dsq.specs.declared.entries.Rank.TheVariants.{Fifo}
 use Rattle.scx_dsq.specs.Queues.{IsQueueAt, task_count}
 use Rattle.scx_dsq.specs.Arrays.{QueuesValue}
 use Rattle.scx_dsq.specs.Kept.{state_of}
 use Rattle.scx_dsq.proofs.QueueReads.{found_at, is_there, opened, not_refused, refused}
-use Rattle.scx_dsq.proofs.Pushes.{can_push_fifo, pushed_fifo, pushed_fifo_state, entered_fifo}
+use Rattle.scx_dsq.proofs.Pushes.{can_push_in_order, pushed_in_order, pushed_in_order_state, entered_in_order}
 use Rattle.scx_dsq.proofs.Costs.{arrays_same}
-use Rattle.scx_dsq.proofs.queues.Queues.push_fifo_at.Goals as goal
+use Rattle.scx_dsq.proofs.queues.Queues.push_in_order_at.Goals as goal
 
 pub returns-in_err-admit_at-clause-answer : goal.returns-in_err-admit_at-clause-answer
 returns-in_err-admit_at-clause-answer c =
-    let refusal = refused c.self.inside c.args.id c.args.task Fifo _ c.self.invariant (rw (c.deref.ensures.value, c.deref-2.ensures.value) at c.in_err-admit_at.ensures.refused) in
+    let refusal = refused c.self.inside c.args.id c.args.task c.args.rank _ c.self.invariant (rw (c.deref.ensures.value, c.deref-2.ensures.value) at c.in_err-admit_at.ensures.refused) in
     let error = err_from_is_err_and c.from_residual.result c.from_residual.ensures.1 in
     rw (error.1, error.2, ← c.self.view_is, refusal) refl
 
 pub returns-in_err-admit_at-clause-state : goal.returns-in_err-admit_at-clause-state
 returns-in_err-admit_at-clause-state c =
-    let refusal = refused c.self.inside c.args.id c.args.task Fifo _ c.self.invariant (rw (c.deref.ensures.value, c.deref-2.ensures.value) at c.in_err-admit_at.ensures.refused) in
+    let refusal = refused c.self.inside c.args.id c.args.task c.args.rank _ c.self.invariant (rw (c.deref.ensures.value, c.deref-2.ensures.value) at c.in_err-admit_at.ensures.refused) in
     rw (← c.self.view_is, refusal) refl
 
-pub append_to-requires : goal.append_to-requires
-append_to-requires c =
+pub link_in-requires : goal.link_in-requires
+link_in-requires c =
     let within : c.args.task < task_count (state_of c.self.inside) = rw (← c.self.view_is) at c.requires.task in
-    let open_to = opened c.self.inside c.args.place c.args.id c.args.task Fifo c.index_mut.result.now c.self.invariant (rw (c.deref.ensures.value, c.deref-2.ensures.value) at c.in_ok-admit_at.ensures.admitted) c.index_mut.ensures.value in
-    rw c.deref_mut.ensures.value (can_push_fifo c.self.inside c.args.place c.args.id c.args.task c.index_mut.result.now c.self.invariant within open_to)
+    let open_to = opened c.self.inside c.args.place c.args.id c.args.task c.args.rank c.index_mut.result.now c.self.invariant (rw (c.deref.ensures.value, c.deref-2.ensures.value) at c.in_ok-admit_at.ensures.admitted) c.index_mut.ensures.value in
+    rw c.deref_mut.ensures.value (can_push_in_order c.self.inside c.args.place c.args.id c.args.task c.args.rank c.index_mut.result.now c.self.invariant within c.requires.order open_to)
 
 pub invariant_of-self : goal.invariant_of-self
 invariant_of-self c =
     let within : c.args.task < task_count (state_of c.self.inside) = rw (← c.self.view_is) at c.requires.task in
-    let open_to = opened c.self.inside c.args.place c.args.id c.args.task Fifo c.index_mut.result.now c.self.invariant (rw (c.deref.ensures.value, c.deref-2.ensures.value) at c.in_ok-admit_at.ensures.admitted) c.index_mut.ensures.value in
-    let changed = entered_fifo c.self.inside c.args.place c.args.id c.args.task c.index_mut.result.now c.append_to.new.queue c.deref_mut.result.now c.append_to.new.links c.fifo.result c.fifo.ensures c.deref_mut.ensures.value c.append_to.ensures.queue c.append_to.ensures.links in
-    pushed_fifo c.self.inside _ c.args.place c.args.id c.args.task c.index_mut.result.now c.self.invariant within open_to changed
+    let open_to = opened c.self.inside c.args.place c.args.id c.args.task c.args.rank c.index_mut.result.now c.self.invariant (rw (c.deref.ensures.value, c.deref-2.ensures.value) at c.in_ok-admit_at.ensures.admitted) c.index_mut.ensures.value in
+    let changed = entered_in_order c.self.inside c.args.place c.args.id c.args.task c.args.rank c.index_mut.result.now c.link_in.new.queue c.deref_mut.result.now c.link_in.new.links c.in_order.result c.in_order.ensures c.deref_mut.ensures.value c.link_in.ensures.queue c.link_in.ensures.links in
+    pushed_in_order c.self.inside _ c.args.place c.args.id c.args.task c.args.rank c.index_mut.result.now c.self.invariant within c.requires.order open_to changed
 
 pub returns-clause-answer : goal.returns-clause-answer
 returns-clause-answer c =
-    let open_to = opened c.self.inside c.args.place c.args.id c.args.task Fifo c.index_mut.result.now c.self.invariant (rw (c.deref.ensures.value, c.deref-2.ensures.value) at c.in_ok-admit_at.ensures.admitted) c.index_mut.ensures.value in
-    rw (← c.self.view_is, not_refused c.self.inside c.args.place c.args.id c.args.task Fifo c.index_mut.result.now open_to) refl
+    let open_to = opened c.self.inside c.args.place c.args.id c.args.task c.args.rank c.index_mut.result.now c.self.invariant (rw (c.deref.ensures.value, c.deref-2.ensures.value) at c.in_ok-admit_at.ensures.admitted) c.index_mut.ensures.value in
+    rw (← c.self.view_is, not_refused c.self.inside c.args.place c.args.id c.args.task c.args.rank c.index_mut.result.now open_to) refl
 
 pub returns-clause-state : goal.returns-clause-state
 returns-clause-state c =
     let within : c.args.task < task_count (state_of c.self.inside) = rw (← c.self.view_is) at c.requires.task in
-    let open_to = opened c.self.inside c.args.place c.args.id c.args.task Fifo c.index_mut.result.now c.self.invariant (rw (c.deref.ensures.value, c.deref-2.ensures.value) at c.in_ok-admit_at.ensures.admitted) c.index_mut.ensures.value in
-    let changed = entered_fifo c.self.inside c.args.place c.args.id c.args.task c.index_mut.result.now c.append_to.new.queue c.deref_mut.result.now c.append_to.new.links c.fifo.result c.fifo.ensures c.deref_mut.ensures.value c.append_to.ensures.queue c.append_to.ensures.links in
-    rw (← c.self.view_is) (pushed_fifo_state c.self.inside _ c.args.place c.args.id c.args.task c.index_mut.result.now c.self.invariant within open_to changed)
+    let open_to = opened c.self.inside c.args.place c.args.id c.args.task c.args.rank c.index_mut.result.now c.self.invariant (rw (c.deref.ensures.value, c.deref-2.ensures.value) at c.in_ok-admit_at.ensures.admitted) c.index_mut.ensures.value in
+    let changed = entered_in_order c.self.inside c.args.place c.args.id c.args.task c.args.rank c.index_mut.result.now c.link_in.new.queue c.deref_mut.result.now c.link_in.new.links c.in_order.result c.in_order.ensures c.deref_mut.ensures.value c.link_in.ensures.queue c.link_in.ensures.links in
+    rw (← c.self.view_is) (pushed_in_order_state c.self.inside _ c.args.place c.args.id c.args.task c.args.rank c.index_mut.result.now c.self.invariant within c.requires.order open_to changed)
 
 pub returns-clause-arrays : goal.returns-clause-arrays
 returns-clause-arrays c =
-    rw (← c.self.view_is) (arrays_same c.self.inside.live.items c.args.place c.index_mut.result.now c.append_to.new.queue c.index_mut.ensures.value (rw c.append_to.ensures.queue refl))
+    rw (← c.self.view_is) (arrays_same c.self.inside.live.items c.args.place c.index_mut.result.now c.link_in.new.queue c.index_mut.ensures.value (rw c.link_in.ensures.queue refl))
 
 pub returns-clause-tasks : goal.returns-clause-tasks
 returns-clause-tasks c = length-set c.self.inside.entries.items c.args.task _ ∙ ap (λ (v : QueuesValue). task_count v.state) c.self.view_is
