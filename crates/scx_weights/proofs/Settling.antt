@@ -275,6 +275,7 @@ pub tree_reweighed : (t u : Hierarchy) (used pending : List ℕ) (g w : ℕ) (ha
     → record {
       groups = set t.groups g (record { parent = had.parent; weight = w; quota_ms = had.quota_ms; period_ms = had.period_ms });
       homes = t.homes;
+      own_weights = t.own_weights;
       active = t.active;
       usages = usages_in (set t.groups g (record { parent = had.parent; weight = w; quota_ms = had.quota_ms; period_ms = had.period_ms })) used pending;
     } ≡ with_weight u g w
@@ -283,12 +284,14 @@ tree_reweighed t u used pending g w had view usages lt read =
     ap (λ (us : List ℕ). record {
       groups = set t.groups g (record { parent = had.parent; weight = w; quota_ms = had.quota_ms; period_ms = had.period_ms });
       homes = t.homes;
+      own_weights = t.own_weights;
       active = t.active;
       usages = us;
     }) (usages_reweighed t.groups g w used pending had lt read ∙ sym usages)
     ∙ ap (λ (x : Group). record {
       groups = set t.groups g (record { parent = x.parent; weight = w; quota_ms = x.quota_ms; period_ms = x.period_ms });
       homes = t.homes;
+      own_weights = t.own_weights;
       active = t.active;
       usages = t.usages;
     }) had_is

@@ -11,11 +11,14 @@ pub const MAX_TASKS: usize = 1024;
 /// The greatest depth of a group; those at the top have depth 1.
 pub const MAX_DEPTH: usize = 3;
 
-/// The least weight of a group. Weights have no unit: they are compared with those of the groups beside it.
+/// The least weight of a group, and of a task itself. Weights have no unit: they are compared with those of the groups beside it.
 pub const MIN_WEIGHT: u32 = 1;
 
-/// The greatest weight of a group.
+/// The greatest weight of a group, and of a task itself.
 pub const MAX_WEIGHT: u32 = 10_000;
+
+/// The weight of a task for which none is given: a kernel's for nice 0.
+pub const DEFAULT_OWN_WEIGHT: u32 = 100;
 
 /// The greatest quota of a group, in ms; the least is 1.
 pub const MAX_QUOTA_MS: u32 = 1_000_000;
@@ -55,7 +58,7 @@ impl Group {
     }
 }
 
-/// True if a group may have that weight.
+/// True if a group may have that weight, or a task itself.
 pub fn is_weight(weight: u32) -> bool
     ensures { result ≡ not (is_outside max_weight weight) }
 {

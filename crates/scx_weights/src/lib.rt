@@ -25,6 +25,9 @@
 //! }
 //! ```
 //!
+//! A task also has a weight of its own, as a kernel gives it one by its nice value: `own_weight`. It is no part of its
+//! share.
+//!
 //! `usages_count_runs` and the other laws of `cpu.max` say what a usage counts, and how far it goes on a machine that
 //! stops a task as soon as it is throttled. `DueShares` counts which share of the processors is due to each group, as
 //! tasks wake and sleep and weights change.
@@ -45,8 +48,8 @@ mod usage;
 pub use due_shares::{DueShares, WHOLE};
 pub use error::TreeError;
 pub use group::{
-    DEFAULT_PERIOD_MS, Group, MAX_DEPTH, MAX_GROUPS, MAX_PERIOD_MS, MAX_QUOTA_MS, MAX_TASKS,
-    MAX_WEIGHT, MIN_WEIGHT, is_weight,
+    DEFAULT_OWN_WEIGHT, DEFAULT_PERIOD_MS, Group, MAX_DEPTH, MAX_GROUPS, MAX_PERIOD_MS,
+    MAX_QUOTA_MS, MAX_TASKS, MAX_WEIGHT, MIN_WEIGHT, is_weight,
 };
 pub use group_paths::path_of;
 pub use laws::{freed_are_free, ways_reach_top};

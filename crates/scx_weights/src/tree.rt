@@ -1,8 +1,8 @@
 ghost use Rattle.std.specs.Prelude.{◌≡◌, ℕ, ◌^◌, ◌<◌, ◌≤◌, true, false, length, IfOk, IfErr, OnOk, OnErr};
 
-use crate::admission::first_fault;
+use crate::admission::{first_fault, has_bad_own_weight};
 use crate::error::TreeError;
-use crate::group::{Group, MAX_GROUPS, MAX_TASKS, is_weight};
+use crate::group::{DEFAULT_OWN_WEIGHT, Group, MAX_GROUPS, MAX_TASKS, is_weight};
 use crate::share::weight_in;
 use crate::sums::Sums;
 use crate::usage::Usages;
@@ -12,11 +12,12 @@ use std::marker::Model;
 /// Groups with weights and limits, tasks in them, which tasks are active, and what groups have used.
 ///
 /// Groups and tasks go by their numbers in the lists that the tree was made of. In a contract a tree is
-/// those two lists, whether each task is active, and the usage of each group.
+/// those two lists, the weight of each task itself, whether it is active, and the usage of each group.
 #[derive(Drop)]
 pub struct Tree {
     groups: Vec<Group>,
     homes: Vec<u32>,
+    own_weights: Vec<u32>,
     active: Vec<bool>,
     sums: Sums,
     usages: Usages,
@@ -25,28 +26,30 @@ pub struct Tree {
 impl Model for Tree {
     ghost use Rattle.scx_weights.specs.Hierarchy.{Hierarchy};
     ghost use Rattle.scx_weights.specs.Pending.{usages_in, AreUsages};
-    ghost use Rattle.scx_weights.specs.RunningSums.{HasRunningSums, KnowsLimits};
+    ghost use Rattle.scx_weights.specs.RunningSums.{HasRunningSums, KnowsLimits, HasOwnWeights};
 
     ghost Value = { Hierarchy };
 
-    ghost view = { λ t. record { groups = t.groups.items; homes = t.homes.items; active = t.active.items; usages = usages_in t.groups.items t.usages.used.items t.usages.pending.items } };
+    ghost view = { λ t. record { groups = t.groups.items; homes = t.homes.items; own_weights = t.own_weights.items; active = t.active.items; usages = usages_in t.groups.items t.usages.used.items t.usages.pending.items } };
 
     ghost invariant = { λ t.
         HasRunningSums
-        (record { groups = t.groups.items; homes = t.homes.items; active = t.active.items; usages = usages_in t.groups.items t.usages.used.items t.usages.pending.items })
+        (record { groups = t.groups.items; homes = t.homes.items; own_weights = t.own_weights.items; active = t.active.items; usages = usages_in t.groups.items t.usages.used.items t.usages.pending.items })
         t.sums.tasks.items t.sums.weights.items
         × KnowsLimits t.groups.items t.usages.beat t.usages.since t.usages.next t.usages.limited
-        × AreUsages t.groups.items t.usages.used.items t.usages.pending.items t.usages.limited };
+        × AreUsages t.groups.items t.usages.used.items t.usages.pending.items t.usages.limited
+        × HasOwnWeights t.homes.items t.own_weights.items };
 }
 
 impl Tree {
-    ghost use Rattle.scx_weights.specs.Hierarchy.{home_of, is_active_task, with_task, with_weight, idle};
+    ghost use Rattle.scx_weights.specs.Hierarchy.{home_of, is_active_task, with_task, with_weight, own_weight, with_own_weight, with_own_weights, idle};
     ghost use Rattle.scx_weights.specs.Weights.{active_tasks, task_weight};
     ghost use Rattle.scx_weights.specs.Limits.{usage_of, has_quota, is_throttled, with_use, with_turn, frees};
     ghost use Rattle.scx_weights.specs.Hierarchy.{lies_in};
-    ghost use Rattle.scx_weights.specs.Refusals.{max_tasks, first_fault, weight_fault, Names};
+    ghost use Rattle.scx_weights.specs.Refusals.{max_tasks, max_weight, first_fault, weight_fault, own_weight_fault, own_weights_fault, Names};
 
-    /// A tree of these groups, and of tasks in the groups that `tasks` names; no task is active.
+    /// A tree of these groups, and of tasks in the groups that `tasks` names; no task is active, and each has the
+    /// default weight itself.
     ///
     /// A parent is earlier in the list than its children. Memory is taken here alone.
     pub fn new(alloc: Global, groups: &[Group], tasks: &[u32]) -> Result<Tree, TreeError>
@@ -61,6 +64,7 @@ impl Tree {
         Ok(Tree {
             groups: Vec::from_slice(alloc, groups)?,
             homes: Vec::from_slice(alloc, tasks)?,
+            own_weights: vec![in alloc; DEFAULT_OWN_WEIGHT; tasks.len()]?,
             active: vec![in alloc; false; tasks.len()]?,
             sums: Sums::new(alloc, groups.len())?,
             usages: Usages::new(alloc, groups)?,
@@ -117,6 +121,53 @@ impl Tree {
         }
         self.sums.reweigh(&self.groups, group, weight);
         self.groups[group as usize].weight = weight;
+        Ok(())
+    }
+
+    /// The weight that the task has itself: 0 if there is no such task.
+    pub fn own_weight(&self, task: u32) -> u32
+        ensures weight { result ≡ own_weight self.now task }
+        ensures some { task < length self.now.homes → 1 ≤ result }
+        ensures few { result ≤ max_weight }
+    {
+        match self.own_weights.get(task as usize) {
+            Some(weight) => *weight,
+            None => 0,
+        }
+    }
+
+    /// Sets the weight that a task has itself. No share changes.
+    pub fn set_own_weight(&mut self, task: u32, weight: u32) -> Result<(), TreeError>
+        ensures set { OnOk result (self.new ≡ with_own_weight self.old task weight) }
+        ensures valid { OnOk result (own_weight_fault self.old task weight ≡ None) }
+        ensures refused { IfErr result (λ error. own_weight_fault self.old task weight ≡ Some error) }
+        ensures kept { OnErr result (self.new ≡ self.old) }
+    {
+        if self.homes.len() <= task as usize {
+            return Err(TreeError::UnknownTask);
+        }
+        if !is_weight(weight) {
+            return Err(TreeError::OutOfRange);
+        }
+        self.own_weights[task as usize] = weight;
+        Ok(())
+    }
+
+    /// Sets the weights that all tasks have themselves, one for each. No share changes.
+    pub fn set_own_weights(&mut self, weights: &[u32]) -> Result<(), TreeError>
+        ensures set { OnOk result (self.new ≡ with_own_weights self.old weights.now) }
+        ensures valid { OnOk result (own_weights_fault self.old weights.now ≡ None) }
+        ensures refused { IfErr result
+            (λ error. own_weights_fault self.old weights.now ≡ Some error) }
+        ensures kept { OnErr result (self.new ≡ self.old) }
+    {
+        if weights.len() != self.homes.len() {
+            return Err(TreeError::UnknownTask);
+        }
+        if has_bad_own_weight(weights) {
+            return Err(TreeError::OutOfRange);
+        }
+        self.own_weights.copy_from_slice(weights);
         Ok(())
     }
 
@@ -208,6 +259,7 @@ impl Tree {
     {
         self.groups.copy_from_slice(&other.groups);
         self.homes.copy_from_slice(&other.homes);
+        self.own_weights.copy_from_slice(&other.own_weights);
         self.active.copy_from_slice(&other.active);
         self.sums.copy_from(&other.sums);
         self.usages.copy_from(&other.usages);
@@ -220,6 +272,7 @@ impl Tree {
         Ok(Tree {
             groups: Vec::from_slice(alloc, &self.groups)?,
             homes: Vec::from_slice(alloc, &self.homes)?,
+            own_weights: Vec::from_slice(alloc, &self.own_weights)?,
             active: Vec::from_slice(alloc, &self.active)?,
             sums: self.sums.duplicate(alloc)?,
             usages: self.usages.duplicate(alloc)?,
