@@ -1,14 +1,15 @@
 -- The set of processors on which a task runs, as bits.
-use Rattle.std.proofs.Common.{◌≡◌, ◌≢◌, ℕ, zero, suc, ◌&&◌, not, Bool, ◌+◌, ◌-◌, ◌*◌, ◌%◌, ◌<◌, ◌≤◌, ◌^◌, true, false, ◌⊎◌, inl, inr, List, length, set, get_or, replicate, Option, Some, None, is_none, is_some, refl, subst, sym, ◌∙◌, ap, arith}
+use Rattle.std.proofs.Common.{◌≡◌, ◌≢◌, ℕ, zero, suc, ◌&&◌, not, Bool, ◌+◌, ◌-◌, ◌*◌, ◌%◌, ◌<◌, ◌≤◌, ◌^◌, max, ◌==◌, true, false, ◌⊎◌, inl, inr, List, length, set, get_or, replicate, Option, Some, None, is_none, is_some, refl, subst, sym, ◌∙◌, ap, arith}
 use Rattle.std.specs.Int.{w64, bit_at, bit_not, trailing_zeros, trailing_ones}
 use Rattle.std.specs.Int.Bits.{bit_or, bit_and}
 use Rattle.std.specs.Int.Count.{count_trailing_zeros, trailing_of_zero}
 use Rattle.std.proofs.lemmas.Bool.{cases_eq, cases_lt, eq-eqb, ne_eqb, lt-ltb}
 use Rattle.std.proofs.lemmas.List.{length-replicate, get_or-replicate, get_or-set_same, get_or-set_other, length-set}
-use Rattle.std.proofs.lemmas.Nat.Bits.{bit_at-zero, bit_at_ones, bit_at-trailing_ones, bit_at_set_same, bit_at_set_other, bit_at_clear_same, bit_at_clear_other}
+use Rattle.std.proofs.lemmas.Nat.Bits.{bit_at-zero, bit_at_ones, bit_at-trailing_ones, bit_at_set_same, bit_at_set_other, bit_at_clear_same, bit_at_clear_other, bit_at_or, bit_at-lt}
 use Rattle.scx_dsq.specs.Laws.{one_if}
-use Rattle.scx_sched_world.specs.Kept.{AreBusy, AreTaken}
-use Rattle.scx_sched_world.specs.World.{WorldState, running, is_this, is_idle, this_if, or_this, idle_below, first_idle}
+use Rattle.scx_sched_world.specs.CpuSets.{is_in_set}
+use Rattle.scx_sched_world.specs.Kept.{AreBusy, AreOccupied, AreTaken}
+use Rattle.scx_sched_world.specs.World.{WorldState, running, is_this, is_idle, is_by_linux, is_free, this_if, or_this, free_below, first_free}
 
 -- ---- one bit set or cleared
 
@@ -78,58 +79,85 @@ taken_here true b e = rw e refl
 taken_here false b e = refl
 
 -- outside of a cycle
-pub taken_plain : (bits : ℕ) (w : WorldState) → AreBusy bits w.cpus → ((c : ℕ) → c < length w.cpus → is_this c w.cycling ≡ false) → AreTaken bits w
-taken_plain bits w h off c l = rw (known w c l) (h c l ∙ taken_if (get_or w.cpus c None) (is_this c w.cycling) (off c l))
+occupied_plain : (bits : ℕ) (w : WorldState) → AreBusy bits w.cpus → ((c : ℕ) → c < length w.cpus → is_this c w.cycling ≡ false) → AreOccupied bits w
+occupied_plain bits w h off c l = rw (known w c l) (h c l ∙ taken_if (get_or w.cpus c None) (is_this c w.cycling) (off c l))
 
 -- no cycle is under way
-pub taken_none : (bits : ℕ) (w : WorldState) → w.cycling ≡ None → AreBusy bits w.cpus → AreTaken bits w
-taken_none bits w e h = taken_plain bits w h (λ c l. rw e refl)
+pub occupied_none : (bits : ℕ) (w : WorldState) → w.cycling ≡ None → AreBusy bits w.cpus → AreOccupied bits w
+occupied_none bits w e h = occupied_plain bits w h (λ c l. rw e refl)
 
 -- or one on a processor that there isn't
-pub taken_past : (bits k : ℕ) (w : WorldState) → w.cycling ≡ Some k → length w.cpus ≤ k → AreBusy bits w.cpus → AreTaken bits w
-taken_past bits k w e past h = taken_plain bits w h (λ c l. rw e (ne_eqb c k (λ x. omega (arith, x, past, l))))
+pub occupied_past : (bits k : ℕ) (w : WorldState) → w.cycling ≡ Some k → length w.cpus ≤ k → AreBusy bits w.cpus → AreOccupied bits w
+occupied_past bits k w e past h = occupied_plain bits w h (λ c l. rw e (ne_eqb c k (λ x. omega (arith, x, past, l))))
 
 -- within one its processor counts too
-pub taken_set : (bits bits' k : ℕ) (w : WorldState) → w.cycling ≡ Some k → length w.cpus ≤ 64 → bit_at bits' k ≡ 1 → ((i : ℕ) → i < 64 → i ≢ k → bit_at bits' i ≡ bit_at bits i) → AreBusy bits w.cpus → AreTaken bits' w
-taken_set bits bits' k w e few here others h c l = rw (known w c l) (go (cases_eq c k))
+pub occupied_set : (bits bits' k : ℕ) (w : WorldState) → w.cycling ≡ Some k → length w.cpus ≤ 64 → bit_at bits' k ≡ 1 → ((i : ℕ) → i < 64 → i ≢ k → bit_at bits' i ≡ bit_at bits i) → AreBusy bits w.cpus → AreOccupied bits' w
+occupied_set bits bits' k w e few here others h c l = rw (known w c l) (go (cases_eq c k))
   where
     go : (c ≡ k) ⊎ (c ≡ k → ⊥) → bit_at bits' c ≡ one_if (not (is_none (running w c) && not (is_this c w.cycling)))
     go (inl is) = ap (λ i. bit_at bits' i) is ∙ here ∙ taken_here (is_none (running w c)) (is_this c w.cycling) (rw e (eq-eqb c k is))
     go (inr d) = others c (omega (arith, l, few)) d ∙ h c l ∙ taken_if (get_or w.cpus c None) (is_this c w.cycling) (rw e (ne_eqb c k d))
 
--- ---- the lowest idle one
+-- ---- processors that aren't free
 
-is_free : (b : Bool) → one_if (not b) ≡ 0 → b ≡ true
-is_free true e = refl
-is_free false e = absurd (omega (arith, e))
+taken_either : (a b : ℕ) (idle : Bool) → b < 2 → a ≡ one_if (not idle) → max a b ≡ one_if (not (idle && not (b == 1)))
+taken_either a b true l e = go (cases_eq b 1)
+  where
+    go : (b ≡ 1) ⊎ (b ≡ 1 → ⊥) → max a b ≡ one_if (not (not (b == 1)))
+    go (inl one) = rw (e, one) refl
+    go (inr d) = let none : b ≡ 0 = omega (arith, l, d) in rw (e, none) refl
+taken_either a b false l e = go (cases_eq b 1)
+  where
+    go : (b ≡ 1) ⊎ (b ≡ 1 → ⊥) → max a b ≡ 1
+    go (inl one) = rw (e, one) refl
+    go (inr d) = let none : b ≡ 0 = omega (arith, l, d) in rw (e, none) refl
 
-is_taken : (b : Bool) → one_if (not b) ≡ 1 → b ≡ false
-is_taken true e = absurd (omega (arith, e))
-is_taken false e = refl
+-- who is claimed is taken too, under Linux rules
+pub taken_claimed : (bits : ℕ) (w : WorldState) → is_by_linux w ≡ true → AreOccupied bits w → AreTaken (bit_or bits w.claimed.0) w
+taken_claimed bits w linux h c l =
+    rw linux (bit_at_or bits w.claimed.0 c ∙ taken_either (bit_at bits c) (bit_at w.claimed.0 c) (is_idle w c) (bit_at-lt w.claimed.0 c) (h c l))
 
--- none so far is idle
-pub none_below : (n : ℕ) (w : WorldState) → ((k : ℕ) → k < n → is_idle w k ≡ false) → idle_below n w ≡ None
+taken_alone : (a : ℕ) (idle linux claimed : Bool) → linux ≡ false → a ≡ one_if (not idle) → a ≡ one_if (not (idle && not (linux && claimed)))
+taken_alone a true linux claimed off e = rw off e
+taken_alone a false linux claimed off e = e
+
+-- and nobody else is
+pub taken_unclaimed : (bits : ℕ) (w : WorldState) → is_by_linux w ≡ false → AreOccupied bits w → AreTaken bits w
+taken_unclaimed bits w off h c l = taken_alone (bit_at bits c) (is_idle w c) (is_by_linux w) (is_in_set w.claimed c) off (h c l)
+
+-- ---- the lowest free one
+
+must_be : (b : Bool) → one_if (not b) ≡ 0 → b ≡ true
+must_be true e = refl
+must_be false e = absurd (omega (arith, e))
+
+cant_be : (b : Bool) → one_if (not b) ≡ 1 → b ≡ false
+cant_be true e = absurd (omega (arith, e))
+cant_be false e = refl
+
+-- none so far is free
+pub none_below : (n : ℕ) (w : WorldState) → ((k : ℕ) → k < n → is_free w k ≡ false) → free_below n w ≡ None
 none_below zero w all = refl
 none_below (suc n) w all = rw (none_below n w (λ k l. all k (omega (arith, l))), all n (omega arith)) refl
 
 -- the first that is
-pub one_below : (n i : ℕ) (w : WorldState) → i < n → is_idle w i ≡ true → ((k : ℕ) → k < i → is_idle w k ≡ false) → idle_below n w ≡ Some i
-one_below zero i w l idle all = absurd (omega (arith, l))
-one_below (suc n) i w l idle all = go (cases_eq i n) (λ d. one_below n i w (omega (arith, l, d)) idle all)
+pub one_below : (n i : ℕ) (w : WorldState) → i < n → is_free w i ≡ true → ((k : ℕ) → k < i → is_free w k ≡ false) → free_below n w ≡ Some i
+one_below zero i w l free all = absurd (omega (arith, l))
+one_below (suc n) i w l free all = go (cases_eq i n) (λ d. one_below n i w (omega (arith, l, d)) free all)
   where
-    go : (i ≡ n) ⊎ (i ≡ n → ⊥) → ((i ≡ n → ⊥) → idle_below n w ≡ Some i) → or_this (idle_below n w) (this_if (is_idle w n) n) ≡ Some i
-    go (inl e) f = rw (← e, none_below i w all, idle) refl
+    go : (i ≡ n) ⊎ (i ≡ n → ⊥) → ((i ≡ n → ⊥) → free_below n w ≡ Some i) → or_this (free_below n w) (this_if (is_free w n) n) ≡ Some i
+    go (inl e) f = rw (← e, none_below i w all, free) refl
     go (inr d) f = rw (f d) refl
 
--- the lowest clear bit is the first idle processor
-pub lowest_idle : (bits : ℕ) (w : WorldState) → bits < 2 ^ 64 → length w.cpus ≤ 64 → AreTaken bits w → trailing_zeros w64 (bit_not w64 bits) < length w.cpus → first_idle w ≡ Some (trailing_zeros w64 (bit_not w64 bits))
-lowest_idle bits w fits few h l =
+-- the lowest clear bit is the first free processor
+pub lowest_free : (bits : ℕ) (w : WorldState) → bits < 2 ^ 64 → length w.cpus ≤ 64 → AreTaken bits w → trailing_zeros w64 (bit_not w64 bits) < length w.cpus → first_free w ≡ Some (trailing_zeros w64 (bit_not w64 bits))
+lowest_free bits w fits few h l =
     let low = lowest_clear bits fits in
-    one_below (length w.cpus) (trailing_ones w64 bits) w l (is_free _ (sym (h (trailing_ones w64 bits) l) ∙ low.clear (omega (arith, l, few))))
-    (λ k m. is_taken _ (sym (h k (omega (arith, m, l))) ∙ low.below k m))
+    one_below (length w.cpus) (trailing_ones w64 bits) w l (must_be _ (sym (h (trailing_ones w64 bits) l) ∙ low.clear (omega (arith, l, few))))
+    (λ k m. cant_be _ (sym (h k (omega (arith, m, l))) ∙ low.below k m))
 
--- where it is past the last, none is idle
-pub none_idle : (bits : ℕ) (w : WorldState) → bits < 2 ^ 64 → length w.cpus ≤ 64 → AreTaken bits w → length w.cpus ≤ trailing_zeros w64 (bit_not w64 bits) → first_idle w ≡ None
-none_idle bits w fits few h past =
+-- where it is past the last, none is free
+pub none_free : (bits : ℕ) (w : WorldState) → bits < 2 ^ 64 → length w.cpus ≤ 64 → AreTaken bits w → length w.cpus ≤ trailing_zeros w64 (bit_not w64 bits) → first_free w ≡ None
+none_free bits w fits few h past =
     let low = lowest_clear bits fits in
-    none_below (length w.cpus) w (λ k l. is_taken _ (sym (h k l) ∙ low.below k (omega (arith, l, past))))
+    none_below (length w.cpus) w (λ k l. cant_be _ (sym (h k l) ∙ low.below k (omega (arith, l, past))))

@@ -4,7 +4,7 @@ use Rattle.std.proofs.lemmas.Bool.{and_parts, eqb-true, both_ways}
 use Rattle.std.proofs.lemmas.List.Quantifiers.{position-Some}
 use Rattle.scx_dsq.specs.declared.entries.Entry.{Entry}
 use Rattle.scx_dsq.specs.declared.entries.Rank.{Rank}
-use Rattle.scx_dsq.specs.declared.entries.Rank.TheVariants.{Fifo, Vtime}
+use Rattle.scx_dsq.specs.declared.entries.Rank.TheVariants.{Fifo, Front, Vtime}
 use Rattle.scx_dsq.specs.Entries.{is_before}
 use Rattle.scx_dsq.specs.Queues.{QueueState, entry_of, queue_of, is_first, front_of, is_right_behind, next_by, right_behind, behind_of}
 use Rattle.scx_dsq.proofs.Orders.{before-asym}
@@ -67,6 +67,7 @@ behind_in s q t u here e = go (entry_of s t) refl here e
 
         by : (k : Rank) → next_by k s.entries p ≡ Some u → IsBehind s q t u
         by Fifo w = at (entry_of s u) refl (position-Some (is_right_behind s.entries p) s.entries u None w).1
+        by Front w = at (entry_of s u) refl (position-Some (is_right_behind s.entries p) s.entries u None w).1
         by (Vtime k) w = absurd (cc)
 
 -- ---- a walk over the parked

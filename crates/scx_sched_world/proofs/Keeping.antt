@@ -1,5 +1,5 @@
 -- What a world keeps once one of its parts has changed.
-use Rattle.std.proofs.Common.{◌≡◌, ◌⊎◌, inl, inr, ◌∙◌, ℕ, Bool, true, false, length, subst, sym}
+use Rattle.std.proofs.Common.{◌≡◌, ◌⊎◌, inl, inr, ◌∙◌, ℕ, Bool, true, false, ◌≤◌, vec_capacity, length, subst, sym}
 use Rattle.scx_dsq.specs.Queues.{task_count}
 use Rattle.scx_dsq.specs.Calls.{after_push}
 use Rattle.scx_dsq.specs.declared.entries.Rank.{Rank}
@@ -8,6 +8,24 @@ use Rattle.scx_weights.specs.declared.tree.Tree.{Tree}
 use Rattle.scx_sched_world.specs.declared.world.World.TheInside.{Inside}
 use Rattle.scx_sched_world.specs.Kept.{IsKept, AreThrottled, StandFirst}
 use Rattle.scx_sched_world.proofs.Places.{pushed}
+
+-- another world has the same in it, and room for the notes of a callback
+pub same_kept : (w v : Inside) → IsKept w → v.clock ≡ w.clock → v.tasks ≡ w.tasks → v.cpus.items ≡ w.cpus.items → v.busy ≡ w.busy → v.running_on.items ≡ w.running_on.items
+    → v.queues ≡ w.queues → v.tree ≡ w.tree → v.notes.items ≡ w.notes.items → 4096 ≤ vec_capacity v.notes → v.parked_throttled ≡ w.parked_throttled → IsKept v
+same_kept w v is clock tasks cpus busy running queues tree notes room known = record {
+  notes = room;
+  few_notes = rw notes is.few_notes;
+  queued = rw (queues, tasks) is.queued;
+  weighed = rw (tree, tasks) is.weighed;
+  few_tasks = rw tasks is.few_tasks;
+  few_cpus = rw cpus is.few_cpus;
+  busy = rw (busy, cpus) is.busy;
+  running = rw (running, cpus) is.running;
+  known_running = rw (running, tasks) is.known_running;
+  places = rw (queues, cpus) is.places;
+  early = rw clock is.early;
+  parked = λ yes. subst (λ (x : Tree). AreThrottled v.queues.state x) (sym tree) (subst (λ (x : Queues). AreThrottled x.state w.tree) (sym queues) (is.parked (sym known ∙ yes)));
+}
 
 -- the queues are others that know of as many tasks, and what is known of the parked is so in them
 pub queues_changed : (w : Inside) (queues : Queues) (known : Bool) → IsKept w → task_count queues.state ≡ task_count w.queues.state

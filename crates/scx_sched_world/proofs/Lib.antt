@@ -2,8 +2,10 @@ pub mod Busy
 pub mod Few
 mod Parked
 pub mod Fronts
+mod Members
 mod Records
 pub mod Likes
 mod Places
 mod Running
 mod Keeping
+mod Entering

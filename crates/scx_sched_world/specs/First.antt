@@ -3,7 +3,9 @@ use Rattle.std.specs.Prelude.{ℕ, zero, suc, ◌+◌, [], length, replicate, No
 use Rattle.scx_dsq.specs.Queues.{QueueState}
 use Rattle.scx_dsq.specs.Calls.{after_create, empty}
 use Rattle.scx_weights.specs.Hierarchy.{Hierarchy}
+use Rattle.scx_isa_semantics.specs.declared.rules.Rules.TheVariants.{Plain}
 use Rattle.scx_sched_tasks.specs.Tasks.{new_task}
+use Rattle.scx_sched_world.specs.CpuSets.{no_cpus}
 use Rattle.scx_sched_world.specs.Ids.{global, held_queue, builtin_queue, parked_queue, local_on}
 use Rattle.scx_sched_world.specs.World.{WorldState, no_call}
 
@@ -23,13 +25,18 @@ own_queues cpus tasks =
 abbrev pub first_queues : ℕ → ℕ → QueueState
 first_queues cpus tasks = with_locals cpus (own_queues cpus tasks)
 
--- the world at the start, over a tree of groups and tasks and with so many processors
+-- the world at the start, over a tree of groups and tasks and with so many processors, by plain rules
 abbrev pub first_world : Hierarchy → ℕ → WorldState
 first_world tree cpus = record {
   clock = 0;
   tasks = replicate (length tree.homes) new_task;
   cpus = replicate cpus None;
   cycling = None;
+  slept = None;
+  rules = Plain;
+  claimed = no_cpus;
+  kicked = no_cpus;
+  preempted = no_cpus;
   queues = first_queues cpus (length tree.homes);
   tree = tree;
   call = no_call;

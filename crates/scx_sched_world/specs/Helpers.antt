@@ -1,18 +1,18 @@
 -- What each helper answers, and what it makes of the world. A call with a fault answers that it is
 -- invalid, and changes nothing but that the fault is kept, if it is the first one of the callback.
-use Rattle.std.specs.Prelude.{ℕ, Bool, true, false, ◌&&◌, ◌==◌, nat_lt, nat_le, ◌+◌, ◌-◌, ◌*◌, ◌^◌, min, List, length, if◌then◌else◌, Option, Some, None, is_none, slice_index_or}
+use Rattle.std.specs.Prelude.{ℕ, Bool, true, false, ◌&&◌, ◌==◌, nat_lt, nat_le, not, ◌||◌, ◌+◌, ◌-◌, ◌*◌, ◌/◌, ◌%◌, ◌^◌, min, List, length, if◌then◌else◌, Option, Some, None, is_none, slice_index_or}
 use Rattle.std.specs.List.{list_any}
 use Rattle.scx_dsq.specs.Queues.{exists, entry_of, is_in, front_of, len_of}
-use Rattle.scx_dsq.specs.Calls.{create_refusal, after_create, clashes, after_push, after_pop}
+use Rattle.scx_dsq.specs.Calls.{create_refusal, after_create, clashes}
 use Rattle.scx_dsq.specs.Laws.{one_if}
 use Rattle.scx_dsq.specs.declared.entries.Rank.{Rank}
-use Rattle.scx_dsq.specs.declared.entries.Rank.TheVariants.{Fifo, Vtime}
-use Rattle.scx_weights.specs.Hierarchy.{home_of}
+use Rattle.scx_dsq.specs.declared.entries.Rank.TheVariants.{Fifo, Front, Vtime}
+use Rattle.scx_weights.specs.Hierarchy.{home_of, own_weight}
 use Rattle.scx_weights.specs.Weights.{task_weight}
 use Rattle.scx_isa_semantics.specs.declared.callbacks.Callback.{Callback}
 use Rattle.scx_isa_semantics.specs.declared.callbacks.Callback.TheVariants as callback
 use Rattle.scx_isa_semantics.specs.declared.host_tables.Helper.{Helper}
-use Rattle.scx_isa_semantics.specs.declared.host_tables.Helper.TheVariants.{MapLookupElem, KtimeGetNs, CreateDsq, DsqInsert, DsqInsertVtime, DsqMoveToLocal, SelectCpuDfl, CpuIdle, TaskByPid, DsqNrQueued}
+use Rattle.scx_isa_semantics.specs.declared.host_tables.Helper.TheVariants.{MapLookupElem, KtimeGetNs, CreateDsq, DsqInsert, DsqInsertVtime, DsqMoveToLocal, SelectCpuDfl, CpuIdle, TaskByPid, DsqNrQueued, KickCpu}
 use Rattle.scx_isa_semantics.specs.declared.host_tables.TaskId.{TaskId}
 use Rattle.scx_isa_semantics.specs.declared.host_tables.Field.{Field}
 use Rattle.scx_isa_semantics.specs.declared.host_tables.Field.TheVariants.{Pid, Weight, Slice, DsqVtime, PrevCpu, Group, RunNs}
@@ -25,10 +25,13 @@ use Rattle.scx_sched_tasks.specs.declared.task.Task.{Task}
 use Rattle.scx_sched_world.specs.declared.faults.Fault.{Fault}
 use Rattle.scx_sched_world.specs.declared.faults.Fault.TheVariants.{NoSuchQueue, CannotInsert, NoSuchCpu, UnknownFlag, CannotCreate, BuiltinVtime, Mixed}
 use Rattle.scx_sched_world.specs.declared.call.Insert.{Insert}
+use Rattle.scx_sched_world.specs.declared.kicks.Kick.{Kick}
+use Rattle.scx_sched_world.specs.declared.kicks.Kick.TheVariants.{Any, IfIdle, Preempt}
 use Rattle.scx_sched_world.specs.declared.notes.What.TheVariants as notes
 use Rattle.scx_sched_world.specs.Ids.{policy_end, global, local, held_queue, local_on}
-use Rattle.scx_sched_world.specs.World.{WorldState, with_queues, task_at, with_task, is_idle, default_choice, with_note}
-use Rattle.scx_sched_world.specs.Tasks.{with_slice, with_vtime, after_leave, after_enter, for_cpu}
+use Rattle.scx_sched_world.specs.World.{WorldState, with_queues, with_kick, with_preemption, is_by_linux, task_at, with_task, running, is_this, is_idle, is_claimed, choice, default_choice, after_claim, with_note}
+use Rattle.scx_sched_world.specs.CpuSets.{is_in_set}
+use Rattle.scx_sched_world.specs.Tasks.{with_slice, with_vtime, after_leave, after_enter, after_take, after_local, for_cpu}
 
 -- -22 as a number of 64 bits
 abbrev pub invalid : ℕ
@@ -144,6 +147,7 @@ queue_fault w q =
 -- whether a task goes in by virtual time, and not in order of arrival
 abbrev pub is_vtime : Rank → Bool
 is_vtime Fifo = false
+is_vtime Front = false
 is_vtime (Vtime n) = true
 
 -- Into the machine's own queues tasks go in order of arrival alone, and into a queue of the policy
@@ -158,13 +162,53 @@ abbrev pub or_fault : Option Fault → Option Fault → Option Fault
 or_fault None o = o
 or_fault (Some f) o = Some f
 
+-- ---- flags of an insert
+
+-- the flag that marks a wake, which changes nothing
+abbrev pub wakeup_flag : ℕ
+wakeup_flag = 1
+
+-- Linux rules know two flags more: PREEMPT (2^32) and HEAD (2^48)
+abbrev pub are_linux_flags : ℕ → Bool
+are_linux_flags n =
+    let high = n / 2 ^ 32 in
+    nat_le (n % 2 ^ 32) 1
+    && ((high == 0) || ((high == 1) || ((high == 2 ^ 16) || (high == 2 ^ 16 + 1))))
+
+-- whether the flags of an insert are known
+abbrev pub are_known : WorldState → ℕ → Bool
+are_known w n = if is_by_linux w then are_linux_flags n else nat_le n 1
+
+-- whether flags have PREEMPT
+abbrev pub has_preempt : ℕ → Bool
+has_preempt n = (n / 2 ^ 32) % 2 == 1
+
+-- whether flags have HEAD
+abbrev pub has_head : ℕ → Bool
+has_head n = (n / 2 ^ 48) % 2 == 1
+
+-- both flags put the task at the front, where it goes in order of arrival
+abbrev pub arrival_rank : ℕ → Rank
+arrival_rank n = if has_preempt n || has_head n then Front else Fifo
+
+-- what is wrong with the flags of an insert
+abbrev pub flags_fault : WorldState → ℕ → Option Fault
+flags_fault w n = if are_known w n then None else Some UnknownFlag
+
+-- ---- inserts that come to something
+
 -- what is wrong with an insert: first with its task, then its flags, its queue and its rank
 abbrev pub insert_fault : WorldState → Option ℕ → Insert → ℕ → Option Fault
 insert_fault w t i flags =
     if may_insert w t
-    then (if nat_lt 1 flags then Some UnknownFlag
-    else or_fault (queue_fault w i.queue) (rank_fault w i.queue i.rank))
+    then or_fault (flags_fault w flags)
+    (or_fault (queue_fault w i.queue) (rank_fault w i.queue i.rank))
     else Some CannotInsert
+
+-- under Linux rules an insert in dispatch of a task that isn't held is passed over, but for its flags
+-- (ext.c, `finish_dispatch`)
+abbrev pub is_late : WorldState → Option ℕ → Bool
+is_late w t = is_by_linux w && (is_dispatch w.call.callback && not (is_held w t))
 
 -- the insert is kept until the callback ends
 abbrev pub with_insert : WorldState → Insert → WorldState
@@ -187,22 +231,42 @@ insert_or_fault w None t i =
     else with_insert w i
 insert_or_fault w (Some f) t i = with_fault w f
 
+-- a late insert counts as one all the same
+abbrev pub after_late : WorldState → Option Fault → WorldState
+after_late w None = with_move w
+after_late w (Some f) = with_fault w f
+
 -- the world after a helper call that inserts a task
 abbrev pub after_insert : WorldState → Option ℕ → Insert → ℕ → WorldState
-after_insert w t i flags = insert_or_fault w (insert_fault w t i flags) t i
+after_insert w t i flags =
+    if is_late w t then after_late w (flags_fault w flags)
+    else insert_or_fault w (insert_fault w t i flags) t i
 
 -- what a helper call answers that inserts a task: 0, or -22 where it has a fault
 abbrev pub insert_answer : WorldState → Option ℕ → Insert → ℕ → ℕ
-insert_answer w t i flags = invalid_if (insert_fault w t i flags)
+insert_answer w t i flags =
+    if is_late w t then invalid_if (flags_fault w flags)
+    else invalid_if (insert_fault w t i flags)
 
--- what a call asks for: a queue, a slice, and by virtual time a key
-abbrev pub insert_of : List Arg → Insert
-insert_of a = record { queue = given_number a 1; slice = given_number a 2; rank = Fifo }
+-- what a call asks for that inserts in order of arrival: a queue, a slice, and flags
+abbrev pub insert_of : WorldState → List Arg → Insert
+insert_of w a = record {
+  queue = given_number a 1;
+  slice = given_number a 2;
+  rank = arrival_rank (given_number a 3);
+  preempts = has_preempt (given_number a 3);
+  refills = is_by_linux w;
+}
 
--- what a call asks for that inserts by virtual time: a queue, a slice, and the key
-abbrev pub insert_of_vtime : List Arg → Insert
-insert_of_vtime a =
-    record { queue = given_number a 1; slice = given_number a 2; rank = Vtime (given_number a 3) }
+-- what a call asks for that inserts by virtual time: a queue, a slice, and the time
+abbrev pub insert_of_vtime : WorldState → List Arg → Insert
+insert_of_vtime w a = record {
+  queue = given_number a 1;
+  slice = given_number a 2;
+  rank = Vtime (given_number a 3);
+  preempts = false;
+  refills = is_by_linux w;
+}
 
 -- ---- moves
 
@@ -215,13 +279,15 @@ one_if_some (Some t) = 1
 abbrev pub can_move : WorldState → ℕ → Bool
 can_move w q = is_dispatch w.call.callback && is_there w q
 
+-- a task comes to the local queue of the processor at hand, from none
+abbrev pub moved_here : WorldState → ℕ → WorldState
+moved_here w t =
+    with_note (with_move (after_local w w.call.cpu t)) (notes.Move t w.call.cpu)
+
 -- the front of a queue goes to the local queue of the processor at hand
 abbrev pub front_moved_to_local : WorldState → Option ℕ → ℕ → WorldState
 front_moved_to_local w None q = w
-front_moved_to_local w (Some t) q =
-    with_note
-    (with_move (with_queues w (after_push (after_pop w.queues q) (local_on w.call.cpu) t Fifo)))
-    (notes.Move t w.call.cpu)
+front_moved_to_local w (Some t) q = moved_here (after_take w q) t
 
 -- what a move to the local queue makes of the world; where none may be moved, it is a fault
 abbrev pub after_move : WorldState → ℕ → WorldState
@@ -240,13 +306,22 @@ abbrev pub choice_answer : WorldState → Option ℕ → ℕ
 choice_answer w None = 0
 choice_answer w (Some t) = default_choice w t
 
+-- under Linux rules the processor that is chosen is claimed
+abbrev pub after_choice : WorldState → Option ℕ → WorldState
+after_choice w None = w
+after_choice w (Some t) = after_claim w (choice w t)
+
+-- whether a callback is told that the processor is idle: not where another claimed it before
+abbrev pub seems_idle : WorldState → ℕ → Bool
+seems_idle w c = is_idle w c && (not (is_claimed w c) || is_in_set w.call.claims c)
+
 -- asking whether a processor is idle changes nothing; it is a fault where there is none
 abbrev pub after_idle : WorldState → ℕ → WorldState
 after_idle w c = if nat_lt c (length w.cpus) then w else with_fault w NoSuchCpu
 
--- 1 where a processor is idle and 0 where it isn't; -22 where there is no such processor
+-- 1 where a processor seems idle and 0 where it doesn't; -22 where there is no such processor
 abbrev pub idle_answer : WorldState → ℕ → ℕ
-idle_answer w c = if nat_lt c (length w.cpus) then one_if (is_idle w c) else invalid
+idle_answer w c = if nat_lt c (length w.cpus) then one_if (seems_idle w c) else invalid
 
 -- pids count from 1
 abbrev pub is_pid : WorldState → ℕ → Bool
@@ -256,6 +331,41 @@ is_pid w n = nat_lt 0 n && nat_le n (length w.tasks)
 abbrev pub pid_answer : WorldState → ℕ → Answer
 pid_answer w n = if is_pid w n then answer.Task (record { 0 = n - 1 }) else answer.Num 0
 
+-- ---- kicks (ext.c, `kick_one_cpu`, `kick_one_cpu_if_idle`)
+
+-- the kick that flags ask for; none where they are unknown
+abbrev pub kick_of : ℕ → Option Kick
+kick_of n =
+    if n == 0 then Some Any
+    else (if n == 1 then Some IfIdle else (if n == 2 then Some Preempt else None))
+
+-- a processor that is there is kicked; one that runs a task, with no cycle of its own under way, isn't
+-- where it should be idle
+abbrev pub kicked_so : WorldState → ℕ → Kick → WorldState
+kicked_so w c Any = with_kick w c
+kicked_so w c IfIdle =
+    if is_none (running w c) || is_this c w.cycling then with_kick w c else w
+kicked_so w c Preempt = with_preemption w c
+
+-- what is wrong with a kick: its flags, or else its processor
+abbrev pub kick_fault : WorldState → ℕ → Option Kick → Option Fault
+kick_fault w c None = Some UnknownFlag
+kick_fault w c (Some k) = if nat_lt c (length w.cpus) then None else Some NoSuchCpu
+
+-- the world after a kick with that fault, or with none
+abbrev pub kicked_or_fault : WorldState → Option Fault → ℕ → Option Kick → WorldState
+kicked_or_fault w (Some f) c k = with_fault w f
+kicked_or_fault w None c None = w
+kicked_or_fault w None c (Some k) = kicked_so w c k
+
+-- the world after a helper call that kicks a processor
+abbrev pub after_kick : WorldState → ℕ → ℕ → WorldState
+after_kick w c flags = kicked_or_fault w (kick_fault w c (kick_of flags)) c (kick_of flags)
+
+-- what a kick answers: 0, or -22 where it has a fault
+abbrev pub kick_answer : WorldState → ℕ → ℕ → ℕ
+kick_answer w c flags = invalid_if (kick_fault w c (kick_of flags))
+
 -- ---- all helpers; elements of maps are looked up by the run itself
 
 -- what a helper call with these arguments answers
@@ -263,25 +373,28 @@ abbrev pub helper_answer : WorldState → Helper → List Arg → Answer
 helper_answer w KtimeGetNs a = answer.Num (w.clock * 1000000)
 helper_answer w CreateDsq a = answer.Num (create_answer w (given_number a 0))
 helper_answer w DsqInsert a =
-    answer.Num (insert_answer w (given_task a 0) (insert_of a) (given_number a 3))
+    answer.Num (insert_answer w (given_task a 0) (insert_of w a) (given_number a 3))
 helper_answer w DsqInsertVtime a =
-    answer.Num (insert_answer w (given_task a 0) (insert_of_vtime a) (given_number a 4))
+    answer.Num (insert_answer w (given_task a 0) (insert_of_vtime w a) (given_number a 4))
 helper_answer w DsqMoveToLocal a = answer.Num (move_answer w (given_number a 0))
 helper_answer w SelectCpuDfl a = answer.Num (choice_answer w (given_task a 0))
 helper_answer w CpuIdle a = answer.Num (idle_answer w (given_number a 0))
 helper_answer w TaskByPid a = pid_answer w (given_number a 0)
 helper_answer w DsqNrQueued a = answer.Num (queued_answer w (given_number a 0))
+helper_answer w KickCpu a = answer.Num (kick_answer w (given_number a 0) (given_number a 1))
 helper_answer w MapLookupElem a = answer.Num 0
 
 -- the world that a helper call with these arguments leaves
 abbrev pub helper_after : WorldState → Helper → List Arg → WorldState
 helper_after w CreateDsq a = after_create_dsq w (given_number a 0)
-helper_after w DsqInsert a = after_insert w (given_task a 0) (insert_of a) (given_number a 3)
+helper_after w DsqInsert a = after_insert w (given_task a 0) (insert_of w a) (given_number a 3)
 helper_after w DsqInsertVtime a =
-    after_insert w (given_task a 0) (insert_of_vtime a) (given_number a 4)
+    after_insert w (given_task a 0) (insert_of_vtime w a) (given_number a 4)
 helper_after w DsqMoveToLocal a = after_move w (given_number a 0)
+helper_after w SelectCpuDfl a = after_choice w (given_task a 0)
 helper_after w CpuIdle a = after_idle w (given_number a 0)
 helper_after w DsqNrQueued a = after_queued w (given_number a 0)
+helper_after w KickCpu a = after_kick w (given_number a 0) (given_number a 1)
 helper_after w h a = w
 
 -- ---- the record of a task
@@ -290,6 +403,11 @@ helper_after w h a = w
 abbrev pub weight_at : WorldState → ℕ → ℕ
 weight_at w t = if nat_lt t (length w.tasks) then task_weight w.tree t else 0
 
+-- the weight that a policy is told: under Linux rules the task's own, as its nice value gives it, which
+-- knows nothing of groups
+abbrev pub weight_told : WorldState → ℕ → ℕ
+weight_told w t = if is_by_linux w then own_weight w.tree t else weight_at w t
+
 -- the group in which a task lies; 0 where there is no such task
 abbrev pub group_at : WorldState → ℕ → ℕ
 group_at w t = if nat_lt t (length w.tasks) then home_of w.tree t else 0
@@ -297,7 +415,7 @@ group_at w t = if nat_lt t (length w.tasks) then home_of w.tree t else 0
 -- what stands in a field of a task's record; where there is no such task, 0 in all but the pid
 abbrev pub field_of : WorldState → ℕ → Field → ℕ
 field_of w t Pid = t + 1
-field_of w t Weight = weight_at w t
+field_of w t Weight = weight_told w t
 field_of w t Slice = (task_at w t).slice
 field_of w t DsqVtime = (task_at w t).vtime
 field_of w t PrevCpu = (task_at w t).prev_cpu

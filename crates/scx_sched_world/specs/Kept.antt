@@ -7,7 +7,7 @@ use Rattle.scx_weights.specs.Hierarchy.{Hierarchy}
 use Rattle.scx_weights.specs.Limits as limits
 use Rattle.scx_sched_world.specs.Ids.{global, held_queue, builtin_queue, parked_queue, local_on}
 use Rattle.scx_sched_world.specs.declared.world.World.TheInside.{Inside}
-use Rattle.scx_sched_world.specs.World.{WorldState, is_this, is_idle, is_throttled}
+use Rattle.scx_sched_world.specs.World.{WorldState, is_this, is_idle, is_free, is_throttled}
 
 -- the state for which a world's fields stand, without what is kept beside to find answers sooner
 abbrev pub state_of : Inside → WorldState
@@ -16,6 +16,11 @@ state_of w = record {
   tasks = w.tasks;
   cpus = w.cpus.items;
   cycling = w.cycling;
+  slept = w.slept;
+  rules = w.rules;
+  claimed = w.claimed;
+  kicked = w.kicked;
+  preempted = w.preempted;
   queues = w.queues.state;
   tree = w.tree;
   call = w.call;
@@ -40,8 +45,12 @@ abbrev pub lowest_bit : ℕ → Option ℕ
 lowest_bit bits = if bits == 0 then None else Some (trailing_zeros w64 bits)
 
 -- these bits are set where a processor isn't idle
+abbrev pub AreOccupied : ℕ → WorldState → Type 0
+AreOccupied bits w = (c : ℕ) → c < length w.cpus → bit_at bits c ≡ one_if (not (is_idle w c))
+
+-- these bits are set where a processor isn't free
 abbrev pub AreTaken : ℕ → WorldState → Type 0
-AreTaken bits w = (c : ℕ) → c < length w.cpus → bit_at bits c ≡ one_if (not (is_idle w c))
+AreTaken bits w = (c : ℕ) → c < length w.cpus → bit_at bits c ≡ one_if (not (is_free w c))
 
 -- who is parked is throttled
 abbrev pub AreThrottled : QueueState → Hierarchy → Type 0

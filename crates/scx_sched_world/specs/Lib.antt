@@ -1,5 +1,6 @@
 pub mod Ids
 pub mod Faults
+pub mod CpuSets
 pub mod World
 pub mod Tasks
 pub mod Helpers

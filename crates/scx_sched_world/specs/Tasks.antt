@@ -1,9 +1,9 @@
 -- What an event does to tasks, one step at a time.
-use Rattle.std.specs.Prelude.{ℕ, true, false, ◌==◌, nat_lt, ◌+◌, ◌-◌, length, if◌then◌else◌, Option, Some, None, is_none}
+use Rattle.std.specs.Prelude.{ℕ, true, false, ◌==◌, ◌&&◌, nat_lt, nat_le, ◌+◌, ◌-◌, ◌%◌, ◌^◌, length, if◌then◌else◌, Option, Some, None, is_none}
 use Rattle.scx_dsq.specs.Queues.{front_of, len_of}
 use Rattle.scx_dsq.specs.Calls.{after_push, after_pop, after_remove}
 use Rattle.scx_dsq.specs.declared.entries.Rank.{Rank}
-use Rattle.scx_dsq.specs.declared.entries.Rank.TheVariants.{Fifo, Vtime}
+use Rattle.scx_dsq.specs.declared.entries.Rank.TheVariants.{Fifo, Front, Vtime}
 use Rattle.scx_weights.specs.Hierarchy as tree
 use Rattle.scx_weights.specs.Limits as limits
 use Rattle.scx_weights.specs.Refusals.{weight_fault}
@@ -11,7 +11,7 @@ use Rattle.scx_sched_world.specs.declared.call.Insert.{Insert}
 use Rattle.scx_sched_tasks.specs.declared.task.Task.{Task}
 use Rattle.scx_sched_tasks.specs.Tasks.{default_slice}
 use Rattle.scx_sched_world.specs.Ids.{global, local, held_queue, parked_queue, local_on}
-use Rattle.scx_sched_world.specs.World.{WorldState, with_queues, with_tree, task_at, with_task, is_throttled, with_cpu}
+use Rattle.scx_sched_world.specs.World.{WorldState, with_queues, with_tree, with_kick, is_by_linux, task_at, with_task, is_throttled, running, with_cpu, is_this}
 
 -- ---- one field of a task changed
 
@@ -30,6 +30,10 @@ with_vtime x n = record x { vtime = n }
 -- the record of a task with that virtual time under the built-in scheduler
 abbrev pub with_builtin : Task → ℕ → Task
 with_builtin x n = record x { builtin = n }
+
+-- the record of a task whose processor is that one
+abbrev pub with_home : Task → ℕ → Task
+with_home x c = record x { prev_cpu = c }
 
 -- ---- waking, sleeping, waiting
 
@@ -50,25 +54,83 @@ after_sleep w t =
 abbrev pub after_leave : WorldState → ℕ → WorldState
 after_leave w t = with_queues w (after_remove w.queues t)
 
--- a slice of 0 keeps the one that there is
-abbrev pub given_slice : Task → ℕ → Task
-given_slice x n = if n == 0 then x else with_slice x n
+-- ---- the processor of a task
+
+-- under Linux rules a task's processor is the one that is chosen for it, and that of a local queue as it
+-- comes in (ext.c, `move_remote_task_to_local_dsq`); under plain rules it is the one on which it ran last
+abbrev pub homed : WorldState → ℕ → ℕ → WorldState
+homed w t c = if is_by_linux w then with_task w t (with_home (task_at w t) c) else w
+
+-- the processor of a local queue; none of another
+abbrev pub local_cpu : WorldState → ℕ → Option ℕ
+local_cpu w q =
+    if nat_le (local_on 0) q && nat_lt q (local_on (length w.cpus)) then Some (q - local_on 0)
+    else None
+
+-- that processor, if there is one, is the task's
+abbrev pub homed_at : WorldState → ℕ → Option ℕ → WorldState
+homed_at w t None = w
+homed_at w t (Some c) = homed w t c
+
+-- the task comes to the end of the local queue of the processor
+abbrev pub after_local : WorldState → ℕ → ℕ → WorldState
+after_local w c t = homed (with_queues w (after_push w.queues (local_on c) t Fifo)) t c
+
+-- ---- what an insert asks for
+
+-- a slice of 0 keeps the one that there is; under Linux rules it makes 1 of 0 (ext.c,
+-- `apply_slice_vtime`)
+abbrev pub given_slice : Task → Insert → Task
+given_slice x i =
+    if i.slice == 0 then (if i.refills && (x.slice == 0) then with_slice x 1 else x)
+    else with_slice x i.slice
 
 -- by virtual time it has that one from then on
 abbrev pub given_vtime : Task → Rank → Task
 given_vtime x Fifo = x
+given_vtime x Front = x
 given_vtime x (Vtime n) = with_vtime x n
 
 -- what an insert makes of the record of its task
 abbrev pub task_after_insert : Task → Insert → Task
-task_after_insert x i = given_vtime (given_slice x i.slice) i.rank
+task_after_insert x i = given_vtime (given_slice x i) i.rank
+
+-- the key by which a queue of the policy orders a virtual time: under Linux rules times compare as
+-- signed numbers (ext.c, `scx_dsq_priq_less`)
+abbrev pub key_by : WorldState → ℕ → ℕ
+key_by w n = if is_by_linux w then (n + 2 ^ 63) % 2 ^ 64 else n
+
+-- the rank by which a task is pushed that is to have that one
+abbrev pub rank_by : WorldState → Rank → Rank
+rank_by w Fifo = Fifo
+rank_by w Front = Front
+rank_by w (Vtime n) = Vtime (key_by w n)
+
+-- the task that runs on a processor loses its slice, and the processor looks for work as the event ends;
+-- not where its own cycle is under way (ext.c, `rq_owned_post_enq`)
+abbrev pub after_preempt_of : WorldState → ℕ → Option ℕ → WorldState
+after_preempt_of w c None = w
+after_preempt_of w c (Some t) =
+    if is_this c w.cycling then w
+    else with_kick (with_task w t (with_slice (task_at w t) 0)) c
+
+-- of that processor, if there is one
+abbrev pub after_preempt_at : WorldState → Option ℕ → WorldState
+after_preempt_at w None = w
+after_preempt_at w (Some c) = after_preempt_of w c (running w c)
+
+-- what an insert that preempts does besides, where its queue is a local one
+abbrev pub after_preempt : WorldState → Insert → WorldState
+after_preempt w i = if i.preempts then after_preempt_at w (local_cpu w i.queue) else w
 
 -- a task goes into a queue, as an insert wants it to
 abbrev pub after_enter : WorldState → ℕ → Insert → WorldState
 after_enter w t i =
     if nat_lt t (length w.tasks)
-    then with_queues (with_task w t (task_after_insert (task_at w t) i))
-    (after_push w.queues i.queue t i.rank)
+    then after_preempt (homed_at
+    (with_queues (with_task w t (task_after_insert (task_at w t) i))
+    (after_push w.queues i.queue t (rank_by w i.rank)))
+    t (local_cpu w i.queue)) i
     else w
 
 -- ---- inserts
@@ -83,11 +145,43 @@ for_cpu c i = record i { queue = queue_for c i.queue }
 
 -- of a task that a policy took and put nowhere
 abbrev pub to_held : Insert
-to_held = record { queue = held_queue; slice = 0; rank = Fifo }
+to_held = record {
+  queue = held_queue;
+  slice = 0;
+  rank = Fifo;
+  preempts = false;
+  refills = false;
+}
 
 -- of a task that any processor may run
 abbrev pub to_global : Insert
-to_global = record { queue = global; slice = default_slice; rank = Fifo }
+to_global = record {
+  queue = global;
+  slice = default_slice;
+  rank = Fifo;
+  preempts = false;
+  refills = false;
+}
+
+-- of a task for which a processor was chosen by default (ext.c, `select_task_rq_scx`)
+abbrev pub to_local : ℕ → Insert
+to_local c = record {
+  queue = local_on c;
+  slice = default_slice;
+  rank = Fifo;
+  preempts = false;
+  refills = false;
+}
+
+-- of a task that is stopped with some of its slice left (ext.c, `put_prev_task_scx`)
+abbrev pub to_front : ℕ → Insert
+to_front c = record {
+  queue = local_on c;
+  slice = 0;
+  rank = Front;
+  preempts = false;
+  refills = false;
+}
 
 -- ---- local queues
 
@@ -98,7 +192,7 @@ local_len w c = len_of w.queues (local_on c)
 -- the front of a queue goes to a local queue
 abbrev pub brought : Option ℕ → WorldState → ℕ → ℕ → WorldState
 brought None w q c = w
-brought (Some t) w q c = with_queues w (after_push (after_pop w.queues q) (local_on c) t Fifo)
+brought (Some t) w q c = after_local (with_queues w (after_pop w.queues q)) c t
 
 -- the task that comes to the local queue, where that is empty
 abbrev pub fill_front : WorldState → ℕ → ℕ → Option ℕ
@@ -126,6 +220,11 @@ started_at (Some t) w c =
     (with_task (with_queues w (after_pop w.queues (local_on c))) t (on_cpu (task_at w t) c))
     c (Some t)
 
+-- that task runs on the processor, from wherever it waits
+abbrev pub after_run : WorldState → ℕ → ℕ → WorldState
+after_run w c t =
+    with_cpu (with_task (after_leave w t) t (on_cpu (task_at w t) c)) c (Some t)
+
 -- the front of the local queue runs
 abbrev pub after_start : WorldState → ℕ → WorldState
 after_start w c = started_at (front_of w.queues (local_on c)) w c
@@ -138,6 +237,18 @@ with_new_slice x = if x.slice == 0 then with_slice x default_slice else x
 abbrev pub after_keep : WorldState → Option ℕ → WorldState
 after_keep w None = w
 after_keep w (Some t) = with_task w t (with_new_slice (task_at w t))
+
+-- a slice that is one nanosecond longer; one that never ends stays
+abbrev pub longer : ℕ → ℕ
+longer n = if nat_lt n (2 ^ 64 - 2) then n + 1 else n
+
+-- the task that begins to run has a slice one nanosecond longer, as a switch takes time
+abbrev pub after_switch : WorldState → ℕ → WorldState
+after_switch w t = with_task w t (with_slice (task_at w t) (longer (task_at w t).slice))
+
+-- the task that runs has no slice left
+abbrev pub after_cut_off : WorldState → ℕ → WorldState
+after_cut_off w t = with_task w t (with_slice (task_at w t) 0)
 
 -- ---- parking
 

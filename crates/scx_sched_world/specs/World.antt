@@ -1,11 +1,15 @@
 -- The world that a policy's programs see and change, and its parts.
-use Rattle.std.specs.Prelude.{◌≡◌, ℕ, zero, suc, Bool, false, ◌==◌, ◌&&◌, not, nat_lt, List, [], ◌∷◌, ◌++◌, length, if◌then◌else◌, Option, Some, None, is_none, unwrap_or, slice_index_or, slice_set, position}
+use Rattle.std.specs.Prelude.{◌≡◌, ℕ, zero, suc, Bool, true, false, ◌==◌, ◌&&◌, not, nat_lt, List, [], ◌∷◌, ◌++◌, length, if◌then◌else◌, Option, Some, None, is_none, unwrap_or, slice_index_or, slice_set, position}
 use Rattle.scx_dsq.specs.Queues.{QueueState, queue_of}
 use Rattle.scx_weights.specs.Hierarchy.{Hierarchy, is_active_task}
 use Rattle.scx_weights.specs.Limits as limits
 use Rattle.scx_isa_semantics.specs.declared.callbacks.Callback.{Callback}
 use Rattle.scx_isa_semantics.specs.declared.callbacks.Callback.TheVariants as callback
+use Rattle.scx_isa_semantics.specs.declared.rules.Rules.{Rules}
+use Rattle.scx_isa_semantics.specs.declared.rules.Rules.TheVariants.{Plain, Linux}
 use Rattle.scx_sched_world.specs.Ids.{parked_queue}
+use Rattle.scx_sched_world.specs.declared.cpu_set.CpuSet.{CpuSet}
+use Rattle.scx_sched_world.specs.CpuSets.{no_cpus, is_in_set, and_cpu, but_cpu, but_this}
 use Rattle.scx_sched_world.specs.declared.notes.Note.{Note}
 use Rattle.scx_sched_world.specs.declared.notes.What.{What}
 use Rattle.scx_sched_tasks.specs.declared.task.Task.{Task}
@@ -20,6 +24,11 @@ pub record WorldState : Type 0 where
   pub tasks : List Task
   pub cpus : List (Option ℕ)  -- the task that runs on each processor
   pub cycling : Option ℕ  -- the processor on which a scheduling cycle is under way
+  pub slept : Option ℕ  -- the task that went to sleep from that processor, under Linux rules
+  pub rules : Rules  -- by whose rules the machine goes while the policy is in force
+  pub claimed : CpuSet  -- processors chosen for a task, on which no cycle has begun since
+  pub kicked : CpuSet  -- processors that look for work as the event ends
+  pub preempted : CpuSet  -- those on which the task that runs loses its slice then
   pub queues : QueueState
   pub tree : Hierarchy
   pub call : Call  -- the callback at hand, or the last one
@@ -37,9 +46,33 @@ pub record IsLike (v w : WorldState) : Type 0 where
 
 -- ---- one part changed
 
--- the world with a scheduling cycle under way on that processor, or with none
+-- who went to sleep from a processor is known until the cycle there ends
+abbrev pub known_until : Option ℕ → Option ℕ → Option ℕ
+known_until None o = None
+known_until (Some c) o = o
+
+-- the world with a scheduling cycle under way on that processor, or with none; as a cycle begins, the
+-- claim on its processor ends
 abbrev pub with_cycling : WorldState → Option ℕ → WorldState
-with_cycling w x = record w { cycling = x }
+with_cycling w x =
+    record w { cycling = x; slept = known_until x w.slept; claimed = but_this w.claimed x }
+
+-- the world with that task gone to sleep from the processor on which a cycle is to begin
+abbrev pub with_slept : WorldState → ℕ → WorldState
+with_slept w t = record w { slept = Some t }
+
+-- the world with that processor to look for work as the event ends
+abbrev pub with_kick : WorldState → ℕ → WorldState
+with_kick w c = record w { kicked = and_cpu w.kicked c }
+
+-- the same, with the slice of the task that runs there to be taken first
+abbrev pub with_preemption : WorldState → ℕ → WorldState
+with_preemption w c = record (with_kick w c) { preempted = and_cpu w.preempted c }
+
+-- the processor looks for work: it was kicked no more
+abbrev pub without_kick : WorldState → ℕ → WorldState
+without_kick w c =
+    record w { kicked = but_cpu w.kicked c; preempted = but_cpu w.preempted c }
 
 -- the world with these dispatch queues
 abbrev pub with_queues : WorldState → QueueState → WorldState
@@ -48,6 +81,21 @@ with_queues w x = record w { queues = x }
 -- the world with these groups, weights and active tasks
 abbrev pub with_tree : WorldState → Hierarchy → WorldState
 with_tree w x = record w { tree = x }
+
+-- ---- the rules
+
+-- whether rules are those of a kernel
+abbrev pub are_linux : Rules → Bool
+are_linux Plain = false
+are_linux Linux = true
+
+-- whether the machine goes by Linux rules: the policy does, and is in force
+abbrev pub is_by_linux : WorldState → Bool
+is_by_linux w = are_linux w.rules && is_none w.ejected
+
+-- the world with these rules
+abbrev pub with_rules : WorldState → Rules → WorldState
+with_rules w r = record w { rules = r }
 
 -- ---- tasks and processors
 
@@ -120,11 +168,44 @@ idle_below (suc n) w = or_this (idle_below n w) (this_if (is_idle w n) n)
 abbrev pub first_idle : WorldState → Option ℕ
 first_idle w = idle_below (length w.cpus) w
 
--- the processor on which the task ran last if it is idle, else the lowest idle one, else that one
-abbrev pub default_choice : WorldState → ℕ → ℕ
-default_choice w t =
+-- whether the processor was chosen for a task, and no cycle has begun there since; under plain rules
+-- a choice claims nothing (ext/idle.c, `scx_idle_test_and_clear_cpu`)
+abbrev pub is_claimed : WorldState → ℕ → Bool
+is_claimed w c = is_by_linux w && is_in_set w.claimed c
+
+-- whether the processor may be chosen for a task
+abbrev pub is_free : WorldState → ℕ → Bool
+is_free w c = is_idle w c && not (is_claimed w c)
+
+-- the lowest free one of the first so many processors
+abbrev pub free_below : ℕ → WorldState → Option ℕ
+free_below zero w = None
+free_below (suc n) w = or_this (free_below n w) (this_if (is_free w n) n)
+
+-- the lowest processor that is free, if one is
+abbrev pub first_free : WorldState → Option ℕ
+first_free w = free_below (length w.cpus) w
+
+-- the processor of the task if it is free, else the lowest free one, if there is one
+abbrev pub choice : WorldState → ℕ → Option ℕ
+choice w t =
     let prev = (task_at w t).prev_cpu in
-    if is_idle w prev then prev else unwrap_or (first_idle w) prev
+    if is_free w prev then Some prev else first_free w
+
+-- the processor of the task if it is free, else the lowest free one, else that one
+abbrev pub default_choice : WorldState → ℕ → ℕ
+default_choice w t = unwrap_or (choice w t) (task_at w t).prev_cpu
+
+-- under Linux rules the processor that is chosen is claimed, by the callback at hand
+abbrev pub after_claim : WorldState → Option ℕ → WorldState
+after_claim w None = w
+after_claim w (Some c) =
+    if is_by_linux w
+    then record w {
+      claimed = and_cpu w.claimed c;
+      call = record w.call { claims = and_cpu w.call.claims c };
+    }
+    else w
 
 -- ---- the callback at hand
 
@@ -137,6 +218,7 @@ no_call = record {
   insert = None;
   has_moved = false;
   fault = None;
+  claims = no_cpus;
 }
 
 -- no notes of a callback are left

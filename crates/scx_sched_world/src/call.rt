@@ -1,6 +1,7 @@
 ghost use Rattle.std.specs.Prelude.{◌≡◌};
-ghost use Rattle.scx_sched_world.specs.Tasks.{queue_for, for_cpu, to_held, to_global};
+ghost use Rattle.scx_sched_world.specs.Tasks.{queue_for, for_cpu, to_held, to_global, to_local, to_front};
 
+use crate::cpu_set::CpuSet;
 use crate::faults::Fault;
 use crate::ids::{GLOBAL, HELD, LOCAL, LOCAL_ON};
 use scx_dsq::Rank;
@@ -15,6 +16,10 @@ pub struct Insert {
     pub slice: u64,
     /// In order of arrival, or by the virtual time that it has from then on.
     pub rank: Rank,
+    /// True if the task that runs on the CPU of its local queue loses its slice.
+    pub preempts: bool,
+    /// True if a slice of 0 that is kept becomes 1.
+    pub refills: bool,
 }
 
 impl Insert {
@@ -26,6 +31,8 @@ impl Insert {
             queue: HELD,
             slice: 0,
             rank: Rank::Fifo,
+            preempts: false,
+            refills: false,
         }
     }
 
@@ -37,6 +44,34 @@ impl Insert {
             queue: GLOBAL,
             slice: DEFAULT_SLICE,
             rank: Rank::Fifo,
+            preempts: false,
+            refills: false,
+        }
+    }
+
+    /// The insert for a task for which that CPU was chosen by default.
+    pub fn local(cpu: u32) -> Insert
+        ensures { result ≡ to_local cpu }
+    {
+        Insert {
+            queue: LOCAL_ON + u64::from(cpu),
+            slice: DEFAULT_SLICE,
+            rank: Rank::Fifo,
+            preempts: false,
+            refills: false,
+        }
+    }
+
+    /// The insert for a task that is stopped on that CPU with some of its slice left.
+    pub fn front(cpu: u32) -> Insert
+        ensures { result ≡ to_front cpu }
+    {
+        Insert {
+            queue: LOCAL_ON + u64::from(cpu),
+            slice: 0,
+            rank: Rank::Front,
+            preempts: false,
+            refills: false,
         }
     }
 
@@ -48,6 +83,8 @@ impl Insert {
             queue: queue_for(cpu, self.queue),
             slice: self.slice,
             rank: self.rank,
+            preempts: self.preempts,
+            refills: self.refills,
         }
     }
 }
@@ -75,6 +112,8 @@ pub struct Call {
     pub has_moved: bool,
     /// Its first fault.
     pub fault: Option<Fault>,
+    /// The CPUs that it claimed for tasks.
+    pub claims: CpuSet,
 }
 
 impl Call {
@@ -85,5 +124,6 @@ impl Call {
         insert: None,
         has_moved: false,
         fault: None,
+        claims: CpuSet::EMPTY,
     };
 }

@@ -20,6 +20,9 @@ pub fn push(queues: &mut Queues, id: u64, task: u32, rank: Rank)
         Rank::Fifo => {
             let _refused = queues.push_fifo(id, task);
         }
+        Rank::Front => {
+            let _refused = queues.push_front(id, task);
+        }
         Rank::Vtime(key) => push_counted::<Brand>(queues, id, task, key, Blank::new(1)),
     }
 }

@@ -1,12 +1,16 @@
 ghost use Rattle.std.specs.Prelude.{◌≡◌, ◌+◌, ◌*◌, ◌^◌, ◌<◌, ◌≤◌, length, is_some, IfSome};
 ghost use Rattle.scx_dsq.specs.Queues.{IsQueueAt};
 ghost use Rattle.scx_sched_world.specs.Ids.{policy_end};
+ghost use Rattle.scx_sched_world.specs.World.{with_note};
+ghost use Rattle.scx_sched_world.specs.declared.kicks.Kick.TheVariants.{IfIdle};
 ghost use Rattle.scx_isa_semantics.specs.HostTables.{field_width};
-ghost use Rattle.scx_sched_world.specs.Helpers.{invalid, with_fault, is_there, create_answer, after_create_dsq, queued_answer, after_queued, is_held, may_insert, queue_fault, rank_fault, or_fault, insert_fault, insert_answer, after_insert, after_release, choice_answer, idle_answer, after_idle, pid_answer, move_answer, after_move, weight_at, group_at, field_of};
+ghost use Rattle.scx_sched_world.specs.Helpers.{invalid, with_fault, invalid_if, is_there, create_answer, after_create_dsq, queued_answer, after_queued, is_held, may_insert, queue_fault, rank_fault, or_fault, are_known, flags_fault, insert_fault, is_late, after_late, insert_or_fault, with_move, insert_answer, after_insert, after_release, choice_answer, after_choice, seems_idle, idle_answer, after_idle, pid_answer, moved_here, move_answer, after_move, kicked_so, kick_answer, after_kick, weight_at, weight_told, group_at, field_of};
 
 use crate::call::Insert;
 use crate::faults::Fault;
+use crate::flags::are_linux_flags;
 use crate::ids::{GLOBAL, HELD, INVALID, LOCAL, LOCAL_IDS, LOCAL_ON, POLICY_END};
+use crate::kicks::Kick;
 use crate::notes::{Note, What};
 use crate::world::World;
 use scx_dsq::Rank;
@@ -117,7 +121,7 @@ impl World {
     fn rank_fault(&self, queue: u64, rank: Rank) -> Option<Fault>
         ensures { result ≡ rank_fault self.now queue rank }
     {
-        if rank != Rank::Fifo && queue >= POLICY_END {
+        if matches!(rank, Rank::Vtime(_)) && queue >= POLICY_END {
             Some(Fault::BuiltinVtime)
         } else if self.queues.would_mix(queue, rank) {
             Some(Fault::Mixed)
@@ -140,13 +144,25 @@ impl World {
         }
     }
 
+    /// True if the flags of an insert are known.
+    #[inline(always)]
+    fn are_known(&self, flags: u64) -> bool
+        ensures { result ≡ are_known self.now flags }
+    {
+        if self.is_by_linux() {
+            are_linux_flags(flags)
+        } else {
+            flags <= 1
+        }
+    }
+
     fn insert_fault(&self, task: Option<u16>, insert: Insert, flags: u64) -> Option<Fault>
         ensures { result ≡ insert_fault self.now task insert flags }
     {
         if !self.may_insert(task) {
             return Some(Fault::CannotInsert);
         }
-        if flags > 1 {
+        if !self.are_known(flags) {
             return Some(Fault::UnknownFlag);
         }
         if insert.queue < POLICY_END {
@@ -158,6 +174,29 @@ impl World {
         }
     }
 
+    /// True if Linux rules pass over an insert of the task: in dispatch, where it isn't held.
+    #[inline(always)]
+    fn is_late(&self, task: Option<u16>) -> bool
+        ensures { result ≡ is_late self.now task }
+    {
+        self.is_by_linux()
+            && matches!(self.call.callback, Callback::Dispatch)
+            && !self.is_held(task)
+    }
+
+    /// Passes over a late insert, but for its flags. It counts as one all the same.
+    fn pass_over(&mut self, flags: u64) -> u64
+        ensures answer { result ≡ invalid_if (flags_fault self.old flags) }
+        ensures world { self.new ≡ after_late self.old (flags_fault self.old flags) }
+        ensures few { self.new.queues.pushes ≡ self.old.queues.pushes }
+    {
+        if !self.are_known(flags) {
+            return self.fault(Fault::UnknownFlag);
+        }
+        self.call.has_moved = true;
+        0
+    }
+
     /// Keeps the insert of the task at hand until the callback ends. In dispatch a held task goes at once.
     pub(crate) fn insert_here(&mut self, task: Option<u16>, insert: Insert, flags: u64) -> u64
         requires notes { length self.old.notes < 4096 }
@@ -167,13 +206,29 @@ impl World {
         ensures notes { length self.new.notes ≤ length self.old.notes + 1 }
         ensures few { self.new.queues.pushes ≤ self.old.queues.pushes + 1 }
     {
+        if self.is_late(task) {
+            return self.pass_over(flags);
+        }
+        self.insert_now(task, insert, flags)
+    }
+
+    /// Inserts the task, unless that is a fault.
+    fn insert_now(&mut self, task: Option<u16>, insert: Insert, flags: u64) -> u64
+        requires notes { length self.old.notes < 4096 }
+        requires few { self.old.queues.pushes < 2 ^ 63 }
+        ensures answer { result ≡ invalid_if (insert_fault self.old task insert flags) }
+        ensures world { self.new
+            ≡ insert_or_fault self.old (insert_fault self.old task insert flags) task insert }
+        ensures notes { length self.new.notes ≤ length self.old.notes + 1 }
+        ensures few { self.new.queues.pushes ≤ self.old.queues.pushes + 1 }
+    {
         if let Some(fault) = self.insert_fault(task, insert, flags) {
             return self.fault(fault);
         }
         if self.call.callback == Callback::Dispatch {
             self.release(task, insert.for_cpu(self.call.cpu));
         } else {
-            self.call.insert = Some(insert);
+            self.keep_insert(insert);
         }
         0
     }
@@ -191,10 +246,21 @@ impl World {
         };
         self.leave_queue(task);
         self.enter(task, insert);
+        self.note_move(What::Insert(task, insert.queue));
+    }
+
+    /// Notes that the callback brought a task to a queue.
+    #[inline(always)]
+    fn note_move(&mut self, what: What)
+        requires { length self.old.notes < 4096 }
+        ensures world { self.new ≡ with_note (with_move self.old) what }
+        ensures notes { length self.new.notes ≡ length self.old.notes + 1 }
+        ensures few { self.new.queues.pushes ≡ self.old.queues.pushes }
+    {
         self.call.has_moved = true;
         self.notes.push_reserved(Note {
             clock: self.clock,
-            what: What::Insert(task, insert.queue),
+            what,
         });
     }
 
@@ -215,25 +281,46 @@ impl World {
         let Some(task) = self.pop_at(place, queue) else {
             return 0;
         };
+        self.bring_here(task);
+        1
+    }
+
+    /// The task comes to the local queue of the CPU at hand.
+    fn bring_here(&mut self, task: u16)
+        requires task { task < length self.old.tasks }
+        requires notes { length self.old.notes < 4096 }
+        requires few { self.old.queues.pushes < 2 ^ 63 }
+        ensures world { self.new ≡ moved_here self.old task }
+        ensures notes { length self.new.notes ≤ length self.old.notes + 1 }
+        ensures few { self.new.queues.pushes ≤ self.old.queues.pushes + 1 }
+    {
         let cpu = self.call.cpu;
         self.push_local(cpu, task);
-        self.call.has_moved = true;
-        self.notes.push_reserved(Note {
-            clock: self.clock,
-            what: What::Move(task, cpu),
-        });
-        1
+        self.note_move(What::Move(task, cpu));
     }
 
     // ---- processors and tasks
 
-    pub(crate) fn choose(&self, task: Option<u16>) -> u64
-        ensures { result ≡ choice_answer self.now task }
+    /// Chooses a CPU for the task by default. Linux rules claim it.
+    pub(crate) fn choose(&mut self, task: Option<u16>) -> u64
+        ensures answer { result ≡ choice_answer self.old task }
+        ensures world { self.new ≡ after_choice self.old task }
+        ensures few { self.new.queues.pushes ≡ self.old.queues.pushes }
     {
-        match task {
-            Some(task) => u64::from(self.default_choice(task)),
-            None => 0,
-        }
+        let Some(task) = task else {
+            return 0;
+        };
+        let choice = self.choice(task);
+        let prev = self.task(task).prev_cpu;
+        self.claim(choice);
+        u64::from(choice.unwrap_or(prev))
+    }
+
+    /// True if a callback is told that the CPU is idle.
+    fn seems_idle(&self, cpu: u32) -> bool
+        ensures { result ≡ seems_idle self.now cpu }
+    {
+        self.is_idle(cpu) && (!self.is_claimed(cpu) || self.call.claims.has(cpu))
     }
 
     pub(crate) fn ask_idle(&mut self, cpu: u64) -> u64
@@ -244,7 +331,45 @@ impl World {
         if cpu >= self.cpus.len() as u64 {
             return self.fault(Fault::NoSuchCpu);
         }
-        u64::from(self.is_idle(cpu as u32))
+        u64::from(self.seems_idle(cpu as u32))
+    }
+
+    /// Kicks the CPU, as the flags ask for.
+    pub(crate) fn kick_by(&mut self, cpu: u64, flags: u64) -> u64
+        ensures answer { result ≡ kick_answer self.old cpu flags }
+        ensures world { self.new ≡ after_kick self.old cpu flags }
+        ensures few { self.new.queues.pushes ≡ self.old.queues.pushes }
+    {
+        let Some(kick) = Kick::of_flags(flags) else {
+            return self.fault(Fault::UnknownFlag);
+        };
+        if cpu >= self.cpus.len() as u64 {
+            return self.fault(Fault::NoSuchCpu);
+        }
+        self.kick_so(cpu as u32, kick);
+        0
+    }
+
+    /// Kicks the CPU in that way.
+    fn kick_so(&mut self, cpu: u32, kick: Kick)
+        ensures world { self.new ≡ kicked_so self.old cpu kick }
+        ensures few { self.new.queues.pushes ≡ self.old.queues.pushes }
+    {
+        match kick {
+            Kick::Any => self.kick(cpu),
+            Kick::IfIdle => self.kick_if_idle(cpu),
+            Kick::Preempt => self.preempt(cpu),
+        }
+    }
+
+    /// Kicks the CPU if no task runs there, or its own cycle is under way.
+    fn kick_if_idle(&mut self, cpu: u32)
+        ensures world { self.new ≡ kicked_so self.old cpu IfIdle }
+        ensures few { self.new.queues.pushes ≡ self.old.queues.pushes }
+    {
+        if self.running(cpu).is_none() || self.cycling == Some(cpu) {
+            self.kick(cpu);
+        }
     }
 
     pub(crate) fn task_by_pid(&self, pid: u64) -> Answer
@@ -265,12 +390,24 @@ impl World {
     {
         match field {
             Field::Pid => u64::from(task) + 1,
-            Field::Weight => self.weight(task),
+            Field::Weight => self.weight_told(task),
             Field::Slice => self.task(task).slice,
             Field::DsqVtime => self.task(task).vtime,
             Field::PrevCpu => u64::from(self.task(task).prev_cpu),
             Field::Group => self.group(task),
             Field::RunNs => self.task(task).run_ns,
+        }
+    }
+
+    /// The weight that a policy is told: under Linux rules the task's own.
+    fn weight_told(&self, task: u16) -> u64
+        ensures weight { result ≡ weight_told self.now task }
+        ensures fits { result < 2 ^ 32 }
+    {
+        if self.is_by_linux() {
+            u64::from(self.tree.own_weight(u32::from(task)))
+        } else {
+            self.weight(task)
         }
     }
 

@@ -1,7 +1,8 @@
 ghost use Rattle.std.specs.Prelude.{◌≡◌};
-ghost use Rattle.scx_sched_world.specs.Helpers.{number_of, task_of, world_functions, room_of, spent_of};
+ghost use Rattle.scx_sched_world.specs.Helpers.{number_of, task_of, insert_of, insert_of_vtime, world_functions, room_of, spent_of};
 
 use crate::call::Insert;
+use crate::flags::{arrival_rank, has_preempt};
 use crate::world::World;
 use scx_dsq::Rank;
 use scx_isa::{Field, Helper, TaskId};
@@ -22,20 +23,12 @@ impl Env for World {
             Helper::CreateDsq => Answer::Num(self.create(first)),
             Helper::DsqInsert => Answer::Num(self.insert_here(
                 given_task(arguments[0]),
-                Insert {
-                    queue: given_number(arguments[1]),
-                    slice: given_number(arguments[2]),
-                    rank: Rank::Fifo,
-                },
+                self.insert_of(arguments),
                 given_number(arguments[3]),
             )),
             Helper::DsqInsertVtime => Answer::Num(self.insert_here(
                 given_task(arguments[0]),
-                Insert {
-                    queue: given_number(arguments[1]),
-                    slice: given_number(arguments[2]),
-                    rank: Rank::Vtime(given_number(arguments[3])),
-                },
+                self.insert_of_vtime(arguments),
                 given_number(arguments[4]),
             )),
             Helper::DsqMoveToLocal => Answer::Num(self.move_to_local(first)),
@@ -43,6 +36,7 @@ impl Env for World {
             Helper::CpuIdle => Answer::Num(self.ask_idle(first)),
             Helper::TaskByPid => self.task_by_pid(first),
             Helper::DsqNrQueued => Answer::Num(self.queued(first)),
+            Helper::KickCpu => Answer::Num(self.kick_by(first, given_number(arguments[1]))),
             // A run looks up elements itself.
             Helper::MapLookupElem => Answer::Num(0),
         }
@@ -61,6 +55,37 @@ impl Env for World {
             Field::DsqVtime => self.tasks.set_vtime(task.0, value),
             // Into these no program stores.
             Field::Pid | Field::Weight | Field::PrevCpu | Field::Group | Field::RunNs => {}
+        }
+    }
+}
+
+impl World {
+    /// The insert in order of arrival that these arguments ask for.
+    #[inline(always)]
+    fn insert_of(&self, arguments: &[Arg; 5]) -> Insert
+        ensures { result ≡ insert_of self.now arguments.now }
+    {
+        let flags = given_number(arguments[3]);
+        Insert {
+            queue: given_number(arguments[1]),
+            slice: given_number(arguments[2]),
+            rank: arrival_rank(flags),
+            preempts: has_preempt(flags),
+            refills: self.is_by_linux(),
+        }
+    }
+
+    /// The insert by virtual time that these arguments ask for.
+    #[inline(always)]
+    fn insert_of_vtime(&self, arguments: &[Arg; 5]) -> Insert
+        ensures { result ≡ insert_of_vtime self.now arguments.now }
+    {
+        Insert {
+            queue: given_number(arguments[1]),
+            slice: given_number(arguments[2]),
+            rank: Rank::Vtime(given_number(arguments[3])),
+            preempts: false,
+            refills: self.is_by_linux(),
         }
     }
 }

@@ -6,17 +6,21 @@
 
 mod call;
 mod counting;
+mod cpu_set;
 mod eject;
 mod ejecting;
 mod faults;
+mod flags;
 mod helpers;
 mod host;
 mod ids;
+mod kicks;
 mod notes;
 mod steps;
 mod world;
 
 pub use call::{Call, Insert};
+pub use cpu_set::CpuSet;
 pub use eject::Eject;
 pub use faults::Fault;
 pub use ids::{BUILTIN, GLOBAL, HELD, LOCAL, LOCAL_ON, PARKED, POLICY_END};

@@ -1,11 +1,11 @@
 ghost use Rattle.std.specs.Prelude.{◌≡◌, ℕ, ◌+◌, ◌^◌, ◌<◌, ◌≤◌, length, is_some, IfSome};
 ghost use Rattle.scx_dsq.specs.declared.entries.Rank.TheVariants.{Fifo};
 ghost use Rattle.scx_dsq.specs.Calls.{after_push};
-ghost use Rattle.scx_dsq.specs.Queues.{IsQueueAt, front_of, len_of, behind_of};
+ghost use Rattle.scx_dsq.specs.Queues.{IsQueueAt, entry_of, is_in, front_of, len_of, behind_of};
 ghost use Rattle.scx_weights.specs.Limits.{usage_of, with_use};
 ghost use Rattle.scx_sched_world.specs.Ids.{global, parked_queue, local_on};
 ghost use Rattle.scx_sched_world.specs.World.{task_at, with_task, with_queues, with_tree};
-ghost use Rattle.scx_sched_world.specs.Tasks.{after_wake, after_sleep, after_leave, given_slice, task_after_insert, after_enter, local_len, fill_front, after_fill, after_stop, after_start, after_keep, put_parked, after_take, let_go, ran_a_tick, after_tick, later, used_ms, slice_left, begun_periods, after_reweigh};
+ghost use Rattle.scx_sched_world.specs.Tasks.{after_wake, after_sleep, after_leave, homed, local_cpu, homed_at, after_local, given_slice, task_after_insert, key_by, rank_by, after_preempt_of, after_preempt_at, after_preempt, after_enter, local_len, fill_front, after_fill, after_stop, after_run, after_start, after_keep, after_cut_off, longer, after_switch, put_parked, after_take, let_go, ran_a_tick, after_tick, later, used_ms, slice_left, begun_periods, after_reweigh};
 
 use crate::call::Insert;
 use crate::counting;
@@ -114,8 +114,21 @@ impl World {
 
     /// The task comes to the end of the local queue of the processor.
     #[inline(always)]
-    #[tactic(auto, using(crate::proofs::Parked::known_pushed, crate::proofs::Places::pushed, crate::proofs::Places::local_stands))]
     pub(crate) fn push_local(&mut self, cpu: u32, task: u16)
+        requires task { task < length self.old.tasks }
+        requires few { self.old.queues.pushes < 2 ^ 63 }
+        ensures world { self.new ≡ after_local self.old cpu task }
+        ensures few { self.new.queues.pushes ≤ self.old.queues.pushes + 1 }
+        ensures notes { self.new.notes ≡ self.old.notes }
+    {
+        self.push_end(cpu, task);
+        self.set_home(task, cpu);
+    }
+
+    /// The task comes to the end of that queue, and keeps its processor.
+    #[inline(always)]
+    #[tactic(auto, using(crate::proofs::Parked::known_pushed, crate::proofs::Places::pushed, crate::proofs::Places::local_stands))]
+    fn push_end(&mut self, cpu: u32, task: u16)
         requires task { task < length self.old.tasks }
         requires few { self.old.queues.pushes < 2 ^ 63 }
         ensures world { self.new
@@ -148,11 +161,125 @@ impl World {
         requires few { self.old.queues.pushes < 2 ^ 63 }
         ensures world { self.new ≡ after_enter self.old task insert }
         ensures few { self.new.queues.pushes ≤ self.old.queues.pushes + 1 }
+        ensures notes { self.new.notes ≡ self.old.notes }
     {
         if (task as usize) < self.tasks.len() {
             self.set_given(task, insert);
-            self.push(insert.queue, task, insert.rank);
+            let rank = self.rank_by(insert.rank);
+            self.push(insert.queue, task, rank);
+            self.set_home_at(task, insert.queue);
+            self.preempt_by(insert);
         }
+    }
+
+    /// The rank by which a task is pushed that is to have that one.
+    #[inline(always)]
+    fn rank_by(&self, rank: Rank) -> Rank
+        ensures { result ≡ rank_by self.now rank }
+    {
+        match rank {
+            Rank::Fifo => Rank::Fifo,
+            Rank::Front => Rank::Front,
+            Rank::Vtime(time) => Rank::Vtime(self.key_by(time)),
+        }
+    }
+
+    /// The key by which a queue of the policy orders that virtual time.
+    #[inline(always)]
+    fn key_by(&self, time: u64) -> u64
+        ensures { result ≡ key_by self.now time }
+    {
+        if self.is_by_linux() {
+            time.wrapping_add(1 << 63)
+        } else {
+            time
+        }
+    }
+
+    /// The processor of a local queue.
+    #[inline(always)]
+    fn local_cpu(&self, queue: u64) -> Option<u32>
+        ensures { result ≡ local_cpu self.now queue }
+    {
+        if queue >= LOCAL_ON && queue < LOCAL_ON + self.cpus.len() as u64 {
+            Some((queue - LOCAL_ON) as u32)
+        } else {
+            None
+        }
+    }
+
+    /// Under Linux rules the task's processor is that one from now on.
+    #[inline(always)]
+    pub fn set_home(&mut self, task: u16, cpu: u32)
+        ensures world { self.new ≡ homed self.old task cpu }
+        ensures few { self.new.queues.pushes ≡ self.old.queues.pushes }
+        ensures notes { self.new.notes ≡ self.old.notes }
+    {
+        if self.is_by_linux() {
+            let mut facts = self.task(task);
+            facts.prev_cpu = cpu;
+            self.set_task(task, facts);
+        }
+    }
+
+    /// Under Linux rules the task's processor is that of the queue, if it is a local one.
+    #[inline(always)]
+    fn set_home_at(&mut self, task: u16, queue: u64)
+        ensures world { self.new ≡ homed_at self.old task (local_cpu self.old queue) }
+        ensures few { self.new.queues.pushes ≡ self.old.queues.pushes }
+        ensures notes { self.new.notes ≡ self.old.notes }
+    {
+        if let Some(cpu) = self.local_cpu(queue) {
+            self.set_home(task, cpu);
+        }
+    }
+
+    /// An insert that preempts takes the slice of the task that runs on the CPU of its local queue.
+    #[inline(always)]
+    fn preempt_by(&mut self, insert: Insert)
+        ensures world { self.new ≡ after_preempt self.old insert }
+        ensures few { self.new.queues.pushes ≡ self.old.queues.pushes }
+        ensures notes { self.new.notes ≡ self.old.notes }
+    {
+        if insert.preempts {
+            self.preempt_at(insert.queue);
+        }
+    }
+
+    /// The task that runs on the CPU of that local queue loses its slice.
+    fn preempt_at(&mut self, queue: u64)
+        ensures world { self.new ≡ after_preempt_at self.old (local_cpu self.old queue) }
+        ensures few { self.new.queues.pushes ≡ self.old.queues.pushes }
+        ensures notes { self.new.notes ≡ self.old.notes }
+    {
+        if let Some(cpu) = self.local_cpu(queue) {
+            let task = self.running(cpu);
+            self.preempt_of(cpu, task);
+        }
+    }
+
+    /// That task, which runs on the CPU, loses its slice, and the CPU looks for work as the event ends; not where its
+    /// own cycle is under way.
+    fn preempt_of(&mut self, cpu: u32, task: Option<u16>)
+        ensures world { self.new ≡ after_preempt_of self.old cpu task }
+        ensures few { self.new.queues.pushes ≡ self.old.queues.pushes }
+        ensures notes { self.new.notes ≡ self.old.notes }
+    {
+        let Some(task) = task else {
+            return;
+        };
+        if self.cycling != Some(cpu) {
+            self.cut_off(task);
+            self.kick(cpu);
+        }
+    }
+
+    /// The task that runs has no slice left.
+    pub fn cut_off(&mut self, task: u16)
+        ensures world { self.new ≡ after_cut_off self.old task }
+        ensures few { self.new.queues.pushes ≡ self.old.queues.pushes }
+    {
+        self.tasks.set_slice(task, 0);
     }
 
     /// Gives the record of a task the slice and virtual time of its insert.
@@ -163,20 +290,22 @@ impl World {
         ensures { self.new
             ≡ with_task self.old task (task_after_insert (task_at self.old task) insert) }
     {
-        self.set_slice(task, insert.slice);
+        self.set_slice(task, insert);
         if let Rank::Vtime(key) = insert.rank {
             self.tasks.set_vtime(task, key);
         }
     }
 
-    /// The task has that slice; 0 keeps the one that it has.
+    /// The task has the slice of the insert; 0 keeps the one that it has, or makes 1 of 0.
     #[inline(always)]
     #[tactic(auto, using(crate::proofs::Records::as_before))]
-    fn set_slice(&mut self, task: u16, slice: u64)
-        ensures { self.new ≡ with_task self.old task (given_slice (task_at self.old task) slice) }
+    fn set_slice(&mut self, task: u16, insert: Insert)
+        ensures { self.new ≡ with_task self.old task (given_slice (task_at self.old task) insert) }
     {
-        if slice != 0 {
-            self.tasks.set_slice(task, slice);
+        if insert.slice != 0 {
+            self.tasks.set_slice(task, insert.slice);
+        } else if insert.refills && self.task(task).slice == 0 {
+            self.tasks.set_slice(task, 1);
         }
     }
 
@@ -274,6 +403,25 @@ impl World {
         Some(task)
     }
 
+    /// The task leaves the queue in which it waits, and runs on the processor.
+    #[inline(always)]
+    pub fn run(&mut self, cpu: u32, next: u16)
+        ensures world { self.new ≡ after_run self.old cpu next }
+        ensures few { self.new.queues.pushes ≡ self.old.queues.pushes }
+    {
+        self.leave_queue(next);
+        self.tasks.end_wait(next, cpu);
+        self.set_cpu(cpu, Some(next));
+    }
+
+    /// True if the task waits in the local queue of the processor.
+    #[inline(always)]
+    pub fn is_local(&self, cpu: u32, task: u16) -> bool
+        ensures { result ≡ is_in (local_on cpu) (entry_of self.now.queues task) }
+    {
+        self.queue_of(task) == Some(LOCAL_ON + u64::from(cpu))
+    }
+
     /// The task before, if there is one, keeps the processor, and where it has no slice gets one.
     #[inline(always)]
     #[tactic(auto, using(crate::proofs::Records::as_before))]
@@ -286,6 +434,16 @@ impl World {
                 self.tasks.set_slice(task, DEFAULT_SLICE);
             }
         }
+    }
+
+    /// The task begins to run, and its slice is a nanosecond longer.
+    #[inline(always)]
+    pub fn lengthen_slice(&mut self, task: u16)
+        ensures world { self.new ≡ after_switch self.old task }
+        ensures few { self.new.queues.pushes ≡ self.old.queues.pushes }
+    {
+        let slice = longer(self.task(task).slice);
+        self.tasks.set_slice(task, slice);
     }
 
     /// The task at hand is parked, and waits no more.
@@ -438,5 +596,17 @@ impl World {
     {
         self.parked_throttled = false;
         let _refused = self.tree.set_weight(group, weight);
+    }
+}
+
+/// A slice that is a nanosecond longer; one that never ends stays.
+#[inline(always)]
+fn longer(slice: u64) -> u64
+    ensures { result ≡ longer slice }
+{
+    if slice < u64::MAX - 1 {
+        slice + 1
+    } else {
+        slice
     }
 }

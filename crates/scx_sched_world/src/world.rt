@@ -4,20 +4,22 @@ ghost use Rattle.scx_dsq.specs.Laws.{one_if};
 ghost use Rattle.scx_dsq.specs.Queues.{entry_of, queue_of, task_count};
 ghost use Rattle.scx_weights.specs.Limits.{has_quota};
 ghost use Rattle.scx_sched_world.specs.First.{with_locals, first_queues, first_world};
-ghost use Rattle.scx_sched_world.specs.Helpers.{task_argument};
-ghost use Rattle.scx_sched_world.specs.Kept.{AreTaken, lowest_bit, StaysParked, NobodyIsFree};
+ghost use Rattle.scx_sched_world.specs.CpuSets.{is_in_set};
+ghost use Rattle.scx_sched_world.specs.Helpers.{task_argument, with_insert};
+ghost use Rattle.scx_sched_world.specs.Kept.{AreOccupied, AreTaken, lowest_bit, StaysParked, NobodyIsFree};
 ghost use Rattle.scx_sched_world.specs.Waits.{first_overdue};
 ghost use Rattle.scx_weights.specs.Limits.{usage_of};
-ghost use Rattle.scx_sched_world.specs.World.{task_at, wait, with_task, is_runnable, is_throttled, waits, running, with_cpu, with_cycling, is_this, cpu_of, is_idle, first_idle, default_choice, at_callback, quiet, note_now, IsLike};
+ghost use Rattle.scx_sched_world.specs.World.{task_at, wait, with_task, is_runnable, is_throttled, waits, running, with_cpu, with_cycling, with_slept, is_this, cpu_of, is_idle, is_claimed, is_free, first_free, choice, default_choice, after_claim, with_kick, with_preemption, without_kick, is_by_linux, with_rules, at_callback, quiet, note_now, IsLike};
 
 use crate::call::{Call, Insert};
 use crate::counting;
+use crate::cpu_set::CpuSet;
 use crate::eject::Eject;
 use crate::faults::Fault;
 use crate::ids::{BUILTIN, GLOBAL, HELD, LOCAL_ON, PARKED};
 use crate::notes::{Note, What};
 use scx_dsq::{Entry, Queues};
-use scx_isa::{Callback, TaskId};
+use scx_isa::{Callback, Rules, TaskId};
 use scx_sched_tasks::{Task, Tasks};
 use scx_vm::Arg;
 use scx_weights::Tree;
@@ -39,6 +41,16 @@ pub struct World {
     pub(crate) running_on: Vec<u64>,
     /// The processor on which a scheduling cycle is under way.
     pub(crate) cycling: Option<u32>,
+    /// The task that went to sleep from that processor, under Linux rules.
+    pub(crate) slept: Option<u16>,
+    /// By whose rules the machine goes while the policy is in force.
+    pub(crate) rules: Rules,
+    /// The processors that were chosen for a task, and on which no cycle has begun since.
+    pub(crate) claimed: CpuSet,
+    /// The processors that look for work as the event ends.
+    pub(crate) kicked: CpuSet,
+    /// Those on which the task that runs loses its slice then.
+    pub(crate) preempted: CpuSet,
     pub(crate) queues: Queues,
     pub(crate) tree: Tree,
     pub(crate) call: Call,
@@ -85,6 +97,11 @@ impl World {
                 busy: 0,
                 running_on,
                 cycling: None,
+                slept: None,
+                rules: Rules::Plain,
+                claimed: CpuSet::EMPTY,
+                kicked: CpuSet::EMPTY,
+                preempted: CpuSet::EMPTY,
                 queues,
                 tree,
                 call: Call::NONE,
@@ -116,6 +133,11 @@ impl World {
         self.busy = other.busy;
         self.running_on.copy_from_slice(&other.running_on);
         self.cycling = other.cycling;
+        self.slept = other.slept;
+        self.rules = other.rules;
+        self.claimed = other.claimed;
+        self.kicked = other.kicked;
+        self.preempted = other.preempted;
         self.queues.copy_from(&other.queues);
         self.tree.copy_from(&other.tree);
         self.call = other.call;
@@ -143,6 +165,11 @@ impl World {
                 busy: self.busy,
                 running_on,
                 cycling: self.cycling,
+                slept: self.slept,
+                rules: self.rules,
+                claimed: self.claimed,
+                kicked: self.kicked,
+                preempted: self.preempted,
                 queues,
                 tree,
                 call: self.call,
@@ -168,6 +195,13 @@ impl World {
     {
         let clock = self.clock;
         clock
+    }
+
+    /// The clock after this millisecond.
+    pub fn next_clock(&self) -> u64
+        ensures { result ≡ self.now.clock + 1 }
+    {
+        self.clock + 1
     }
 
     // ---- tasks
@@ -328,12 +362,34 @@ impl World {
         }
     }
 
-    /// A scheduling cycle begins on the processor; with none the one that is under way ends.
+    /// A scheduling cycle begins on the processor, and the claim on it ends; with none the one that is under way
+    /// ends.
     pub fn set_cycling(&mut self, cpu: Option<u32>)
         ensures world { self.new ≡ with_cycling self.old cpu }
         ensures few { self.new.queues.pushes ≡ self.old.queues.pushes }
     {
+        match cpu {
+            Some(cpu) => self.claimed = self.claimed.but(cpu),
+            None => self.slept = None,
+        }
         self.cycling = cpu;
+    }
+
+    /// The task went to sleep from the processor on which a cycle is to begin.
+    pub fn tell_slept(&mut self, task: u16)
+        ensures world { self.new ≡ with_slept self.old task }
+        ensures few { self.new.queues.pushes ≡ self.old.queues.pushes }
+    {
+        self.slept = Some(task);
+    }
+
+    /// The task that went to sleep from the processor on which a cycle is under way.
+    #[inline(always)]
+    pub fn slept(&self) -> Option<u16>
+        ensures { result ≡ self.now.slept }
+    {
+        let slept = self.slept;
+        slept
     }
 
     /// True if no task runs on the CPU, and no cycle is under way there.
@@ -345,24 +401,47 @@ impl World {
             && self.cycling != Some(cpu)
     }
 
-    /// The processor on which the task ran last if it is idle, else the lowest idle one, else that one.
-    pub fn default_choice(&self, task: u16) -> u32
-        ensures { result ≡ default_choice self.now task }
+    /// True if the CPU was chosen for a task, and no cycle has begun there since.
+    #[inline(always)]
+    pub(crate) fn is_claimed(&self, cpu: u32) -> bool
+        ensures { result ≡ is_claimed self.now cpu }
+    {
+        self.is_by_linux() && self.claimed.has(cpu)
+    }
+
+    /// True if the CPU may be chosen for a task.
+    pub fn is_free(&self, cpu: u32) -> bool
+        ensures { result ≡ is_free self.now cpu }
+    {
+        self.is_idle(cpu) && !self.is_claimed(cpu)
+    }
+
+    /// The processor of the task if it is free, else the lowest free one, if there is one.
+    pub fn choice(&self, task: u16) -> Option<u32>
+        ensures { result ≡ choice self.now task }
     {
         let prev = self.task(task).prev_cpu;
-        if self.is_idle(prev) {
-            return prev;
-        }
-        match self.first_idle() {
-            Some(cpu) => cpu,
-            None => prev,
+        if self.is_free(prev) {
+            Some(prev)
+        } else {
+            self.first_free()
         }
     }
 
-    /// The lowest processor that is idle.
-    #[tactic(auto, using(crate::proofs::Busy::lowest_idle, crate::proofs::Busy::none_idle))]
-    fn first_idle(&self) -> Option<u32>
-        ensures { result ≡ first_idle self.now }
+    /// The processor of the task if it is free, else the lowest free one, else that one.
+    pub fn default_choice(&self, task: u16) -> u32
+        ensures { result ≡ default_choice self.now task }
+    {
+        match self.choice(task) {
+            Some(cpu) => cpu,
+            None => self.task(task).prev_cpu,
+        }
+    }
+
+    /// The lowest processor that is free.
+    #[tactic(auto, using(crate::proofs::Busy::lowest_free, crate::proofs::Busy::none_free))]
+    fn first_free(&self) -> Option<u32>
+        ensures { result ≡ first_free self.now }
     {
         let cpu = (!self.taken()).trailing_zeros();
         if (cpu as usize) < self.cpus.len() {
@@ -372,10 +451,23 @@ impl World {
         }
     }
 
-    /// The processors that aren't idle, one bit each.
-    #[tactic(auto, using(crate::proofs::Busy::taken_none, crate::proofs::Busy::taken_past, crate::proofs::Busy::taken_set))]
+    /// The processors that aren't free, one bit each.
+    #[tactic(auto, using(crate::proofs::Busy::taken_claimed, crate::proofs::Busy::taken_unclaimed))]
     fn taken(&self) -> u64
         ensures { AreTaken result self.now }
+    {
+        let occupied = self.occupied();
+        if self.is_by_linux() {
+            self.claimed.with_bits(occupied)
+        } else {
+            occupied
+        }
+    }
+
+    /// The processors that aren't idle, one bit each.
+    #[tactic(auto, using(crate::proofs::Busy::occupied_none, crate::proofs::Busy::occupied_past, crate::proofs::Busy::occupied_set))]
+    fn occupied(&self) -> u64
+        ensures { AreOccupied result self.now }
     {
         match self.cycling {
             Some(cpu) => {
@@ -387,6 +479,92 @@ impl World {
             }
             None => self.busy,
         }
+    }
+
+    /// Under Linux rules the processor is claimed, by the callback at hand.
+    pub fn claim(&mut self, cpu: Option<u32>)
+        ensures world { self.new ≡ after_claim self.old cpu }
+        ensures few { self.new.queues.pushes ≡ self.old.queues.pushes }
+    {
+        if let Some(cpu) = cpu {
+            if self.is_by_linux() {
+                self.claimed = self.claimed.and(cpu);
+                self.call.claims = self.call.claims.and(cpu);
+            }
+        }
+    }
+
+    // ---- kicks
+
+    /// The processor looks for work as the event ends.
+    pub fn kick(&mut self, cpu: u32)
+        ensures world { self.new ≡ with_kick self.old cpu }
+        ensures few { self.new.queues.pushes ≡ self.old.queues.pushes }
+    {
+        self.kicked = self.kicked.and(cpu);
+    }
+
+    /// The processor looks for work as the event ends, and the task that runs there loses its slice first.
+    pub fn preempt(&mut self, cpu: u32)
+        ensures world { self.new ≡ with_preemption self.old cpu }
+        ensures few { self.new.queues.pushes ≡ self.old.queues.pushes }
+    {
+        self.kicked = self.kicked.and(cpu);
+        self.preempted = self.preempted.and(cpu);
+    }
+
+    /// The processor begins to look for work, and is kicked no more.
+    pub fn end_kick(&mut self, cpu: u32)
+        ensures world { self.new ≡ without_kick self.old cpu }
+        ensures few { self.new.queues.pushes ≡ self.old.queues.pushes }
+    {
+        self.kicked = self.kicked.but(cpu);
+        self.preempted = self.preempted.but(cpu);
+    }
+
+    /// True if the processor was kicked, and hasn't looked for work since.
+    #[inline(always)]
+    pub fn is_kicked(&self, cpu: u32) -> bool
+        ensures { result ≡ is_in_set self.now.kicked cpu }
+    {
+        self.kicked.has(cpu)
+    }
+
+    /// True if the task that runs there loses its slice as the processor looks for work.
+    #[inline(always)]
+    pub fn is_preempted(&self, cpu: u32) -> bool
+        ensures { result ≡ is_in_set self.now.preempted cpu }
+    {
+        self.preempted.has(cpu)
+    }
+
+    // ---- rules
+
+    /// By whose rules the machine goes while the policy is in force.
+    pub fn rules(&self) -> Rules
+        ensures { result ≡ self.now.rules }
+    {
+        let rules = self.rules;
+        rules
+    }
+
+    /// True if the machine goes by Linux rules: the policy does, and is in force.
+    #[inline(always)]
+    pub fn is_by_linux(&self) -> bool
+        ensures { result ≡ is_by_linux self.now }
+    {
+        match self.rules {
+            Rules::Plain => false,
+            Rules::Linux => self.ejected.is_none(),
+        }
+    }
+
+    /// From now on the machine goes by these rules.
+    pub fn set_rules(&mut self, rules: Rules)
+        ensures world { self.new ≡ with_rules self.old rules }
+        ensures few { self.new.queues.pushes ≡ self.old.queues.pushes }
+    {
+        self.rules = rules;
     }
 
     // ---- weights
@@ -472,6 +650,7 @@ impl World {
             insert: None,
             has_moved: false,
             fault: None,
+            claims: CpuSet::EMPTY,
         };
     }
 
@@ -504,6 +683,15 @@ impl World {
         ensures { result ≡ self.now.call.insert }
     {
         self.call.insert
+    }
+
+    /// The task at hand is to wait there.
+    #[inline(always)]
+    pub fn keep_insert(&mut self, insert: Insert)
+        ensures world { self.new ≡ with_insert self.old insert }
+        ensures few { self.new.queues.pushes ≡ self.old.queues.pushes }
+    {
+        self.call.insert = Some(insert);
     }
 
     /// True if the callback moved a task to a local queue.

@@ -3,7 +3,7 @@ use Rattle.scx_dsq.specs.declared.entries.Rank.TheVariants.{Fifo}
 use Rattle.scx_sched_world.specs.Ids.{local_on}
 use Rattle.scx_sched_world.proofs.Parked.{known_pushed}
 use Rattle.scx_sched_world.proofs.Places.{pushed, local_stands}
-use Rattle.scx_sched_world.proofs.world.World.push_local.Goals as goal
+use Rattle.scx_sched_world.proofs.world.World.push_end.Goals as goal
 
 pub push_fifo_at-refused-requires-clause-place : goal.push_fifo_at-refused-requires-clause-place
 push_fifo_at-refused-requires-clause-place c =
