@@ -1,19 +1,23 @@
 -- Where no group has a quota nobody is parked.
 use Rattle.std.proofs.Common.{arith, ◌≡◌, ℕ, zero, suc, ◌<◌, ◌&&◌, Bool, true, false, cond, ltb, [], ◌∷◌, ◌++◌, length, get_or, Option, Some, None, refl, sym, ap, ◌∙◌}
 use Rattle.std.specs.List.{count_by}
+use Rattle.std.proofs.lemmas.List.{length-set}
 use Rattle.std.proofs.lemmas.List.Sums.{sum_by-cons}
 use Rattle.scx_dsq.specs.Queues.{Entries, QueueState, is_in, len_of, is_first, front_of}
+use Rattle.scx_dsq.specs.Calls.{after_push, after_pop}
 use Rattle.scx_dsq.specs.declared.entries.Entry.{Entry}
+use Rattle.scx_dsq.specs.declared.entries.Rank.TheVariants.{Fifo}
 use Rattle.scx_dsq.proofs.Positions.{no_position}
 use Rattle.scx_weights.specs.Limits as limits
 use Rattle.scx_weights.specs.Limits.{has_quota}
 use Rattle.scx_weights.proofs.KnownLimits.{none_throttled}
 use Rattle.scx_sched_world.specs.Ids.{global, local_on}
-use Rattle.scx_sched_world.specs.World.{WorldState, is_throttled}
-use Rattle.scx_sched_world.specs.Tasks.{local_len, brought, fill_front, after_fill}
+use Rattle.scx_sched_world.specs.World.{WorldState, with_queues, is_by_linux, task_at, with_task, is_throttled}
+use Rattle.scx_sched_world.specs.Tasks.{with_home, homed, local_len, brought, fill_front, after_fill}
 use Rattle.scx_sched_machine.specs.Steps.{State, stays}
 use Rattle.scx_sched_machine.specs.Filling.{move_note, fill}
 use Rattle.scx_sched_machine.specs.Parking.{if_throttled, clear, in_reach, supply}
+use Rattle.scx_sched_machine.proofs.Choices.{keeps_if}
 
 -- ---- an empty queue has no front
 
@@ -40,9 +44,16 @@ free_front : (w : WorldState) (o : Option ℕ) → ((t : ℕ) → is_throttled w
 free_front w None free = refl
 free_front w (Some t) free = rw (free t) refl
 
+throttled_homed : (w : WorldState) (x c t : ℕ) → is_throttled (homed w x c) t ≡ is_throttled w t
+throttled_homed w x c t =
+    let y = with_home (task_at w x) c in
+    keeps_if (λ (u : WorldState). is_throttled u t ≡ is_throttled w t) (is_by_linux w) (with_task w x y) w (ap (λ n. ltb t n && limits.is_throttled w.tree t) (length-set w.tasks x y)) refl
+
 throttled_brought : (o : Option ℕ) (w : WorldState) (q c t : ℕ) → is_throttled (brought o w q c) t ≡ is_throttled w t
 throttled_brought None w q c t = refl
-throttled_brought (Some x) w q c t = refl
+throttled_brought (Some x) w q c t =
+    let popped = with_queues w (after_pop w.queues q) in
+    throttled_homed (with_queues popped (after_push popped.queues (local_on c) x Fifo)) x c t
 
 no_more : (o : Option ℕ) (w : WorldState) (c : ℕ) → move_note w o c ++ [] ≡ move_note w o c
 no_more None w c = refl

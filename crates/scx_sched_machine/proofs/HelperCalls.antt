@@ -1,20 +1,23 @@
 -- One walk over the helpers of the host: what has to be shown of a property of worlds at a world, so that it
 -- holds of the world that a helper call leaves, whichever helper is called and whatever it is given.
-use Rattle.std.proofs.Common.{◌≡◌, ℕ, ◌<◌, Bool, true, false, ◌&&◌, ◌==◌, nat_lt, nat_le, if◌then◌else◌, List, length, Option, Some, None, refl, arith}
+use Rattle.std.proofs.Common.{◌≡◌, ℕ, zero, suc, ◌≤◌, ◌<◌, Bool, true, false, ◌&&◌, ◌==◌, nat_lt, nat_le, if◌then◌else◌, List, length, Option, Some, None, refl, subst, arith}
+use Rattle.std.proofs.lemmas.Bool.{and_parts}
 use Rattle.std.proofs.lemmas.Bool.Decides.{nat_tests}
 use Rattle.std.specs.List.{list_any}
 use Rattle.scx_dsq.specs.Queues.{exists, front_of}
 use Rattle.scx_dsq.specs.Calls.{after_create, clashes}
 use Rattle.scx_dsq.specs.declared.entries.Rank.{Rank}
+use Rattle.scx_dsq.specs.declared.entries.Rank.TheVariants.{Front}
 use Rattle.scx_isa_semantics.specs.declared.host_tables.Helper.{Helper}
-use Rattle.scx_isa_semantics.specs.declared.host_tables.Helper.TheVariants.{CreateDsq, DsqInsert, DsqInsertVtime, DsqMoveToLocal, CpuIdle, DsqNrQueued}
+use Rattle.scx_isa_semantics.specs.declared.host_tables.Helper.TheVariants.{CreateDsq, DsqInsert, DsqInsertVtime, DsqMoveToLocal, SelectCpuDfl, CpuIdle, DsqNrQueued, KickCpu}
 use Rattle.scx_vm.specs.declared.arguments.Arg.{Arg}
 use Rattle.scx_sched_world.specs.declared.call.Insert.{Insert}
 use Rattle.scx_sched_world.specs.declared.faults.Fault.{Fault}
-use Rattle.scx_sched_world.specs.declared.faults.Fault.TheVariants.{Stuck, NoSuchQueue, NoSuchCpu, CannotCreate}
+use Rattle.scx_sched_world.specs.declared.kicks.Kick.{Kick}
+use Rattle.scx_sched_world.specs.declared.faults.Fault.TheVariants.{Stuck, NoSuchQueue, CannotInsert, NoSuchCpu, UnknownFlag, CannotCreate}
 use Rattle.scx_sched_world.specs.Ids.{policy_end, global, local, local_on}
-use Rattle.scx_sched_world.specs.World.{WorldState, with_queues}
-use Rattle.scx_sched_world.specs.Helpers.{is_there, can_create, with_fault, is_dispatch, may_insert, is_vtime, queue_fault, rank_fault, or_fault, insert_fault, insert_or_fault, after_insert, after_move, insert_of, insert_of_vtime, front_moved_to_local, given_number, given_task, helper_after}
+use Rattle.scx_sched_world.specs.World.{WorldState, with_queues, is_by_linux, choice, after_claim}
+use Rattle.scx_sched_world.specs.Helpers.{is_there, can_create, with_fault, is_dispatch, is_held, may_insert, is_vtime, queue_fault, rank_fault, or_fault, are_linux_flags, are_known, arrival_rank, flags_fault, insert_fault, is_late, insert_or_fault, with_move, after_late, after_insert, after_move, insert_of, insert_of_vtime, front_moved_to_local, after_choice, kick_of, kick_fault, kicked_so, kicked_or_fault, after_kick, given_number, given_task, helper_after}
 use Rattle.scx_sched_machine.proofs.Choices.{keeps_if}
 
 -- ---- the fault of a helper call
@@ -44,28 +47,76 @@ other_queue w q =
 other_rank : (w : WorldState) (q : ℕ) (r : Rank) → IsOther (rank_fault w q r)
 other_rank w q r = other_if (is_vtime r && nat_le policy_end q) _ _ (λ e. absurd (cc)) (other_if (list_any (clashes q r) w.queues.entries) _ _ (λ e. absurd (cc)) no_fault)
 
+other_flags : (w : WorldState) (flags : ℕ) → IsOther (flags_fault w flags)
+other_flags w flags = other_if (are_known w flags) _ _ no_fault (λ e. absurd (cc))
+
 other_insert : (w : WorldState) (t : Option ℕ) (i : Insert) (flags : ℕ) → IsOther (insert_fault w t i flags)
 other_insert w t i flags =
-    other_if (may_insert w t) _ _ (other_if (nat_lt 1 flags) _ _ (λ e. absurd (cc)) (other_or (queue_fault w i.queue) (rank_fault w i.queue i.rank) (other_queue w i.queue) (other_rank w i.queue i.rank))) (λ e. absurd (cc))
+    other_if (may_insert w t) _ _
+    (other_or (flags_fault w flags) _ (other_flags w flags) (other_or (queue_fault w i.queue) (rank_fault w i.queue i.rank) (other_queue w i.queue) (other_rank w i.queue i.rank)))
+    (λ e. absurd (cc))
+
+-- ---- inserts to the front of a queue
+
+-- a rank by which a task doesn't go to the front
+abbrev pub IsBehind : Rank → Type 0
+IsBehind r = r ≡ Front → ⊥
+
+-- flags of plain rules ask for no front
+plain_flags : (n : ℕ) → n ≤ 1 → IsBehind (arrival_rank n)
+plain_flags zero few e = absurd (cc)
+plain_flags (suc zero) few e = absurd (cc)
+plain_flags (suc (suc n)) few e = absurd (omega (arith, few))
+
+-- an insert without a fault has flags without one
+flags_fine : (w : WorldState) (t : Option ℕ) (i : Insert) (flags : ℕ) → insert_fault w t i flags ≡ None → flags_fault w flags ≡ None
+flags_fine w t i flags e = go (may_insert w t) (flags_fault w flags) refl e
+  where
+    go : (b : Bool) (o : Option Fault) → flags_fault w flags ≡ o → (if b then or_fault o (or_fault (queue_fault w i.queue) (rank_fault w i.queue i.rank)) else Some CannotInsert) ≡ None → flags_fault w flags ≡ None
+    go true None x y = x
+    go true (Some f) x y = absurd (cc)
+    go false o x y = absurd (cc)
+
+-- by plain rules flags without a fault ask for no front
+arrives : (w : WorldState) (flags : ℕ) → flags_fault w flags ≡ None → is_by_linux w ≡ false → IsBehind (arrival_rank flags)
+arrives w flags fine plain = go (nat_le flags 1) refl (subst (λ b. (if (if b then are_linux_flags flags else nat_le flags 1) then None else Some UnknownFlag) ≡ None) plain fine)
+  where
+    go : (b : Bool) → nat_le flags 1 ≡ b → (if b then None else Some UnknownFlag) ≡ None → IsBehind (arrival_rank flags)
+    go true x y = plain_flags flags (grind (arith, nat_tests, x))
+    go false x y = absurd (cc)
 
 -- ---- the walk
 
 -- of what a helper call may leave, the property holds: the world as it is, one with a fault that helpers
--- have, with a queue created, with an insert kept or done at once, with a task moved in dispatch
+-- have, with a queue created, with an insert kept or done at once, or too late, with a task moved in
+-- dispatch, with a processor claimed or kicked
 pub record HoldsAfterCalls (P : WorldState → Type 0) (w : WorldState) : Type 0 where
   pub same : P w
   pub faulty : (f : Fault) → IsOther (Some f) → P (with_fault w f)
   pub created : (q : ℕ) → P (with_queues w (after_create w.queues q))
-  pub inserted : (t : Option ℕ) (i : Insert) (flags : ℕ) → insert_fault w t i flags ≡ None → P (insert_or_fault w None t i)
+  pub inserted : (t : Option ℕ) (i : Insert) (flags : ℕ) → (is_by_linux w ≡ false → IsBehind i.rank) → insert_fault w t i flags ≡ None → P (insert_or_fault w None t i)
+  pub late : is_by_linux w ≡ true → is_dispatch w.call.callback ≡ true → P (with_move w)
+  pub claimed : (o : Option ℕ) → P (after_claim w o)
+  pub kicked : (c : ℕ) (k : Kick) → P (kicked_so w c k)
   pub moved : (q : ℕ) → is_dispatch w.call.callback ≡ true → q < policy_end → P (front_moved_to_local w (front_of w.queues q) q)
 
 module _ (P : WorldState → Type 0) (w : WorldState) (h : HoldsAfterCalls P w) where
-  inserts : (t : Option ℕ) (i : Insert) (flags : ℕ) → P (after_insert w t i flags)
-  inserts t i flags = go (insert_fault w t i flags) refl (other_insert w t i flags)
+  inserts : (t : Option ℕ) (i : Insert) (flags : ℕ) → (flags_fault w flags ≡ None → is_by_linux w ≡ false → IsBehind i.rank) → P (after_insert w t i flags)
+  inserts t i flags behind = by (is_late w t) refl
     where
-      go : (o : Option Fault) → insert_fault w t i flags ≡ o → IsOther o → P (insert_or_fault w o t i)
-      go None none other = h.inserted t i flags none
-      go (Some f) is other = h.faulty f other
+      in_time : (o : Option Fault) → insert_fault w t i flags ≡ o → IsOther o → P (insert_or_fault w o t i)
+      in_time None none other = h.inserted t i flags (behind (flags_fine w t i flags none)) none
+      in_time (Some f) is other = h.faulty f other
+
+      too_late : (o : Option Fault) → is_late w t ≡ true → IsOther o → P (after_late w o)
+      too_late None e other =
+          let linux = and_parts (is_by_linux w) _ e in
+          h.late linux.0 (and_parts (is_dispatch w.call.callback) _ linux.1).0
+      too_late (Some f) e other = h.faulty f other
+
+      by : (b : Bool) → is_late w t ≡ b → P (if b then after_late w (flags_fault w flags) else insert_or_fault w (insert_fault w t i flags) t i)
+      by true e = too_late (flags_fault w flags) e (other_flags w flags)
+      by false e = in_time (insert_fault w t i flags) refl (other_insert w t i flags)
 
   moves : (q : ℕ) → P (after_move w q)
   moves q = go (is_dispatch w.call.callback) (nat_lt q policy_end) (exists w.queues q) refl refl
@@ -76,12 +127,29 @@ module _ (P : WorldState → Type 0) (w : WorldState) (h : HoldsAfterCalls P w) 
       go true false d here low = h.faulty NoSuchQueue (λ e. absurd (cc))
       go false c d here low = h.faulty NoSuchQueue (λ e. absurd (cc))
 
+  chooses : (t : Option ℕ) → P (after_choice w t)
+  chooses None = h.same
+  chooses (Some t) = h.claimed (choice w t)
+
+  kicks : (c flags : ℕ) → P (after_kick w c flags)
+  kicks c flags = go (kick_of flags)
+    where
+      go : (k : Option Kick) → P (kicked_or_fault w (kick_fault w c k) c k)
+      go None = h.faulty UnknownFlag (λ e. absurd (cc))
+      go (Some k) = at (nat_lt c (length w.cpus))
+        where
+          at : (b : Bool) → P (kicked_or_fault w (if b then None else Some NoSuchCpu) c (Some k))
+          at true = h.kicked c k
+          at false = h.faulty NoSuchCpu (λ e. absurd (cc))
+
   -- whichever helper is called, and whatever it is given
   pub by_helper : (f : Helper) (a : List Arg) → P (helper_after w f a)
   by_helper CreateDsq a = keeps_if P (can_create w (given_number a 0)) (with_queues w (after_create w.queues (given_number a 0))) (with_fault w CannotCreate) (h.created (given_number a 0)) (h.faulty CannotCreate (λ e. absurd (cc)))
-  by_helper DsqInsert a = inserts (given_task a 0) (insert_of a) (given_number a 3)
-  by_helper DsqInsertVtime a = inserts (given_task a 0) (insert_of_vtime a) (given_number a 4)
+  by_helper DsqInsert a = inserts (given_task a 0) (insert_of w a) (given_number a 3) (arrives w (given_number a 3))
+  by_helper DsqInsertVtime a = inserts (given_task a 0) (insert_of_vtime w a) (given_number a 4) (λ fine plain e. absurd (cc))
   by_helper DsqMoveToLocal a = moves (given_number a 0)
+  by_helper SelectCpuDfl a = chooses (given_task a 0)
+  by_helper KickCpu a = kicks (given_number a 0) (given_number a 1)
   by_helper CpuIdle a = keeps_if P (nat_lt (given_number a 0) (length w.cpus)) w (with_fault w NoSuchCpu) h.same (h.faulty NoSuchCpu (λ e. absurd (cc)))
   by_helper DsqNrQueued a = keeps_if P (is_there w (given_number a 0)) w (with_fault w NoSuchQueue) h.same (h.faulty NoSuchQueue (λ e. absurd (cc)))
   by_helper f a = h.same

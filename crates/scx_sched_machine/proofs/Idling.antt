@@ -9,11 +9,11 @@ use Rattle.scx_sched_world.specs.Ids.{global}
 use Rattle.scx_sched_world.specs.World.{at_callback}
 use Rattle.scx_sched_world.specs.Tasks.{local_len}
 use Rattle.scx_sched_machine.specs.Policy.{program_of}
-use Rattle.scx_sched_machine.specs.Steps.{State, Stepped, with_world, is_ejected, stays, one_after_other}
+use Rattle.scx_sched_machine.specs.Steps.{State, Stepped, with_world, is_ejected, is_by_linux, kicked, stays, one_after_other}
 use Rattle.scx_sched_machine.specs.Ejecting.{ejected_for}
 use Rattle.scx_sched_machine.specs.Callbacks.{unless_ejected, acting, call_ending, after_callback, calls_of, fault_of, call_back, cpu_and_task}
 use Rattle.scx_sched_machine.specs.Parking.{supply}
-use Rattle.scx_sched_machine.specs.Cycle.{has_local, after_dispatch, asks_again, tries, rest, builtin_cycle, pick, pick_or_rest, conclude, ask, seek, look, cycling, stays_idle, idles, cycle}
+use Rattle.scx_sched_machine.specs.Cycle.{has_local, after_dispatch, supply_unless_kept, told_of, asks_again, tries, rest, builtin_cycle, pick, pick_or_rest, keep_or_pick, conclude, give_up, ask, seek, look, cycling, stays_idle, idles, cycle}
 use Rattle.scx_sched_machine.proofs.Free.{supply_nobody}
 use Rattle.scx_sched_machine.proofs.Tries.{tries_last}
 
@@ -40,37 +40,46 @@ rests_called s c h = record { force = h.force; unasked = h.unasked; free = h.fre
 abbrev called_with : State → ℕ → Option VerifiedProgram → Stepped
 called_with s c p =
     let w = at_callback s.world callback.Dispatch 0 c in
-    let e = call_ending p callback.Dispatch (cpu_and_task c None) s.maps w in
-    one_after_other (record { state = after_callback s.policy e; notes = e.outside.notes; calls = calls_of p callback.Dispatch (cpu_and_task c None) s.maps w })
+    let a = cpu_and_task c (told_of s None) in
+    let e = call_ending p callback.Dispatch a s.maps w in
+    one_after_other (record { state = after_callback s.policy e; notes = e.outside.notes; calls = calls_of p callback.Dispatch a s.maps w })
     (ejected_for (fault_of callback.Dispatch e) (after_callback s.policy e))
 
-no_call : (s : State) (c : ℕ) → Rests s c → call_back s callback.Dispatch (cpu_and_task c None) 0 c ≡ stays (called s c)
+no_call : (s : State) (c : ℕ) → Rests s c → call_back s callback.Dispatch (cpu_and_task c (told_of s None)) 0 c ≡ stays (called s c)
 unfolding call_back call_ending
 no_call s c h =
     let none : acting s callback.Dispatch ≡ None = ap (λ o. unless_ejected o (program_of s.policy callback.Dispatch)) h.force ∙ h.unasked in
     ap (λ p. called_with s c p) none
 
 no_dispatch : (s : State) (c : ℕ) → Rests s c → after_dispatch s c None ≡ stays (called s c)
-unfolding after_dispatch
+unfolding after_dispatch supply_unless_kept
 no_dispatch s c h =
     ap (λ r. one_after_other r (supply r.state c)) (no_call s c h)
     ∙ ap (λ r. one_after_other (stays (called s c)) r) (supply_nobody (called s c) c h.free h.nobody)
 
 no_tries : (s : State) (c : ℕ) → Rests s c → tries 32 s c None ≡ stays (called s c)
 no_tries s c h =
-    tries_last 32 c s None (omega arith) (ap (λ r. asks_again r.state c) (no_dispatch s c h) ∙ and_false (local_len s.world c == 0))
+    tries_last 32 c s None (omega arith) (ap (λ r. asks_again r.state c None) (no_dispatch s c h) ∙ and_false (local_len s.world c == 0))
     ∙ no_dispatch s c h
 
 conclude_rests : (s : State) (c : ℕ) → Rests s c → conclude s c None false ≡ stays s
-unfolding conclude pick_or_rest rest
+unfolding conclude keep_or_pick pick_or_rest rest
 conclude_rests s c h =
     ap (λ b. if b then builtin_cycle s c None false else pick_or_rest s c None false) (ap is_some h.force)
     ∙ ap (λ n. if not (n == 0) then pick s c None false else rest s c None false) h.empty
 
+-- dispatch moved nothing, and so isn't asked in vain
+not_in_vain : (s : State) (c : ℕ) → give_up (called s c) c None ≡ called s c
+unfolding give_up
+not_in_vain s c =
+    ap (λ b. if is_by_linux s && b then kicked (called s c) c else called s c) (and_false (local_len s.world c == 0))
+    ∙ ap (λ b. if b then kicked (called s c) c else called s c) (and_false (is_by_linux s))
+
 no_ask : (s : State) (c : ℕ) → Rests s c → ask s c None false ≡ stays (called s c)
 unfolding ask
 no_ask s c h =
-    ap (λ d. one_after_other d (conclude d.state c None false)) (no_tries s c h)
+    ap (λ d. one_after_other d (conclude (give_up d.state c None) c None false)) (no_tries s c h)
+    ∙ ap (λ v. one_after_other (stays (called s c)) (conclude v c None false)) (not_in_vain s c)
     ∙ ap (λ r. one_after_other (stays (called s c)) r) (conclude_rests (called s c) c (rests_called s c h))
 
 no_seek : (s : State) (c : ℕ) → Rests s c → seek s c None false ≡ stays (called s c)

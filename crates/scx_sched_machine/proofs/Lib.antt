@@ -11,3 +11,4 @@ pub mod Free
 pub mod Idling
 pub mod Silent
 pub mod Counting
+pub mod Looking

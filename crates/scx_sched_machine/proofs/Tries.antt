@@ -10,13 +10,13 @@ tries_none zero c s p e = refl
 tries_none (suc n) c s p e = absurd (omega (arith, e))
 
 -- a try after which there is another
-pub tries_again : (n c : ℕ) (s : State) (p : Option ℕ) → 0 < n → asks_again (after_dispatch s c p).state c ≡ true → tries n s c p ≡ one_after_other (after_dispatch s c p) (tries (n - 1) (after_dispatch s c p).state c p)
+pub tries_again : (n c : ℕ) (s : State) (p : Option ℕ) → 0 < n → asks_again (after_dispatch s c p).state c p ≡ true → tries n s c p ≡ one_after_other (after_dispatch s c p) (tries (n - 1) (after_dispatch s c p).state c p)
 unfolding tries
 tries_again zero c s p l e = absurd (omega (arith, l))
 tries_again (suc n) c s p l e = rw (e, sub-one) refl
 
 -- a try after which there is none
-pub tries_last : (n c : ℕ) (s : State) (p : Option ℕ) → 0 < n → asks_again (after_dispatch s c p).state c ≡ false → tries n s c p ≡ after_dispatch s c p
+pub tries_last : (n c : ℕ) (s : State) (p : Option ℕ) → 0 < n → asks_again (after_dispatch s c p).state c p ≡ false → tries n s c p ≡ after_dispatch s c p
 unfolding tries
 tries_last zero c s p l e = absurd (omega (arith, l))
 tries_last (suc n) c s p l e = rw e refl

@@ -1,8 +1,8 @@
 -- What a callback that isn't dispatch leaves as it was: it moves nobody, and so no more is pushed than an
 -- ejection pushes.
-use Rattle.std.proofs.Common.{◌≡◌, ℕ, zero, suc, ◌+◌, ◌≤◌, Bool, true, false, cond, nat_lt, List, length, map, Option, Some, None, is_some, is_none, refl, sym, ap, ◌∙◌, subst, arith}
+use Rattle.std.proofs.Common.{◌≡◌, ℕ, zero, suc, ◌+◌, ◌≤◌, Bool, true, false, ◌||◌, cond, nat_lt, List, length, map, Option, Some, None, is_some, is_none, refl, sym, ap, ◌∙◌, subst, arith}
 use Rattle.scx_dsq.specs.Queues.{QueueState}
-use Rattle.scx_dsq.specs.Calls.{create_refusal, with_queue, after_create}
+use Rattle.scx_dsq.specs.Calls.{create_refusal, with_queue, after_create, after_push}
 use Rattle.scx_isa_semantics.specs.declared.callbacks.Callback.{Callback}
 use Rattle.scx_isa_semantics.specs.declared.callbacks.Callback.TheVariants as callback
 use Rattle.scx_isa_semantics.specs.declared.host_tables.Helper.{Helper}
@@ -21,10 +21,12 @@ use Rattle.scx_sched_world.specs.declared.call.Insert.{Insert}
 use Rattle.scx_sched_world.specs.declared.eject.Eject.{Eject}
 use Rattle.scx_sched_world.specs.declared.eject.Eject.TheVariants as cause
 use Rattle.scx_sched_world.specs.declared.faults.Fault.{Fault}
-use Rattle.scx_sched_world.specs.World.{WorldState, with_queues, with_task, task_at, waits, running, at_callback}
-use Rattle.scx_sched_world.specs.Tasks.{after_leave, after_enter}
+use Rattle.scx_sched_world.specs.declared.kicks.Kick.{Kick}
+use Rattle.scx_sched_world.specs.declared.kicks.Kick.TheVariants.{Any, IfIdle, Preempt}
+use Rattle.scx_sched_world.specs.World.{WorldState, with_queues, with_task, is_by_linux, task_at, waits, running, is_this, with_kick, after_claim, at_callback}
+use Rattle.scx_sched_world.specs.Tasks.{after_leave, homed_at, local_cpu, task_after_insert, rank_by, after_preempt_of, after_preempt_at, after_preempt, after_enter}
 use Rattle.scx_sched_world.specs.Ejecting.{put_out, put_builtin, after_evictions, after_cut, cut_task}
-use Rattle.scx_sched_world.specs.Helpers.{with_fault, is_dispatch, with_insert, insert_or_fault, helper_after, stored_in, world_functions}
+use Rattle.scx_sched_world.specs.Helpers.{with_fault, is_dispatch, with_insert, insert_or_fault, with_move, kicked_so, helper_after, stored_in, world_functions}
 use Rattle.scx_sched_machine.specs.Steps.{State, Stepped, is_ejected}
 use Rattle.scx_sched_machine.specs.Ejecting.{moves_over, eject, ejected_for}
 use Rattle.scx_sched_machine.specs.Budgets.{eject_pushes, enter_pushes, eject_left, pushes_due}
@@ -35,8 +37,35 @@ use Rattle.scx_sched_machine.proofs.HelperCalls.{by_helper}
 
 -- ---- why the policy was put out of force, if it was
 
+force_homed : (w : WorldState) (t : ℕ) (o : Option ℕ) → (homed_at w t o).ejected ≡ w.ejected
+force_homed w t None = refl
+force_homed w t (Some c) = keeps_if (λ (u : WorldState). u.ejected ≡ w.ejected) (is_by_linux w) _ w refl refl
+
+force_preempted : (w : WorldState) (o : Option ℕ) → (after_preempt_at w o).ejected ≡ w.ejected
+force_preempted w None = refl
+force_preempted w (Some c) = go (running w c)
+  where
+    go : (o : Option ℕ) → (after_preempt_of w c o).ejected ≡ w.ejected
+    go None = refl
+    go (Some t) = keeps_if (λ (u : WorldState). u.ejected ≡ w.ejected) (is_this c w.cycling) w _ refl refl
+
 force_entered : (w : WorldState) (t : ℕ) (i : Insert) → (after_enter w t i).ejected ≡ w.ejected
-force_entered w t i = keeps_if (λ (u : WorldState). u.ejected ≡ w.ejected) (nat_lt t (length w.tasks)) _ w refl refl
+force_entered w t i = keeps_if (λ (u : WorldState). u.ejected ≡ w.ejected) (nat_lt t (length w.tasks)) _ w put refl
+  where
+    given : WorldState
+    given = with_queues (with_task w t (task_after_insert (task_at w t) i)) (after_push w.queues i.queue t (rank_by w i.rank))
+
+    at : Option ℕ
+    at = local_cpu w i.queue
+
+    home : WorldState
+    home = homed_at given t at
+
+    kept : home.ejected ≡ w.ejected
+    kept = force_homed given t at
+
+    put : (after_preempt home i).ejected ≡ w.ejected
+    put = keeps_if (λ (u : WorldState). u.ejected ≡ w.ejected) i.preempts _ home (force_preempted home (local_cpu home i.queue) ∙ kept) kept
 
 force_put_builtin : (w : WorldState) (t : ℕ) → (put_builtin w t).ejected ≡ w.ejected
 force_put_builtin w t = keeps_if (λ (u : WorldState). u.ejected ≡ w.ejected) (nat_lt t (length w.tasks)) _ w refl refl
@@ -101,12 +130,24 @@ module _ (v : WorldState) where
   calm_faulted : (w : WorldState) (f : Fault) → IsCalm v w → IsCalm v (with_fault w f)
   calm_faulted w f h = calm_as w (with_fault w f) refl refl refl refl h
 
+  calm_claimed : (w : WorldState) (o : Option ℕ) → IsCalm v w → IsCalm v (after_claim w o)
+  calm_claimed w None h = h
+  calm_claimed w (Some c) h = keeps_if (IsCalm v) (is_by_linux w) _ w (calm_as w _ refl refl refl refl h) h
+
+  calm_kicked : (w : WorldState) (c : ℕ) (k : Kick) → IsCalm v w → IsCalm v (kicked_so w c k)
+  calm_kicked w c Any h = calm_as w (kicked_so w c Any) refl refl refl refl h
+  calm_kicked w c IfIdle h = keeps_if (IsCalm v) (is_none (running w c) || is_this c w.cycling) (with_kick w c) w (calm_as w (with_kick w c) refl refl refl refl h) h
+  calm_kicked w c Preempt h = calm_as w (kicked_so w c Preempt) refl refl refl refl h
+
   calm_helper : (w : WorldState) (f : Helper) (a : List Arg) → IsCalm v w → IsCalm v (helper_after w f a)
   calm_helper w f a h = by_helper (IsCalm v) w (record {
     same = h;
     faulty = λ f other. calm_faulted w f h;
     created = λ q. calm_created w q h;
-    inserted = λ t i flags none. calm_inserted w None t i h;
+    inserted = λ t i flags behind none. calm_inserted w None t i h;
+    late = λ linux here. calm_as w (with_move w) refl refl refl refl h;
+    claimed = λ o. calm_claimed w o h;
+    kicked = λ c k. calm_kicked w c k h;
     moved = λ q here low. absurd (is_not here);
   }) f a
     where

@@ -141,6 +141,14 @@ let_go_pushes = eject_pushes + enter_pushes * most_tasks
 abbrev pub clock_pushes : ℕ
 clock_pushes = let_go_pushes + eject_pushes
 
--- whatever the event
+-- whatever the event, before its rounds
+abbrev pub own_pushes : ℕ
+own_pushes = 2 ^ 19
+
+-- the rounds of an event, each of them a cycle
+abbrev pub rounds_pushes : ℕ
+rounds_pushes = cycle_pushes * 256
+
+-- whatever the event, with its rounds
 abbrev pub event_pushes : ℕ
-event_pushes = 2 ^ 19
+event_pushes = 2 ^ 27

@@ -1,19 +1,19 @@
 -- The scheduling cycle (sched-ext.rst, "Scheduling Cycle"): a processor looks for the task
 -- that it runs next.
 use Rattle.std.specs.Prelude.{ℕ, zero, suc, Bool, true, false, ◌&&◌, ◌==◌, not, List, [], ◌∷◌, if◌then◌else◌, Option, Some, None, is_none}
-use Rattle.scx_dsq.specs.Queues.{front_of, len_of}
+use Rattle.scx_dsq.specs.Queues.{front_of, len_of, entry_of, is_in}
 use Rattle.scx_isa_semantics.specs.declared.callbacks.Callback.TheVariants as callback
 use Rattle.scx_sched_world.specs.declared.notes.Note.{Note}
 use Rattle.scx_sched_world.specs.declared.notes.What.TheVariants.{Stop, Run, Idle}
 use Rattle.scx_weights.specs.Limits.{has_quota}
 use Rattle.scx_sched_world.specs.Ids.{global, builtin_queue, local_on}
-use Rattle.scx_sched_world.specs.World.{WorldState, with_cycling, at_callback, note_now}
-use Rattle.scx_sched_world.specs.Tasks.{local_len, after_stop, started_at, after_keep}
+use Rattle.scx_sched_world.specs.World.{WorldState, or_this, with_cycling, task_at, at_callback, note_now}
+use Rattle.scx_sched_world.specs.Tasks.{local_len, after_stop, started_at, after_run, after_switch, after_keep, to_front}
 use Rattle.scx_sched_world.specs.Ejecting.{after_catch_up, after_charge}
-use Rattle.scx_sched_machine.specs.Steps.{State, Stepped, with_world, stays, after, one_after_other, is_ejected}
+use Rattle.scx_sched_machine.specs.Steps.{State, Stepped, with_world, stays, after, one_after_other, is_ejected, is_by_linux, kicked}
 use Rattle.scx_sched_machine.specs.Callbacks.{call_back, one_task, task_and_number, cpu_and_task}
 use Rattle.scx_sched_machine.specs.Policy.{program_of}
-use Rattle.scx_sched_machine.specs.Put.{put}
+use Rattle.scx_sched_machine.specs.Put.{enters, put}
 use Rattle.scx_sched_machine.specs.Filling.{fill}
 use Rattle.scx_sched_machine.specs.Parking.{park_fronts, supply}
 
@@ -23,15 +23,30 @@ has_local s c = not (local_len s.world c == 0)
 
 -- ---- dispatch
 
+-- under Linux rules a task keeps the processor while some of its slice is left (ext.c, `dispatch_one`)
+abbrev pub keeps_slice : State → Option ℕ → Bool
+keeps_slice s None = false
+keeps_slice s (Some t) = is_by_linux s && not ((task_at s.world t).slice == 0)
+
+-- the local queue is supplied, unless the task before keeps the processor
+unfoldable pub supply_unless_kept : State → ℕ → Option ℕ → Stepped
+supply_unless_kept s c p = if keeps_slice s p then stays s else supply s c
+
+-- the task that dispatch is told of: the one before, else, under Linux rules, the one that went to sleep
+-- (ext.c, `prev_on_sch`)
+abbrev pub told_of : State → Option ℕ → Option ℕ
+told_of s p = or_this p s.world.slept
+
 -- one call of dispatch, and then the local queue is supplied
 unfoldable pub after_dispatch : State → ℕ → Option ℕ → Stepped
 after_dispatch s c p =
-    let r = call_back s callback.Dispatch (cpu_and_task c p) 0 c in
-    one_after_other r (supply r.state c)
+    let r = call_back s callback.Dispatch (cpu_and_task c (told_of s p)) 0 c in
+    one_after_other r (supply_unless_kept r.state c p)
 
--- whether dispatch is asked again: it moved or inserted a task, and the local queue is empty still
-abbrev pub asks_again : State → ℕ → Bool
-asks_again s c = (local_len s.world c == 0) && s.world.call.has_moved
+-- whether dispatch is asked again: it moved or inserted a task, the local queue is empty still, and the
+-- task before doesn't keep the processor
+abbrev pub asks_again : State → ℕ → Option ℕ → Bool
+asks_again s c p = not (keeps_slice s p) && ((local_len s.world c == 0) && s.world.call.has_moved)
 
 -- at most so many calls, as long as the local queue is empty and the last one moved something; an
 -- ejection forgets what was moved
@@ -39,7 +54,7 @@ unfoldable pub tries : ℕ → State → ℕ → Option ℕ → Stepped
 tries zero s c p = stays s
 tries (suc n) s c p =
     let d = after_dispatch s c p in
-    if asks_again d.state c then one_after_other d (tries n d.state c p) else d
+    if asks_again d.state c p then one_after_other d (tries n d.state c p) else d
 
 -- ---- on and off a processor
 
@@ -59,19 +74,30 @@ after_running s c t =
     if is_ejected s then stays (with_world s (after_catch_up s.world t))
     else call_back s callback.Running (one_task t) t c
 
+-- a task that was stopped is put; under Linux rules one with some of its slice left goes to the front of
+-- the local queue, and enqueue isn't called (ext.c, `put_prev_task_scx`)
+unfoldable pub put_back : State → ℕ → ℕ → Stepped
+put_back s c t = if keeps_slice s (Some t) then enters s t (to_front c) else put s t c 0
+
 -- the task before leaves the processor, and is put
 unfoldable pub leave : State → ℕ → Option ℕ → Stepped
 leave s c None = stays s
 leave s c (Some t) =
     let r = after_stopping (with_world s (after_stop s.world c t)) c t 1 in
-    after (note_now s.world (Stop t c) ∷ []) (one_after_other r (put r.state t c 0))
+    after (note_now s.world (Stop t c) ∷ []) (one_after_other r (put_back r.state c t))
+
+-- under Linux rules with ticks, a task that begins to run has a slice one nanosecond longer, so that one
+-- of a whole number of ticks lasts for one tick more (measured)
+unfoldable pub switched : State → ℕ → State
+switched s t =
+    if is_by_linux s && not (s.policy.tick_ms == 0) then with_world s (after_switch s.world t) else s
 
 -- that task, the front of the local queue, leaves it and runs; without one nothing is done
 abbrev pub started_if : Option ℕ → State → ℕ → Stepped
 started_if None s c = stays s
 started_if (Some t) s c =
     after (note_now s.world (Run t c) ∷ [])
-    (after_running (with_world s (started_at (Some t) s.world c)) c t)
+    (after_running (switched (with_world s (started_at (Some t) s.world c)) t) c t)
 
 -- the front of the local queue runs
 unfoldable pub start : State → ℕ → Stepped
@@ -128,22 +154,58 @@ builtin_cycle s c p ran = let f = supply s c in one_after_other f (builtin_ask f
 unfoldable pub start_or_cycle : State → ℕ → Bool → Stepped
 start_or_cycle s c ran = if has_local s c then start s c else builtin_cycle s c None ran
 
+-- who is picked before the task before leaves: under Linux rules the front of the local queue (ext.c,
+-- `do_pick_task_scx`); under plain rules nobody is, and its front runs, whoever that is by then
+unfoldable pub picked : State → ℕ → Option ℕ
+picked s c = if is_by_linux s then front_of s.world.queues (local_on c) else None
+
+-- the task that is picked gets a slice, if it has none
+abbrev pub refilled : State → Option ℕ → State
+refilled s o = with_world s (after_keep s.world o)
+
+-- whether that task, which was picked, waits in the local queue still
+abbrev pub is_local : State → ℕ → ℕ → Bool
+is_local s c t = is_in (local_on c) (entry_of s.world.queues t)
+
+-- the task that was picked runs, from wherever it waits in the local queue
+unfoldable pub start_picked : State → ℕ → ℕ → Stepped
+start_picked s c t =
+    after (note_now s.world (Run t c) ∷ []) (after_running (switched (with_world s (after_run s.world c t)) t) c t)
+
+-- where an ejection took it away the cycle begins anew
+abbrev pub start_picked_or_cycle : Option ℕ → State → ℕ → Bool → Stepped
+start_picked_or_cycle None s c ran = start_or_cycle s c ran
+start_picked_or_cycle (Some t) s c ran =
+    if is_local s c t then start_picked s c t else start_or_cycle s c ran
+
 -- the front of the local queue runs in the place of the task before, of which a callback
 -- may eject the policy
 unfoldable pub pick : State → ℕ → Option ℕ → Bool → Stepped
-pick s c p ran = let l = leave s c p in one_after_other l (start_or_cycle l.state c ran)
+pick s c p ran =
+    let l = leave (refilled s (picked s c)) c p in
+    one_after_other l (start_picked_or_cycle (picked s c) l.state c ran)
 
 -- under a policy, the front of the local queue is picked; where there is none, nobody comes
 unfoldable pub pick_or_rest : State → ℕ → Option ℕ → Bool → Stepped
 pick_or_rest s c p ran = if has_local s c then pick s c p ran else rest s c p ran
 
+-- a task that keeps the processor stays, and nothing is noted
+unfoldable pub keep_or_pick : State → ℕ → Option ℕ → Bool → Stepped
+keep_or_pick s c p ran = if keeps_slice s p then stays s else pick_or_rest s c p ran
+
 -- once dispatch was asked; where it ejected the policy, the cycle begins anew
 unfoldable pub conclude : State → ℕ → Option ℕ → Bool → Stepped
-conclude s c p ran = if is_ejected s then builtin_cycle s c p ran else pick_or_rest s c p ran
+conclude s c p ran = if is_ejected s then builtin_cycle s c p ran else keep_or_pick s c p ran
+
+-- under Linux rules a processor that gives up asking looks again as the event ends (ext/inlines.h,
+-- `scx_dispatch_sched`)
+unfoldable pub give_up : State → ℕ → Option ℕ → State
+give_up s c p = if is_by_linux s && asks_again s c p then kicked s c else s
 
 -- where neither the local queue nor that of all processors has a task, dispatch is asked
 unfoldable pub ask : State → ℕ → Option ℕ → Bool → Stepped
-ask s c p ran = let d = tries 32 s c p in one_after_other d (conclude d.state c p ran)
+ask s c p ran =
+    let d = tries 32 s c p in one_after_other d (conclude (give_up d.state c p) c p ran)
 
 -- of a processor on which that task ran and may stay, or none; `ran` says whether any ran
 -- there as the event began
@@ -173,7 +235,9 @@ stays_idle s c =
 
 -- a cycle that comes to nothing: dispatch would be asked, and nobody runs
 unfoldable pub idles : State → ℕ → Stepped
-idles s c = stays (cycling (with_world s (at_callback s.world callback.Dispatch 0 c)) None)
+idles s c =
+    let v = cycling s (Some c) in
+    stays (cycling (with_world v (at_callback v.world callback.Dispatch 0 c)) None)
 
 -- all the while the cycle is under way
 unfoldable pub cycle : State → ℕ → Option ℕ → Bool → Stepped

@@ -1,24 +1,27 @@
 -- Events: which are accepted, and what each one does.
-use Rattle.std.specs.Prelude.{ℕ, true, false, ◌==◌, nat_lt, [], ◌∷◌, length, if◌then◌else◌, Option, Some, None}
+use Rattle.std.specs.Prelude.{ℕ, Bool, true, false, ◌==◌, ◌&&◌, ◌||◌, ◌+◌, ◌%◌, not, nat_lt, [], ◌∷◌, length, if◌then◌else◌, Option, Some, None}
 use Rattle.scx_weights.specs.Refusals.{max_weight, is_outside}
 use Rattle.scx_isa_semantics.specs.declared.callbacks.Callback.TheVariants as callback
 use Rattle.scx_sched_world.specs.declared.notes.What.TheVariants as note
 use Rattle.scx_vm.specs.Programs.{VerifiedProgram}
 use Rattle.scx_sched_world.specs.declared.call.Insert.{Insert}
-use Rattle.scx_sched_world.specs.World.{WorldState, task_at, is_runnable, is_throttled, running, cpu_of, is_idle, default_choice, note_now}
+use Rattle.scx_sched_world.specs.World as world
+use Rattle.scx_sched_world.specs.World.{WorldState, with_slept, task_at, is_runnable, is_throttled, running, cpu_of, is_idle, choice, default_choice, after_claim, at_callback, note_now}
 use Rattle.scx_sched_world.specs.declared.eject.Eject.TheVariants as cause
-use Rattle.scx_sched_world.specs.Tasks.{for_cpu, after_wake, after_sleep, after_leave, after_stop, after_tick, used_ms, later, begun_periods, after_reweigh}
+use Rattle.scx_sched_world.specs.Tasks.{for_cpu, to_local, homed, after_wake, after_sleep, after_leave, after_stop, after_tick, used_ms, later, begun_periods, after_reweigh}
+use Rattle.scx_sched_world.specs.Helpers.{with_insert}
 use Rattle.scx_sched_world.specs.Waits.{first_overdue}
 use Rattle.scx_sched_machine.specs.declared.events.Event.{Event}
 use Rattle.scx_sched_machine.specs.declared.events.Event.TheVariants.{Wake, Sleep, Tick, Clock, SetWeight}
 use Rattle.scx_sched_machine.specs.declared.events.Refused.{Refused}
 use Rattle.scx_sched_machine.specs.declared.events.Refused.TheVariants.{AlreadyRunnable, NotRunnable, UnknownTask, UnknownCpu, UnknownGroup, BadWeight}
-use Rattle.scx_sched_machine.specs.Steps.{State, Stepped, with_world, stays, after, one_after_other, is_ejected}
+use Rattle.scx_sched_machine.specs.Steps.{State, Stepped, with_world, stays, after, one_after_other, is_ejected, is_by_linux, kicked_if_idle}
 use Rattle.scx_sched_machine.specs.Ejecting.{eject}
 use Rattle.scx_sched_machine.specs.Callbacks.{acting, call_back, answered_by, task_cpu_and_0}
 use Rattle.scx_sched_machine.specs.Put.{enters, put}
 use Rattle.scx_sched_machine.specs.Parking.{park, let_all_go}
 use Rattle.scx_sched_machine.specs.Cycle.{after_stopping, cycle}
+use Rattle.scx_sched_machine.specs.Rounds.{with_rounds}
 
 -- ---- refusals
 
@@ -57,31 +60,72 @@ abbrev pub insert_or_put : Option Insert → State → ℕ → ℕ → Stepped
 insert_or_put None s t c = put s t c 1
 insert_or_put (Some i) s t c = enters s t (for_cpu c i)
 
--- and a target that is idle looks for a task
+-- a target that is idle looks for a task: under Linux rules as the event ends, else at once
+unfoldable pub wake_target : State → ℕ → Stepped
+wake_target s c =
+    if is_by_linux s then stays (kicked_if_idle s c)
+    else (if is_idle s.world c then cycle s c None false else stays s)
+
+-- the task comes to wait for the target, which under Linux rules is its processor from then on, and a
+-- target that is idle looks for a task
 unfoldable pub settle : State → ℕ → ℕ → Stepped
 settle s t c =
-    let r = insert_or_put s.world.call.insert s t c in
-    if is_idle r.state.world c then one_after_other r (cycle r.state c None false) else r
+    let v = with_world s (homed s.world t c) in
+    let r = insert_or_put v.world.call.insert v t c in
+    one_after_other r (wake_target r.state c)
+
+-- the task is to come into the local queue of the processor that was chosen, if one was
+abbrev pub inserted_by_choice : WorldState → Option ℕ → WorldState
+inserted_by_choice w None = w
+inserted_by_choice w (Some c) = with_insert w (to_local c)
+
+-- under Linux rules the default choice claims its processor, and inserts the task into the local queue
+-- there (ext.c, `select_task_rq_scx`)
+abbrev pub chosen_by_default : WorldState → ℕ → WorldState
+chosen_by_default w t =
+    if world.is_by_linux w then inserted_by_choice (after_claim w (choice w t)) (choice w t) else w
+
+-- where no program was asked, the processor is chosen by default
+abbrev pub chosen : Option VerifiedProgram → State → ℕ → State
+chosen None s t = with_world s (chosen_by_default s.world t)
+chosen (Some p) s t = s
 
 -- select_cpu is asked, with the processor at hand on which the task ran last
-unfoldable pub select : State → ℕ → Stepped
-select s t =
+unfoldable pub ask_target : State → ℕ → Stepped
+ask_target s t =
     let c = (task_at s.world t).prev_cpu in
     let r = call_back s callback.SelectCpu (task_cpu_and_0 t c) t c in
-    one_after_other r (settle r.state t (target (acting r.state callback.SelectCpu) r.state.world t
-    (answered_by s callback.SelectCpu (task_cpu_and_0 t c) t c)))
+    let n = target (acting r.state callback.SelectCpu) r.state.world t
+    (answered_by s callback.SelectCpu (task_cpu_and_0 t c) t c) in
+    one_after_other r (settle (chosen (acting r.state callback.SelectCpu) r.state t) t n)
+
+-- under Linux rules nobody is asked where there is one processor alone (ext/idle.c,
+-- `scx_select_cpu_dfl`)
+abbrev pub asks_target : State → Bool
+asks_target s = not (is_by_linux s && (length s.world.cpus == 1))
+
+-- the target of a task that wakes is asked for, or is the only processor
+unfoldable pub select : State → ℕ → Stepped
+select s t =
+    if asks_target s then ask_target s t
+    else settle (with_world s (at_callback s.world callback.SelectCpu t 0)) t 0
 
 -- a task wakes: it is noted, the task waits from now on, and select_cpu is asked
 unfoldable pub wake : State → ℕ → Stepped
 wake s t =
     after (note_now s.world (note.Wake t) ∷ []) (select (with_world s (after_wake s.world t)) t)
 
+-- under Linux rules dispatch is told of the task that goes to sleep
+unfoldable pub told_of_sleep : State → ℕ → State
+told_of_sleep s t = if is_by_linux s then with_world s (with_slept s.world t) else s
+
 -- a task that runs leaves its processor, which looks for another
 unfoldable pub sleep_from_cpu : State → ℕ → ℕ → Stepped
 sleep_from_cpu s t c =
     let r = after_stopping (with_world s (after_stop s.world c t)) c t 0 in
     after (note_now s.world (note.Stop t c) ∷ [])
-    (one_after_other r (cycle (with_world r.state (after_sleep r.state.world t)) c None true))
+    (one_after_other r
+    (cycle (told_of_sleep (with_world r.state (after_sleep r.state.world t)) t) c None true))
 
 -- a task goes to sleep from that processor, or, where it runs on none, from its queue
 abbrev pub sleep_from : Option ℕ → State → ℕ → Stepped
@@ -101,9 +145,17 @@ throttle s c t =
     after (note_now s.world (note.Stop t c) ∷ [])
     (one_after_other r (one_after_other p (cycle p.state c None true)))
 
+-- whether a slice that has run out ends by now: under Linux rules with ticks, at a tick alone (ext.c,
+-- `task_tick_scx`)
+unfoldable pub ends_slices : State → Bool
+ends_slices s =
+    not (is_by_linux s)
+    || ((s.policy.tick_ms == 0) || ((s.world.clock + 1) % s.policy.tick_ms == 0))
+
 -- a task whose slice has run out may be replaced
 unfoldable pub expire : State → ℕ → ℕ → Stepped
-expire s c t = if (task_at s.world t).slice == 0 then cycle s c (Some t) true else stays s
+expire s c t =
+    if ((task_at s.world t).slice == 0) && ends_slices s then cycle s c (Some t) true else stays s
 
 -- a task has run for a millisecond, which its groups have used
 unfoldable pub count_down : State → ℕ → ℕ → Stepped
@@ -111,9 +163,14 @@ count_down s c t =
     let v = with_world s (used_ms (after_tick s.world t) t) in
     if is_throttled v.world t then throttle v c t else expire v c t
 
--- a processor ran that task for a millisecond; where it ran none, it looks for one
+-- a processor that runs no task looks for one; under Linux rules it sleeps until it is given work
+-- (ext.c, `task_tick_scx` is called for a task that runs)
+unfoldable pub tick_idle : State → ℕ → Stepped
+tick_idle s c = if is_by_linux s then stays s else cycle s c None false
+
+-- a processor ran that task for a millisecond, or none
 abbrev pub tick_of : Option ℕ → State → ℕ → Stepped
-tick_of None s c = cycle s c None false
+tick_of None s c = tick_idle s c
 tick_of (Some t) s c = count_down s c t
 
 -- a processor ran for a millisecond, whether a task runs on it or none does
@@ -137,14 +194,18 @@ clock s =
     let r = let_all_go (with_world s (begun_periods (later s.world))) in
     one_after_other r (eject_if_stalled (overdue r.state) r.state)
 
--- what an accepted event does
-abbrev pub event_step : State → Event → Stepped
-event_step s (Wake t) = wake s t
-event_step s (Sleep t) = sleep s t
-event_step s (Tick c) = tick s c
-event_step s Clock = clock s
-event_step s (SetWeight g x) = record {
+-- what an accepted event does, before processors look for work
+abbrev pub own_step : State → Event → Stepped
+own_step s (Wake t) = wake s t
+own_step s (Sleep t) = sleep s t
+own_step s (Tick c) = tick s c
+own_step s Clock = clock s
+own_step s (SetWeight g x) = record {
   state = with_world s (after_reweigh s.world g x);
   notes = note_now s.world (note.Weight g x) ∷ [];
   calls = [];
 }
+
+-- what an accepted event does
+abbrev pub event_step : State → Event → Stepped
+event_step s e = with_rounds (own_step s e)

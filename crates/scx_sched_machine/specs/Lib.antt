@@ -10,5 +10,6 @@ pub mod Put
 pub mod Filling
 pub mod Parking
 pub mod Cycle
+pub mod Rounds
 pub mod Events
 pub mod Start

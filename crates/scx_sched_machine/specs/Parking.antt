@@ -6,7 +6,7 @@ use Rattle.scx_sched_world.specs.declared.notes.What.TheVariants as note
 use Rattle.scx_sched_world.specs.Ids.{global, parked_queue, local_on}
 use Rattle.scx_sched_world.specs.World.{WorldState, task_at, is_throttled, note_now}
 use Rattle.scx_sched_world.specs.Tasks.{put_parked, after_take, let_go}
-use Rattle.scx_sched_machine.specs.Steps.{State, Stepped, with_world, stays, one_after_other}
+use Rattle.scx_sched_machine.specs.Steps.{State, Stepped, with_world, stays, one_after_other, kicked_if_idle}
 use Rattle.scx_sched_machine.specs.Filling.{fill}
 use Rattle.scx_sched_machine.specs.Put.{put}
 
@@ -62,10 +62,13 @@ supply s c = clear (in_reach s c) s c
 
 -- ---- once the clock has grown
 
--- the task is parked no more, waits from now on, and is put as for the processor on
--- which it ran last
+-- the task is parked no more, waits from now on, and is put as for its processor, which under Linux
+-- rules looks for work as the event ends, if it is idle
 unfoldable pub let_go_one : State → ℕ → Stepped
-let_go_one s t = put (with_world s (let_go s.world t)) t (task_at s.world t).prev_cpu 0
+let_go_one s t =
+    let c = (task_at s.world t).prev_cpu in
+    let r = put (with_world s (let_go s.world t)) t c 0 in
+    record r { state = kicked_if_idle r.state c }
 
 -- of the parked those that may run again are let go, in their order from that one on; at most
 -- so many are looked at

@@ -2,26 +2,46 @@
 use Rattle.std.specs.Prelude.{◌≡◌, ℕ, ⊤, ◌≤◌, List, Option, Some, None}
 use Rattle.scx_maps.specs.declared.shape.Shape.{Shape}
 use Rattle.scx_isa_semantics.specs.declared.callbacks.Callback.{Callback}
+use Rattle.scx_isa_semantics.specs.declared.rules.Rules.{Rules}
+use Rattle.scx_isa_semantics.specs.declared.rules.Rules.TheVariants.{Plain, Linux}
 use Rattle.scx_isa_semantics.specs.declared.per_callback.PerCallback.{PerCallback}
 use Rattle.scx_isa_semantics.specs.Callbacks.{at}
 use Rattle.scx_vm.specs.Programs.{VerifiedProgram}
 use Rattle.scx_sched_machine.specs.declared.policy.BadPolicy.{BadPolicy}
-use Rattle.scx_sched_machine.specs.declared.policy.BadPolicy.TheVariants.{BadTimeout, OtherCallback, OtherMaps}
+use Rattle.scx_sched_machine.specs.declared.policy.BadPolicy.TheVariants.{BadTimeout, OtherCallback, OtherMaps, OtherRules}
 
 -- the programs of a policy, one for each callback or none
 abbrev pub Programs : Type 0
 Programs = PerCallback (Option VerifiedProgram)
 
--- a policy: the shapes of its maps, how many milliseconds a task may wait, and its programs
+-- a policy: the shapes of its maps, how many milliseconds a task may wait, by whose rules the machine
+-- goes while it is in force, how many milliseconds there are from tick to tick (0 where slices end
+-- exactly), and its programs
 pub record PolicyState : Type 0 where
   pub shapes : List Shape
   pub timeout_ms : ℕ
+  pub rules : Rules
+  pub tick_ms : ℕ
   pub callbacks : Programs
 
--- the policy with these shapes of maps, that timeout in milliseconds, and these programs
+-- the policy by these rules, with these shapes of maps, that timeout in milliseconds, and these
+-- programs, whose slices end exactly
+abbrev pub policy_by : Rules → List Shape → ℕ → Programs → PolicyState
+policy_by rules shapes timeout callbacks = record {
+  shapes = shapes;
+  timeout_ms = timeout;
+  rules = rules;
+  tick_ms = 0;
+  callbacks = callbacks;
+}
+
+-- the policy with ticks so many milliseconds apart
+abbrev pub with_ticks : PolicyState → ℕ → PolicyState
+with_ticks p n = record p { tick_ms = n }
+
+-- the policy by plain rules
 abbrev pub policy_of : List Shape → ℕ → Programs → PolicyState
-policy_of shapes timeout callbacks =
-    record { shapes = shapes; timeout_ms = timeout; callbacks = callbacks }
+policy_of shapes timeout callbacks = policy_by Plain shapes timeout callbacks
 
 -- the program of a callback
 abbrev pub program_of : PolicyState → Callback → Option VerifiedProgram
@@ -51,8 +71,21 @@ HasMaps shapes (Some p) = p.context.defs ≡ shapes
 abbrev pub HaveMaps : List Shape → Programs → Type 0
 HaveMaps shapes c = (b : Callback) → HasMaps shapes (at c b)
 
+-- the program, if there is one, was verified by those rules, or by plain ones: whatever plain rules
+-- accept, Linux rules accept
+abbrev pub IsBy : Rules → Option VerifiedProgram → Type 0
+IsBy rules None = ⊤
+IsBy Linux (Some p) = ⊤
+IsBy Plain (Some p) = p.context.rules ≡ Plain
+
+-- each program that there is was verified by rules that the policy may go by
+abbrev pub AreBy : Rules → Programs → Type 0
+AreBy rules c = (b : Callback) → IsBy rules (at c b)
+
 -- of several causes the first
-abbrev pub IsFault : List Shape → ℕ → Programs → BadPolicy → Type 0
-IsFault shapes timeout c BadTimeout = ¬ IsTimeout timeout
-IsFault shapes timeout c OtherCallback = IsTimeout timeout × ¬ AreAs c
-IsFault shapes timeout c OtherMaps = IsTimeout timeout × AreAs c × ¬ HaveMaps shapes c
+abbrev pub IsFault : Rules → List Shape → ℕ → Programs → BadPolicy → Type 0
+IsFault rules shapes timeout c BadTimeout = ¬ IsTimeout timeout
+IsFault rules shapes timeout c OtherCallback = IsTimeout timeout × ¬ AreAs c
+IsFault rules shapes timeout c OtherMaps = IsTimeout timeout × AreAs c × ¬ HaveMaps shapes c
+IsFault rules shapes timeout c OtherRules =
+    IsTimeout timeout × AreAs c × HaveMaps shapes c × ¬ AreBy rules c

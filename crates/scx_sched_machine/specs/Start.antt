@@ -7,7 +7,7 @@ use Rattle.scx_weights.specs.Counting.{any_below}
 use Rattle.scx_isa_semantics.specs.declared.callbacks.Callback.TheVariants as callback
 use Rattle.scx_isa_semantics.specs.Endings.{Ending}
 use Rattle.scx_sched_world.specs.declared.faults.Fault.{Fault}
-use Rattle.scx_sched_world.specs.World.{WorldState, at_callback}
+use Rattle.scx_sched_world.specs.World.{WorldState, with_rules, at_callback}
 use Rattle.scx_sched_world.specs.First.{first_world}
 use Rattle.scx_sched_world.specs.Tasks.{begun_periods}
 use Rattle.scx_sched_machine.specs.declared.start.NewError.{NewError}
@@ -21,10 +21,13 @@ abbrev pub is_bad_shape : Hierarchy → ℕ → Bool
 is_bad_shape tree cpus =
     nat_lt cpus 1 || (nat_lt 64 cpus || any_below (length tree.homes) (λ t. is_active_task tree t))
 
--- before any callback; periods of all groups begin
+-- before any callback, by the policy's rules; periods of all groups begin
 abbrev pub blank : PolicyState → Hierarchy → ℕ → State
-blank p tree cpus =
-    record { policy = p; maps = zeros p.shapes; world = begun_periods (first_world tree cpus) }
+blank p tree cpus = record {
+  policy = p;
+  maps = zeros p.shapes;
+  world = begun_periods (with_rules (first_world tree cpus) p.rules);
+}
 
 -- ---- init
 

@@ -1,11 +1,12 @@
 -- The state of the machine, and what a step of it leaves, notes and calls.
-use Rattle.std.specs.Prelude.{List, [], ◌++◌, Bool, is_some}
+use Rattle.std.specs.Prelude.{ℕ, List, [], ◌++◌, Bool, ◌&&◌, if◌then◌else◌, is_some}
 use Rattle.scx_isa_semantics.specs.declared.callbacks.Callback.{Callback}
 use Rattle.scx_isa_semantics.specs.Elements.{Maps}
 use Rattle.scx_vm.specs.Programs.{VerifiedProgram}
 use Rattle.scx_vm.specs.declared.arguments.Args.{Args}
 use Rattle.scx_sched_world.specs.declared.notes.Note.{Note}
-use Rattle.scx_sched_world.specs.World.{WorldState}
+use Rattle.scx_sched_world.specs.World as world
+use Rattle.scx_sched_world.specs.World.{WorldState, with_kick, is_idle}
 use Rattle.scx_sched_machine.specs.Policy.{PolicyState}
 
 -- a machine at one time: its policy, what its maps hold, and its world
@@ -36,6 +37,18 @@ with_world s w = record s { world = w }
 -- the policy was put out of force
 abbrev pub is_ejected : State → Bool
 is_ejected s = is_some s.world.ejected
+
+-- the machine goes by Linux rules
+abbrev pub is_by_linux : State → Bool
+is_by_linux s = world.is_by_linux s.world
+
+-- the processor looks for work as the event ends
+abbrev pub kicked : State → ℕ → State
+kicked s c = with_world s (with_kick s.world c)
+
+-- under Linux rules, if it is idle
+abbrev pub kicked_if_idle : State → ℕ → State
+kicked_if_idle s c = if is_by_linux s && is_idle s.world c then kicked s c else s
 
 -- the step that changes nothing, notes nothing and calls no callback
 abbrev pub stays : State → Stepped

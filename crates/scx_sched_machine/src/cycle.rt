@@ -1,15 +1,15 @@
-ghost use Rattle.std.specs.Prelude.{◌≡◌, ◌*◌, false, None};
+ghost use Rattle.std.specs.Prelude.{◌≡◌, ◌*◌, true, false, None};
 ghost use Rattle.scx_sched_world.specs.Ids.{global};
-ghost use Rattle.scx_sched_machine.specs.Budgets.{HasRoom, ask_pushes, builtin_ask_pushes, builtin_cycle_pushes, builtin_dispatch_pushes, callback_pushes, cycle_pushes, dispatch_pushes, fill_pushes, leave_pushes, pick_pushes, swap_pushes};
+ghost use Rattle.scx_sched_machine.specs.Budgets.{HasRoom, ask_pushes, builtin_ask_pushes, builtin_cycle_pushes, builtin_dispatch_pushes, callback_pushes, cycle_pushes, dispatch_pushes, fill_pushes, leave_pushes, pick_pushes, put_pushes, supply_pushes, swap_pushes};
 ghost use Rattle.scx_sched_machine.specs.Does.{Goes};
 ghost use Rattle.scx_sched_machine.specs.Filling.{fill};
-ghost use Rattle.scx_sched_machine.specs.Cycle.{after_dispatch, tries, after_stopping, after_running, leave, start, rest, swap, swap_or_rest, builtin_dispatch, builtin_fill, builtin_ask, builtin_cycle, start_or_cycle, pick, pick_or_rest, conclude, ask, seek, look, stays_idle, idles, cycle};
+ghost use Rattle.scx_sched_machine.specs.Cycle.{supply_unless_kept, after_dispatch, tries, after_stopping, after_running, put_back, leave, switched, start, rest, swap, swap_or_rest, builtin_dispatch, builtin_fill, builtin_ask, builtin_cycle, start_or_cycle, picked, start_picked, start_picked_or_cycle, pick, pick_or_rest, keep_or_pick, conclude, give_up, ask, seek, look, stays_idle, idles, cycle};
 
 use crate::callbacks::{cpu_and_task, one_task, task_and_number};
 use crate::machine::Machine;
 use crate::sink::Hearer;
 use scx_isa::Callback;
-use scx_sched_world::{BUILTIN, What};
+use scx_sched_world::{BUILTIN, Insert, LOCAL_ON, What};
 
 impl Machine {
     /// Where the local queue is empty, the front of another comes to it.
@@ -38,6 +38,19 @@ impl Machine {
         }
     }
 
+    /// Supplies the local queue, unless the task before keeps the CPU.
+    #[inline(always)]
+    #[tactic(auto, unfolding(crate::specs::Cycle::supply_unless_kept), using(crate::proofs::Taking::takings))]
+    fn supply_unless_kept<H: Hearer>(&mut self, cpu: u32, before: Option<u16>, hearer: &mut H)
+        requires { HasRoom supply_pushes self.old }
+        ensures { Goes H.noted H.takes H.told H.hears supply_pushes
+            (supply_unless_kept self.old cpu before) self.old hearer.old self.new hearer.new }
+    {
+        if !self.keeps_slice(before) {
+            self.supply(cpu, hearer);
+        }
+    }
+
     /// Asks dispatch once, and then supplies the local queue.
     #[inline(always)]
     #[tactic(auto, unfolding(crate::specs::Cycle::after_dispatch), using(crate::proofs::Taking::takings))]
@@ -48,12 +61,12 @@ impl Machine {
     {
         self.call_back(
             Callback::Dispatch,
-            cpu_and_task(cpu, before),
+            cpu_and_task(cpu, self.told_of(before)),
             0,
             cpu,
             hearer,
         );
-        self.supply(cpu, hearer);
+        self.supply_unless_kept(cpu, before, hearer);
     }
 
     /// Calls dispatch, at most that many times.
@@ -67,7 +80,7 @@ impl Machine {
             return;
         }
         self.call_dispatch(cpu, before, hearer);
-        if self.asks_again(cpu) {
+        if self.asks_again(cpu, before) {
             self.tries(left - 1, cpu, before, hearer);
         }
     }
@@ -109,6 +122,22 @@ impl Machine {
         }
     }
 
+    /// A task that was stopped is put. Under Linux rules one with some of its slice left goes to the front of the
+    /// local queue.
+    #[inline(always)]
+    #[tactic(auto, unfolding(crate::specs::Cycle::put_back), using(crate::proofs::Taking::takings))]
+    fn put_back<H: Hearer>(&mut self, cpu: u32, task: u16, hearer: &mut H)
+        requires { HasRoom put_pushes self.old }
+        ensures { Goes H.noted H.takes H.told H.hears put_pushes (put_back self.old cpu task)
+            self.old hearer.old self.new hearer.new }
+    {
+        if self.keeps_slice(Some(task)) {
+            self.enter(task, Insert::front(cpu), hearer);
+        } else {
+            self.put(task, cpu, 0, hearer);
+        }
+    }
+
     /// The task before leaves the processor, and is put.
     #[inline(always)]
     #[tactic(auto, unfolding(crate::specs::Cycle::leave), using(crate::proofs::Taking::takings))]
@@ -121,7 +150,19 @@ impl Machine {
             hearer.note(self.world.note(What::Stop(task, cpu)));
             self.world.stop(cpu, task);
             self.call_stopping(cpu, task, 1, hearer);
-            self.put(task, cpu, 0, hearer);
+            self.put_back(cpu, task, hearer);
+        }
+    }
+
+    /// Under Linux rules with ticks, a task that begins to run has a slice one nanosecond longer.
+    #[inline(always)]
+    #[tactic(auto, unfolding(crate::specs::Cycle::switched))]
+    fn switch(&mut self, task: u16)
+        ensures state { self.new ≡ switched self.old task }
+        ensures few { self.new.world.queues.pushes ≡ self.old.world.queues.pushes }
+    {
+        if self.is_by_linux() && self.policy.tick_ms() != 0 {
+            self.world.lengthen_slice(task);
         }
     }
 
@@ -135,6 +176,7 @@ impl Machine {
     {
         if let Some(task) = self.world.start(cpu) {
             hearer.note(self.world.note(What::Run(task, cpu)));
+            self.switch(task);
             self.call_running(cpu, task, hearer);
         }
     }
@@ -240,6 +282,61 @@ impl Machine {
         }
     }
 
+    /// The task that is picked before the one before leaves: under Linux rules alone.
+    #[inline(always)]
+    #[tactic(auto, unfolding(crate::specs::Cycle::picked))]
+    fn picked(&self, cpu: u32) -> Option<u16>
+        ensures { result ≡ picked self.now cpu }
+    {
+        if self.is_by_linux() {
+            self.world.front(LOCAL_ON + u64::from(cpu))
+        } else {
+            None
+        }
+    }
+
+    /// The task that was picked runs, from wherever it waits in the local queue.
+    #[inline(never)]
+    #[tactic(auto, unfolding(crate::specs::Cycle::start_picked), using(crate::proofs::Taking::takings))]
+    fn start_picked<H: Hearer>(&mut self, cpu: u32, task: u16, hearer: &mut H)
+        requires { HasRoom callback_pushes self.old }
+        ensures { Goes H.noted H.takes H.told H.hears callback_pushes (start_picked self.old cpu task)
+            self.old hearer.old self.new hearer.new }
+    {
+        hearer.note(self.world.note(What::Run(task, cpu)));
+        self.world.run(cpu, task);
+        self.switch(task);
+        self.call_running(cpu, task, hearer);
+    }
+
+    /// The task that was picked runs. An ejection may have taken it away; then the cycle begins anew. Without one
+    /// the front of the local queue runs.
+    #[inline(always)]
+    #[tactic(auto, using(crate::proofs::Taking::takings))]
+    fn start_picked_or_cycle<H: Hearer>(
+        &mut self,
+        picked: Option<u16>,
+        cpu: u32,
+        ran: bool,
+        hearer: &mut H,
+    )
+        requires { HasRoom builtin_cycle_pushes self.old }
+        ensures { Goes H.noted H.takes H.told H.hears builtin_cycle_pushes
+            (start_picked_or_cycle picked self.old cpu ran)
+            self.old hearer.old self.new hearer.new }
+    {
+        match picked {
+            Some(task) => {
+                if self.world.is_local(cpu, task) {
+                    self.start_picked(cpu, task, hearer);
+                } else {
+                    self.start_or_cycle(cpu, ran, hearer);
+                }
+            }
+            None => self.start_or_cycle(cpu, ran, hearer),
+        }
+    }
+
     /// The front of the local queue runs in the place of the task before.
     #[inline(never)]
     #[tactic(auto, unfolding(crate::specs::Cycle::pick), using(crate::proofs::Taking::takings))]
@@ -248,8 +345,10 @@ impl Machine {
         ensures { Goes H.noted H.takes H.told H.hears pick_pushes (pick self.old cpu before ran)
             self.old hearer.old self.new hearer.new }
     {
+        let picked = self.picked(cpu);
+        self.world.keep(picked);
         self.leave(cpu, before, hearer);
-        self.start_or_cycle(cpu, ran, hearer);
+        self.start_picked_or_cycle(picked, cpu, ran, hearer);
     }
 
     /// Runs the front of the local queue, if there is one.
@@ -266,6 +365,19 @@ impl Machine {
         }
     }
 
+    /// A task that keeps the CPU stays. Else the front of the local queue runs, if there is one.
+    #[inline(always)]
+    #[tactic(auto, unfolding(crate::specs::Cycle::keep_or_pick), using(crate::proofs::Taking::takings))]
+    fn keep_or_pick<H: Hearer>(&mut self, cpu: u32, before: Option<u16>, ran: bool, hearer: &mut H)
+        requires { HasRoom pick_pushes self.old }
+        ensures { Goes H.noted H.takes H.told H.hears pick_pushes
+            (keep_or_pick self.old cpu before ran) self.old hearer.old self.new hearer.new }
+    {
+        if !self.keeps_slice(before) {
+            self.pick_or_rest(cpu, before, ran, hearer);
+        }
+    }
+
     /// Dispatch was asked. Where it ejected the policy, the cycle begins anew.
     #[tactic(auto, unfolding(crate::specs::Cycle::conclude), using(crate::proofs::Taking::takings))]
     fn conclude<H: Hearer>(&mut self, cpu: u32, before: Option<u16>, ran: bool, hearer: &mut H)
@@ -276,7 +388,19 @@ impl Machine {
         if self.is_ejected() {
             self.builtin_cycle(cpu, before, ran, hearer);
         } else {
-            self.pick_or_rest(cpu, before, ran, hearer);
+            self.keep_or_pick(cpu, before, ran, hearer);
+        }
+    }
+
+    /// Under Linux rules a CPU whose last call of dispatch would lead to another looks again as the event ends.
+    #[inline(always)]
+    #[tactic(auto, unfolding(crate::specs::Cycle::give_up))]
+    fn give_up(&mut self, cpu: u32, before: Option<u16>)
+        ensures state { self.new ≡ give_up self.old cpu before }
+        ensures few { self.new.world.queues.pushes ≡ self.old.world.queues.pushes }
+    {
+        if self.is_by_linux() && self.asks_again(cpu, before) {
+            self.kick(cpu);
         }
     }
 
@@ -288,6 +412,7 @@ impl Machine {
             self.old hearer.old self.new hearer.new }
     {
         self.tries(32, cpu, before, hearer);
+        self.give_up(cpu, before);
         self.conclude(cpu, before, ran, hearer);
     }
 
@@ -340,6 +465,7 @@ impl Machine {
         ensures { Goes H.noted H.takes H.told H.hears 0 (idles self.old cpu)
             self.old hearer.old self.new hearer.new }
     {
+        self.world.set_cycling(Some(cpu));
         self.world.begin(Callback::Dispatch, 0, cpu);
         self.world.set_cycling(None);
     }

@@ -1,19 +1,21 @@
-ghost use Rattle.std.specs.Prelude.{◌≡◌, ℕ, ◌+◌, ◌<◌, ◌≤◌, ◌^◌, length, Some, None};
+ghost use Rattle.std.specs.Prelude.{◌≡◌, ℕ, ◌+◌, ◌<◌, ◌≤◌, ◌^◌, true, length, Some, None};
 ghost use Rattle.scx_weights.specs.Limits.{usage_of};
 ghost use Rattle.scx_sched_world.specs.World.{task_at};
-ghost use Rattle.scx_sched_machine.specs.Budgets.{HasRoom, clock_pushes, cycle_pushes, eject_pushes, event_pushes, put_pushes, settle_pushes, sleep_pushes, throttle_pushes, wake_pushes};
+ghost use Rattle.scx_sched_machine.specs.Steps.{is_by_linux};
+ghost use Rattle.scx_sched_machine.specs.Budgets.{HasRoom, clock_pushes, cycle_pushes, eject_pushes, event_pushes, own_pushes, put_pushes, settle_pushes, sleep_pushes, throttle_pushes, wake_pushes};
 ghost use Rattle.scx_sched_machine.specs.Does.{Does, Goes};
 ghost use Rattle.scx_sched_machine.specs.Notes.{Takes};
 ghost use Rattle.scx_isa_semantics.specs.declared.callbacks.Callback.TheVariants.{SelectCpu};
 ghost use Rattle.scx_sched_machine.specs.Callbacks.{acting, AreAnswered};
 ghost use Rattle.scx_sched_machine.specs.declared.events.Event.TheVariants.{Wake, Sleep, SetWeight};
-ghost use Rattle.scx_sched_machine.specs.Events.{refusal, target, insert_or_put, settle, select, wake, sleep_from_cpu, sleep, throttle, expire, count_down, tick, overdue, eject_if_stalled, clock, event_step};
+ghost use Rattle.scx_sched_machine.specs.Events.{refusal, target, insert_or_put, wake_target, settle, chosen, ask_target, asks_target, select, wake, told_of_sleep, sleep_from_cpu, sleep, throttle, ends_slices, expire, count_down, tick_idle, tick, overdue, eject_if_stalled, clock, own_step, event_step};
 
 use crate::callbacks::task_cpu_and_0;
 use crate::machine::Machine;
+use crate::rounds::MOST_ROUNDS;
 use crate::sink::{Hearer, Sink};
 use scx_isa::Callback;
-use scx_sched_world::{Eject, What};
+use scx_sched_world::{Eject, Insert, What};
 use scx_weights::is_weight;
 use thiserror::Error;
 
@@ -143,31 +145,94 @@ impl Machine {
         }
     }
 
-    /// A task that woke comes to wait, and a target that is idle looks for a task.
+    /// A target that is idle looks for a task: under Linux rules as the event ends, else at once.
+    #[inline(always)]
+    #[tactic(auto, unfolding(crate::specs::Events::wake_target), using(crate::proofs::Taking::takings))]
+    fn wake_target<H: Hearer>(&mut self, cpu: u32, hearer: &mut H)
+        requires { HasRoom cycle_pushes self.old }
+        ensures { Goes H.noted H.takes H.told H.hears cycle_pushes (wake_target self.old cpu)
+            self.old hearer.old self.new hearer.new }
+    {
+        if self.is_by_linux() {
+            self.kick_if_idle(cpu);
+        } else if self.world.is_idle(cpu) {
+            self.cycle(cpu, None, false, hearer);
+        }
+    }
+
+    /// A task that woke comes to wait for the target, and a target that is idle looks for a task.
     #[tactic(auto, unfolding(crate::specs::Events::settle), using(crate::proofs::Taking::takings))]
     fn settle<H: Hearer>(&mut self, task: u16, cpu: u32, hearer: &mut H)
         requires { HasRoom settle_pushes self.old }
         ensures { Goes H.noted H.takes H.told H.hears settle_pushes (settle self.old task cpu)
             self.old hearer.old self.new hearer.new }
     {
+        self.world.set_home(task, cpu);
         self.apply_or_put(task, cpu, hearer);
-        if self.world.is_idle(cpu) {
-            self.cycle(cpu, None, false, hearer);
+        self.wake_target(cpu, hearer);
+    }
+
+    /// Where no program was asked, Linux rules claim the CPU that is chosen by default, and insert the task into
+    /// its local queue.
+    #[inline(always)]
+    fn choose(&mut self, task: u16)
+        ensures state { self.new ≡ chosen (acting self.old SelectCpu) self.old task }
+        ensures few { self.new.world.queues.pushes ≡ self.old.world.queues.pushes }
+    {
+        if self.is_by_linux() && self.policy.program(Callback::SelectCpu).is_none() {
+            self.choose_by_default(task);
+        }
+    }
+
+    /// Claims the CPU that is chosen for the task, if one is, and inserts the task into its local queue.
+    fn choose_by_default(&mut self, task: u16)
+        requires { is_by_linux self.old ≡ true }
+        ensures state { self.new ≡ chosen None self.old task }
+        ensures few { self.new.world.queues.pushes ≡ self.old.world.queues.pushes }
+    {
+        if let Some(cpu) = self.world.choice(task) {
+            self.world.claim(Some(cpu));
+            self.world.keep_insert(Insert::local(cpu));
         }
     }
 
     /// Asks select_cpu for which processor the task is to be put.
-    #[tactic(auto, unfolding(crate::specs::Events::select), using(crate::proofs::Taking::takings))]
-    fn select<H: Hearer>(&mut self, task: u16, hearer: &mut H)
+    #[inline(always)]
+    #[tactic(auto, unfolding(crate::specs::Events::ask_target), using(crate::proofs::Taking::takings))]
+    fn ask_target<H: Hearer>(&mut self, task: u16, hearer: &mut H)
         requires { HasRoom wake_pushes self.old }
-        ensures { Goes H.noted H.takes H.told H.hears wake_pushes (select self.old task)
+        ensures { Goes H.noted H.takes H.told H.hears wake_pushes (ask_target self.old task)
             self.old hearer.old self.new hearer.new }
     {
         let prev = self.world.task(task).prev_cpu;
         let arguments = task_cpu_and_0(task, prev);
         let answer = self.call_back(Callback::SelectCpu, arguments, task, prev, hearer);
         let cpu = self.target(task, answer);
+        self.choose(task);
         self.settle(task, cpu, hearer);
+    }
+
+    /// True if select_cpu is asked: under Linux rules only where there is more than one CPU.
+    #[inline(always)]
+    fn asks_target(&self) -> bool
+        ensures { result ≡ asks_target self.now }
+    {
+        !(self.is_by_linux() && self.world.cpus() == 1)
+    }
+
+    /// The target of a task that wakes is asked for, or is the only CPU.
+    #[tactic(auto, unfolding(crate::specs::Events::select), using(crate::proofs::Taking::takings))]
+    fn select<H: Hearer>(&mut self, task: u16, hearer: &mut H)
+        requires { HasRoom wake_pushes self.old }
+        ensures { Goes H.noted H.takes H.told H.hears wake_pushes (select self.old task)
+            self.old hearer.old self.new hearer.new }
+    {
+        if self.asks_target() {
+            self.ask_target(task, hearer);
+        } else {
+            self.world.begin(Callback::SelectCpu, task, 0);
+            self.settle(task, 0, hearer);
+        }
     }
 
     /// A task wakes.
@@ -184,6 +249,18 @@ impl Machine {
         self.select(task, hearer);
     }
 
+    /// Under Linux rules dispatch is told of the task that goes to sleep.
+    #[inline(always)]
+    #[tactic(auto, unfolding(crate::specs::Events::told_of_sleep))]
+    fn tell_sleep(&mut self, task: u16)
+        ensures state { self.new ≡ told_of_sleep self.old task }
+        ensures few { self.new.world.queues.pushes ≡ self.old.world.queues.pushes }
+    {
+        if self.is_by_linux() {
+            self.world.tell_slept(task);
+        }
+    }
+
     /// A task that runs goes to sleep.
     #[tactic(auto, unfolding(crate::specs::Events::sleep_from_cpu), using(crate::proofs::Taking::takings))]
     fn sleep_from_cpu<H: Hearer>(&mut self, task: u16, cpu: u32, hearer: &mut H)
@@ -195,6 +272,7 @@ impl Machine {
         self.world.stop(cpu, task);
         self.call_stopping(cpu, task, 0, hearer);
         self.world.sleep(task);
+        self.tell_sleep(task);
         self.cycle(cpu, None, true, hearer);
     }
 
@@ -231,6 +309,18 @@ impl Machine {
         self.cycle(cpu, None, true, hearer);
     }
 
+    /// True if a slice that has run out ends by now: under Linux rules with ticks, at a tick alone.
+    #[tactic(auto, unfolding(crate::specs::Events::ends_slices))]
+    fn ends_slices(&self) -> bool
+        ensures { result ≡ ends_slices self.now }
+    {
+        if !self.is_by_linux() {
+            return true;
+        }
+        let ticks = self.policy.tick_ms();
+        ticks == 0 || self.world.next_clock() % ticks == 0
+    }
+
     /// A task that has so much left of its slice may be replaced where that is nothing.
     #[inline(always)]
     #[tactic(auto, unfolding(crate::specs::Events::expire), using(crate::proofs::Taking::takings))]
@@ -240,7 +330,7 @@ impl Machine {
         ensures { Goes H.noted H.takes H.told H.hears cycle_pushes (expire self.old cpu task)
             self.old hearer.old self.new hearer.new }
     {
-        if left == 0 {
+        if left == 0 && self.ends_slices() {
             self.cycle(cpu, Some(task), true, hearer);
         }
     }
@@ -261,6 +351,19 @@ impl Machine {
         }
     }
 
+    /// A processor that runs no task looks for one. Under Linux rules it sleeps until it is given work.
+    #[inline(always)]
+    #[tactic(auto, unfolding(crate::specs::Events::tick_idle), using(crate::proofs::Taking::takings))]
+    fn tick_idle<H: Hearer>(&mut self, cpu: u32, hearer: &mut H)
+        requires { HasRoom cycle_pushes self.old }
+        ensures { Goes H.noted H.takes H.told H.hears cycle_pushes (tick_idle self.old cpu)
+            self.old hearer.old self.new hearer.new }
+    {
+        if !self.is_by_linux() {
+            self.idle_cycle(cpu, hearer);
+        }
+    }
+
     /// A processor ran for a millisecond.
     #[inline(always)]
     #[tactic(auto, unfolding(crate::specs::Events::tick), using(crate::proofs::Taking::takings))]
@@ -273,7 +376,7 @@ impl Machine {
     {
         match self.world.running(cpu) {
             Some(task) => self.count_down(cpu, task, hearer),
-            None => self.idle_cycle(cpu, hearer),
+            None => self.tick_idle(cpu, hearer),
         }
     }
 
@@ -308,7 +411,7 @@ impl Machine {
     #[tactic(auto, unfolding(crate::specs::Events::clock), using(crate::proofs::Taking::takings))]
     fn clock<H: Hearer>(&mut self, hearer: &mut H)
         requires early { self.old.world.clock < 2 ^ 32 }
-        requires room { HasRoom event_pushes self.old }
+        requires room { HasRoom own_pushes self.old }
         ensures { Goes H.noted H.takes H.told H.hears clock_pushes (clock self.old)
             self.old hearer.old self.new hearer.new }
     {
@@ -334,7 +437,7 @@ impl Machine {
 
     /// `event`, with its callbacks told to a hearer.
     #[inline(always)]
-    #[tactic(auto, using(crate::proofs::Taking::takings))]
+    #[tactic(auto, unfolding(crate::specs::Rounds::with_rounds), using(crate::proofs::Taking::takings))]
     pub fn event_heard<H: Hearer>(&mut self, event: Event, hearer: &mut H)
         requires accepted { refusal self.old event ≡ None }
         requires early { self.old.world.clock < 2 ^ 32 }
@@ -342,6 +445,24 @@ impl Machine {
         requires used { (g : ℕ) → usage_of self.old.world.tree g < 2 ^ 63 }
         requires room { HasRoom event_pushes self.old }
         ensures { Goes H.noted H.takes H.told H.hears event_pushes (event_step self.old event)
+            self.old hearer.old self.new hearer.new }
+    {
+        self.own_step(event, hearer);
+        if self.is_by_linux() {
+            self.rounds(MOST_ROUNDS, hearer);
+        }
+    }
+
+    /// Does what an event does that is accepted, before CPUs look for work.
+    #[inline(always)]
+    #[tactic(auto, using(crate::proofs::Taking::takings))]
+    fn own_step<H: Hearer>(&mut self, event: Event, hearer: &mut H)
+        requires accepted { refusal self.old event ≡ None }
+        requires early { self.old.world.clock < 2 ^ 32 }
+        requires runs { (t : ℕ) → (task_at self.old.world t).run_ns < 2 ^ 63 }
+        requires used { (g : ℕ) → usage_of self.old.world.tree g < 2 ^ 63 }
+        requires room { HasRoom own_pushes self.old }
+        ensures { Goes H.noted H.takes H.told H.hears own_pushes (own_step self.old event)
             self.old hearer.old self.new hearer.new }
     {
         match event {

@@ -13,6 +13,7 @@ mod machine;
 mod parking;
 mod policy;
 mod put;
+mod rounds;
 mod sink;
 mod start;
 

@@ -1,6 +1,7 @@
 ghost use Rattle.std.specs.Prelude.{◌≡◌, IfOk};
 ghost use Rattle.scx_sched_world.specs.World.{IsLike};
-ghost use Rattle.scx_sched_machine.specs.Cycle.{has_local, asks_again};
+ghost use Rattle.scx_sched_machine.specs.Steps.{is_by_linux, kicked, kicked_if_idle};
+ghost use Rattle.scx_sched_machine.specs.Cycle.{has_local, keeps_slice, told_of, asks_again};
 
 use crate::policy::Policy;
 use scx_maps::Maps;
@@ -90,10 +91,61 @@ impl Machine {
         self.world.local_len(cpu) != 0
     }
 
-    /// True if dispatch is called again: it moved a task, and the local queue is still empty.
-    pub(crate) fn asks_again(&self, cpu: u32) -> bool
-        ensures { result ≡ asks_again self.now cpu }
+    /// True if the machine goes by Linux rules: the policy does, and is in force.
+    #[inline(always)]
+    pub(crate) fn is_by_linux(&self) -> bool
+        ensures { result ≡ is_by_linux self.now }
     {
-        self.world.local_len(cpu) == 0 && self.world.has_moved()
+        self.world.is_by_linux()
+    }
+
+    /// True if the task keeps the CPU on which it ran, as some of its slice is left: under Linux rules alone.
+    #[inline(always)]
+    pub(crate) fn keeps_slice(&self, before: Option<u16>) -> bool
+        ensures { result ≡ keeps_slice self.now before }
+    {
+        match before {
+            Some(task) => self.is_by_linux() && self.world.task(task).slice != 0,
+            None => false,
+        }
+    }
+
+    /// The task that dispatch is told of: the one before, or the one that went to sleep.
+    #[inline(always)]
+    pub(crate) fn told_of(&self, before: Option<u16>) -> Option<u16>
+        ensures { result ≡ told_of self.now before }
+    {
+        match before {
+            Some(task) => Some(task),
+            None => self.world.slept(),
+        }
+    }
+
+    /// True if dispatch is called again: it moved a task, the local queue is still empty, and no task keeps the
+    /// CPU.
+    #[inline(always)]
+    pub(crate) fn asks_again(&self, cpu: u32, before: Option<u16>) -> bool
+        ensures { result ≡ asks_again self.now cpu before }
+    {
+        !self.keeps_slice(before) && (self.world.local_len(cpu) == 0 && self.world.has_moved())
+    }
+
+    /// The CPU looks for work as the event ends.
+    pub(crate) fn kick(&mut self, cpu: u32)
+        ensures state { self.new ≡ kicked self.old cpu }
+        ensures few { self.new.world.queues.pushes ≡ self.old.world.queues.pushes }
+    {
+        self.world.kick(cpu);
+    }
+
+    /// The CPU looks for work as the event ends, if it is idle: under Linux rules alone.
+    #[inline(always)]
+    pub(crate) fn kick_if_idle(&mut self, cpu: u32)
+        ensures state { self.new ≡ kicked_if_idle self.old cpu }
+        ensures few { self.new.world.queues.pushes ≡ self.old.world.queues.pushes }
+    {
+        if self.is_by_linux() && self.world.is_idle(cpu) {
+            self.kick(cpu);
+        }
     }
 }

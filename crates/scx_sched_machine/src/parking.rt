@@ -105,7 +105,8 @@ impl Machine {
         }
     }
 
-    /// The task is parked no more, and is put as for the processor on which it ran last.
+    /// The task is parked no more, and is put as for the processor on which it ran last. Under Linux rules that
+    /// one looks for work as the event ends, if it is idle.
     #[tactic(auto, unfolding(crate::specs::Parking::let_go_one, crate::specs::Budgets::eject_left), using(crate::proofs::Taking::takings))]
     fn let_go<H: Hearer>(&mut self, task: u16, hearer: &mut H)
         requires { HasRoom put_pushes self.old }
@@ -116,6 +117,7 @@ impl Machine {
         let cpu = self.world.task(task).prev_cpu;
         self.world.let_go(task);
         self.put(task, cpu, 0, hearer);
+        self.kick_if_idle(cpu);
     }
 
     /// Lets go the parked tasks that may run again, in their order from that one on. At most `left` are looked

@@ -1,7 +1,8 @@
 ghost use Rattle.std.specs.Prelude.{◌≡◌, ◌↔◌, option_map, IsTrue, IfOk, OnOk, IfErr, None, IfSome};
-ghost use Rattle.scx_sched_machine.specs.Policy.{IsTimeout, IsAs, HasMaps, AreAs, HaveMaps, IsFault, program_of, policy_of};
+ghost use Rattle.scx_sched_machine.specs.Policy.{IsTimeout, IsAs, HasMaps, AreAs, HaveMaps, AreBy, IsFault, program_of, policy_of, policy_by, with_ticks};
+ghost use Rattle.scx_isa_semantics.specs.declared.rules.Rules.TheVariants.{Plain};
 
-use scx_isa::{Callback, PerCallback};
+use scx_isa::{Callback, PerCallback, Rules};
 use scx_maps::MapDefs;
 use scx_verify::Verified;
 use std::alloc::{AllocError, Global};
@@ -23,46 +24,92 @@ pub enum BadPolicy {
     /// A program was verified for maps of other shapes than the policy's.
     #[error("a program was verified for other maps")]
     OtherMaps,
+    /// A program was verified by Linux rules, and the policy goes by plain ones.
+    #[error("a program was verified by other rules")]
+    OtherRules,
 }
 
-/// A scheduling policy: its programs, each verified for its callback and for maps of these shapes, and how
-/// long a task may wait.
+/// A scheduling policy: its programs, each verified for its callback, for maps of these shapes and by its
+/// rules, and how long a task may wait.
 #[derive(Drop)]
 pub struct Policy {
     defs: MapDefs,
     timeout_ms: u32,
+    rules: Rules,
+    tick_ms: u32,
     callbacks: Callbacks,
 }
 
 impl Model for Policy {
-    ghost use Rattle.scx_sched_machine.specs.Policy.{PolicyState, IsTimeout, AreAs, HaveMaps};
+    ghost use Rattle.scx_sched_machine.specs.Policy.{PolicyState, IsTimeout, AreAs, HaveMaps, AreBy};
 
     ghost Value = { PolicyState };
 
-    ghost view = { λ p. record { shapes = p.defs; timeout_ms = p.timeout_ms; callbacks = p.callbacks } };
+    ghost view = { λ p. record {
+      shapes = p.defs;
+      timeout_ms = p.timeout_ms;
+      rules = p.rules;
+      tick_ms = p.tick_ms;
+      callbacks = p.callbacks;
+    } };
 
-    ghost invariant = { λ p. IsTimeout p.timeout_ms × AreAs p.callbacks × HaveMaps p.defs p.callbacks };
+    ghost invariant = { λ p. IsTimeout p.timeout_ms × AreAs p.callbacks × HaveMaps p.defs p.callbacks
+        × AreBy p.rules p.callbacks };
 }
 
 impl Policy {
-    /// A policy of these programs.
+    /// A policy of these programs, by plain rules.
     pub fn new(defs: MapDefs, timeout_ms: u32, callbacks: Callbacks) -> Result<Policy, BadPolicy>
         ensures made { IfOk result (λ policy. policy ≡ policy_of defs timeout_ms callbacks) }
         ensures timeout { OnOk result (IsTimeout timeout_ms) }
         ensures programs { OnOk result (AreAs callbacks) }
         ensures maps { OnOk result (HaveMaps defs callbacks) }
-        ensures refused { IfErr result (IsFault defs timeout_ms callbacks) }
+        ensures rules { OnOk result (AreBy Plain callbacks) }
+        ensures refused { IfErr result (IsFault Plain defs timeout_ms callbacks) }
     {
-        match fault_of(&defs, timeout_ms, &callbacks) {
+        Policy::new_by(Rules::Plain, defs, timeout_ms, callbacks)
+    }
+
+    /// A policy of these programs, by those rules. Slices end exactly.
+    pub fn new_by(
+        rules: Rules,
+        defs: MapDefs,
+        timeout_ms: u32,
+        callbacks: Callbacks,
+    ) -> Result<Policy, BadPolicy>
+        ensures made { IfOk result (λ policy. policy ≡ policy_by rules defs timeout_ms callbacks) }
+        ensures timeout { OnOk result (IsTimeout timeout_ms) }
+        ensures programs { OnOk result (AreAs callbacks) }
+        ensures maps { OnOk result (HaveMaps defs callbacks) }
+        ensures rules { OnOk result (AreBy rules callbacks) }
+        ensures refused { IfErr result (IsFault rules defs timeout_ms callbacks) }
+    {
+        match fault_of(rules, &defs, timeout_ms, &callbacks) {
             None => Ok(Policy {
                 defs,
                 timeout_ms,
+                rules,
+                tick_ms: 0,
                 callbacks,
             }),
             Some(fault) => {
                 drop(callbacks);
                 Err(fault)
             }
+        }
+    }
+
+    /// The policy with ticks that many milliseconds apart: under Linux rules slices end at ticks alone. With 0
+    /// they end exactly.
+    pub fn with_ticks(self, tick_ms: u32) -> Policy
+        ensures { result ≡ with_ticks self tick_ms }
+    {
+        Policy {
+            defs: self.defs,
+            timeout_ms: self.timeout_ms,
+            rules: self.rules,
+            tick_ms,
+            callbacks: self.callbacks,
         }
     }
 
@@ -74,6 +121,8 @@ impl Policy {
         Ok(Policy {
             defs: self.defs,
             timeout_ms: self.timeout_ms,
+            rules: self.rules,
+            tick_ms: self.tick_ms,
             callbacks,
         })
     }
@@ -92,6 +141,21 @@ impl Policy {
         ensures { result ≡ self.now.timeout_ms }
     {
         u64::from(self.timeout_ms)
+    }
+
+    /// The rules of the machine while the policy is in force.
+    pub fn rules(&self) -> Rules
+        ensures { result ≡ self.now.rules }
+    {
+        self.rules
+    }
+
+    /// The number of milliseconds from tick to tick; 0 where slices end exactly.
+    #[inline(always)]
+    pub fn tick_ms(&self) -> u64
+        ensures { result ≡ self.now.tick_ms }
+    {
+        u64::from(self.tick_ms)
     }
 
     /// The program of a callback.
@@ -131,11 +195,17 @@ fn duplicate_of(program: &Option<Verified>, alloc: Global) -> Result<Option<Veri
 }
 
 /// The first thing wrong with a policy of these programs.
-fn fault_of(defs: &MapDefs, timeout_ms: u32, callbacks: &Callbacks) -> Option<BadPolicy>
-    ensures fault { IfSome result (IsFault defs.now timeout_ms callbacks.now) }
+fn fault_of(
+    rules: Rules,
+    defs: &MapDefs,
+    timeout_ms: u32,
+    callbacks: &Callbacks,
+) -> Option<BadPolicy>
+    ensures fault { IfSome result (IsFault rules defs.now timeout_ms callbacks.now) }
     ensures timeout { result ≡ None → IsTimeout timeout_ms }
     ensures programs { result ≡ None → AreAs callbacks.now }
     ensures maps { result ≡ None → HaveMaps defs.now callbacks.now }
+    ensures rules { result ≡ None → AreBy rules callbacks.now }
 {
     if timeout_ms < 1 || timeout_ms > 30_000 {
         return Some(BadPolicy::BadTimeout);
@@ -145,6 +215,9 @@ fn fault_of(defs: &MapDefs, timeout_ms: u32, callbacks: &Callbacks) -> Option<Ba
     }
     if !have_maps(callbacks, defs) {
         return Some(BadPolicy::OtherMaps);
+    }
+    if !are_by(callbacks, rules) {
+        return Some(BadPolicy::OtherRules);
     }
     None
 }
@@ -161,4 +234,15 @@ fn have_maps(callbacks: &Callbacks, defs: &MapDefs) -> bool
     ensures { IsTrue result ↔ HaveMaps defs.now callbacks.now }
 {
     callbacks.all(|_callback, program| *program.defs() == *defs)
+}
+
+/// True if each program was verified by rules that a policy by these may have: Linux rules accept whatever
+/// plain ones do.
+fn are_by(callbacks: &Callbacks, rules: Rules) -> bool
+    ensures { IsTrue result ↔ AreBy rules callbacks.now }
+{
+    callbacks.all(|_callback, program| match rules {
+        Rules::Linux => true,
+        Rules::Plain => program.rules() == Rules::Plain,
+    })
 }

@@ -101,6 +101,7 @@ impl Machine {
         let maps = Maps::new(alloc, policy.defs());
         match (maps, World::new(alloc, tree, cpus)) {
             (Ok(maps), Ok(mut world)) => {
+                world.set_rules(policy.rules());
                 world.begin_periods();
                 Ok(Machine {
                     policy,
