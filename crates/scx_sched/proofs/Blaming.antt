@@ -1,7 +1,7 @@
 -- What a step does to the policy: it stays the one that it is, and is put out of force for a fault of a callback,
 -- which is then the last that was called, and for nothing else; once it is out of force none is called, and it stays
 -- so for that cause. Nor does a step change the clock, and of the tree only what its event decides.
-use Rattle.std.proofs.Common.{◌≡◌, ℕ, zero, suc, ◌<◌, Bool, true, false, ◌==◌, nat_lt, if◌then◌else◌, List, [], ◌∷◌, ◌++◌, length, Option, Some, None, is_none, refl, sym, ap, ◌∙◌, subst, append_assoc, arith}
+use Rattle.std.proofs.Common.{◌≡◌, ℕ, zero, suc, ◌<◌, Bool, true, false, ◌==◌, nat_lt, if◌then◌else◌, List, [], ◌∷◌, ◌++◌, length, Option, Some, None, is_none, refl, sym, ap, ◌∙◌, subst, append_assoc, arith, ◌&&◌, not, is_some}
 use Rattle.std.proofs.lemmas.Bool.Decides.{nat_tests}
 use Rattle.std.proofs.lemmas.List.{append-nil, length-set}
 use Rattle.scx_dsq.specs.Queues.{len_of, front_of, behind_of}
@@ -21,22 +21,27 @@ use Rattle.scx_sched_world.specs.declared.faults.Fault.{Fault}
 use Rattle.scx_sched_world.specs.declared.notes.Note.{Note}
 use Rattle.scx_sched_world.specs.declared.notes.What.TheVariants as note
 use Rattle.scx_sched_world.specs.Ids.{global, builtin_queue, parked_queue, local_on}
-use Rattle.scx_sched_world.specs.World.{WorldState, with_tree, with_task as set_task, task_at, is_throttled, running, cpu_of, is_idle, at_callback, quiet, note_now}
-use Rattle.scx_sched_world.specs.Tasks.{with_since, after_wake, after_sleep, after_leave, after_enter, for_cpu, fill_front, after_fill, after_stop, started_at, after_keep, put_parked, after_take, let_go, ran_a_tick, after_tick, used_ms, after_reweigh}
+use Rattle.scx_sched_world.specs.CpuSets.{is_in_set}
+use Rattle.scx_sched_world.specs.World as world
+use Rattle.scx_sched_world.specs.World.{WorldState, are_linux, with_kick, without_kick, with_slept, choice, after_claim, with_tree, with_task as set_task, task_at, is_throttled, running, cpu_of, is_idle, at_callback, quiet, note_now}
+use Rattle.scx_sched_world.specs.Tasks.{to_front, to_local, homed, after_run, after_switch, after_cut_off, with_since, after_wake, after_sleep, after_leave, after_enter, for_cpu, fill_front, after_fill, after_stop, started_at, after_keep, put_parked, after_take, let_go, ran_a_tick, after_tick, used_ms, after_reweigh}
+use Rattle.scx_sched_world.specs.Helpers.{with_insert}
 use Rattle.scx_sched_world.specs.Ejecting.{put_builtin, after_charge, after_catch_up}
 use Rattle.scx_sched_machine.specs.Policy.{program_of}
-use Rattle.scx_sched_machine.specs.Steps.{State, CallMade, Stepped, with_world, stays, after, one_after_other, is_ejected}
+use Rattle.scx_sched_machine.specs.Steps.{State, CallMade, Stepped, with_world, stays, after, one_after_other, is_ejected, is_by_linux, kicked, kicked_if_idle}
 use Rattle.scx_sched_machine.specs.Ejecting.{moves_over, eject, ejected_for}
 use Rattle.scx_sched_machine.specs.Callbacks.{call_ending, after_callback, answer_fault, fault_of, unless_ejected, acting, call_back, answered_by, one_task, task_cpu_and_0, task_and_number, cpu_and_task}
 use Rattle.scx_sched_machine.specs.Put.{enters, enqueue_choice, enters_builtin, comes_in, put}
 use Rattle.scx_sched_machine.specs.Filling.{fill}
 use Rattle.scx_sched_machine.specs.Parking.{park, park_front, throttled_front, park_fronts, clear, in_reach, supply, let_go_one, let_go_from, let_all_go}
-use Rattle.scx_sched_machine.specs.Cycle.{has_local, after_dispatch, asks_again, tries, stopping_called, after_stopping, after_running, leave, started_if, start, rest, swap, swap_or_rest, builtin_dispatch, builtin_fill, builtin_ask, builtin_cycle, start_or_cycle, pick, pick_or_rest, conclude, ask, seek, look, cycling, cycle}
-use Rattle.scx_sched_machine.specs.Events.{target, insert_or_put, settle, select, wake, sleep_from_cpu, sleep_from, sleep, throttle, expire, count_down, tick_of, tick}
+use Rattle.scx_sched_machine.specs.Cycle.{has_local, keeps_slice, supply_unless_kept, told_of, after_dispatch, asks_again, tries, stopping_called, after_stopping, switched, after_running, put_back, leave, started_if, start, rest, swap, swap_or_rest, builtin_dispatch, builtin_fill, builtin_ask, builtin_cycle, start_or_cycle, picked, refilled, is_local, start_picked, start_picked_or_cycle, give_up, pick, pick_or_rest, keep_or_pick, conclude, ask, seek, look, cycling, cycle}
+use Rattle.scx_sched_machine.specs.Events.{target, insert_or_put, wake_target, settle, inserted_by_choice, chosen_by_default, chosen, ask_target, asks_target, select, wake, told_of_sleep, sleep_from_cpu, sleep_from, sleep, throttle, ends_slices, expire, count_down, tick_idle, tick_of, tick}
+use Rattle.scx_sched_machine.specs.Rounds.{most_rounds, next_to_look, cut_off_if, look_past, look_from, round, round_then, rounds, with_rounds}
 use Rattle.scx_sched_machine.proofs.Choices.{keeps_if}
 use Rattle.scx_sched.specs.Causes.{IsLast}
 use Rattle.scx_sched.specs.Decided.{used_at_tick}
-use Rattle.scx_sched.proofs.Unchanged.{IsAsBefore, same_entered, same_put_builtin, same_put_parked, same_called, eject_sets, same_brought, same_kept}
+use Rattle.scx_sched.proofs.Marks.{Anywhere, kept_homed, kept_claim}
+use Rattle.scx_sched.proofs.Unchanged.{IsAsBefore, same_marks, same_entered, same_put_builtin, same_put_parked, same_called, eject_sets, same_brought, same_kept}
 use Rattle.scx_sched.proofs.Supplying.{park_fronts_from, clear_from}
 use Rattle.scx_sched.proofs.Leaving.{run_back}
 
@@ -67,6 +72,7 @@ pub record IsHonest (s : State) (r : Stepped) : Type 0 where
   pub policy : r.state.policy ≡ s.policy
   pub clock : r.state.world.clock ≡ s.world.clock
   pub tree : r.state.world.tree ≡ s.world.tree
+  pub rules : r.state.world.rules ≡ s.world.rules
   pub silent : (x : Eject) → s.world.ejected ≡ Some x → r.calls ≡ []
   pub stays : (x : Eject) → s.world.ejected ≡ Some x → r.state.world.ejected ≡ Some x
   pub blamed : (x : Eject) → s.world.ejected ≡ None → r.state.world.ejected ≡ Some x → IsBlamed s.world.clock r.calls x
@@ -96,11 +102,12 @@ none_of xs ys e f = rw e f
 blamed_as : (now : ℕ) (xs ys : List CallMade) (x : Eject) → ((m : CallMade) → IsLast m xs → IsLast m ys) → IsBlamed now xs x → IsBlamed now ys x
 blamed_as now xs ys x f b = record { call = b.call; fault = b.fault; last = f b.call b.last; fresh = b.fresh; wrong = b.wrong; named = b.named }
 
-honest_joined : (s : State) (a r : Stepped) → IsHonest s a → IsHonest a.state r → IsHonest s (one_after_other a r)
+pub honest_joined : (s : State) (a r : Stepped) → IsHonest s a → IsHonest a.state r → IsHonest s (one_after_other a r)
 honest_joined s a r h k = record {
   policy = k.policy ∙ h.policy;
   clock = k.clock ∙ h.clock;
   tree = k.tree ∙ h.tree;
+  rules = k.rules ∙ h.rules;
   silent = λ x out. none_of a.calls r.calls (h.silent x out) (k.silent x (h.stays x out));
   stays = λ x out. k.stays x (h.stays x out);
   blamed = λ x force out. go x force out a.state.world.ejected refl;
@@ -120,14 +127,14 @@ honest_joined s a r h k = record {
         subst (λ (z : Eject). IsBlamed s.world.clock (a.calls ++ r.calls) z) (same_eject r.state.world.ejected y x (k.stays y e) out) b
 
 honest_after : (s : State) (ns : List Note) (r : Stepped) → IsHonest s r → IsHonest s (after ns r)
-honest_after s ns r h = record { policy = h.policy; clock = h.clock; tree = h.tree; silent = h.silent; stays = h.stays; blamed = h.blamed; heard = h.heard }
+honest_after s ns r h = record { policy = h.policy; clock = h.clock; tree = h.tree; rules = h.rules; silent = h.silent; stays = h.stays; blamed = h.blamed; heard = h.heard }
 
-honest_stays : (s : State) → IsHonest s (stays s)
-honest_stays s = record { policy = refl; clock = refl; tree = refl; silent = λ x out. refl; stays = λ x out. out; blamed = λ x force out. absurd (apart s.world.ejected x force out); heard = λ force. tt }
+pub honest_stays : (s : State) → IsHonest s (stays s)
+honest_stays s = record { policy = refl; clock = refl; tree = refl; rules = refl; silent = λ x out. refl; stays = λ x out. out; blamed = λ x force out. absurd (apart s.world.ejected x force out); heard = λ force. tt }
 
 -- a change of the world in which no callback is called
 honest_plain : (s : State) (w : WorldState) (ns : List Note) → IsAsBefore s.world w → IsHonest s (record { state = with_world s w; notes = ns; calls = [] })
-honest_plain s w ns same = record { policy = refl; clock = same.0; tree = same.3; silent = λ x out. refl; stays = λ x out. same.1 ∙ out; blamed = λ x force out. absurd (apart w.ejected x (same.1 ∙ force) out); heard = λ force. tt }
+honest_plain s w ns same = record { policy = refl; clock = same.0; tree = same.3; rules = same.4; silent = λ x out. refl; stays = λ x out. same.1 ∙ out; blamed = λ x force out. absurd (apart w.ejected x (same.1 ∙ force) out); heard = λ force. tt }
 
 -- a step from such a change
 honest_from : (s : State) (w : WorldState) (r : Stepped) → IsAsBefore s.world w → IsHonest (with_world s w) r → IsHonest s r
@@ -135,11 +142,36 @@ honest_from s w r same h = record {
   policy = h.policy;
   clock = h.clock ∙ same.0;
   tree = h.tree ∙ same.3;
+  rules = h.rules ∙ same.4;
   silent = λ x out. h.silent x (same.1 ∙ out);
   stays = λ x out. h.stays x (same.1 ∙ out);
   blamed = λ x force out. subst (λ (now : ℕ). IsBlamed now r.calls x) same.0 (h.blamed x (same.1 ∙ force) out);
   heard = h.heard;
 }
+
+-- a step from such a change, if it was made
+honest_if : (s : State) (b : Bool) (w : WorldState) (r : Stepped) → IsAsBefore s.world w → IsHonest (if b then with_world s w else s) r → IsHonest s r
+honest_if s true w r same h = honest_from s w r same h
+honest_if s false w r same h = h
+
+-- a step after which a processor is kicked, if it is idle
+honest_kicked : (s : State) (r : Stepped) (c : ℕ) → IsHonest s r → IsHonest s (record r { state = kicked_if_idle r.state c })
+honest_kicked s r c h =
+    keeps_if (λ (v : State). IsHonest s (record r { state = v })) (is_by_linux r.state && is_idle r.state.world c) (kicked r.state c) r.state
+    (record { policy = h.policy; clock = h.clock; tree = h.tree; rules = h.rules; silent = h.silent; stays = h.stays; blamed = h.blamed; heard = h.heard }) h
+
+-- once the machine doesn't go by Linux rules, it doesn't any more
+pub plain_on : (s : State) (r : Stepped) → IsHonest s r → is_by_linux s ≡ false → is_by_linux r.state ≡ false
+plain_on s r h plain = go (are_linux s.world.rules) refl s.world.ejected refl plain
+  where
+    and_no : (b : Bool) → (b && false) ≡ false
+    and_no true = refl
+    and_no false = refl
+
+    go : (b : Bool) → are_linux s.world.rules ≡ b → (o : Option Eject) → s.world.ejected ≡ o → (b && is_none o) ≡ false → is_by_linux r.state ≡ false
+    go false x o y z = ap (λ k. k && is_none r.state.world.ejected) (ap are_linux h.rules ∙ x)
+    go true x None y z = absurd (cc)
+    go true x (Some e) y z = ap (λ (k : Option Eject). are_linux r.state.world.rules && is_none k) (h.stays e y) ∙ and_no (are_linux r.state.world.rules)
 
 -- ---- another tree
 
@@ -153,11 +185,11 @@ step_with_tree r tree = record { state = state_with_tree r.state tree; notes = r
 
 -- from that tree to it
 honest_with_tree : (s : State) (r : Stepped) (tree : Hierarchy) → IsHonest s r → IsHonest (state_with_tree s tree) (step_with_tree r tree)
-honest_with_tree s r tree h = record { policy = h.policy; clock = h.clock; tree = refl; silent = h.silent; stays = h.stays; blamed = h.blamed; heard = h.heard }
+honest_with_tree s r tree h = record { policy = h.policy; clock = h.clock; tree = refl; rules = h.rules; silent = h.silent; stays = h.stays; blamed = h.blamed; heard = h.heard }
 
 -- a step that leaves the tree
 honest_same_tree : (s : State) (r : Stepped) → IsHonest s r → IsHonest (state_with_tree s s.world.tree) r
-honest_same_tree s r h = record { policy = h.policy; clock = h.clock; tree = h.tree; silent = h.silent; stays = h.stays; blamed = h.blamed; heard = h.heard }
+honest_same_tree s r h = record { policy = h.policy; clock = h.clock; tree = h.tree; rules = h.rules; silent = h.silent; stays = h.stays; blamed = h.blamed; heard = h.heard }
 
 -- ---- a callback
 
@@ -197,7 +229,7 @@ module _ (s : State) (b : Callback) (a : Args) (t c : ℕ) where
     where
       go : (o : Option Fault) → o ≡ None
           → IsHonest s (one_after_other (record { state = record { policy = s.policy; maps = s.maps; world = quiet w }; notes = []; calls = [] }) (ejected_for o (record { policy = s.policy; maps = s.maps; world = quiet w })))
-      go None e = record { policy = refl; clock = refl; tree = refl; silent = λ x out. refl; stays = λ x out. out; blamed = λ x force out. absurd (apart s.world.ejected x force out); heard = λ force. tt }
+      go None e = record { policy = refl; clock = refl; tree = refl; rules = refl; silent = λ x out. refl; stays = λ x out. out; blamed = λ x force out. absurd (apart s.world.ejected x force out); heard = λ force. tt }
       go (Some f) e = absurd (cc)
 
   honest_run : (p : VerifiedProgram) → s.world.ejected ≡ None → IsHonest s (run_back (Some p) s b a t c)
@@ -220,6 +252,7 @@ module _ (s : State) (b : Callback) (a : Args) (t c : ℕ) where
         policy = refl;
         clock = same.0;
         tree = same.3;
+        rules = same.4;
         silent = λ y out. absurd (apart s.world.ejected y acts out);
         stays = λ y out. same.1 ∙ out;
         blamed = λ y force out. absurd (apart e.outside.ejected y (same.1 ∙ force) out);
@@ -232,6 +265,7 @@ module _ (s : State) (b : Callback) (a : Args) (t c : ℕ) where
             policy = eject_policy v y;
             clock = sets.0 ∙ same.0;
             tree = sets.3 ∙ same.3;
+            rules = sets.4 ∙ same.4;
             silent = λ z out. absurd (apart s.world.ejected z acts out);
             stays = λ z out. absurd (apart s.world.ejected z acts out);
             heard = λ force. absurd (apart (eject v y).state.world.ejected y force sets.1);
@@ -245,7 +279,8 @@ module _ (s : State) (b : Callback) (a : Args) (t c : ℕ) where
             };
           }
 
-honest_call_back : (s : State) (b : Callback) (a : Args) (t c : ℕ) → (b ≡ callback.SelectCpu → 0 < length s.world.cpus) → IsHonest s (call_back s b a t c)
+-- a callback
+pub honest_call_back : (s : State) (b : Callback) (a : Args) (t c : ℕ) → (b ≡ callback.SelectCpu → 0 < length s.world.cpus) → IsHonest s (call_back s b a t c)
 unfolding call_back
 honest_call_back s b a t c some = go (acting s b) refl
   where
@@ -257,11 +292,11 @@ honest_call_back s b a t c some = go (acting s b) refl
 
 honest_enters : (s : State) (t : ℕ) (i : Insert) → IsHonest s (enters s t i)
 unfolding enters
-honest_enters s t i = honest_plain s (after_enter s.world t i) _ (same_entered s.world s.world t i (refl, refl, refl, refl))
+honest_enters s t i = honest_plain s (after_enter s.world t i) _ (same_entered s.world s.world t i (refl, refl, refl, refl, refl, refl))
 
 honest_enters_builtin : (s : State) (t : ℕ) → IsHonest s (enters_builtin s t)
 unfolding enters_builtin
-honest_enters_builtin s t = honest_plain s (put_builtin s.world t) _ (same_put_builtin s.world s.world t (refl, refl, refl, refl))
+honest_enters_builtin s t = honest_plain s (put_builtin s.world t) _ (same_put_builtin s.world s.world t (refl, refl, refl, refl, refl, refl))
 
 honest_comes_in : (s : State) (t c : ℕ) → IsHonest s (comes_in s t c)
 unfolding comes_in
@@ -281,13 +316,14 @@ honest_fill : (s : State) (q c : ℕ) → IsHonest s (fill s q c)
 unfolding fill
 honest_fill s q c = honest_plain s (after_fill s.world q c) _ (same_brought (fill_front s.world q c) s.world q c)
 
-honest_park : (s : State) (t : ℕ) → IsHonest s (park s t)
+-- the task at hand is parked
+pub honest_park : (s : State) (t : ℕ) → IsHonest s (park s t)
 unfolding park
-honest_park s t = honest_plain s (put_parked s.world t) _ (same_put_parked s.world s.world t (refl, refl, refl, refl))
+honest_park s t = honest_plain s (put_parked s.world t) _ (same_put_parked s.world s.world t (refl, refl, refl, refl, refl, refl))
 
 honest_park_front : (s : State) (q t : ℕ) → IsHonest s (park_front s q t)
 unfolding park_front
-honest_park_front s q t = honest_from s (after_take s.world q) (park (with_world s (after_take s.world q)) t) (refl, refl, refl, refl) (honest_park (with_world s (after_take s.world q)) t)
+honest_park_front s q t = honest_from s (after_take s.world q) (park (with_world s (after_take s.world q)) t) (refl, refl, refl, refl, refl, refl) (honest_park (with_world s (after_take s.world q)) t)
 
 honest_park_fronts : (j : ℕ) (s : State) (q : ℕ) → IsHonest s (park_fronts j s q)
 unfolding park_fronts
@@ -314,35 +350,46 @@ pub honest_supply : (s : State) (c : ℕ) → IsHonest s (supply s c)
 unfolding supply
 honest_supply s c = honest_clear (in_reach s c) s c
 
+honest_supply_unless_kept : (s : State) (c : ℕ) (p : Option ℕ) → IsHonest s (supply_unless_kept s c p)
+unfolding supply_unless_kept
+honest_supply_unless_kept s c p = keeps_if (IsHonest s) (keeps_slice s p) (stays s) (supply s c) (honest_stays s) (honest_supply s c)
+
 honest_dispatched : (s : State) (c : ℕ) (p : Option ℕ) → IsHonest s (after_dispatch s c p)
 unfolding after_dispatch
 honest_dispatched s c p =
-    let r = call_back s callback.Dispatch (cpu_and_task c p) 0 c in
-    honest_joined s r (supply r.state c) (honest_call_back s callback.Dispatch (cpu_and_task c p) 0 c (λ e. absurd (cc))) (honest_supply r.state c)
+    let r = call_back s callback.Dispatch (cpu_and_task c (told_of s p)) 0 c in
+    honest_joined s r (supply_unless_kept r.state c p) (honest_call_back s callback.Dispatch (cpu_and_task c (told_of s p)) 0 c (λ e. absurd (cc))) (honest_supply_unless_kept r.state c p)
 
-honest_tries : (j : ℕ) (s : State) (c : ℕ) (p : Option ℕ) → IsHonest s (tries j s c p)
+-- dispatch is asked several times
+pub honest_tries : (j : ℕ) (s : State) (c : ℕ) (p : Option ℕ) → IsHonest s (tries j s c p)
 unfolding tries
 honest_tries zero s c p = honest_stays s
 honest_tries (suc j) s c p =
     let d = after_dispatch s c p in
     let x = honest_dispatched s c p in
-    keeps_if (IsHonest s) (asks_again d.state c) (one_after_other d (tries j d.state c p)) d (honest_joined s d (tries j d.state c p) x (honest_tries j d.state c p)) x
+    keeps_if (IsHonest s) (asks_again d.state c p) (one_after_other d (tries j d.state c p)) d (honest_joined s d (tries j d.state c p) x (honest_tries j d.state c p)) x
 
 -- ---- on and off a processor
 
-honest_stopping : (s : State) (c t n : ℕ) → IsHonest s (after_stopping s c t n)
+-- the policy hears that a task left its processor
+pub honest_stopping : (s : State) (c t n : ℕ) → IsHonest s (after_stopping s c t n)
 unfolding after_stopping
 honest_stopping s c t n =
     keeps_if (IsHonest s) (is_ejected s) (stays (with_world s (after_charge s.world t))) (stopping_called s c t n)
-    (honest_plain s (after_charge s.world t) [] (refl, refl, refl, refl)) (honest_call_back s _ (task_and_number t n) t c (λ e. absurd (cc)))
+    (honest_plain s (after_charge s.world t) [] (refl, refl, refl, refl, refl, refl)) (honest_call_back s _ (task_and_number t n) t c (λ e. absurd (cc)))
 
 honest_running_on : (s : State) (c t : ℕ) → IsHonest s (after_running s c t)
 unfolding after_running
 honest_running_on s c t =
     keeps_if (IsHonest s) (is_ejected s) (stays (with_world s (after_catch_up s.world t))) (call_back s callback.Running (one_task t) t c)
-    (honest_plain s (after_catch_up s.world t) [] (refl, refl, refl, refl)) (honest_call_back s callback.Running (one_task t) t c (λ e. absurd (cc)))
+    (honest_plain s (after_catch_up s.world t) [] (refl, refl, refl, refl, refl, refl)) (honest_call_back s callback.Running (one_task t) t c (λ e. absurd (cc)))
 
-honest_leave : (s : State) (c : ℕ) (p : Option ℕ) → IsHonest s (leave s c p)
+honest_put_back : (s : State) (c t : ℕ) → IsHonest s (put_back s c t)
+unfolding put_back
+honest_put_back s c t = keeps_if (IsHonest s) (keeps_slice s (Some t)) (enters s t (to_front c)) (put s t c 0) (honest_enters s t (to_front c)) (honest_put s t c 0)
+
+-- a task that leaves its processor and is put
+pub honest_leave : (s : State) (c : ℕ) (p : Option ℕ) → IsHonest s (leave s c p)
 unfolding leave
 honest_leave s c None = honest_stays s
 honest_leave s c (Some t) =
@@ -350,7 +397,20 @@ honest_leave s c (Some t) =
     let off = with_world s w in
     let r = after_stopping off c t 1 in
     let ns = note_now s.world (note.Stop t c) ∷ [] in
-    honest_from s w (after ns (one_after_other r (put r.state t c 0))) (refl, refl, refl, refl) (honest_after off ns (one_after_other r (put r.state t c 0)) (honest_joined off r (put r.state t c 0) (honest_stopping off c t 1) (honest_put r.state t c 0)))
+    honest_from s w (after ns (one_after_other r (put_back r.state c t))) (refl, refl, refl, refl, refl, refl) (honest_after off ns (one_after_other r (put_back r.state c t)) (honest_joined off r (put_back r.state c t) (honest_stopping off c t 1) (honest_put_back r.state c t)))
+
+-- what is honest once the task has begun to run
+honest_switched : (s : State) (t : ℕ) (r : Stepped) → IsHonest (switched s t) r → IsHonest s r
+unfolding switched
+honest_switched s t r h = honest_if s (is_by_linux s && not (s.policy.tick_ms == 0)) (after_switch s.world t) r (refl, refl, refl, refl, refl, refl) h
+
+-- a task that runs, once it has left its queue
+honest_runs : (s : State) (w : WorldState) (c t : ℕ) → IsAsBefore s.world w → IsHonest s (after (note_now s.world (note.Run t c) ∷ []) (after_running (switched (with_world s w) t) c t))
+honest_runs s w c t same =
+    let v = with_world s w in
+    let ns = note_now s.world (note.Run t c) ∷ [] in
+    let r = after_running (switched v t) c t in
+    honest_from s w (after ns r) same (honest_after v ns r (honest_switched v t r (honest_running_on (switched v t) c t)))
 
 honest_start : (s : State) (c : ℕ) → IsHonest s (start s c)
 unfolding start
@@ -358,10 +418,7 @@ honest_start s c = go (front_of s.world.queues (local_on c))
   where
     go : (o : Option ℕ) → IsHonest s (started_if o s c)
     go None = honest_stays s
-    go (Some t) =
-        let w = started_at (Some t) s.world c in
-        let ns = note_now s.world (note.Run t c) ∷ [] in
-        honest_from s w (after ns (after_running (with_world s w) c t)) (refl, refl, refl, refl) (honest_after (with_world s w) ns (after_running (with_world s w) c t) (honest_running_on (with_world s w) c t))
+    go (Some t) = honest_runs s (started_at (Some t) s.world c) c t (refl, refl, refl, refl, refl, refl)
 
 honest_rest : (s : State) (c : ℕ) (p : Option ℕ) (ran : Bool) → IsHonest s (rest s c p ran)
 unfolding rest
@@ -399,21 +456,46 @@ honest_start_or_cycle : (s : State) (c : ℕ) (ran : Bool) → IsHonest s (start
 unfolding start_or_cycle
 honest_start_or_cycle s c ran = keeps_if (IsHonest s) (has_local s c) (start s c) (builtin_cycle s c None ran) (honest_start s c) (honest_builtin_cycle s c None ran)
 
+honest_start_picked : (s : State) (c t : ℕ) → IsHonest s (start_picked s c t)
+unfolding start_picked
+honest_start_picked s c t = honest_runs s (after_run s.world c t) c t (refl, refl, refl, refl, refl, refl)
+
+honest_start_picked_or_cycle : (o : Option ℕ) (s : State) (c : ℕ) (ran : Bool) → IsHonest s (start_picked_or_cycle o s c ran)
+honest_start_picked_or_cycle None s c ran = honest_start_or_cycle s c ran
+honest_start_picked_or_cycle (Some t) s c ran = keeps_if (IsHonest s) (is_local s c t) (start_picked s c t) (start_or_cycle s c ran) (honest_start_picked s c t) (honest_start_or_cycle s c ran)
+
 honest_pick : (s : State) (c : ℕ) (p : Option ℕ) (ran : Bool) → IsHonest s (pick s c p ran)
 unfolding pick
-honest_pick s c p ran = let l = leave s c p in honest_joined s l (start_or_cycle l.state c ran) (honest_leave s c p) (honest_start_or_cycle l.state c ran)
+honest_pick s c p ran =
+    let o = picked s c in
+    let v = refilled s o in
+    let l = leave v c p in
+    let r = start_picked_or_cycle o l.state c ran in
+    honest_from s (after_keep s.world o) (one_after_other l r) (same_kept s.world o) (honest_joined v l r (honest_leave v c p) (honest_start_picked_or_cycle o l.state c ran))
 
 honest_pick_or_rest : (s : State) (c : ℕ) (p : Option ℕ) (ran : Bool) → IsHonest s (pick_or_rest s c p ran)
 unfolding pick_or_rest
 honest_pick_or_rest s c p ran = keeps_if (IsHonest s) (has_local s c) (pick s c p ran) (rest s c p ran) (honest_pick s c p ran) (honest_rest s c p ran)
 
+honest_keep_or_pick : (s : State) (c : ℕ) (p : Option ℕ) (ran : Bool) → IsHonest s (keep_or_pick s c p ran)
+unfolding keep_or_pick
+honest_keep_or_pick s c p ran = keeps_if (IsHonest s) (keeps_slice s p) (stays s) (pick_or_rest s c p ran) (honest_stays s) (honest_pick_or_rest s c p ran)
+
 honest_conclude : (s : State) (c : ℕ) (p : Option ℕ) (ran : Bool) → IsHonest s (conclude s c p ran)
 unfolding conclude
-honest_conclude s c p ran = keeps_if (IsHonest s) (is_ejected s) (builtin_cycle s c p ran) (pick_or_rest s c p ran) (honest_builtin_cycle s c p ran) (honest_pick_or_rest s c p ran)
+honest_conclude s c p ran = keeps_if (IsHonest s) (is_ejected s) (builtin_cycle s c p ran) (keep_or_pick s c p ran) (honest_builtin_cycle s c p ran) (honest_keep_or_pick s c p ran)
+
+-- what is honest once the processor has given up asking
+honest_give_up : (s : State) (c : ℕ) (p : Option ℕ) (r : Stepped) → IsHonest (give_up s c p) r → IsHonest s r
+unfolding give_up
+honest_give_up s c p r h = honest_if s (is_by_linux s && asks_again s c p) (with_kick s.world c) r (refl, refl, refl, refl, refl, refl) h
 
 honest_ask : (s : State) (c : ℕ) (p : Option ℕ) (ran : Bool) → IsHonest s (ask s c p ran)
 unfolding ask
-honest_ask s c p ran = let d = tries 32 s c p in honest_joined s d (conclude d.state c p ran) (honest_tries 32 s c p) (honest_conclude d.state c p ran)
+honest_ask s c p ran =
+    let d = tries 32 s c p in
+    let v = give_up d.state c p in
+    honest_joined s d (conclude v c p ran) (honest_tries 32 s c p) (honest_give_up d.state c p (conclude v c p ran) (honest_conclude v c p ran))
 
 honest_seek : (s : State) (c : ℕ) (p : Option ℕ) (ran : Bool) → IsHonest s (seek s c p ran)
 unfolding seek
@@ -431,7 +513,53 @@ unfolding cycle
 honest_cycle s c p ran =
     let v = cycling s (Some c) in
     let h = honest_look v c p ran in
-    record { policy = h.policy; clock = h.clock; tree = h.tree; silent = h.silent; stays = h.stays; blamed = h.blamed; heard = h.heard }
+    record { policy = h.policy; clock = h.clock; tree = h.tree; rules = h.rules; silent = h.silent; stays = h.stays; blamed = h.blamed; heard = h.heard }
+
+-- ---- rounds
+
+honest_look_past : (s : State) (c t : ℕ) → IsHonest s (look_past s c t)
+unfolding look_past
+honest_look_past s c t = keeps_if (IsHonest s) ((task_at s.world t).slice == 0) (cycle s c (Some t) true) (stays s) (honest_cycle s c (Some t) true) (honest_stays s)
+
+honest_cut_off : (b : Bool) (s : State) (t : ℕ) (r : Stepped) → IsHonest (cut_off_if b s t) r → IsHonest s r
+honest_cut_off true s t r h = honest_from s (after_cut_off s.world t) r (refl, refl, refl, refl, refl, refl) h
+honest_cut_off false s t r h = h
+
+honest_look_from : (o : Option ℕ) (b : Bool) (s : State) (c : ℕ) → IsHonest s (look_from o b s c)
+honest_look_from None b s c = honest_cycle s c None false
+honest_look_from (Some t) b s c = honest_cut_off b s t (look_past (cut_off_if b s t) c t) (honest_look_past (cut_off_if b s t) c t)
+
+honest_round : (s : State) (c : ℕ) → IsHonest s (round s c)
+unfolding round
+honest_round s c =
+    let b = is_in_set s.world.preempted c in
+    let v = with_world s (without_kick s.world c) in
+    honest_from s (without_kick s.world c) (look_from (running s.world c) b v c) (refl, refl, refl, refl, refl, refl) (honest_look_from (running s.world c) b v c)
+
+honest_rounds : (j : ℕ) (s : State) → IsHonest s (rounds j s)
+unfolding rounds
+honest_rounds zero s = honest_stays s
+honest_rounds (suc j) s = go (next_to_look s) (λ c. honest_rounds j (round s c).state)
+  where
+    go : (o : Option ℕ) → ((c : ℕ) → IsHonest (round s c).state (rounds j (round s c).state)) → IsHonest s (round_then (λ r. rounds j r) s o)
+    go None more = honest_stays s
+    go (Some c) more = let r = round s c in honest_joined s r (rounds j r.state) (honest_round s c) (more c)
+
+-- once the policy is ejected there are none
+pub no_rounds : (r : Stepped) (x : Eject) → r.state.world.ejected ≡ Some x → with_rounds r ≡ r
+unfolding with_rounds
+no_rounds r x e = go (are_linux r.state.world.rules) r.state.world.ejected e
+  where
+    go : (b : Bool) (o : Option Eject) → o ≡ Some x → (if b && is_none o then one_after_other r (rounds most_rounds r.state) else r) ≡ r
+    go b None y = absurd (cc)
+    go true (Some z) y = refl
+    go false (Some z) y = refl
+
+-- what is honest stays so as rounds follow
+pub honest_with_rounds : (s : State) (r : Stepped) → IsHonest s r → IsHonest s (with_rounds r)
+unfolding with_rounds
+honest_with_rounds s r h =
+    keeps_if (IsHonest s) (is_by_linux r.state) (one_after_other r (rounds most_rounds r.state)) r (honest_joined s r (rounds most_rounds r.state) h (honest_rounds most_rounds r.state)) h
 
 -- ---- events
 
@@ -439,20 +567,51 @@ honest_settled : (o : Option Insert) (s : State) (t c : ℕ) → IsHonest s (ins
 honest_settled None s t c = honest_put s t c 1
 honest_settled (Some i) s t c = honest_enters s t (for_cpu c i)
 
+honest_wake_target : (s : State) (c : ℕ) → IsHonest s (wake_target s c)
+unfolding wake_target
+honest_wake_target s c =
+    let r = if is_idle s.world c then cycle s c None false else stays s in
+    keeps_if (IsHonest s) (is_by_linux s) (stays (kicked_if_idle s c)) r (honest_kicked s (stays s) c (honest_stays s))
+    (keeps_if (IsHonest s) (is_idle s.world c) (cycle s c None false) (stays s) (honest_cycle s c None false) (honest_stays s))
+
 honest_settle : (s : State) (t c : ℕ) → IsHonest s (settle s t c)
 unfolding settle
 honest_settle s t c =
-    let r = insert_or_put s.world.call.insert s t c in
-    let h = honest_settled s.world.call.insert s t c in
-    keeps_if (IsHonest s) (is_idle r.state.world c) (one_after_other r (cycle r.state c None false)) r (honest_joined s r (cycle r.state c None false) h (honest_cycle r.state c None false)) h
+    let w = homed s.world t c in
+    let v = with_world s w in
+    let r = insert_or_put v.world.call.insert v t c in
+    honest_from s w (one_after_other r (wake_target r.state c)) (kept_homed Anywhere (IsAsBefore s.world) (same_marks s.world) s.world t c tt (refl, refl, refl, refl, refl, refl))
+    (honest_joined v r (wake_target r.state c) (honest_settled v.world.call.insert v t c) (honest_wake_target r.state c))
+
+-- a processor that is chosen by default changes none of these
+pub same_chosen : (w : WorldState) (t : ℕ) → IsAsBefore w (chosen_by_default w t)
+same_chosen w t = keeps_if (IsAsBefore w) (world.is_by_linux w) (inserted_by_choice (after_claim w (choice w t)) (choice w t)) w (go (choice w t)) (refl, refl, refl, refl, refl, refl)
+  where
+    go : (o : Option ℕ) → IsAsBefore w (inserted_by_choice (after_claim w o) o)
+    go None = (refl, refl, refl, refl, refl, refl)
+    go (Some c) = let x = kept_claim Anywhere (IsAsBefore w) (same_marks w) w (Some c) (refl, refl, refl, refl, refl, refl) in (x.0, x.1, x.2, x.3, x.4, x.5)
+
+-- what is honest once a processor was chosen
+honest_chosen : (p : Option VerifiedProgram) (s : State) (t : ℕ) (r : Stepped) → IsHonest (chosen p s t) r → IsHonest s r
+honest_chosen None s t r h = honest_from s (chosen_by_default s.world t) r (same_chosen s.world t) h
+honest_chosen (Some p) s t r h = h
+
+honest_ask_target : (s : State) (t : ℕ) → 0 < length s.world.cpus → IsHonest s (ask_target s t)
+unfolding ask_target
+honest_ask_target s t some =
+    let c = (task_at s.world t).prev_cpu in
+    let r = call_back s callback.SelectCpu (task_cpu_and_0 t c) t c in
+    let p = acting r.state callback.SelectCpu in
+    let d = target p r.state.world t (answered_by s callback.SelectCpu (task_cpu_and_0 t c) t c) in
+    let y = settle (chosen p r.state t) t d in
+    honest_joined s r y (honest_call_back s callback.SelectCpu (task_cpu_and_0 t c) t c (λ e. some)) (honest_chosen p r.state t y (honest_settle (chosen p r.state t) t d))
 
 honest_select : (s : State) (t : ℕ) → 0 < length s.world.cpus → IsHonest s (select s t)
 unfolding select
 honest_select s t some =
-    let c = (task_at s.world t).prev_cpu in
-    let r = call_back s callback.SelectCpu (task_cpu_and_0 t c) t c in
-    let d = target (acting r.state callback.SelectCpu) r.state.world t (answered_by s callback.SelectCpu (task_cpu_and_0 t c) t c) in
-    honest_joined s r (settle r.state t d) (honest_call_back s callback.SelectCpu (task_cpu_and_0 t c) t c (λ e. some)) (honest_settle r.state t d)
+    let w = at_callback s.world callback.SelectCpu t 0 in
+    let r = settle (with_world s w) t 0 in
+    keeps_if (IsHonest s) (asks_target s) (ask_target s t) r (honest_ask_target s t some) (honest_from s w r (refl, refl, refl, refl, refl, refl) (honest_settle (with_world s w) t 0))
 
 -- a task that wakes
 pub honest_wake : (s : State) (t : ℕ) → 0 < length s.world.cpus → IsHonest (state_with_tree s (with_task s.world.tree t true)) (wake s t)
@@ -460,15 +619,24 @@ unfolding wake
 honest_wake s t some =
     let w = after_wake s.world t in
     let ns = note_now s.world (note.Wake t) ∷ [] in
-    honest_from (state_with_tree s (with_task s.world.tree t true)) w (after ns (select (with_world s w) t)) (refl, refl, refl, refl) (honest_after (with_world s w) ns (select (with_world s w) t) (honest_select (with_world s w) t some))
+    honest_from (state_with_tree s (with_task s.world.tree t true)) w (after ns (select (with_world s w) t)) (refl, refl, refl, refl, refl, refl) (honest_after (with_world s w) ns (select (with_world s w) t) (honest_select (with_world s w) t some))
 
 -- a task that there is goes to sleep
 now_asleep : (w : WorldState) (t : ℕ) → t < length w.tasks → IsAsBefore (with_tree w (with_task w.tree t false)) (after_sleep w t)
 now_asleep w t known = go (nat_lt t (length w.tasks)) refl
   where
     go : (b : Bool) → nat_lt t (length w.tasks) ≡ b → IsAsBefore (with_tree w (with_task w.tree t false)) (if b then with_tree (set_task w t (with_since (task_at w t) None)) (with_task w.tree t false) else w)
-    go true e = (refl, refl, refl, refl)
+    go true e = (refl, refl, refl, refl, refl, refl)
     go false e = absurd (grind (arith, nat_tests, e, known))
+
+-- what is honest once dispatch is to be told of the task
+honest_told : (s : State) (t : ℕ) (r : Stepped) → IsHonest (told_of_sleep s t) r → IsHonest s r
+unfolding told_of_sleep
+honest_told s t r h = go (is_by_linux s) h
+  where
+    go : (b : Bool) → IsHonest (if b then with_world s (with_slept s.world t) else s) r → IsHonest s r
+    go true k = record { policy = k.policy; clock = k.clock; tree = k.tree; rules = k.rules; silent = k.silent; stays = k.stays; blamed = k.blamed; heard = k.heard }
+    go false k = k
 
 -- once it has left its processor
 abbrev pub stopped_for_sleep : State → ℕ → ℕ → Stepped
@@ -477,8 +645,8 @@ stopped_for_sleep s t c = after_stopping (with_world s (after_stop s.world c t))
 honest_sleep_from_cpu : (s : State) (t c : ℕ) → t < length (stopped_for_sleep s t c).state.world.tasks → IsHonest (state_with_tree s (with_task s.world.tree t false)) (sleep_from_cpu s t c)
 unfolding sleep_from_cpu
 honest_sleep_from_cpu s t c known =
-    honest_from (state_with_tree s tree) (with_tree off.world tree) (after ns (one_after_other r y)) (refl, refl, refl, refl)
-    (honest_after (state_with_tree off tree) ns (one_after_other r y) (honest_joined (state_with_tree off tree) (step_with_tree r tree) y (honest_with_tree off r tree left) (honest_from (state_with_tree r.state tree) u y same (honest_cycle (with_world r.state u) c None true))))
+    honest_from (state_with_tree s tree) (with_tree off.world tree) (after ns (one_after_other r y)) (refl, refl, refl, refl, refl, refl)
+    (honest_after (state_with_tree off tree) ns (one_after_other r y) (honest_joined (state_with_tree off tree) (step_with_tree r tree) y (honest_with_tree off r tree left) (honest_from (state_with_tree r.state tree) u y same (honest_told v t y (honest_cycle (told_of_sleep v t) c None true)))))
   where
     tree : Hierarchy
     tree = with_task s.world.tree t false
@@ -492,8 +660,11 @@ honest_sleep_from_cpu s t c known =
     u : WorldState
     u = after_sleep r.state.world t
 
+    v : State
+    v = with_world r.state u
+
     y : Stepped
-    y = cycle (with_world r.state u) c None true
+    y = cycle (told_of_sleep v t) c None true
 
     ns : List Note
     ns = note_now s.world (note.Stop t c) ∷ []
@@ -502,7 +673,7 @@ honest_sleep_from_cpu s t c known =
     left = honest_stopping off c t 0
 
     same : IsAsBefore (with_tree r.state.world tree) u
-    same = let x = now_asleep r.state.world t known in (x.0, x.1, x.2, x.3 ∙ ap (λ (h : Hierarchy). with_task h t false) left.tree)
+    same = let x = now_asleep r.state.world t known in (x.0, x.1, x.2, x.3 ∙ ap (λ (h : Hierarchy). with_task h t false) left.tree, x.4, x.5)
 
 -- one that goes to sleep
 pub honest_sleep : (s : State) (t : ℕ) → t < length s.world.tasks → ((c : ℕ) → cpu_of s.world t ≡ Some c → t < length (stopped_for_sleep s t c).state.world.tasks) → IsHonest (state_with_tree s (with_task s.world.tree t false)) (sleep s t)
@@ -513,7 +684,7 @@ honest_sleep s t known still = honest_after (state_with_tree s tree) (note_now s
     tree = with_task s.world.tree t false
 
     go : (o : Option ℕ) → cpu_of s.world t ≡ o → IsHonest (state_with_tree s tree) (sleep_from o s t)
-    go None e = let x = now_asleep (after_leave s.world t) t known in honest_plain (state_with_tree s tree) (after_sleep (after_leave s.world t) t) [] (x.0, x.1, x.2, x.3)
+    go None e = let x = now_asleep (after_leave s.world t) t known in honest_plain (state_with_tree s tree) (after_sleep (after_leave s.world t) t) [] (x.0, x.1, x.2, x.3, x.4, x.5)
     go (Some c) e = honest_sleep_from_cpu s t c (still c e)
 
 honest_throttle : (s : State) (c t : ℕ) → IsHonest s (throttle s c t)
@@ -525,12 +696,12 @@ honest_throttle s c t =
     let p = park r.state t in
     let y = cycle p.state c None true in
     let ns = note_now s.world (note.Stop t c) ∷ [] in
-    honest_from s w (after ns (one_after_other r (one_after_other p y))) (refl, refl, refl, refl)
+    honest_from s w (after ns (one_after_other r (one_after_other p y))) (refl, refl, refl, refl, refl, refl)
     (honest_after off ns (one_after_other r (one_after_other p y)) (honest_joined off r (one_after_other p y) (honest_stopping off c t 1) (honest_joined r.state p y (honest_park r.state t) (honest_cycle p.state c None true))))
 
 honest_expire : (s : State) (c t : ℕ) → IsHonest s (expire s c t)
 unfolding expire
-honest_expire s c t = keeps_if (IsHonest s) ((task_at s.world t).slice == 0) (cycle s c (Some t) true) (stays s) (honest_cycle s c (Some t) true) (honest_stays s)
+honest_expire s c t = keeps_if (IsHonest s) (((task_at s.world t).slice == 0) && ends_slices s) (cycle s c (Some t) true) (stays s) (honest_cycle s c (Some t) true) (honest_stays s)
 
 -- a task that there is has run for a millisecond
 now_used : (w : WorldState) (t : ℕ) → t < length w.tasks → IsAsBefore (with_tree w (with_use w.tree t)) (used_ms (after_tick w t) t)
@@ -543,8 +714,12 @@ now_used w t known = go (nat_lt t (length x.tasks)) refl
     there = rw (length-set w.tasks t (ran_a_tick (task_at w t))) known
 
     go : (b : Bool) → nat_lt t (length x.tasks) ≡ b → IsAsBefore (with_tree w (with_use w.tree t)) (if b then with_tree x (with_use x.tree t) else x)
-    go true e = (refl, refl, refl, refl)
+    go true e = (refl, refl, refl, refl, refl, refl)
     go false e = absurd (grind (arith, nat_tests, e, there))
+
+honest_tick_idle : (s : State) (c : ℕ) → IsHonest s (tick_idle s c)
+unfolding tick_idle
+honest_tick_idle s c = keeps_if (IsHonest s) (is_by_linux s) (stays s) (cycle s c None false) (honest_stays s) (honest_cycle s c None false)
 
 -- a processor that ran, on which a task that there is used a millisecond
 pub honest_tick : (s : State) (c : ℕ) → ((t : ℕ) → running s.world c ≡ Some t → t < length s.world.tasks) → IsHonest (state_with_tree s (used_at_tick (running s.world c) s.world.tree)) (tick s c)
@@ -552,7 +727,7 @@ unfolding tick count_down
 honest_tick s c known = go (running s.world c) refl
   where
     go : (o : Option ℕ) → running s.world c ≡ o → IsHonest (state_with_tree s (used_at_tick o s.world.tree)) (tick_of o s c)
-    go None e = honest_same_tree s (cycle s c None false) (honest_cycle s c None false)
+    go None e = honest_same_tree s (tick_idle s c) (honest_tick_idle s c)
     go (Some t) e =
         let w = used_ms (after_tick s.world t) t in
         let v = with_world s w in
@@ -564,7 +739,8 @@ honest_let_go_one : (s : State) (t : ℕ) → IsHonest s (let_go_one s t)
 unfolding let_go_one
 honest_let_go_one s t =
     let w = let_go s.world t in
-    honest_from s w (put (with_world s w) t (task_at s.world t).prev_cpu 0) (refl, refl, refl, refl) (honest_put (with_world s w) t (task_at s.world t).prev_cpu 0)
+    let c = (task_at s.world t).prev_cpu in
+    honest_kicked s (put (with_world s w) t c 0) c (honest_from s w (put (with_world s w) t c 0) (refl, refl, refl, refl, refl, refl) (honest_put (with_world s w) t c 0))
 
 honest_let_go_from : (j : ℕ) (s : State) (at : Option ℕ) → IsHonest s (let_go_from j s at)
 unfolding let_go_from
@@ -589,5 +765,5 @@ honest_weight s g x ns fine = go (weight_fault s.world.tree g x) fine
     tree = with_weight s.world.tree g x
 
     go : (o : Option TreeError) → o ≡ None → IsHonest (state_with_tree s tree) (record { state = with_world s (if is_none o then with_tree s.world tree else s.world); notes = ns; calls = [] })
-    go None e = honest_plain (state_with_tree s tree) (with_tree s.world tree) ns (refl, refl, refl, refl)
+    go None e = honest_plain (state_with_tree s tree) (with_tree s.world tree) ns (refl, refl, refl, refl, refl, refl)
     go (Some f) e = absurd (cc)

@@ -14,6 +14,7 @@ use Rattle.scx_sched_world.specs.Tasks.{for_cpu}
 use Rattle.scx_sched_world.specs.Helpers.{with_fault, is_dispatch, with_insert, after_release, insert_or_fault, helper_after, world_functions}
 use Rattle.scx_sched_machine.proofs.Choices.{keeps_if}
 use Rattle.scx_sched_machine.proofs.HelperCalls.{by_helper}
+use Rattle.scx_sched.proofs.Marks.{KeepsMarks, Anywhere, kept_kicked_so, kept_claim}
 
 -- from the first world to the second, with a callback at hand that isn't dispatch
 pub record IsCalm (v w : WorldState) : Type 0 where
@@ -24,6 +25,9 @@ pub record IsCalm (v w : WorldState) : Type 0 where
   pub callback : is_dispatch w.call.callback ≡ false
 
 module _ (v : WorldState) where
+  calm_marks : KeepsMarks Anywhere (IsCalm v)
+  calm_marks = record { there = λ w c h l. tt; homed = λ w t c l h. record { entries = h.entries; pushes = h.pushes; tree = h.tree; ejected = h.ejected; callback = h.callback }; sliced = λ w t n h. record { entries = h.entries; pushes = h.pushes; tree = h.tree; ejected = h.ejected; callback = h.callback }; sets = λ w a b c d h. record { entries = h.entries; pushes = h.pushes; tree = h.tree; ejected = h.ejected; callback = h.callback } }
+
   calm_created : (w : WorldState) (q : ℕ) → IsCalm v w → IsCalm v (with_queues w (after_create w.queues q))
   calm_created w q h = keeps_if (λ (s : QueueState). IsCalm v (with_queues w s)) (is_none (create_refusal w.queues q)) (with_queue w.queues q) w.queues (record { entries = h.entries; pushes = h.pushes; tree = h.tree; ejected = h.ejected; callback = h.callback }) (record { entries = h.entries; pushes = h.pushes; tree = h.tree; ejected = h.ejected; callback = h.callback })
 
@@ -43,7 +47,10 @@ module _ (v : WorldState) where
     same = h;
     faulty = λ f other. calm_faulted w f h;
     created = λ q. calm_created w q h;
-    inserted = λ t i flags none. calm_inserted w None t i h;
+    inserted = λ t i flags back none. calm_inserted w None t i h;
+    late = λ linux here. absurd (is_not here);
+    claimed = λ o. kept_claim Anywhere (IsCalm v) calm_marks w o h;
+    kicked = λ c k. kept_kicked_so Anywhere (IsCalm v) calm_marks w c k h;
     moved = λ q here low. absurd (is_not here);
   }) f a
     where

@@ -21,18 +21,19 @@ use Rattle.scx_sched_world.specs.Waits.{first_overdue, IsFirstOverdue}
 use Rattle.scx_sched_world.specs.Helpers.{or_fault, world_functions}
 use Rattle.scx_sched_tasks.specs.Waits.{time_since}
 use Rattle.scx_sched_machine.specs.Policy.{PolicyState}
-use Rattle.scx_sched_machine.specs.Steps.{State, CallMade, Stepped, with_world, one_after_other}
+use Rattle.scx_sched_machine.specs.Steps.{State, CallMade, Stepped, with_world, stays, one_after_other}
 use Rattle.scx_sched_machine.specs.Ejecting.{eject}
 use Rattle.scx_sched_machine.specs.Callbacks.{call_ending, answer_fault, fault_of, IsAnswered, AreAnswered}
 use Rattle.scx_sched_machine.specs.declared.events.Event.{Event}
 use Rattle.scx_sched_machine.specs.declared.events.Event.TheVariants.{Wake, Sleep, Tick, Clock, SetWeight}
 use Rattle.scx_sched_machine.specs.Parking.{let_all_go}
 use Rattle.scx_sched_machine.specs.Events.{overdue, eject_if_stalled, clock, event_step}
+use Rattle.scx_sched_machine.specs.Rounds.{with_rounds}
 use Rattle.scx_sched.specs.Causes.{EndsIn, HasFault, Of_helper, Of_answer, IsLast, IsAmong, IsCause, Waited, Went_wrong, EjectsOnce, clock_in}
 use Rattle.scx_sched.specs.Sim.{SimState, refusal, calls_if, calls_of, IsValid}
 use Rattle.scx_sched.proofs.Unchanged.{eject_sets}
 use Rattle.scx_sched.specs.Ranges.{IsFine}
-use Rattle.scx_sched.proofs.Blaming.{IsFaultless, AreFaultless, IsHonest, apart, same_eject, honest_let_all_go}
+use Rattle.scx_sched.proofs.Blaming.{IsFaultless, AreFaultless, IsHonest, apart, same_eject, honest_let_all_go, honest_joined, honest_stays, honest_with_rounds, no_rounds}
 use Rattle.scx_sched.proofs.Deciding.{accepted, IsHonestEvent, wake_is_honest, sleep_is_honest, tick_is_honest, weight_is_honest}
 use Rattle.scx_sched.proofs.Lasting.{AreAsLong}
 use Rattle.scx_sched.proofs.Letting.{long_let_all_go}
@@ -156,7 +157,7 @@ module _ (s : State) (n : ℕ) where
           subst (IsCause before_event v) (ap (λ k. cause.Fault b.fault k) now ∙ sym b.named) (Went_wrong b.call b.fault last (has_fault b.call b.fault i b.wrong))
 
   -- the clock: a callback as a task is let go, or the watchdog
-  clock_cause : refusal before_event Clock ≡ None → IsFineNow (length s.world.tasks) n n s.world → AreAnswered (clock s).calls → EjectsOnce before_event Clock (record { state = (clock s).state; events = n + 1 })
+  clock_cause : refusal before_event Clock ≡ None → IsFineNow (length s.world.tasks) n n s.world → AreAnswered (event_step s Clock).calls → EjectsOnce before_event Clock (after_event s n Clock)
   unfolding clock
   clock_cause ok fine answered = go (overdue r) refl answered (ap (λ o. calls_if o before_event Clock) ok)
     where
@@ -175,6 +176,13 @@ module _ (s : State) (n : ℕ) where
       honest : IsHonest v l
       honest = honest_let_all_go v
 
+      -- where the watchdog finds nobody, the rounds follow
+      all : Stepped
+      all = with_rounds (one_after_other l (stays r))
+
+      honest_all : IsHonest v all
+      honest_all = honest_with_rounds v (one_after_other l (stays r)) (honest_joined v l (stays r) honest (honest_stays r))
+
       long : AreAsLong v.world r.world
       long = long_let_all_go many (IsFine many (n + 1)) (fine_inside many (n + 1)) (fine_events many (n + 1)).let_go n s.world.cpus v (fine_later many n n s.world fine)
 
@@ -185,28 +193,26 @@ module _ (s : State) (n : ℕ) where
           let f = first_late r.world r.policy.timeout_ms t e in
           record { known = omega (arith, f.known, long.1); over = omega (arith, f.over, limit, long.2 t); least = λ u k. omega (arith, f.least u k, limit, long.2 u) }
 
-      go : (o : Option ℕ) → overdue r ≡ o → AreAnswered (one_after_other l (eject_if_stalled o r)).calls → calls_of before_event Clock ≡ (one_after_other l (eject_if_stalled o r)).calls → EjectsOnce before_event Clock (record { state = (eject_if_stalled o r).state; events = n + 1 })
-      go None e answers calls = record { stays = honest.stays; cause = λ x force out. for_fault x force out; heard = λ force m f among wrong. no_fault force m f among wrong }
+      go : (o : Option ℕ) → overdue r ≡ o → AreAnswered (with_rounds (one_after_other l (eject_if_stalled o r))).calls → calls_of before_event Clock ≡ (with_rounds (one_after_other l (eject_if_stalled o r))).calls → EjectsOnce before_event Clock (record { state = (with_rounds (one_after_other l (eject_if_stalled o r))).state; events = n + 1 })
+      go None e answers calls = record { stays = honest_all.stays; cause = λ x force out. for_fault x force out; heard = λ force m f among wrong. no_fault force m f among wrong }
         where
-          all : calls_of before_event Clock ≡ l.calls
-          all = calls ∙ append-nil l.calls
+          no_fault : all.state.world.ejected ≡ None → (m : CallMade) (f : Fault) → IsAmong m (calls_of before_event Clock) → HasFault m f → ⊥
+          no_fault force m f among wrong = none_heard (calls_of before_event Clock) m f (subst AreFaultless (sym calls) (honest_all.heard force)) among wrong
 
-          no_fault : r.world.ejected ≡ None → (m : CallMade) (f : Fault) → IsAmong m (calls_of before_event Clock) → HasFault m f → ⊥
-          no_fault force m f among wrong = none_heard (calls_of before_event Clock) m f (subst AreFaultless (sym all) (honest.heard force)) among wrong
-
-          for_fault : (x : Eject) → s.world.ejected ≡ None → r.world.ejected ≡ Some x → IsCause before_event Clock x
+          for_fault : (x : Eject) → s.world.ejected ≡ None → all.state.world.ejected ≡ Some x → IsCause before_event Clock x
           for_fault x force out =
-              let b = honest.blamed x force out in
-              let i = last_answered b.last.0 b.call (subst AreAnswered (append-nil l.calls ∙ b.last.1) answers) in
-              subst (IsCause before_event Clock) (sym b.named) (Went_wrong b.call b.fault (b.last.0, all ∙ b.last.1) (has_fault b.call b.fault i b.wrong))
+              let b = honest_all.blamed x force out in
+              let i = last_answered b.last.0 b.call (subst AreAnswered b.last.1 answers) in
+              subst (IsCause before_event Clock) (sym b.named) (Went_wrong b.call b.fault (b.last.0, calls ∙ b.last.1) (has_fault b.call b.fault i b.wrong))
       go (Some t) e answers calls =
           let y = cause.Stall t r.world.clock in
           let late = is_late_in r t e in
-          record {
+          subst (λ (x : Stepped). EjectsOnce before_event Clock (record { state = x.state; events = n + 1 })) (sym (no_rounds (one_after_other l (eject r y)) y (eject_sets r y).1))
+          (record {
             stays = λ x out. absurd (apart r.world.ejected x late.force (honest.stays x out));
             heard = λ force. absurd (apart (eject r y).state.world.ejected y force (eject_sets r y).1);
             cause = λ x force out. subst (IsCause before_event Clock) (ap (λ k. cause.Stall t k) (sym honest.clock) ∙ same_eject (eject r y).state.world.ejected y x (eject_sets r y).1 out) (Waited t refl (found t late.first));
-          }
+          })
 
   -- the law
   pub ejects_once : (v : Event) → refusal before_event v ≡ None → IsFineNow (length s.world.tasks) n n s.world → AreAnswered (event_step s v).calls → EjectsOnce before_event v (after_event s n v)

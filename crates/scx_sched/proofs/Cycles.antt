@@ -1,33 +1,44 @@
 -- What each small step of a world keeps, whole cycles keep. Before a front is started its queue is cleared, so that
 -- nobody comes to run who may not.
-use Rattle.std.proofs.Common.{◌≡◌, ℕ, zero, suc, ◌+◌, ◌==◌, ◌<◌, Bool, true, false, not, if◌then◌else◌, List, length, set, get_or, Option, Some, None, refl, sym, arith}
-use Rattle.std.proofs.lemmas.Bool.{ne_eqb}
+use Rattle.std.proofs.Common.{◌≡◌, ℕ, zero, suc, ◌+◌, ◌==◌, ◌<◌, Bool, true, false, ◌&&◌, not, if◌then◌else◌, List, length, set, get_or, Option, Some, None, is_some, option_map, refl, sym, ap, ◌∙◌, arith}
+use Rattle.std.proofs.lemmas.Bool.{ne_eqb, eq-eqb}
 use Rattle.std.proofs.lemmas.Bool.Decides.{nat_tests}
 use Rattle.std.proofs.lemmas.List.{length-set, get_or-set_same}
 use Rattle.scx_dsq.proofs.Facts.{front_is_known}
-use Rattle.scx_dsq.specs.Queues.{len_of, front_of}
+use Rattle.scx_dsq.specs.Queues.{entry_of, queue_of, is_in, len_of, front_of}
+use Rattle.scx_dsq.specs.declared.entries.Entry.{Entry}
 use Rattle.scx_isa_semantics.specs.declared.callbacks.Callback.TheVariants as callback
 use Rattle.scx_weights.specs.Limits.{is_throttled}
 use Rattle.scx_sched_world.specs.Ids.{global, builtin_queue, parked_queue, local_on}
-use Rattle.scx_sched_world.specs.World.{WorldState}
-use Rattle.scx_sched_world.specs.Tasks.{local_len, after_stop, started_at, after_take}
-use Rattle.scx_sched_machine.specs.Steps.{State, Stepped, one_after_other, stays, with_world, is_ejected}
+use Rattle.scx_sched_world.specs.World.{WorldState, task_at}
+use Rattle.scx_sched_world.specs.declared.eject.Eject.{Eject}
+use Rattle.scx_sched_world.specs.Tasks.{local_len, to_front, after_stop, started_at, after_run, after_keep, after_take}
+use Rattle.scx_sched_world.proofs.Fronts.{front_in}
+use Rattle.scx_sched_machine.specs.Steps.{State, Stepped, one_after_other, stays, with_world, is_ejected, is_by_linux, kicked}
 use Rattle.scx_sched_machine.specs.Callbacks.{call_back, cpu_and_task}
+use Rattle.scx_sched_machine.specs.Put.{enters, put}
 use Rattle.scx_sched_machine.specs.Filling.{fill}
 use Rattle.scx_sched_machine.specs.Parking.{park, park_front, throttled_front, park_fronts, clear, in_reach, supply}
-use Rattle.scx_sched_machine.specs.Cycle.{has_local, after_dispatch, asks_again, tries, after_stopping, leave, started_if, start as run_front, rest, swap, swap_or_rest, builtin_dispatch, builtin_fill, builtin_ask, builtin_cycle, start_or_cycle, pick, pick_or_rest, conclude, ask, seek, look, cycling, cycle}
+use Rattle.scx_sched_machine.specs.Cycle.{has_local, keeps_slice, supply_unless_kept, told_of, after_dispatch, asks_again, tries, after_stopping, switched, put_back, leave, started_if, start as run_front, rest, swap, swap_or_rest, builtin_dispatch, builtin_fill, builtin_ask, builtin_cycle, start_or_cycle, picked, refilled, is_local, start_picked, start_picked_or_cycle, give_up, pick, pick_or_rest, keep_or_pick, conclude, ask, seek, look, cycling, cycle}
 use Rattle.scx_sched_machine.proofs.Choices.{keeps_if}
-use Rattle.scx_sched.specs.Kept.{IsKeptBySteps}
+use Rattle.scx_sched.specs.Kept.{IsKeptBySteps, InFront}
 use Rattle.scx_sched.specs.Once.{IsSound}
-use Rattle.scx_sched.proofs.Clear.{IsClear, MayStart, tree_used_up, clear_of}
-use Rattle.scx_sched.proofs.Ready.{ready_leave}
+use Rattle.scx_sched.proofs.Clear.{IsClear, MayStart, IsPicked, tree_used_up, clear_of}
+use Rattle.scx_sched.proofs.Firsts.{no_front_is_empty}
+use Rattle.scx_sched.proofs.Leaving.{LeavesPlainly, out_is_plain}
+use Rattle.scx_sched.proofs.Blaming.{plain_on, honest_supply, honest_builtin_fill, honest_leave}
+use Rattle.scx_sched.proofs.Ready.{ready_leave, picked_leave, linux_in_force}
 use Rattle.scx_sched.proofs.Supplying.{park_fronts_from, clear_from, throttled_is, supply_clears, builtin_clears}
-use Rattle.scx_sched.proofs.Skeleton.{IsKnown, once_for, keeps_call_back, keeps_stopping, keeps_running_on, keeps_put}
+use Rattle.scx_sched.proofs.Skeleton.{IsKnown, once_for, keeps_call_back, keeps_stopping, keeps_running_on, keeps_put, keeps_kicked, keeps_switched}
 
 -- whoever keeps each small step knows where each task is
 pub record IsKeptInside (n : ℕ) (I : ℕ → Option ℕ → List (Option ℕ) → WorldState → Type 0) : Type 0 where
   pub steps : IsKeptBySteps n I
   pub sound : (m : ℕ) (hand : Option ℕ) (on : List (Option ℕ)) (w : WorldState) → I m hand on w → IsSound hand on n w
+
+pub not_kept : (b d : Bool) → (not b && d) ≡ true → b ≡ false
+not_kept true d e = absurd (cc)
+not_kept false d e = refl
 
 -- where the test says that a number isn't 0, it is greater
 pub some_local : (k : ℕ) (b : Bool) → (k == 0) ≡ b → not b ≡ true → 0 < k
@@ -84,13 +95,26 @@ module _ (n : ℕ) (I : ℕ → Option ℕ → List (Option ℕ) → WorldState 
 
     -- a call of dispatch
     pub keeps_dispatched : (s : State) (c : ℕ) (p : Option ℕ) → c < length on → I m None on s.world → I m None on (after_dispatch s c p).state.world
-    unfolding after_dispatch
-    keeps_dispatched s c p l h = keeps_supply (call_back s callback.Dispatch (cpu_and_task c p) 0 c).state c l (keeps_call_back n I k.steps m None on s callback.Dispatch (cpu_and_task c p) 0 c l h)
+    unfolding after_dispatch supply_unless_kept
+    keeps_dispatched s c p l h =
+        let r = (call_back s callback.Dispatch (cpu_and_task c (told_of s p)) 0 c).state in
+        let x = keeps_call_back n I k.steps m None on s callback.Dispatch (cpu_and_task c (told_of s p)) 0 c l h in
+        keeps_if (λ (r : Stepped). I m None on r.state.world) (keeps_slice r p) (stays r) (supply r c) x (keeps_supply r c l x)
 
-    -- after which the local queue is clear
-    dispatched_clears : (s : State) (c : ℕ) (p : Option ℕ) → MayStart c (after_dispatch s c p).state.world
-    unfolding after_dispatch
-    dispatched_clears s c p = supply_clears (call_back s callback.Dispatch (cpu_and_task c p) 0 c).state c
+    -- after which the local queue is clear, unless the task before keeps the processor
+    abbrev pub MayStartUnlessKept : ℕ → Option ℕ → State → Type 0
+    MayStartUnlessKept c p s = keeps_slice s p ≡ false → MayStart c s.world
+
+    dispatched_clears : (s : State) (c : ℕ) (p : Option ℕ) → MayStartUnlessKept c p (after_dispatch s c p).state
+    unfolding after_dispatch supply_unless_kept
+    dispatched_clears s c p = go (keeps_slice r p) refl
+      where
+        r : State
+        r = (call_back s callback.Dispatch (cpu_and_task c (told_of s p)) 0 c).state
+
+        go : (b : Bool) → keeps_slice r p ≡ b → MayStartUnlessKept c p (if b then stays r else supply r c).state
+        go true stays-on left = let bad : true ≡ false = sym stays-on ∙ left in absurd (cc)
+        go false off left = supply_clears r c
 
     -- several of them
     pub keeps_tries : (j : ℕ) (s : State) (c : ℕ) (p : Option ℕ) → c < length on → I m None on s.world → I m None on (tries j s c p).state.world
@@ -99,15 +123,20 @@ module _ (n : ℕ) (I : ℕ → Option ℕ → List (Option ℕ) → WorldState 
     keeps_tries (suc j) s c p l h =
         let d = after_dispatch s c p in
         let x = keeps_dispatched s c p l h in
-        keeps_if (λ (r : Stepped). I m None on r.state.world) (asks_again d.state c) (one_after_other d (tries j d.state c p)) d (keeps_tries j d.state c p l x) x
+        keeps_if (λ (r : Stepped). I m None on r.state.world) (asks_again d.state c p) (one_after_other d (tries j d.state c p)) d (keeps_tries j d.state c p l x) x
 
-    pub tries_clear : (j : ℕ) (s : State) (c : ℕ) (p : Option ℕ) → MayStart c s.world → MayStart c (tries j s c p).state.world
+    -- another try comes only where the task before doesn't keep the processor
+    tries_go : (j c : ℕ) (p : Option ℕ) (d : Stepped) (b : Bool) → asks_again d.state c p ≡ b → MayStartUnlessKept c p d.state → (MayStart c d.state.world → MayStartUnlessKept c p (tries j d.state c p).state) → MayStartUnlessKept c p (if b then one_after_other d (tries j d.state c p) else d).state
+    tries_go j c p d true e x more = more (x (not_kept (keeps_slice d.state p) _ e))
+    tries_go j c p d false e x more = x
+
+    pub tries_clear : (j : ℕ) (s : State) (c : ℕ) (p : Option ℕ) → MayStart c s.world → MayStartUnlessKept c p (tries j s c p).state
     unfolding tries
-    tries_clear zero s c p clear-now = clear-now
+    tries_clear zero s c p clear-now = λ left. clear-now
     tries_clear (suc j) s c p clear-now =
         let d = after_dispatch s c p in
         let x = dispatched_clears s c p in
-        keeps_if (λ (r : Stepped). MayStart c r.state.world) (asks_again d.state c) (one_after_other d (tries j d.state c p)) d (tries_clear j d.state c p x) x
+        tries_go j c p d (asks_again d.state c p) refl x (tries_clear j d.state c p)
 
   -- a front that may start, where each task is where it should be
   pub clear_now : (m : ℕ) (on : List (Option ℕ)) (s : State) (c : ℕ) → I m None on s.world → MayStart c s.world → IsClear c s.world
@@ -125,12 +154,23 @@ module _ (n : ℕ) (I : ℕ → Option ℕ → List (Option ℕ) → WorldState 
       go None e = (on, h)
       go (Some t) e =
           let l' : c < length (set on c (Some t)) = rw (length-set on c (Some t)) l in
-          (set on c (Some t), keeps_running_on n I k.steps m None (set on c (Some t)) (with_world s (started_at (Some t) s.world c)) c t l' (k.steps.started m on s.world c t l free e (clear-now t e) h))
+          let v = with_world s (started_at (Some t) s.world c) in
+          (set on c (Some t), keeps_running_on n I k.steps m None (set on c (Some t)) (switched v t) c t l' (keeps_switched n I k.steps m None (set on c (Some t)) v t (k.steps.started m on s.world c t l free e (clear-now t e) h)))
 
   keeps_rest : (m : ℕ) (on : List (Option ℕ)) (s : State) (c : ℕ) (p : Option ℕ) (ran : Bool) → I m None on s.world → Some-on (once_for p m) (rest s c p ran).state.world
   unfolding rest
   keeps_rest m on s c None ran h = (on, h)
   keeps_rest m on s c (Some t) ran h = (on, k.steps.more m None on _ (k.steps.kept m on s.world t h))
+
+  -- a task that was stopped is put, or goes to the front
+  keeps_put_back : (m : ℕ) (on : List (Option ℕ)) (s : State) (c t : ℕ) → t < n → c < length on → I m (Some t) on s.world → I m None on (put_back s c t).state.world
+  unfolding put_back enters
+  keeps_put_back m on s c t within l h = go (is_by_linux s) (not ((task_at s.world t).slice == 0)) refl
+    where
+      go : (b x : Bool) → is_by_linux s ≡ b → I m None on (if b && x then enters s t (to_front c) else put s t c 0).state.world
+      go true true e = k.steps.entered m on s.world t (to_front c) within (InFront c l e refl) h
+      go true false e = keeps_put n I k.steps m on s t c 0 within l h
+      go false x e = keeps_put n I k.steps m on s t c 0 within l h
 
   abbrev pub Left : ℕ → ℕ → WorldState → Type 0
   Left m c w = (on : List (Option ℕ)) × I m None on w × (c < length on) × (get_or on c None ≡ None)
@@ -144,25 +184,25 @@ module _ (n : ℕ) (I : ℕ → Option ℕ → List (Option ℕ) → WorldState 
       let l' : c < length (set on c None) = rw (length-set on c None) l in
       let r = after_stopping off c t 1 in
       let x : I (m + 1) (Some t) (set on c None) r.state.world = keeps_stopping n I k.steps m (Some t) (set on c None) off c t 1 l' (k.steps.stopped m on s.world c t l known runs h) in
-      (set on c None, keeps_put n I k.steps (m + 1) (set on c None) r.state t c 0 known l' x, l', get_or-set_same on c None None l)
+      (set on c None, keeps_put_back (m + 1) (set on c None) r.state c t known l' x, l', get_or-set_same on c None None l)
 
   -- and leaves the front of the local queue, or nobody in it
-  pub ready_left : (m : ℕ) (on : List (Option ℕ)) (s : State) (c : ℕ) (p : Option ℕ) → c < length on → IsKnown n p → get_or on c None ≡ p → has_local s c ≡ true → IsClear c s.world → I m None on s.world → IsClear c (leave s c p).state.world
-  ready_left m on s c p l known runs some clear-now h =
-      (ready_leave n I k.steps k.sound c m on s c p l known runs h (record { clear = clear-now; some = λ force. some_local (local_len s.world c) (local_len s.world c == 0) refl some })).clear
+  pub ready_left : (m : ℕ) (on : List (Option ℕ)) (s : State) (c : ℕ) (p : Option ℕ) → LeavesPlainly p s → c < length on → IsKnown n p → get_or on c None ≡ p → has_local s c ≡ true → IsClear c s.world → I m None on s.world → IsClear c (leave s c p).state.world
+  ready_left m on s c p plain l known runs some clear-now h =
+      (ready_leave n I k.steps k.sound c m on s c p plain l known runs h (record { clear = clear-now; some = λ force. some_local (local_len s.world c) (local_len s.world c == 0) refl some })).clear
 
   -- ---- the built-in scheduler
 
-  keeps_swap : (m : ℕ) (on : List (Option ℕ)) (s : State) (c : ℕ) (p : Option ℕ) → c < length on → IsKnown n p → get_or on c None ≡ p → has_local s c ≡ true → IsClear c s.world → I m None on s.world → Some-on (once_for p m) (swap s c p).state.world
+  keeps_swap : (m : ℕ) (on : List (Option ℕ)) (s : State) (c : ℕ) (p : Option ℕ) → LeavesPlainly p s → c < length on → IsKnown n p → get_or on c None ≡ p → has_local s c ≡ true → IsClear c s.world → I m None on s.world → Some-on (once_for p m) (swap s c p).state.world
   unfolding swap
-  keeps_swap m on s c p l known runs some clear-now h = let x = keeps_leave m on s c p l known runs h in keeps_start (once_for p m) x.0 (leave s c p).state c x.2 x.3 (ready_left m on s c p l known runs some clear-now h) x.1
+  keeps_swap m on s c p plain l known runs some clear-now h = let x = keeps_leave m on s c p l known runs h in keeps_start (once_for p m) x.0 (leave s c p).state c x.2 x.3 (ready_left m on s c p plain l known runs some clear-now h) x.1
 
-  keeps_swap_or_rest : (m : ℕ) (on : List (Option ℕ)) (s : State) (c : ℕ) (p : Option ℕ) (ran : Bool) → c < length on → IsKnown n p → get_or on c None ≡ p → IsClear c s.world → I m None on s.world → Some-on (once_for p m) (swap_or_rest s c p ran).state.world
+  keeps_swap_or_rest : (m : ℕ) (on : List (Option ℕ)) (s : State) (c : ℕ) (p : Option ℕ) (ran : Bool) → LeavesPlainly p s → c < length on → IsKnown n p → get_or on c None ≡ p → IsClear c s.world → I m None on s.world → Some-on (once_for p m) (swap_or_rest s c p ran).state.world
   unfolding swap_or_rest
-  keeps_swap_or_rest m on s c p ran l known runs clear-now h = go (has_local s c) refl
+  keeps_swap_or_rest m on s c p ran plain l known runs clear-now h = go (has_local s c) refl
     where
       go : (b : Bool) → has_local s c ≡ b → Some-on (once_for p m) (if b then swap s c p else rest s c p ran).state.world
-      go true some = keeps_swap m on s c p l known runs some clear-now h
+      go true some = keeps_swap m on s c p plain l known runs some clear-now h
       go false none = keeps_rest m on s c p ran h
 
   -- its dispatch
@@ -172,24 +212,95 @@ module _ (n : ℕ) (I : ℕ → Option ℕ → List (Option ℕ) → WorldState 
       let p = park_fronts (len_of s.world.queues builtin_queue) s builtin_queue in
       keeps_if (λ (r : Stepped). I m None on r.state.world) (has_local s c) (stays s) (one_after_other p (fill p.state builtin_queue c)) h (keeps_fill m on p.state builtin_queue c refl l (keeps_park_fronts m on (len_of s.world.queues builtin_queue) s builtin_queue refl h))
 
-  pub keeps_builtin_cycle : (m : ℕ) (on : List (Option ℕ)) (s : State) (c : ℕ) (p : Option ℕ) (ran : Bool) → c < length on → IsKnown n p → get_or on c None ≡ p → I m None on s.world → Some-on (once_for p m) (builtin_cycle s c p ran).state.world
+  pub keeps_builtin_cycle : (m : ℕ) (on : List (Option ℕ)) (s : State) (c : ℕ) (p : Option ℕ) (ran : Bool) → LeavesPlainly p s → c < length on → IsKnown n p → get_or on c None ≡ p → I m None on s.world → Some-on (once_for p m) (builtin_cycle s c p ran).state.world
   unfolding builtin_cycle builtin_ask
-  keeps_builtin_cycle m on s c p ran l known runs h =
+  keeps_builtin_cycle m on s c p ran plain l known runs h =
       let f = supply s c in
       let x = keeps_builtin_fill m on f.state c l (keeps_supply m on s c l h) in
       let b = (builtin_fill f.state c).state in
-      keeps_swap_or_rest m on b c p ran l known runs (clear_now m on b c x (builtin_clears f.state c (supply_clears s c))) x
+      keeps_swap_or_rest m on b c p ran (still p plain) l known runs (clear_now m on b c x (builtin_clears f.state c (supply_clears s c))) x
+    where
+      still : (q : Option ℕ) → LeavesPlainly q s → LeavesPlainly q (builtin_fill (supply s c).state c).state
+      still None e = tt
+      still (Some t) e = plain_on (supply s c).state (builtin_fill (supply s c).state c) (honest_builtin_fill (supply s c).state c) (plain_on s (supply s c) (honest_supply s c) e)
+
+  -- where the policy is out of force
+  pub keeps_out : (m : ℕ) (on : List (Option ℕ)) (s : State) (c : ℕ) (p : Option ℕ) (ran : Bool) → is_ejected s ≡ true → c < length on → IsKnown n p → get_or on c None ≡ p → I m None on s.world → Some-on (once_for p m) (builtin_cycle s c p ran).state.world
+  keeps_out m on s c p ran out l known runs h = keeps_builtin_cycle m on s c p ran (plainly p) l known runs h
+    where
+      plainly : (q : Option ℕ) → LeavesPlainly q s
+      plainly None = tt
+      plainly (Some t) = out_is_plain s out
 
   -- ---- the policy
 
   keeps_start_or_cycle : (m : ℕ) (on : List (Option ℕ)) (s : State) (c : ℕ) (ran : Bool) → c < length on → get_or on c None ≡ None → IsClear c s.world → I m None on s.world → Some-on m (start_or_cycle s c ran).state.world
   unfolding start_or_cycle
   keeps_start_or_cycle m on s c ran l free clear-now h =
-      keeps_if (λ (r : Stepped). Some-on m r.state.world) (has_local s c) (run_front s c) (builtin_cycle s c None ran) (keeps_start m on s c l free clear-now h) (keeps_builtin_cycle m on s c None ran l tt free h)
+      keeps_if (λ (r : Stepped). Some-on m r.state.world) (has_local s c) (run_front s c) (builtin_cycle s c None ran) (keeps_start m on s c l free clear-now h) (keeps_builtin_cycle m on s c None ran tt l tt free h)
+
+  -- a task that is picked gets a slice
+  pub keeps_refilled : (m : ℕ) (on : List (Option ℕ)) (s : State) (o : Option ℕ) → I m None on s.world → I m None on (refilled s o).world
+  keeps_refilled m on s None h = h
+  keeps_refilled m on s (Some t) h = k.steps.kept m on s.world t h
+
+  -- it runs, from wherever it waits in the local queue
+  keeps_start_picked : (m : ℕ) (on : List (Option ℕ)) (s : State) (c t : ℕ) → c < length on → get_or on c None ≡ None → is_local s c t ≡ true → is_throttled s.world.tree t ≡ false → I m None on s.world → Some-on m (start_picked s c t).state.world
+  unfolding start_picked
+  keeps_start_picked m on s c t l free here may h =
+      let l' : c < length (set on c (Some t)) = rw (length-set on c (Some t)) l in
+      let v = with_world s (after_run s.world c t) in
+      (set on c (Some t), keeps_running_on n I k.steps m None (set on c (Some t)) (switched v t) c t l' (keeps_switched n I k.steps m None (set on c (Some t)) v t (k.steps.ran m on s.world c t l free here may h)))
+
+  keeps_start_picked_or_cycle : (m : ℕ) (on : List (Option ℕ)) (s : State) (c t : ℕ) (ran : Bool) → c < length on → get_or on c None ≡ None → IsPicked c t s.world → is_throttled s.world.tree t ≡ false → I m None on s.world → Some-on m (start_picked_or_cycle (Some t) s c ran).state.world
+  keeps_start_picked_or_cycle m on s c t ran l free x may h = go (is_local s c t) refl
+    where
+      clear-left : is_local s c t ≡ false → (o : Option Eject) → s.world.ejected ≡ o → IsClear c s.world
+      clear-left gone None force = let bad : true ≡ false = sym (x.there force) ∙ gone in absurd (cc)
+      clear-left gone (Some y) out = x.none (ap (λ (o : Option Eject). is_some o) out)
+
+      go : (b : Bool) → is_local s c t ≡ b → Some-on m (if b then start_picked s c t else start_or_cycle s c ran).state.world
+      go true here = keeps_start_picked m on s c t l free here may h
+      go false gone = keeps_start_or_cycle m on s c ran l free (clear-left gone s.world.ejected refl) h
+
+  -- who is at the front of a queue is in it
+  front_there : (s : State) (c t : ℕ) → front_of s.world.queues (local_on c) ≡ Some t → is_in (local_on c) (entry_of s.world.queues t) ≡ true
+  front_there s c t e = go (entry_of s.world.queues t) (front_in s.world.queues (local_on c) t e)
+    where
+      same : (a b : ℕ) → Some a ≡ Some b → a ≡ b
+      same a b x = cc
+
+      go : (o : Option Entry) → option_map (λ (q : Entry). q.queue) o ≡ Some (local_on c) → is_in (local_on c) o ≡ true
+      go None x = absurd (cc)
+      go (Some q) x = eq-eqb q.queue (local_on c) (same q.queue (local_on c) x)
 
   keeps_pick : (m : ℕ) (on : List (Option ℕ)) (s : State) (c : ℕ) (p : Option ℕ) (ran : Bool) → c < length on → IsKnown n p → get_or on c None ≡ p → has_local s c ≡ true → IsClear c s.world → I m None on s.world → Some-on (once_for p m) (pick s c p ran).state.world
-  unfolding pick
-  keeps_pick m on s c p ran l known runs some clear-now h = let x = keeps_leave m on s c p l known runs h in keeps_start_or_cycle (once_for p m) x.0 (leave s c p).state c ran x.2 x.3 (ready_left m on s c p l known runs some clear-now h) x.1
+  unfolding pick picked
+  keeps_pick m on s c p ran l known runs some clear-now h = go (is_by_linux s) refl
+    where
+      after_leaving : Option ℕ → Stepped
+      after_leaving o = leave (refilled s o) c p
+
+      plainly : is_by_linux s ≡ false → (q : Option ℕ) → LeavesPlainly q (refilled s None)
+      plainly e None = tt
+      plainly e (Some t) = e
+
+      by_front : (o : Option ℕ) → front_of s.world.queues (local_on c) ≡ o → is_by_linux s ≡ true → Some-on (once_for p m) (start_picked_or_cycle o (after_leaving o).state c ran).state.world
+      by_front None e linux = absurd (omega (arith, no_front_is_empty s.world.queues (local_on c) e, some_local (local_len s.world c) (local_len s.world c == 0) refl some))
+      by_front (Some t) e linux =
+          let v = refilled s (Some t) in
+          let y = keeps_refilled m on s (Some t) h in
+          let x = keeps_leave m on v c p l known runs y in
+          let none : is_some v.world.ejected ≡ true → IsClear c v.world = λ out. let bad : true ≡ false = sym out ∙ ap (λ (o : Option Eject). is_some o) (linux_in_force s linux) in absurd (cc) in
+          let z = picked_leave n I k.steps k.sound c t m on v c p l known runs y (record { there = λ force. front_there s c t e; none = none }) in
+          keeps_start_picked_or_cycle (once_for p m) x.0 (leave v c p).state c t ran x.2 x.3 z (ap (λ tree. is_throttled tree t) (honest_leave v c p).tree ∙ clear-now t e) x.1
+
+      go : (b : Bool) → is_by_linux s ≡ b → Some-on (once_for p m) (start_picked_or_cycle (if b then front_of s.world.queues (local_on c) else None) (after_leaving (if b then front_of s.world.queues (local_on c) else None)).state c ran).state.world
+      go true linux = by_front (front_of s.world.queues (local_on c)) refl linux
+      go false plain =
+          let v = refilled s None in
+          let x = keeps_leave m on v c p l known runs h in
+          keeps_start_or_cycle (once_for p m) x.0 (leave v c p).state c ran x.2 x.3 (ready_left m on v c p (plainly plain p) l known runs some clear-now h) x.1
 
   keeps_pick_or_rest : (m : ℕ) (on : List (Option ℕ)) (s : State) (c : ℕ) (p : Option ℕ) (ran : Bool) → c < length on → IsKnown n p → get_or on c None ≡ p → IsClear c s.world → I m None on s.world → Some-on (once_for p m) (pick_or_rest s c p ran).state.world
   unfolding pick_or_rest
@@ -199,17 +310,41 @@ module _ (n : ℕ) (I : ℕ → Option ℕ → List (Option ℕ) → WorldState 
       go true some = keeps_pick m on s c p ran l known runs some clear-now h
       go false none = keeps_rest m on s c p ran h
 
-  keeps_conclude : (m : ℕ) (on : List (Option ℕ)) (s : State) (c : ℕ) (p : Option ℕ) (ran : Bool) → c < length on → IsKnown n p → get_or on c None ≡ p → IsClear c s.world → I m None on s.world → Some-on (once_for p m) (conclude s c p ran).state.world
+  -- who keeps the processor stays
+  keeps_keep_or_pick : (m : ℕ) (on : List (Option ℕ)) (s : State) (c : ℕ) (p : Option ℕ) (ran : Bool) → c < length on → IsKnown n p → get_or on c None ≡ p → MayStartUnlessKept m on c p s → I m None on s.world → Some-on (once_for p m) (keep_or_pick s c p ran).state.world
+  unfolding keep_or_pick
+  keeps_keep_or_pick m on s c p ran l known runs may h = go (keeps_slice s p) refl
+    where
+      go : (b : Bool) → keeps_slice s p ≡ b → Some-on (once_for p m) (if b then stays s else pick_or_rest s c p ran).state.world
+      go true kept = (on, stays_on p)
+        where
+          stays_on : (p : Option ℕ) → I (once_for p m) None on s.world
+          stays_on None = h
+          stays_on (Some t) = k.steps.more m None on s.world h
+      go false off = keeps_pick_or_rest m on s c p ran l known runs (clear_now m on s c h (may off)) h
+
+  keeps_conclude : (m : ℕ) (on : List (Option ℕ)) (s : State) (c : ℕ) (p : Option ℕ) (ran : Bool) → c < length on → IsKnown n p → get_or on c None ≡ p → MayStartUnlessKept m on c p s → I m None on s.world → Some-on (once_for p m) (conclude s c p ran).state.world
   unfolding conclude
-  keeps_conclude m on s c p ran l known runs clear-now h =
-      keeps_if (λ (r : Stepped). Some-on (once_for p m) r.state.world) (is_ejected s) (builtin_cycle s c p ran) (pick_or_rest s c p ran) (keeps_builtin_cycle m on s c p ran l known runs h) (keeps_pick_or_rest m on s c p ran l known runs clear-now h)
+  keeps_conclude m on s c p ran l known runs may h = go (is_ejected s) refl
+    where
+      go : (b : Bool) → is_ejected s ≡ b → Some-on (once_for p m) (if b then builtin_cycle s c p ran else keep_or_pick s c p ran).state.world
+      go true out = keeps_out m on s c p ran out l known runs h
+      go false force = keeps_keep_or_pick m on s c p ran l known runs may h
 
   keeps_ask : (m : ℕ) (on : List (Option ℕ)) (s : State) (c : ℕ) (p : Option ℕ) (ran : Bool) → c < length on → IsKnown n p → get_or on c None ≡ p → MayStart c s.world → I m None on s.world → Some-on (once_for p m) (ask s c p ran).state.world
-  unfolding ask
+  unfolding ask give_up
   keeps_ask m on s c p ran l known runs may h =
       let x = keeps_tries m on 32 s c p l h in
       let d = (tries 32 s c p).state in
-      keeps_conclude m on d c p ran l known runs (clear_now m on d c x (tries_clear m on 32 s c p may)) x
+      let v = given_up d (tries_clear m on 32 s c p may) x in
+      keeps_conclude m on (give_up d c p) c p ran l known runs v.1 v.0
+    where
+      given_up : (d : State) → MayStartUnlessKept m on c p d → I m None on d.world → I m None on (give_up d c p).world × MayStartUnlessKept m on c p (give_up d c p)
+      given_up d clear x = keeps_if (λ (r : State). I m None on r.world × MayStartUnlessKept m on c p r) (is_by_linux d && asks_again d c p) (kicked d c) d (keeps_kicked n I k.steps m None on d c x, kicked_clear p clear) (x, clear)
+        where
+          kicked_clear : (q : Option ℕ) → MayStartUnlessKept m on c q d → MayStartUnlessKept m on c q (kicked d c)
+          kicked_clear None y = y
+          kicked_clear (Some t) y = y
 
   keeps_seek : (m : ℕ) (on : List (Option ℕ)) (s : State) (c : ℕ) (p : Option ℕ) (ran : Bool) → c < length on → IsKnown n p → get_or on c None ≡ p → I m None on s.world → Some-on (once_for p m) (seek s c p ran).state.world
   unfolding seek
@@ -229,8 +364,11 @@ module _ (n : ℕ) (I : ℕ → Option ℕ → List (Option ℕ) → WorldState 
 
   keeps_look : (m : ℕ) (on : List (Option ℕ)) (s : State) (c : ℕ) (p : Option ℕ) (ran : Bool) → c < length on → IsKnown n p → get_or on c None ≡ p → I m None on s.world → Some-on (once_for p m) (look s c p ran).state.world
   unfolding look
-  keeps_look m on s c p ran l known runs h =
-      keeps_if (λ (r : Stepped). Some-on (once_for p m) r.state.world) (is_ejected s) (builtin_cycle s c p ran) (seek s c p ran) (keeps_builtin_cycle m on s c p ran l known runs h) (keeps_seek m on s c p ran l known runs h)
+  keeps_look m on s c p ran l known runs h = go (is_ejected s) refl
+    where
+      go : (b : Bool) → is_ejected s ≡ b → Some-on (once_for p m) (if b then builtin_cycle s c p ran else seek s c p ran).state.world
+      go true out = keeps_out m on s c p ran out l known runs h
+      go false force = keeps_seek m on s c p ran l known runs h
 
   -- a whole cycle
   pub keeps_cycle : (m : ℕ) (on : List (Option ℕ)) (s : State) (c : ℕ) (p : Option ℕ) (ran : Bool) → c < length on → IsKnown n p → get_or on c None ≡ p → I m None on s.world → Some-on (once_for p m) (cycle s c p ran).state.world

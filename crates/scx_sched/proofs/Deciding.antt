@@ -13,9 +13,11 @@ use Rattle.scx_sched_world.specs.Tasks.{after_stop, later, begun_periods}
 use Rattle.scx_sched_machine.specs.declared.events.Event.{Event}
 use Rattle.scx_sched_machine.specs.declared.events.Event.TheVariants.{Wake, Sleep, Tick, Clock, SetWeight}
 use Rattle.scx_sched_machine.specs.declared.events.Refused.TheVariants.{UnknownGroup, BadWeight, RunOver}
-use Rattle.scx_sched_machine.specs.Steps.{State, Stepped, with_world, one_after_other}
+use Rattle.scx_sched_machine.specs.Steps.{State, Stepped, with_world, stays, one_after_other, is_by_linux}
+use Rattle.scx_sched_machine.specs.Ejecting.{eject}
 use Rattle.scx_sched_machine.specs.Parking.{let_all_go}
-use Rattle.scx_sched_machine.specs.Events.{overdue, eject_if_stalled, clock, event_step}
+use Rattle.scx_sched_machine.specs.Events.{wake, sleep, tick, overdue, eject_if_stalled, clock, own_step, event_step}
+use Rattle.scx_sched_machine.specs.Rounds.{with_rounds}
 use Rattle.scx_sched_machine.specs.Events as machine
 use Rattle.scx_sched.specs.Sim.{SimState, max_events, refusal, calls_if, IsValid}
 use Rattle.scx_sched.specs.Ranges.{IsFine}
@@ -25,7 +27,7 @@ use Rattle.scx_sched.proofs.Fine.{fine_steps}
 use Rattle.scx_sched.proofs.Skeleton.{keeps_stopping}
 use Rattle.scx_sched.proofs.Events.{IsFineNow, IsTaken, Wakes, Sleeps, Ticks, Clocks, Weighs, is_task, is_taken, known_running}
 use Rattle.scx_sched.proofs.Tallies.{run_times}
-use Rattle.scx_sched.proofs.Blaming.{IsHonest, state_with_tree, stopped_for_sleep, none_of, eject_policy, eject_calls, honest_wake, honest_sleep, honest_tick, honest_weight, honest_let_all_go}
+use Rattle.scx_sched.proofs.Blaming.{IsHonest, state_with_tree, stopped_for_sleep, none_of, eject_policy, eject_calls, honest_wake, honest_sleep, honest_tick, honest_weight, honest_let_all_go, honest_joined, honest_stays, honest_with_rounds, no_rounds, plain_on}
 
 pub record IsAccepted (s : SimState) (v : Event) : Type 0 where
   pub not_over : (s.events == max_events) ≡ false
@@ -67,26 +69,31 @@ module _ (s : State) (n : ℕ) (fine : IsFineNow (length s.world.tasks) n n s.wo
       subst (λ k. t < k) (sym off.sound.tasks) within
 
   pub wake_is_honest : (t : ℕ) → IsHonestEvent s (Wake t)
-  wake_is_honest t = honest_wake s t (omega (arith, fine.sound.here))
+  wake_is_honest t = honest_with_rounds _ (wake s t) (honest_wake s t (omega (arith, fine.sound.here)))
 
   pub sleep_is_honest : (t : ℕ) → t < many → IsHonestEvent s (Sleep t)
-  sleep_is_honest t within = honest_sleep s t within (λ c at. still_known t c within at)
+  sleep_is_honest t within = honest_with_rounds _ (sleep s t) (honest_sleep s t within (λ c at. still_known t c within at))
+
+  -- a tick leaves plain rules
+  pub tick_plain : (c : ℕ) → c < length s.world.cpus → is_by_linux s ≡ false → is_by_linux (tick s c).state ≡ false
+  tick_plain c l plain = plain_on (state_with_tree s (tree_after (Tick c) s.world)) (tick s c) (honest_tick s c (λ t at. known_running many n n s.world c t l at fine)) plain
 
   pub tick_is_honest : (c : ℕ) → c < length s.world.cpus → IsHonestEvent s (Tick c)
-  tick_is_honest c l = honest_tick s c (λ t at. known_running many n n s.world c t l at fine)
+  tick_is_honest c l = honest_with_rounds _ (tick s c) (honest_tick s c (λ t at. known_running many n n s.world c t l at fine))
 
   pub weight_is_honest : (g x : ℕ) → machine.refusal s (SetWeight g x) ≡ None → IsHonestEvent s (SetWeight g x)
-  weight_is_honest g x ok = honest_weight s g x _ (can_set s.world.tree g x ok)
+  weight_is_honest g x ok = honest_with_rounds _ (own_step s (SetWeight g x)) (honest_weight s g x _ (can_set s.world.tree g x ok))
 
 -- of an accepted event
 pub record IsDecided (e : Event) (s : State) (r : Stepped) : Type 0 where
   pub clock : r.state.world.clock ≡ clock_after e s.world.clock
   pub tree : r.state.world.tree ≡ tree_after e s.world
+  pub rules : r.state.world.rules ≡ s.world.rules
   pub policy : r.state.policy ≡ s.policy
   pub silent : (x : Eject) → s.world.ejected ≡ Some x → r.calls ≡ []
 
 -- the clock: tasks are let go, and the watchdog looks
-clock_decides : (s : State) → IsDecided Clock s (clock s)
+clock_decides : (s : State) → IsDecided Clock s (event_step s Clock)
 unfolding clock
 clock_decides s = go (overdue r.state)
   where
@@ -99,15 +106,18 @@ clock_decides s = go (overdue r.state)
     h : IsHonest v r
     h = honest_let_all_go v
 
-    go : (o : Option ℕ) → IsDecided Clock s (one_after_other r (eject_if_stalled o r.state))
-    go None = record { clock = h.clock; tree = h.tree; policy = h.policy; silent = λ x out. none_of r.calls [] (h.silent x out) refl }
+    go : (o : Option ℕ) → IsDecided Clock s (with_rounds (one_after_other r (eject_if_stalled o r.state)))
+    go None =
+        let i = honest_with_rounds v (one_after_other r (stays r.state)) (honest_joined v r (stays r.state) h (honest_stays r.state)) in
+        record { clock = i.clock; tree = i.tree; rules = i.rules; policy = i.policy; silent = i.silent }
     go (Some t) =
         let y = cause.Stall t r.state.world.clock in
         let sets = eject_sets r.state y in
-        record { clock = sets.0 ∙ h.clock; tree = sets.3 ∙ h.tree; policy = eject_policy r.state y ∙ h.policy; silent = λ x out. none_of r.calls (eject_if_stalled (Some t) r.state).calls (h.silent x out) (eject_calls r.state y) }
+        subst (λ (x : Stepped). IsDecided Clock s x) (sym (no_rounds (one_after_other r (eject r.state y)) y sets.1))
+        (record { clock = sets.0 ∙ h.clock; tree = sets.3 ∙ h.tree; rules = sets.4 ∙ h.rules; policy = eject_policy r.state y ∙ h.policy; silent = λ x out. none_of r.calls (eject_if_stalled (Some t) r.state).calls (h.silent x out) (eject_calls r.state y) })
 
 decided : (v : Event) (s : State) → IsHonestEvent s v → clock_after v s.world.clock ≡ s.world.clock → IsDecided v s (event_step s v)
-decided v s h now = record { clock = h.clock ∙ sym now; tree = h.tree; policy = h.policy; silent = h.silent }
+decided v s h now = record { clock = h.clock ∙ sym now; tree = h.tree; rules = h.rules; policy = h.policy; silent = h.silent }
 
 -- after an accepted event clock, tree and policy are as it alone decides
 pub decides : (s : State) (n : ℕ) (v : Event) → machine.refusal s v ≡ None → IsFineNow (length s.world.tasks) n n s.world → IsDecided v s (event_step s v)
@@ -125,4 +135,4 @@ pub step_decides : (s : State) (n : ℕ) (v : Event) → refusal (record { state
 step_decides s n v ok h =
     let before : SimState = record { state = s; events = n } in
     let d = decides s n v (accepted before v ok).taken h.fine in
-    record { clock = d.clock; tree = d.tree; policy = d.policy; silent = λ x out. ap (λ o. calls_if o before v) ok ∙ d.silent x out; ran = run_times n s v (accepted before v ok).taken h.fine h.there; counted = refl }
+    record { clock = d.clock; tree = d.tree; rules = d.rules; policy = d.policy; silent = λ x out. ap (λ o. calls_if o before v) ok ∙ d.silent x out; ran = run_times n s v (accepted before v ok).taken h.fine h.there; counted = refl }

@@ -1,23 +1,23 @@
 -- Where a task may enter a queue: each push that the machine makes is accepted.
-use Rattle.std.proofs.Common.{◌≡◌, ℕ, ◌<◌, ◌≤◌, Bool, true, false, ◌==◌, ◌||◌, nat_lt, ◌⊎◌, inl, inr, if◌then◌else◌, [], ◌∷◌, length, set, Option, Some, None, is_some, is_none, refl, sym, ◌∙◌, ◌+◌, ap, subst, arith}
+use Rattle.std.proofs.Common.{◌≡◌, ℕ, ◌<◌, ◌≤◌, Bool, true, false, ◌==◌, ◌&&◌, ◌||◌, not, nat_lt, ◌⊎◌, inl, inr, if◌then◌else◌, [], ◌∷◌, length, set, Option, Some, None, is_some, is_none, refl, sym, ◌∙◌, ◌+◌, ap, subst, arith}
 use Rattle.std.specs.List.{list_any}
 use Rattle.std.proofs.lemmas.Bool.{cases_eq, cases_lt, eq-eqb, ne_eqb}
 use Rattle.std.proofs.lemmas.Bool.Decides.{nat_tests}
 use Rattle.std.proofs.lemmas.List.{get_or-set_same, get_or-set_other, get_or_past, set_past}
 use Rattle.std.proofs.lemmas.List.Elements.{All-from_get_or}
 use Rattle.std.proofs.lemmas.List.Folds.{list_any-append, list_any_at, list_any_none}
-use Rattle.scx_dsq.specs.Queues.{Entries, entry_at, QueueState, exists, entry_of, front_of}
+use Rattle.scx_dsq.specs.Queues.{Entries, entry_at, QueueState, exists, entry_of, is_in, front_of}
 use Rattle.scx_dsq.specs.Calls.{clashes, push_refusal, after_push, after_pop, after_remove, without, with_queue, after_create, create_refusal, with_task as with_place, without_task, next_entry}
 use Rattle.scx_dsq.specs.Entries.{same_sort}
 use Rattle.scx_dsq.specs.declared.entries.Rank.{Rank}
-use Rattle.scx_dsq.specs.declared.entries.Rank.TheVariants.{Fifo, Vtime}
+use Rattle.scx_dsq.specs.declared.entries.Rank.TheVariants.{Fifo, Front, Vtime}
 use Rattle.scx_dsq.specs.declared.entries.Entry.{Entry}
 use Rattle.scx_dsq.specs.Laws.{one_if, IsStamped}
 use Rattle.scx_dsq.proofs.Facts.{ids_pushed, ids_without, ids_removed}
 use Rattle.scx_sched_world.specs.declared.call.Insert.{Insert}
 use Rattle.scx_sched_world.specs.Ids.{global, held_queue, builtin_queue, local_on, policy_end, parked_queue}
 use Rattle.scx_sched_world.specs.World.{WorldState, is_runnable}
-use Rattle.scx_sched_world.specs.Tasks.{queue_for}
+use Rattle.scx_sched_world.specs.Tasks.{queue_for, rank_by}
 use Rattle.scx_sched_machine.proofs.Choices.{keeps_if}
 use Rattle.scx_sched.specs.Once.{IsOnce, HasQueues, sort_of, fits_queue, fits_sort, IsSorted, IsAlike, IsOpen, GoesSomewhere}
 
@@ -133,10 +133,23 @@ alike_created s q' q r old = keeps_if (λ (x : QueueState). IsAlike x q r) (is_n
 -- two of the sort of a third are of one sort
 pub one_sort : (a b c : Rank) → same_sort a b ≡ true → same_sort c b ≡ true → same_sort a c ≡ true
 one_sort Fifo Fifo Fifo e f = refl
+one_sort Fifo Fifo Front e f = refl
 one_sort Fifo Fifo (Vtime l) e f = f
+one_sort Fifo Front Fifo e f = refl
+one_sort Fifo Front Front e f = refl
+one_sort Fifo Front (Vtime l) e f = f
 one_sort Fifo (Vtime k) c e f = absurd (cc)
+one_sort Front Fifo Fifo e f = refl
+one_sort Front Fifo Front e f = refl
+one_sort Front Fifo (Vtime l) e f = f
+one_sort Front Front Fifo e f = refl
+one_sort Front Front Front e f = refl
+one_sort Front Front (Vtime l) e f = f
+one_sort Front (Vtime k) c e f = absurd (cc)
 one_sort (Vtime j) Fifo c e f = absurd (cc)
+one_sort (Vtime j) Front c e f = absurd (cc)
 one_sort (Vtime j) (Vtime k) Fifo e f = f
+one_sort (Vtime j) (Vtime k) Front e f = f
 one_sort (Vtime j) (Vtime k) (Vtime l) e f = refl
 
 -- where an id isn't one of the policy's, the other test holds
@@ -240,26 +253,57 @@ open_own s q' t r' q r past fits h = open_pushed s q' t r' q r (go (cases_eq q' 
         rw (eq-eqb q' q e, one_sort r' (sort_of q') r fits own) refl
     go (inr n) = rw (ne_eqb q' q n) refl
 
-same_itself : (r : Rank) → same_sort r r ≡ true
+-- a rank is of one sort with itself
+pub same_itself : (r : Rank) → same_sort r r ≡ true
 same_itself Fifo = refl
+same_itself Front = refl
 same_itself (Vtime k) = refl
 
--- or one in the same way
-pub open_same : (s : QueueState) (q' t q : ℕ) (r : Rank) → IsOpen s q r → IsOpen (after_push s q' t r) q r
-open_same s q' t q r h = open_pushed s q' t r q r (go (cases_eq q' q)) h
+-- or one of the same sort
+pub open_same : (s : QueueState) (q' t q : ℕ) (r k : Rank) → same_sort k r ≡ true → IsOpen s q r → IsOpen (after_push s q' t k) q r
+open_same s q' t q r k same h = open_pushed s q' t k q r (go (cases_eq q' q)) h
   where
-    go : (q' ≡ q) ⊎ (q' ≡ q → ⊥) → clashes q r (Some (next_entry s q' r)) ≡ false
-    go (inl e) = rw (eq-eqb q' q e, same_itself r) refl
+    go : (q' ≡ q) ⊎ (q' ≡ q → ⊥) → clashes q r (Some (next_entry s q' k)) ≡ false
+    go (inl e) = rw (eq-eqb q' q e, same) refl
     go (inr n) = rw (ne_eqb q' q n) refl
+
+-- ---- ranks by the rules
+
+-- the rank by which a task is pushed is of the sort that was asked for
+pub same_key : (w : WorldState) (r k : Rank) → same_sort (rank_by w r) k ≡ same_sort r k
+same_key w Fifo k = refl
+same_key w Front k = refl
+same_key w (Vtime n) Fifo = refl
+same_key w (Vtime n) Front = refl
+same_key w (Vtime n) (Vtime m) = refl
+
+key_same : (w : WorldState) (k r : Rank) → same_sort k (rank_by w r) ≡ same_sort k r
+key_same w k Fifo = refl
+key_same w k Front = refl
+key_same w Fifo (Vtime n) = refl
+key_same w Front (Vtime n) = refl
+key_same w (Vtime m) (Vtime n) = refl
+
+-- so a queue that is open for the one is open for the other
+pub open_by : (w : WorldState) (s : QueueState) (q : ℕ) (r : Rank) → IsOpen s q r → IsOpen s q (rank_by w r)
+open_by w s q r h = record { there = h.there; fits = ap (λ b. nat_lt q policy_end || b) (same_key w r (sort_of q)) ∙ h.fits; alike = λ t. one (entry_of s t) (h.alike t) }
+  where
+    one : (o : Option Entry) → clashes q r o ≡ false → clashes q (rank_by w r) o ≡ false
+    one None e = refl
+    one (Some p) e = ap (λ b. is_in q (Some p) && not b) (key_same w p.rank r) ∙ e
 
 -- so an insert still goes somewhere
 pub goes_on : (s s' : QueueState) (n : ℕ) (o : Option Insert) → ((q : ℕ) (r : Rank) → IsOpen s q r → IsOpen s' q r) → GoesSomewhere s n o → GoesSomewhere s' n o
 goes_on s s' n None f g = tt
 goes_on s s' n (Some i) f g = λ c l. (f (queue_for c i.queue) i.rank (g c l).0, (g c l).1)
 
+-- local queues take whoever goes in order of arrival
+pub local_fits : (c : ℕ) (r : Rank) → same_sort r Fifo ≡ true → same_sort r (sort_of (local_on c)) ≡ true
+local_fits c r h = let e : (local_on c == builtin_queue) ≡ false = ne_eqb (local_on c) builtin_queue (λ x. omega (arith, x)) in rw e h
+
 -- local queues are in order of arrival
 pub local_sort : (c : ℕ) → same_sort Fifo (sort_of (local_on c)) ≡ true
-local_sort c = let e : (local_on c == builtin_queue) ≡ false = ne_eqb (local_on c) builtin_queue (λ x. omega (arith, x)) in rw e refl
+local_sort c = local_fits c Fifo refl
 
 -- a policy's own queue takes any sort
 pub low_fits : (q : ℕ) (r : Rank) → nat_lt q policy_end ≡ true → fits_queue q r ≡ true

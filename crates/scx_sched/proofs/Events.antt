@@ -12,16 +12,20 @@ use Rattle.scx_weights.specs.Limits.{with_use}
 use Rattle.scx_weights.specs.Limits as limits
 use Rattle.scx_weights.specs.Refusals.{weight_fault}
 use Rattle.scx_vm.specs.Programs.{VerifiedProgram}
-use Rattle.scx_sched_world.specs.World.{WorldState, with_tree, task_at, is_this, is_runnable, is_throttled, running, cpu_of, is_idle, this_if, or_this, idle_below, first_idle, default_choice}
-use Rattle.scx_sched_world.specs.Tasks.{after_wake, after_sleep, after_leave, after_stop, let_go, ran_a_tick, after_tick, used_ms, later, begun_periods, after_reweigh}
+use Rattle.scx_sched_world.specs.CpuSets.{is_in_set, and_cpu, but_cpu}
+use Rattle.scx_sched_world.specs.World as world
+use Rattle.scx_sched_world.specs.World.{WorldState, with_tree, task_at, is_this, is_runnable, is_throttled, running, cpu_of, without_kick, with_slept, is_idle, is_free, this_if, or_this, free_below, first_free, choice, default_choice, after_claim, at_callback}
+use Rattle.scx_sched_world.specs.Helpers.{is_dispatch, with_insert}
+use Rattle.scx_sched_world.specs.Tasks.{homed, to_local, after_cut_off, after_wake, after_sleep, after_leave, after_stop, let_go, ran_a_tick, after_tick, used_ms, later, begun_periods, after_reweigh}
 use Rattle.scx_sched_machine.specs.declared.events.Event.{Event}
 use Rattle.scx_sched_machine.specs.declared.events.Event.TheVariants.{Wake, Sleep, Tick, Clock, SetWeight}
 use Rattle.scx_sched_machine.specs.declared.events.Refused.TheVariants.{AlreadyRunnable, NotRunnable, UnknownTask, UnknownCpu}
-use Rattle.scx_sched_machine.specs.Steps.{State, Stepped, with_world, stays, one_after_other}
+use Rattle.scx_sched_machine.specs.Steps.{State, Stepped, with_world, stays, one_after_other, is_by_linux, kicked, kicked_if_idle}
 use Rattle.scx_sched_machine.specs.Callbacks.{acting, call_back, answered_by, task_cpu_and_0}
 use Rattle.scx_sched_machine.specs.Parking.{park, let_all_go}
 use Rattle.scx_sched_machine.specs.Cycle.{after_stopping, cycle}
-use Rattle.scx_sched_machine.specs.Events.{refusal, target, insert_or_put, settle, select, wake, sleep_from_cpu, sleep_from, sleep, throttle, expire, count_down, tick_of, tick, overdue, eject_if_stalled, clock, event_step}
+use Rattle.scx_sched_machine.specs.Events.{refusal, target, insert_or_put, wake_target, settle, inserted_by_choice, chosen_by_default, chosen, ask_target, asks_target, select, wake, told_of_sleep, sleep_from_cpu, sleep_from, sleep, throttle, ends_slices, expire, count_down, tick_idle, tick_of, tick, overdue, eject_if_stalled, clock, own_step, event_step}
+use Rattle.scx_sched_machine.specs.Rounds.{most_rounds, is_pending, pending_below, next_to_look, cut_off_if, look_past, look_from, round, round_then, rounds, with_rounds}
 use Rattle.scx_sched_machine.proofs.Choices.{keeps_if}
 use Rattle.scx_sched.specs.Once.{runs, IsSound}
 use Rattle.scx_sched.specs.Ranges.{IsFine}
@@ -30,9 +34,9 @@ use Rattle.scx_sched.specs.Kept.{IsKeptBySteps}
 use Rattle.scx_sched.proofs.Sound.{sound_woken, sound_left, sound_stopped, sound_ticked, sound_later, sound_with_weight}
 use Rattle.scx_sched.proofs.Parking.{sound_let_go, sound_used_ms, sound_begun_periods}
 use Rattle.scx_sched.proofs.Bounded.{within_used, within_used_up, within_turned, within_reweighed, most_used, most_turned}
-use Rattle.scx_sched.proofs.Skeleton.{keeps_eject, keeps_call_back, keeps_stopping, keeps_settled}
+use Rattle.scx_sched.proofs.Skeleton.{keeps_eject, keeps_call_back, keeps_stopping, keeps_settled, keeps_homed, keeps_kicked_if_idle}
 use Rattle.scx_sched.proofs.Clear.{tree_free, tree_used_up}
-use Rattle.scx_sched.proofs.Ready.{tree_stopping}
+use Rattle.scx_sched.proofs.Ready.{tree_stopping, calm_call_back, linux_in_force}
 use Rattle.scx_sched.proofs.Cycles.{IsKeptInside, keeps_park, keeps_cycle}
 use Rattle.scx_sched.proofs.Letting.{LetsGo, keeps_let_all_go}
 use Rattle.scx_sched.proofs.Fine.{IsRange, range_of, range_task, range_same, fine_of, fine_steps}
@@ -45,6 +49,8 @@ pub record IsKeptByEvents (n : ℕ) (I : ℕ → Option ℕ → List (Option ℕ
   pub woken : (m : ℕ) (on : List (Option ℕ)) (w : WorldState) (t : ℕ) → t < n → is_runnable w t ≡ false → I m None on w → I m (Some t) on (after_wake w t)
   pub let_go : LetsGo n I
   pub left : (m : ℕ) (on : List (Option ℕ)) (w : WorldState) (t : ℕ) → t < n → is_runnable w t ≡ true → cpu_of w t ≡ None → I m None on w → I m None on (after_sleep (after_leave w t) t)
+  -- while the policy is in force nobody was charged yet, so that the number may be said anew
+  pub anew : (m k : ℕ) (on : List (Option ℕ)) (w : WorldState) → w.ejected ≡ None → I m None on w → I k None on w
 
 -- what events keep is kept inside of them
 pub inside_of : (n : ℕ) (I : ℕ → Option ℕ → List (Option ℕ) → WorldState → Type 0) → IsKeptByEvents n I → IsKeptInside n I
@@ -56,22 +62,31 @@ cpus_used w t = keeps_if (λ (x : WorldState). x.cpus ≡ w.cpus) (nat_lt t (len
 
 -- ---- processors that there are
 
-idle_is_there : (m : ℕ) (w : WorldState) (c : ℕ) → idle_below m w ≡ Some c → c < m
-idle_is_there zero w c e = absurd (cc)
-idle_is_there (suc m) w c e = go (idle_below m w) (λ x. idle_is_there m w c x) (is_idle w m) e
+free_is_there : (m : ℕ) (w : WorldState) (c : ℕ) → free_below m w ≡ Some c → c < m
+free_is_there zero w c e = absurd (cc)
+free_is_there (suc m) w c e = go (free_below m w) (λ x. free_is_there m w c x) (is_free w m) e
   where
     go : (o : Option ℕ) → (o ≡ Some c → c < m) → (b : Bool) → or_this o (this_if b m) ≡ Some c → c < suc m
     go (Some d) f b x = omega (arith, f x)
     go None f true x = let is : m ≡ c = ap (λ o. unwrap_or o m) x in omega (arith, is)
     go None f false x = absurd (cc)
 
-choice_is_there : (w : WorldState) (t : ℕ) → (task_at w t).prev_cpu < length w.cpus → default_choice w t < length w.cpus
-choice_is_there w t home = go (is_idle w (task_at w t).prev_cpu) (first_idle w) refl
+chosen_is_there : (w : WorldState) (t c : ℕ) → (task_at w t).prev_cpu < length w.cpus → choice w t ≡ Some c → c < length w.cpus
+chosen_is_there w t c home e = go (is_free w (task_at w t).prev_cpu) e
   where
-    go : (b : Bool) (o : Option ℕ) → first_idle w ≡ o → (if b then (task_at w t).prev_cpu else unwrap_or o (task_at w t).prev_cpu) < length w.cpus
-    go true o e = home
-    go false None e = home
-    go false (Some c) e = idle_is_there (length w.cpus) w c e
+    same : (a b : ℕ) → Some a ≡ Some b → a ≡ b
+    same a b x = cc
+
+    go : (b : Bool) → (if b then Some (task_at w t).prev_cpu else first_free w) ≡ Some c → c < length w.cpus
+    go true x = omega (arith, home, same (task_at w t).prev_cpu c x)
+    go false x = free_is_there (length w.cpus) w c x
+
+choice_is_there : (w : WorldState) (t : ℕ) → (task_at w t).prev_cpu < length w.cpus → default_choice w t < length w.cpus
+choice_is_there w t home = go (choice w t) refl
+  where
+    go : (o : Option ℕ) → choice w t ≡ o → unwrap_or o (task_at w t).prev_cpu < length w.cpus
+    go None e = home
+    go (Some c) e = chosen_is_there w t c home e
 
 target_is_there : (p : Option VerifiedProgram) (w : WorldState) (t : ℕ) (a : Option ℕ) → (task_at w t).prev_cpu < length w.cpus → target p w t a < length w.cpus
 target_is_there None w t a home = choice_is_there w t home
@@ -82,6 +97,13 @@ target_is_there (Some p) w t (Some c) home = go (nat_lt c (length w.cpus)) refl
     go true x = grind (arith, nat_tests, x)
     go false x = choice_is_there w t home
 
+pub idle_there : (w : WorldState) (c : ℕ) → is_idle w c ≡ true → c < length w.cpus
+idle_there w c e = go (nat_lt c (length w.cpus)) refl (is_none (get_or w.cpus c None)) (not (is_this c w.cycling)) e
+  where
+    go : (b : Bool) → nat_lt c (length w.cpus) ≡ b → (o d : Bool) → (b && o && d) ≡ true → c < length w.cpus
+    go true x o d e = grind (arith, nat_tests, x)
+    go false x o d e = absurd (cc)
+
 idle_is_free : (w : WorldState) (c : ℕ) → is_idle w c ≡ true → get_or w.cpus c None ≡ None
 idle_is_free w c e = go (nat_lt c (length w.cpus)) (get_or w.cpus c None) (not (is_this c w.cycling)) e
   where
@@ -89,6 +111,31 @@ idle_is_free w c e = go (nat_lt c (length w.cpus)) (get_or w.cpus c None) (not (
     go true None d e = refl
     go true (Some t) d e = absurd (cc)
     go false o d e = absurd (cc)
+
+-- ---- who looks for work
+
+pending_there : (n c : ℕ) (s : State) → pending_below n s ≡ Some c → c < n
+unfolding pending_below
+pending_there zero c s e = absurd (cc)
+pending_there (suc n) c s e = go (pending_below n s) (λ x. pending_there n c s x) (is_pending s n) e
+  where
+    go : (o : Option ℕ) → (o ≡ Some c → c < n) → (b : Bool) → or_this o (this_if b n) ≡ Some c → c < suc n
+    go (Some d) f b x = omega (arith, f x)
+    go None f true x = let is : n ≡ c = ap (λ o. unwrap_or o n) x in omega (arith, is)
+    go None f false x = absurd (cc)
+
+-- a processor looks for work by Linux rules alone, and is there
+record LooksForWork (s : State) (c : ℕ) : Type 0 where
+  pub linux : is_by_linux s ≡ true
+  pub there : c < length s.world.cpus
+
+looks_there : (s : State) (c : ℕ) → next_to_look s ≡ Some c → LooksForWork s c
+unfolding next_to_look
+looks_there s c e = go (is_by_linux s) refl e
+  where
+    go : (b : Bool) → is_by_linux s ≡ b → (if b then pending_below (length s.world.cpus) s else None) ≡ Some c → LooksForWork s c
+    go true x y = record { linux = x; there = pending_there (length s.world.cpus) c s y }
+    go false x y = absurd (cc)
 
 -- the task that is the given one is given
 pub is_task : (t : ℕ) (o : Option ℕ) → is_this t o ≡ true → o ≡ Some t
@@ -115,32 +162,64 @@ module _ (n : ℕ) (I : ℕ → Option ℕ → List (Option ℕ) → WorldState 
 
   -- ---- wake
 
+  keeps_wake_target : (m : ℕ) (on : List (Option ℕ)) (s : State) (c : ℕ) → c < length on → I m None on s.world → I m None (wake_target s c).state.world.cpus (wake_target s c).state.world
+  unfolding wake_target
+  keeps_wake_target m on s c l h =
+      keeps_if Kept (is_by_linux s) (stays (kicked_if_idle s c)) (if is_idle s.world c then cycle s c None false else stays s)
+      (keeps_now m (kicked_if_idle s c).world (on, keeps_kicked_if_idle n I k.steps m None on s c h)) (go (is_idle s.world c) refl)
+    where
+      Kept : Stepped → Type 0
+      Kept r = I m None r.state.world.cpus r.state.world
+
+      free : is_idle s.world c ≡ true → get_or on c None ≡ None
+      free idle = subst (λ (xs : List (Option ℕ)). get_or xs c None ≡ None) (k.sound m None on s.world h).cpus (idle_is_free s.world c idle)
+
+      go : (b : Bool) → is_idle s.world c ≡ b → Kept (if b then cycle s c None false else stays s)
+      go true idle = keeps_now m _ (keeps_cycle n I (inside_of n I k) m on s c None false l tt (free idle) h)
+      go false idle = keeps_now m s.world (on, h)
+
   keeps_settle : (m : ℕ) (on : List (Option ℕ)) (s : State) (t c : ℕ) → t < n → c < length on → I m (Some t) on s.world → I m None (settle s t c).state.world.cpus (settle s t c).state.world
   unfolding settle
-  keeps_settle m on s t c within l h = go (is_idle r.state.world c) refl
+  keeps_settle m on s t c within l h =
+      let v = with_world s (homed s.world t c) in
+      let r = insert_or_put v.world.call.insert v t c in
+      keeps_wake_target m on r.state c l (keeps_settled n I k.steps m on v.world.call.insert v t c refl within l (keeps_homed n I k.steps m (Some t) on s.world t c l h))
+
+  -- a processor that is chosen by default
+  keeps_chosen : (m : ℕ) (on : List (Option ℕ)) (p : Option VerifiedProgram) (s : State) (t : ℕ) → is_dispatch s.world.call.callback ≡ false → I m (Some t) on s.world → I m (Some t) on (chosen p s t).world
+  keeps_chosen m on (Some p) s t calm h = h
+  keeps_chosen m on None s t calm h = keeps_if (I m (Some t) on) (world.is_by_linux w) (inserted_by_choice (after_claim w (choice w t)) (choice w t)) w (go (choice w t) refl) h
     where
-      r : Stepped
-      r = insert_or_put s.world.call.insert s t c
+      w : WorldState
+      w = s.world
 
-      put_now : I m None on r.state.world
-      put_now = keeps_settled n I k.steps m on s.world.call.insert s t c refl within l h
+      sound : IsSound (Some t) on n w
+      sound = k.sound m (Some t) on w h
 
-      free : is_idle r.state.world c ≡ true → get_or on c None ≡ None
-      free idle = subst (λ (xs : List (Option ℕ)). get_or xs c None ≡ None) (k.sound m None on r.state.world put_now).cpus (idle_is_free r.state.world c idle)
+      claimed : (c : ℕ) → I m (Some t) on (after_claim w (Some c))
+      claimed c = keeps_if (I m (Some t) on) (world.is_by_linux w) _ w (k.steps.sets m (Some t) on w (and_cpu w.claimed c) w.kicked w.preempted (and_cpu w.call.claims c) w.slept h) h
 
-      go : (b : Bool) → is_idle r.state.world c ≡ b → I m None (if b then one_after_other r (cycle r.state c None false) else r).state.world.cpus (if b then one_after_other r (cycle r.state c None false) else r).state.world
-      go true idle = keeps_now m _ (keeps_cycle n I (inside_of n I k) m on r.state c None false l tt (free idle) put_now)
-      go false idle = keeps_now m r.state.world (on, put_now)
+      still : (c : ℕ) → is_dispatch (after_claim w (Some c)).call.callback ≡ false
+      still c = keeps_if (λ (v : WorldState). is_dispatch v.call.callback ≡ false) (world.is_by_linux w) _ w calm calm
 
-  keeps_select : (m : ℕ) (on : List (Option ℕ)) (s : State) (t : ℕ) → t < n → I m (Some t) on s.world → I m None (select s t).state.world.cpus (select s t).state.world
-  unfolding select
-  keeps_select m on s t within h = keeps_settle m on r.state t (target (acting r.state callback.SelectCpu) r.state.world t a) within l x
+      go : (o : Option ℕ) → choice w t ≡ o → I m (Some t) on (inserted_by_choice (after_claim w o) o)
+      go None e = h
+      go (Some c) e =
+          let l : c < length on = subst (λ (xs : List (Option ℕ)). c < length xs) sound.cpus (chosen_is_there w t c (rw sound.cpus (sound.homes t)) e) in
+          k.steps.wants m (Some t) on (after_claim w (Some c)) c l (still c) (claimed c)
+
+  keeps_ask_target : (m : ℕ) (on : List (Option ℕ)) (s : State) (t : ℕ) → t < n → I m (Some t) on s.world → I m None (ask_target s t).state.world.cpus (ask_target s t).state.world
+  unfolding ask_target
+  keeps_ask_target m on s t within h = keeps_settle m on (chosen p r.state t) t (target p r.state.world t a) within l (keeps_chosen m on p r.state t (calm_call_back s callback.SelectCpu (task_cpu_and_0 t c) t c refl) x)
     where
       c : ℕ
       c = (task_at s.world t).prev_cpu
 
       r : Stepped
       r = call_back s callback.SelectCpu (task_cpu_and_0 t c) t c
+
+      p : Option VerifiedProgram
+      p = acting r.state callback.SelectCpu
 
       a : Option ℕ
       a = answered_by s callback.SelectCpu (task_cpu_and_0 t c) t c
@@ -151,9 +230,20 @@ module _ (n : ℕ) (I : ℕ → Option ℕ → List (Option ℕ) → WorldState 
       y : IsSound (Some t) on n r.state.world
       y = k.sound m (Some t) on r.state.world x
 
-      l : target (acting r.state callback.SelectCpu) r.state.world t a < length on
-      l = subst (λ (xs : List (Option ℕ)). target (acting r.state callback.SelectCpu) r.state.world t a < length xs) y.cpus
-          (target_is_there (acting r.state callback.SelectCpu) r.state.world t a (rw y.cpus (y.homes t)))
+      l : target p r.state.world t a < length on
+      l = subst (λ (xs : List (Option ℕ)). target p r.state.world t a < length xs) y.cpus (target_is_there p r.state.world t a (rw y.cpus (y.homes t)))
+
+  keeps_select : (m : ℕ) (on : List (Option ℕ)) (s : State) (t : ℕ) → t < n → I m (Some t) on s.world → I m None (select s t).state.world.cpus (select s t).state.world
+  unfolding select
+  keeps_select m on s t within h =
+      keeps_if (λ (r : Stepped). I m None r.state.world.cpus r.state.world) (asks_target s) (ask_target s t) (settle (with_world s (at_callback s.world callback.SelectCpu t 0)) t 0) (keeps_ask_target m on s t within h)
+      (keeps_settle m on (with_world s (at_callback s.world callback.SelectCpu t 0)) t 0 within l (k.steps.begun m (Some t) on s.world callback.SelectCpu t 0 l h))
+    where
+      home : (task_at s.world t).prev_cpu < length on
+      home = (k.sound m (Some t) on s.world h).homes t
+
+      l : 0 < length on
+      l = omega (arith, home)
 
   -- a task that wakes
   pub keeps_wake : (m : ℕ) (s : State) (t : ℕ) → t < n → is_runnable s.world t ≡ false → I m None s.world.cpus s.world → I m None (wake s t).state.world.cpus (wake s t).state.world
@@ -161,6 +251,11 @@ module _ (n : ℕ) (I : ℕ → Option ℕ → List (Option ℕ) → WorldState 
   keeps_wake m s t within resting h = keeps_select m s.world.cpus (with_world s (after_wake s.world t)) t within (k.woken m s.world.cpus s.world t within resting h)
 
   -- ---- sleep
+
+  -- dispatch is to be told of the task
+  keeps_told : (m : ℕ) (on : List (Option ℕ)) (s : State) (t : ℕ) → I m None on s.world → I m None on (told_of_sleep s t).world
+  unfolding told_of_sleep
+  keeps_told m on s t h = keeps_if (λ (r : State). I m None on r.world) (is_by_linux s) (with_world s (with_slept s.world t)) s (k.steps.sets m None on s.world s.world.claimed s.world.kicked s.world.preempted s.world.call.claims (Some t) h) h
 
   keeps_sleep_from_cpu : (m : ℕ) (s : State) (t c : ℕ) → t < n → c < length s.world.cpus → get_or s.world.cpus c None ≡ Some t → I m None s.world.cpus s.world → I (m + 1) None (sleep_from_cpu s t c).state.world.cpus (sleep_from_cpu s t c).state.world
   unfolding sleep_from_cpu
@@ -175,14 +270,17 @@ module _ (n : ℕ) (I : ℕ → Option ℕ → List (Option ℕ) → WorldState 
       r : Stepped
       r = after_stopping (with_world s (after_stop s.world c t)) c t 0
 
+      u : State
+      u = with_world r.state (after_sleep r.state.world t)
+
       d : State
-      d = with_world r.state (after_sleep r.state.world t)
+      d = told_of_sleep u t
 
       off : I (m + 1) (Some t) on r.state.world
       off = keeps_stopping n I k.steps m (Some t) on (with_world s (after_stop s.world c t)) c t 0 l' (k.steps.stopped m s.world.cpus s.world c t l within runs h)
 
       down : I (m + 1) None on d.world
-      down = k.steps.asleep (m + 1) on r.state.world t within off
+      down = keeps_told (m + 1) on u t (k.steps.asleep (m + 1) on r.state.world t within off)
 
   -- a task that goes to sleep
   pub keeps_sleep : (m : ℕ) (s : State) (t : ℕ) → t < n → is_runnable s.world t ≡ true → I m None s.world.cpus s.world → I (m + 1) None (sleep s t).state.world.cpus (sleep s t).state.world
@@ -200,6 +298,55 @@ module _ (n : ℕ) (I : ℕ → Option ℕ → List (Option ℕ) → WorldState 
   pub keeps_cycle_now : (m : ℕ) (s : State) (c : ℕ) (p : Option ℕ) (ran : Bool) → c < length s.world.cpus → get_or s.world.cpus c None ≡ p → I m None s.world.cpus s.world → I (m + 1) None (cycle s c p ran).state.world.cpus (cycle s c p ran).state.world
   keeps_cycle_now m s c None ran l at h = k.steps.more m None _ _ (keeps_now m _ (keeps_cycle n I (inside_of n I k) m s.world.cpus s c None ran l tt at h))
   keeps_cycle_now m s c (Some t) ran l at h = keeps_now (m + 1) _ (keeps_cycle n I (inside_of n I k) m s.world.cpus s c (Some t) ran l (running_is_there n s.world c t l at (k.sound m None s.world.cpus s.world h)) at h)
+
+  -- ---- rounds
+
+  -- a cycle that begins while the policy is in force, of whatever processor and after however many others, charges one
+  -- task at most since the event began
+  pub keeps_cycle_anew : (m j : ℕ) (s : State) (c : ℕ) (p : Option ℕ) (ran : Bool) → s.world.ejected ≡ None → c < length s.world.cpus → get_or s.world.cpus c None ≡ p → I j None s.world.cpus s.world → I (m + 1) None (cycle s c p ran).state.world.cpus (cycle s c p ran).state.world
+  keeps_cycle_anew m j s c p ran force l at h = keeps_cycle_now m s c p ran l at (k.anew j m s.world.cpus s.world force h)
+
+  -- what holds once an event has charged one task at most
+  abbrev Charged : ℕ → State → Type 0
+  Charged m s = I (m + 1) None s.world.cpus s.world
+
+  -- a task goes on, or is replaced
+  keeps_look_past : (m : ℕ) (s : State) (c t : ℕ) → s.world.ejected ≡ None → c < length s.world.cpus → get_or s.world.cpus c None ≡ Some t → Charged m s → Charged m (look_past s c t).state
+  unfolding look_past
+  keeps_look_past m s c t force l at h = keeps_if (λ (r : Stepped). Charged m r.state) ((task_at s.world t).slice == 0) (cycle s c (Some t) true) (stays s) (keeps_cycle_anew m (m + 1) s c (Some t) true force l at h) h
+
+  -- a processor that looks for work
+  keeps_round : (m : ℕ) (s : State) (c : ℕ) → s.world.ejected ≡ None → c < length s.world.cpus → Charged m s → Charged m (round s c).state
+  unfolding round
+  keeps_round m s c force l h = go (running s.world c) refl
+    where
+      v : State
+      v = with_world s (without_kick s.world c)
+
+      kept : Charged m v
+      kept = k.steps.sets (m + 1) None s.world.cpus s.world s.world.claimed (but_cpu s.world.kicked c) (but_cpu s.world.preempted c) s.world.call.claims s.world.slept h
+
+      cut : (b : Bool) (t : ℕ) → running s.world c ≡ Some t → Charged m (look_past (cut_off_if b v t) c t).state
+      cut false t at = keeps_look_past m v c t force l at kept
+      cut true t at = keeps_look_past m (with_world v (after_cut_off v.world t)) c t force l at (k.steps.sliced (m + 1) None s.world.cpus v.world t 0 kept)
+
+      go : (o : Option ℕ) → running s.world c ≡ o → Charged m (look_from o (is_in_set s.world.preempted c) v c).state
+      go None at = keeps_cycle_anew m (m + 1) v c None false force l at kept
+      go (Some t) at = cut (is_in_set s.world.preempted c) t at
+
+  keeps_rounds : (j m : ℕ) (s : State) → Charged m s → Charged m (rounds j s).state
+  unfolding rounds
+  keeps_rounds zero m s h = h
+  keeps_rounds (suc j) m s h = go (next_to_look s) refl (λ c x. keeps_rounds j m (round s c).state x)
+    where
+      go : (o : Option ℕ) → next_to_look s ≡ o → ((c : ℕ) → Charged m (round s c).state → Charged m (rounds j (round s c).state).state) → Charged m (round_then (λ r. rounds j r) s o).state
+      go None e more = h
+      go (Some c) e more = let x = looks_there s c e in more c (keeps_round m s c (linux_in_force s x.linux) x.there h)
+
+  -- the rounds of an event charge no task more: while the policy is in force none was charged, and then no round follows
+  pub keeps_with_rounds : (m : ℕ) (r : Stepped) → Charged m r.state → Charged m (with_rounds r).state
+  unfolding with_rounds
+  keeps_with_rounds m r h = keeps_if (λ (r : Stepped). Charged m r.state) (is_by_linux r.state) (one_after_other r (rounds most_rounds r.state)) r (keeps_rounds most_rounds m r.state h) h
 
   -- a task that may not run any more leaves and is parked
   keeps_throttle : (m : ℕ) (s : State) (c t : ℕ) → t < n → c < length s.world.cpus → limits.is_throttled s.world.tree t ≡ true → I m (Some t) (set s.world.cpus c None) (after_stop s.world c t) → I (m + 1) None (throttle s c t).state.world.cpus (throttle s c t).state.world
@@ -227,7 +374,7 @@ module _ (n : ℕ) (I : ℕ → Option ℕ → List (Option ℕ) → WorldState 
   keeps_expire : (m : ℕ) (s : State) (c t : ℕ) → c < length s.world.cpus → get_or s.world.cpus c None ≡ Some t → I m None s.world.cpus s.world → I (m + 1) None (expire s c t).state.world.cpus (expire s c t).state.world
   unfolding expire
   keeps_expire m s c t l at h =
-      keeps_if (λ (r : Stepped). I (m + 1) None r.state.world.cpus r.state.world) ((task_at s.world t).slice == 0) (cycle s c (Some t) true) (stays s) (keeps_cycle_now m s c (Some t) true l at h) (k.steps.more m None s.world.cpus s.world h)
+      keeps_if (λ (r : Stepped). I (m + 1) None r.state.world.cpus r.state.world) (((task_at s.world t).slice == 0) && ends_slices s) (cycle s c (Some t) true) (stays s) (keeps_cycle_now m s c (Some t) true l at h) (k.steps.more m None s.world.cpus s.world h)
 
   -- what is kept as the task of a processor has run for a millisecond: it goes on, or leaves
   pub record IsKeptByTick (m : ℕ) (w : WorldState) (c t : ℕ) : Type 0 where
@@ -254,13 +401,19 @@ module _ (n : ℕ) (I : ℕ → Option ℕ → List (Option ℕ) → WorldState 
       go true e = keeps_throttle m v c t within l' (tree_used_up v.world t e) (subst (λ xs. I m (Some t) (set xs c None) (after_stop v.world c t)) (sym same) (h.leaves e))
       go false e = keeps_expire m v c t l' at' (subst (λ xs. I m None xs v.world) (sym same) (h.goes_on e))
 
+  -- a processor that ran no task
+  pub keeps_tick_idle : (m : ℕ) (s : State) (c : ℕ) → c < length s.world.cpus → get_or s.world.cpus c None ≡ None → I m None s.world.cpus s.world → I (m + 1) None (tick_idle s c).state.world.cpus (tick_idle s c).state.world
+  unfolding tick_idle
+  keeps_tick_idle m s c l at h =
+      keeps_if (λ (r : Stepped). I (m + 1) None r.state.world.cpus r.state.world) (is_by_linux s) (stays s) (cycle s c None false) (k.steps.more m None s.world.cpus s.world h) (keeps_cycle_now m s c None false l at h)
+
   -- a processor that ran, where that a task has run is kept
   pub keeps_tick : (m : ℕ) (s : State) (c : ℕ) → c < length s.world.cpus → I m None s.world.cpus s.world → ((t : ℕ) → get_or s.world.cpus c None ≡ Some t → IsKeptByTick m s.world c t) → I (m + 1) None (tick s c).state.world.cpus (tick s c).state.world
   unfolding tick
   keeps_tick m s c l h ran = go (running s.world c) refl
     where
       go : (o : Option ℕ) → running s.world c ≡ o → I (m + 1) None (tick_of o s c).state.world.cpus (tick_of o s c).state.world
-      go None at = keeps_cycle_now m s c None false l at h
+      go None at = keeps_tick_idle m s c l at h
       go (Some t) at = keeps_count_down m s c t (running_is_there n s.world c t l at (k.sound m None s.world.cpus s.world h)) l at (ran t at)
 
   -- ---- the clock
@@ -317,6 +470,12 @@ is_taken s (SetWeight g x) ok = Weighs g x
 abbrev pub IsFineNow : ℕ → ℕ → ℕ → WorldState → Type 0
 IsFineNow n e m w = IsFine n e m None w.cpus w
 
+fine_anew : (n e m k : ℕ) (on : List (Option ℕ)) (w : WorldState) → w.ejected ≡ None → IsFine n e m None on w → IsFine n e k None on w
+fine_anew n e m k on w force h =
+    let r = range_of n e m None on w h in
+    let fresh = h.not_yet force in
+    fine_of n e k None on w h.sound (r.0, r.1, (λ t. omega (arith, fresh.1 t)), omega (arith, fresh.0), r.4, r.5, r.6)
+
 -- events keep what is fine between them
 pub fine_events : (n e : ℕ) → IsKeptByEvents n (IsFine n e)
 fine_events n e = record {
@@ -325,6 +484,7 @@ fine_events n e = record {
   woken = λ m on w t within resting h. fine_of n e m (Some t) on (after_wake w t) (sound_woken on n w t within resting h.sound) (range_same e m on w t _ refl refl (range_of n e m None on w h));
   let_go = λ m on w t within there h. fine_of n e m (Some t) on (let_go w t) (sound_let_go on n w t within there h.sound) (range_same e m on w t _ refl refl (range_of n e m None on w h));
   left = λ m on w t within runnable off h. let r = range_of n e m None on w h in fine_of n e m None on _ (sound_left on n w t within runnable off h.sound) (keeps_if (IsRange e m on) (nat_lt t (length w.tasks)) _ (after_leave w t) (range_same e m on (after_leave w t) t _ refl refl r) r);
+  anew = λ m k on w force h. fine_anew n e m k on w force h;
 }
 
 -- what is fine is kept inside of an event
@@ -376,7 +536,7 @@ fine_ticked n e m w c t l at h = record {
 pub fine_later : (n e m : ℕ) (w : WorldState) → IsFineNow n e m w → IsFineNow n (e + 1) m (begun_periods (later w))
 fine_later n e m w h = record { sound = sound_begun_periods None w.cpus n (later w) (sound_later w.cpus n w h.sound); clock = omega (arith, h.clock); runs = λ t. omega (arith, h.runs t); times = h.times; builtin_clock = h.builtin_clock; used = most_turned w.tree (w.clock + 1) (e + 1) (λ g. omega (arith, h.used g)); within = within_turned w.tree w.cpus (w.clock + 1) h.within; not_yet = h.not_yet }
 
-fine_reweighed : (n e m : ℕ) (w : WorldState) (g x : ℕ) → IsFineNow n e m w → IsFineNow n e m (after_reweigh w g x)
+pub fine_reweighed : (n e m : ℕ) (w : WorldState) (g x : ℕ) → IsFineNow n e m w → IsFineNow n e m (after_reweigh w g x)
 fine_reweighed n e m w g x h = go (is_none (weight_fault w.tree g x))
   where
     go : (b : Bool) → IsFineNow n e m (if b then with_tree w (with_weight w.tree g x) else w)
@@ -387,9 +547,13 @@ fine_reweighed n e m w g x h = go (is_none (weight_fault w.tree g x))
 pub known_running : (n e m : ℕ) (w : WorldState) (c t : ℕ) → c < length w.cpus → get_or w.cpus c None ≡ Some t → IsFineNow n e m w → t < n
 known_running n e m w c t l at h = running_is_there n w c t l at h.sound
 
--- all events
-pub fine_step : (n e : ℕ) (s : State) (v : Event) → length s.world.tasks ≡ n → refusal s v ≡ None → IsFineNow n e e s.world → IsFineNow n (e + 1) (e + 1) (event_step s v).state.world
-fine_step n e s v tasks ok h = go v (is_taken s v ok)
+-- the clock
+pub fine_clock : (n e : ℕ) (s : State) → IsFineNow n e e s.world → IsFineNow n (e + 1) e (clock s).state.world
+fine_clock n e s h = keeps_clock n (IsFine n (e + 1)) (fine_events n (e + 1)) e s (fine_later n e e s.world h)
+
+-- all events, by themselves
+pub fine_own : (n e : ℕ) (s : State) (v : Event) → length s.world.tasks ≡ n → refusal s v ≡ None → IsFineNow n e e s.world → IsFineNow n (e + 1) (e + 1) (own_step s v).state.world
+fine_own n e s v tasks ok h = go v (is_taken s v ok)
   where
     I : ℕ → Option ℕ → List (Option ℕ) → WorldState → Type 0
     I = IsFine n (e + 1)
@@ -400,9 +564,13 @@ fine_step n e s v tasks ok h = go v (is_taken s v ok)
     h' : IsFineNow n (e + 1) e s.world
     h' = one_more n e e s.world h
 
-    go : (v : Event) → IsTaken s v → IsFineNow n (e + 1) (e + 1) (event_step s v).state.world
+    go : (v : Event) → IsTaken s v → IsFineNow n (e + 1) (e + 1) (own_step s v).state.world
     go _ (Wakes t within resting) = k.steps.more e None _ _ (keeps_wake n I k e s t (omega (arith, within, tasks)) resting h')
     go _ (Sleeps t within runnable) = keeps_sleep n I k e s t (omega (arith, within, tasks)) runnable h'
     go _ (Ticks c l) = keeps_tick n I k e s c l h' (λ t at. fine_ticked n e e s.world c t l at h)
     go _ Clocks = k.steps.more e None _ _ (keeps_clock n I k e s (fine_later n e e s.world h))
     go _ (Weighs g x) = k.steps.more e None _ _ (fine_reweighed n (e + 1) e s.world g x h')
+
+-- and with their rounds
+pub fine_step : (n e : ℕ) (s : State) (v : Event) → length s.world.tasks ≡ n → refusal s v ≡ None → IsFineNow n e e s.world → IsFineNow n (e + 1) (e + 1) (event_step s v).state.world
+fine_step n e s v tasks ok h = keeps_with_rounds n (IsFine n (e + 1)) (fine_events n (e + 1)) e (own_step s v) (fine_own n e s v tasks ok h)

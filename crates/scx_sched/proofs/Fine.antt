@@ -1,10 +1,10 @@
 -- What holds between two events is kept by each small step of a world.
-use Rattle.std.proofs.Common.{◌≡◌, ℕ, ◌+◌, ◌*◌, ◌<◌, ◌≤◌, arith, ◌⊎◌, inl, inr, nat_lt, ◌==◌, List, length, set, get_or, map, Option, Some, None, refl, ◌∙◌}
+use Rattle.std.proofs.Common.{◌≡◌, ℕ, ◌+◌, ◌*◌, ◌<◌, ◌≤◌, arith, ◌⊎◌, inl, inr, nat_lt, ◌==◌, ◌&&◌, List, length, set, get_or, map, Option, Some, None, refl, ◌∙◌}
 use Rattle.std.proofs.lemmas.Bool.{cases_eq, cases_lt}
 use Rattle.std.proofs.lemmas.List.{get_or-set_same, get_or-set_other, set_past}
 use Rattle.scx_dsq.specs.Queues.{front_of}
 use Rattle.scx_dsq.specs.declared.entries.Rank.{Rank}
-use Rattle.scx_dsq.specs.declared.entries.Rank.TheVariants.{Fifo, Vtime}
+use Rattle.scx_dsq.specs.declared.entries.Rank.TheVariants.{Fifo, Front, Vtime}
 use Rattle.scx_isa_semantics.specs.declared.host_tables.Field.{Field}
 use Rattle.scx_isa_semantics.specs.declared.host_tables.Field.TheVariants.{Pid, Weight, Slice, DsqVtime, PrevCpu, Group, RunNs}
 use Rattle.scx_isa_semantics.specs.declared.host_tables.Helper.{Helper}
@@ -17,8 +17,8 @@ use Rattle.scx_sched_tasks.specs.Tasks.{no_task}
 use Rattle.scx_weights.specs.Limits.{usage_of}
 use Rattle.scx_sched_world.specs.declared.call.Insert.{Insert}
 use Rattle.scx_sched_world.specs.declared.faults.Fault.{Fault}
-use Rattle.scx_sched_world.specs.World.{WorldState, with_task, task_at, waits}
-use Rattle.scx_sched_world.specs.Tasks.{given_slice, given_vtime, task_after_insert, after_leave, after_enter, for_cpu, brought, fill_front, with_new_slice}
+use Rattle.scx_sched_world.specs.World.{WorldState, is_by_linux, with_task, task_at, waits}
+use Rattle.scx_sched_world.specs.Tasks.{with_home, with_slice, rank_by, after_local, after_take, given_slice, given_vtime, task_after_insert, after_leave, after_enter, for_cpu, brought, fill_front, with_new_slice}
 use Rattle.scx_sched_world.specs.Helpers.{is_dispatch, with_insert, after_release, insert_or_fault, front_moved_to_local, helper_after, stored_in, world_functions}
 use Rattle.scx_sched_machine.proofs.Choices.{keeps_if}
 use Rattle.scx_sched_machine.proofs.HelperCalls.{by_helper}
@@ -27,9 +27,10 @@ use Rattle.scx_sched_world.specs.Ejecting.{put_builtin, used_vtime, after_charge
 use Rattle.scx_sched.specs.Ranges.{IsFresh, IsFine}
 use Rattle.scx_sched.specs.Kept.{IsKeptBySteps}
 use Rattle.scx_sched.specs.Usages.{AreWithin}
+use Rattle.scx_sched.proofs.Marks.{KeepsMarks, Anywhere, kept_kicked_so, kept_claim, kept_local, kept_entered}
 use Rattle.scx_sched.proofs.Bounded.{within_begun, within_ended}
 use Rattle.scx_sched.proofs.Parking.{sound_put_parked, sound_taken}
-use Rattle.scx_sched.proofs.Sound.{sound_query, sound_begun, sound_quiet, sound_cycling, sound_entered, sound_filled, sound_stopped, sound_started, sound_kept, sound_asleep, sound_put_out, sound_evict, sound_cut, sound_put_builtin, sound_overtaken, sound_charged}
+use Rattle.scx_sched.proofs.Sound.{sound_query, sound_begun, sound_quiet, sound_cycling, sound_entered, sound_filled, sound_stopped, sound_started, sound_ran, sound_marks, sound_sets, sound_wants, sound_kept, sound_asleep, sound_put_out, sound_evict, sound_cut, sound_put_builtin, sound_overtaken, sound_charged}
 
 -- ---- each task
 
@@ -56,10 +57,11 @@ stored_run x RunNs k = refl
 
 -- an insert leaves it how long the task has run
 pub given_run : (x : Task) (i : Insert) → (task_after_insert x i).run_ns ≡ x.run_ns
-given_run x i = vtime i.rank ∙ keeps_if (λ (y : Task). y.run_ns ≡ x.run_ns) (i.slice == 0) x _ refl refl
+given_run x i = vtime i.rank ∙ keeps_if (λ (y : Task). y.run_ns ≡ x.run_ns) (i.slice == 0) _ _ (keeps_if (λ (y : Task). y.run_ns ≡ x.run_ns) (i.refills && (x.slice == 0)) _ x refl refl) refl
   where
-    vtime : (r : Rank) → (given_vtime (given_slice x i.slice) r).run_ns ≡ (given_slice x i.slice).run_ns
+    vtime : (r : Rank) → (given_vtime (given_slice x i) r).run_ns ≡ (given_slice x i).run_ns
     vtime Fifo = refl
+    vtime Front = refl
     vtime (Vtime k) = refl
 
 -- a new slice leaves it how long the task has run
@@ -106,6 +108,15 @@ module _ (e m : ℕ) (on : List (Option ℕ)) where
   pub range_same : (w : WorldState) (t : ℕ) (x : Task) → x.run_ns ≡ (task_at w t).run_ns → x.builtin ≡ (task_at w t).builtin → IsRange e m on w → IsRange e m on (with_task w t x)
   range_same w t x run same r = range_task w t x (rw run (r.1 t)) same r
 
+  -- as the processor of a task, its slice and sets of processors change, no number grows
+  range_marks : KeepsMarks Anywhere (IsRange e m on)
+  range_marks = record {
+    there = λ w c r l. tt;
+    homed = λ w t c l r. range_same w t (with_home (task_at w t) c) refl refl r;
+    sliced = λ w t k r. range_same w t (with_slice (task_at w t) k) refl refl r;
+    sets = λ w a b c d r. r;
+  }
+
   stored_time : (x : Task) (f : Field) (k : ℕ) → (stored_in x f k).builtin ≡ x.builtin
   stored_time x Pid k = refl
   stored_time x Weight k = refl
@@ -116,14 +127,15 @@ module _ (e m : ℕ) (on : List (Option ℕ)) where
   stored_time x RunNs k = refl
 
   given_time : (x : Task) (i : Insert) → (task_after_insert x i).builtin ≡ x.builtin
-  given_time x i = vtime i.rank ∙ keeps_if (λ (y : Task). y.builtin ≡ x.builtin) (i.slice == 0) x _ refl refl
+  given_time x i = vtime i.rank ∙ keeps_if (λ (y : Task). y.builtin ≡ x.builtin) (i.slice == 0) _ _ (keeps_if (λ (y : Task). y.builtin ≡ x.builtin) (i.refills && (x.slice == 0)) _ x refl refl) refl
     where
-      vtime : (r : Rank) → (given_vtime (given_slice x i.slice) r).builtin ≡ (given_slice x i.slice).builtin
+      vtime : (r : Rank) → (given_vtime (given_slice x i) r).builtin ≡ (given_slice x i).builtin
       vtime Fifo = refl
+      vtime Front = refl
       vtime (Vtime k) = refl
 
   range_entered : (w : WorldState) (t : ℕ) (i : Insert) → IsRange e m on w → IsRange e m on (after_enter w t i)
-  range_entered w t i r = keeps_if (IsRange e m on) (nat_lt t (length w.tasks)) _ w (range_same w t (task_after_insert (task_at w t) i) (given_run (task_at w t) i) (given_time (task_at w t) i) r) r
+  range_entered w t i r = kept_entered Anywhere (IsRange e m on) range_marks w t i (let x = range_same w t (task_after_insert (task_at w t) i) (given_run (task_at w t) i) (given_time (task_at w t) i) r in (x.0, x.1, x.2, x.3, x.4, x.5, x.6)) r
 
   range_released : (w : WorldState) (t : Option ℕ) (i : Insert) → IsRange e m on w → IsRange e m on (after_release w t i)
   range_released w None i r = r
@@ -135,18 +147,21 @@ module _ (e m : ℕ) (on : List (Option ℕ)) where
 
   range_moved : (w : WorldState) (o : Option ℕ) (q : ℕ) → IsRange e m on w → IsRange e m on (front_moved_to_local w o q)
   range_moved w None q r = r
-  range_moved w (Some t) q r = r
+  range_moved w (Some t) q r = let x = kept_local Anywhere (IsRange e m on) range_marks (after_take w q) w.call.cpu t tt r in (x.0, x.1, x.2, x.3, x.4, x.5, x.6)
 
   range_brought : (o : Option ℕ) (w : WorldState) (q c : ℕ) → IsRange e m on w → IsRange e m on (brought o w q c)
   range_brought None w q c r = r
-  range_brought (Some t) w q c r = r
+  range_brought (Some t) w q c r = kept_local Anywhere (IsRange e m on) range_marks (after_take w q) c t tt r
 
   range_helper : (w : WorldState) (f : Helper) (a : List Arg) → IsRange e m on w → IsRange e m on (helper_after w f a)
   range_helper w f a r = by_helper (IsRange e m on) w (record {
     same = r;
     faulty = λ f other. r;
     created = λ q. r;
-    inserted = λ t i flags none. range_inserted w None t i r;
+    inserted = λ t i flags back none. range_inserted w None t i r;
+    late = λ linux here. r;
+    claimed = λ o. kept_claim Anywhere (IsRange e m on) range_marks w o r;
+    kicked = λ c k. kept_kicked_so Anywhere (IsRange e m on) range_marks w c k r;
     moved = λ q here low. range_moved w (front_of w.queues q) q r;
   }) f a
 
@@ -188,10 +203,15 @@ fine_steps n e = record {
   begun = λ m hand on w b t c l h. fine_of n e m hand on _ (sound_begun hand on n w b t c l h.sound) (range_of n e m hand on w h);
   quiet = λ m hand on w h. fine_of n e m hand on _ (sound_quiet hand on n w h.sound) (range_of n e m hand on w h);
   cycling = λ m hand on w o h. fine_of n e m hand on _ (sound_cycling hand on n w o h.sound) (range_of n e m hand on w h);
+  sets = λ m hand on w a b c d o h. fine_of n e m hand on _ (sound_sets hand on n w a b c d o h.sound) (range_of n e m hand on w h);
+  homed = λ m hand on w t c l h. fine_of n e m hand on _ ((sound_marks hand on n).homed w t c l h.sound) (range_same e m on w t _ refl refl (range_of n e m hand on w h));
+  sliced = λ m hand on w t k h. fine_of n e m hand on _ ((sound_marks hand on n).sliced w t k h.sound) (range_same e m on w t _ refl refl (range_of n e m hand on w h));
+  wants = λ m hand on w c l calm h. fine_of n e m hand on _ (sound_wants hand on n w c l calm h.sound) (range_of n e m hand on w h);
   entered = λ m on w t i l x h. fine_of n e m None on _ (sound_entered on n w t i l x h.sound) (range_entered e m on w t i (range_of n e m (Some t) on w h));
   filled = λ m on w q c apart l h. fine_of n e m None on _ (sound_filled on n w q c apart l h.sound) (range_brought e m on (fill_front w q c) w q c (range_of n e m None on w h));
   stopped = λ m on w c t l within runs h. fine_of n e m (Some t) (set on c None) _ (sound_stopped on n w c t l within runs h.sound) (range_same e m (set on c None) w t _ refl refl (range_on e m on (set on c None) w (within_ended w.tree on c l h.within) (range_of n e m None on w h)));
   started = λ m on w c t l free front may h. fine_of n e m None (set on c (Some t)) _ (sound_started on n w c t l free front h.sound) (range_same e m (set on c (Some t)) w t _ refl refl (range_on e m on (set on c (Some t)) w (within_begun w.tree on c t l free may h.within) (range_of n e m None on w h)));
+  ran = λ m on w c t l free here may h. fine_of n e m None (set on c (Some t)) _ (sound_ran on n w c t l free here h.sound) (range_same e m (set on c (Some t)) w t _ refl refl (range_on e m on (set on c (Some t)) w (within_begun w.tree on c t l free may h.within) (range_of n e m None on w h)));
   put_parked = λ m on w t l may-not h. let r = range_of n e m (Some t) on w h in fine_of n e m None on _ (sound_put_parked on n w t l h.sound) (keeps_if (IsRange e m on) (nat_lt t (length w.tasks)) _ w (range_same e m on w t _ refl refl r) r);
   taken = λ m on w q t apart front h. fine_of n e m (Some t) on _ (sound_taken on n w q t front apart h.sound) (range_of n e m None on w h);
   kept = λ m on w t h. fine_of n e m None on _ (sound_kept on n w t h.sound) (range_same e m on w t (with_new_slice (task_at w t)) (renewed_run (task_at w t)) (renewed_time e m on (task_at w t)) (range_of n e m None on w h));

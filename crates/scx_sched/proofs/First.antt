@@ -15,7 +15,8 @@ use Rattle.scx_isa_semantics.specs.declared.callbacks.Callback.{Callback}
 use Rattle.scx_vm.specs.declared.arguments.Args.{Args}
 use Rattle.scx_weights.specs.Hierarchy.{Hierarchy, is_active_task}
 use Rattle.scx_weights.specs.Counting.{any_below}
-use Rattle.scx_sched_world.specs.World.{WorldState, is_this, at_callback}
+use Rattle.scx_isa_semantics.specs.declared.rules.Rules.{Rules}
+use Rattle.scx_sched_world.specs.World.{with_rules, WorldState, is_this, at_callback}
 use Rattle.scx_sched_tasks.specs.declared.task.Task.{Task}
 use Rattle.scx_sched_tasks.specs.Tasks.{no_task, new_task}
 use Rattle.scx_sched_world.specs.First.{first_world}
@@ -181,8 +182,8 @@ has_shape tree cpus e = go (nat_lt cpus 1) (nat_lt 64 cpus) (any_below (length t
 both_are : (o : Option Entry) (p : Entry) → o ≡ None → o ≡ Some p → ⊥
 both_are o p x y = absurd (cc)
 
-first_is_fine : (tree : Hierarchy) (cpus : ℕ) → HasShape tree cpus → length tree.active ≡ length tree.homes → IsFine (length tree.homes) 0 0 None (replicate cpus None) (begun_periods (first_world tree cpus))
-first_is_fine tree cpus shape flags = record {
+first_is_fine : (rules : Rules) (tree : Hierarchy) (cpus : ℕ) → HasShape tree cpus → length tree.active ≡ length tree.homes → IsFine (length tree.homes) 0 0 None (replicate cpus None) (begun_periods (with_rules (first_world tree cpus) rules))
+first_is_fine rules tree cpus shape flags = record {
   sound = record {
     cpus = refl;
     tasks = length-replicate (length tree.homes) new_task;
@@ -195,6 +196,7 @@ first_is_fine tree cpus shape flags = record {
     once = λ t. rw (nobody_runs cpus t, nowhere cpus (length tree.homes) t, sleeps t (cases_lt t (length tree.homes))) refl;
     here = rw (length-replicate {A = Option ℕ} cpus None) shape.some;
     goes = tt;
+    behind = λ e. tt;
     waiting = λ t. rw (never_waited (length tree.homes) t, nowhere cpus (length tree.homes) t) refl;
     at_once = λ e. refl;
   };
@@ -215,7 +217,7 @@ first_is_fine tree cpus shape flags = record {
 
 -- whatever small steps keep, and holds of the first world, holds once a machine is made
 pub steps_started : (I : ℕ → Option ℕ → List (Option ℕ) → WorldState → Type 0) (p : PolicyState) (tree : Hierarchy) (cpus : ℕ) (t : State) → IsKeptBySteps (length tree.homes) I → is_bad_shape tree cpus ≡ false → first_state p tree cpus ≡ Ok t
-    → I 0 None (replicate cpus None) (begun_periods (first_world tree cpus)) → I 0 None (replicate cpus None) t.world
+    → I 0 None (replicate cpus None) (begun_periods (with_rules (first_world tree cpus) p.rules)) → I 0 None (replicate cpus None) t.world
 steps_started I p tree cpus t k shape e h = keeps_started (λ s. I 0 None on s.world) keeps p tree cpus t e h
   where
     on : List (Option ℕ)
@@ -231,7 +233,7 @@ steps_started I p tree cpus t k shape e h = keeps_started (λ s. I 0 None on s.w
 
 -- what holds between two events holds at first
 pub fine_started : (p : PolicyState) (tree : Hierarchy) (cpus : ℕ) (t : State) → is_bad_shape tree cpus ≡ false → length tree.active ≡ length tree.homes → first_state p tree cpus ≡ Ok t → IsFine (length tree.homes) 0 0 None (replicate cpus None) t.world
-fine_started p tree cpus t shape flags e = steps_started (IsFine (length tree.homes) 0) p tree cpus t (fine_steps (length tree.homes) 0) shape e (first_is_fine tree cpus (has_shape tree cpus shape) flags)
+fine_started p tree cpus t shape flags e = steps_started (IsFine (length tree.homes) 0) p tree cpus t (fine_steps (length tree.homes) 0) shape e (first_is_fine p.rules tree cpus (has_shape tree cpus shape) flags)
 
 -- nobody waits too long at first
 pub time_started : (limit : ℕ) (p : PolicyState) (tree : Hierarchy) (cpus : ℕ) (t : State) → is_bad_shape tree cpus ≡ false → first_state p tree cpus ≡ Ok t → IsInTime limit t.world
@@ -243,6 +245,10 @@ time_started limit p tree cpus t shape e =
 -- its policy is the one that it was given, and in force
 pub policy_started : (p : PolicyState) (tree : Hierarchy) (cpus : ℕ) (t : State) → first_state p tree cpus ≡ Ok t → t.policy ≡ p
 policy_started p tree cpus t e = keeps_started (λ s. s.policy ≡ p) (λ s b a u h. h) p tree cpus t e refl
+
+-- it goes by the rules of its policy
+pub rules_started : (p : PolicyState) (tree : Hierarchy) (cpus : ℕ) (t : State) → first_state p tree cpus ≡ Ok t → t.world.rules ≡ p.rules
+rules_started p tree cpus t e = keeps_started (λ s. s.world.rules ≡ p.rules) (λ s b a u h. (same_called (acting s b) b a s.maps (at_callback s.world b u 0)).4 ∙ h) p tree cpus t e refl
 
 -- as a machine begins, its policy is in force
 pub force_started : (p : PolicyState) (tree : Hierarchy) (cpus : ℕ) (t : State) → first_state p tree cpus ≡ Ok t → t.world.ejected ≡ None

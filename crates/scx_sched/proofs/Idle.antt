@@ -1,5 +1,5 @@
 -- After a tick that leaves a processor idle, no task is left behind for it.
-use Rattle.std.proofs.Common.{◌≡◌, ℕ, zero, suc, ◌+◌, ◌<◌, ◌≤◌, Bool, true, false, ◌==◌, nat_lt, if◌then◌else◌, List, length, set, get_or, Option, Some, None, is_none, is_some, refl, sym, ap, ◌∙◌, subst, arith}
+use Rattle.std.proofs.Common.{◌≡◌, ℕ, zero, suc, ◌+◌, ◌<◌, ◌≤◌, Bool, true, false, ◌==◌, nat_lt, if◌then◌else◌, List, length, set, get_or, Option, Some, None, is_none, is_some, refl, sym, ap, ◌∙◌, subst, arith, ◌&&◌, not}
 use Rattle.std.proofs.lemmas.Bool.{eq-eqb, ne_eqb}
 use Rattle.std.proofs.lemmas.Bool.Decides.{nat_tests}
 use Rattle.std.proofs.lemmas.List.{length-set, get_or-set_same}
@@ -13,36 +13,39 @@ use Rattle.scx_isa_semantics.specs.declared.callbacks.Callback.TheVariants as ca
 use Rattle.scx_weights.specs.Limits as limits
 use Rattle.scx_sched_world.specs.declared.eject.Eject.{Eject}
 use Rattle.scx_sched_world.specs.Ids.{global, builtin_queue, parked_queue, local_on}
+use Rattle.scx_sched_world.specs.World as world
 use Rattle.scx_sched_world.specs.World.{WorldState, task_at, is_throttled, running}
-use Rattle.scx_sched_world.specs.Tasks.{local_len, brought, after_stop, started_at, after_tick, used_ms}
-use Rattle.scx_sched_machine.specs.Steps.{State, Stepped, with_world, stays, one_after_other, is_ejected}
+use Rattle.scx_sched_world.specs.Tasks.{after_local, after_take, local_len, brought, after_stop, started_at, after_tick, used_ms}
+use Rattle.scx_sched_machine.specs.Steps.{State, Stepped, with_world, stays, one_after_other, is_ejected, is_by_linux, kicked}
 use Rattle.scx_sched_machine.specs.Callbacks.{call_back, cpu_and_task}
 use Rattle.scx_sched_machine.specs.Filling.{fill}
 use Rattle.scx_sched_machine.specs.Parking.{park, park_front, throttled_front, park_fronts, clear, in_reach, supply}
-use Rattle.scx_sched_machine.specs.Cycle.{has_local, after_dispatch, asks_again, tries, after_stopping, leave, started_if, start as run_front, rest, swap, swap_or_rest, builtin_dispatch, builtin_fill, builtin_ask, builtin_cycle, start_or_cycle, pick, pick_or_rest, conclude, ask, seek, look, cycling, cycle}
+use Rattle.scx_sched_machine.specs.Cycle.{has_local, keeps_slice, supply_unless_kept, told_of, after_dispatch, asks_again, tries, after_stopping, switched, leave, started_if, start as run_front, rest, swap, swap_or_rest, builtin_dispatch, builtin_fill, builtin_ask, builtin_cycle, start_or_cycle, picked, refilled, start_picked_or_cycle, give_up, pick, pick_or_rest, keep_or_pick, conclude, ask, seek, look, cycling, cycle}
 use Rattle.scx_sched_machine.specs.declared.events.Event.{Event}
 use Rattle.scx_sched_machine.specs.declared.events.Event.TheVariants.{Wake, Sleep, Tick, Clock, SetWeight}
 use Rattle.scx_sched_machine.specs.declared.events.Refused.TheVariants.{UnknownCpu}
-use Rattle.scx_sched_machine.specs.Events.{throttle, expire, count_down, tick_of, tick, event_step}
+use Rattle.scx_sched_machine.specs.Events.{throttle, ends_slices, expire, count_down, tick_idle, tick_of, tick, own_step, event_step}
+use Rattle.scx_sched_machine.specs.Rounds.{most_rounds, rounds, with_rounds}
 use Rattle.scx_sched_machine.proofs.Choices.{keeps_if}
 use Rattle.scx_sched.specs.Ranges.{IsFine}
 use Rattle.scx_sched.specs.Left.{LeavesNothing, LeavesNothingIdle}
 use Rattle.scx_sched.specs.Sim.{refusal, IsValid}
 use Rattle.scx_sched.proofs.Entering.{own_open, is_accepted, sorted_popped, stay_without, local_sort}
 use Rattle.scx_sched.proofs.Sound.{left_place}
-use Rattle.scx_sched.proofs.Blaming.{honest_supply, honest_builtin_fill}
+use Rattle.scx_sched.proofs.Blaming.{plain_on, honest_supply, honest_builtin_fill, honest_tries, honest_stopping, honest_park}
 use Rattle.scx_sched.proofs.Fronts.{front_same}
 use Rattle.scx_sched.proofs.Clear.{IsClear, MayStart, tree_used_up}
 use Rattle.scx_sched.proofs.Ready.{tree_stopping}
 use Rattle.scx_sched.proofs.Supplying.{clear_from, empty_no_front, throttled_is, IsLeft, left_park_fronts, reach_fill, reach_park_front, supply_clears, builtin_clears}
-use Rattle.scx_sched.proofs.Skeleton.{IsKnown, once_for, keeps_call_back, keeps_stopping, keeps_running_on}
-use Rattle.scx_sched.proofs.Cycles.{some_local, no_local, keeps_park, keeps_park_front, keeps_park_fronts, keeps_fill, keeps_supply, keeps_dispatched, keeps_tries, tries_clear, clear_now, keeps_leave, ready_left, keeps_builtin_fill}
+use Rattle.scx_sched.proofs.Marks.{KeepsMarks, Anywhere, kept_local}
+use Rattle.scx_sched.proofs.Skeleton.{IsKnown, once_for, keeps_call_back, keeps_stopping, keeps_running_on, keeps_switched}
+use Rattle.scx_sched.proofs.Cycles.{not_kept, MayStartUnlessKept, some_local, no_local, keeps_park, keeps_park_front, keeps_park_fronts, keeps_fill, keeps_supply, keeps_dispatched, keeps_tries, tries_clear, clear_now, keeps_leave, ready_left, keeps_builtin_fill}
 use Rattle.scx_sched.proofs.Fine.{fine_steps}
 use Rattle.scx_sched.proofs.Events.{cpus_used, IsKeptByTick, fine_inside, fine_events, known_running, fine_ticked}
 use Rattle.scx_sched.proofs.Firsts.{no_front_is_empty}
 use Rattle.scx_sched.proofs.Lengths.{len_set}
-use Rattle.scx_sched.proofs.Leaving.{IsOut, local_leave}
-use Rattle.scx_sched.proofs.Deciding.{accepted}
+use Rattle.scx_sched.proofs.Leaving.{LeavesPlainly, out_is_plain, IsOut, local_leave}
+use Rattle.scx_sched.proofs.Deciding.{accepted, tick_plain}
 
 -- an accepted push makes its queue longer
 len_entered : (s : QueueState) (q t : ℕ) (r : Rank) → t < task_count s → push_refusal s q t r ≡ None → len_of (after_push s q t r) q ≡ len_of s q + 1
@@ -80,6 +83,29 @@ LeavesIfIdle c w = is_none (running w c) ≡ true → LeavesNothing w c
 busy : (c : ℕ) (w : WorldState) → is_none (running w c) ≡ false → LeavesIfIdle c w
 busy c w e idle = let bad : false ≡ true = sym e ∙ idle in absurd (cc)
 
+-- who leaves an ejected scheduler leaves by plain rules
+out_leaves : (s : State) (p : Option ℕ) → IsOut p s → LeavesPlainly p s
+out_leaves s None out = tt
+out_leaves s (Some t) out = out_is_plain s out
+
+-- by plain rules anybody does
+plain_leaves : (s : State) (p : Option ℕ) → is_by_linux s ≡ false → LeavesPlainly p s
+plain_leaves s None plain = tt
+plain_leaves s (Some t) plain = plain
+
+-- by plain rules the front runs that there is once the task before has left
+pick_plain : (s : State) (c : ℕ) (p : Option ℕ) (ran : Bool) → is_by_linux s ≡ false → pick s c p ran ≡ one_after_other (leave s c p) (start_or_cycle (leave s c p).state c ran)
+unfolding pick picked
+pick_plain s c p ran plain = ap (λ b. after_pick (if b then front_of s.world.queues (local_on c) else None)) plain
+  where
+    after_pick : Option ℕ → Stepped
+    after_pick o = let l = leave (refilled s o) c p in one_after_other l (start_picked_or_cycle o l.state c ran)
+
+-- and a processor gives up for good
+give_up_plain : (s : State) (c : ℕ) (p : Option ℕ) → is_by_linux s ≡ false → give_up s c p ≡ s
+unfolding give_up
+give_up_plain s c p plain = ap (λ b. if b && asks_again s c p then kicked s c else s) plain
+
 module _ (n e : ℕ) (c : ℕ) where
   -- ---- who comes to run
 
@@ -91,16 +117,21 @@ module _ (n e : ℕ) (c : ℕ) where
       go None f = absurd (omega (arith, some, no_front_is_empty s.world.queues (local_on c) f))
       go (Some t) f =
           let l' : c < length (set on c (Some t)) = rw (length-set on c (Some t)) l in
-          let x = keeps_running_on n (IsFine n e) (fine_steps n e) m None (set on c (Some t)) (with_world s (started_at (Some t) s.world c)) c t l' ((fine_steps n e).started m on s.world c t l free f (clear-now t f) h) in
+          let v = with_world s (started_at (Some t) s.world c) in
+          let y = keeps_switched n (IsFine n e) (fine_steps n e) m None (set on c (Some t)) v t ((fine_steps n e).started m on s.world c t l free f (clear-now t f) h) in
+          let x = keeps_running_on n (IsFine n e) (fine_steps n e) m None (set on c (Some t)) (switched v t) c t l' y in
           rw (x.sound.cpus, get_or-set_same on c (Some t) None l) refl
 
   swap_busy : (m : ℕ) (on : List (Option ℕ)) (s : State) (p : Option ℕ) → c < length on → IsKnown n p → get_or on c None ≡ p → IsOut p s → IsClear c s.world → IsFine n e m None on s.world → has_local s c ≡ true → is_none (running (swap s c p).state.world c) ≡ false
   unfolding swap
   swap_busy m on s p l known runs out clear-now h some =
       let x = keeps_leave n (IsFine n e) (fine_inside n e) m on s c p l known runs h in
-      start_busy (once_for p m) x.0 (leave s c p).state x.2 x.3 (ready_left n (IsFine n e) (fine_inside n e) m on s c p l known runs some clear-now h) x.1 (local_leave c s c p out (some_local (local_len s.world c) (local_len s.world c == 0) refl some))
+      start_busy (once_for p m) x.0 (leave s c p).state x.2 x.3 (ready_left n (IsFine n e) (fine_inside n e) m on s c p (out_leaves s p out) l known runs some clear-now h) x.1 (local_leave c s c p out (some_local (local_len s.world c) (local_len s.world c == 0) refl some))
 
   -- ---- who is brought
+
+  local_marks : KeepsMarks Anywhere (λ v. 0 < local_len v c)
+  local_marks = record { there = λ w d h l. tt; homed = λ w t d l h. h; sliced = λ w t k h. h; sets = λ w a b d f h. h }
 
   fill_leaves : (m : ℕ) (on : List (Option ℕ)) (s : State) (q : ℕ) → c < length on → IsFine n e m None on s.world → local_len (fill s q c).state.world c ≡ 0 → IsVain q c s.world (fill s q c).state.world
   unfolding fill
@@ -117,7 +148,8 @@ module _ (n e : ℕ) (c : ℕ) where
           let known : t < task_count s' = rw (tasks_without w.queues (front_of w.queues q)) (front_is_known w.queues q (Some t) (sym f)) in
           let there = stay_without w.queues (front_of w.queues q) (local_on c) (h.sound.queues.locals c l) in
           let ok = is_accepted s' t (local_on c) Fifo (left_place w.queues q t f) (own_open s' (local_on c) Fifo there (omega arith) (local_sort c) (sorted_popped w.queues q h.sound.sorted)) in
-          absurd (omega (arith, empty, len_entered s' (local_on c) t Fifo known ok))
+          let longer : 0 < local_len (after_local (after_take w q) c t) c = kept_local Anywhere (λ v. 0 < local_len v c) local_marks (after_take w q) c t tt (omega (arith, len_entered s' (local_on c) t Fifo known ok)) in
+          absurd (omega (arith, empty, longer))
 
   fill_global : (m : ℕ) (on : List (Option ℕ)) (s : State) → c < length on → IsFine n e m None on s.world → LeavesGlobal c (fill s global c).state.world
   fill_global m on s l h empty = let x = fill_leaves m on s global l h empty in ap (λ (q : QueueState). front_of q global) x.2 ∙ x.0
@@ -211,59 +243,88 @@ module _ (n e : ℕ) (c : ℕ) where
       go true z = busy c (run_front s c).state.world (start_busy m on s l free clear-now h (some_local (local_len s.world c) (local_len s.world c == 0) refl z))
       go false z = builtin_cycle_leaves m on s None ran l tt free tt h
 
-  pick_leaves : (m : ℕ) (on : List (Option ℕ)) (s : State) (p : Option ℕ) (ran : Bool) → c < length on → IsKnown n p → get_or on c None ≡ p → has_local s c ≡ true → IsClear c s.world → IsFine n e m None on s.world → LeavesIfIdle c (pick s c p ran).state.world
-  unfolding pick
-  pick_leaves m on s p ran l known runs some clear-now h =
+  pick_leaves : (m : ℕ) (on : List (Option ℕ)) (s : State) (p : Option ℕ) (ran : Bool) → is_by_linux s ≡ false → c < length on → IsKnown n p → get_or on c None ≡ p → has_local s c ≡ true → IsClear c s.world → IsFine n e m None on s.world → LeavesIfIdle c (pick s c p ran).state.world
+  pick_leaves m on s p ran plain l known runs some clear-now h =
       let x = keeps_leave n (IsFine n e) (fine_inside n e) m on s c p l known runs h in
-      start_or_cycle_leaves (once_for p m) x.0 (leave s c p).state ran x.2 x.3 (ready_left n (IsFine n e) (fine_inside n e) m on s c p l known runs some clear-now h) x.1
+      subst (λ (r : Stepped). LeavesIfIdle c r.state.world) (sym (pick_plain s c p ran plain))
+      (start_or_cycle_leaves (once_for p m) x.0 (leave s c p).state ran x.2 x.3 (ready_left n (IsFine n e) (fine_inside n e) m on s c p (plain_leaves s p plain) l known runs some clear-now h) x.1)
 
-  pick_or_rest_leaves : (m : ℕ) (on : List (Option ℕ)) (s : State) (p : Option ℕ) (ran : Bool) → c < length on → IsKnown n p → get_or on c None ≡ p → is_ejected s ≡ false → IsClear c s.world → IsFine n e m None on s.world → LeavesGlobal c s.world
+  pick_or_rest_leaves : (m : ℕ) (on : List (Option ℕ)) (s : State) (p : Option ℕ) (ran : Bool) → is_by_linux s ≡ false → c < length on → IsKnown n p → get_or on c None ≡ p → is_ejected s ≡ false → IsClear c s.world → IsFine n e m None on s.world → LeavesGlobal c s.world
       → LeavesIfIdle c (pick_or_rest s c p ran).state.world
   unfolding pick_or_rest
-  pick_or_rest_leaves m on s p ran l known runs force clear-now h g = go (has_local s c) refl
+  pick_or_rest_leaves m on s p ran plain l known runs force clear-now h g = go (has_local s c) refl
     where
       in_force : is_some s.world.ejected ≡ true → front_of s.world.queues builtin_queue ≡ None
       in_force gone = let bad : false ≡ true = sym force ∙ gone in absurd (cc)
 
       go : (b : Bool) → has_local s c ≡ b → LeavesIfIdle c (if b then pick s c p ran else rest s c p ran).state.world
-      go true z = pick_leaves m on s p ran l known runs z clear-now h
+      go true z = pick_leaves m on s p ran plain l known runs z clear-now h
       go false z =
           let empty = no_local (local_len s.world c) (local_len s.world c == 0) refl z in
           rest_leaves s p ran (record { local = empty; global = g empty; builtin = in_force })
 
-  conclude_leaves : (m : ℕ) (on : List (Option ℕ)) (s : State) (p : Option ℕ) (ran : Bool) → c < length on → IsKnown n p → get_or on c None ≡ p → IsClear c s.world → IsFine n e m None on s.world → LeavesGlobal c s.world → LeavesIfIdle c (conclude s c p ran).state.world
-  unfolding conclude
-  conclude_leaves m on s p ran l known runs clear-now h g = go (is_ejected s) refl
+  -- unless the task before keeps the processor
+  abbrev LeavesGlobalUnlessKept : Option ℕ → State → Type 0
+  LeavesGlobalUnlessKept p s = keeps_slice s p ≡ false → LeavesGlobal c s.world
+
+  -- who keeps the processor runs there
+  kept_is_busy : (m : ℕ) (on : List (Option ℕ)) (s : State) (p : Option ℕ) → get_or on c None ≡ p → keeps_slice s p ≡ true → IsFine n e m None on s.world → is_none (running s.world c) ≡ false
+  kept_is_busy m on s None runs kept h = absurd (cc)
+  kept_is_busy m on s (Some t) runs kept h = ap (λ (xs : List (Option ℕ)). is_none (get_or xs c None)) h.sound.cpus ∙ ap (λ o. is_none o) runs
+
+  keep_or_pick_leaves : (m : ℕ) (on : List (Option ℕ)) (s : State) (p : Option ℕ) (ran : Bool) → is_by_linux s ≡ false → c < length on → IsKnown n p → get_or on c None ≡ p → is_ejected s ≡ false → MayStartUnlessKept n (IsFine n e) (fine_inside n e) m on c p s → IsFine n e m None on s.world → LeavesGlobalUnlessKept p s
+      → LeavesIfIdle c (keep_or_pick s c p ran).state.world
+  unfolding keep_or_pick
+  keep_or_pick_leaves m on s p ran plain l known runs force may h g = go (keeps_slice s p) refl
     where
-      go : (b : Bool) → is_ejected s ≡ b → LeavesIfIdle c (if b then builtin_cycle s c p ran else pick_or_rest s c p ran).state.world
+      go : (b : Bool) → keeps_slice s p ≡ b → LeavesIfIdle c (if b then stays s else pick_or_rest s c p ran).state.world
+      go true kept = busy c s.world (kept_is_busy m on s p runs kept h)
+      go false off = pick_or_rest_leaves m on s p ran plain l known runs force (clear_now n (IsFine n e) (fine_inside n e) m on s c h (may off)) h (g off)
+
+  conclude_leaves : (m : ℕ) (on : List (Option ℕ)) (s : State) (p : Option ℕ) (ran : Bool) → is_by_linux s ≡ false → c < length on → IsKnown n p → get_or on c None ≡ p → MayStartUnlessKept n (IsFine n e) (fine_inside n e) m on c p s → IsFine n e m None on s.world → LeavesGlobalUnlessKept p s → LeavesIfIdle c (conclude s c p ran).state.world
+  unfolding conclude
+  conclude_leaves m on s p ran plain l known runs may h g = go (is_ejected s) refl
+    where
+      go : (b : Bool) → is_ejected s ≡ b → LeavesIfIdle c (if b then builtin_cycle s c p ran else keep_or_pick s c p ran).state.world
       go true out = builtin_cycle_leaves m on s p ran l known runs (out_any s p out) h
-      go false force = pick_or_rest_leaves m on s p ran l known runs force clear-now h g
+      go false force = keep_or_pick_leaves m on s p ran plain l known runs force may h g
 
-  dispatched_leaves : (m : ℕ) (on : List (Option ℕ)) (s : State) (p : Option ℕ) → c < length on → IsFine n e m None on s.world → LeavesGlobal c (after_dispatch s c p).state.world
-  unfolding after_dispatch
-  dispatched_leaves m on s p l h =
-      let r = call_back s callback.Dispatch (cpu_and_task c p) 0 c in
-      supply_leaves m on r.state l (keeps_call_back n (IsFine n e) (fine_steps n e) m None on s callback.Dispatch (cpu_and_task c p) 0 c l h)
+  dispatched_leaves : (m : ℕ) (on : List (Option ℕ)) (s : State) (p : Option ℕ) → c < length on → IsFine n e m None on s.world → LeavesGlobalUnlessKept p (after_dispatch s c p).state
+  unfolding after_dispatch supply_unless_kept
+  dispatched_leaves m on s p l h = go (keeps_slice r p) refl
+    where
+      r : State
+      r = (call_back s callback.Dispatch (cpu_and_task c (told_of s p)) 0 c).state
 
-  tries_leave : (j m : ℕ) (on : List (Option ℕ)) (s : State) (p : Option ℕ) → c < length on → IsFine n e m None on s.world → LeavesGlobal c s.world → LeavesGlobal c (tries j s c p).state.world
+      go : (b : Bool) → keeps_slice r p ≡ b → LeavesGlobalUnlessKept p (if b then stays r else supply r c).state
+      go true kept off = let bad : true ≡ false = sym kept ∙ off in absurd (cc)
+      go false z off = supply_leaves m on r l (keeps_call_back n (IsFine n e) (fine_steps n e) m None on s callback.Dispatch (cpu_and_task c (told_of s p)) 0 c l h)
+
+  tries_go : (j : ℕ) (p : Option ℕ) (d : Stepped) (b : Bool) → asks_again d.state c p ≡ b → LeavesGlobalUnlessKept p d.state → (LeavesGlobal c d.state.world → LeavesGlobalUnlessKept p (tries j d.state c p).state) → LeavesGlobalUnlessKept p (if b then one_after_other d (tries j d.state c p) else d).state
+  tries_go j p d true z y more = more (y (not_kept (keeps_slice d.state p) _ z))
+  tries_go j p d false z y more = y
+
+  tries_leave : (j m : ℕ) (on : List (Option ℕ)) (s : State) (p : Option ℕ) → c < length on → IsFine n e m None on s.world → LeavesGlobal c s.world → LeavesGlobalUnlessKept p (tries j s c p).state
   unfolding tries
-  tries_leave zero m on s p l h g = g
+  tries_leave zero m on s p l h g = λ off. g
   tries_leave (suc j) m on s p l h g =
       let d = after_dispatch s c p in
       let x = keeps_dispatched n (IsFine n e) (fine_inside n e) m on s c p l h in
       let y = dispatched_leaves m on s p l h in
-      keeps_if (λ (r : Stepped). LeavesGlobal c r.state.world) (asks_again d.state c) (one_after_other d (tries j d.state c p)) d (tries_leave j m on d.state p l x y) y
+      tries_go j p d (asks_again d.state c p) refl y (tries_leave j m on d.state p l x)
 
-  ask_leaves : (m : ℕ) (on : List (Option ℕ)) (s : State) (p : Option ℕ) (ran : Bool) → c < length on → IsKnown n p → get_or on c None ≡ p → MayStart c s.world → IsFine n e m None on s.world → LeavesGlobal c s.world → LeavesIfIdle c (ask s c p ran).state.world
+  ask_leaves : (m : ℕ) (on : List (Option ℕ)) (s : State) (p : Option ℕ) (ran : Bool) → is_by_linux s ≡ false → c < length on → IsKnown n p → get_or on c None ≡ p → MayStart c s.world → IsFine n e m None on s.world → LeavesGlobal c s.world → LeavesIfIdle c (ask s c p ran).state.world
   unfolding ask
-  ask_leaves m on s p ran l known runs may h g =
+  ask_leaves m on s p ran plain l known runs may h g =
       let d = tries 32 s c p in
       let x = keeps_tries n (IsFine n e) (fine_inside n e) m on 32 s c p l h in
-      conclude_leaves m on d.state p ran l known runs (clear_now n (IsFine n e) (fine_inside n e) m on d.state c x (tries_clear n (IsFine n e) (fine_inside n e) m on 32 s c p may)) x (tries_leave 32 m on s p l h g)
+      let still = plain_on s d (honest_tries 32 s c p) plain in
+      subst (λ (v : State). LeavesIfIdle c (conclude v c p ran).state.world) (sym (give_up_plain d.state c p still))
+      (conclude_leaves m on d.state p ran still l known runs (tries_clear n (IsFine n e) (fine_inside n e) m on 32 s c p may) x (tries_leave 32 m on s p l h g))
 
-  seek_leaves : (m : ℕ) (on : List (Option ℕ)) (s : State) (p : Option ℕ) (ran : Bool) → c < length on → IsKnown n p → get_or on c None ≡ p → IsFine n e m None on s.world → LeavesIfIdle c (seek s c p ran).state.world
+  seek_leaves : (m : ℕ) (on : List (Option ℕ)) (s : State) (p : Option ℕ) (ran : Bool) → is_by_linux s ≡ false → c < length on → IsKnown n p → get_or on c None ≡ p → IsFine n e m None on s.world → LeavesIfIdle c (seek s c p ran).state.world
   unfolding seek
-  seek_leaves m on s p ran l known runs h = go (has_local f c) refl
+  seek_leaves m on s p ran plain l known runs h = go (has_local f c) refl
     where
       f : State
       f = (supply s c).state
@@ -271,43 +332,48 @@ module _ (n e : ℕ) (c : ℕ) where
       x : IsFine n e m None on f.world
       x = keeps_supply n (IsFine n e) (fine_inside n e) m on s c l h
 
+      still : is_by_linux f ≡ false
+      still = plain_on s (supply s c) (honest_supply s c) plain
+
       go : (b : Bool) → has_local f c ≡ b → LeavesIfIdle c (if b then pick f c p ran else ask f c p ran).state.world
-      go true z = pick_leaves m on f p ran l known runs z (clear_now n (IsFine n e) (fine_inside n e) m on f c x (supply_clears s c)) x
-      go false z = ask_leaves m on f p ran l known runs (supply_clears s c) x (supply_leaves m on s l h)
+      go true z = pick_leaves m on f p ran still l known runs z (clear_now n (IsFine n e) (fine_inside n e) m on f c x (supply_clears s c)) x
+      go false z = ask_leaves m on f p ran still l known runs (supply_clears s c) x (supply_leaves m on s l h)
 
   -- ---- whichever is in force
 
-  look_leaves : (m : ℕ) (on : List (Option ℕ)) (s : State) (p : Option ℕ) (ran : Bool) → c < length on → IsKnown n p → get_or on c None ≡ p → IsFine n e m None on s.world → LeavesIfIdle c (look s c p ran).state.world
+  look_leaves : (m : ℕ) (on : List (Option ℕ)) (s : State) (p : Option ℕ) (ran : Bool) → is_by_linux s ≡ false → c < length on → IsKnown n p → get_or on c None ≡ p → IsFine n e m None on s.world → LeavesIfIdle c (look s c p ran).state.world
   unfolding look
-  look_leaves m on s p ran l known runs h = go (is_ejected s) refl
+  look_leaves m on s p ran plain l known runs h = go (is_ejected s) refl
     where
       go : (b : Bool) → is_ejected s ≡ b → LeavesIfIdle c (if b then builtin_cycle s c p ran else seek s c p ran).state.world
       go true out = builtin_cycle_leaves m on s p ran l known runs (out_any s p out) h
-      go false force = seek_leaves m on s p ran l known runs h
+      go false force = seek_leaves m on s p ran plain l known runs h
 
-  cycle_leaves : (m : ℕ) (on : List (Option ℕ)) (s : State) (p : Option ℕ) (ran : Bool) → c < length on → IsKnown n p → get_or on c None ≡ p → IsFine n e m None on s.world → LeavesIfIdle c (cycle s c p ran).state.world
+  cycle_leaves : (m : ℕ) (on : List (Option ℕ)) (s : State) (p : Option ℕ) (ran : Bool) → is_by_linux s ≡ false → c < length on → IsKnown n p → get_or on c None ≡ p → IsFine n e m None on s.world → LeavesIfIdle c (cycle s c p ran).state.world
   unfolding cycle
-  cycle_leaves m on s p ran l known runs h idle =
-      let x = look_leaves m on (cycling s (Some c)) p ran l known runs ((fine_steps n e).cycling m None on s.world (Some c) h) idle in
+  cycle_leaves m on s p ran plain l known runs h idle =
+      let x = look_leaves m on (cycling s (Some c)) p ran plain l known runs ((fine_steps n e).cycling m None on s.world (Some c) h) idle in
       record { local = x.local; global = x.global; builtin = x.builtin }
 
--- the law
-pub tick_leaves : (n e : ℕ) (s : State) (c : ℕ) → c < length s.world.cpus → IsFine n e e None s.world.cpus s.world → running (tick s c).state.world c ≡ None → LeavesNothing (tick s c).state.world c
-unfolding tick count_down throttle expire
-tick_leaves n e s c l h idle = go (running s.world c) refl (ap (λ o. is_none o) idle)
+-- the law, of plain rules
+pub tick_leaves : (n e : ℕ) (s : State) (c : ℕ) → is_by_linux s ≡ false → c < length s.world.cpus → IsFine n e e None s.world.cpus s.world → running (tick s c).state.world c ≡ None → LeavesNothing (tick s c).state.world c
+unfolding tick tick_idle count_down throttle expire
+tick_leaves n e s c plain l h idle = go (running s.world c) refl (ap (λ o. is_none o) idle)
   where
-    throttled_leaves : (v : State) (t : ℕ) → t < n → c < length v.world.cpus → limits.is_throttled v.world.tree t ≡ true → IsFine n (e + 1) e (Some t) (set v.world.cpus c None) (after_stop v.world c t) → LeavesIfIdle c (throttle v c t).state.world
-    throttled_leaves v t within m up x =
+    throttled_leaves : (v : State) (t : ℕ) → is_by_linux v ≡ false → t < n → c < length v.world.cpus → limits.is_throttled v.world.tree t ≡ true → IsFine n (e + 1) e (Some t) (set v.world.cpus c None) (after_stop v.world c t) → LeavesIfIdle c (throttle v c t).state.world
+    throttled_leaves v t still within m up x =
         let on = set v.world.cpus c None in
         let l' : c < length on = rw (length-set v.world.cpus c None) m in
         let off = with_world v (after_stop v.world c t) in
-        let r = (after_stopping off c t 1).state in
+        let y = after_stopping off c t 1 in
+        let r = y.state in
+        let put_by = plain_on r (park r t) (honest_park r t) (plain_on off y (honest_stopping off c t 1) still) in
         let tree = tree_stopping n (IsFine n (e + 1)) (fine_steps n (e + 1)) (fine_inside n (e + 1)).sound c e (Some t) on off c t 1 l' x in
-        cycle_leaves n (e + 1) c (e + 1) on (park r t).state None true l' tt (get_or-set_same v.world.cpus c None None m)
+        cycle_leaves n (e + 1) c (e + 1) on (park r t).state None true put_by l' tt (get_or-set_same v.world.cpus c None None m)
         (keeps_park n (IsFine n (e + 1)) (fine_inside n (e + 1)) (e + 1) on r t within (ap (λ k. limits.is_throttled k t) tree ∙ up) (keeps_stopping n (IsFine n (e + 1)) (fine_steps n (e + 1)) e (Some t) on off c t 1 l' x))
 
     go : (o : Option ℕ) → running s.world c ≡ o → LeavesIfIdle c (tick_of o s c).state.world
-    go None at = cycle_leaves n e c e s.world.cpus s None false l tt at h
+    go None at = subst (λ b. LeavesIfIdle c (if b then stays s else cycle s c None false).state.world) (sym plain) (cycle_leaves n e c e s.world.cpus s None false plain l tt at h)
     go (Some t) at = by (is_throttled v.world t) refl
       where
         v : State
@@ -322,21 +388,32 @@ tick_leaves n e s c l h idle = go (running s.world c) refl (ap (λ o. is_none o)
         known : t < n
         known = known_running n e e s.world c t l at h
 
+        still : is_by_linux v ≡ false
+        still = keeps_if (λ (w : WorldState). world.is_by_linux w ≡ false) (nat_lt t (length (after_tick s.world t).tasks)) _ (after_tick s.world t) plain plain
+
         by : (b : Bool) → is_throttled v.world t ≡ b → LeavesIfIdle c (if b then throttle v c t else expire v c t).state.world
-        by true up = throttled_leaves v t known (subst (λ (xs : List (Option ℕ)). c < length xs) (sym same) l) (tree_used_up v.world t up) (subst (λ xs. IsFine n (e + 1) e (Some t) (set xs c None) (after_stop v.world c t)) (sym same) (x.leaves up))
+        by true up = throttled_leaves v t still known (subst (λ (xs : List (Option ℕ)). c < length xs) (sym same) l) (tree_used_up v.world t up) (subst (λ xs. IsFine n (e + 1) e (Some t) (set xs c None) (after_stop v.world c t)) (sym same) (x.leaves up))
         by false free =
-            keeps_if (λ (r : Stepped). LeavesIfIdle c r.state.world) ((task_at v.world t).slice == 0) (cycle v c (Some t) true) (stays v)
-            (cycle_leaves n (e + 1) c e s.world.cpus v (Some t) true l known at (x.goes_on free))
+            keeps_if (λ (r : Stepped). LeavesIfIdle c r.state.world) (((task_at v.world t).slice == 0) && ends_slices v) (cycle v c (Some t) true) (stays v)
+            (cycle_leaves n (e + 1) c e s.world.cpus v (Some t) true still l known at (x.goes_on free))
             (busy c v.world (ap (λ (xs : List (Option ℕ)). is_none (get_or xs c None)) same ∙ ap (λ o. is_none o) at))
 
--- the same of an accepted event
-pub step_leaves : (s : State) (n : ℕ) (v : Event) → refusal (record { state = s; events = n }) v ≡ None → IsValid s n → LeavesNothingIdle v (event_step s v).state.world
-step_leaves s n (Tick c) e h = tick_leaves (length s.world.tasks) n s c (known (nat_lt c (length s.world.cpus)) refl (accepted (record { state = s; events = n }) (Tick c) e).taken) h.fine
+-- by plain rules no round follows
+no_round : (r : Stepped) → is_by_linux r.state ≡ false → with_rounds r ≡ r
+unfolding with_rounds
+no_round r plain = ap (λ b. if b then one_after_other r (rounds most_rounds r.state) else r) plain
+
+-- after an accepted event
+pub step_leaves : (s : State) (n : ℕ) (v : Event) → refusal (record { state = s; events = n }) v ≡ None → IsValid s n → is_by_linux s ≡ false → LeavesNothingIdle v (event_step s v).state.world
+step_leaves s n (Tick c) e h plain = subst (λ (r : Stepped). running r.state.world c ≡ None → LeavesNothing r.state.world c) (sym (no_round (tick s c) (tick_plain s n h.fine c there plain))) (tick_leaves (length s.world.tasks) n s c plain there h.fine)
   where
     known : (b : Bool) → nat_lt c (length s.world.cpus) ≡ b → (if b then None else Some UnknownCpu) ≡ None → c < length s.world.cpus
     known true x y = grind (arith, nat_tests, x)
     known false x y = absurd (cc)
-step_leaves s n (Wake t) e h = tt
-step_leaves s n (Sleep t) e h = tt
-step_leaves s n Clock e h = tt
-step_leaves s n (SetWeight g x) e h = tt
+
+    there : c < length s.world.cpus
+    there = known (nat_lt c (length s.world.cpus)) refl (accepted (record { state = s; events = n }) (Tick c) e).taken
+step_leaves s n (Wake t) e h plain = tt
+step_leaves s n (Sleep t) e h plain = tt
+step_leaves s n Clock e h plain = tt
+step_leaves s n (SetWeight g x) e h plain = tt

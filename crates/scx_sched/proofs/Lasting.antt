@@ -23,8 +23,8 @@ use Rattle.scx_sched_tasks.specs.Waits.{time_since}
 use Rattle.scx_sched_world.specs.declared.call.Insert.{Insert}
 use Rattle.scx_sched_world.specs.declared.eject.Eject.{Eject}
 use Rattle.scx_sched_world.specs.declared.faults.Fault.{Fault}
-use Rattle.scx_sched_world.specs.World.{WorldState, with_task, task_at, running, waits, wait, at_callback}
-use Rattle.scx_sched_world.specs.Tasks.{with_since, let_go, task_after_insert, after_leave, after_enter, for_cpu}
+use Rattle.scx_sched_world.specs.World.{WorldState, with_kick, with_task, task_at, running, waits, wait, at_callback}
+use Rattle.scx_sched_world.specs.Tasks.{with_home, with_slice, after_local, after_take, with_since, let_go, task_after_insert, after_leave, after_enter, for_cpu}
 use Rattle.scx_sched_world.specs.Helpers.{is_dispatch, with_insert, after_release, insert_or_fault, front_moved_to_local, helper_after, stored_in, world_functions}
 use Rattle.scx_sched_world.specs.Ejecting.{put_out, put_builtin, after_evictions, after_cut, cut_task}
 use Rattle.scx_sched_machine.specs.Steps.{State, is_ejected}
@@ -33,6 +33,7 @@ use Rattle.scx_sched_machine.specs.Callbacks.{call_ending, acting, after_callbac
 use Rattle.scx_sched_machine.specs.Put.{enters, enqueue_choice, enters_builtin, comes_in, put}
 use Rattle.scx_sched_machine.proofs.Choices.{keeps_if}
 use Rattle.scx_sched_machine.proofs.HelperCalls.{by_helper}
+use Rattle.scx_sched.proofs.Marks.{KeepsMarks, Anywhere, kept_kicked_so, kept_claim, kept_local, kept_entered}
 use Rattle.scx_sched.proofs.Waiting.{since_set, stored_since, given_since}
 
 -- from the first world to the second: the clock, how many tasks there are, and how long each has waited
@@ -68,10 +69,23 @@ module _ (w : WorldState) where
   long_set : (v : WorldState) (t : ℕ) (x : Task) → x.since ≡ (task_at v t).since → AreAsLong w v → AreAsLong w (with_task v t x)
   long_set v t x same h = (h.0, length-set v.tasks t x ∙ h.1, λ u. ap (λ o. time_since v.clock o) (since_set v.tasks t x same u) ∙ h.2 u)
 
+  -- as the processor of a task, its slice and sets of processors change, waits are as long
+  long_marks : KeepsMarks Anywhere (AreAsLong w)
+  long_marks = record {
+    there = λ v c h l. tt;
+    homed = λ v t c l h. long_set v t (with_home (task_at v t) c) refl h;
+    sliced = λ v t k h. long_set v t (with_slice (task_at v t) k) refl h;
+    sets = λ v a b c d h. h;
+  }
+
+  -- a processor that is kicked
+  pub long_kick : (v : WorldState) (c : ℕ) → AreAsLong w v → AreAsLong w (with_kick v c)
+  long_kick v c h = h
+
   -- ---- helpers
 
   long_entered : (v : WorldState) (t : ℕ) (i : Insert) → AreAsLong w v → AreAsLong w (after_enter v t i)
-  long_entered v t i h = keeps_if (AreAsLong w) (nat_lt t (length v.tasks)) _ v (long_set v t (task_after_insert (task_at v t) i) (given_since (task_at v t) i) h) h
+  long_entered v t i h = kept_entered Anywhere (AreAsLong w) long_marks v t i (let x = long_set v t (task_after_insert (task_at v t) i) (given_since (task_at v t) i) h in (x.0, x.1, x.2)) h
 
   long_released : (v : WorldState) (t : Option ℕ) (i : Insert) → AreAsLong w v → AreAsLong w (after_release v t i)
   long_released v None i h = h
@@ -83,14 +97,17 @@ module _ (w : WorldState) where
 
   long_moved : (v : WorldState) (o : Option ℕ) (q : ℕ) → AreAsLong w v → AreAsLong w (front_moved_to_local v o q)
   long_moved v None q h = h
-  long_moved v (Some t) q h = h
+  long_moved v (Some t) q h = let x = kept_local Anywhere (AreAsLong w) long_marks (after_take v q) v.call.cpu t tt h in (x.0, x.1, x.2)
 
   long_helper : (v : WorldState) (f : Helper) (a : List Arg) → AreAsLong w v → AreAsLong w (helper_after v f a)
   long_helper v f a h = by_helper (AreAsLong w) v (record {
     same = h;
     faulty = λ f other. h;
     created = λ q. h;
-    inserted = λ t i flags none. long_inserted v None t i h;
+    inserted = λ t i flags back none. long_inserted v None t i h;
+    late = λ linux here. h;
+    claimed = λ o. kept_claim Anywhere (AreAsLong w) long_marks v o h;
+    kicked = λ c k. kept_kicked_so Anywhere (AreAsLong w) long_marks v c k h;
     moved = λ q here low. long_moved v (front_of v.queues q) q h;
   }) f a
 

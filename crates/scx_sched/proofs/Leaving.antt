@@ -1,6 +1,6 @@
 -- Once the policy is ejected no callback of it runs, and a task that leaves its processor takes nobody out
 -- of a local queue.
-use Rattle.std.proofs.Common.{◌≡◌, ℕ, ◌<◌, Bool, true, false, nat_lt, if◌then◌else◌, length, Option, Some, None, is_some, refl, sym, subst, arith}
+use Rattle.std.proofs.Common.{◌≡◌, ℕ, ◌<◌, Bool, true, false, nat_lt, ◌==◌, ◌&&◌, not, if◌then◌else◌, length, Option, Some, None, is_some, is_none, refl, sym, ap, subst, arith}
 use Rattle.scx_dsq.specs.declared.entries.Rank.TheVariants.{Vtime}
 use Rattle.scx_isa_semantics.specs.declared.callbacks.Callback.{Callback}
 use Rattle.scx_isa_semantics.specs.declared.callbacks.Callback.TheVariants as callback
@@ -8,15 +8,15 @@ use Rattle.scx_vm.specs.Programs.{VerifiedProgram}
 use Rattle.scx_vm.specs.declared.arguments.Args.{Args}
 use Rattle.scx_sched_world.specs.declared.eject.Eject.{Eject}
 use Rattle.scx_sched_world.specs.Ids.{builtin_queue, local_on}
-use Rattle.scx_sched_world.specs.World.{WorldState, at_callback, quiet}
-use Rattle.scx_sched_world.specs.Tasks.{local_len, after_stop}
+use Rattle.scx_sched_world.specs.World.{WorldState, are_linux, task_at, at_callback, quiet}
+use Rattle.scx_sched_world.specs.Tasks.{local_len, to_front, after_stop}
 use Rattle.scx_sched_world.specs.Ejecting.{builtin_vtime, put_builtin, after_charge}
 use Rattle.scx_sched_machine.specs.Policy.{program_of}
-use Rattle.scx_sched_machine.specs.Steps.{State, Stepped, with_world, stays, one_after_other, is_ejected}
+use Rattle.scx_sched_machine.specs.Steps.{State, Stepped, with_world, stays, one_after_other, is_ejected, is_by_linux}
 use Rattle.scx_sched_machine.specs.Ejecting.{ejected_for}
 use Rattle.scx_sched_machine.specs.Callbacks.{call_ending, calls_of, after_callback, fault_of, unless_ejected, acting, call_back, task_and_number}
 use Rattle.scx_sched_machine.specs.Put.{enters, enqueue_choice, enters_builtin, comes_in, put}
-use Rattle.scx_sched_machine.specs.Cycle.{stopping_called, after_stopping, leave}
+use Rattle.scx_sched_machine.specs.Cycle.{keeps_slice, stopping_called, after_stopping, put_back, leave}
 use Rattle.scx_sched_machine.proofs.Choices.{keeps_if}
 use Rattle.scx_sched.proofs.Lengths.{len_pushed}
 
@@ -53,6 +53,32 @@ stopping_out s c t x out = go (is_ejected s) out
     go true e = refl
     go false e = absurd (cc)
 
+-- ---- plain rules
+
+-- a task leaves only by plain rules
+abbrev pub LeavesPlainly : Option ℕ → State → Type 0
+LeavesPlainly None s = Unit {0}
+LeavesPlainly (Some t) s = is_by_linux s ≡ false
+
+-- once the policy is ejected, the machine doesn't go by Linux rules
+pub out_is_plain : (s : State) → is_ejected s ≡ true → is_by_linux s ≡ false
+out_is_plain s out = go (are_linux s.world.rules) s.world.ejected out
+  where
+    go : (b : Bool) (o : Option Eject) → is_some o ≡ true → (b && is_none o) ≡ false
+    go b None e = absurd (cc)
+    go true (Some x) e = refl
+    go false (Some x) e = refl
+
+-- by plain rules nobody keeps the processor
+pub kept_by_none : (s : State) (p : Option ℕ) → is_by_linux s ≡ false → keeps_slice s p ≡ false
+kept_by_none s None plain = refl
+kept_by_none s (Some t) plain = rw plain refl
+
+-- and a task that was stopped is put
+pub put_back_plain : (s : State) (c t : ℕ) → is_by_linux s ≡ false → put_back s c t ≡ put s t c 0
+unfolding put_back
+put_back_plain s c t plain = ap (λ b. if b then enters s t (to_front c) else put s t c 0) (kept_by_none s (Some t) plain)
+
 -- ---- who waits for a processor
 
 -- somebody waits for that processor
@@ -88,4 +114,6 @@ module _ (c : ℕ) where
   local_leave s d None out h = h
   local_leave s d (Some t) out h =
       let off = with_world s (after_stop s.world d t) in
-      subst (λ (x : Stepped). HasLocal c (put x.state t d 0).state.world) (sym (stopping_out off d t 1 out)) (local_put (with_world off (after_charge off.world t)) t d 0 out h)
+      let v = with_world off (after_charge off.world t) in
+      subst (λ (x : Stepped). HasLocal c (put_back x.state d t).state.world) (sym (stopping_out off d t 1 out))
+      (subst (λ (x : Stepped). HasLocal c x.state.world) (sym (put_back_plain v d t (out_is_plain v out))) (local_put v t d 0 out h))

@@ -1,20 +1,21 @@
 -- Who may run again is let go, one after another: each small step keeps what whole walks keep.
-use Rattle.std.proofs.Common.{◌≡◌, ℕ, zero, suc, ◌<◌, true, false, ◌||◌, List, Option, Some, None, is_some, option_map, refl, ap, ◌∙◌, arith}
+use Rattle.std.proofs.Common.{◌≡◌, ℕ, zero, suc, ◌<◌, true, false, ◌&&◌, ◌||◌, List, Option, Some, None, is_some, option_map, refl, ap, ◌∙◌, arith}
 use Rattle.scx_dsq.specs.declared.entries.Entry.{Entry}
 use Rattle.scx_dsq.specs.Queues.{QueueState, task_count, entry_of, queue_of, len_of, front_of, behind_of}
 use Rattle.scx_sched_world.specs.Ids.{parked_queue}
 use Rattle.scx_sched_world.proofs.Fronts.{AtParked, at_front, at_behind, behind_in}
 use Rattle.scx_sched_tasks.specs.Waits.{time_since}
-use Rattle.scx_sched_world.specs.World.{WorldState, task_at, waits_in, wait, is_throttled}
+use Rattle.scx_sched_world.specs.World.{WorldState, task_at, waits_in, wait, is_idle, is_throttled}
 use Rattle.scx_sched_world.specs.Tasks.{let_go}
-use Rattle.scx_sched_machine.specs.Steps.{State, Stepped, with_world, one_after_other}
+use Rattle.scx_sched_machine.specs.Put.{put}
+use Rattle.scx_sched_machine.specs.Steps.{State, Stepped, with_world, one_after_other, is_by_linux, kicked, kicked_if_idle}
 use Rattle.scx_sched_machine.specs.Parking.{let_go_one, let_go_from, let_all_go}
 use Rattle.scx_sched_machine.proofs.Choices.{keeps_if}
 use Rattle.scx_sched.proofs.Waiting.{removed_other}
 use Rattle.scx_sched.proofs.Sound.{waits_known}
 use Rattle.scx_sched.proofs.Staying.{stay_put}
-use Rattle.scx_sched.proofs.Lasting.{AreAsLong, long_here, long_then, long_let_go, long_put}
-use Rattle.scx_sched.proofs.Skeleton.{keeps_put}
+use Rattle.scx_sched.proofs.Lasting.{AreAsLong, long_here, long_then, long_kick, long_let_go, long_put}
+use Rattle.scx_sched.proofs.Skeleton.{keeps_put, keeps_kicked_if_idle}
 use Rattle.scx_sched.proofs.Cycles.{IsKeptInside}
 
 -- who is parked is a task that there is
@@ -39,7 +40,13 @@ module _ (n : ℕ) (I : ℕ → Option ℕ → List (Option ℕ) → WorldState 
   keeps_let_go_one : (s : State) (t : ℕ) → queue_of s.world.queues t ≡ Some parked_queue → I m None on s.world → I m None on (let_go_one s t).state.world
   unfolding let_go_one
   keeps_let_go_one s t here h =
-      keeps_put n I k.steps m on (with_world s (let_go s.world t)) t (task_at s.world t).prev_cpu 0 (known s t here h) ((k.sound m None on s.world h).homes t) (at_hand s t here h)
+      let c = (task_at s.world t).prev_cpu in
+      let v = with_world s (let_go s.world t) in
+      keeps_kicked_if_idle n I k.steps m None on (put v t c 0).state c (keeps_put n I k.steps m on v t c 0 (known s t here h) ((k.sound m None on s.world h).homes t) (at_hand s t here h))
+
+  -- a kick moves nobody
+  queues_kicked : (s : State) (c : ℕ) → (kicked_if_idle s c).world.queues ≡ s.world.queues
+  queues_kicked s c = keeps_if (λ (r : State). r.world.queues ≡ s.world.queues) (is_by_linux s && is_idle s.world c) (kicked s c) s refl refl
 
   -- the others stay parked
   one_leaves : (s : State) (t u : ℕ) → queue_of s.world.queues t ≡ Some parked_queue → queue_of s.world.queues u ≡ Some parked_queue → (u ≡ t → ⊥) → I m None on s.world → queue_of (let_go_one s t).state.world.queues u ≡ Some parked_queue
@@ -47,8 +54,9 @@ module _ (n : ℕ) (I : ℕ → Option ℕ → List (Option ℕ) → WorldState 
   one_leaves s t u here there other h =
       let v = with_world s (let_go s.world t) in
       let off : queue_of v.world.queues u ≡ Some parked_queue = ap (λ (o : Option Entry). option_map (λ p. p.queue) o) (removed_other s.world.queues t u other) ∙ there in
+      let c = (task_at s.world t).prev_cpu in
       let same = (stay_put n I k.steps k.sound m on v t (task_at s.world t).prev_cpu 0 ((k.sound m None on s.world h).homes t) (at_hand s t here h)).stay u off in
-      ap (λ (o : Option Entry). option_map (λ p. p.queue) o) same ∙ off
+      ap (λ (x : QueueState). queue_of x u) (queues_kicked (put v t c 0).state c) ∙ (ap (λ (o : Option Entry). option_map (λ p. p.queue) o) same ∙ off)
 
   at_next : (s : State) (t : ℕ) → queue_of s.world.queues t ≡ Some parked_queue → I m None on s.world → (o : Option ℕ) → behind_of s.world.queues t ≡ o → AtParked (let_go_one s t).state.world.queues o
   at_next s t here h None e = tt
@@ -81,7 +89,11 @@ module _ (n : ℕ) (I : ℕ → Option ℕ → List (Option ℕ) → WorldState 
 
   long_let_go_one : (s : State) (t : ℕ) → queue_of s.world.queues t ≡ Some parked_queue → I m None on s.world → AreAsLong s.world (let_go_one s t).state.world
   unfolding let_go_one
-  long_let_go_one s t here h = long_put s.world (with_world s (let_go s.world t)) t (task_at s.world t).prev_cpu 0 (long_let_go s.world t (parked_waits s t here h))
+  long_let_go_one s t here h =
+      let c = (task_at s.world t).prev_cpu in
+      let r = (put (with_world s (let_go s.world t)) t c 0).state in
+      let x = long_put s.world (with_world s (let_go s.world t)) t c 0 (long_let_go s.world t (parked_waits s t here h)) in
+      keeps_if (λ (v : State). AreAsLong s.world v.world) (is_by_linux r && is_idle r.world c) (kicked r c) r (long_kick s.world r.world c x) x
 
   long_let_go_from : (j : ℕ) (s : State) (at : Option ℕ) → AtParked s.world.queues at → I m None on s.world → AreAsLong s.world (let_go_from j s at).state.world
   unfolding let_go_from

@@ -1,3 +1,4 @@
+pub mod Marks
 pub mod Entering
 pub mod Waiting
 pub mod Sound
@@ -11,12 +12,14 @@ pub mod Fronts
 pub mod Lengths
 pub mod Calm
 pub mod Clear
+pub mod Supplying
+pub mod Leaving
+pub mod Blaming
 pub mod Pushes
 pub mod Going
 pub mod Skeleton
 pub mod Fine
 pub mod Ready
-pub mod Supplying
 pub mod Cycles
 pub mod Staying
 pub mod Lasting
@@ -25,8 +28,6 @@ pub mod Still
 pub mod Timely
 pub mod Events
 pub mod First
-pub mod Leaving
-pub mod Blaming
 pub mod Watching
 pub mod Tallies
 pub mod Deciding
@@ -36,3 +37,4 @@ pub mod Unstuck
 pub mod Valid
 pub mod Idle
 pub mod Counted
+pub mod Resting

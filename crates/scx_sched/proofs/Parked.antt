@@ -20,15 +20,16 @@ use Rattle.scx_sched_world.specs.declared.call.Insert.{Insert}
 use Rattle.scx_sched_world.specs.declared.faults.Fault.{Fault}
 use Rattle.scx_sched_world.specs.Ids.{held_queue, builtin_queue, parked_queue, local_on}
 use Rattle.scx_sched_world.specs.World.{WorldState, with_tree, waits_in, waits}
-use Rattle.scx_sched_world.specs.Tasks.{after_leave, after_enter, for_cpu, brought, put_parked}
+use Rattle.scx_sched_world.specs.Tasks.{rank_by, after_local, after_take, after_leave, after_enter, for_cpu, brought, put_parked}
 use Rattle.scx_sched_world.specs.Helpers.{is_dispatch, is_held, with_insert, after_release, insert_or_fault, front_moved_to_local, helper_after, world_functions}
 use Rattle.scx_sched_world.specs.Ejecting.{builtin_vtime, put_builtin, evict}
 use Rattle.scx_sched_machine.proofs.Choices.{keeps_if}
 use Rattle.scx_sched_machine.proofs.HelperCalls.{by_helper}
 use Rattle.scx_sched.specs.Once.{IsSound, GoesSomewhere}
-use Rattle.scx_sched.specs.Kept.{IsWanted, ForAny, Nowhere, Inserted}
+use Rattle.scx_sched.specs.Kept.{IsWanted, ForAny, Nowhere, Inserted, InFront}
 use Rattle.scx_sched.specs.Parked.{AreThrottled}
 use Rattle.scx_sched_world.proofs.Fronts.{front_in}
+use Rattle.scx_sched.proofs.Marks.{KeepsMarks, Anywhere, kept_kicked_so, kept_claim, kept_local, kept_entered}
 use Rattle.scx_sched.proofs.Waiting.{pushed_other, without_other}
 use Rattle.scx_sched.proofs.Sound.{IsFit, is_fit, fit_apart, held_in_dispatch, said_apart}
 
@@ -134,10 +135,15 @@ wanted_apart : (on : List (Option ℕ)) (n : ℕ) (w : WorldState) (i : Insert) 
 wanted_apart on n w i (ForAny e) g = rw e refl
 wanted_apart on n w i (Nowhere e) g = rw e refl
 wanted_apart on n w i (Inserted c said l x e) g = rw e (said_apart on n w c said l x g)
+wanted_apart on n w i (InFront c l linux e) g = rw e (local_apart c)
+
+-- as the processor of a task, its slice and sets of processors change, the same tasks stay parked
+parked_marks : (w : WorldState) → KeepsMarks Anywhere (StayParked w)
+parked_marks w = record { there = λ v c h l. tt; homed = λ v t c l h. h; sliced = λ v t k h. h; sets = λ v a b c d h. h }
 
 -- as a task comes to wait in another queue, the same tasks stay parked
 pub as_entered : (w : WorldState) (t : ℕ) (i : Insert) → (i.queue == parked_queue) ≡ false → StayParked w (after_enter w t i)
-as_entered w t i apart = keeps_if (StayParked w) (nat_lt t (length w.tasks)) _ w (as_pushed w.queues i.queue t i.rank apart) (stay_here w)
+as_entered w t i apart = kept_entered Anywhere (StayParked w) (parked_marks w) w t i (as_pushed w.queues i.queue t (rank_by w i.rank) apart) (stay_here w)
 
 -- as the task at hand comes to wait where it may, the same tasks stay parked
 pub as_wanted : (on : List (Option ℕ)) (n : ℕ) (hand : Option ℕ) (w : WorldState) (t : ℕ) (i : Insert) → IsWanted (length on) w i → IsSound hand on n w → StayParked w (after_enter w t i)
@@ -147,7 +153,8 @@ as_wanted on n hand w t i x h = as_entered w t i (wanted_apart on n w i x h.goes
 pub as_brought : (o : Option ℕ) (w : WorldState) (q c : ℕ) → (q == parked_queue) ≡ false → StayParked w (brought o w q c)
 as_brought None w q c apart = stay_here w
 as_brought (Some t) w q c apart =
-    as_then w.queues (after_pop w.queues q) (after_push (after_pop w.queues q) (local_on c) t Fifo) (as_popped w.queues q apart) (as_pushed (after_pop w.queues q) (local_on c) t Fifo (local_apart c))
+    kept_local Anywhere (StayParked w) (parked_marks w) (after_take w q) c t tt
+    (as_then w.queues (after_pop w.queues q) (after_push (after_pop w.queues q) (local_on c) t Fifo) (as_popped w.queues q apart) (as_pushed (after_pop w.queues q) (local_on c) t Fifo (local_apart c)))
 
 -- as a task comes to wait for the built-in scheduler, the same tasks stay parked
 pub as_put_builtin : (w : WorldState) (t : ℕ) → StayParked w (put_builtin w t)
@@ -190,7 +197,10 @@ as_helper w f a = by_helper (StayParked w) w (record {
   same = stay_here w;
   faulty = λ f other. stay_here w;
   created = as_created w.queues;
-  inserted = λ t i flags none. as_inserted w None t i (λ e. is_fit w t i flags none);
+  inserted = λ t i flags back none. as_inserted w None t i (λ e. is_fit w t i flags none);
+  late = λ linux here. stay_here w;
+  claimed = λ o. kept_claim Anywhere (StayParked w) (parked_marks w) w o (stay_here w);
+  kicked = λ c k. kept_kicked_so Anywhere (StayParked w) (parked_marks w) w c k (stay_here w);
   moved = λ q here low. as_moved w (front_of w.queues q) q (ne_eqb q parked_queue (λ x. omega (arith, x, low)));
 }) f a
 

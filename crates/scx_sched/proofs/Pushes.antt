@@ -7,12 +7,12 @@ use Rattle.scx_dsq.specs.declared.entries.Rank.TheVariants.{Fifo, Vtime}
 use Rattle.scx_sched_world.specs.Ids.{builtin_queue, parked_queue, local_on}
 use Rattle.scx_sched_world.specs.World.{WorldState, waits}
 use Rattle.scx_sched_world.specs.declared.call.Insert.{Insert}
-use Rattle.scx_sched_world.specs.Tasks.{queue_for}
+use Rattle.scx_sched_world.specs.Tasks.{queue_for, rank_by}
 use Rattle.scx_sched_world.specs.Helpers.{is_dispatch, insert_fault}
 use Rattle.scx_sched.specs.Accepted.{IsPushAccepted}
 use Rattle.scx_sched_world.specs.Ejecting.{builtin_vtime}
 use Rattle.scx_sched.specs.Once.{IsSorted, IsSound}
-use Rattle.scx_sched.proofs.Entering.{nowhere, own_open, is_accepted, sorted_popped, sorted_removed, stay_without, open_removed, local_sort}
+use Rattle.scx_sched.proofs.Entering.{nowhere, own_open, is_accepted, sorted_popped, sorted_removed, stay_without, open_removed, open_by, local_sort}
 use Rattle.scx_sched.proofs.Waiting.{waits_there}
 use Rattle.scx_sched.proofs.Sound.{left_place, is_fit, fit_open, held_waits, held_in_dispatch, wanted_open, removed_place, waits_known}
 
@@ -22,11 +22,11 @@ takes_front hand on n w q c t l e h =
     (own_open (after_pop w.queues q) (local_on c) Fifo (stay_without w.queues (front_of w.queues q) (local_on c) (h.queues.locals c l)) (omega arith) (local_sort c) (sorted_popped w.queues q h.sorted))
 
 takes_held : (hand : Option ℕ) (on : List (Option ℕ)) (n : ℕ) (w : WorldState) (t : ℕ) (i : Insert) (flags : ℕ) → is_dispatch w.call.callback ≡ true → insert_fault w (Some t) i flags ≡ None → IsSound hand on n w
-    → push_refusal (after_remove w.queues t) (queue_for w.call.cpu i.queue) t i.rank ≡ None
+    → push_refusal (after_remove w.queues t) (queue_for w.call.cpu i.queue) t (rank_by w i.rank) ≡ None
 takes_held hand on n w t i flags x e h =
     let fit = is_fit w (Some t) i flags e in
     let here = held_waits w t (held_in_dispatch w (Some t) x fit.may) in
-    is_accepted (after_remove w.queues t) t (queue_for w.call.cpu i.queue) i.rank here.free (open_removed w.queues t (queue_for w.call.cpu i.queue) i.rank (fit_open on hand n w (Some t) i w.call.cpu h.here fit h))
+    is_accepted (after_remove w.queues t) t (queue_for w.call.cpu i.queue) (rank_by w i.rank) here.free (open_by w (after_remove w.queues t) (queue_for w.call.cpu i.queue) i.rank (open_removed w.queues t (queue_for w.call.cpu i.queue) i.rank (fit_open on hand n w (Some t) i w.call.cpu h.here fit h)))
 
 -- the built-in scheduler's queue takes whoever waits nowhere
 takes_builtin : (s : QueueState) (t v : ℕ) → entry_of s t ≡ None → exists s builtin_queue ≡ true → IsSorted s → push_refusal s builtin_queue t (Vtime v) ≡ None
@@ -41,7 +41,7 @@ takes_evicted hand on n w t waits-here h =
 -- the law
 pub is_push_accepted : (n e m : ℕ) → IsPushAccepted n e m
 is_push_accepted n e m = record {
-  put = λ on w t i l x h. is_accepted w.queues t i.queue i.rank (nowhere w t h.sound.once) (wanted_open on n w i (Some t) x h.sound);
+  put = λ on w t i l x h. is_accepted w.queues t i.queue (rank_by w i.rank) (nowhere w t h.sound.once) (open_by w w.queues i.queue i.rank (wanted_open on n w i (Some t) x h.sound));
   fill = λ on w q c t l x h. takes_front None on n w q c t l x h.sound;
   move = λ hand on w q t x h. takes_front hand on n w q w.call.cpu t h.sound.here x h.sound;
   put_builtin = λ on w t l h. takes_builtin w.queues t (builtin_vtime w t) (nowhere w t h.sound.once) h.sound.queues.builtin h.sound.sorted;

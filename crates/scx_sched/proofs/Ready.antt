@@ -1,6 +1,6 @@
 -- A task that leaves its processor leaves the front of the local queue where it is, or the policy is put out of force
--- and nobody is there.
-use Rattle.std.proofs.Common.{◌≡◌, ℕ, suc, ◌+◌, ◌<◌, Bool, true, false, List, length, set, get_or, Option, Some, None, is_some, refl, ◌∙◌, ap, if◌then◌else◌}
+-- and nobody is there. Under Linux rules it may come before that front, which was picked before and stays in the queue.
+use Rattle.std.proofs.Common.{◌≡◌, ℕ, zero, suc, ◌+◌, ◌<◌, nat_lt, Bool, true, false, ◌==◌, ◌&&◌, not, List, length, set, get_or, Option, Some, None, is_some, is_none, refl, sym, subst, ◌∙◌, ap, if◌then◌else◌}
 use Rattle.std.proofs.lemmas.List.{length-set}
 use Rattle.scx_isa_semantics.specs.declared.callbacks.Callback.{Callback}
 use Rattle.scx_isa_semantics.specs.declared.callbacks.Callback.TheVariants as callback
@@ -13,23 +13,28 @@ use Rattle.scx_vm.specs.Programs.{VerifiedProgram}
 use Rattle.scx_vm.specs.Arguments.{program_arguments}
 use Rattle.scx_vm.specs.declared.arguments.Args.{Args}
 use Rattle.scx_vm.specs.Host.{answer_to, after_query}
+use Rattle.scx_sched_world.specs.declared.call.Call.{Call}
 use Rattle.scx_sched_world.specs.declared.eject.Eject.{Eject}
+use Rattle.scx_sched_world.specs.declared.eject.Eject.TheVariants as cause
 use Rattle.scx_sched_world.specs.declared.faults.Fault.{Fault}
-use Rattle.scx_sched_world.specs.World.{WorldState, at_callback, quiet}
-use Rattle.scx_sched_world.specs.Tasks.{after_stop}
-use Rattle.scx_sched_world.specs.Ejecting.{after_charge}
+use Rattle.scx_sched_world.specs.World.{WorldState, are_linux, task_at, waits, running, at_callback, quiet}
+use Rattle.scx_sched_world.specs.Tasks.{to_front, after_leave, after_stop}
+use Rattle.scx_sched_world.specs.Ejecting.{put_out, put_builtin, after_evictions, after_cut, cut_task, after_charge}
 use Rattle.scx_sched_world.specs.Helpers.{is_dispatch, world_functions}
-use Rattle.scx_sched_machine.specs.Steps.{State, with_world, stays, is_ejected}
-use Rattle.scx_sched_machine.specs.Ejecting.{eject, ejected_for}
+use Rattle.scx_sched_machine.specs.Steps.{State, Stepped, with_world, stays, one_after_other, is_ejected, is_by_linux}
+use Rattle.scx_sched_machine.specs.Ejecting.{moves_over, eject, ejected_for}
 use Rattle.scx_sched_machine.specs.Callbacks.{call_ending, acting, after_callback, fault_of, call_back, task_and_number}
 use Rattle.scx_sched_machine.specs.Put.{enters, enqueue_choice, enters_builtin, comes_in, put}
-use Rattle.scx_sched_machine.specs.Cycle.{stopping_called, after_stopping, leave}
+use Rattle.scx_sched_machine.specs.Cycle.{keeps_slice, stopping_called, after_stopping, put_back, leave}
+use Rattle.scx_sched_machine.proofs.Choices.{keeps_if}
 use Rattle.scx_sched.specs.Kept.{IsKeptBySteps}
 use Rattle.scx_sched.specs.Once.{IsSound}
 use Rattle.scx_sched.proofs.Unchanged.{eject_sets}
 use Rattle.scx_sched.proofs.Fronts.{same_here}
 use Rattle.scx_sched.proofs.Calm.{IsCalm, calm_query}
-use Rattle.scx_sched.proofs.Clear.{IsReady, ready_same, ready_calm, ready_over, ready_put_builtin, ready_entered}
+use Rattle.scx_sched.proofs.Clear.{IsReady, ready_same, ready_calm, ready_over, ready_put_builtin, ready_entered, IsPicked, picked_same, picked_calm, picked_over, picked_put_builtin, picked_entered}
+use Rattle.scx_sched.proofs.Leaving.{LeavesPlainly, put_back_plain}
+use Rattle.scx_sched.proofs.Blaming.{plain_on, honest_call_back, honest_stopping}
 use Rattle.scx_sched.proofs.Going.{goes_over}
 use Rattle.scx_sched.proofs.Skeleton.{IsKnown, is_wanted, keeps_called, keeps_call_back, keeps_stopping}
 
@@ -43,12 +48,54 @@ calm_called (Some p) b a maps w t c e =
 calm_quiet : (v w : WorldState) → IsCalm v w → IsCalm v (quiet w)
 calm_quiet v w h = record { entries = h.entries; pushes = h.pushes; tree = h.tree; ejected = h.ejected; callback = h.callback }
 
+-- by Linux rules the policy is in force
+pub linux_in_force : (s : State) → is_by_linux s ≡ true → s.world.ejected ≡ None
+linux_in_force s e = go (are_linux s.world.rules) s.world.ejected refl e
+  where
+    go : (b : Bool) (o : Option Eject) → s.world.ejected ≡ o → (b && is_none o) ≡ true → s.world.ejected ≡ None
+    go b None x y = x
+    go true (Some z) x y = absurd (cc)
+    go false (Some z) x y = absurd (cc)
+
 in_force : (s : State) → is_ejected s ≡ false → s.world.ejected ≡ None
 in_force s e = go s.world.ejected e
   where
     go : (o : Option Eject) → is_some o ≡ false → o ≡ None
     go None x = refl
     go (Some y) x = absurd (cc)
+
+-- ---- the callback at hand
+
+call_evicted : (j : ℕ) (w : WorldState) → (after_evictions j w).call ≡ w.call
+call_evicted zero w = refl
+call_evicted (suc j) w =
+    let v = after_evictions j w in
+    let x = call_evicted j w in
+    keeps_if (λ (u : WorldState). u.call ≡ w.call) (waits v j) (put_builtin (after_leave v j) j) v (keeps_if (λ (u : WorldState). u.call ≡ w.call) (nat_lt j (length v.tasks)) _ (after_leave v j) x x) x
+
+call_cut_task : (o : Option ℕ) (w : WorldState) → (cut_task o w).call ≡ w.call
+call_cut_task None w = refl
+call_cut_task (Some t) w = refl
+
+call_cut : (j : ℕ) (w : WorldState) → (after_cut j w).call ≡ w.call
+call_cut zero w = refl
+call_cut (suc j) w = call_cut_task (running (after_cut j w) j) (after_cut j w) ∙ call_cut j w
+
+-- an ejection leaves it
+callback_ejected : (o : Option Fault) (s : State) → (ejected_for o s).state.world.call.callback ≡ s.world.call.callback
+unfolding eject moves_over
+callback_ejected None s = refl
+callback_ejected (Some f) s =
+    let w = put_out s.world (cause.Fault f s.world.clock) in
+    let v = after_evictions (length w.tasks) w in
+    ap (λ (c : Call). c.callback) (call_cut (length v.cpus) v ∙ call_evicted (length w.tasks) w)
+
+-- where it isn't dispatch, it isn't once it has ended
+pub calm_call_back : (s : State) (b : Callback) (a : Args) (t c : ℕ) → is_dispatch b ≡ false → is_dispatch (call_back s b a t c).state.world.call.callback ≡ false
+unfolding call_back
+calm_call_back s b a t c calm =
+    let e = call_ending (acting s b) b a s.maps (at_callback s.world b t c) in
+    ap is_dispatch (callback_ejected (fault_of b e) (after_callback s.policy e)) ∙ (calm_called (acting s b) b a s.maps s.world t c calm).callback
 
 module _ (n : ℕ) (I : ℕ → Option ℕ → List (Option ℕ) → WorldState → Type 0) (k : IsKeptBySteps n I) (sound : (m : ℕ) (hand : Option ℕ) (on : List (Option ℕ)) (w : WorldState) → I m hand on w → IsSound hand on n w) (c : ℕ) where
   ready_ejected_for : (m : ℕ) (hand : Option ℕ) (on : List (Option ℕ)) (o : Option Fault) (s : State) → I m hand on s.world → IsReady c s.world → IsReady c (ejected_for o s).state.world
@@ -70,31 +117,96 @@ module _ (n : ℕ) (I : ℕ → Option ℕ → List (Option ℕ) → WorldState 
       go true = ready_same c s.world (after_charge s.world t) (same_here _ s.world.queues s.world.queues refl) refl refl r
       go false = ready_call_back m hand on s _ (task_and_number t x) t d refl l h r
 
-  ready_comes_in : (m : ℕ) (on : List (Option ℕ)) (s : State) (t d : ℕ) → d < length on → I m (Some t) on s.world → IsReady c s.world → IsReady c (comes_in s t d).state.world
+  -- ---- by plain rules
+
+  ready_comes_in : (m : ℕ) (on : List (Option ℕ)) (s : State) (t d : ℕ) → is_by_linux s ≡ false → d < length on → I m (Some t) on s.world → IsReady c s.world → IsReady c (comes_in s t d).state.world
   unfolding comes_in enters enters_builtin
-  ready_comes_in m on s t d l h r = go (is_ejected s) refl
+  ready_comes_in m on s t d plain l h r = go (is_ejected s) refl
     where
       go : (b : Bool) → is_ejected s ≡ b → IsReady c (if b then enters_builtin s t else enters s t (enqueue_choice s.policy.callbacks.enqueue d s.world.call.insert)).state.world
       go true out = ready_put_builtin c s.world t r
       go false force =
-          ready_entered c (Some t) on n s.world t (enqueue_choice s.policy.callbacks.enqueue d s.world.call.insert) (is_wanted (length on) s.world s.policy.callbacks.enqueue d s.world.call.insert l refl) (sound m (Some t) on s.world h) (in_force s force) r
+          ready_entered c (Some t) on n s.world t (enqueue_choice s.policy.callbacks.enqueue d s.world.call.insert) (is_wanted (length on) s.world s.policy.callbacks.enqueue d s.world.call.insert l refl) plain (sound m (Some t) on s.world h) (in_force s force) r
 
-  ready_put : (m : ℕ) (on : List (Option ℕ)) (s : State) (t d flags : ℕ) → d < length on → I m (Some t) on s.world → IsReady c s.world → IsReady c (put s t d flags).state.world
+  ready_put : (m : ℕ) (on : List (Option ℕ)) (s : State) (t d flags : ℕ) → is_by_linux s ≡ false → d < length on → I m (Some t) on s.world → IsReady c s.world → IsReady c (put s t d flags).state.world
   unfolding put
-  ready_put m on s t d flags l h r =
+  ready_put m on s t d flags plain l h r =
       let x = call_back s callback.Enqueue (task_and_number t flags) t d in
-      ready_comes_in m on x.state t d l (keeps_call_back n I k m (Some t) on s callback.Enqueue (task_and_number t flags) t d l h) (ready_call_back m (Some t) on s callback.Enqueue (task_and_number t flags) t d refl l h r)
+      ready_comes_in m on x.state t d (plain_on s x (honest_call_back s callback.Enqueue (task_and_number t flags) t d (λ e. absurd (cc))) plain) l (keeps_call_back n I k m (Some t) on s callback.Enqueue (task_and_number t flags) t d l h) (ready_call_back m (Some t) on s callback.Enqueue (task_and_number t flags) t d refl l h r)
 
   -- the task before leaves
-  pub ready_leave : (m : ℕ) (on : List (Option ℕ)) (s : State) (d : ℕ) (p : Option ℕ) → d < length on → IsKnown n p → get_or on d None ≡ p → I m None on s.world → IsReady c s.world → IsReady c (leave s d p).state.world
+  pub ready_leave : (m : ℕ) (on : List (Option ℕ)) (s : State) (d : ℕ) (p : Option ℕ) → LeavesPlainly p s → d < length on → IsKnown n p → get_or on d None ≡ p → I m None on s.world → IsReady c s.world → IsReady c (leave s d p).state.world
   unfolding leave
-  ready_leave m on s d None l known runs h r = r
-  ready_leave m on s d (Some t) l known runs h r =
+  ready_leave m on s d None plain l known runs h r = r
+  ready_leave m on s d (Some t) plain l known runs h r =
       let off = with_world s (after_stop s.world d t) in
       let l' : d < length (set on d None) = rw (length-set on d None) l in
       let away : I m (Some t) (set on d None) off.world = k.stopped m on s.world d t l known runs h in
       let first : IsReady c off.world = ready_same c s.world off.world (same_here _ s.world.queues s.world.queues refl) refl refl r in
-      ready_put (m + 1) (set on d None) (after_stopping off d t 1).state t d 0 l' (keeps_stopping n I k m (Some t) (set on d None) off d t 1 l' away) (ready_stopping m (Some t) (set on d None) off d t 1 l' away first)
+      let x = after_stopping off d t 1 in
+      let still = plain_on off x (honest_stopping off d t 1) plain in
+      subst (λ (y : Stepped). IsReady c y.state.world) (sym (put_back_plain x.state d t still))
+      (ready_put (m + 1) (set on d None) x.state t d 0 still l' (keeps_stopping n I k m (Some t) (set on d None) off d t 1 l' away) (ready_stopping m (Some t) (set on d None) off d t 1 l' away first))
+
+  -- ---- a task that was picked
+
+  module _ (t : ℕ) where
+    picked_ejected_for : (m : ℕ) (hand : Option ℕ) (on : List (Option ℕ)) (o : Option Fault) (s : State) → I m hand on s.world → IsPicked c t s.world → IsPicked c t (ejected_for o s).state.world
+    picked_ejected_for m hand on None s h r = r
+    picked_ejected_for m hand on (Some f) s h r = picked_over c t s.world (eject s _).state.world (goes_over n hand on s _ (sound m hand on s.world h)) (ap (λ o. is_some o) (eject_sets s _).1)
+
+    picked_call_back : (m : ℕ) (hand : Option ℕ) (on : List (Option ℕ)) (s : State) (b : Callback) (a : Args) (u d : ℕ) → is_dispatch b ≡ false → d < length on → I m hand on s.world → IsPicked c t s.world → IsPicked c t (call_back s b a u d).state.world
+    unfolding call_back
+    picked_call_back m hand on s b a u d calm l h r =
+        let e = call_ending (acting s b) b a s.maps (at_callback s.world b u d) in
+        picked_ejected_for m hand on (fault_of b e) (after_callback s.policy e) (k.quiet m hand on e.outside (keeps_called n I k m hand on (acting s b) b a s.maps (at_callback s.world b u d) (k.begun m hand on s.world b u d l h)))
+        (picked_calm c t s.world (quiet e.outside) (calm_quiet s.world e.outside (calm_called (acting s b) b a s.maps s.world u d calm)) r)
+
+    picked_stopping : (m : ℕ) (hand : Option ℕ) (on : List (Option ℕ)) (s : State) (d u x : ℕ) → d < length on → I m hand on s.world → IsPicked c t s.world → IsPicked c t (after_stopping s d u x).state.world
+    unfolding after_stopping
+    picked_stopping m hand on s d u x l h r = go (is_ejected s)
+      where
+        go : (b : Bool) → IsPicked c t (if b then stays (with_world s (after_charge s.world u)) else stopping_called s d u x).state.world
+        go true = picked_same c t s.world (after_charge s.world u) refl refl refl r
+        go false = picked_call_back m hand on s _ (task_and_number u x) u d refl l h r
+
+    picked_comes_in : (m : ℕ) (on : List (Option ℕ)) (s : State) (u d : ℕ) → u < n → I m (Some u) on s.world → IsPicked c t s.world → IsPicked c t (comes_in s u d).state.world
+    unfolding comes_in enters enters_builtin
+    picked_comes_in m on s u d within h r = go (is_ejected s) refl
+      where
+        go : (b : Bool) → is_ejected s ≡ b → IsPicked c t (if b then enters_builtin s u else enters s u (enqueue_choice s.policy.callbacks.enqueue d s.world.call.insert)).state.world
+        go true out = picked_put_builtin c t s.world u out r
+        go false force = picked_entered c t on n s.world u (enqueue_choice s.policy.callbacks.enqueue d s.world.call.insert) within (sound m (Some u) on s.world h) (in_force s force) r
+
+    picked_put : (m : ℕ) (on : List (Option ℕ)) (s : State) (u d flags : ℕ) → u < n → d < length on → I m (Some u) on s.world → IsPicked c t s.world → IsPicked c t (put s u d flags).state.world
+    unfolding put
+    picked_put m on s u d flags within l h r =
+        let x = call_back s callback.Enqueue (task_and_number u flags) u d in
+        picked_comes_in m on x.state u d within (keeps_call_back n I k m (Some u) on s callback.Enqueue (task_and_number u flags) u d l h) (picked_call_back m (Some u) on s callback.Enqueue (task_and_number u flags) u d refl l h r)
+
+    -- a task that was stopped is put, or goes to the front
+    picked_put_back : (m : ℕ) (on : List (Option ℕ)) (s : State) (d u : ℕ) → u < n → d < length on → I m (Some u) on s.world → IsPicked c t s.world → IsPicked c t (put_back s d u).state.world
+    unfolding put_back enters
+    picked_put_back m on s d u within l h r = go (is_by_linux s) refl
+      where
+        in_front : (b x : Bool) → is_by_linux s ≡ b → IsPicked c t (if b && x then enters s u (to_front d) else put s u d 0).state.world
+        in_front true true e = picked_entered c t on n s.world u (to_front d) within (sound m (Some u) on s.world h) (linux_in_force s e) r
+        in_front true false e = picked_put m on s u d 0 within l h r
+        in_front false x e = picked_put m on s u d 0 within l h r
+
+        go : (b : Bool) → is_by_linux s ≡ b → IsPicked c t (if b && not ((task_at s.world u).slice == 0) then enters s u (to_front d) else put s u d 0).state.world
+        go b e = in_front b (not ((task_at s.world u).slice == 0)) e
+
+    -- the task before leaves
+    pub picked_leave : (m : ℕ) (on : List (Option ℕ)) (s : State) (d : ℕ) (p : Option ℕ) → d < length on → IsKnown n p → get_or on d None ≡ p → I m None on s.world → IsPicked c t s.world → IsPicked c t (leave s d p).state.world
+    unfolding leave
+    picked_leave m on s d None l known runs h r = r
+    picked_leave m on s d (Some u) l known runs h r =
+        let off = with_world s (after_stop s.world d u) in
+        let l' : d < length (set on d None) = rw (length-set on d None) l in
+        let away : I m (Some u) (set on d None) off.world = k.stopped m on s.world d u l known runs h in
+        let first : IsPicked c t off.world = picked_same c t s.world off.world refl refl refl r in
+        picked_put_back (m + 1) (set on d None) (after_stopping off d u 1).state d u known l' (keeps_stopping n I k m (Some u) (set on d None) off d u 1 l' away) (picked_stopping m (Some u) (set on d None) off d u 1 l' away first)
 
   -- ---- the tree
 

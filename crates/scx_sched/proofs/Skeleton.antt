@@ -1,5 +1,5 @@
 -- What each small step of a world keeps, callbacks and ejections keep, and a task that is put.
-use Rattle.std.proofs.Common.{◌≡◌, ℕ, zero, suc, ◌+◌, ◌<◌, ◌≤◌, Bool, true, false, if◌then◌else◌, List, length, Option, Some, None, refl, arith}
+use Rattle.std.proofs.Common.{◌≡◌, ℕ, zero, suc, ◌+◌, ◌<◌, ◌≤◌, Bool, true, false, ◌==◌, ◌&&◌, not, if◌then◌else◌, List, length, Option, Some, None, refl, arith}
 use Rattle.scx_isa_semantics.specs.declared.callbacks.Callback.{Callback}
 use Rattle.scx_isa_semantics.specs.declared.callbacks.Callback.TheVariants as callback
 use Rattle.scx_isa_semantics.specs.Code.{instruction_count}
@@ -13,16 +13,18 @@ use Rattle.scx_vm.specs.declared.arguments.Args.{Args}
 use Rattle.scx_vm.specs.Host.{answer_to, after_query}
 use Rattle.scx_sched_world.specs.declared.eject.Eject.{Eject}
 use Rattle.scx_sched_world.specs.declared.faults.Fault.{Fault}
-use Rattle.scx_sched_world.specs.World.{WorldState, running, at_callback}
-use Rattle.scx_sched_world.specs.Tasks.{for_cpu}
+use Rattle.scx_sched_world.specs.CpuSets.{and_cpu}
+use Rattle.scx_sched_world.specs.World as world
+use Rattle.scx_sched_world.specs.World.{WorldState, with_task, task_at, is_idle, running, at_callback}
+use Rattle.scx_sched_world.specs.Tasks.{with_home, homed, after_switch, for_cpu}
 use Rattle.scx_sched_world.specs.Ejecting.{put_out, after_evictions, after_cut, cut_task, after_charge, after_catch_up}
 use Rattle.scx_sched_world.specs.Helpers.{world_functions}
-use Rattle.scx_sched_machine.specs.Steps.{State, Stepped, stays, with_world, is_ejected}
+use Rattle.scx_sched_machine.specs.Steps.{State, Stepped, stays, with_world, is_ejected, is_by_linux, kicked, kicked_if_idle}
 use Rattle.scx_sched_machine.specs.Ejecting.{moves_over, eject, ejected_for}
 use Rattle.scx_sched_machine.specs.Callbacks.{call_ending, acting, after_callback, fault_of, call_back, one_task, task_and_number}
 use Rattle.scx_sched_world.specs.declared.call.Insert.{Insert}
 use Rattle.scx_sched_machine.specs.Put.{enters, enqueue_choice, enters_builtin, comes_in, put}
-use Rattle.scx_sched_machine.specs.Cycle.{stopping_called, after_stopping, after_running}
+use Rattle.scx_sched_machine.specs.Cycle.{stopping_called, after_stopping, switched, after_running}
 use Rattle.scx_sched_machine.specs.Events.{insert_or_put}
 use Rattle.scx_sched_machine.proofs.Choices.{keeps_if}
 use Rattle.scx_sched.specs.Kept.{IsKeptBySteps, IsWanted, ForAny, Nowhere, Inserted}
@@ -99,6 +101,24 @@ module _ (n : ℕ) (I : ℕ → Option ℕ → List (Option ℕ) → WorldState 
     unfolding after_running
     keeps_running_on s c t l h =
         keeps_if (λ (r : Stepped). I m hand on r.state.world) (is_ejected s) (stays (with_world s (after_catch_up s.world t))) (call_back s callback.Running (one_task t) t c) (k.overtaken m hand on s.world t h) (keeps_call_back s callback.Running (one_task t) t c l h)
+
+    -- ---- Linux rules
+
+    -- a processor that is to look for work
+    pub keeps_kicked : (s : State) (c : ℕ) → I m hand on s.world → I m hand on (kicked s c).world
+    keeps_kicked s c h = k.sets m hand on s.world s.world.claimed (and_cpu s.world.kicked c) s.world.preempted s.world.call.claims s.world.slept h
+
+    pub keeps_kicked_if_idle : (s : State) (c : ℕ) → I m hand on s.world → I m hand on (kicked_if_idle s c).world
+    keeps_kicked_if_idle s c h = keeps_if (λ (r : State). I m hand on r.world) (is_by_linux s && is_idle s.world c) (kicked s c) s (keeps_kicked s c h) h
+
+    -- the processor of a task
+    pub keeps_homed : (w : WorldState) (t c : ℕ) → c < length on → I m hand on w → I m hand on (homed w t c)
+    keeps_homed w t c l h = keeps_if (I m hand on) (world.is_by_linux w) (with_task w t (with_home (task_at w t) c)) w (k.homed m hand on w t c l h) h
+
+    -- a task that begins to run
+    pub keeps_switched : (s : State) (t : ℕ) → I m hand on s.world → I m hand on (switched s t).world
+    unfolding switched
+    keeps_switched s t h = keeps_if (λ (r : State). I m hand on r.world) (is_by_linux s && not (s.policy.tick_ms == 0)) (with_world s (after_switch s.world t)) s (k.sliced m hand on s.world t _ h) h
 
   module _ (m : ℕ) (on : List (Option ℕ)) where
     keeps_comes_in : (s : State) (t c : ℕ) → t < n → c < length on → I m (Some t) on s.world → I m None on (comes_in s t c).state.world

@@ -10,7 +10,7 @@ use Rattle.scx_dsq.specs.Queues.{QueueState, exists, task_count, entry_of, queue
 use Rattle.scx_dsq.specs.Calls.{clashes, push_refusal, after_push, after_pop, after_remove, with_queue, after_create, create_refusal}
 use Rattle.scx_dsq.specs.Entries.{same_sort}
 use Rattle.scx_dsq.specs.declared.entries.Rank.{Rank}
-use Rattle.scx_dsq.specs.declared.entries.Rank.TheVariants.{Fifo, Vtime}
+use Rattle.scx_dsq.specs.declared.entries.Rank.TheVariants.{Fifo, Front, Vtime}
 use Rattle.scx_dsq.specs.declared.entries.Entry.{Entry}
 use Rattle.scx_dsq.specs.Laws.{one_if, standing, IsStamped}
 use Rattle.scx_dsq.proofs.Facts.{front_is_known, standing_pushed, standing_popped, standing_removed, tasks_pushed, tasks_without, tasks_removed, tasks_created, others_change_none}
@@ -27,21 +27,23 @@ use Rattle.scx_vm.specs.declared.arguments.Arg.{Arg}
 use Rattle.scx_sched_tasks.specs.declared.task.Task.{Task}
 use Rattle.scx_sched_tasks.specs.Tasks.{no_task}
 use Rattle.scx_sched_world.specs.declared.call.Insert.{Insert}
+use Rattle.scx_sched_world.specs.declared.cpu_set.CpuSet.{CpuSet}
 use Rattle.scx_sched_world.specs.declared.notes.What.{What}
 use Rattle.scx_sched_world.specs.declared.faults.Fault.{Fault}
 use Rattle.scx_sched_world.specs.declared.faults.Fault.TheVariants.{NoSuchQueue, CannotInsert, NoSuchCpu, UnknownFlag, BuiltinVtime, Mixed}
 use Rattle.scx_sched_world.specs.declared.eject.Eject.{Eject}
 use Rattle.scx_sched_world.specs.Ids.{global, local, held_queue, builtin_queue, parked_queue, local_on, policy_end}
 use Rattle.scx_sched_world.specs.Ejecting.{put_out, builtin_vtime, put_builtin, evict, cut_task, after_catch_up, after_charge}
-use Rattle.scx_sched_world.specs.World.{WorldState, with_queues, with_tree, with_cycling, with_task, task_at, waits_in, waits, is_this, is_runnable, cpu_of, quiet, at_callback, with_note}
-use Rattle.scx_sched_world.specs.Tasks.{after_wake, after_sleep, after_leave, given_slice, given_vtime, task_after_insert, after_enter, queue_for, for_cpu, to_held, to_global, brought, fill_front, after_fill, local_len, after_stop, started_at, with_new_slice, after_keep, ran_a_tick, after_tick, later}
-use Rattle.scx_sched_world.specs.Helpers.{with_fault, is_dispatch, is_held, may_insert_in, may_insert, queue_fault, is_vtime, rank_fault, or_fault, insert_fault, with_insert, with_move, after_release, insert_or_fault, front_moved_to_local, helper_after, stored_in, world_functions}
+use Rattle.scx_sched_world.specs.World.{WorldState, is_by_linux, with_queues, with_tree, with_cycling, with_task, task_at, waits_in, waits, is_this, is_runnable, cpu_of, quiet, at_callback, with_note}
+use Rattle.scx_sched_world.specs.Tasks.{with_slice, with_home, rank_by, to_local, to_front, after_local, after_take, after_run, on_cpu, after_wake, after_sleep, after_leave, given_slice, given_vtime, task_after_insert, after_enter, queue_for, for_cpu, to_held, to_global, brought, fill_front, after_fill, local_len, after_stop, started_at, with_new_slice, after_keep, ran_a_tick, after_tick, later}
+use Rattle.scx_sched_world.specs.Helpers.{with_fault, flags_fault, moved_here, is_dispatch, is_held, may_insert_in, may_insert, queue_fault, is_vtime, rank_fault, or_fault, insert_fault, with_insert, with_move, after_release, insert_or_fault, front_moved_to_local, helper_after, stored_in, world_functions}
 use Rattle.scx_sched_machine.proofs.Choices.{keeps_if}
 use Rattle.scx_sched_machine.proofs.HelperCalls.{by_helper}
-use Rattle.scx_sched.specs.Once.{runs, appearances, IsOnce, HasQueues, sort_of, IsSorted, IsAlike, IsOpen, IsSound, GoesSomewhere}
-use Rattle.scx_sched.specs.Kept.{IsWanted, ForAny, Nowhere, Inserted}
+use Rattle.scx_sched.specs.Once.{runs, appearances, IsOnce, HasQueues, sort_of, IsSorted, IsAlike, IsOpen, IsBehind, IsSound, GoesSomewhere}
+use Rattle.scx_sched.specs.Kept.{with_sets, IsWanted, ForAny, Nowhere, Inserted, InFront}
+use Rattle.scx_sched.proofs.Marks.{KeepsMarks, kept_kicked_so, kept_claim, kept_local, kept_put}
 use Rattle.scx_sched.proofs.Waiting.{waiting, waits_there, without_other, removed_other, same_waiting, waiting_pushed, waiting_left, front_waits_here, set_since, one_same, waits_sum, waits_by_sum, since_set, stored_since, given_since, renewed_since, waits_at_hand, waits_asleep, waits_on_cpu}
-use Rattle.scx_sched.proofs.Entering.{nowhere, sorted_pushed, sorted_popped, sorted_removed, stamped_pushed, stamped_popped, stamped_removed, stamped_created, own_open, alike_from, is_accepted, Stay, stay_pushed, stay_without, stay_removed, stay_created, queues_stay, open_without, open_removed, open_created, open_own, open_same, goes_on, local_sort, low_fits}
+use Rattle.scx_sched.proofs.Entering.{nowhere, sorted_pushed, sorted_popped, sorted_removed, stamped_pushed, stamped_popped, stamped_removed, stamped_created, own_open, alike_from, is_accepted, Stay, stay_pushed, stay_without, stay_removed, stay_created, queues_stay, open_without, open_removed, open_created, open_own, open_same, same_itself, same_key, open_by, goes_on, local_fits, local_sort, low_fits}
 
 -- ---- changes of queues, tasks and the callback at hand
 
@@ -79,20 +81,34 @@ module _ (hand : Option ℕ) (on : List (Option ℕ)) (n : ℕ) where
     once = λ u. omega (arith, same u, h.once u);
     here = h.here;
     goes = goes;
+    behind = h.behind;
     waiting = λ u. h.waiting u ∙ ap (λ b. b || is_this u hand) (one_same (waits w u) (waits_in (queue_of s u)) (sym (waits-same u)));
     at_once = h.at_once;
   }
 
   sound_task : (w : WorldState) (t : ℕ) (x : Task) → x.prev_cpu ≡ (task_at w t).prev_cpu → x.since ≡ (task_at w t).since → IsSound hand on n w → IsSound hand on n (with_task w t x)
-  sound_task w t x home since h = record { cpus = h.cpus; tasks = length-set w.tasks t x ∙ h.tasks; even = h.even; flags = h.flags; homes = homes_set w.tasks t x (length on) (rw home (h.homes t)) h.homes; queues = h.queues; sorted = h.sorted; stamped = h.stamped; once = h.once; here = h.here; goes = h.goes; waiting = λ u. ap is_some (since_set w.tasks t x since u) ∙ h.waiting u; at_once = h.at_once }
+  sound_task w t x home since h = record { cpus = h.cpus; tasks = length-set w.tasks t x ∙ h.tasks; even = h.even; flags = h.flags; homes = homes_set w.tasks t x (length on) (rw home (h.homes t)) h.homes; queues = h.queues; sorted = h.sorted; stamped = h.stamped; once = h.once; here = h.here; goes = h.goes; behind = h.behind; waiting = λ u. ap is_some (since_set w.tasks t x since u) ∙ h.waiting u; at_once = h.at_once }
+
+  -- nor is any task moved by sets of processors, or by who went to sleep
+  pub sound_sets : (w : WorldState) (claimed kicked preempted claims : CpuSet) (slept : Option ℕ) → IsSound hand on n w → IsSound hand on n (with_sets w claimed kicked preempted claims slept)
+  sound_sets w a b c d o h = record { cpus = h.cpus; tasks = h.tasks; even = h.even; flags = h.flags; homes = h.homes; queues = h.queues; sorted = h.sorted; stamped = h.stamped; once = h.once; here = h.here; goes = h.goes; behind = h.behind; waiting = h.waiting; at_once = h.at_once }
+
+  -- as the processor of a task, its slice and sets of processors change, tasks stay where they are
+  pub sound_marks : KeepsMarks (λ c. c < length on) (IsSound hand on n)
+  sound_marks = record {
+    there = λ w c h l. rw (← h.cpus) l;
+    homed = λ w t c l h. record { cpus = h.cpus; tasks = length-set w.tasks t (with_home (task_at w t) c) ∙ h.tasks; even = h.even; flags = h.flags; homes = homes_set w.tasks t (with_home (task_at w t) c) (length on) l h.homes; queues = h.queues; sorted = h.sorted; stamped = h.stamped; once = h.once; here = h.here; goes = h.goes; behind = h.behind; waiting = λ u. ap is_some (since_set w.tasks t (with_home (task_at w t) c) refl u) ∙ h.waiting u; at_once = h.at_once };
+    sliced = λ w t k h. sound_task w t (with_slice (task_at w t) k) refl refl h;
+    sets = λ w a b c d h. sound_sets w a b c d w.slept h;
+  }
 
   -- notes that are handed on
   pub sound_quiet : (w : WorldState) → IsSound hand on n w → IsSound hand on n (quiet w)
-  sound_quiet w h = record { cpus = h.cpus; tasks = h.tasks; even = h.even; flags = h.flags; homes = h.homes; queues = h.queues; sorted = h.sorted; stamped = h.stamped; once = h.once; here = h.here; goes = h.goes; waiting = h.waiting; at_once = h.at_once }
+  sound_quiet w h = record { cpus = h.cpus; tasks = h.tasks; even = h.even; flags = h.flags; homes = h.homes; queues = h.queues; sorted = h.sorted; stamped = h.stamped; once = h.once; here = h.here; goes = h.goes; behind = h.behind; waiting = h.waiting; at_once = h.at_once }
 
   -- a cycle that begins or ends
   pub sound_cycling : (w : WorldState) (o : Option ℕ) → IsSound hand on n w → IsSound hand on n (with_cycling w o)
-  sound_cycling w o h = record { cpus = h.cpus; tasks = h.tasks; even = h.even; flags = h.flags; homes = h.homes; queues = h.queues; sorted = h.sorted; stamped = h.stamped; once = h.once; here = h.here; goes = h.goes; waiting = h.waiting; at_once = h.at_once }
+  sound_cycling w o h = record { cpus = h.cpus; tasks = h.tasks; even = h.even; flags = h.flags; homes = h.homes; queues = h.queues; sorted = h.sorted; stamped = h.stamped; once = h.once; here = h.here; goes = h.goes; behind = h.behind; waiting = h.waiting; at_once = h.at_once }
 
   entry_created : (s : QueueState) (q u : ℕ) → entry_of (after_create s q) u ≡ entry_of s u
   entry_created s q u = keeps_if (λ (x : QueueState). entry_of x u ≡ entry_of s u) (is_none (create_refusal s q)) (with_queue s q) s refl refl
@@ -127,10 +143,10 @@ sound_brought hand on n w o q r front there own fits apart apart-there h t e =
 
 -- ---- helpers
 
-local_is_open : (s : QueueState) (n q : ℕ) → HasQueues s n → IsSorted s → local_on 0 ≤ q → q < local_on n → IsOpen s q Fifo
-local_is_open s n q h sorted low high =
+local_is_open : (s : QueueState) (n q : ℕ) (r : Rank) → same_sort r Fifo ≡ true → HasQueues s n → IsSorted s → local_on 0 ≤ q → q < local_on n → IsOpen s q r
+local_is_open s n q r fits h sorted low high =
     let is : local_on (q - local_on 0) ≡ q = omega (arith, low) in
-    subst (λ x. IsOpen s x Fifo) is (own_open s (local_on (q - local_on 0)) Fifo (h.locals (q - local_on 0) (omega (arith, low, high))) (omega arith) (local_sort (q - local_on 0)) sorted)
+    subst (λ x. IsOpen s x r) is (own_open s (local_on (q - local_on 0)) r (h.locals (q - local_on 0) (omega (arith, low, high))) (omega arith) (local_fits (q - local_on 0) r fits) sorted)
 
 abbrev fault_of : WorldState → ℕ → (a b g l m k : Bool) → Option Fault
 fault_of w q a b g l m k =
@@ -142,7 +158,7 @@ fault_of w q a b g l m k =
     else (if nat_lt q (local_on 0x1_0000_0000) then Some NoSuchCpu else Some NoSuchQueue)))))
 
 -- what a callback may name takes a task so
-open_at : (w : WorldState) (q c : ℕ) (r : Rank) → HasQueues w.queues (length w.cpus) → IsSorted w.queues → c < length w.cpus → queue_fault w q ≡ None → (policy_end ≤ q → r ≡ Fifo) → IsAlike w.queues q r → IsOpen w.queues (queue_for c q) r
+open_at : (w : WorldState) (q c : ℕ) (r : Rank) → HasQueues w.queues (length w.cpus) → IsSorted w.queues → c < length w.cpus → queue_fault w q ≡ None → (policy_end ≤ q → same_sort r Fifo ≡ true) → IsAlike w.queues q r → IsOpen w.queues (queue_for c q) r
 open_at w q c r h sorted here e fifo alike = go (nat_lt q policy_end) (exists w.queues q) (q == global) (q == local) (nat_lt q (local_on 0)) (nat_lt q (local_on (length w.cpus))) refl refl refl refl refl refl e
   where
     go : (a b g l m k : Bool) → nat_lt q policy_end ≡ a → exists w.queues q ≡ b → (q == global) ≡ g → (q == local) ≡ l → nat_lt q (local_on 0) ≡ m → nat_lt q (local_on (length w.cpus)) ≡ k
@@ -153,15 +169,15 @@ open_at w q c r h sorted here e fifo alike = go (nat_lt q policy_end) (exists w.
     go true false g l m k ea eb eg el em ek e = absurd (cc)
     go false b true l m k ea eb eg el em ek e =
         let is : global ≡ q = grind (arith, nat_tests, eg) in
-        rw (fifo (omega (arith, is))) (subst (λ x. IsOpen w.queues (queue_for c x) Fifo) is (own_open w.queues global Fifo h.global (omega arith) refl sorted))
+        subst (λ x. IsOpen w.queues (queue_for c x) r) is (own_open w.queues global r h.global (omega arith) (fifo (omega (arith, is))) sorted)
     go false b false true m k ea eb eg el em ek e =
         let is : local ≡ q = grind (arith, nat_tests, el) in
-        rw (fifo (omega (arith, is)), el) (own_open w.queues (local_on c) Fifo (h.locals c here) (omega arith) (local_sort c) sorted)
+        rw el (own_open w.queues (local_on c) r (h.locals c here) (omega arith) (local_fits c r (fifo (omega (arith, is)))) sorted)
     go false b false false true k ea eb eg el em ek e = absurd (cc)
     go false b false false false true ea eb eg el em ek e =
         let low : local_on 0 ≤ q = grind (arith, nat_tests, em) in
         let high : q < local_on (length w.cpus) = grind (arith, nat_tests, ek) in
-        rw (fifo (omega (arith, low)), el) (local_is_open w.queues (length w.cpus) q h sorted low high)
+        rw el (local_is_open w.queues (length w.cpus) q r (fifo (omega (arith, low))) h sorted low high)
     go false b false false false false ea eb eg el em ek e = more (nat_lt q (local_on 0x1_0000_0000)) e
       where
         more : (x : Bool) → (if x then Some NoSuchCpu else Some NoSuchQueue) ≡ None → IsOpen w.queues (queue_for c q) r
@@ -176,23 +192,24 @@ pub record IsFit (w : WorldState) (t : Option ℕ) (i : Insert) : Type 0 where
 
 -- an insert without a fault is fit
 pub is_fit : (w : WorldState) (t : Option ℕ) (i : Insert) (flags : ℕ) → insert_fault w t i flags ≡ None → IsFit w t i
-is_fit w t i flags e = go (may_insert w t) (nat_lt 1 flags) (queue_fault w i.queue) refl refl e
+is_fit w t i flags e = go (may_insert w t) (flags_fault w flags) (queue_fault w i.queue) refl refl e
   where
-    go : (a b : Bool) (o : Option Fault) → may_insert w t ≡ a → queue_fault w i.queue ≡ o → (if a then (if b then Some UnknownFlag else or_fault o (rank_fault w i.queue i.rank)) else Some CannotInsert) ≡ None → IsFit w t i
-    go true true o x y e = absurd (cc)
-    go true false None x y e = record { may = x; queue = y; rank = e }
-    go true false (Some f) x y e = absurd (cc)
+    go : (a : Bool) (b o : Option Fault) → may_insert w t ≡ a → queue_fault w i.queue ≡ o → (if a then or_fault b (or_fault o (rank_fault w i.queue i.rank)) else Some CannotInsert) ≡ None → IsFit w t i
+    go true (Some g) o x y e = absurd (cc)
+    go true None None x y e = record { may = x; queue = y; rank = e }
+    go true None (Some f) x y e = absurd (cc)
     go false b o x y e = absurd (cc)
 
-rank_alike : (w : WorldState) (q : ℕ) (r : Rank) → rank_fault w q r ≡ None → (policy_end ≤ q → r ≡ Fifo) × IsAlike w.queues q r
+rank_alike : (w : WorldState) (q : ℕ) (r : Rank) → rank_fault w q r ≡ None → (policy_end ≤ q → same_sort r Fifo ≡ true) × IsAlike w.queues q r
 rank_alike w q r e = go (is_vtime r && nat_le policy_end q) (list_any (clashes q r) w.queues.entries) refl refl e
   where
-    fifo : (k : Rank) (b : Bool) → b ≡ true → (is_vtime k && b) ≡ false → k ≡ Fifo
+    fifo : (k : Rank) (b : Bool) → b ≡ true → (is_vtime k && b) ≡ false → same_sort k Fifo ≡ true
     fifo Fifo b x y = refl
+    fifo Front b x y = refl
     fifo (Vtime n) true x y = absurd (cc)
     fifo (Vtime n) false x y = absurd (cc)
 
-    go : (a b : Bool) → (is_vtime r && nat_le policy_end q) ≡ a → list_any (clashes q r) w.queues.entries ≡ b → (if a then Some BuiltinVtime else (if b then Some Mixed else None)) ≡ None → (policy_end ≤ q → r ≡ Fifo) × IsAlike w.queues q r
+    go : (a b : Bool) → (is_vtime r && nat_le policy_end q) ≡ a → list_any (clashes q r) w.queues.entries ≡ b → (if a then Some BuiltinVtime else (if b then Some Mixed else None)) ≡ None → (policy_end ≤ q → same_sort r Fifo ≡ true) × IsAlike w.queues q r
     go true b x y e = absurd (cc)
     go false true x y e = absurd (cc)
     go false false x y e = (λ past. fifo r (nat_le policy_end q) (grind (arith, nat_tests, past)) x, alike_from w.queues q r y)
@@ -237,10 +254,11 @@ held_in_dispatch w t = go w.call.callback
     go b x y = absurd (cc)
 
 given_home : (x : Task) (i : Insert) → (task_after_insert x i).prev_cpu ≡ x.prev_cpu
-given_home x i = vtime i.rank ∙ keeps_if (λ (y : Task). y.prev_cpu ≡ x.prev_cpu) (i.slice == 0) x _ refl refl
+given_home x i = vtime i.rank ∙ keeps_if (λ (y : Task). y.prev_cpu ≡ x.prev_cpu) (i.slice == 0) _ _ (keeps_if (λ (y : Task). y.prev_cpu ≡ x.prev_cpu) (i.refills && (x.slice == 0)) _ x refl refl) refl
   where
-    vtime : (r : Rank) → (given_vtime (given_slice x i.slice) r).prev_cpu ≡ (given_slice x i.slice).prev_cpu
+    vtime : (r : Rank) → (given_vtime (given_slice x i) r).prev_cpu ≡ (given_slice x i).prev_cpu
     vtime Fifo = refl
+    vtime Front = refl
     vtime (Vtime k) = refl
 
 -- a task that there is
@@ -249,7 +267,7 @@ inside n w t within e = let l : t < length w.tasks = rw e within in grind (arith
 
 module _ (hand : Option ℕ) (on : List (Option ℕ)) (n : ℕ) where
   sound_faulted : (w : WorldState) (f : Fault) → IsSound hand on n w → IsSound hand on n (with_fault w f)
-  sound_faulted w f h = record { cpus = h.cpus; tasks = h.tasks; even = h.even; flags = h.flags; homes = h.homes; queues = h.queues; sorted = h.sorted; stamped = h.stamped; once = h.once; here = h.here; goes = h.goes; waiting = h.waiting; at_once = h.at_once }
+  sound_faulted w f h = record { cpus = h.cpus; tasks = h.tasks; even = h.even; flags = h.flags; homes = h.homes; queues = h.queues; sorted = h.sorted; stamped = h.stamped; once = h.once; here = h.here; goes = h.goes; behind = h.behind; waiting = h.waiting; at_once = h.at_once }
 
   -- a task goes from one queue to another
   sound_replaced : (w : WorldState) (t q : ℕ) (r : Rank) (x : Task) → x.prev_cpu ≡ (task_at w t).prev_cpu → x.since ≡ (task_at w t).since → waits_in (queue_of w.queues t) ≡ true → t < task_count w.queues → entry_of (after_remove w.queues t) t ≡ None → IsOpen w.queues q r → (q == parked_queue) ≡ false
@@ -278,38 +296,45 @@ module _ (hand : Option ℕ) (on : List (Option ℕ)) (n : ℕ) where
           (λ u. omega (arith, waiting_pushed s q t u r known' ok free apart, waiting_left w.queues s t u (ap one_if waits-here) free (λ k d. removed_other w.queues t k d))) goes h
 
   -- a held task
-  sound_released : (w : WorldState) (t : ℕ) (q : ℕ) (i : Insert) → w.call.insert ≡ None → IsHeld w t → IsOpen w.queues q i.rank → (q == parked_queue) ≡ false → IsSound hand on n w → IsSound hand on n (after_enter (after_leave w t) t (record { queue = q; slice = i.slice; rank = i.rank }))
-  sound_released w t q i none held-here ready apart h =
-      let k : Insert = record { queue = q; slice = i.slice; rank = i.rank } in
-      rw (inside n w t (subst (λ k. t < k) h.even held-here.known) h.tasks)
-      (sound_replaced w t q i.rank (task_after_insert (task_at w t) k) (given_home (task_at w t) k) (given_since (task_at w t) k) held-here.waits held-here.known held-here.free ready apart (subst (λ o. GoesSomewhere (after_push (after_remove w.queues t) q t i.rank) (length on) o) (sym none) tt) h)
+  sound_released : (w : WorldState) (t : ℕ) (k : Insert) → w.call.insert ≡ None → IsHeld w t → IsOpen w.queues k.queue k.rank → (k.queue == parked_queue) ≡ false → IsSound hand on n w → IsSound hand on n (after_enter (after_leave w t) t k)
+  sound_released w t k none held-here ready apart h =
+      let r = rank_by w k.rank in
+      kept_put (λ c. c < length on) (IsSound hand on n) (sound_marks hand on n) (after_leave w t) t k (inside n w t (subst (λ k. t < k) h.even held-here.known) h.tasks)
+      (sound_replaced w t k.queue r (task_after_insert (task_at w t) k) (given_home (task_at w t) k) (given_since (task_at w t) k) held-here.waits held-here.known held-here.free (open_by w w.queues k.queue k.rank ready) apart (subst (λ o. GoesSomewhere (after_push (after_remove w.queues t) k.queue t r) (length on) o) (sym none) tt) h)
 
   -- what isn't of queues or tasks
   sound_moving : (w : WorldState) (x : What) → IsSound hand on n w → IsSound hand on n (with_note (with_move w) x)
-  sound_moving w x h = record { cpus = h.cpus; tasks = h.tasks; even = h.even; flags = h.flags; homes = h.homes; queues = h.queues; sorted = h.sorted; stamped = h.stamped; once = h.once; here = h.here; goes = h.goes; waiting = h.waiting; at_once = h.at_once }
+  sound_moving w x h = record { cpus = h.cpus; tasks = h.tasks; even = h.even; flags = h.flags; homes = h.homes; queues = h.queues; sorted = h.sorted; stamped = h.stamped; once = h.once; here = h.here; goes = h.goes; behind = h.behind; waiting = h.waiting; at_once = h.at_once }
 
-  sound_inserted : (w : WorldState) (o : Option Fault) (t : Option ℕ) (i : Insert) → (o ≡ None → IsFit w t i) → IsSound hand on n w → IsSound hand on n (insert_or_fault w o t i)
-  sound_inserted w None t i fine h = go (is_dispatch w.call.callback) refl t (fine refl)
+  -- a late insert, which counts as one
+  sound_late : (w : WorldState) → IsSound hand on n w → IsSound hand on n (with_move w)
+  sound_late w h = record { cpus = h.cpus; tasks = h.tasks; even = h.even; flags = h.flags; homes = h.homes; queues = h.queues; sorted = h.sorted; stamped = h.stamped; once = h.once; here = h.here; goes = h.goes; behind = h.behind; waiting = h.waiting; at_once = h.at_once }
+
+  sound_inserted : (w : WorldState) (o : Option Fault) (t : Option ℕ) (i : Insert) → (is_by_linux w ≡ false → IsBehind i.rank) → (o ≡ None → IsFit w t i) → IsSound hand on n w → IsSound hand on n (insert_or_fault w o t i)
+  sound_inserted w None t i back fine h = go (is_dispatch w.call.callback) refl t (fine refl)
     where
       go : (b : Bool) → is_dispatch w.call.callback ≡ b → (u : Option ℕ) → IsFit w u i → IsSound hand on n (if b then after_release w u (for_cpu w.call.cpu i) else with_insert w i)
       go true x None fit = h
       go true x (Some u) fit =
           sound_moving (after_enter (after_leave w u) u (for_cpu w.call.cpu i)) _
-          (sound_released w u (queue_for w.call.cpu i.queue) i (h.at_once x) (held_waits w u (held_in_dispatch w (Some u) x fit.may)) (fit_open on hand n w (Some u) i w.call.cpu h.here fit h) (fit_apart w i.queue w.call.cpu fit.queue) h)
-      go false x u fit = record { cpus = h.cpus; tasks = h.tasks; even = h.even; flags = h.flags; homes = h.homes; queues = h.queues; sorted = h.sorted; stamped = h.stamped; once = h.once; here = h.here; goes = λ c l. (fit_open on hand n w u i c l fit h, fit_apart w i.queue c fit.queue); waiting = h.waiting; at_once = λ y. absurd (cc (sym x ∙ y)) }
-  sound_inserted w (Some f) t i fine h = sound_faulted w f h
+          (sound_released w u (for_cpu w.call.cpu i) (h.at_once x) (held_waits w u (held_in_dispatch w (Some u) x fit.may)) (fit_open on hand n w (Some u) i w.call.cpu h.here fit h) (fit_apart w i.queue w.call.cpu fit.queue) h)
+      go false x u fit = record { cpus = h.cpus; tasks = h.tasks; even = h.even; flags = h.flags; homes = h.homes; queues = h.queues; sorted = h.sorted; stamped = h.stamped; once = h.once; here = h.here; goes = λ c l. (fit_open on hand n w u i c l fit h, fit_apart w i.queue c fit.queue); behind = back; waiting = h.waiting; at_once = λ y. absurd (cc (sym x ∙ y)) }
+  sound_inserted w (Some f) t i back fine h = sound_faulted w f h
 
   sound_moved : (w : WorldState) (o : Option ℕ) (q : ℕ) → front_of w.queues q ≡ o → (q == parked_queue) ≡ false → IsSound hand on n w → IsSound hand on n (front_moved_to_local w o q)
   sound_moved w None q e apart h = h
   sound_moved w (Some t) q e apart h =
-      sound_moving (with_queues w (after_push (after_pop w.queues q) (local_on w.call.cpu) t Fifo)) _ (sound_brought hand on n w (Some t) q (local_on w.call.cpu) e (h.queues.locals w.call.cpu h.here) (omega arith) (local_sort w.call.cpu) apart (ne_eqb (local_on w.call.cpu) parked_queue (λ x. omega (arith, x))) h t refl)
+      sound_moving (after_local (after_take w q) w.call.cpu t) _ (kept_local (λ c. c < length on) (IsSound hand on n) (sound_marks hand on n) (after_take w q) w.call.cpu t h.here (sound_brought hand on n w (Some t) q (local_on w.call.cpu) e (h.queues.locals w.call.cpu h.here) (omega arith) (local_sort w.call.cpu) apart (ne_eqb (local_on w.call.cpu) parked_queue (λ x. omega (arith, x))) h t refl))
 
   sound_helper : (w : WorldState) (f : Helper) (a : List Arg) → IsSound hand on n w → IsSound hand on n (helper_after w f a)
   sound_helper w f a h = by_helper (IsSound hand on n) w (record {
     same = h;
     faulty = λ f other. sound_faulted w f h;
     created = λ q. sound_created hand on n w q h;
-    inserted = λ t i flags none. sound_inserted w None t i (λ e. is_fit w t i flags none) h;
+    inserted = λ t i flags back none. sound_inserted w None t i back (λ e. is_fit w t i flags none) h;
+    late = λ linux here. sound_late w h;
+    claimed = λ o. kept_claim (λ c. c < length on) (IsSound hand on n) (sound_marks hand on n) w o h;
+    kicked = λ c k. kept_kicked_so (λ c. c < length on) (IsSound hand on n) (sound_marks hand on n) w c k h;
     moved = λ q here low. sound_moved w (front_of w.queues q) q refl (ne_eqb q parked_queue (λ x. omega (arith, x, low))) h;
   }) f a
 
@@ -321,7 +346,14 @@ module _ (hand : Option ℕ) (on : List (Option ℕ)) (n : ℕ) where
 
   -- a callback that begins
   pub sound_begun : (w : WorldState) (b : Callback) (t c : ℕ) → c < length on → IsSound hand on n w → IsSound hand on n (at_callback w b t c)
-  sound_begun w b t c l h = record { cpus = h.cpus; tasks = h.tasks; even = h.even; flags = h.flags; homes = h.homes; queues = h.queues; sorted = h.sorted; stamped = h.stamped; once = h.once; here = l; goes = tt; waiting = h.waiting; at_once = λ e. refl }
+  sound_begun w b t c l h = record { cpus = h.cpus; tasks = h.tasks; even = h.even; flags = h.flags; homes = h.homes; queues = h.queues; sorted = h.sorted; stamped = h.stamped; once = h.once; here = l; goes = tt; behind = λ e. tt; waiting = h.waiting; at_once = λ e. refl }
+
+  -- where no program chose a processor, the task is to come into the local queue of one
+  pub sound_wants : (w : WorldState) (c : ℕ) → c < length on → is_dispatch w.call.callback ≡ false → IsSound hand on n w → IsSound hand on n (with_insert w (to_local c))
+  sound_wants w c l calm h = record { cpus = h.cpus; tasks = h.tasks; even = h.even; flags = h.flags; homes = h.homes; queues = h.queues; sorted = h.sorted; stamped = h.stamped; once = h.once; here = h.here; goes = λ d m. keeps_if (λ q. IsOpen w.queues q Fifo × ((q == parked_queue) ≡ false)) (local_on c == local) (local_on d) (local_on c) (one d m) (one c l); behind = λ plain e. absurd (cc); waiting = h.waiting; at_once = λ y. absurd (cc (sym calm ∙ y)) }
+    where
+      one : (d : ℕ) → d < length on → IsOpen w.queues (local_on d) Fifo × ((local_on d == parked_queue) ≡ false)
+      one d m = (own_open w.queues (local_on d) Fifo (h.queues.locals d m) (omega arith) (local_sort d) h.sorted, ne_eqb (local_on d) parked_queue (λ x. omega (arith, x)))
 
 -- ---- the task at hand comes to wait
 
@@ -351,19 +383,21 @@ module _ (on : List (Option ℕ)) (n : ℕ) where
         once = once_pushed w t q r known ok h.once;
         here = h.here;
         goes = goes;
+        behind = h.behind;
         waiting = waits_by_sum None (with_queues (with_task w t x) (after_push w.queues q t r)) (λ u. omega (arith, ap (λ o. one_if (is_some o)) (since_set w.tasks t x since u), waits_sum (Some t) w h.once h.waiting u, waiting_pushed w.queues q t u r known ok (nowhere w t h.once) apart));
         at_once = h.at_once;
       }
 
-  sound_enters : (w : WorldState) (t : ℕ) (i : Insert) → t < n → IsOpen w.queues i.queue i.rank → (i.queue == parked_queue) ≡ false → GoesSomewhere (after_push w.queues i.queue t i.rank) (length on) w.call.insert → IsSound (Some t) on n w → IsSound None on n (after_enter w t i)
+  sound_enters : (w : WorldState) (t : ℕ) (i : Insert) → t < n → IsOpen w.queues i.queue i.rank → (i.queue == parked_queue) ≡ false → GoesSomewhere (after_push w.queues i.queue t (rank_by w i.rank)) (length on) w.call.insert → IsSound (Some t) on n w → IsSound None on n (after_enter w t i)
   sound_enters w t i within ready apart goes h =
-      rw (inside n w t within h.tasks) (sound_placed w t i.queue i.rank (task_after_insert (task_at w t) i) (given_home (task_at w t) i) (given_since (task_at w t) i) within ready apart goes h)
+      kept_put (λ c. c < length on) (IsSound None on n) (sound_marks None on n) w t i (inside n w t within h.tasks)
+      (sound_placed w t i.queue (rank_by w i.rank) (task_after_insert (task_at w t) i) (given_home (task_at w t) i) (given_since (task_at w t) i) within (open_by w w.queues i.queue i.rank ready) apart goes h)
 
   -- into one of the machine's own queues
   sound_enters_own : (w : WorldState) (t : ℕ) (i : Insert) → t < n → exists w.queues i.queue ≡ true → policy_end ≤ i.queue → same_sort i.rank (sort_of i.queue) ≡ true → (i.queue == parked_queue) ≡ false → IsSound (Some t) on n w → IsSound None on n (after_enter w t i)
   sound_enters_own w t i within there own fits apart h =
       sound_enters w t i within (own_open w.queues i.queue i.rank there own fits h.sorted) apart
-      (goes_on w.queues (after_push w.queues i.queue t i.rank) (length on) w.call.insert (λ x k o. open_own w.queues i.queue t i.rank x k own fits o) h.goes) h
+      (goes_on w.queues (after_push w.queues i.queue t (rank_by w i.rank)) (length on) w.call.insert (λ x k o. open_own w.queues i.queue t (rank_by w i.rank) x k own (same_key w i.rank (sort_of i.queue) ∙ fits) o) h.goes) h
 
   -- where a callback said
   pub said_open : (w : WorldState) (c : ℕ) (said : Insert) → c < length on → w.call.insert ≡ Some said → GoesSomewhere w.queues (length on) w.call.insert → IsOpen w.queues (queue_for c said.queue) said.rank
@@ -375,20 +409,22 @@ module _ (on : List (Option ℕ)) (n : ℕ) where
   sound_enters_said : (w : WorldState) (t c : ℕ) (said : Insert) → t < n → c < length on → w.call.insert ≡ Some said → IsSound (Some t) on n w → IsSound None on n (after_enter w t (for_cpu c said))
   sound_enters_said w t c said within l e h =
       sound_enters w t (for_cpu c said) within (said_open w c said l e h.goes) (said_apart w c said l e h.goes)
-      (subst (λ (o : Option Insert). GoesSomewhere (after_push w.queues (queue_for c said.queue) t said.rank) (length on) o) (sym e)
-      (λ d m. (open_same w.queues (queue_for c said.queue) t (queue_for d said.queue) said.rank (said_open w d said m e h.goes), said_apart w d said m e h.goes))) h
+      (subst (λ (o : Option Insert). GoesSomewhere (after_push w.queues (queue_for c said.queue) t (rank_by w said.rank)) (length on) o) (sym e)
+      (λ d m. (open_same w.queues (queue_for c said.queue) t (queue_for d said.queue) said.rank (rank_by w said.rank) (same_key w said.rank said.rank ∙ same_itself said.rank) (said_open w d said m e h.goes), said_apart w d said m e h.goes))) h
 
   -- the queue that is wanted is open
   pub wanted_open : (w : WorldState) (i : Insert) (hand : Option ℕ) → IsWanted (length on) w i → IsSound hand on n w → IsOpen w.queues i.queue i.rank
   wanted_open w i hand (ForAny e) h = rw e (own_open w.queues global Fifo h.queues.global (omega arith) refl h.sorted)
   wanted_open w i hand (Nowhere e) h = rw e (own_open w.queues held_queue Fifo h.queues.held (omega arith) refl h.sorted)
   wanted_open w i hand (Inserted c said l x e) h = rw e (said_open w c said l x h.goes)
+  wanted_open w i hand (InFront c l linux e) h = rw e (own_open w.queues (local_on c) Front (h.queues.locals c l) (omega arith) (local_fits c Front refl) h.sorted)
 
   -- a task that enters it
   pub sound_entered : (w : WorldState) (t : ℕ) (i : Insert) → t < n → IsWanted (length on) w i → IsSound (Some t) on n w → IsSound None on n (after_enter w t i)
   sound_entered w t i within (ForAny e) h = rw e (sound_enters_own w t to_global within h.queues.global (omega arith) refl refl h)
   sound_entered w t i within (Nowhere e) h = rw e (sound_enters_own w t to_held within h.queues.held (omega arith) refl refl h)
   sound_entered w t i within (Inserted c said l x e) h = rw e (sound_enters_said w t c said within l x h)
+  sound_entered w t i within (InFront c l linux e) h = rw e (sound_enters_own w t (to_front c) within (h.queues.locals c l) (omega arith) (local_fits c Front refl) (ne_eqb (local_on c) parked_queue (λ x. omega (arith, x))) h)
 
   -- a local queue that is filled
   pub sound_filled : (w : WorldState) (q c : ℕ) → (q == parked_queue) ≡ false → c < length on → IsSound None on n w → IsSound None on n (after_fill w q c)
@@ -400,7 +436,7 @@ module _ (on : List (Option ℕ)) (n : ℕ) where
 
       go : (o : Option ℕ) → ((t : ℕ) → o ≡ Some t → front_of w.queues q ≡ Some t) → IsSound None on n (brought o w q c)
       go None f = h
-      go (Some t) f = sound_brought None on n w (Some t) q (local_on c) (f t refl) (h.queues.locals c l) (omega arith) (local_sort c) apart (ne_eqb (local_on c) parked_queue (λ x. omega (arith, x))) h t refl
+      go (Some t) f = kept_local (λ c. c < length on) (IsSound None on n) (sound_marks None on n) (after_take w q) c t l (sound_brought None on n w (Some t) q (local_on c) (f t refl) (h.queues.locals c l) (omega arith) (local_sort c) apart (ne_eqb (local_on c) parked_queue (λ x. omega (arith, x))) h t refl)
 
   -- a task that is kept
   pub sound_kept : (w : WorldState) (t : ℕ) → IsSound None on n w → IsSound None on n (after_keep w (Some t))
@@ -412,11 +448,11 @@ module _ (on : List (Option ℕ)) (n : ℕ) where
 
   -- a clock that goes on
   pub sound_later : (w : WorldState) → IsSound None on n w → IsSound None on n (later w)
-  sound_later w h = record { cpus = h.cpus; tasks = h.tasks; even = h.even; flags = h.flags; homes = h.homes; queues = h.queues; sorted = h.sorted; stamped = h.stamped; once = h.once; here = h.here; goes = h.goes; waiting = h.waiting; at_once = h.at_once }
+  sound_later w h = record { cpus = h.cpus; tasks = h.tasks; even = h.even; flags = h.flags; homes = h.homes; queues = h.queues; sorted = h.sorted; stamped = h.stamped; once = h.once; here = h.here; goes = h.goes; behind = h.behind; waiting = h.waiting; at_once = h.at_once }
 
   -- a weight
   pub sound_with_weight : (w : WorldState) (g x : ℕ) → IsSound None on n w → IsSound None on n (with_tree w (tree.with_weight w.tree g x))
-  sound_with_weight w g x h = record { cpus = h.cpus; tasks = h.tasks; even = h.even; flags = h.flags; homes = h.homes; queues = h.queues; sorted = h.sorted; stamped = h.stamped; once = h.once; here = h.here; goes = h.goes; waiting = h.waiting; at_once = h.at_once }
+  sound_with_weight w g x h = record { cpus = h.cpus; tasks = h.tasks; even = h.even; flags = h.flags; homes = h.homes; queues = h.queues; sorted = h.sorted; stamped = h.stamped; once = h.once; here = h.here; goes = h.goes; behind = h.behind; waiting = h.waiting; at_once = h.at_once }
 
   -- who leaves its processor is in no place
   pub sound_stopped : (w : WorldState) (c t : ℕ) → c < length on → t < n → get_or on c None ≡ Some t → IsSound None on n w → IsSound (Some t) (set on c None) n (after_stop w c t)
@@ -432,6 +468,7 @@ module _ (on : List (Option ℕ)) (n : ℕ) where
     once = λ u. omega (arith, h.once u, here u, sum_by-set (λ o. one_if (is_this u o)) w.cpus c None None l');
     here = rw (length-set on c None) h.here;
     goes = subst (λ k. GoesSomewhere w.queues k w.call.insert) (sym (length-set on c None)) h.goes;
+    behind = h.behind;
     waiting = waits_at_hand w t w.clock _ (rw h.tasks within) refl h.waiting;
     at_once = h.at_once;
   }
@@ -456,6 +493,7 @@ module _ (on : List (Option ℕ)) (n : ℕ) where
     once = λ u. omega (arith, h.once u, ap (λ o. one_if (is_this u o)) free', sum_by-set (λ o. one_if (is_this u o)) w.cpus c (Some t) None l', standing_popped w.queues (local_on c) t u e);
     here = rw same h.here;
     goes = subst (λ k. GoesSomewhere (after_pop w.queues (local_on c)) k w.call.insert) (sym same) (goes_on w.queues (after_pop w.queues (local_on c)) (length on) w.call.insert (λ x k o. open_without w.queues (front_of w.queues (local_on c)) x k o) h.goes);
+    behind = h.behind;
     waiting = waits_on_cpu w (after_pop w.queues (local_on c)) t _ known refl (left_place w.queues (local_on c) t e) (λ u d. popped_other w.queues (local_on c) t u e d) h.waiting;
     at_once = h.at_once;
   }
@@ -475,6 +513,50 @@ module _ (on : List (Option ℕ)) (n : ℕ) where
 -- who was taken out of its queue waits nowhere
 pub removed_place : (s : QueueState) (t : ℕ) → is_some (entry_of s t) ≡ true → t < task_count s → entry_of (after_remove s t) t ≡ None
 removed_place s t waits-here known = rw waits-here (get_or-set_same {A = Option Entry} s.entries t None None known)
+
+-- who is in a queue is a task that there is
+pub in_known : (s : QueueState) (q t : ℕ) → is_in q (entry_of s t) ≡ true → (t < task_count s) × (is_some (entry_of s t) ≡ true)
+in_known s q t e = go (cases_lt t (task_count s)) (entry_of s t) refl e
+  where
+    go : (t < task_count s) ⊎ (task_count s ≤ t) → (o : Option Entry) → entry_of s t ≡ o → is_in q o ≡ true → (t < task_count s) × (is_some (entry_of s t) ≡ true)
+    go l None x y = absurd (cc)
+    go (inl l) (Some p) x y = (l, ap is_some x)
+    go (inr past) (Some p) x y = let none : entry_of s t ≡ None = get_or_past {X = Option Entry} s.entries t None past in absurd (cc (sym x ∙ none))
+
+module _ (on : List (Option ℕ)) (n : ℕ) where
+  -- who leaves its queue, from wherever in it, runs
+  pub sound_ran : (w : WorldState) (c t : ℕ) → c < length on → get_or on c None ≡ None → is_in (local_on c) (entry_of w.queues t) ≡ true → IsSound None on n w → IsSound None (set on c (Some t)) n (after_run w c t)
+  sound_ran w c t l free e h = record {
+    cpus = ap (λ (xs : List (Option ℕ)). set xs c (Some t)) h.cpus;
+    tasks = length-set w.tasks t _ ∙ h.tasks;
+    even = tasks_removed w.queues t ∙ h.even;
+    flags = h.flags;
+    homes = rw same (homes_set w.tasks t _ (length on) l h.homes);
+    queues = queues_stay w.queues (after_remove w.queues t) (length (set on c (Some t))) (stay_removed w.queues t) (subst (λ k. HasQueues w.queues k) (sym same) h.queues);
+    sorted = sorted_removed w.queues t h.sorted;
+    stamped = stamped_removed w.queues t h.stamped;
+    once = λ u. omega (arith, h.once u, ap (λ o. one_if (is_this u o)) free', sum_by-set (λ o. one_if (is_this u o)) w.cpus c (Some t) None l', standing_removed w.queues t u here.1);
+    here = rw same h.here;
+    goes = subst (λ k. GoesSomewhere (after_remove w.queues t) k w.call.insert) (sym same) (goes_on w.queues (after_remove w.queues t) (length on) w.call.insert (λ x k o. open_removed w.queues t x k o) h.goes);
+    behind = h.behind;
+    waiting = waits_on_cpu w (after_remove w.queues t) t _ known refl (removed_place w.queues t here.1 here.0) (λ u d. removed_other w.queues t u d) h.waiting;
+    at_once = h.at_once;
+  }
+    where
+      here : (t < task_count w.queues) × (is_some (entry_of w.queues t) ≡ true)
+      here = in_known w.queues (local_on c) t e
+
+      known : t < length w.tasks
+      known = rw (h.tasks, ← h.even) here.0
+
+      same : length (set on c (Some t)) ≡ length on
+      same = length-set on c (Some t)
+
+      free' : get_or w.cpus c None ≡ None
+      free' = rw h.cpus free
+
+      l' : c < length w.cpus
+      l' = rw h.cpus l
 
 -- ---- waking and sleeping
 
@@ -517,6 +599,7 @@ module _ (on : List (Option ℕ)) (n : ℕ) where
     once = once_woken w t (rw h.flags within) after_sleep h.once;
     here = h.here;
     goes = h.goes;
+    behind = h.behind;
     waiting = waits_at_hand w t w.clock _ (rw h.tasks within) refl h.waiting;
     at_once = h.at_once;
   }
@@ -549,6 +632,7 @@ module _ (on : List (Option ℕ)) (n : ℕ) where
     once = once_asleep w t (rw h.flags within) h.once;
     here = h.here;
     goes = h.goes;
+    behind = h.behind;
     waiting = waits_asleep w t _ (rw h.tasks within) refl h.once h.waiting;
     at_once = h.at_once;
   }
@@ -567,6 +651,7 @@ module _ (on : List (Option ℕ)) (n : ℕ) where
     once = once_asleep (after_leave w t) t (rw h.flags within) (λ u. omega (arith, h.once u, standing_removed w.queues t u stands));
     here = h.here;
     goes = goes_on w.queues (after_remove w.queues t) (length on) w.call.insert (λ x k o. open_removed w.queues t x k o) h.goes;
+    behind = h.behind;
     waiting = set_since w (after_remove w.queues t) None None t _ (rw h.tasks within) (rw gone-now refl) (λ u d. ap (λ (o : Option Entry). waits_in (option_map (λ p. p.queue) o) || false) (sym (removed_other w.queues t u d))) h.waiting;
     at_once = h.at_once;
   }
@@ -597,7 +682,7 @@ waits_known s t e = go (cases_lt t (task_count s))
 module _ (hand : Option ℕ) (on : List (Option ℕ)) (n : ℕ) where
   -- what the callback at hand wanted is forgotten
   pub sound_put_out : (w : WorldState) (x : Eject) → IsSound hand on n w → IsSound hand on n (put_out w x)
-  sound_put_out w x h = record { cpus = h.cpus; tasks = h.tasks; even = h.even; flags = h.flags; homes = h.homes; queues = h.queues; sorted = h.sorted; stamped = h.stamped; once = h.once; here = h.here; goes = tt; waiting = h.waiting; at_once = λ e. refl }
+  sound_put_out w x h = record { cpus = h.cpus; tasks = h.tasks; even = h.even; flags = h.flags; homes = h.homes; queues = h.queues; sorted = h.sorted; stamped = h.stamped; once = h.once; here = h.here; goes = tt; behind = λ e. tt; waiting = h.waiting; at_once = λ e. refl }
 
   -- a task that waits goes over
   pub sound_evict : (w : WorldState) (t : ℕ) → t < n → IsSound hand on n w → IsSound hand on n (evict w t)
@@ -623,7 +708,7 @@ module _ (hand : Option ℕ) (on : List (Option ℕ)) (n : ℕ) where
 
   -- the clock of the built-in scheduler
   pub sound_overtaken : (w : WorldState) (t : ℕ) → IsSound hand on n w → IsSound hand on n (after_catch_up w t)
-  sound_overtaken w t h = record { cpus = h.cpus; tasks = h.tasks; even = h.even; flags = h.flags; homes = h.homes; queues = h.queues; sorted = h.sorted; stamped = h.stamped; once = h.once; here = h.here; goes = h.goes; waiting = h.waiting; at_once = h.at_once }
+  sound_overtaken w t h = record { cpus = h.cpus; tasks = h.tasks; even = h.even; flags = h.flags; homes = h.homes; queues = h.queues; sorted = h.sorted; stamped = h.stamped; once = h.once; here = h.here; goes = h.goes; behind = h.behind; waiting = h.waiting; at_once = h.at_once }
 
   -- its times
   pub sound_charged : (w : WorldState) (t : ℕ) → IsSound hand on n w → IsSound hand on n (after_charge w t)

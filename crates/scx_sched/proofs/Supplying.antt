@@ -11,7 +11,7 @@ use Rattle.scx_dsq.specs.Queues.{QueueState, entry_of, queue_of, is_in, len_of, 
 use Rattle.scx_dsq.specs.Calls.{push_refusal, next_entry, with_task as with_place, after_push, after_pop}
 use Rattle.scx_dsq.proofs.Facts.{front_is_known}
 use Rattle.scx_sched_world.specs.Ids.{global, builtin_queue, parked_queue, local_on}
-use Rattle.scx_sched_world.specs.World.{WorldState, is_throttled}
+use Rattle.scx_sched_world.specs.World.{WorldState, with_queues, is_throttled}
 use Rattle.scx_sched_world.specs.Tasks.{local_len, brought, put_parked, after_take}
 use Rattle.scx_sched_machine.specs.Steps.{State, Stepped, stays, one_after_other}
 use Rattle.scx_sched_machine.specs.Filling.{fill}
@@ -19,10 +19,11 @@ use Rattle.scx_sched_machine.specs.Parking.{park, park_front, if_throttled, thro
 use Rattle.scx_sched_machine.specs.Cycle.{has_local, builtin_dispatch, builtin_fill}
 use Rattle.scx_sched_machine.proofs.Choices.{keeps_if}
 use Rattle.scx_sched_world.proofs.Fronts.{front_in}
+use Rattle.scx_sched.proofs.Marks.{KeepsMarks, Anywhere, kept_local}
 use Rattle.scx_sched.proofs.Waiting.{pushed_other}
 use Rattle.scx_sched.proofs.Lengths.{len_set}
 use Rattle.scx_sched.proofs.Fronts.{IsSameIn, same_here, same_then, same_pushed, same_popped}
-use Rattle.scx_sched.proofs.Clear.{MayStart, len_same}
+use Rattle.scx_sched.proofs.Clear.{MayStart, may_marks, len_same}
 
 -- ---- how many are in a queue
 
@@ -172,6 +173,9 @@ reach_park_front s c t front =
     let others : len_of v.queues global ≡ len_of s.world.queues global = len_same global s.world.queues v.queues (left_park_front global s (local_on c) t (ne_eqb (local_on c) global (λ x. omega (arith, x))) refl).queue in
     omega (arith, len_park_front s (local_on c) t (ne_eqb parked_queue (local_on c) (λ x. omega (arith, x))) front, others)
 
+reach_marks : (c k : ℕ) → KeepsMarks Anywhere (λ v. reach c v ≤ k)
+reach_marks c k = record { there = λ w d h l. tt; homed = λ w t d l h. h; sliced = λ w t n h. h; sets = λ w a b d e h. h }
+
 -- after a fill no more tasks than before are in the local queue and the global one
 pub reach_fill : (s : State) (c : ℕ) → in_reach (fill s global c).state c ≤ in_reach s c
 unfolding fill
@@ -188,7 +192,7 @@ reach_fill s c = go (nat_lt 0 (local_len s.world c)) refl (front_of s.world.queu
         let more = len_pushed_most q (local_on c) (local_on c) t Fifo in
         let local_stays : len_of q (local_on c) ≡ len_of w.queues (local_on c) = len_same (local_on c) w.queues q (same_popped (local_on c) w.queues global (ne_eqb global (local_on c) (λ y. omega (arith, y)))) in
         let global_stays : len_of (after_push q (local_on c) t Fifo) global ≡ len_of q global = len_same global q (after_push q (local_on c) t Fifo) (same_pushed global q (local_on c) t Fifo (ne_eqb (local_on c) global (λ y. omega (arith, y)))) in
-        omega (arith, more, local_stays, global_stays, len_popped w.queues global t f)
+        kept_local Anywhere (λ v. reach c v ≤ reach c w) (reach_marks c (reach c w)) (after_take w global) c t tt (omega (arith, more, local_stays, global_stays, len_popped w.queues global t f))
 
 -- no front that may not run is left
 pub clear_clears : (j : ℕ) (s : State) (c : ℕ) → in_reach s c ≤ j → MayStart c (clear j s c).state.world
@@ -242,13 +246,20 @@ builtin_clears s c h = go (has_local s c) refl
     none_there k false x y = absurd (cc)
 
     bring : local_len p.world c ≡ 0 → (b : Bool) (o : Option ℕ) → front_of p.world.queues builtin_queue ≡ o → MayStart c (brought (cond b None o) p.world builtin_queue c)
-    bring empty true o e t x = let bad : None ≡ Some t = sym (empty_no_front p.world.queues (local_on c) empty) ∙ x in absurd (cc)
-    bring empty false None e t x = let bad : None ≡ Some t = sym (empty_no_front p.world.queues (local_on c) empty) ∙ x in absurd (cc)
-    bring empty false (Some u) e t x =
-        let q = after_pop p.world.queues builtin_queue in
-        let alone : len_of q (local_on c) ≡ 0 = len_same (local_on c) p.world.queues q (same_popped (local_on c) p.world.queues builtin_queue (ne_eqb builtin_queue (local_on c) (λ y. omega (arith, y)))) ∙ empty in
-        let same : t ≡ u = only_pushed q (local_on c) u t Fifo alone (front_in (after_push q (local_on c) u Fifo) (local_on c) t x) in
-        ap (λ k. is_throttled p.world k) same ∙ fronts_parked (len_of s.world.queues builtin_queue) s builtin_queue refl (omega arith) u e
+    bring empty true o e = λ t x. let bad : None ≡ Some t = sym (empty_no_front p.world.queues (local_on c) empty) ∙ x in absurd (cc)
+    bring empty false None e = λ t x. let bad : None ≡ Some t = sym (empty_no_front p.world.queues (local_on c) empty) ∙ x in absurd (cc)
+    bring empty false (Some u) e = kept_local Anywhere (MayStart c) (may_marks c) (after_take p.world builtin_queue) c u tt alone_there
+      where
+        q : QueueState
+        q = after_pop p.world.queues builtin_queue
+
+        alone : len_of q (local_on c) ≡ 0
+        alone = len_same (local_on c) p.world.queues q (same_popped (local_on c) p.world.queues builtin_queue (ne_eqb builtin_queue (local_on c) (λ y. omega (arith, y)))) ∙ empty
+
+        alone_there : MayStart c (with_queues p.world (after_push q (local_on c) u Fifo))
+        alone_there t x =
+            let same : t ≡ u = only_pushed q (local_on c) u t Fifo alone (front_in (after_push q (local_on c) u Fifo) (local_on c) t x) in
+            ap (λ k. is_throttled p.world k) same ∙ fronts_parked (len_of s.world.queues builtin_queue) s builtin_queue refl (omega arith) u e
 
     go : (b : Bool) → has_local s c ≡ b → MayStart c (cond b (stays s) (one_after_other (park_fronts (len_of s.world.queues builtin_queue) s builtin_queue) (fill p builtin_queue c))).state.world
     go true some = h

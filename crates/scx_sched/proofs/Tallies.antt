@@ -27,7 +27,7 @@ use Rattle.scx_sched_world.specs.declared.faults.Fault.{Fault}
 use Rattle.scx_sched_world.specs.First.{first_queues, first_world}
 use Rattle.scx_sched_world.specs.Ids.{builtin_queue, parked_queue, local_on}
 use Rattle.scx_sched_world.specs.World.{WorldState, with_queues, with_tree, with_task, task_at, waits, is_this, running}
-use Rattle.scx_sched_world.specs.Tasks.{with_since, with_slice, with_builtin, task_after_insert, after_leave, after_enter, for_cpu, brought, fill_front, on_cpu, started_at, with_new_slice, put_parked, let_go, tick_ns, ran_a_tick, after_tick, used_ms, begun_periods}
+use Rattle.scx_sched_world.specs.Tasks.{with_home, rank_by, after_local, after_take, after_run, with_since, with_slice, with_builtin, task_after_insert, after_leave, after_enter, for_cpu, brought, fill_front, on_cpu, started_at, with_new_slice, put_parked, let_go, tick_ns, ran_a_tick, after_tick, used_ms, begun_periods}
 use Rattle.scx_sched_world.specs.Helpers.{is_dispatch, with_insert, after_release, insert_or_fault, front_moved_to_local, helper_after, stored_in, world_functions}
 use Rattle.scx_sched_world.specs.Ejecting.{builtin_vtime, put_builtin}
 use Rattle.scx_sched_machine.specs.declared.events.Event.{Event}
@@ -36,7 +36,7 @@ use Rattle.scx_sched_machine.specs.Policy.{PolicyState}
 use Rattle.scx_sched_machine.specs.Start.{is_bad_shape, first_state}
 use Rattle.scx_sched_machine.specs.Steps.{State}
 use Rattle.scx_sched_machine.specs.Cycle.{cycle}
-use Rattle.scx_sched_machine.specs.Events.{refusal, tick_of, tick, event_step}
+use Rattle.scx_sched_machine.specs.Events.{refusal, tick_idle, tick_of, tick, own_step, event_step}
 use Rattle.scx_sched_machine.proofs.Choices.{keeps_if}
 use Rattle.scx_sched_machine.proofs.HelperCalls.{by_helper}
 use Rattle.scx_sched.specs.Once.{AreInQueues}
@@ -45,9 +45,10 @@ use Rattle.scx_sched.specs.Ranges.{IsFine}
 use Rattle.scx_sched.specs.Decided.{ran_in}
 use Rattle.scx_sched.proofs.Entering.{each_set}
 use Rattle.scx_sched.proofs.Fine.{stored_run, given_run, renewed_run, fine_steps}
+use Rattle.scx_sched.proofs.Marks.{KeepsMarks, Anywhere, kept_kicked_so, kept_claim, kept_local, kept_entered}
 use Rattle.scx_sched.proofs.First.{nowhere, steps_started}
 use Rattle.scx_sched.proofs.Watching.{Both, both_steps}
-use Rattle.scx_sched.proofs.Events.{IsKeptByEvents, IsTaken, Wakes, Sleeps, Ticks, Clocks, Weighs, is_taken, IsFineNow, fine_events, one_more, fine_later, fine_ticked, known_running, keeps_wake, keeps_sleep, keeps_cycle_now, keeps_count_down, keeps_clock}
+use Rattle.scx_sched.proofs.Events.{IsKeptByEvents, IsTaken, Wakes, Sleeps, Ticks, Clocks, Weighs, is_taken, IsFineNow, fine_events, one_more, fine_later, fine_ticked, known_running, keeps_wake, keeps_sleep, keeps_tick_idle, keeps_count_down, keeps_clock, keeps_with_rounds, fine_own}
 
 -- ---- queues that there are
 
@@ -125,13 +126,22 @@ module _ (n : ℕ) (ran : ℕ → ℕ) where
   tally_queues : (w : WorldState) (s : QueueState) → AreHome s → IsTallied n ran w → IsTallied n ran (with_queues w s)
   tally_queues w s homes h = (h.0, h.1, homes)
 
+  -- as the processor of a task, its slice and sets of processors change, no run time grows
+  tally_marks : KeepsMarks Anywhere (IsTallied n ran)
+  tally_marks = record {
+    there = λ w c h l. tt;
+    homed = λ w t c l h. tally_set w t (with_home (task_at w t) c) refl h;
+    sliced = λ w t k h. tally_set w t (with_slice (task_at w t) k) refl h;
+    sets = λ w a b c d h. h;
+  }
+
   tally_gone : (w : WorldState) (t : ℕ) → IsTallied n ran w → IsTallied n ran (after_leave w t)
   tally_gone w t h = tally_queues w (after_remove w.queues t) (home_removed w.queues t h.2) h
 
   tally_entered : (w : WorldState) (t : ℕ) (i : Insert) → IsTallied n ran w → IsTallied n ran (after_enter w t i)
   tally_entered w t i h =
       let x = task_after_insert (task_at w t) i in
-      keeps_if (IsTallied n ran) (nat_lt t (length w.tasks)) _ w (tally_queues (with_task w t x) (after_push w.queues i.queue t i.rank) (home_pushed w.queues i.queue t i.rank h.2) (tally_set w t x (given_run (task_at w t) i) h)) h
+      kept_entered Anywhere (IsTallied n ran) tally_marks w t i (tally_queues (with_task w t x) (after_push w.queues i.queue t (rank_by w i.rank)) (home_pushed w.queues i.queue t (rank_by w i.rank) h.2) (tally_set w t x (given_run (task_at w t) i) h)) h
 
   tally_released : (w : WorldState) (t : Option ℕ) (i : Insert) → IsTallied n ran w → IsTallied n ran (after_release w t i)
   tally_released w None i h = h
@@ -147,18 +157,21 @@ module _ (n : ℕ) (ran : ℕ → ℕ) where
 
   tally_moved : (w : WorldState) (o : Option ℕ) (q : ℕ) → IsTallied n ran w → IsTallied n ran (front_moved_to_local w o q)
   tally_moved w None q h = h
-  tally_moved w (Some t) q h = tally_between w q (local_on w.call.cpu) t h
+  tally_moved w (Some t) q h = let x = kept_local Anywhere (IsTallied n ran) tally_marks (after_take w q) w.call.cpu t tt (tally_between w q (local_on w.call.cpu) t h) in (x.0, x.1, x.2)
 
   tally_brought : (o : Option ℕ) (w : WorldState) (q c : ℕ) → IsTallied n ran w → IsTallied n ran (brought o w q c)
   tally_brought None w q c h = h
-  tally_brought (Some t) w q c h = tally_between w q (local_on c) t h
+  tally_brought (Some t) w q c h = kept_local Anywhere (IsTallied n ran) tally_marks (after_take w q) c t tt (tally_between w q (local_on c) t h)
 
   tally_helper : (w : WorldState) (f : Helper) (a : List Arg) → IsTallied n ran w → IsTallied n ran (helper_after w f a)
   tally_helper w f a h = by_helper (IsTallied n ran) w (record {
     same = h;
     faulty = λ f other. h;
     created = λ q. tally_queues w (after_create w.queues q) (home_created w.queues q h.2) h;
-    inserted = λ t i flags none. tally_inserted w None t i h;
+    inserted = λ t i flags back none. tally_inserted w None t i h;
+    late = λ linux here. h;
+    claimed = λ o. kept_claim Anywhere (IsTallied n ran) tally_marks w o h;
+    kicked = λ c k. kept_kicked_so Anywhere (IsTallied n ran) tally_marks w c k h;
     moved = λ q here low. tally_moved w (front_of w.queues q) q h;
   }) f a
 
@@ -181,6 +194,9 @@ module _ (n : ℕ) (ran : ℕ → ℕ) where
   tally_started : (w : WorldState) (c t : ℕ) → IsTallied n ran w → IsTallied n ran (started_at (Some t) w c)
   tally_started w c t h = let x = tally_set w t (on_cpu (task_at w t) c) refl h in (x.0, x.1, home_popped w.queues (local_on c) h.2)
 
+  tally_ran : (w : WorldState) (c t : ℕ) → IsTallied n ran w → IsTallied n ran (after_run w c t)
+  tally_ran w c t h = let x = tally_set w t (on_cpu (task_at w t) c) refl h in (x.0, x.1, home_removed w.queues t h.2)
+
   tally_let_go : (w : WorldState) (t : ℕ) → IsTallied n ran w → IsTallied n ran (let_go w t)
   tally_let_go w t h = let x = tally_set w t (with_since (task_at w t) (Some w.clock)) refl h in (x.0, x.1, home_removed w.queues t h.2)
 
@@ -192,10 +208,15 @@ tally_steps n ran = record {
   begun = λ m hand on w b t c l h. h;
   quiet = λ m hand on w h. h;
   cycling = λ m hand on w o h. h;
+  sets = λ m hand on w a b c d o h. h;
+  homed = λ m hand on w t c l h. tally_set n ran w t _ refl h;
+  sliced = λ m hand on w t k h. tally_set n ran w t _ refl h;
+  wants = λ m hand on w c l calm h. h;
   entered = λ m on w t i l x h. tally_entered n ran w t i h;
   filled = λ m on w q c apart l h. tally_brought n ran (fill_front w q c) w q c h;
   stopped = λ m on w c t l within runs h. tally_set n ran w t _ refl h;
   started = λ m on w c t l free front may h. tally_started n ran w c t h;
+  ran = λ m on w c t l free here may h. tally_ran n ran w c t h;
   put_parked = λ m on w t l may-not h. tally_put_parked n ran w t h;
   taken = λ m on w q t apart front h. (h.0, h.1, home_popped w.queues q h.2);
   kept = λ m on w t h. tally_set n ran w t (with_new_slice (task_at w t)) (renewed_run (task_at w t)) h;
@@ -221,6 +242,7 @@ tallied_events n e ran = record {
   woken = λ m on w t within resting h. record { one = (fine_events n e).woken m on w t within resting h.one; two = tally_set n ran w t _ refl h.two };
   let_go = λ m on w t within there h. record { one = (fine_events n e).let_go m on w t within there h.one; two = tally_let_go n ran w t h.two };
   left = λ m on w t within runnable off h. record { one = (fine_events n e).left m on w t within runnable off h.one; two = (tally_steps n ran).asleep m on (after_leave w t) t within (tally_gone n ran w t h.two) };
+  anew = λ m k on w force h. record { one = (fine_events n e).anew m k on w force h.one; two = h.two };
 }
 
 module _ (n e : ℕ) (s : State) (tasks : length s.world.tasks ≡ n) (fine : IsFineNow n e e s.world) (homes : AreHome s.world.queues) where
@@ -262,7 +284,7 @@ module _ (n e : ℕ) (s : State) (tasks : length s.world.tasks ≡ n) (fine : Is
       go : (o : Option ℕ) → running s.world c ≡ o → IsTallied n (ran_by o) (tick_of o s c).state.world
       go None at =
           let ran : ℕ → ℕ = λ u. (task_at s.world u).run_ns in
-          nobody (cycle s c None false).state.world (keeps_cycle_now n (I ran) (tallied_events n (e + 1) ran) e s c None false l at before).two
+          nobody (tick_idle s c).state.world (keeps_tick_idle n (I ran) (tallied_events n (e + 1) ran) e s c l at before).two
       go (Some t) at =
           let ran = ran_by (Some t) in
           let there = known_running n e e s.world c t l at fine in
@@ -274,8 +296,8 @@ module _ (n e : ℕ) (s : State) (tasks : length s.world.tasks ≡ n) (fine : Is
             leaves = λ up. record { one = x.leaves up; two = tally_set n ran z t _ refl (one_used t within) };
           })).two
 
-  tally_step : (v : Event) → refusal s v ≡ None → IsTallied n (λ u. (task_at s.world u).run_ns + ran_in v s.world u) (event_step s v).state.world
-  tally_step v ok = go v (is_taken s v ok)
+  tally_own : (v : Event) → refusal s v ≡ None → IsTallied n (λ u. (task_at s.world u).run_ns + ran_in v s.world u) (own_step s v).state.world
+  tally_own v ok = go v (is_taken s v ok)
     where
       ran : ℕ → ℕ
       ran = λ u. (task_at s.world u).run_ns
@@ -283,14 +305,20 @@ module _ (n e : ℕ) (s : State) (tasks : length s.world.tasks ≡ n) (fine : Is
       k : IsKeptByEvents n (I ran)
       k = tallied_events n (e + 1) ran
 
-      go : (v : Event) → IsTaken s v → IsTallied n (λ u. (task_at s.world u).run_ns + ran_in v s.world u) (event_step s v).state.world
-      go _ (Wakes t within resting) = nobody (event_step s (Wake t)).state.world (keeps_wake n (I ran) k e s t (omega (arith, within, tasks)) resting before).two
-      go _ (Sleeps t within runnable) = nobody (event_step s (Sleep t)).state.world (keeps_sleep n (I ran) k e s t (omega (arith, within, tasks)) runnable before).two
+      go : (v : Event) → IsTaken s v → IsTallied n (λ u. (task_at s.world u).run_ns + ran_in v s.world u) (own_step s v).state.world
+      go _ (Wakes t within resting) = nobody (own_step s (Wake t)).state.world (keeps_wake n (I ran) k e s t (omega (arith, within, tasks)) resting before).two
+      go _ (Sleeps t within runnable) = nobody (own_step s (Sleep t)).state.world (keeps_sleep n (I ran) k e s t (omega (arith, within, tasks)) runnable before).two
       go _ (Ticks c l) = tally_tick c l
-      go _ Clocks = nobody (event_step s Clock).state.world (keeps_clock n (I ran) k e s (record { one = fine_later n e e s.world fine; two = (tasks, (λ u. refl), homes) })).two
+      go _ Clocks = nobody (own_step s Clock).state.world (keeps_clock n (I ran) k e s (record { one = fine_later n e e s.world fine; two = (tasks, (λ u. refl), homes) })).two
       go _ (Weighs g x) =
           let same : IsTallied n ran s.world = (tasks, (λ u. refl), homes) in
-          nobody (event_step s (SetWeight g x)).state.world (keeps_if (IsTallied n ran) (is_none (weight_fault s.world.tree g x)) (with_tree s.world (with_weight s.world.tree g x)) s.world same same)
+          nobody (own_step s (SetWeight g x)).state.world (keeps_if (IsTallied n ran) (is_none (weight_fault s.world.tree g x)) (with_tree s.world (with_weight s.world.tree g x)) s.world same same)
+
+  tally_step : (v : Event) → refusal s v ≡ None → IsTallied n (λ u. (task_at s.world u).run_ns + ran_in v s.world u) (event_step s v).state.world
+  tally_step v ok =
+      let ran : ℕ → ℕ = λ u. (task_at s.world u).run_ns + ran_in v s.world u in
+      let x = fine_own n e s v tasks ok fine in
+      (keeps_with_rounds n (I ran) (tallied_events n (e + 1) ran) e (own_step s v) (record { one = x; two = tally_own v ok })).two
 
 -- after an accepted event
 pub run_times : (n : ℕ) (s : State) (v : Event) → refusal s v ≡ None → IsFineNow (length s.world.tasks) n n s.world → AreInQueues s.world → (u : ℕ) → (task_at (event_step s v).state.world u).run_ns ≡ (task_at s.world u).run_ns + ran_in v s.world u

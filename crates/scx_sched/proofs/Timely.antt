@@ -17,13 +17,14 @@ use Rattle.scx_sched_tasks.specs.declared.task.Task.{Task}
 use Rattle.scx_sched_tasks.specs.Tasks.{no_task}
 use Rattle.scx_sched_tasks.specs.Waits.{time_since, is_late, is_overdue}
 use Rattle.scx_sched_world.specs.World.{WorldState, with_task, task_at, waits, wait}
-use Rattle.scx_sched_world.specs.Tasks.{after_wake, after_stop, let_go, ran_a_tick, after_tick, task_after_insert, after_leave, after_enter, for_cpu, brought, fill_front, with_new_slice}
+use Rattle.scx_sched_world.specs.Tasks.{with_home, with_slice, after_local, after_take, after_wake, after_stop, let_go, ran_a_tick, after_tick, task_after_insert, after_leave, after_enter, for_cpu, brought, fill_front, with_new_slice}
 use Rattle.scx_sched_world.specs.Helpers.{is_dispatch, with_insert, after_release, insert_or_fault, front_moved_to_local, helper_after, stored_in, world_functions}
 use Rattle.scx_sched_world.specs.Waits.{first_overdue}
 use Rattle.scx_sched_world.specs.Ejecting.{put_builtin}
 use Rattle.scx_sched_machine.proofs.Choices.{keeps_if}
 use Rattle.scx_sched_machine.proofs.HelperCalls.{by_helper}
 use Rattle.scx_sched.specs.Kept.{IsKeptBySteps}
+use Rattle.scx_sched.proofs.Marks.{KeepsMarks, Anywhere, kept_kicked_so, kept_claim, kept_local, kept_entered}
 use Rattle.scx_sched.proofs.Waiting.{stored_since, given_since, renewed_since}
 
 abbrev pub IsInTime : ℕ → WorldState → Type 0
@@ -54,10 +55,19 @@ module _ (limit n : ℕ) where
   time_same : (w : WorldState) (t : ℕ) (x : Task) → x.since ≡ (task_at w t).since → AreInTime limit n w → AreInTime limit n (with_task w t x)
   time_same w t x same h = time_set w t x (λ force. rw same (h.1 force t)) h
 
+  -- as the processor of a task, its slice and sets of processors change, waits go on
+  time_marks : KeepsMarks Anywhere (AreInTime limit n)
+  time_marks = record {
+    there = λ w c h l. tt;
+    homed = λ w t c l h. time_same w t (with_home (task_at w t) c) refl h;
+    sliced = λ w t k h. time_same w t (with_slice (task_at w t) k) refl h;
+    sets = λ w a b c d h. h;
+  }
+
   -- ---- helpers
 
   time_entered : (w : WorldState) (t : ℕ) (i : Insert) → AreInTime limit n w → AreInTime limit n (after_enter w t i)
-  time_entered w t i h = keeps_if (AreInTime limit n) (nat_lt t (length w.tasks)) _ w (time_same w t (task_after_insert (task_at w t) i) (given_since (task_at w t) i) h) h
+  time_entered w t i h = kept_entered Anywhere (AreInTime limit n) time_marks w t i (let x = time_same w t (task_after_insert (task_at w t) i) (given_since (task_at w t) i) h in (x.0, x.1)) h
 
   time_released : (w : WorldState) (t : Option ℕ) (i : Insert) → AreInTime limit n w → AreInTime limit n (after_release w t i)
   time_released w None i h = h
@@ -69,18 +79,21 @@ module _ (limit n : ℕ) where
 
   time_moved : (w : WorldState) (o : Option ℕ) (q : ℕ) → AreInTime limit n w → AreInTime limit n (front_moved_to_local w o q)
   time_moved w None q h = h
-  time_moved w (Some t) q h = h
+  time_moved w (Some t) q h = let x = kept_local Anywhere (AreInTime limit n) time_marks (after_take w q) w.call.cpu t tt h in (x.0, x.1)
 
   time_brought : (o : Option ℕ) (w : WorldState) (q c : ℕ) → AreInTime limit n w → AreInTime limit n (brought o w q c)
   time_brought None w q c h = h
-  time_brought (Some t) w q c h = h
+  time_brought (Some t) w q c h = kept_local Anywhere (AreInTime limit n) time_marks (after_take w q) c t tt h
 
   time_helper : (w : WorldState) (f : Helper) (a : List Arg) → AreInTime limit n w → AreInTime limit n (helper_after w f a)
   time_helper w f a h = by_helper (AreInTime limit n) w (record {
     same = h;
     faulty = λ f other. h;
     created = λ q. h;
-    inserted = λ t i flags none. time_inserted w None t i h;
+    inserted = λ t i flags back none. time_inserted w None t i h;
+    late = λ linux here. h;
+    claimed = λ o. kept_claim Anywhere (AreInTime limit n) time_marks w o h;
+    kicked = λ c k. kept_kicked_so Anywhere (AreInTime limit n) time_marks w c k h;
     moved = λ q here low. time_moved w (front_of w.queues q) q h;
   }) f a
 
@@ -117,10 +130,15 @@ time_steps limit n = record {
   begun = λ m hand on w b t c l h. h;
   quiet = λ m hand on w h. h;
   cycling = λ m hand on w o h. h;
+  sets = λ m hand on w a b c d o h. h;
+  homed = λ m hand on w t c l h. time_same limit n w t _ refl h;
+  sliced = λ m hand on w t k h. time_same limit n w t _ refl h;
+  wants = λ m hand on w c l calm h. h;
   entered = λ m on w t i l x h. time_entered limit n w t i h;
   filled = λ m on w q c apart l h. time_brought limit n (fill_front w q c) w q c h;
   stopped = λ m on w c t l within runs h. time_set limit n w t _ (λ force. now_since w.clock limit) h;
   started = λ m on w c t l free front may h. time_set limit n w t _ (λ force. none_since w.clock limit) h;
+  ran = λ m on w c t l free here may h. time_set limit n w t _ (λ force. none_since w.clock limit) h;
   put_parked = λ m on w t l may-not h. keeps_if (AreInTime limit n) (nat_lt t (length w.tasks)) _ w (time_set limit n w t _ (λ force. none_since w.clock limit) h) h;
   taken = λ m on w q t apart front h. h;
   kept = λ m on w t h. time_same limit n w t (with_new_slice (task_at w t)) (renewed_since (task_at w t)) h;

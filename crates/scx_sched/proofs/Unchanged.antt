@@ -1,5 +1,5 @@
--- What no query of a program changes: the clock, whether the policy is in force, the cycle under way, and the tree of
--- weights with who is runnable in it.
+-- What no query of a program changes: the clock, whether the policy is in force, the cycle under way, the tree of
+-- weights with who is runnable in it, the rules, and who went to sleep.
 use Rattle.std.proofs.Common.{◌≡◌, ℕ, zero, suc, nat_lt, List, length, map, Option, Some, None, refl}
 use Rattle.scx_dsq.specs.Queues.{front_of}
 use Rattle.scx_isa_semantics.specs.declared.callbacks.Callback.{Callback}
@@ -19,7 +19,7 @@ use Rattle.scx_sched_world.specs.declared.call.Insert.{Insert}
 use Rattle.scx_sched_world.specs.declared.faults.Fault.{Fault}
 use Rattle.scx_sched_world.specs.declared.eject.Eject.{Eject}
 use Rattle.scx_sched_world.specs.World.{WorldState, waits, running}
-use Rattle.scx_sched_world.specs.Tasks.{after_leave, after_enter, for_cpu, brought, after_keep, put_parked}
+use Rattle.scx_sched_world.specs.Tasks.{after_local, after_take, after_leave, after_enter, for_cpu, brought, after_keep, put_parked}
 use Rattle.scx_sched_world.specs.Ejecting.{put_out, put_builtin, after_evictions, after_cut, cut_task}
 use Rattle.scx_sched_world.specs.Helpers.{is_dispatch, with_insert, after_release, insert_or_fault, front_moved_to_local, helper_after, world_functions}
 use Rattle.scx_sched_machine.specs.Steps.{State}
@@ -27,14 +27,19 @@ use Rattle.scx_sched_machine.specs.Callbacks.{call_ending}
 use Rattle.scx_sched_machine.specs.Ejecting.{moves_over, eject}
 use Rattle.scx_sched_machine.proofs.Choices.{keeps_if}
 use Rattle.scx_sched_machine.proofs.HelperCalls.{by_helper}
+use Rattle.scx_sched.proofs.Marks.{KeepsMarks, Anywhere, kept_kicked_so, kept_claim, kept_local, kept_entered}
 
 -- from the first world to the second
 abbrev pub IsAsBefore : WorldState → WorldState → Type 0
-IsAsBefore v w = (w.clock ≡ v.clock) × (w.ejected ≡ v.ejected) × (w.cycling ≡ v.cycling) × (w.tree ≡ v.tree)
+IsAsBefore v w = (w.clock ≡ v.clock) × (w.ejected ≡ v.ejected) × (w.cycling ≡ v.cycling) × (w.tree ≡ v.tree) × (w.rules ≡ v.rules) × (w.slept ≡ v.slept)
 
 module _ (v : WorldState) where
+  -- nor is it changed as the processor of a task, its slice or sets of processors are
+  pub same_marks : KeepsMarks Anywhere (IsAsBefore v)
+  same_marks = record { there = λ w c h l. tt; homed = λ w t c l h. h; sliced = λ w t n h. h; sets = λ w a b c d h. h }
+
   pub same_entered : (w : WorldState) (t : ℕ) (i : Insert) → IsAsBefore v w → IsAsBefore v (after_enter w t i)
-  same_entered w t i h = keeps_if (IsAsBefore v) (nat_lt t (length w.tasks)) _ w h h
+  same_entered w t i h = kept_entered Anywhere (IsAsBefore v) same_marks w t i h h
 
   same_released : (w : WorldState) (t : Option ℕ) (i : Insert) → IsAsBefore v w → IsAsBefore v (after_release w t i)
   same_released w None i h = h
@@ -46,14 +51,17 @@ module _ (v : WorldState) where
 
   same_moved : (w : WorldState) (o : Option ℕ) (q : ℕ) → IsAsBefore v w → IsAsBefore v (front_moved_to_local w o q)
   same_moved w None q h = h
-  same_moved w (Some t) q h = h
+  same_moved w (Some t) q h = kept_local Anywhere (IsAsBefore v) same_marks (after_take w q) w.call.cpu t tt h
 
   same_helper : (w : WorldState) (f : Helper) (a : List Arg) → IsAsBefore v w → IsAsBefore v (helper_after w f a)
   same_helper w f a h = by_helper (IsAsBefore v) w (record {
     same = h;
     faulty = λ f other. h;
     created = λ q. h;
-    inserted = λ t i flags none. same_inserted w None t i h;
+    inserted = λ t i flags back none. same_inserted w None t i h;
+    late = λ linux here. h;
+    claimed = λ o. kept_claim Anywhere (IsAsBefore v) same_marks w o h;
+    kicked = λ c k. kept_kicked_so Anywhere (IsAsBefore v) same_marks w c k h;
     moved = λ q here low. same_moved w (front_of w.queues q) q h;
   }) f a
 
@@ -88,9 +96,9 @@ module _ (v : WorldState) where
 -- nor does a run
 pub same_called : (p : Option VerifiedProgram) (b : Callback) (a : Args) (maps : Maps) (w : WorldState) → IsAsBefore w (call_ending p b a maps w).outside
 unfolding call_ending run_of
-same_called None b a maps w = (refl, refl, refl, refl)
+same_called None b a maps w = (refl, refl, refl, refl, refl, refl)
 same_called (Some p) b a maps w =
-    run_keeps (answer_to world_functions) (after_query world_functions) (IsAsBefore w) (same_query w) b p.code (suc (instruction_count p.code)) 0 (start.start (program_arguments a) maps) w (refl, refl, refl, refl)
+    run_keeps (answer_to world_functions) (after_query world_functions) (IsAsBefore w) (same_query w) b p.code (suc (instruction_count p.code)) 0 (start.start (program_arguments a) maps) w (refl, refl, refl, refl, refl, refl)
 
 -- an ejection puts the policy out of force, and changes no more of these
 pub eject_sets : (s : State) (x : Eject) → IsAsBefore (put_out s.world x) (eject s x).state.world
@@ -98,16 +106,16 @@ unfolding eject moves_over
 eject_sets s x =
     let w = put_out s.world x in
     let v = after_evictions (length w.tasks) w in
-    same_cut w (length v.cpus) v (same_evicted w (length w.tasks) w (refl, refl, refl, refl))
+    same_cut w (length v.cpus) v (same_evicted w (length w.tasks) w (refl, refl, refl, refl, refl, refl))
 
 -- ---- other small steps
 
--- as a front goes to a local queue, clock, ejection, cycle and tree stay as they are
+-- as a front goes to a local queue, clock, ejection, cycle, tree and rules stay as they are
 pub same_brought : (o : Option ℕ) (w : WorldState) (q c : ℕ) → IsAsBefore w (brought o w q c)
-same_brought None w q c = (refl, refl, refl, refl)
-same_brought (Some t) w q c = (refl, refl, refl, refl)
+same_brought None w q c = (refl, refl, refl, refl, refl, refl)
+same_brought (Some t) w q c = kept_local Anywhere (IsAsBefore w) (same_marks w) (after_take w q) c t tt (refl, refl, refl, refl, refl, refl)
 
--- as a task keeps its processor, clock, ejection, cycle and tree stay as they are
+-- as a task keeps its processor, clock, ejection, cycle, tree and rules stay as they are
 pub same_kept : (w : WorldState) (o : Option ℕ) → IsAsBefore w (after_keep w o)
-same_kept w None = (refl, refl, refl, refl)
-same_kept w (Some t) = (refl, refl, refl, refl)
+same_kept w None = (refl, refl, refl, refl, refl, refl)
+same_kept w (Some t) = (refl, refl, refl, refl, refl, refl)

@@ -21,22 +21,24 @@ use Rattle.scx_sched_world.specs.declared.eject.Eject.TheVariants as cause
 use Rattle.scx_sched_world.specs.declared.faults.Fault.{Fault}
 use Rattle.scx_sched_world.specs.declared.faults.Fault.TheVariants.{Stuck}
 use Rattle.scx_sched_world.specs.World.{WorldState}
-use Rattle.scx_sched_world.specs.Tasks.{after_leave, after_enter, for_cpu, later, begun_periods}
+use Rattle.scx_sched_world.specs.Tasks.{after_local, after_take, after_leave, after_enter, for_cpu, later, begun_periods}
 use Rattle.scx_sched_world.specs.Helpers.{first_fault, with_fault, is_dispatch, with_insert, after_release, insert_or_fault, front_moved_to_local, helper_after, world_functions}
 use Rattle.scx_sched_machine.specs.declared.events.Event.{Event}
-use Rattle.scx_sched_machine.specs.declared.events.Event.TheVariants.{Wake, Sleep, Tick, SetWeight}
-use Rattle.scx_sched_machine.specs.Steps.{State, Stepped, CallMade, with_world, one_after_other}
+use Rattle.scx_sched_machine.specs.declared.events.Event.TheVariants.{Wake, Sleep, Tick, Clock, SetWeight}
+use Rattle.scx_sched_machine.specs.Steps.{State, Stepped, CallMade, with_world, stays, one_after_other}
 use Rattle.scx_sched_machine.specs.Ejecting.{eject}
 use Rattle.scx_sched_machine.specs.Parking.{let_all_go}
 use Rattle.scx_sched_machine.specs.Events.{refusal, overdue, eject_if_stalled, clock, event_step}
+use Rattle.scx_sched_machine.specs.Rounds.{with_rounds}
 use Rattle.scx_sched_machine.specs.Callbacks.{call_ending, AreAnswered}
 use Rattle.scx_sched_machine.proofs.Choices.{keeps_if}
 use Rattle.scx_sched_machine.proofs.HelperCalls.{by_helper, IsOther, no_fault}
 use Rattle.scx_sched.specs.Causes.{HasFault, Of_helper, Of_answer, IsNeverStuck}
 use Rattle.scx_sched.specs.Decided.{tree_after}
+use Rattle.scx_sched.proofs.Marks.{KeepsMarks, Anywhere, kept_kicked_so, kept_claim, kept_local, kept_entered}
 use Rattle.scx_sched.proofs.Unchanged.{eject_sets}
 use Rattle.scx_sched.proofs.Events.{IsFineNow, IsTaken, Wakes, Sleeps, Ticks, Clocks, Weighs, is_taken}
-use Rattle.scx_sched.proofs.Blaming.{IsHonest, state_with_tree, same_eject, honest_let_all_go}
+use Rattle.scx_sched.proofs.Blaming.{IsHonest, state_with_tree, same_eject, honest_let_all_go, honest_joined, honest_stays, honest_with_rounds, no_rounds}
 use Rattle.scx_sched.proofs.Deciding.{IsHonestEvent, wake_is_honest, sleep_is_honest, tick_is_honest, weight_is_honest}
 use Rattle.scx_sched.proofs.Causing.{last_answered, computes, has_fault}
 
@@ -52,8 +54,11 @@ unstuck_faulted w f other h = go w.call.fault h
     go None k = other
     go (Some g) k = k
 
+unstuck_marks : KeepsMarks Anywhere IsUnstuck
+unstuck_marks = record { there = λ w c h l. tt; homed = λ w t c l h. h; sliced = λ w t n h. h; sets = λ w a b c d h. h }
+
 unstuck_entered : (w : WorldState) (t : ℕ) (i : Insert) → IsUnstuck w → IsUnstuck (after_enter w t i)
-unstuck_entered w t i h = keeps_if IsUnstuck (nat_lt t (length w.tasks)) _ w h h
+unstuck_entered w t i h = kept_entered Anywhere IsUnstuck unstuck_marks w t i h h
 
 unstuck_released : (w : WorldState) (t : Option ℕ) (i : Insert) → IsUnstuck w → IsUnstuck (after_release w t i)
 unstuck_released w None i h = h
@@ -65,14 +70,17 @@ unstuck_inserted w (Some f) t i other h = unstuck_faulted w f other h
 
 unstuck_moved : (w : WorldState) (o : Option ℕ) (q : ℕ) → IsUnstuck w → IsUnstuck (front_moved_to_local w o q)
 unstuck_moved w None q h = h
-unstuck_moved w (Some t) q h = h
+unstuck_moved w (Some t) q h = kept_local Anywhere IsUnstuck unstuck_marks (after_take w q) w.call.cpu t tt h
 
 unstuck_helper : (w : WorldState) (f : Helper) (a : List Arg) → IsUnstuck w → IsUnstuck (helper_after w f a)
 unstuck_helper w f a h = by_helper IsUnstuck w (record {
   same = h;
   faulty = λ f other. unstuck_faulted w f other h;
   created = λ q. h;
-  inserted = λ t i flags none. unstuck_inserted w None t i no_fault h;
+  inserted = λ t i flags back none. unstuck_inserted w None t i no_fault h;
+  late = λ linux here. h;
+  claimed = λ o. kept_claim Anywhere IsUnstuck unstuck_marks w o h;
+  kicked = λ c k. kept_kicked_so Anywhere IsUnstuck unstuck_marks w c k h;
   moved = λ q here low. unstuck_moved w (front_of w.queues q) q h;
 }) f a
 
@@ -114,7 +122,7 @@ never_stuck s r h answered before n out = go s.world.ejected refl
 apart_causes : (t k n : ℕ) → cause.Stall t k ≡ cause.Fault Stuck n → ⊥
 apart_causes t k n e = absurd (cc)
 
-clock_unstuck : (s : State) → AreAnswered (clock s).calls → IsNeverStuck s.world → IsNeverStuck (clock s).state.world
+clock_unstuck : (s : State) → AreAnswered (event_step s Clock).calls → IsNeverStuck s.world → IsNeverStuck (event_step s Clock).state.world
 unfolding clock
 clock_unstuck s answered before = go (overdue r.state) answered
   where
@@ -124,11 +132,12 @@ clock_unstuck s answered before = go (overdue r.state) answered
     r : Stepped
     r = let_all_go v
 
-    go : (o : Option ℕ) → AreAnswered (one_after_other r (eject_if_stalled o r.state)).calls → IsNeverStuck (one_after_other r (eject_if_stalled o r.state)).state.world
-    go None all n out = never_stuck v r (honest_let_all_go v) (subst AreAnswered (append-nil r.calls) all) before n out
+    go : (o : Option ℕ) → AreAnswered (with_rounds (one_after_other r (eject_if_stalled o r.state))).calls → IsNeverStuck (with_rounds (one_after_other r (eject_if_stalled o r.state))).state.world
+    go None all n out = never_stuck v (with_rounds (one_after_other r (stays r.state))) (honest_with_rounds v (one_after_other r (stays r.state)) (honest_joined v r (stays r.state) (honest_let_all_go v) (honest_stays r.state))) all before n out
     go (Some t) all n out =
         let y = cause.Stall t r.state.world.clock in
-        apart_causes t r.state.world.clock n (same_eject (eject r.state y).state.world.ejected y (cause.Fault Stuck n) (eject_sets r.state y).1 out)
+        let same = no_rounds (one_after_other r (eject r.state y)) y (eject_sets r.state y).1 in
+        apart_causes t r.state.world.clock n (same_eject (eject r.state y).state.world.ejected y (cause.Fault Stuck n) (eject_sets r.state y).1 (subst (λ (x : Stepped). x.state.world.ejected ≡ Some (cause.Fault Stuck n)) same out))
 
 -- no accepted event whose calls are answered ejects a policy for a callback that was stuck
 pub unstuck_step : (s : State) (n : ℕ) (v : Event) → refusal s v ≡ None → IsFineNow (length s.world.tasks) n n s.world → AreAnswered (event_step s v).calls → IsNeverStuck s.world → IsNeverStuck (event_step s v).state.world

@@ -1,5 +1,5 @@
 -- What holds between two events holds at first, and after each accepted event.
-use Rattle.std.proofs.Common.{◌≡◌, ℕ, ◌+◌, ◌≤◌, false, length, None, Ok, refl, sym, subst, arith}
+use Rattle.std.proofs.Common.{◌≡◌, ℕ, ◌+◌, ◌≤◌, false, length, None, Ok, refl, sym, ap, ◌∙◌, subst, arith}
 use Rattle.std.proofs.lemmas.Bool.Decides.{nat_tests}
 use Rattle.scx_weights.specs.Hierarchy.{Hierarchy}
 use Rattle.scx_sched_world.specs.declared.eject.Eject.TheVariants as cause
@@ -20,7 +20,7 @@ use Rattle.scx_sched.proofs.Blaming.{apart}
 use Rattle.scx_sched.proofs.Deciding.{accepted, decides}
 use Rattle.scx_sched.proofs.Unstuck.{unstuck_step}
 use Rattle.scx_sched.proofs.Events.{fine_step}
-use Rattle.scx_sched.proofs.First.{fine_started, time_started, policy_started, force_started}
+use Rattle.scx_sched.proofs.First.{fine_started, time_started, policy_started, rules_started, force_started}
 use Rattle.scx_sched.proofs.Timely.{IsInTime}
 use Rattle.scx_sched.proofs.Watching.{time_step}
 use Rattle.scx_sched.proofs.Tallies.{queues_first, queues_there}
@@ -36,7 +36,9 @@ valid_first p tree cpus t shape flags timeout programs e few =
     record {
       over = omega arith;
       pushes = omega (arith, few);
-      still = still_first p tree cpus t e;
+      still = (still_first p tree cpus t e).0;
+      untold = (still_first p tree cpus t e).1;
+      rules = rules_started p tree cpus t e ∙ sym (ap (λ (q : PolicyState). q.rules) (policy_started p tree cpus t e));
       timeout = subst (λ (q : PolicyState). IsTimeout q.timeout_ms) (sym (policy_started p tree cpus t e)) timeout;
       programs = subst (λ (q : PolicyState). AreAs q.callbacks) (sym (policy_started p tree cpus t e)) programs;
       timely = time_started t.policy.timeout_ms p tree cpus t shape e;
@@ -55,7 +57,9 @@ valid_step s n v e h answered few =
     record {
       over = grind (arith, nat_tests, a.not_over, h.over);
       pushes = omega (arith, few, h.pushes);
-      still = still_step s v h.still;
+      still = (still_step s v (h.still, h.untold)).0;
+      untold = (still_step s v (h.still, h.untold)).1;
+      rules = (decides s n v a.taken h.fine).rules ∙ (h.rules ∙ sym (ap (λ (q : PolicyState). q.rules) same));
       timeout = subst (λ (q : PolicyState). IsTimeout q.timeout_ms) (sym same) h.timeout;
       programs = subst (λ (q : PolicyState). AreAs q.callbacks) (sym same) h.programs;
       unstuck = unstuck_step s n v a.taken h.fine answered h.unstuck;

@@ -1,5 +1,5 @@
 -- Who has a wait is in a queue, or is the task at hand: how each small step of a world keeps that.
-use Rattle.std.proofs.Common.{◌≡◌, ℕ, ◌+◌, ◌<◌, ◌≤◌, Bool, true, false, ◌==◌, ◌||◌, ◌⊎◌, inl, inr, List, length, set, get_or, Option, Some, None, is_some, is_none, option_map, not, if◌then◌else◌, refl, sym, ap, ◌∙◌, arith}
+use Rattle.std.proofs.Common.{◌≡◌, ℕ, ◌+◌, ◌<◌, ◌≤◌, Bool, true, false, ◌==◌, ◌&&◌, ◌||◌, ◌⊎◌, inl, inr, List, length, set, get_or, Option, Some, None, is_some, is_none, option_map, not, if◌then◌else◌, refl, sym, ap, ◌∙◌, arith}
 use Rattle.std.proofs.lemmas.Bool.{cases_eq, cases_lt, eq-eqb, ne_eqb}
 use Rattle.std.proofs.lemmas.List.{get_or-set_same, get_or-set_other, set_past}
 use Rattle.scx_dsq.specs.Queues.{QueueState, task_count, entry_of, queue_of, front_of}
@@ -7,7 +7,7 @@ use Rattle.scx_dsq.specs.Calls.{push_refusal, next_entry, with_task as with_plac
 use Rattle.scx_dsq.specs.declared.entries.Entry.{Entry}
 use Rattle.scx_dsq.specs.Laws.{one_if, standing}
 use Rattle.scx_dsq.specs.declared.entries.Rank.{Rank}
-use Rattle.scx_dsq.specs.declared.entries.Rank.TheVariants.{Fifo, Vtime}
+use Rattle.scx_dsq.specs.declared.entries.Rank.TheVariants.{Fifo, Front, Vtime}
 use Rattle.scx_isa_semantics.specs.declared.host_tables.Field.{Field}
 use Rattle.scx_isa_semantics.specs.declared.host_tables.Field.TheVariants.{Pid, Weight, Slice, DsqVtime, PrevCpu, Group, RunNs}
 use Rattle.scx_sched_tasks.specs.declared.task.Task.{Task}
@@ -158,10 +158,11 @@ stored_since x RunNs k = refl
 
 -- an insert
 pub given_since : (x : Task) (i : Insert) → (task_after_insert x i).since ≡ x.since
-given_since x i = vtime i.rank ∙ keeps_if (λ (y : Task). y.since ≡ x.since) (i.slice == 0) x _ refl refl
+given_since x i = vtime i.rank ∙ keeps_if (λ (y : Task). y.since ≡ x.since) (i.slice == 0) _ _ (keeps_if (λ (y : Task). y.since ≡ x.since) (i.refills && (x.slice == 0)) _ x refl refl) refl
   where
-    vtime : (r : Rank) → (given_vtime (given_slice x i.slice) r).since ≡ (given_slice x i.slice).since
+    vtime : (r : Rank) → (given_vtime (given_slice x i) r).since ≡ (given_slice x i).since
     vtime Fifo = refl
+    vtime Front = refl
     vtime (Vtime k) = refl
 
 -- a slice

@@ -13,7 +13,7 @@ use Rattle.scx_sched_machine.specs.Policy.{PolicyState}
 use Rattle.scx_sched_machine.specs.Steps.{State, with_world}
 use Rattle.scx_sched_machine.specs.Parking.{let_all_go}
 use Rattle.scx_sched_machine.specs.Ejecting.{eject}
-use Rattle.scx_sched_machine.specs.Events.{refusal, overdue, eject_if_stalled, clock, event_step}
+use Rattle.scx_sched_machine.specs.Events.{refusal, overdue, eject_if_stalled, clock, own_step, event_step}
 use Rattle.scx_sched_machine.proofs.Choices.{keeps_if}
 use Rattle.scx_sched.specs.Kept.{IsKeptBySteps}
 use Rattle.scx_sched.specs.Ranges.{IsFine}
@@ -21,7 +21,7 @@ use Rattle.scx_sched.proofs.Unchanged.{eject_sets}
 use Rattle.scx_sched.proofs.Blaming.{apart, honest_let_all_go}
 use Rattle.scx_sched.proofs.Fine.{fine_steps}
 use Rattle.scx_sched.proofs.Timely.{IsInTime, AreInTime, time_woken, time_ticked, time_let_go, time_stopped, time_steps, nobody_late}
-use Rattle.scx_sched.proofs.Events.{IsKeptByEvents, IsKeptByTick, IsTaken, Wakes, Sleeps, Ticks, Clocks, Weighs, is_taken, IsFineNow, fine_events, one_more, fine_ticked, keeps_wake, keeps_sleep, keeps_tick}
+use Rattle.scx_sched.proofs.Events.{IsKeptByEvents, IsKeptByTick, IsTaken, Wakes, Sleeps, Ticks, Clocks, Weighs, is_taken, IsFineNow, fine_events, one_more, fine_ticked, fine_clock, fine_reweighed, keeps_wake, keeps_sleep, keeps_tick, keeps_with_rounds}
 
 -- ---- two facts at once
 
@@ -38,10 +38,15 @@ both_steps n I J a b = record {
   begun = λ m hand on w x t c l h. record { one = a.begun m hand on w x t c l h.one; two = b.begun m hand on w x t c l h.two };
   quiet = λ m hand on w h. record { one = a.quiet m hand on w h.one; two = b.quiet m hand on w h.two };
   cycling = λ m hand on w o h. record { one = a.cycling m hand on w o h.one; two = b.cycling m hand on w o h.two };
+  sets = λ m hand on w c x y z o h. record { one = a.sets m hand on w c x y z o h.one; two = b.sets m hand on w c x y z o h.two };
+  homed = λ m hand on w t c l h. record { one = a.homed m hand on w t c l h.one; two = b.homed m hand on w t c l h.two };
+  sliced = λ m hand on w t k h. record { one = a.sliced m hand on w t k h.one; two = b.sliced m hand on w t k h.two };
+  wants = λ m hand on w c l calm h. record { one = a.wants m hand on w c l calm h.one; two = b.wants m hand on w c l calm h.two };
   entered = λ m on w t i l x h. record { one = a.entered m on w t i l x h.one; two = b.entered m on w t i l x h.two };
   filled = λ m on w q c apart l h. record { one = a.filled m on w q c apart l h.one; two = b.filled m on w q c apart l h.two };
   stopped = λ m on w c t l within runs h. record { one = a.stopped m on w c t l within runs h.one; two = b.stopped m on w c t l within runs h.two };
   started = λ m on w c t l free front may h. record { one = a.started m on w c t l free front may h.one; two = b.started m on w c t l free front may h.two };
+  ran = λ m on w c t l free here may h. record { one = a.ran m on w c t l free here may h.one; two = b.ran m on w c t l free here may h.two };
   put_parked = λ m on w t l may-not h. record { one = a.put_parked m on w t l may-not h.one; two = b.put_parked m on w t l may-not h.two };
   taken = λ m on w q t apart front h. record { one = a.taken m on w q t apart front h.one; two = b.taken m on w q t apart front h.two };
   kept = λ m on w t h. record { one = a.kept m on w t h.one; two = b.kept m on w t h.two };
@@ -65,6 +70,7 @@ watched_events limit n e = record {
   woken = λ m on w t within resting h. record { one = (fine_events n e).woken m on w t within resting h.one; two = time_woken limit n w t h.two };
   let_go = λ m on w t within there h. record { one = (fine_events n e).let_go m on w t within there h.one; two = time_let_go limit n w t h.two };
   left = λ m on w t within runnable off h. record { one = (fine_events n e).left m on w t within runnable off h.one; two = (time_steps limit n).asleep m on (after_leave w t) t within h.two };
+  anew = λ m k on w force h. record { one = (fine_events n e).anew m k on w force h.one; two = h.two };
 }
 
 -- ---- the clock
@@ -96,7 +102,7 @@ time_clock limit s is = go (overdue r) refl
 
 -- after any accepted event
 pub time_step : (limit n e : ℕ) (s : State) (v : Event) → length s.world.tasks ≡ n → refusal s v ≡ None → limit ≡ s.policy.timeout_ms → IsFineNow n e e s.world → IsInTime limit s.world → IsInTime limit (event_step s v).state.world
-time_step limit n e s v tasks ok is fine time = go v (is_taken s v ok)
+time_step limit n e s v tasks ok is fine time = let x = (keeps_with_rounds n I k e (own_step s v) (go v (is_taken s v ok))).two in x.1
   where
     I : ℕ → Option ℕ → List (Option ℕ) → WorldState → Type 0
     I = IsWatched limit n (e + 1)
@@ -120,9 +126,14 @@ time_step limit n e s v tasks ok is fine time = go v (is_taken s v ok)
           leaves = λ up. record { one = x.leaves up; two = time_stopped limit n (used_ms (after_tick s.world t) t) c t y };
         }
 
-    go : (v : Event) → IsTaken s v → IsInTime limit (event_step s v).state.world
-    go _ (Wakes t within resting) = let x = (keeps_wake n I k e s t (omega (arith, within, tasks)) resting h).two in x.1
-    go _ (Sleeps t within runnable) = let x = (keeps_sleep n I k e s t (omega (arith, within, tasks)) runnable h).two in x.1
-    go _ (Ticks c l) = let x = (keeps_tick n I k e s c l h (λ t at. ticks c t l at)).two in x.1
-    go _ Clocks = time_clock limit s is
-    go _ (Weighs g x) = keeps_if (IsInTime limit) (is_none (weight_fault s.world.tree g x)) (with_tree s.world (with_weight s.world.tree g x)) s.world time time
+    go : (v : Event) → IsTaken s v → I (e + 1) None (own_step s v).state.world.cpus (own_step s v).state.world
+    go _ (Wakes t within resting) = k.steps.more e None _ _ (keeps_wake n I k e s t (omega (arith, within, tasks)) resting h)
+    go _ (Sleeps t within runnable) = keeps_sleep n I k e s t (omega (arith, within, tasks)) runnable h
+    go _ (Ticks c l) = keeps_tick n I k e s c l h (λ t at. ticks c t l at)
+    go _ Clocks =
+        let x = fine_clock n e s fine in
+        record { one = (fine_events n (e + 1)).steps.more e None _ _ x; two = (x.sound.tasks, time_clock limit s is) }
+    go _ (Weighs g x) = record {
+      one = (fine_events n (e + 1)).steps.more e None _ _ (fine_reweighed n (e + 1) e s.world g x (one_more n e e s.world fine));
+      two = keeps_if (AreInTime limit n) (is_none (weight_fault s.world.tree g x)) (with_tree s.world (with_weight s.world.tree g x)) s.world old old;
+    }

@@ -7,7 +7,7 @@ use Rattle.scx_dsq.specs.declared.entries.Rank.TheVariants.{Fifo, Vtime}
 use Rattle.scx_sched_world.specs.declared.call.Insert.{Insert}
 use Rattle.scx_sched_world.specs.Ids.{local_on, builtin_queue, parked_queue}
 use Rattle.scx_sched_world.specs.World.{WorldState, waits}
-use Rattle.scx_sched_world.specs.Tasks.{queue_for}
+use Rattle.scx_sched_world.specs.Tasks.{queue_for, rank_by}
 use Rattle.scx_sched_world.specs.Helpers.{is_dispatch, insert_fault}
 use Rattle.scx_sched_world.specs.Ejecting.{builtin_vtime}
 use Rattle.scx_sched.specs.Kept.{IsWanted}
@@ -18,7 +18,7 @@ pub record IsPushAccepted (n e m : ℕ) : Type 0 where
   -- of a task that is put
   pub put : (on : List (Option ℕ)) (w : WorldState) (t : ℕ) (i : Insert)
       → t < n → IsWanted (length on) w i → IsFine n e m (Some t) on w
-      → push_refusal w.queues i.queue t i.rank ≡ None
+      → push_refusal w.queues i.queue t (rank_by w i.rank) ≡ None
   -- of a task that is put under the built-in scheduler
   pub put_builtin : (on : List (Option ℕ)) (w : WorldState) (t : ℕ)
       → t < n → IsFine n e m (Some t) on w
@@ -43,4 +43,5 @@ pub record IsPushAccepted (n e m : ℕ) : Type 0 where
       (i : Insert) (flags : ℕ)
       → is_dispatch w.call.callback ≡ true → insert_fault w (Some t) i flags ≡ None
       → IsFine n e m hand on w
-      → push_refusal (after_remove w.queues t) (queue_for w.call.cpu i.queue) t i.rank ≡ None
+      → push_refusal (after_remove w.queues t) (queue_for w.call.cpu i.queue) t (rank_by w i.rank)
+      ≡ None

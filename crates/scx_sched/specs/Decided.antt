@@ -1,6 +1,6 @@
 -- What events alone decide, whatever callbacks do: the clock, who is runnable, the weights of
--- groups and what they have used of their quotas. The policy stays the one that it was, and once it
--- is ejected none of it is called.
+-- groups and what they have used of their quotas. The policy and the rules stay as they were, and once
+-- the policy is ejected none of it is called.
 use Rattle.std.specs.Prelude.{◌≡◌, ℕ, ◌+◌, true, false, [], Option, Some, None, if◌then◌else◌}
 use Rattle.scx_weights.specs.Hierarchy.{Hierarchy, with_task, with_weight}
 use Rattle.scx_weights.specs.Limits.{with_use, with_turn}
@@ -45,6 +45,7 @@ pub record EventsDecide (s : SimState) (e : Event) (t : SimState) : Type 0 where
   pub clock : t.state.world.clock ≡ clock_after e s.state.world.clock
   pub tree : t.state.world.tree ≡ tree_after e s.state.world
   pub policy : t.state.policy ≡ s.state.policy
+  pub rules : t.state.world.rules ≡ s.state.world.rules
   pub silent : (x : Eject) → s.state.world.ejected ≡ Some x → calls_of s e ≡ []
   pub ran : (u : ℕ)
       → (task_at t.state.world u).run_ns

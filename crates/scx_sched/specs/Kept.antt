@@ -1,25 +1,40 @@
 -- What each small step of a world keeps, so that whole events keep it. The fact is one of the task
 -- that is in no place, of who runs where, and of the world.
 use Rattle.std.specs.Prelude.{◌≡◌, ℕ, ◌+◌, ◌==◌, ◌<◌, true, false, List, length, Option, Some, None, is_some, slice_index_or, slice_set}
-use Rattle.scx_dsq.specs.Queues.{front_of}
+use Rattle.scx_dsq.specs.Queues.{front_of, entry_of, is_in}
 use Rattle.scx_weights.specs.Limits.{is_throttled}
 use Rattle.scx_isa_semantics.specs.declared.callbacks.Callback.{Callback}
 use Rattle.scx_isa_semantics.specs.Effects.{Query}
 use Rattle.scx_vm.specs.Host.{after_query}
 use Rattle.scx_sched_world.specs.declared.call.Insert.{Insert}
+use Rattle.scx_sched_world.specs.declared.cpu_set.CpuSet.{CpuSet}
 use Rattle.scx_sched_world.specs.declared.eject.Eject.{Eject}
 use Rattle.scx_sched_world.specs.Ids.{parked_queue, local_on}
-use Rattle.scx_sched_world.specs.World.{WorldState, with_cycling, at_callback, quiet}
-use Rattle.scx_sched_world.specs.Tasks.{for_cpu, to_held, to_global, after_sleep, after_enter, after_fill, after_stop, started_at, after_keep, put_parked, after_take}
-use Rattle.scx_sched_world.specs.Helpers.{world_functions}
+use Rattle.scx_sched_world.specs.World.{WorldState, with_cycling, is_by_linux, task_at, with_task, at_callback, quiet}
+use Rattle.scx_sched_world.specs.Tasks.{with_slice, with_home, for_cpu, to_held, to_global, to_local, to_front, after_sleep, after_enter, after_fill, after_stop, started_at, after_run, after_keep, put_parked, after_take}
+use Rattle.scx_sched_world.specs.Helpers.{is_dispatch, with_insert, world_functions}
 use Rattle.scx_sched_world.specs.Ejecting.{put_out, evict, cut_task, put_builtin, after_catch_up, after_charge}
 
--- where the task at hand may come to wait: for any processor, held, or where a callback inserted it
+-- the world with these sets of processors that are claimed, kicked and preempted, of those that the
+-- callback at hand claimed, and with that task gone to sleep
+abbrev pub with_sets :
+    WorldState → (claimed kicked preempted claims : CpuSet) (slept : Option ℕ) → WorldState
+with_sets w claimed kicked preempted claims slept = record w {
+  slept = slept;
+  claimed = claimed;
+  kicked = kicked;
+  preempted = preempted;
+  call = record w.call { claims = claims };
+}
+
+-- where the task at hand may come to wait: for any processor, held, where a callback inserted it,
+-- or, under Linux rules, at the front of a local queue
 pub data IsWanted (cpus : ℕ) (w : WorldState) (i : Insert) : Type 0 where
   ForAny : i ≡ to_global → IsWanted cpus w i
   Nowhere : i ≡ to_held → IsWanted cpus w i
   Inserted : (c : ℕ) (said : Insert)
       → c < cpus → w.call.insert ≡ Some said → i ≡ for_cpu c said → IsWanted cpus w i
+  InFront : (c : ℕ) → c < cpus → is_by_linux w ≡ true → i ≡ to_front c → IsWanted cpus w i
 
 -- The fact has a number, which grows by one as a task is charged, and may be said too high: an
 -- event charges one task at most.
@@ -38,6 +53,18 @@ pub record IsKeptBySteps (n : ℕ) (I : ℕ → Option ℕ → List (Option ℕ)
       → I m hand on w → I m hand on (quiet w)
   pub cycling : (m : ℕ) (hand : Option ℕ) (on : List (Option ℕ)) (w : WorldState) (o : Option ℕ)
       → I m hand on w → I m hand on (with_cycling w o)
+  -- Linux rules: sets of processors, the processor of a task, and a slice
+  pub sets : (m : ℕ) (hand : Option ℕ) (on : List (Option ℕ)) (w : WorldState)
+      (claimed kicked preempted claims : CpuSet) (slept : Option ℕ)
+      → I m hand on w → I m hand on (with_sets w claimed kicked preempted claims slept)
+  pub homed : (m : ℕ) (hand : Option ℕ) (on : List (Option ℕ)) (w : WorldState) (t c : ℕ)
+      → c < length on → I m hand on w → I m hand on (with_task w t (with_home (task_at w t) c))
+  pub sliced : (m : ℕ) (hand : Option ℕ) (on : List (Option ℕ)) (w : WorldState) (t slice : ℕ)
+      → I m hand on w → I m hand on (with_task w t (with_slice (task_at w t) slice))
+  pub wants : (m : ℕ) (hand : Option ℕ) (on : List (Option ℕ)) (w : WorldState) (c : ℕ)
+      → c < length on → is_dispatch w.call.callback ≡ false → I m hand on w
+      → I m hand on (with_insert w (to_local c))
+  -- tasks come to wait, to run, and leave
   pub entered : (m : ℕ) (on : List (Option ℕ)) (w : WorldState) (t : ℕ) (i : Insert)
       → t < n → IsWanted (length on) w i → I m (Some t) on w → I m None on (after_enter w t i)
   pub filled : (m : ℕ) (on : List (Option ℕ)) (w : WorldState) (q c : ℕ)
@@ -49,6 +76,10 @@ pub record IsKeptBySteps (n : ℕ) (I : ℕ → Option ℕ → List (Option ℕ)
       → c < length on → slice_index_or on c None ≡ None → front_of w.queues (local_on c) ≡ Some t
       → is_throttled w.tree t ≡ false → I m None on w
       → I m None (slice_set on c (Some t)) (started_at (Some t) w c)
+  pub ran : (m : ℕ) (on : List (Option ℕ)) (w : WorldState) (c t : ℕ)
+      → c < length on → slice_index_or on c None ≡ None
+      → is_in (local_on c) (entry_of w.queues t) ≡ true → is_throttled w.tree t ≡ false
+      → I m None on w → I m None (slice_set on c (Some t)) (after_run w c t)
   pub put_parked : (m : ℕ) (on : List (Option ℕ)) (w : WorldState) (t : ℕ)
       → t < n → is_throttled w.tree t ≡ true → I m (Some t) on w → I m None on (put_parked w t)
   pub taken : (m : ℕ) (on : List (Option ℕ)) (w : WorldState) (q t : ℕ)

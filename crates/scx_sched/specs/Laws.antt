@@ -1,7 +1,7 @@
 -- Laws of the machine.
-use Rattle.std.specs.Prelude.{◌≡◌, ℕ, ◌+◌, ◌<◌, length, Option, None}
+use Rattle.std.specs.Prelude.{◌≡◌, false, ℕ, ◌+◌, ◌<◌, length, Option, None}
 use Rattle.scx_sched_machine.specs.declared.events.Event.{Event}
-use Rattle.scx_sched_machine.specs.Steps.{State}
+use Rattle.scx_sched_machine.specs.Steps.{State, is_by_linux}
 use Rattle.scx_sched_world.specs.World.{running}
 use Rattle.scx_sched_machine.specs.Events.{refusal, event_step, tick}
 use Rattle.scx_sched_world.specs.declared.eject.Eject.{Eject}
@@ -19,10 +19,11 @@ StepKeepsFine =
     → length s.world.tasks ≡ n → refusal s v ≡ None → IsFine n e e None s.world.cpus s.world
     → IsFine n (e + 1) (e + 1) None (event_step s v).state.world.cpus (event_step s v).state.world
 
--- after a tick that leaves its processor idle, no task is left behind for it
+-- by plain rules, after a tick that leaves its processor idle, no task is left behind for it
 abbrev pub TickLeavesNothing : Type 0
 TickLeavesNothing =
-    (n e : ℕ) (s : State) (c : ℕ) → c < length s.world.cpus → IsFine n e e None s.world.cpus s.world
+    (n e : ℕ) (s : State) (c : ℕ)
+    → is_by_linux s ≡ false → c < length s.world.cpus → IsFine n e e None s.world.cpus s.world
     → running (tick s c).state.world c ≡ None → LeavesNothing (tick s c).state.world c
 
 -- each small step that an event is made of keeps what holds inside of it

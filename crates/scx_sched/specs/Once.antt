@@ -7,11 +7,11 @@ use Rattle.scx_dsq.specs.Calls.{clashes}
 use Rattle.scx_dsq.specs.Entries.{same_sort}
 use Rattle.scx_dsq.specs.declared.entries.Entry.{Entry}
 use Rattle.scx_dsq.specs.declared.entries.Rank.{Rank}
-use Rattle.scx_dsq.specs.declared.entries.Rank.TheVariants.{Fifo, Vtime}
+use Rattle.scx_dsq.specs.declared.entries.Rank.TheVariants.{Fifo, Front, Vtime}
 use Rattle.scx_dsq.specs.Laws.{one_if, standing, IsStamped}
 use Rattle.scx_sched_world.specs.declared.call.Insert.{Insert}
 use Rattle.scx_sched_world.specs.Ids.{policy_end, global, held_queue, builtin_queue, parked_queue, local_on}
-use Rattle.scx_sched_world.specs.World.{WorldState, task_at, is_this, is_runnable}
+use Rattle.scx_sched_world.specs.World.{WorldState, is_by_linux, task_at, is_this, is_runnable}
 use Rattle.scx_sched_world.specs.Tasks.{queue_for}
 use Rattle.scx_sched_world.specs.Helpers.{is_dispatch}
 use Rattle.scx_sched.specs.Waits.{HasWaits}
@@ -76,6 +76,15 @@ GoesSomewhere s cpus (Some i) =
     → c < cpus
     → IsOpen s (queue_for c i.queue) i.rank × ((queue_for c i.queue == parked_queue) ≡ false)
 
+-- an insert that doesn't go to the front of its queue
+abbrev pub IsBehind : Rank → Type 0
+IsBehind r = r ≡ Front → ⊥
+
+-- where the callback wants its task to go, if it said so, it doesn't go to the front
+abbrev pub GoesBehind : Option Insert → Type 0
+GoesBehind None = Unit {0}
+GoesBehind (Some i) = IsBehind i.rank
+
 -- what holds of a world of so many tasks with these on its processors, and that task in no place
 pub record IsSound (hand : Option ℕ) (on : List (Option ℕ)) (n : ℕ) (w : WorldState) : Type 0 where
   pub cpus : w.cpus ≡ on
@@ -89,5 +98,6 @@ pub record IsSound (hand : Option ℕ) (on : List (Option ℕ)) (n : ℕ) (w : W
   pub once : IsOnce hand w
   pub here : w.call.cpu < length on
   pub goes : GoesSomewhere w.queues (length on) w.call.insert
+  pub behind : is_by_linux w ≡ false → GoesBehind w.call.insert
   pub waiting : HasWaits hand w
   pub at_once : is_dispatch w.call.callback ≡ true → w.call.insert ≡ None

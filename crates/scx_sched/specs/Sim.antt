@@ -74,6 +74,8 @@ pub record IsValid (state : State) (events : ℕ) : Type 0 where
   pub over : events ≤ max_events
   pub pushes : state.world.queues.pushes ≤ start_pushes + event_pushes * events
   pub still : state.world.cycling ≡ None
+  pub untold : state.world.slept ≡ None
+  pub rules : state.world.rules ≡ state.policy.rules
   pub timeout : IsTimeout state.policy.timeout_ms
   pub programs : AreAs state.policy.callbacks
   pub timely : IsTimely state

@@ -1,3 +1,4 @@
+ghost use Rattle.scx_sched.specs.Left.{RoundsLeaveNothing};
 ghost use Rattle.scx_sched.specs.Laws.{StepKeepsFine, TickLeavesNothing, StepsKeepFine, NoPushIsRefused, EjectionLosesNobody};
 
 /// An accepted event keeps each task in its one place. The function does nothing: its contract is the
@@ -6,7 +7,7 @@ pub fn events_keep_places()
     ensures { StepKeepsFine }
 {}
 
-/// A processor that a tick leaves idle has no task waiting for it. The function does nothing: its
+/// By plain rules a processor that a tick leaves idle has no task waiting for it. The function does nothing: its
 /// contract is the law.
 pub fn nothing_is_left_behind()
     ensures { TickLeavesNothing }
@@ -24,4 +25,11 @@ pub fn ejections_lose_nobody()
 pub fn no_push_is_refused()
     ensures kept { StepsKeepFine }
     ensures accepted { NoPushIsRefused }
+{}
+
+/// By Linux rules no CPU is kicked any more, and no idle CPU has a task in its local queue, once the rounds of an
+/// event are over and the policy is in force, unless the event made as many rounds as it may. The function does
+/// nothing: its contract is the law.
+pub fn no_idle_processor_is_forgotten()
+    ensures { RoundsLeaveNothing }
 {}

@@ -20,7 +20,8 @@ mod places;
 mod sim;
 
 pub use laws::{
-    ejections_lose_nobody, events_keep_places, no_push_is_refused, nothing_is_left_behind,
+    ejections_lose_nobody, events_keep_places, no_idle_processor_is_forgotten, no_push_is_refused,
+    nothing_is_left_behind,
 };
 pub use places::Place;
 pub use scx_sched_machine::{

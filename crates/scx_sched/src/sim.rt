@@ -6,6 +6,7 @@ ghost use Rattle.scx_sched_machine.specs.Hearing.{Hears};
 ghost use Rattle.scx_sched_machine.specs.Notes.{Takes};
 ghost use Rattle.scx_sched_machine.specs.Callbacks.{AreAnswered};
 ghost use Rattle.scx_sched_machine.specs.Policy.{IsTimeout, AreAs};
+ghost use Rattle.scx_sched_machine.specs.Steps.{is_by_linux};
 ghost use Rattle.scx_sched_machine.specs.Start.{is_bad_shape, IsRefusal, start_calls, calls_before, AreAnsweredBefore};
 ghost use Rattle.scx_sched.specs.Causes.{EjectsOnce, IsNeverStuck};
 ghost use Rattle.scx_sched.specs.Decided.{EventsDecide};
@@ -124,7 +125,8 @@ impl Sim {
         ensures never_stuck { IsNeverStuck self.new.state.world }
         ensures cause { OnOk result (EjectsOnce self.old event self.new) }
         ensures decided { OnOk result (EventsDecide self.old event self.new) }
-        ensures idle { OnOk result (LeavesNothingIdle event self.new.state.world) }
+        ensures idle { OnOk result (is_by_linux self.old.state ≡ false
+            → LeavesNothingIdle event self.new.state.world) }
     {
         self.step_heard(event, sink)
     }
@@ -148,7 +150,8 @@ impl Sim {
         ensures never_stuck { IsNeverStuck self.new.state.world }
         ensures cause { OnOk result (EjectsOnce self.old event self.new) }
         ensures decided { OnOk result (EventsDecide self.old event self.new) }
-        ensures idle { OnOk result (LeavesNothingIdle event self.new.state.world) }
+        ensures idle { OnOk result (is_by_linux self.old.state ≡ false
+            → LeavesNothingIdle event self.new.state.world) }
     {
         if let Some(refused) = self.refusal(event) {
             return Err(refused);
@@ -184,8 +187,9 @@ impl Sim {
     /// has a wait where it is in a queue and not parked, and no longer one than a policy in force may let it
     /// have; no group with a quota has used as much as that and one millisecond for each processor in its
     /// period; the times of the built-in scheduler are far from where they would be cut off, and 0 until it
-    /// begins; stamps of queues are far from theirs; no scheduling cycle is under way; and each program of the
-    /// policy was verified as its callback. The function does nothing: its contract is the law.
+    /// begins; stamps of queues are far from theirs; no scheduling cycle is under way, and no task is kept as one
+    /// that went to sleep; the rules are those of the policy; and each program of the policy was verified as its
+    /// callback. The function does nothing: its contract is the law.
     #[tactic(auto, using(crate::proofs::Bounded::are_bounded))]
     pub fn is_sound(&self)
         ensures once { IsOnce None self.now.state.world }
@@ -196,12 +200,21 @@ impl Sim {
         ensures bounded { AreBounded self.now.state.world }
         ensures times { (t : ℕ) → (task_at self.now.state.world t).builtin < 2 ^ 63 }
         ensures still { self.now.state.world.cycling ≡ None }
+        ensures untold { self.now.state.world.slept ≡ None }
+        ensures rules { self.now.state.world.rules ≡ self.now.state.policy.rules }
         ensures fresh { self.now.state.world.ejected ≡ None → IsFresh self.now.state.world }
-        ensures stamps { self.now.state.world.queues.pushes < 2 ^ 52 }
+        ensures stamps { self.now.state.world.queues.pushes < 2 ^ 60 }
         ensures timeout { IsTimeout self.now.state.policy.timeout_ms }
         ensures programs { AreAs self.now.state.policy.callbacks }
     {
         let _left = self.left;
+    }
+
+    /// The policy, which stays the one that the machine was made with.
+    pub fn policy(&self) -> &Policy
+        ensures { result.now ≡ self.now.state.policy }
+    {
+        self.machine.policy()
     }
 
     /// The clock, tasks, processors, queues and weights.

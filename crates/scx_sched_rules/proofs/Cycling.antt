@@ -2,24 +2,29 @@
 use Rattle.std.proofs.Common.{◌≡◌, ℕ, zero, suc, ◌+◌, ◌<◌, ◌≤◌, cond, Bool, true, false, not, ◌==◌, ◌&&◌, nat_lt, ◌⊎◌, inl, inr, if◌then◌else◌, [], ◌∷◌, Option, Some, None, is_some, refl, sym, ◌∙◌, ap, subst, arith}
 use Rattle.std.proofs.lemmas.Bool.Decides.{nat_tests}
 use Rattle.std.proofs.lemmas.Bool.{cases_eq, cases_lt, eq-eqb, ne_eqb}
-use Rattle.scx_dsq.specs.Queues.{len_of, front_of}
+use Rattle.scx_dsq.specs.Queues.{len_of, front_of, entry_of, is_in, queue_of}
+use Rattle.scx_dsq.specs.Calls.{after_push, after_pop}
+use Rattle.scx_dsq.specs.declared.entries.Rank.TheVariants.{Fifo}
 use Rattle.scx_vm.specs.Programs.{VerifiedProgram}
 use Rattle.scx_isa_semantics.specs.declared.callbacks.Callback.TheVariants as callback
 use Rattle.scx_sched_world.specs.declared.call.Insert.{Insert}
 use Rattle.scx_sched_world.specs.declared.eject.Eject.{Eject}
 use Rattle.scx_sched_world.specs.declared.notes.What.TheVariants as note
 use Rattle.scx_sched_world.specs.Ids.{global, builtin_queue, parked_queue, local_on}
-use Rattle.scx_sched_world.specs.World.{note_now}
-use Rattle.scx_sched_world.specs.Tasks.{local_len, brought}
+use Rattle.scx_sched_world.specs.World.{WorldState, with_queues, note_now}
+use Rattle.scx_sched_world.specs.Tasks.{local_len, brought, to_front, homed}
 use Rattle.scx_sched_world.specs.Ejecting.{put_builtin, after_catch_up, after_charge}
-use Rattle.scx_sched_machine.specs.Steps.{State, Stepped, with_world, stays, after, one_after_other}
+use Rattle.scx_sched_machine.specs.Steps.{State, Stepped, with_world, stays, after, one_after_other, is_by_linux}
 use Rattle.scx_sched_machine.specs.Callbacks.{call_back, one_task}
 use Rattle.scx_sched_machine.specs.Put.{enters, enqueue_choice, enters_builtin, comes_in, put}
 use Rattle.scx_sched_machine.specs.Filling.{move_note, fill}
 use Rattle.scx_sched_machine.specs.Parking.{park, park_front, if_throttled, throttled_front, park_fronts, clear, in_reach, supply, FrontMayRun}
 use Rattle.scx_sched.proofs.Supplying.{park_fronts_from, clear_from, empty_no_front, throttled_is, front_is_free, len_park_front, reach_fill, reach_park_front}
-use Rattle.scx_sched_machine.specs.Cycle.{after_dispatch, tries, stopping_called, after_stopping, after_running, leave, started_if, start, rest, swap, swap_or_rest, builtin_dispatch, builtin_fill, builtin_ask, builtin_cycle, start_or_cycle, pick, pick_or_rest, conclude, ask, seek, look, cycling, cycle}
-use Rattle.scx_sched_rules.specs.Cycles.{noting, silent, entering, enqueue_called, dispatch_called, gone_off, gone_on, HasStopped, Policy_hears, Is_charged, HasStarted, Policy_learns, Catches_up, Enters, For_builtin, Default, Held, Inserted, Puts, Fills, HasLocal, NoOther, Moves, Parks, ParksFronts, NoneLeft, OneMore, Supplies, Supplied, ParkedOne, FillsBuiltin, HasOne, Looked, Dispatches, Asks, Enough, Came, NothingMoved, Again, Leaves, Nobody, Stops, Starts, Empty, Front, Rests, Keeps, Idles, WasIdle, Swaps, SwapsOrRests, Swapped, Kept, CyclesBuiltin, Picks, Runs_front, Emptied, Ends, Anew, Picked, Rested, Seeks, Filled, Asked, Looks, Of_policy, Of_builtin, Cycles}
+use Rattle.scx_sched.proofs.Firsts.{no_front_is_empty}
+use Rattle.scx_sched_machine.specs.Cycle.{keeps_slice, supply_unless_kept, after_dispatch, asks_again, tries, stopping_called, after_stopping, after_running, put_back, leave, switched, started_if, start, rest, swap, swap_or_rest, builtin_dispatch, builtin_fill, builtin_ask, builtin_cycle, start_or_cycle, picked, refilled, is_local, start_picked, start_picked_or_cycle, pick, pick_or_rest, keep_or_pick, conclude, give_up, ask, seek, look, cycling, cycle}
+use Rattle.scx_sched_rules.specs.Differences.{KeepsSlice, GivesWay, IsToAsk}
+use Rattle.scx_sched_rules.specs.Cycles.{noting, silent, entering, enqueue_called, dispatch_called, gone_off, gone_on, picked_on, HasStopped, Policy_hears, Is_charged, HasStarted, Policy_learns, Catches_up, Enters, For_builtin, Default, Held, Inserted, Puts, Fills, HasLocal, NoOther, Moves, Parks, ParksFronts, NoneLeft, OneMore, Supplies, Supplied, ParkedOne, FillsBuiltin, HasOne, Looked, Dispatches, Supplied_then, Kept_then, Asks, Enough, Came, NothingMoved, KeptOn, Again, PutsBack, Is_put, Goes_first, Leaves, Nobody, Stops, Starts, Empty, Front, Rests, Keeps, Idles, WasIdle, Swaps, SwapsOrRests, Swapped, Kept, CyclesBuiltin, StartsOrAnew, Runs_front, Emptied, StartsPicked, picking, Picks, Picks_then, Picks_before, Picks_anew, Ends, Anew, KeepsOn, Picked, Rested, Seeks, Filled, Asked, Looks, Of_policy, Of_builtin, Cycles}
+use Rattle.scx_sched_rules.proofs.Differing.{both_true, false_from, not_so, then_stays, in_is, in_of, homes, only_homes, keeps, gives, keeps_or_gives, switches, only_switches, asks_of, asks_is, gives_up, only_gives_up}
 
 -- ---- put
 
@@ -106,17 +111,22 @@ fills : (s : State) (q c : ℕ) → Fills s q c (fill s q c)
 unfolding fill
 fills s q c = go (cases_lt 0 (local_len s.world c)) (front_of s.world.queues q) refl
   where
+    moved_to : ℕ → WorldState
+    moved_to t = with_queues s.world (after_push (after_pop s.world.queues q) (local_on c) t Fifo)
+
     go : (0 < local_len s.world c) ⊎ (local_len s.world c ≤ 0) → (o : Option ℕ) → front_of s.world.queues q ≡ o
         → Fills s q c (record { state = with_world s (brought (if nat_lt 0 (local_len s.world c) then None else o) s.world q c); notes = move_note s.world (if nat_lt 0 (local_len s.world c) then None else o) c; calls = [] })
     go (inl l) o e = rw (some_is (local_len s.world c) l) (HasLocal l refl)
     go (inr l) None e = let z : local_len s.world c ≡ 0 = omega (arith, l) in rw (none_is (local_len s.world c) z) (NoOther z e refl)
-    go (inr l) (Some t) e = let z : local_len s.world c ≡ 0 = omega (arith, l) in rw (none_is (local_len s.world c) z) (Moves t z e refl)
+    go (inr l) (Some t) e = let z : local_len s.world c ≡ 0 = omega (arith, l) in rw (none_is (local_len s.world c) z) (Moves t (homed (moved_to t) t c) z e (homes (moved_to t) t c) refl)
 
 only_fills : (s : State) (q c : ℕ) (r : Stepped) → Fills s q c r → r ≡ fill s q c
 unfolding fill
 only_fills s q c r (HasLocal l k) = rw (some_is (local_len s.world c) l) k
 only_fills s q c r (NoOther z e k) = rw (none_is (local_len s.world c) z, e) k
-only_fills s q c r (Moves t z e k) = rw (none_is (local_len s.world c) z, e) k
+only_fills s q c r (Moves t moved z e h k) =
+    let v = with_queues s.world (after_push (after_pop s.world.queues q) (local_on c) t Fifo) in
+    rw (none_is (local_len s.world c) z, e) (k ∙ ap (λ w. noting s w (note.Move t c)) (only_homes v t c moved h))
 
 -- ---- supply
 
@@ -212,36 +222,86 @@ only_supplies s c r h = only_clears (in_reach s c) s c r (omega arith) h
 
 -- ---- dispatch
 
+abbrev supplied_as : State → ℕ → Option ℕ → Bool → Stepped
+supplied_as s c p b = one_after_other (dispatch_called s c p) (if b then stays (dispatch_called s c p).state else supply (dispatch_called s c p).state c)
+
+supplied_is : (s : State) (c : ℕ) (p : Option ℕ) → supplied_as s c p (keeps_slice (dispatch_called s c p).state p) ≡ after_dispatch s c p
+unfolding after_dispatch supply_unless_kept
+supplied_is s c p = refl
+
 dispatches : (s : State) (c : ℕ) (p : Option ℕ) → Dispatches s c p (after_dispatch s c p)
-unfolding after_dispatch
-dispatches s c p = record { supplied = supply (dispatch_called s c p).state c; supplies = supplies (dispatch_called s c p).state c; all = refl }
+dispatches s c p = subst (λ r. Dispatches s c p r) (supplied_is s c p) (go (keeps_or_gives d.state p))
+  where
+    d : Stepped
+    d = dispatch_called s c p
+
+    go : KeepsSlice d.state p ⊎ GivesWay d.state p → Dispatches s c p (supplied_as s c p (keeps_slice d.state p))
+    go (inl k) = rw (keeps d.state p k) (Kept_then k (then_stays d))
+    go (inr g) = rw (gives d.state p g) (Supplied_then (supply d.state c) g (supplies d.state c) refl)
 
 only_dispatches : (s : State) (c : ℕ) (p : Option ℕ) (r : Stepped) → Dispatches s c p r → r ≡ after_dispatch s c p
-unfolding after_dispatch
-only_dispatches s c p r h = h.all ∙ ap (λ x. one_after_other (dispatch_called s c p) x) (only_supplies (dispatch_called s c p).state c h.supplied h.supplies)
+only_dispatches s c p r (Supplied_then x g h k) =
+    let d = dispatch_called s c p in
+    k ∙ ap (λ y. one_after_other d y) (only_supplies d.state c x h) ∙ ap (λ b. supplied_as s c p b) (sym (gives d.state p g)) ∙ supplied_is s c p
+only_dispatches s c p r (Kept_then h k) =
+    let d = dispatch_called s c p in
+    k ∙ sym (then_stays d) ∙ ap (λ b. supplied_as s c p b) (sym (keeps d.state p h)) ∙ supplied_is s c p
+
+abbrev tried_as : ℕ → State → ℕ → Option ℕ → Bool → Stepped
+tried_as n s c p b = let d = after_dispatch s c p in if b then one_after_other d (tries n d.state c p) else d
+
+-- dispatch isn't asked again
+not_again : (s : State) (c : ℕ) (p : Option ℕ) → (IsToAsk s c p → ⊥) → asks_again s c p ≡ false
+not_again s c p n = false_from (asks_again s c p) (λ e. n (asks_is s c p e))
 
 asks : (n : ℕ) (s : State) (c : ℕ) (p : Option ℕ) → Asks n s c p (tries n s c p)
 unfolding tries
 asks zero s c p = Enough s c p _ refl
-asks (suc n) s c p = go (asks n d.state c p) (cases_eq (local_len d.state.world c) 0) d.state.world.call.has_moved refl
+asks (suc n) s c p = go (asks n d.state c p) (asks_again d.state c p) refl
   where
     d : Stepped
     d = after_dispatch s c p
 
-    go : Asks n d.state c p (tries n d.state c p) → (local_len d.state.world c ≡ 0) ⊎ (local_len d.state.world c ≡ 0 → ⊥) → (b : Bool) → d.state.world.call.has_moved ≡ b
-        → Asks (suc n) s c p (if (local_len d.state.world c == 0) && b then one_after_other d (tries n d.state c p) else d)
-    go more (inl z) true e = rw (eq-eqb (local_len d.state.world c) 0 z) (Again n s c p d (tries n d.state c p) _ (dispatches s c p) z e more refl)
-    go more (inl z) false e = rw (eq-eqb (local_len d.state.world c) 0 z) (NothingMoved n s c p d (dispatches s c p) z e)
-    go more (inr x) b e = rw (ne_eqb (local_len d.state.world c) 0 x) (Came n s c p d (dispatches s c p) (omega (arith, x)))
+    moved : (b : Bool) → d.state.world.call.has_moved ≡ b → asks_again d.state c p ≡ false → GivesWay d.state p → local_len d.state.world c ≡ 0 → Asks (suc n) s c p d
+    moved true m e g z = absurd (not_so (asks_again d.state c p) e (asks_of d.state c p (record { gives_way = g; empty = z; moved = m })))
+    moved false m e g z = NothingMoved n s c p d (dispatches s c p) z m
+
+    here : (local_len d.state.world c ≡ 0) ⊎ (local_len d.state.world c ≡ 0 → ⊥) → asks_again d.state c p ≡ false → GivesWay d.state p → Asks (suc n) s c p d
+    here (inl z) e g = moved d.state.world.call.has_moved refl e g z
+    here (inr x) e g = Came n s c p d (dispatches s c p) (omega (arith, x))
+
+    stop : asks_again d.state c p ≡ false → KeepsSlice d.state p ⊎ GivesWay d.state p → Asks (suc n) s c p d
+    stop e (inl k) = KeptOn n s c p d (dispatches s c p) k
+    stop e (inr g) = here (cases_eq (local_len d.state.world c) 0) e g
+
+    go : Asks n d.state c p (tries n d.state c p) → (b : Bool) → asks_again d.state c p ≡ b → Asks (suc n) s c p (tried_as n s c p b)
+    go more true e = Again n s c p d (tries n d.state c p) _ (dispatches s c p) (asks_is d.state c p e) more refl
+    go more false e = stop e (keeps_or_gives d.state p)
 
 -- ---- pick
+
+abbrev put_back_as : State → ℕ → ℕ → Bool → Stepped
+put_back_as s c t b = if b then entering s t (to_front c) else put s t c 0
+
+puts_back : (s : State) (c t : ℕ) → PutsBack s c t (put_back s c t)
+unfolding put_back enters
+puts_back s c t = go (keeps_or_gives s (Some t))
+  where
+    go : KeepsSlice s (Some t) ⊎ GivesWay s (Some t) → PutsBack s c t (put_back_as s c t (keeps_slice s (Some t)))
+    go (inl k) = rw (keeps s (Some t) k) (Goes_first k refl)
+    go (inr g) = rw (gives s (Some t) g) (Is_put g (puts s t c 0))
+
+only_puts_back : (s : State) (c t : ℕ) (r : Stepped) → PutsBack s c t r → r ≡ put_back s c t
+unfolding put_back enters
+only_puts_back s c t r (Is_put g h) = only_puts s t c 0 r h ∙ ap (λ b. put_back_as s c t b) (sym (gives s (Some t) g))
+only_puts_back s c t r (Goes_first h k) = k ∙ ap (λ b. put_back_as s c t b) (sym (keeps s (Some t) h))
 
 leaves : (s : State) (c : ℕ) (p : Option ℕ) → Leaves s c p (leave s c p)
 unfolding leave
 leaves s c None = Nobody refl refl
 leaves s c (Some t) =
     let l = after_stopping (gone_off s c t) c t 1 in
-    Stops t l (put l.state t c 0) refl (stops (gone_off s c t) c t 1) (puts l.state t c 0) refl
+    Stops t l (put_back l.state c t) refl (stops (gone_off s c t) c t 1) (puts_back l.state c t) refl
 
 abbrev left_as : State → ℕ → ℕ → Stepped → Stepped → Stepped
 left_as s c t l x = after (note_now s.world (note.Stop t c) ∷ []) (one_after_other l x)
@@ -250,7 +310,7 @@ only_leaves : (s : State) (c : ℕ) (p : Option ℕ) (r : Stepped) → Leaves s 
 unfolding leave
 only_leaves s c p r (Nobody e k) = rw e k
 only_leaves s c p r (Stops t l x e h y k) =
-    rw e (k ∙ ap (λ z. left_as s c t l z) (only_puts l.state t c 0 x y) ∙ ap (λ (z : Stepped). left_as s c t z (put z.state t c 0)) (only_stops (gone_off s c t) c t 1 l h))
+    rw e (k ∙ ap (λ z. left_as s c t l z) (only_puts_back l.state c t x y) ∙ ap (λ (z : Stepped). left_as s c t z (put_back z.state c t)) (only_stops (gone_off s c t) c t 1 l h))
 
 starts : (s : State) (c : ℕ) → Starts s c (start s c)
 unfolding start
@@ -258,7 +318,7 @@ starts s c = go (front_of s.world.queues (local_on c)) refl
   where
     go : (o : Option ℕ) → front_of s.world.queues (local_on c) ≡ o → Starts s c (started_if o s c)
     go None e = Empty e refl
-    go (Some t) e = Front t (after_running (gone_on s c t) c t) e (runs (gone_on s c t) c t) refl
+    go (Some t) e = let on = switched (gone_on s c t) t in Front t on (after_running on c t) e (switches (gone_on s c t) t) (runs on c t) refl
 
 abbrev run_note : State → ℕ → ℕ → Stepped → Stepped
 run_note s c t x = after (note_now s.world (note.Run t c) ∷ []) x
@@ -266,7 +326,8 @@ run_note s c t x = after (note_now s.world (note.Run t c) ∷ []) x
 only_starts : (s : State) (c : ℕ) (r : Stepped) → Starts s c r → r ≡ start s c
 unfolding start
 only_starts s c r (Empty e k) = k ∙ ap (λ o. started_if o s c) (sym e)
-only_starts s c r (Front t x e h k) = k ∙ ap (λ y. run_note s c t y) (only_runs (gone_on s c t) c t x h) ∙ ap (λ o. started_if o s c) (sym e)
+only_starts s c r (Front t on x e w h k) =
+    k ∙ ap (λ y. run_note s c t y) (only_runs on c t x h) ∙ ap (λ (v : State). run_note s c t (after_running v c t)) (only_switches (gone_on s c t) t on w) ∙ ap (λ o. started_if o s c) (sym e)
 
 -- ---- the local queue is empty, or isn't
 
@@ -382,16 +443,54 @@ only_cycles_builtin s c p ran r h =
 abbrev start_if : State → ℕ → Bool → Bool → Stepped
 start_if s c ran b = if b then start s c else builtin_cycle s c None ran
 
-picks : (s : State) (c : ℕ) (p : Option ℕ) (ran : Bool) → Picks s c p ran (pick s c p ran)
-unfolding pick start_or_cycle
-picks s c p ran = go (any_here l.state c)
+starts_or_anew : (s : State) (c : ℕ) (ran : Bool) → StartsOrAnew s c ran (start_or_cycle s c ran)
+unfolding start_or_cycle
+starts_or_anew s c ran = go (any_here s c)
   where
-    l : Stepped
-    l = leave s c p
+    go : HasAny s c → StartsOrAnew s c ran (start_if s c ran (not (local_len s.world c == 0)))
+    go (inl x) = rw (has_some s c x) (Runs_front x (starts s c))
+    go (inr z) = rw (is_empty s c z) (Emptied z (cycles_builtin s c None ran))
 
-    go : HasAny l.state c → Picks s c p ran (one_after_other l (start_if l.state c ran (not (local_len l.state.world c == 0))))
-    go (inl x) = rw (has_some l.state c x) (Runs_front l (start l.state c) (leaves s c p) x (starts l.state c) refl)
-    go (inr z) = rw (is_empty l.state c z) (Emptied l (builtin_cycle l.state c None ran) (leaves s c p) z (cycles_builtin l.state c None ran) refl)
+starts_picked : (s : State) (c t : ℕ) → StartsPicked s c t (start_picked s c t)
+unfolding start_picked
+starts_picked s c t = record {
+  on = switched (picked_on s c t) t;
+  switches = switches (picked_on s c t) t;
+  begun = after_running (switched (picked_on s c t) t) c t;
+  starts = runs (switched (picked_on s c t) t) c t;
+  all = refl;
+}
+
+abbrev picked_as : State → ℕ → Option ℕ → Bool → Option ℕ → Stepped
+picked_as s c p ran o = let l = leave (refilled s o) c p in one_after_other l (start_picked_or_cycle o l.state c ran)
+
+abbrev chosen_as : Option ℕ → Bool → Option ℕ
+chosen_as o b = if b then o else None
+
+-- who is picked
+picked_is : (s : State) (c : ℕ) (p : Option ℕ) (ran : Bool) → picked_as s c p ran (chosen_as (front_of s.world.queues (local_on c)) (is_by_linux s)) ≡ pick s c p ran
+unfolding pick picked
+picked_is s c p ran = refl
+
+abbrev local_as : State → ℕ → ℕ → Bool → Bool → Stepped
+local_as s c t ran b = if b then start_picked s c t else start_or_cycle s c ran
+
+picks : (s : State) (c : ℕ) (p : Option ℕ) (ran : Bool) → 0 < local_len s.world c → Picks s c p ran (pick s c p ran)
+picks s c p ran some = subst (λ r. Picks s c p ran r) (picked_is s c p ran) (go (is_by_linux s) refl (front_of s.world.queues (local_on c)) refl)
+  where
+    at : (t : ℕ) → is_by_linux s ≡ true → front_of s.world.queues (local_on c) ≡ Some t → (b : Bool) → is_local (leave (picking s t) c p).state c t ≡ b
+        → Picks s c p ran (one_after_other (leave (picking s t) c p) (local_as (leave (picking s t) c p).state c t ran b))
+    at t e f true x =
+        let l = leave (picking s t) c p in
+        Picks_before t l (start_picked l.state c t) e f (leaves (picking s t) c p) (in_is (local_on c) (entry_of l.state.world.queues t) x) (starts_picked l.state c t) refl
+    at t e f false x =
+        let l = leave (picking s t) c p in
+        Picks_anew t l (start_or_cycle l.state c ran) e f (leaves (picking s t) c p) (λ y. not_so (is_local l.state c t) x (in_of (local_on c) (entry_of l.state.world.queues t) y)) (starts_or_anew l.state c ran) refl
+
+    go : (b : Bool) → is_by_linux s ≡ b → (o : Option ℕ) → front_of s.world.queues (local_on c) ≡ o → Picks s c p ran (picked_as s c p ran (chosen_as o b))
+    go false e o f = let l = leave s c p in Picks_then l (start_or_cycle l.state c ran) e (leaves s c p) (starts_or_anew l.state c ran) refl
+    go true e None f = absurd (omega (arith, some, no_front_is_empty s.world.queues (local_on c) f))
+    go true e (Some t) f = at t e f (is_local (leave (picking s t) c p).state c t) refl
 
 start_is : (s : State) (c : ℕ) (ran : Bool) → 0 < local_len s.world c → start s c ≡ start_or_cycle s c ran
 unfolding start_or_cycle
@@ -401,27 +500,60 @@ anew_is : (s : State) (c : ℕ) (ran : Bool) → local_len s.world c ≡ 0 → b
 unfolding start_or_cycle
 anew_is s c ran z = ap (λ b. start_if s c ran b) (sym (is_empty s c z))
 
+only_starts_or_anew : (s : State) (c : ℕ) (ran : Bool) (r : Stepped) → StartsOrAnew s c ran r → r ≡ start_or_cycle s c ran
+only_starts_or_anew s c ran r (Runs_front n y) = only_starts s c r y ∙ start_is s c ran n
+only_starts_or_anew s c ran r (Emptied n y) = only_cycles_builtin s c None ran r y ∙ anew_is s c ran n
+
+only_starts_picked : (s : State) (c t : ℕ) (r : Stepped) → StartsPicked s c t r → r ≡ start_picked s c t
+unfolding start_picked
+only_starts_picked s c t r h =
+    h.all ∙ ap (λ y. run_note s c t y) (only_runs h.on c t h.begun h.starts) ∙ ap (λ (v : State). run_note s c t (after_running v c t)) (only_switches (picked_on s c t) t h.on h.switches)
+
+abbrev left_then : Stepped → ℕ → ℕ → Bool → Bool → Stepped
+left_then l c t ran b = one_after_other l (local_as l.state c t ran b)
+
+-- once who is picked is known
+picked_at : (s : State) (c : ℕ) (p : Option ℕ) (ran : Bool) (t : ℕ) (l : Stepped) (b : Bool)
+    → is_by_linux s ≡ true → front_of s.world.queues (local_on c) ≡ Some t → l ≡ leave (picking s t) c p → is_local l.state c t ≡ b
+    → left_then l c t ran b ≡ pick s c p ran
+picked_at s c p ran t l b e f k x =
+    ap (λ y. left_then l c t ran y) (sym x) ∙ ap (λ (y : Stepped). left_then y c t ran (is_local y.state c t)) k
+    ∙ ap (λ o. picked_as s c p ran o) (sym f ∙ ap (λ y. chosen_as (front_of s.world.queues (local_on c)) y) (sym e)) ∙ picked_is s c p ran
+
 only_picks : (s : State) (c : ℕ) (p : Option ℕ) (ran : Bool) (r : Stepped) → Picks s c p ran r → r ≡ pick s c p ran
-unfolding pick
-only_picks s c p ran r (Runs_front l x h n y k) =
-    k ∙ ap (λ z. one_after_other l z) (only_starts l.state c x y ∙ start_is l.state c ran n) ∙ ap (λ (z : Stepped). one_after_other z (start_or_cycle z.state c ran)) (only_leaves s c p l h)
-only_picks s c p ran r (Emptied l x h n y k) =
-    k ∙ ap (λ z. one_after_other l z) (only_cycles_builtin l.state c None ran x y ∙ anew_is l.state c ran n) ∙ ap (λ (z : Stepped). one_after_other z (start_or_cycle z.state c ran)) (only_leaves s c p l h)
+only_picks s c p ran r (Picks_then l x e h y k) =
+    k ∙ ap (λ z. one_after_other l z) (only_starts_or_anew l.state c ran x y) ∙ ap (λ (z : Stepped). one_after_other z (start_or_cycle z.state c ran)) (only_leaves s c p l h)
+    ∙ ap (λ b. picked_as s c p ran (chosen_as (front_of s.world.queues (local_on c)) b)) (sym e) ∙ picked_is s c p ran
+only_picks s c p ran r (Picks_before t l x e f h q y k) =
+    k ∙ ap (λ z. one_after_other l z) (only_starts_picked l.state c t x y)
+    ∙ picked_at s c p ran t l true e f (only_leaves (picking s t) c p l h) (in_of (local_on c) (entry_of l.state.world.queues t) q)
+only_picks s c p ran r (Picks_anew t l x e f h n y k) =
+    k ∙ ap (λ z. one_after_other l z) (only_starts_or_anew l.state c ran x y)
+    ∙ picked_at s c p ran t l false e f (only_leaves (picking s t) c p l h) (false_from (is_local l.state c t) (λ z. n (in_is (local_on c) (entry_of l.state.world.queues t) z)))
 
 abbrev pick_if : State → ℕ → Option ℕ → Bool → Bool → Stepped
 pick_if s c p ran b = if b then pick s c p ran else rest s c p ran
 
 abbrev concluded_as : State → ℕ → Option ℕ → Bool → Option Eject → Stepped
-concluded_as s c p ran x = if is_some x then builtin_cycle s c p ran else pick_or_rest s c p ran
+concluded_as s c p ran x = if is_some x then builtin_cycle s c p ran else keep_or_pick s c p ran
+
+abbrev kept_as : State → ℕ → Option ℕ → Bool → Bool → Stepped
+kept_as s c p ran b = if b then stays s else pick_or_rest s c p ran
 
 ends : (s : State) (c : ℕ) (p : Option ℕ) (ran : Bool) → Ends s c p ran (conclude s c p ran)
-unfolding conclude pick_or_rest
-ends s c p ran = go s.world.ejected refl (any_here s c)
+unfolding conclude keep_or_pick pick_or_rest
+ends s c p ran = go s.world.ejected refl (keeps_or_gives s p) (any_here s c)
   where
-    go : (x : Option Eject) → s.world.ejected ≡ x → HasAny s c → Ends s c p ran (if is_some x then builtin_cycle s c p ran else pick_if s c p ran (not (local_len s.world c == 0)))
-    go (Some x) e any = Anew x e (cycles_builtin s c p ran)
-    go None e (inl l) = rw (has_some s c l) (Picked e l (picks s c p ran))
-    go None e (inr z) = rw (is_empty s c z) (Rested e z (rests s c p ran))
+    go : (x : Option Eject) → s.world.ejected ≡ x → KeepsSlice s p ⊎ GivesWay s p → HasAny s c
+        → Ends s c p ran (if is_some x then builtin_cycle s c p ran else (if keeps_slice s p then stays s else pick_if s c p ran (not (local_len s.world c == 0))))
+    go (Some x) e way any = Anew x e (cycles_builtin s c p ran)
+    go None e (inl k) any = rw (keeps s p k) (KeepsOn e k refl)
+    go None e (inr g) (inl l) = rw (gives s p g, has_some s c l) (Picked e g l (picks s c p ran l))
+    go None e (inr g) (inr z) = rw (gives s p g, is_empty s c z) (Rested e g z (rests s c p ran))
+
+kept_is : (s : State) (c : ℕ) (p : Option ℕ) (ran b : Bool) → keeps_slice s p ≡ b → kept_as s c p ran b ≡ keep_or_pick s c p ran
+unfolding keep_or_pick
+kept_is s c p ran b e = ap (λ x. kept_as s c p ran x) (sym e)
 
 pick_is : (s : State) (c : ℕ) (p : Option ℕ) (ran : Bool) → 0 < local_len s.world c → pick s c p ran ≡ pick_or_rest s c p ran
 unfolding pick_or_rest
@@ -434,8 +566,9 @@ rest_is s c p ran z = ap (λ b. pick_if s c p ran b) (sym (is_empty s c z))
 only_ends : (s : State) (c : ℕ) (p : Option ℕ) (ran : Bool) (r : Stepped) → Ends s c p ran r → r ≡ conclude s c p ran
 unfolding conclude
 only_ends s c p ran r (Anew x e h) = only_cycles_builtin s c p ran r h ∙ ap (λ o. concluded_as s c p ran o) (sym e)
-only_ends s c p ran r (Picked e l h) = only_picks s c p ran r h ∙ pick_is s c p ran l ∙ ap (λ o. concluded_as s c p ran o) (sym e)
-only_ends s c p ran r (Rested e z h) = only_rests s c p ran r h ∙ rest_is s c p ran z ∙ ap (λ o. concluded_as s c p ran o) (sym e)
+only_ends s c p ran r (KeepsOn e h k) = k ∙ kept_is s c p ran true (keeps s p h) ∙ ap (λ o. concluded_as s c p ran o) (sym e)
+only_ends s c p ran r (Picked e g l h) = only_picks s c p ran r h ∙ pick_is s c p ran l ∙ kept_is s c p ran false (gives s p g) ∙ ap (λ o. concluded_as s c p ran o) (sym e)
+only_ends s c p ran r (Rested e g z h) = only_rests s c p ran r h ∙ rest_is s c p ran z ∙ kept_is s c p ran false (gives s p g) ∙ ap (λ o. concluded_as s c p ran o) (sym e)
 
 abbrev seek_if : Stepped → ℕ → Option ℕ → Bool → Bool → Stepped
 seek_if f c p ran b = one_after_other f (if b then pick f.state c p ran else ask f.state c p ran)
@@ -451,40 +584,36 @@ seeks s c p ran = go (any_here f.state c)
     a = tries 32 f.state c p
 
     go : HasAny f.state c → Seeks s c p ran (seek_if f c p ran (not (local_len f.state.world c == 0)))
-    go (inl l) = rw (has_some f.state c l) (Filled f (pick f.state c p ran) (supplies s c) l (picks f.state c p ran) refl)
-    go (inr z) = rw (is_empty f.state c z) (Asked f a (conclude a.state c p ran) (supplies s c) z (asks 32 f.state c p) (ends a.state c p ran) refl)
+    go (inl l) = rw (has_some f.state c l) (Filled f (pick f.state c p ran) (supplies s c) l (picks f.state c p ran l) refl)
+    go (inr z) = let v = give_up a.state c p in rw (is_empty f.state c z) (Asked f a (conclude v c p ran) v (supplies s c) z (asks 32 f.state c p) (gives_up a.state c p) (ends v c p ran) refl)
 
 -- ---- and nothing else
 
-tries_came : (n : ℕ) (s : State) (c : ℕ) (p : Option ℕ) → 0 < local_len (after_dispatch s c p).state.world c → tries (suc n) s c p ≡ after_dispatch s c p
+tries_stop : (n : ℕ) (s : State) (c : ℕ) (p : Option ℕ) (d : Stepped) → d ≡ after_dispatch s c p → (IsToAsk d.state c p → ⊥) → d ≡ tries (suc n) s c p
 unfolding tries
-tries_came n s c p l = rw (ne_eqb (local_len (after_dispatch s c p).state.world c) 0 (λ e. omega (arith, e, l))) refl
+tries_stop n s c p d e stop =
+    e ∙ ap (λ b. tried_as n s c p b) (sym (ap (λ (x : Stepped). asks_again x.state c p) (sym e) ∙ not_again d.state c p stop))
 
-tries_moved_none : (n : ℕ) (s : State) (c : ℕ) (p : Option ℕ) → local_len (after_dispatch s c p).state.world c ≡ 0 → (after_dispatch s c p).state.world.call.has_moved ≡ false → tries (suc n) s c p ≡ after_dispatch s c p
+tries_again : (n : ℕ) (s : State) (c : ℕ) (p : Option ℕ) (d : Stepped) → d ≡ after_dispatch s c p → IsToAsk d.state c p → one_after_other d (tries n d.state c p) ≡ tries (suc n) s c p
 unfolding tries
-tries_moved_none n s c p z e = rw (eq-eqb (local_len (after_dispatch s c p).state.world c) 0 z, e) refl
-
-tries_again : (n : ℕ) (s : State) (c : ℕ) (p : Option ℕ) → local_len (after_dispatch s c p).state.world c ≡ 0 → (after_dispatch s c p).state.world.call.has_moved ≡ true
-    → tries (suc n) s c p ≡ one_after_other (after_dispatch s c p) (tries n (after_dispatch s c p).state c p)
-unfolding tries
-tries_again n s c p z e = rw (eq-eqb (local_len (after_dispatch s c p).state.world c) 0 z, e) refl
+tries_again n s c p d e again =
+    ap (λ (x : Stepped). one_after_other x (tries n x.state c p)) e
+    ∙ ap (λ b. tried_as n s c p b) (sym (ap (λ (x : Stepped). asks_again x.state c p) (sym e) ∙ asks_of d.state c p again))
 
 tries_none : (s : State) (c : ℕ) (p : Option ℕ) → tries 0 s c p ≡ stays s
 unfolding tries
 tries_none s c p = refl
 
+no_way : (s : State) (p : Option ℕ) → KeepsSlice s p → GivesWay s p → ⊥
+no_way s p k g = not_so (keeps_slice s p) (gives s p g) (keeps s p k)
+
 only_asks : (n : ℕ) (s : State) (c : ℕ) (p : Option ℕ) (r : Stepped) → Asks n s c p r → r ≡ tries n s c p
 only_asks zero s c p r (Enough _ _ _ _ k) = k ∙ sym (tries_none s c p)
-only_asks (suc n) s c p r (Came _ _ _ _ _ h l) =
-    let e = only_dispatches s c p r h in
-    e ∙ sym (tries_came n s c p (subst (λ (x : Stepped). 0 < local_len x.state.world c) e l))
-only_asks (suc n) s c p r (NothingMoved _ _ _ _ _ h z f) =
-    let e = only_dispatches s c p r h in
-    e ∙ sym (tries_moved_none n s c p (subst (λ (x : Stepped). local_len x.state.world c ≡ 0) e z) (subst (λ (x : Stepped). x.state.world.call.has_moved ≡ false) e f))
-only_asks (suc n) s c p r (Again _ _ _ _ d more _ h z f a k) =
-    let e = only_dispatches s c p d h in
-    k ∙ ap (λ x. one_after_other d x) (only_asks n d.state c p more a) ∙ ap (λ (x : Stepped). one_after_other x (tries n x.state c p)) e
-    ∙ sym (tries_again n s c p (subst (λ (x : Stepped). local_len x.state.world c ≡ 0) e z) (subst (λ (x : Stepped). x.state.world.call.has_moved ≡ true) e f))
+only_asks (suc n) s c p r (Came _ _ _ _ _ h l) = tries_stop n s c p r (only_dispatches s c p r h) (λ a. let z = a.empty in omega (arith, l, z))
+only_asks (suc n) s c p r (NothingMoved _ _ _ _ _ h z f) = tries_stop n s c p r (only_dispatches s c p r h) (λ a. not_so r.state.world.call.has_moved f a.moved)
+only_asks (suc n) s c p r (KeptOn _ _ _ _ _ h x) = tries_stop n s c p r (only_dispatches s c p r h) (λ a. no_way r.state p x a.gives_way)
+only_asks (suc n) s c p r (Again _ _ _ _ d more _ h x a k) =
+    k ∙ ap (λ y. one_after_other d y) (only_asks n d.state c p more a) ∙ tries_again n s c p d (only_dispatches s c p d h) x
 
 abbrev sought : Stepped → ℕ → Option ℕ → Bool → Stepped
 sought f c p ran = seek_if f c p ran (not (local_len f.state.world c == 0))
@@ -495,7 +624,7 @@ sought_is s c p ran f e = ap (λ (g : Stepped). sought g c p ran) e
 
 -- the rest of a cycle, once dispatch is asked
 abbrev asked_from : Stepped → ℕ → Option ℕ → Bool → Stepped → Stepped
-asked_from f c p ran a = one_after_other f (one_after_other a (conclude a.state c p ran))
+asked_from f c p ran a = one_after_other f (one_after_other a (conclude (give_up a.state c p) c p ran))
 
 asked_is : (f : Stepped) (c : ℕ) (p : Option ℕ) (ran : Bool) → asked_from f c p ran (tries 32 f.state c p) ≡ one_after_other f (ask f.state c p ran)
 unfolding ask
@@ -504,8 +633,9 @@ asked_is f c p ran = refl
 only_seeks : (s : State) (c : ℕ) (p : Option ℕ) (ran : Bool) (r : Stepped) → Seeks s c p ran r → r ≡ seek s c p ran
 only_seeks s c p ran r (Filled f x h l y k) =
     k ∙ ap (λ z. one_after_other f z) (only_picks f.state c p ran x y) ∙ ap (λ b. seek_if f c p ran b) (sym (has_some f.state c l)) ∙ sought_is s c p ran f (only_supplies s c f h)
-only_seeks s c p ran r (Asked f a x h z b y k) =
-    k ∙ ap (λ u. one_after_other f (one_after_other a u)) (only_ends a.state c p ran x y) ∙ ap (λ (u : Stepped). asked_from f c p ran u) (only_asks 32 f.state c p a b) ∙ asked_is f c p ran
+only_seeks s c p ran r (Asked f a x v h z b g y k) =
+    k ∙ ap (λ u. one_after_other f (one_after_other a u)) (only_ends v c p ran x y)
+    ∙ ap (λ (u : State). one_after_other f (one_after_other a (conclude u c p ran))) (only_gives_up a.state c p v g) ∙ ap (λ (u : Stepped). asked_from f c p ran u) (only_asks 32 f.state c p a b) ∙ asked_is f c p ran
     ∙ ap (λ e. seek_if f c p ran e) (sym (is_empty f.state c z)) ∙ sought_is s c p ran f (only_supplies s c f h)
 
 -- ---- whichever is in force

@@ -1,22 +1,24 @@
 -- What a helper answers and leaves is allowed, and nothing else is.
-use Rattle.std.proofs.Common.{unwrap_or, ◌≡◌, ℕ, suc, ◌-◌, ◌*◌, ◌<◌, ◌≤◌, Bool, true, false, ◌==◌, ◌&&◌, ◌||◌, not, nat_lt, nat_le, ◌⊎◌, inl, inr, if◌then◌else◌, List, [], ◌∷◌, length, get_or, Option, Some, None, is_none, option_map, refl, sym, ◌∙◌, ap, arith}
+use Rattle.std.proofs.Common.{unwrap_or, ◌≡◌, ℕ, suc, ◌+◌, ◌-◌, ◌*◌, ◌/◌, ◌%◌, ◌^◌, ◌<◌, ◌≤◌, Bool, true, false, ◌==◌, ◌&&◌, ◌||◌, not, nat_lt, nat_le, ◌⊎◌, inl, inr, if◌then◌else◌, List, [], ◌∷◌, length, get_or, Option, Some, None, is_none, option_map, refl, sym, ◌∙◌, ap, subst, arith}
 use Rattle.std.specs.List.{list_any}
 use Rattle.std.proofs.lemmas.List.{get_or_past}
+use Rattle.std.proofs.lemmas.Nat.{div-add-mod'}
 use Rattle.std.proofs.lemmas.List.Folds.{list_any_at}
 use Rattle.std.proofs.lemmas.Bool.Decides.{nat_tests}
 use Rattle.std.proofs.lemmas.Bool.{cases_eq, cases_lt, eq-eqb, ne_eqb}
 use Rattle.scx_dsq.specs.Queues.{Entries, exists, entry_of, is_in, front_of, len_of}
-use Rattle.scx_dsq.specs.Calls.{create_refusal, after_create, clashes, with_queue}
+use Rattle.scx_dsq.specs.Calls.{create_refusal, after_create, clashes, with_queue, after_push, after_pop}
 use Rattle.scx_dsq.specs.Laws.{one_if}
 use Rattle.scx_dsq.specs.Entries.{same_sort}
 use Rattle.scx_dsq.specs.declared.entries.Entry.{Entry}
 use Rattle.scx_dsq.specs.declared.entries.Rank.{Rank}
 use Rattle.scx_dsq.specs.declared.entries.Rank.TheVariants.{Fifo, Vtime}
+use Rattle.scx_dsq.specs.declared.entries.Rank.TheVariants as rank
 use Rattle.scx_dsq.specs.declared.errors.QueueError.TheVariants as queue_error
 use Rattle.scx_isa_semantics.specs.declared.callbacks.Callback.{Callback}
 use Rattle.scx_isa_semantics.specs.declared.callbacks.Callback.TheVariants as callback
 use Rattle.scx_isa_semantics.specs.declared.host_tables.Helper.{Helper}
-use Rattle.scx_isa_semantics.specs.declared.host_tables.Helper.TheVariants.{MapLookupElem, KtimeGetNs, CreateDsq, DsqInsert, DsqInsertVtime, DsqMoveToLocal, SelectCpuDfl, CpuIdle, TaskByPid, DsqNrQueued}
+use Rattle.scx_isa_semantics.specs.declared.host_tables.Helper.TheVariants.{MapLookupElem, KtimeGetNs, CreateDsq, DsqInsert, DsqInsertVtime, DsqMoveToLocal, SelectCpuDfl, CpuIdle, TaskByPid, DsqNrQueued, KickCpu}
 use Rattle.scx_vm.specs.declared.arguments.Arg.{Arg}
 use Rattle.scx_vm.specs.declared.arguments.Answer.{Answer}
 use Rattle.scx_vm.specs.declared.arguments.Answer.TheVariants.{Num, Task}
@@ -24,11 +26,17 @@ use Rattle.scx_sched_world.specs.declared.call.Insert.{Insert}
 use Rattle.scx_sched_world.specs.declared.faults.Fault.{Fault}
 use Rattle.scx_sched_world.specs.declared.faults.Fault.TheVariants.{Stuck, NoSuchQueue, CannotInsert, NoSuchCpu, UnknownFlag, CannotCreate, BuiltinVtime, Mixed}
 use Rattle.scx_sched_world.specs.Ids.{policy_end, global, local, held_queue, local_on}
-use Rattle.scx_sched_world.specs.World.{WorldState, with_queues, is_idle}
-use Rattle.scx_sched_world.specs.Helpers.{invalid, with_fault, given_number, given_task, is_there, can_create, is_at_hand, is_held, is_dispatch, may_insert_in, may_insert, queue_fault, is_vtime, rank_fault, or_fault, insert_fault, insert_or_fault, invalid_if, insert_of, insert_of_vtime, choice_answer, pid_answer, can_move, front_moved_to_local, one_if_some, helper_answer, helper_after}
-use Rattle.scx_sched_rules.specs.Helpers.{IsPolicyQueue, IsDestination, Own, Global, Local, LocalOn, NamesNoCpu, CanCreate, MayInsert, InSelectCpu, InEnqueue, InDispatch, IsBuiltinVtime, IsMixed, MayMove, JudgesInsert, Judges, Inserts, Keeps, Releases, Moves, Front, Empty, Chooses, OfTask, OfNobody, Tells, TellsIdle, TellsBusy, Finds, Found, Nobody, IsEffect, Done, FindsTask, Wrong}
+use Rattle.scx_sched_world.specs.declared.kicks.Kick.{Kick}
+use Rattle.scx_sched_world.specs.declared.kicks.Kick.TheVariants.{Any, IfIdle, Preempt}
+use Rattle.scx_sched_world.specs.CpuSets.{is_in_set}
+use Rattle.scx_sched_world.specs.World.{WorldState, with_queues, with_kick, is_by_linux, task_at, running, is_this, is_idle, is_claimed, choice, after_claim, with_note}
+use Rattle.scx_sched_world.specs.Tasks.{homed, for_cpu}
+use Rattle.scx_sched_world.specs.declared.notes.What.TheVariants as notes
+use Rattle.scx_sched_world.specs.Helpers.{invalid, with_fault, with_move, are_linux_flags, are_known, flags_fault, is_late, after_late, after_insert, insert_answer, after_choice, seems_idle, kick_of, kicked_so, kick_fault, kicked_or_fault, given_number, given_task, is_there, can_create, is_at_hand, is_held, is_dispatch, may_insert_in, may_insert, queue_fault, is_vtime, rank_fault, or_fault, insert_fault, insert_or_fault, invalid_if, insert_of, insert_of_vtime, choice_answer, pid_answer, can_move, front_moved_to_local, one_if_some, after_release, helper_answer, helper_after}
+use Rattle.scx_sched_rules.specs.Helpers.{IsPolicyQueue, IsDestination, Own, Global, Local, LocalOn, NamesNoCpu, CanCreate, MayInsert, InSelectCpu, InEnqueue, InDispatch, IsBuiltinVtime, IsMixed, MayMove, AreFlags, OfWake, OfLinux, IsLate, JudgesInsert, JudgesFlags, JudgesAnInsert, InTime, TooLate, JudgesKick, Judges, Inserts, Keeps, Releases, PassesOver, Moves, Front, Empty, IsFree, IsChoice, Chooses, OfTask, OfNone, OfNobody, SeemsIdle, IsUnclaimed, ClaimedHere, Tells, TellsIdle, TellsBusy, Kicks, KicksAny, KicksIdle, KicksCycling, LeavesBusy, KicksToPreempt, Finds, Found, Nobody, IsEffect, Done, FindsTask, Wrong}
 use Rattle.scx_sched_rules.specs.Laws.{RulesAllowHelpers, RulesAllowHelpersOnly}
-use Rattle.scx_sched_rules.proofs.Choosing.{is_choice, only_choice}
+use Rattle.scx_sched_rules.proofs.Choosing.{free_is, is_choice, only_choice, claims, only_claims}
+use Rattle.scx_sched_rules.proofs.Differing.{and_true, and_false, false_and, homes, only_homes}
 
 -- ---- tests of Booleans as facts
 
@@ -131,6 +139,7 @@ RankOf w q r (Some Stuck) = ⊥
 
 by_vtime_is : (q : ℕ) (r : Rank) → (is_vtime r && nat_le policy_end q) ≡ true → IsBuiltinVtime q r
 by_vtime_is q Fifo e = absurd (cc)
+by_vtime_is q rank.Front e = absurd (cc)
 by_vtime_is q (Vtime k) e = record { key = k; by_vtime = refl; own = grind (arith, nat_tests, e) }
 
 by_vtime_of : (q : ℕ) (r : Rank) → IsBuiltinVtime q r → (is_vtime r && nat_le policy_end q) ≡ true
@@ -194,6 +203,79 @@ rank_fault_from w q r (Some UnknownFlag) h = absurd h
 rank_fault_from w q r (Some CannotCreate) h = absurd h
 rank_fault_from w q r (Some Stuck) h = absurd h
 
+-- ---- flags of an insert
+
+linux_flags_is : (w : WorldState) (n : ℕ) → is_by_linux w ≡ true → are_linux_flags n ≡ true → AreFlags w n
+linux_flags_is w n lin e = go (both (nat_le (n % 2 ^ 32) 1) ((n / 2 ^ 32 == 0) || ((n / 2 ^ 32 == 1) || ((n / 2 ^ 32 == 2 ^ 16) || (n / 2 ^ 32 == 2 ^ 16 + 1)))) e)
+  where
+    of : (p h : ℕ) → n % 2 ^ 32 ≤ 1 → p ≤ 1 → h ≤ 1 → n / 2 ^ 32 ≡ p + h * 2 ^ 16 → AreFlags w n
+    of p h low x y k = OfLinux (n % 2 ^ 32) p h lin low x y (omega (arith, k, div-add-mod' n (2 ^ 32)))
+
+    either : (a b : Bool) → (a || b) ≡ true → (a ≡ true) ⊎ (b ≡ true)
+    either true b x = inl refl
+    either false b x = inr x
+
+    is : (a b : ℕ) → (a == b) ≡ true → a ≡ b
+    is a b x = grind (arith, nat_tests, x)
+
+    third : n % 2 ^ 32 ≤ 1 → ((n / 2 ^ 32 == 2 ^ 16) ≡ true) ⊎ ((n / 2 ^ 32 == 2 ^ 16 + 1) ≡ true) → AreFlags w n
+    third low (inl x) = of 0 1 low (omega arith) (omega arith) (omega (arith, is (n / 2 ^ 32) (2 ^ 16) x))
+    third low (inr x) = of 1 1 low (omega arith) (omega arith) (omega (arith, is (n / 2 ^ 32) (2 ^ 16 + 1) x))
+
+    second : n % 2 ^ 32 ≤ 1 → ((n / 2 ^ 32 == 1) ≡ true) ⊎ (((n / 2 ^ 32 == 2 ^ 16) || (n / 2 ^ 32 == 2 ^ 16 + 1)) ≡ true) → AreFlags w n
+    second low (inl x) = of 1 0 low (omega arith) (omega arith) (omega (arith, is (n / 2 ^ 32) 1 x))
+    second low (inr x) = third low (either (n / 2 ^ 32 == 2 ^ 16) (n / 2 ^ 32 == 2 ^ 16 + 1) x)
+
+    first : n % 2 ^ 32 ≤ 1 → ((n / 2 ^ 32 == 0) ≡ true) ⊎ (((n / 2 ^ 32 == 1) || ((n / 2 ^ 32 == 2 ^ 16) || (n / 2 ^ 32 == 2 ^ 16 + 1))) ≡ true) → AreFlags w n
+    first low (inl x) = of 0 0 low (omega arith) (omega arith) (omega (arith, is (n / 2 ^ 32) 0 x))
+    first low (inr x) = second low (either (n / 2 ^ 32 == 1) ((n / 2 ^ 32 == 2 ^ 16) || (n / 2 ^ 32 == 2 ^ 16 + 1)) x)
+
+    go : (nat_le (n % 2 ^ 32) 1 ≡ true) × (((n / 2 ^ 32 == 0) || ((n / 2 ^ 32 == 1) || ((n / 2 ^ 32 == 2 ^ 16) || (n / 2 ^ 32 == 2 ^ 16 + 1)))) ≡ true) → AreFlags w n
+    go h = first (grind (arith, nat_tests, h.0)) (either (n / 2 ^ 32 == 0) ((n / 2 ^ 32 == 1) || ((n / 2 ^ 32 == 2 ^ 16) || (n / 2 ^ 32 == 2 ^ 16 + 1))) h.1)
+
+linux_flags_of : (n wake p h : ℕ) → wake ≤ 1 → p ≤ 1 → h ≤ 1 → n ≡ wake + p * 2 ^ 32 + h * 2 ^ 48 → are_linux_flags n ≡ true
+linux_flags_of n wake p h a b c k = and_true (nat_le (n % 2 ^ 32) 1) _ low (go (cases_eq p 0) (cases_eq h 0))
+  where
+    low : nat_le (n % 2 ^ 32) 1 ≡ true
+    low = let l : n % 2 ^ 32 ≤ 1 = omega (arith, a, b, c, k) in grind (arith, nat_tests, l)
+
+    first : (x : Bool) (y : Bool) → x ≡ true → (x || y) ≡ true
+    first x y e = rw e refl
+
+    second : (x : Bool) (y : Bool) → y ≡ true → (x || y) ≡ true
+    second true y e = refl
+    second false y e = e
+
+    high : (m : ℕ) → n / 2 ^ 32 ≡ m → (n / 2 ^ 32 == m) ≡ true
+    high m e = eq-eqb (n / 2 ^ 32) m e
+
+    go : (p ≡ 0) ⊎ (p ≡ 0 → ⊥) → (h ≡ 0) ⊎ (h ≡ 0 → ⊥) → ((n / 2 ^ 32 == 0) || ((n / 2 ^ 32 == 1) || ((n / 2 ^ 32 == 2 ^ 16) || (n / 2 ^ 32 == 2 ^ 16 + 1)))) ≡ true
+    go (inl x) (inl y) = first (n / 2 ^ 32 == 0) _ (high 0 (omega (arith, a, k, x, y)))
+    go (inr x) (inl y) = second (n / 2 ^ 32 == 0) _ (first (n / 2 ^ 32 == 1) _ (high 1 (omega (arith, a, b, k, x, y))))
+    go (inl x) (inr y) = second (n / 2 ^ 32 == 0) _ (second (n / 2 ^ 32 == 1) _ (first (n / 2 ^ 32 == 2 ^ 16) _ (high (2 ^ 16) (omega (arith, a, c, k, x, y)))))
+    go (inr x) (inr y) = second (n / 2 ^ 32 == 0) _ (second (n / 2 ^ 32 == 1) _ (second (n / 2 ^ 32 == 2 ^ 16) _ (high (2 ^ 16 + 1) (omega (arith, a, b, c, k, x, y)))))
+
+abbrev known_as : ℕ → Bool → Bool
+known_as n b = if b then are_linux_flags n else nat_le n 1
+
+flags_is : (w : WorldState) (n : ℕ) → are_known w n ≡ true → AreFlags w n
+flags_is w n e = go (is_by_linux w) refl e
+  where
+    go : (b : Bool) → is_by_linux w ≡ b → known_as n b ≡ true → AreFlags w n
+    go true x y = linux_flags_is w n x y
+    go false x y = OfWake (grind (arith, nat_tests, y))
+
+flags_of : (w : WorldState) (n : ℕ) → AreFlags w n → are_known w n ≡ true
+flags_of w n (OfLinux a b c lin x y z k) = ap (λ o. known_as n o) lin ∙ linux_flags_of n a b c x y z k
+flags_of w n (OfWake l) = go (is_by_linux w)
+  where
+    go : (b : Bool) → known_as n b ≡ true
+    go true = linux_flags_of n n 0 0 l (omega arith) (omega arith) (omega arith)
+    go false = grind (arith, nat_tests, l)
+
+no_flags : (w : WorldState) (n : ℕ) → ¬ AreFlags w n → are_known w n ≡ false
+no_flags w n f = is_false (are_known w n) (λ e. f (flags_is w n e))
+
 -- ---- the fault of an insert
 
 held_is : (o : Option Entry) → is_in held_queue o ≡ true → option_map (λ p. p.queue) o ≡ Some held_queue
@@ -233,7 +315,7 @@ may_insert_of w t (InDispatch u x y z) = rw (x, y) (held_of (entry_of w.queues u
 insert_fault_is : (w : WorldState) (t : Option ℕ) (i : Insert) (flags : ℕ) → JudgesInsert w t i flags (insert_fault w t i flags)
 insert_fault_is w t i flags = go (may_insert w t) refl
   where
-    at_rank : MayInsert w t → flags ≤ 1 → IsDestination w i.queue → (o : Option Fault) → RankOf w i.queue i.rank o → JudgesInsert w t i flags o
+    at_rank : MayInsert w t → AreFlags w flags → IsDestination w i.queue → (o : Option Fault) → RankOf w i.queue i.rank o → JudgesInsert w t i flags o
     at_rank m l d None h = (m, l, d, h.0, h.1)
     at_rank m l d (Some BuiltinVtime) h = (m, l, d, h)
     at_rank m l d (Some Mixed) h = (m, l, d, h.0, h.1)
@@ -244,7 +326,7 @@ insert_fault_is w t i flags = go (may_insert w t) refl
     at_rank m l d (Some CannotCreate) h = absurd h
     at_rank m l d (Some Stuck) h = absurd h
 
-    at_queue : MayInsert w t → flags ≤ 1 → (o : Option Fault) → FaultOf w i.queue o → JudgesInsert w t i flags (or_fault o (rank_fault w i.queue i.rank))
+    at_queue : MayInsert w t → AreFlags w flags → (o : Option Fault) → FaultOf w i.queue o → JudgesInsert w t i flags (or_fault o (rank_fault w i.queue i.rank))
     at_queue m l None h = at_rank m l h (rank_fault w i.queue i.rank) (rank_fault_is w i.queue i.rank)
     at_queue m l (Some NoSuchQueue) h = (m, l, h.0, h.1)
     at_queue m l (Some NoSuchCpu) h = (m, l, h)
@@ -255,12 +337,12 @@ insert_fault_is w t i flags = go (may_insert w t) refl
     at_queue m l (Some BuiltinVtime) h = absurd h
     at_queue m l (Some Mixed) h = absurd h
 
-    at_flag : MayInsert w t → (b : Bool) → nat_lt 1 flags ≡ b → JudgesInsert w t i flags (if b then Some UnknownFlag else or_fault (queue_fault w i.queue) (rank_fault w i.queue i.rank))
-    at_flag m true e = (m, grind (arith, nat_tests, e))
-    at_flag m false e = at_queue m (grind (arith, nat_tests, e)) (queue_fault w i.queue) (queue_fault_is w i.queue)
+    at_flag : MayInsert w t → (b : Bool) → are_known w flags ≡ b → JudgesInsert w t i flags (or_fault (if b then None else Some UnknownFlag) (or_fault (queue_fault w i.queue) (rank_fault w i.queue i.rank)))
+    at_flag m false e = (m, λ h. not_both (are_known w flags) e (flags_of w flags h))
+    at_flag m true e = at_queue m (flags_is w flags e) (queue_fault w i.queue) (queue_fault_is w i.queue)
 
-    go : (b : Bool) → may_insert w t ≡ b → JudgesInsert w t i flags (if b then (if nat_lt 1 flags then Some UnknownFlag else or_fault (queue_fault w i.queue) (rank_fault w i.queue i.rank)) else Some CannotInsert)
-    go true e = at_flag (insert_is w t e) (nat_lt 1 flags) refl
+    go : (b : Bool) → may_insert w t ≡ b → JudgesInsert w t i flags (if b then or_fault (flags_fault w flags) (or_fault (queue_fault w i.queue) (rank_fault w i.queue i.rank)) else Some CannotInsert)
+    go true e = at_flag (insert_is w t e) (are_known w flags) refl
     go false e = λ m. not_both (may_insert w t) e (may_insert_of w t m)
 
 apart : (w : WorldState) (q : ℕ) → IsDestination w q → NamesNoCpu w q → ⊥
@@ -302,27 +384,36 @@ no_queue_at w q d n (Some Stuck) h = absurd h
 no_queue_at w q d n (Some BuiltinVtime) h = absurd h
 no_queue_at w q d n (Some Mixed) h = absurd h
 
-few_flags : (flags : ℕ) → flags ≤ 1 → nat_lt 1 flags ≡ false
-few_flags flags l = grind (arith, nat_tests, l)
+known_fault : (w : WorldState) (flags : ℕ) → AreFlags w flags → flags_fault w flags ≡ None
+known_fault w flags h = ap (λ b. if b then None else Some UnknownFlag) (flags_of w flags h)
+
+unknown_fault : (w : WorldState) (flags : ℕ) → ¬ AreFlags w flags → flags_fault w flags ≡ Some UnknownFlag
+unknown_fault w flags n = ap (λ b. if b then None else Some UnknownFlag) (no_flags w flags n)
+
+abbrev fault_as : WorldState → Insert → Option Fault → Bool → Option Fault
+fault_as w i f b = if b then or_fault f (or_fault (queue_fault w i.queue) (rank_fault w i.queue i.rank)) else Some CannotInsert
+
+-- of a task that may be inserted, with flags that are known
+insert_fault_at : (w : WorldState) (t : Option ℕ) (i : Insert) (flags : ℕ) → MayInsert w t → AreFlags w flags → insert_fault w t i flags ≡ or_fault (queue_fault w i.queue) (rank_fault w i.queue i.rank)
+insert_fault_at w t i flags m l = ap (λ b. fault_as w i (flags_fault w flags) b) (may_insert_of w t m) ∙ ap (λ f. fault_as w i f true) (known_fault w flags l)
 
 insert_fault_from : (w : WorldState) (t : Option ℕ) (i : Insert) (flags : ℕ) (o : Option Fault) → JudgesInsert w t i flags o → insert_fault w t i flags ≡ o
 insert_fault_from w t i flags o j = go o j
   where
     -- once the queue is right
-    at_rank : MayInsert w t → flags ≤ 1 → IsDestination w i.queue → (o : Option Fault) → RankOf w i.queue i.rank o → insert_fault w t i flags ≡ o
+    at_rank : MayInsert w t → AreFlags w flags → IsDestination w i.queue → (o : Option Fault) → RankOf w i.queue i.rank o → insert_fault w t i flags ≡ o
     at_rank m l d o h =
-        rw (may_insert_of w t m, few_flags flags l)
-        (ap (λ x. or_fault x (rank_fault w i.queue i.rank)) (no_fault_at w i.queue d (queue_fault w i.queue) (queue_fault_is w i.queue)) ∙ rank_fault_from w i.queue i.rank o h)
+        insert_fault_at w t i flags m l ∙ ap (λ x. or_fault x (rank_fault w i.queue i.rank)) (no_fault_at w i.queue d (queue_fault w i.queue) (queue_fault_is w i.queue)) ∙ rank_fault_from w i.queue i.rank o h
 
-    at_queue : MayInsert w t → flags ≤ 1 → (f : Fault) → queue_fault w i.queue ≡ Some f → insert_fault w t i flags ≡ Some f
-    at_queue m l f e = rw (may_insert_of w t m, few_flags flags l) (ap (λ x. or_fault x (rank_fault w i.queue i.rank)) e)
+    at_queue : MayInsert w t → AreFlags w flags → (f : Fault) → queue_fault w i.queue ≡ Some f → insert_fault w t i flags ≡ Some f
+    at_queue m l f e = insert_fault_at w t i flags m l ∙ ap (λ x. or_fault x (rank_fault w i.queue i.rank)) e
 
     go : (o : Option Fault) → JudgesInsert w t i flags o → insert_fault w t i flags ≡ o
     go None j = at_rank j.0 j.1 j.2 None (j.3, j.4)
     go (Some BuiltinVtime) j = at_rank j.0 j.1 j.2 (Some BuiltinVtime) j.3
     go (Some Mixed) j = at_rank j.0 j.1 j.2 (Some Mixed) (j.3, j.4)
     go (Some CannotInsert) j = rw (is_false (may_insert w t) (λ e. j (insert_is w t e))) refl
-    go (Some UnknownFlag) j = let l : nat_lt 1 flags ≡ true = grind (arith, nat_tests, j.1) in rw (may_insert_of w t j.0, l) refl
+    go (Some UnknownFlag) j = ap (λ b. fault_as w i (flags_fault w flags) b) (may_insert_of w t j.0) ∙ ap (λ f. fault_as w i f true) (unknown_fault w flags j.1)
     go (Some NoSuchQueue) j = at_queue j.0 j.1 NoSuchQueue (no_queue_at w i.queue j.2 j.3 (queue_fault w i.queue) (queue_fault_is w i.queue))
     go (Some NoSuchCpu) j = at_queue j.0 j.1 NoSuchCpu (no_cpu_at w i.queue j.2 (queue_fault w i.queue) (queue_fault_is w i.queue))
     go (Some CannotCreate) j = absurd j
@@ -332,22 +423,121 @@ insert_fault_from w t i flags o j = go o j
 is_dispatch_of : (b : Callback) → b ≡ callback.Dispatch → is_dispatch b ≡ true
 is_dispatch_of b e = rw e refl
 
-inserts : (w : WorldState) (t : Option ℕ) (i : Insert) → MayInsert w t → Inserts w t i (insert_or_fault w None t i)
-inserts w t i m = go m
+inserts : (w : WorldState) (t : Option ℕ) (i : Insert) → ¬ IsLate w t → MayInsert w t → Inserts w t i (insert_or_fault w None t i)
+inserts w t i on m = go m
   where
     kept : (b : Callback) → w.call.callback ≡ b → is_dispatch b ≡ false → Inserts w t i (insert_or_fault w None t i)
     kept b x other =
         let d : is_dispatch w.call.callback ≡ false = rw x other in
         rw d (Keeps (λ e. not_both (is_dispatch w.call.callback) d (is_dispatch_of w.call.callback e)) refl)
 
+    release : (u : ℕ) → w.call.callback ≡ callback.Dispatch → (o : Option ℕ) → o ≡ Some u → ¬ IsLate w o → Inserts w o i (insert_or_fault w None o i)
+    release u x o y on = rw (is_dispatch_of w.call.callback x) (at o y on)
+      where
+        at : (o : Option ℕ) → o ≡ Some u → ¬ IsLate w o → Inserts w o i (after_release w o (for_cpu w.call.cpu i))
+        at None y on = absurd (cc)
+        at (Some v) y on = Releases v x refl on refl
+
     go : MayInsert w t → Inserts w t i (insert_or_fault w None t i)
     go (InSelectCpu x y z) = kept callback.SelectCpu x refl
     go (InEnqueue x y z) = kept callback.Enqueue x refl
-    go (InDispatch u x y z) = rw (is_dispatch_of w.call.callback x, y) (Releases u x refl refl)
+    go (InDispatch u x y z) = release u x t y on
 
-only_inserts : (w : WorldState) (t : Option ℕ) (i : Insert) (v : WorldState) → Inserts w t i v → v ≡ insert_or_fault w None t i
-only_inserts w t i v (Keeps n k) = rw (is_false (is_dispatch w.call.callback) (λ e. n (dispatch_is w.call.callback e))) k
-only_inserts w t i v (Releases u x y k) = rw (is_dispatch_of w.call.callback x, y) k
+only_inserts : (w : WorldState) (t : Option ℕ) (i : Insert) (v : WorldState) → ¬ IsLate w t → Inserts w t i v → v ≡ insert_or_fault w None t i
+only_inserts w t i v on (Keeps n k) = rw (is_false (is_dispatch w.call.callback) (λ e. n (dispatch_is w.call.callback e))) k
+only_inserts w t i v on (Releases u x y _ k) = rw (is_dispatch_of w.call.callback x, y) k
+only_inserts w t i v on (PassesOver l k) = absurd (on l)
+
+-- ---- late inserts
+
+late_is : (w : WorldState) (t : Option ℕ) → is_late w t ≡ true → IsLate w t
+late_is w t e =
+    let x = both (is_by_linux w) (is_dispatch w.call.callback && not (is_held w t)) e in
+    let y = both (is_dispatch w.call.callback) (not (is_held w t)) x.1 in
+    let here = dispatch_is w.call.callback y.0 in
+    record { by_linux = x.0; here = here; gone = λ m. not_both (is_held w t) (not_true (is_held w t) y.1) (sym (ap (λ b. may_insert_in b w t) here) ∙ may_insert_of w t m) }
+
+late_of : (w : WorldState) (t : Option ℕ) → IsLate w t → is_late w t ≡ true
+late_of w t h =
+    let gone = is_false (is_held w t) (λ e. h.gone (insert_is w t (ap (λ b. may_insert_in b w t) h.here ∙ e))) in
+    and_true (is_by_linux w) (is_dispatch w.call.callback && not (is_held w t)) h.by_linux (and_true (is_dispatch w.call.callback) (not (is_held w t)) (is_dispatch_of w.call.callback h.here) (ap (λ b. not b) gone))
+
+flags_judged : (w : WorldState) (flags : ℕ) → JudgesFlags w flags (flags_fault w flags)
+flags_judged w flags = go (are_known w flags) refl
+  where
+    go : (b : Bool) → are_known w flags ≡ b → JudgesFlags w flags (if b then None else Some UnknownFlag)
+    go true e = flags_is w flags e
+    go false e = λ h. not_both (are_known w flags) e (flags_of w flags h)
+
+flags_from : (w : WorldState) (flags : ℕ) (o : Option Fault) → JudgesFlags w flags o → flags_fault w flags ≡ o
+flags_from w flags None j = known_fault w flags j
+flags_from w flags (Some UnknownFlag) j = unknown_fault w flags j
+flags_from w flags (Some CannotInsert) j = absurd j
+flags_from w flags (Some NoSuchQueue) j = absurd j
+flags_from w flags (Some NoSuchCpu) j = absurd j
+flags_from w flags (Some BuiltinVtime) j = absurd j
+flags_from w flags (Some Mixed) j = absurd j
+flags_from w flags (Some CannotCreate) j = absurd j
+flags_from w flags (Some Stuck) j = absurd j
+
+-- an insert, in time or late: its fault, and what it does
+abbrev answered_as : WorldState → Option ℕ → Insert → ℕ → Bool → ℕ
+answered_as w t i flags b = if b then invalid_if (flags_fault w flags) else invalid_if (insert_fault w t i flags)
+
+abbrev inserted_as : WorldState → Option ℕ → Insert → ℕ → Bool → WorldState
+inserted_as w t i flags b = if b then after_late w (flags_fault w flags) else insert_or_fault w (insert_fault w t i flags) t i
+
+pub data DoesInsert (w : WorldState) (t : Option ℕ) (i : Insert) (flags n : ℕ) (v : WorldState) : Type 0 where
+  DoneInsert : JudgesAnInsert w t i flags None → n ≡ 0 → Inserts w t i v → DoesInsert w t i flags n v
+  WrongInsert : (f : Fault) → JudgesAnInsert w t i flags (Some f) → n ≡ invalid → v ≡ with_fault w f → DoesInsert w t i flags n v
+
+does_insert : (w : WorldState) (t : Option ℕ) (i : Insert) (flags : ℕ) → DoesInsert w t i flags (insert_answer w t i flags) (after_insert w t i flags)
+does_insert w t i flags = go (is_late w t) refl
+  where
+    late : IsLate w t → (o : Option Fault) → JudgesFlags w flags o → DoesInsert w t i flags (invalid_if o) (after_late w o)
+    late l None j = DoneInsert (TooLate l j) refl (PassesOver l refl)
+    late l (Some f) j = WrongInsert f (TooLate l j) refl refl
+
+    may : JudgesInsert w t i flags None → MayInsert w t
+    may j = j.0
+
+    on_time : ¬ IsLate w t → (o : Option Fault) → JudgesInsert w t i flags o → DoesInsert w t i flags (invalid_if o) (insert_or_fault w o t i)
+    on_time n None j = DoneInsert (InTime n j) refl (inserts w t i n (may j))
+    on_time n (Some f) j = WrongInsert f (InTime n j) refl refl
+
+    go : (b : Bool) → is_late w t ≡ b → DoesInsert w t i flags (answered_as w t i flags b) (inserted_as w t i flags b)
+    go true e = late (late_is w t e) (flags_fault w flags) (flags_judged w flags)
+    go false e = on_time (λ h. not_both (is_late w t) e (late_of w t h)) (insert_fault w t i flags) (insert_fault_is w t i flags)
+
+abbrev Inserted-so : WorldState → Option ℕ → Insert → ℕ → ℕ → WorldState → Type 0
+Inserted-so w t i flags n v = (n ≡ insert_answer w t i flags) × (v ≡ after_insert w t i flags)
+
+only_in_time : (w : WorldState) (t : Option ℕ) (i : Insert) (flags : ℕ) (o : Option Fault) (n : ℕ) (v : WorldState) → ¬ IsLate w t → JudgesInsert w t i flags o → n ≡ invalid_if o → v ≡ insert_or_fault w o t i → Inserted-so w t i flags n v
+only_in_time w t i flags o n v on j x y =
+    let e = is_false (is_late w t) (λ l. on (late_is w t l)) in
+    let f = insert_fault_from w t i flags o j in (
+      x ∙ ap (λ k. invalid_if k) (sym f) ∙ ap (λ b. answered_as w t i flags b) (sym e),
+      y ∙ ap (λ k. insert_or_fault w k t i) (sym f) ∙ ap (λ b. inserted_as w t i flags b) (sym e),
+    )
+
+only_late : (w : WorldState) (t : Option ℕ) (i : Insert) (flags : ℕ) (o : Option Fault) (n : ℕ) (v : WorldState) → IsLate w t → JudgesFlags w flags o → n ≡ invalid_if o → v ≡ after_late w o → Inserted-so w t i flags n v
+only_late w t i flags o n v l j x y =
+    let e = late_of w t l in
+    let f = flags_from w flags o j in (
+      x ∙ ap (λ k. invalid_if k) (sym f) ∙ ap (λ b. answered_as w t i flags b) (sym e),
+      y ∙ ap (λ k. after_late w k) (sym f) ∙ ap (λ b. inserted_as w t i flags b) (sym e),
+    )
+
+only_passes_over : (w : WorldState) (t : Option ℕ) (i : Insert) (v : WorldState) → IsLate w t → Inserts w t i v → v ≡ with_move w
+only_passes_over w t i v l (PassesOver _ k) = k
+only_passes_over w t i v l (Keeps n k) = absurd (n l.here)
+only_passes_over w t i v l (Releases u x y n k) = absurd (n l)
+
+only_does_insert : (w : WorldState) (t : Option ℕ) (i : Insert) (flags n : ℕ) (v : WorldState) → DoesInsert w t i flags n v → Inserted-so w t i flags n v
+only_does_insert w t i flags n v (DoneInsert (InTime on j) x h) = only_in_time w t i flags None n v on j x (only_inserts w t i v on h)
+only_does_insert w t i flags n v (DoneInsert (TooLate l j) x h) = only_late w t i flags None n v l j x (only_passes_over w t i v l h)
+only_does_insert w t i flags n v (WrongInsert f (InTime on j) x k) = only_in_time w t i flags (Some f) n v on j x k
+only_does_insert w t i flags n v (WrongInsert f (TooLate l j) x k) = only_late w t i flags (Some f) n v l j x k
 
 -- ---- creating a queue
 
@@ -381,7 +571,7 @@ can_move_of w q h = rw (h.here, is_there_of w q h.there) refl
 
 moves_is : (w : WorldState) (q : ℕ) (o : Option ℕ) → front_of w.queues q ≡ o → Moves w q (one_if_some o) (front_moved_to_local w o q)
 moves_is w q None e = Empty e refl refl
-moves_is w q (Some t) e = Front t e refl refl
+moves_is w q (Some t) e = let v = with_queues w (after_push (after_pop w.queues q) (local_on w.call.cpu) t Fifo) in Front t (homed v t w.call.cpu) e refl (homes v t w.call.cpu) refl
 
 -- ---- all helpers
 
@@ -399,18 +589,18 @@ create_allowed w a = go (can_create w q) refl
     go false e = Wrong CannotCreate (λ h. not_both (can_create w q) e (can_create_of w q h)) refl refl
 
 insert_allowed : (w : WorldState) (a : List Arg) → Is-effect w DsqInsert a
-insert_allowed w a = go (insert_fault w (given_task a 0) (insert_of a) (given_number a 3)) (insert_fault_is w (given_task a 0) (insert_of a) (given_number a 3))
+insert_allowed w a = go (does_insert w (given_task a 0) (insert_of w a) (given_number a 3))
   where
-    go : (o : Option Fault) → Judges w DsqInsert a o → IsEffect w DsqInsert a (Num (invalid_if o)) (insert_or_fault w o (given_task a 0) (insert_of a))
-    go None j = Done 0 j (refl, inserts w (given_task a 0) (insert_of a) j.0) refl
-    go (Some f) j = Wrong f j refl refl
+    go : {n : ℕ} {v : WorldState} → DoesInsert w (given_task a 0) (insert_of w a) (given_number a 3) n v → IsEffect w DsqInsert a (Num n) v
+    go {n} (DoneInsert j x h) = Done n j (x, h) refl
+    go (WrongInsert f j x k) = Wrong f j (ap Num x) k
 
 insert_vtime_allowed : (w : WorldState) (a : List Arg) → Is-effect w DsqInsertVtime a
-insert_vtime_allowed w a = go (insert_fault w (given_task a 0) (insert_of_vtime a) (given_number a 4)) (insert_fault_is w (given_task a 0) (insert_of_vtime a) (given_number a 4))
+insert_vtime_allowed w a = go (does_insert w (given_task a 0) (insert_of_vtime w a) (given_number a 4))
   where
-    go : (o : Option Fault) → Judges w DsqInsertVtime a o → IsEffect w DsqInsertVtime a (Num (invalid_if o)) (insert_or_fault w o (given_task a 0) (insert_of_vtime a))
-    go None j = Done 0 j (refl, inserts w (given_task a 0) (insert_of_vtime a) j.0) refl
-    go (Some f) j = Wrong f j refl refl
+    go : {n : ℕ} {v : WorldState} → DoesInsert w (given_task a 0) (insert_of_vtime w a) (given_number a 4) n v → IsEffect w DsqInsertVtime a (Num n) v
+    go {n} (DoneInsert j x h) = Done n j (x, h) refl
+    go (WrongInsert f j x k) = Wrong f j (ap Num x) k
 
 move_allowed : (w : WorldState) (a : List Arg) → Is-effect w DsqMoveToLocal a
 move_allowed w a = go (can_move w q) refl
@@ -432,16 +622,36 @@ queued_allowed w a = go (is_there w q) refl
     go true e = Done (len_of w.queues q) (there_is w q e) (refl, refl) refl
     go false e = Wrong NoSuchQueue (λ h. not_both (is_there w q) e (is_there_of w q h)) refl refl
 
-chooses : (w : WorldState) (o : Option ℕ) → Chooses w (choice_answer w o) o
-chooses w None = OfNobody refl
-chooses w (Some t) = OfTask t (is_choice w t)
-
-tells : (w : WorldState) (c : ℕ) → Tells w c (one_if (is_idle w c))
-tells w c = go (is_idle w c) refl
+chooses : (w : WorldState) (o : Option ℕ) → Chooses w (choice_answer w o) o (after_choice w o)
+chooses w None = OfNobody refl refl refl
+chooses w (Some t) = go (choice w t) (is_choice w t)
   where
-    go : (b : Bool) → is_idle w c ≡ b → Tells w c (one_if b)
-    go true e = TellsIdle e refl
-    go false e = TellsBusy e refl
+    go : (o : Option ℕ) → IsChoice w t o → Chooses w (unwrap_or o (task_at w t).prev_cpu) (Some t) (after_claim w o)
+    go (Some c) h = OfTask t refl h (claims w c)
+    go None h = OfNone t refl h refl refl
+
+seems_is : (w : WorldState) (c : ℕ) → seems_idle w c ≡ true → SeemsIdle w c
+seems_is w c e = let x = both (is_idle w c) (not (is_claimed w c) || is_in_set w.call.claims c) e in go (is_claimed w c) refl (is_in_set w.call.claims c) refl x.0 x.1
+  where
+    go : (a : Bool) → is_claimed w c ≡ a → (b : Bool) → is_in_set w.call.claims c ≡ b → is_idle w c ≡ true → (not a || b) ≡ true → SeemsIdle w c
+    go false x b y i z = IsUnclaimed (record { idle = i; unclaimed = x })
+    go true x true y i z = ClaimedHere i y
+    go true x false y i z = absurd (cc)
+
+seems_of : (w : WorldState) (c : ℕ) → SeemsIdle w c → seems_idle w c ≡ true
+seems_of w c (IsUnclaimed h) = and_true (is_idle w c) (not (is_claimed w c) || is_in_set w.call.claims c) h.idle (rw h.unclaimed refl)
+seems_of w c (ClaimedHere i h) = and_true (is_idle w c) (not (is_claimed w c) || is_in_set w.call.claims c) i (second (not (is_claimed w c)) (is_in_set w.call.claims c) h)
+  where
+    second : (x : Bool) (y : Bool) → y ≡ true → (x || y) ≡ true
+    second true y e = refl
+    second false y e = e
+
+tells : (w : WorldState) (c : ℕ) → Tells w c (one_if (seems_idle w c))
+tells w c = go (seems_idle w c) refl
+  where
+    go : (b : Bool) → seems_idle w c ≡ b → Tells w c (one_if b)
+    go true e = TellsIdle (seems_is w c e) refl
+    go false e = TellsBusy (λ h. not_both (seems_idle w c) e (seems_of w c h)) refl
 
 idle_allowed : (w : WorldState) (a : List Arg) → Is-effect w CpuIdle a
 idle_allowed w a = go (nat_lt c (length w.cpus)) refl
@@ -449,9 +659,70 @@ idle_allowed w a = go (nat_lt c (length w.cpus)) refl
     c : ℕ
     c = given_number a 0
 
-    go : (b : Bool) → nat_lt c (length w.cpus) ≡ b → IsEffect w CpuIdle a (Num (if b then one_if (is_idle w c) else invalid)) (if b then w else with_fault w NoSuchCpu)
-    go true e = Done (one_if (is_idle w c)) (grind (arith, nat_tests, e)) (tells w c, refl) refl
+    go : (b : Bool) → nat_lt c (length w.cpus) ≡ b → IsEffect w CpuIdle a (Num (if b then one_if (seems_idle w c) else invalid)) (if b then w else with_fault w NoSuchCpu)
+    go true e = Done (one_if (seems_idle w c)) (grind (arith, nat_tests, e)) (tells w c, refl) refl
     go false e = Wrong NoSuchCpu (grind (arith, nat_tests, e)) refl refl
+
+-- ---- kicks
+
+this_is : (c : ℕ) (o : Option ℕ) → is_this c o ≡ true → o ≡ Some c
+this_is c None e = absurd (cc)
+this_is c (Some d) e = let x : d ≡ c = grind (arith, nat_tests, e) in ap (λ y. Some y) x
+
+this_of : (c : ℕ) (o : Option ℕ) → o ≡ Some c → is_this c o ≡ true
+this_of c o e = ap (λ x. is_this c x) e ∙ eq-eqb c c refl
+
+kick_any : (n : ℕ) → n ≡ 0 → kick_of n ≡ Some Any
+kick_any n z = rw z refl
+
+kick_idle : (n : ℕ) → n ≡ 1 → kick_of n ≡ Some IfIdle
+kick_idle n z = rw z refl
+
+kick_preempt : (n : ℕ) → n ≡ 2 → kick_of n ≡ Some Preempt
+kick_preempt n z = rw z refl
+
+kick_none : (n : ℕ) → 2 < n → kick_of n ≡ None
+kick_none n l = rw (ne_eqb n 0 (λ z. omega (arith, z, l)), ne_eqb n 1 (λ z. omega (arith, z, l)), ne_eqb n 2 (λ z. omega (arith, z, l))) refl
+
+-- which kick flags ask for
+record IsKick (w : WorldState) (c n : ℕ) : Type 0 where
+  kick : Kick
+  asked : kick_of n ≡ Some kick
+  kicks : Kicks w c n (kicked_so w c kick)
+
+kicks_so : (w : WorldState) (c n : ℕ) → n ≤ 2 → IsKick w c n
+kicks_so w c n l = first (cases_eq n 0) (cases_eq n 1)
+  where
+    idle : n ≡ 1 → (o : Option ℕ) → running w c ≡ o → (b : Bool) → is_this c w.cycling ≡ b → Kicks w c n (if is_none o || b then with_kick w c else w)
+    idle e None x b y = KicksIdle e x refl
+    idle e (Some t) x true y = KicksCycling e (this_is c w.cycling y) refl
+    idle e (Some t) x false y = LeavesBusy t e x (λ z. not_both (is_this c w.cycling) y (this_of c w.cycling z)) refl
+
+    first : (n ≡ 0) ⊎ (n ≡ 0 → ⊥) → (n ≡ 1) ⊎ (n ≡ 1 → ⊥) → IsKick w c n
+    first (inl z) any = record { kick = Any; asked = kick_any n z; kicks = KicksAny z refl }
+    first (inr d) (inl e) = record { kick = IfIdle; asked = kick_idle n e; kicks = idle e (running w c) refl (is_this c w.cycling) refl }
+    first (inr d) (inr f) = let e : n ≡ 2 = omega (arith, l, d, f) in record { kick = Preempt; asked = kick_preempt n e; kicks = KicksToPreempt e refl }
+
+abbrev Kick-effect : WorldState → List Arg → Option Kick → Type 0
+Kick-effect w a o = IsEffect w KickCpu a (Num (invalid_if (kick_fault w (given_number a 0) o))) (kicked_or_fault w (kick_fault w (given_number a 0) o) (given_number a 0) o)
+
+kick_allowed : (w : WorldState) (a : List Arg) → Is-effect w KickCpu a
+kick_allowed w a = go (cases_lt 2 n)
+  where
+    c : ℕ
+    c = given_number a 0
+
+    n : ℕ
+    n = given_number a 1
+
+    at : (k : Kick) → n ≤ 2 → Kicks w c n (kicked_so w c k) → (b : Bool) → nat_lt c (length w.cpus) ≡ b
+        → IsEffect w KickCpu a (Num (invalid_if (if b then None else Some NoSuchCpu))) (kicked_or_fault w (if b then None else Some NoSuchCpu) c (Some k))
+    at k l h true e = Done 0 (l, grind (arith, nat_tests, e)) (refl, h) refl
+    at k l h false e = Wrong NoSuchCpu (l, grind (arith, nat_tests, e)) refl refl
+
+    go : (2 < n) ⊎ (n ≤ 2) → Is-effect w KickCpu a
+    go (inl l) = subst (λ o. Kick-effect w a o) (sym (kick_none n l)) (Wrong UnknownFlag l refl refl)
+    go (inr l) = let h = kicks_so w c n l in subst (λ o. Kick-effect w a o) (sym h.asked) (at h.kick l h.kicks (nat_lt c (length w.cpus)) refl)
 
 finds : (w : WorldState) (n : ℕ) → Finds w n (pid_answer w n)
 finds w n = go (nat_lt 0 n) (nat_le n (length w.tasks)) refl refl
@@ -471,10 +742,11 @@ helper_allowed w CreateDsq a own = create_allowed w a
 helper_allowed w DsqInsert a own = insert_allowed w a
 helper_allowed w DsqInsertVtime a own = insert_vtime_allowed w a
 helper_allowed w DsqMoveToLocal a own = move_allowed w a
-helper_allowed w SelectCpuDfl a own = Done (choice_answer w (given_task a 0)) refl (chooses w (given_task a 0), refl) refl
+helper_allowed w SelectCpuDfl a own = Done (choice_answer w (given_task a 0)) refl (chooses w (given_task a 0)) refl
 helper_allowed w CpuIdle a own = idle_allowed w a
 helper_allowed w TaskByPid a own = FindsTask refl (finds w (given_number a 0)) refl
 helper_allowed w DsqNrQueued a own = queued_allowed w a
+helper_allowed w KickCpu a own = kick_allowed w a
 helper_allowed w MapLookupElem a own = absurd (own refl)
 
 -- ---- and nothing else
@@ -495,22 +767,30 @@ only_create w a x v (Wrong Mixed j e k) = absurd j
 only_create w a x v (Wrong Stuck j e k) = absurd j
 
 only_insert : (w : WorldState) (a : List Arg) (x : Answer) (v : WorldState) → IsEffect w DsqInsert a x v → Is-this w DsqInsert a x v
-only_insert w a x v (Done n j d e) = let b = insert_fault_from w (given_task a 0) (insert_of a) (given_number a 3) None j in rw b (e ∙ ap Num d.0, only_inserts w (given_task a 0) (insert_of a) v d.1)
+only_insert w a x v (Done n j d e) = let h = only_does_insert w (given_task a 0) (insert_of w a) (given_number a 3) n v (DoneInsert j d.0 d.1) in (e ∙ ap Num h.0, h.1)
 only_insert w a x v (FindsTask h f e) = absurd (cc)
-only_insert w a x v (Wrong f j e k) = let b = insert_fault_from w (given_task a 0) (insert_of a) (given_number a 3) (Some f) j in rw b (e, k)
+only_insert w a x v (Wrong f j e k) = let h = only_does_insert w (given_task a 0) (insert_of w a) (given_number a 3) invalid v (WrongInsert f j refl k) in (e ∙ ap Num h.0, h.1)
 
 only_insert_vtime : (w : WorldState) (a : List Arg) (x : Answer) (v : WorldState) → IsEffect w DsqInsertVtime a x v → Is-this w DsqInsertVtime a x v
-only_insert_vtime w a x v (Done n j d e) = let b = insert_fault_from w (given_task a 0) (insert_of_vtime a) (given_number a 4) None j in rw b (e ∙ ap Num d.0, only_inserts w (given_task a 0) (insert_of_vtime a) v d.1)
+only_insert_vtime w a x v (Done n j d e) = let h = only_does_insert w (given_task a 0) (insert_of_vtime w a) (given_number a 4) n v (DoneInsert j d.0 d.1) in (e ∙ ap Num h.0, h.1)
 only_insert_vtime w a x v (FindsTask h f e) = absurd (cc)
-only_insert_vtime w a x v (Wrong f j e k) = let b = insert_fault_from w (given_task a 0) (insert_of_vtime a) (given_number a 4) (Some f) j in rw b (e, k)
+only_insert_vtime w a x v (Wrong f j e k) = let h = only_does_insert w (given_task a 0) (insert_of_vtime w a) (given_number a 4) invalid v (WrongInsert f j refl k) in (e ∙ ap Num h.0, h.1)
 
-only_chooses : (w : WorldState) (n : ℕ) (o : Option ℕ) → Chooses w n o → n ≡ choice_answer w o
-only_chooses w n o (OfTask t h) = only_choice w t n h
-only_chooses w n o (OfNobody e) = e
+abbrev Chosen-so : WorldState → ℕ → Option ℕ → WorldState → Type 0
+Chosen-so w n o v = (n ≡ choice_answer w o) × (v ≡ after_choice w o)
 
-only_tells : (w : WorldState) (c n : ℕ) → Tells w c n → n ≡ one_if (is_idle w c)
-only_tells w c n (TellsIdle e k) = rw e k
-only_tells w c n (TellsBusy e k) = rw e k
+only_chooses : (w : WorldState) (n : ℕ) (o : Option ℕ) (v : WorldState) → Chooses w n o v → Chosen-so w n o v
+only_chooses w n o v (OfTask t e h c) =
+    let x = only_choice w t (Some n) h in
+    (ap (λ y. unwrap_or y (task_at w t).prev_cpu) x ∙ ap (λ y. choice_answer w y) (sym e), only_claims w n v c ∙ ap (λ y. after_claim w y) x ∙ ap (λ y. after_choice w y) (sym e))
+only_chooses w n o v (OfNone t e h k z) =
+    let x = only_choice w t None h in
+    (k ∙ ap (λ y. unwrap_or y (task_at w t).prev_cpu) x ∙ ap (λ y. choice_answer w y) (sym e), z ∙ ap (λ y. after_claim w y) x ∙ ap (λ y. after_choice w y) (sym e))
+only_chooses w n o v (OfNobody e k z) = (k ∙ ap (λ y. choice_answer w y) (sym e), z ∙ ap (λ y. after_choice w y) (sym e))
+
+only_tells : (w : WorldState) (c n : ℕ) → Tells w c n → n ≡ one_if (seems_idle w c)
+only_tells w c n (TellsIdle h k) = rw (seems_of w c h) k
+only_tells w c n (TellsBusy f k) = rw (is_false (seems_idle w c) (λ e. f (seems_is w c e))) k
 
 only_idle : (w : WorldState) (a : List Arg) (x : Answer) (v : WorldState) → IsEffect w CpuIdle a x v → Is-this w CpuIdle a x v
 only_idle w a x v (Done n j d e) = go (nat_lt c (length w.cpus)) refl
@@ -518,7 +798,7 @@ only_idle w a x v (Done n j d e) = go (nat_lt c (length w.cpus)) refl
     c : ℕ
     c = given_number a 0
 
-    go : (b : Bool) → nat_lt c (length w.cpus) ≡ b → (x ≡ Num (if b then one_if (is_idle w c) else invalid)) × (v ≡ (if b then w else with_fault w NoSuchCpu))
+    go : (b : Bool) → nat_lt c (length w.cpus) ≡ b → (x ≡ Num (if b then one_if (seems_idle w c) else invalid)) × (v ≡ (if b then w else with_fault w NoSuchCpu))
     go true y = (e ∙ ap Num (only_tells w c n d.0), d.1)
     go false y = let past : length w.cpus ≤ c = grind (arith, nat_tests, y) in absurd (omega (arith, j, past))
 only_idle w a x v (FindsTask h f e) = absurd (cc)
@@ -527,7 +807,7 @@ only_idle w a x v (Wrong NoSuchCpu j e k) = go (nat_lt c (length w.cpus)) refl
     c : ℕ
     c = given_number a 0
 
-    go : (b : Bool) → nat_lt c (length w.cpus) ≡ b → (x ≡ Num (if b then one_if (is_idle w c) else invalid)) × (v ≡ (if b then w else with_fault w NoSuchCpu))
+    go : (b : Bool) → nat_lt c (length w.cpus) ≡ b → (x ≡ Num (if b then one_if (seems_idle w c) else invalid)) × (v ≡ (if b then w else with_fault w NoSuchCpu))
     go true y = let l : c < length w.cpus = grind (arith, nat_tests, y) in absurd (omega (arith, j, l))
     go false y = (e, k)
 only_idle w a x v (Wrong NoSuchQueue j e k) = absurd j
@@ -555,7 +835,9 @@ only_finds w n x (Nobody none k) = go (nat_lt 0 n) (nat_le n (length w.tasks)) r
     go false b y z = k
 
 only_moves : (w : WorldState) (q n : ℕ) (v : WorldState) → Moves w q n v → (n ≡ one_if_some (front_of w.queues q)) × (v ≡ front_moved_to_local w (front_of w.queues q) q)
-only_moves w q n v (Front t f e k) = rw f (e, k)
+only_moves w q n v (Front t moved f e h k) =
+    let u = with_queues w (after_push (after_pop w.queues q) (local_on w.call.cpu) t Fifo) in
+    rw f (e, k ∙ ap (λ x. with_note (with_move x) (notes.Move t w.call.cpu)) (only_homes u t w.call.cpu moved h))
 only_moves w q n v (Empty f e k) = rw f (e, k)
 
 only_move : (w : WorldState) (a : List Arg) (x : Answer) (v : WorldState) → IsEffect w DsqMoveToLocal a x v → Is-this w DsqMoveToLocal a x v
@@ -585,6 +867,41 @@ only_queued w a x v (Wrong NoSuchCpu j e k) = absurd j
 only_queued w a x v (Wrong BuiltinVtime j e k) = absurd j
 only_queued w a x v (Wrong Mixed j e k) = absurd j
 
+-- flags ask for one kick, which does that
+only_kicks : (w : WorldState) (c n : ℕ) (v : WorldState) → Kicks w c n v → (k : Kick) × (kick_of n ≡ Some k) × (v ≡ kicked_so w c k)
+only_kicks w c n v (KicksAny z k) = (Any, kick_any n z, k)
+only_kicks w c n v (KicksIdle z r k) = (IfIdle, kick_idle n z, k ∙ ap (λ o. if is_none o || is_this c w.cycling then with_kick w c else w) (sym r))
+only_kicks w c n v (KicksCycling z r k) = (IfIdle, kick_idle n z, k ∙ ap (λ b. if b then with_kick w c else w) (sym (second (is_none (running w c)) (is_this c w.cycling) (this_of c w.cycling r))))
+  where
+    second : (x : Bool) (y : Bool) → y ≡ true → (x || y) ≡ true
+    second true y e = refl
+    second false y e = e
+only_kicks w c n v (LeavesBusy t z r f k) = (
+  IfIdle,
+  kick_idle n z,
+  k ∙ ap (λ b. if is_none (Some t) || b then with_kick w c else w) (sym (is_false (is_this c w.cycling) (λ e. f (this_is c w.cycling e))))
+      ∙ ap (λ o. if is_none o || is_this c w.cycling then with_kick w c else w) (sym r),
+)
+only_kicks w c n v (KicksToPreempt z k) = (Preempt, kick_preempt n z, k)
+
+only_kick : (w : WorldState) (a : List Arg) (x : Answer) (v : WorldState) → IsEffect w KickCpu a x v → Is-this w KickCpu a x v
+only_kick w a x v (Done n j d e) =
+    let h = only_kicks w (given_number a 0) (given_number a 1) v d.1 in
+    let l : nat_lt (given_number a 0) (length w.cpus) ≡ true = grind (arith, nat_tests, j.1) in
+    rw (h.1, l) (e ∙ ap Num d.0, h.2)
+only_kick w a x v (FindsTask h f e) = absurd (cc)
+only_kick w a x v (Wrong UnknownFlag j e k) = rw (kick_none (given_number a 1) j) (e, k)
+only_kick w a x v (Wrong NoSuchCpu j e k) =
+    let h = kicks_so w (given_number a 0) (given_number a 1) j.0 in
+    let l : nat_lt (given_number a 0) (length w.cpus) ≡ false = grind (arith, nat_tests, j.1) in
+    rw (h.asked, l) (e, k)
+only_kick w a x v (Wrong NoSuchQueue j e k) = absurd j
+only_kick w a x v (Wrong CannotCreate j e k) = absurd j
+only_kick w a x v (Wrong CannotInsert j e k) = absurd j
+only_kick w a x v (Wrong BuiltinVtime j e k) = absurd j
+only_kick w a x v (Wrong Mixed j e k) = absurd j
+only_kick w a x v (Wrong Stuck j e k) = absurd j
+
 some_fault : (f : Fault) → ◌≡◌ {A = Option Fault} (Some f) None → ⊥
 some_fault f e = absurd (cc)
 
@@ -597,7 +914,7 @@ only_helper w CreateDsq a x v e = only_create w a x v e
 only_helper w DsqInsert a x v e = only_insert w a x v e
 only_helper w DsqInsertVtime a x v e = only_insert_vtime w a x v e
 only_helper w DsqMoveToLocal a x v e = only_move w a x v e
-only_helper w SelectCpuDfl a x v (Done n j d e) = (e ∙ ap Num (only_chooses w n (given_task a 0) d.0), d.1)
+only_helper w SelectCpuDfl a x v (Done n j d e) = let h = only_chooses w n (given_task a 0) v d in (e ∙ ap Num h.0, h.1)
 only_helper w SelectCpuDfl a x v (FindsTask h f e) = absurd (cc)
 only_helper w SelectCpuDfl a x v (Wrong f j e k) = absurd (some_fault f j)
 only_helper w CpuIdle a x v e = only_idle w a x v e
@@ -605,6 +922,7 @@ only_helper w TaskByPid a x v (Done n j d e) = absurd d
 only_helper w TaskByPid a x v (FindsTask h f e) = (only_finds w (given_number a 0) x f, e)
 only_helper w TaskByPid a x v (Wrong f j e k) = absurd (some_fault f j)
 only_helper w DsqNrQueued a x v e = only_queued w a x v e
+only_helper w KickCpu a x v e = only_kick w a x v e
 only_helper w MapLookupElem a x v (Done n j d e) = absurd j
 only_helper w MapLookupElem a x v (FindsTask h f e) = absurd (cc)
 only_helper w MapLookupElem a x v (Wrong f j e k) = absurd j

@@ -1,8 +1,11 @@
+pub mod Differing
+pub mod Entering
 pub mod Choosing
 pub mod Helping
 pub mod Ejecting
 pub mod Calling
 pub mod Cycling
+pub mod Rounding
 pub mod Waiting
 pub mod Happening
 pub mod Refusing

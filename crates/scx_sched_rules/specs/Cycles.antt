@@ -3,7 +3,7 @@
 -- of the policy is given by the run of its program; once the policy is ejected, the built-in
 -- scheduler does its work.
 use Rattle.std.specs.Prelude.{◌≡◌, ℕ, suc, ◌<◌, Bool, true, false, [], ◌∷◌, Option, Some, None}
-use Rattle.scx_dsq.specs.Queues.{front_of}
+use Rattle.scx_dsq.specs.Queues.{front_of, queue_of}
 use Rattle.scx_dsq.specs.Calls.{after_push, after_pop}
 use Rattle.scx_dsq.specs.declared.entries.Rank.TheVariants.{Fifo}
 use Rattle.scx_isa_semantics.specs.declared.callbacks.Callback.TheVariants as callback
@@ -14,12 +14,13 @@ use Rattle.scx_sched_world.specs.declared.notes.What.TheVariants as note
 use Rattle.scx_sched_world.specs.declared.eject.Eject.{Eject}
 use Rattle.scx_sched_world.specs.Ids.{global, builtin_queue, parked_queue, local_on}
 use Rattle.scx_sched_world.specs.World.{is_throttled, WorldState, with_queues, note_now}
-use Rattle.scx_sched_world.specs.Tasks.{local_len, after_enter, for_cpu, to_held, to_global, after_stop, started_at, after_keep, put_parked, after_take}
+use Rattle.scx_sched_world.specs.Tasks.{local_len, after_enter, for_cpu, to_held, to_global, to_front, after_stop, started_at, after_run, after_keep, put_parked, after_take}
 use Rattle.scx_sched_world.specs.Ejecting.{put_builtin, after_catch_up, after_charge}
-use Rattle.scx_sched_machine.specs.Steps.{State, Stepped, with_world, stays, after, one_after_other}
+use Rattle.scx_sched_machine.specs.Steps.{State, Stepped, with_world, stays, after, one_after_other, is_by_linux}
 use Rattle.scx_sched_machine.specs.Callbacks.{call_back, one_task, task_and_number, cpu_and_task}
-use Rattle.scx_sched_machine.specs.Cycle.{stopping_called, cycling}
+use Rattle.scx_sched_machine.specs.Cycle.{told_of, stopping_called, cycling}
 use Rattle.scx_sched_machine.specs.Parking.{FrontMayRun}
+use Rattle.scx_sched_rules.specs.Differences.{Homes, KeepsSlice, GivesWay, Switches, IsToAsk, GivesUp}
 
 -- to that world, with one note of it
 abbrev pub noting : State → WorldState → What → Stepped
@@ -35,9 +36,10 @@ silent s w = record { state = with_world s w; notes = []; calls = [] }
 abbrev pub enqueue_called : State → ℕ → ℕ → ℕ → Stepped
 enqueue_called s t c flags = call_back s callback.Enqueue (task_and_number t flags) t c
 
--- dispatch is called for a processor, and given the task before or 0
+-- dispatch is called for a processor, and given the task before or 0; under Linux rules, where a
+-- task goes to sleep, that one
 abbrev pub dispatch_called : State → ℕ → Option ℕ → Stepped
-dispatch_called s c p = call_back s callback.Dispatch (cpu_and_task c p) 0 c
+dispatch_called s c p = call_back s callback.Dispatch (cpu_and_task c (told_of s p)) 0 c
 
 -- the task has left its processor; the number says whether it stays runnable
 pub data HasStopped (s : State) (c t runnable : ℕ) (r : Stepped) : Type 0 where
@@ -62,6 +64,10 @@ gone_off s c t = with_world s (after_stop s.world c t)
 -- the state in which a task, the front of the local queue, is on that processor
 abbrev pub gone_on : State → ℕ → ℕ → State
 gone_on s c t = with_world s (started_at (Some t) s.world c)
+
+-- the state in which a task, which was picked, is on that processor
+abbrev pub picked_on : State → ℕ → ℕ → State
+picked_on s c t = with_world s (after_run s.world c t)
 
 -- ---- put
 
@@ -97,12 +103,11 @@ pub record Puts (s : State) (t c flags : ℕ) (r : Stepped) : Type 0 where
 pub data Fills (s : State) (q c : ℕ) (r : Stepped) : Type 0 where
   HasLocal : 0 < local_len s.world c → r ≡ stays s → Fills s q c r
   NoOther : local_len s.world c ≡ 0 → front_of s.world.queues q ≡ None → r ≡ stays s → Fills s q c r
-  Moves : (t : ℕ)
+  Moves : (t : ℕ) (moved : WorldState)
       → local_len s.world c ≡ 0 → front_of s.world.queues q ≡ Some t
-      → r ≡ noting s
-      (with_queues s.world (after_push (after_pop s.world.queues q) (local_on c) t Fifo))
-      (note.Move t c)
-      → Fills s q c r
+      → Homes (with_queues s.world (after_push (after_pop s.world.queues q) (local_on c) t Fifo)) t c
+      moved
+      → r ≡ noting s moved (note.Move t c) → Fills s q c r
 
 -- ---- supply
 
@@ -145,14 +150,16 @@ pub data FillsBuiltin (s : State) (c : ℕ) (r : Stepped) : Type 0 where
 
 -- ---- dispatch
 
--- a call of dispatch, and then the local queue is supplied
-pub record Dispatches (s : State) (c : ℕ) (p : Option ℕ) (r : Stepped) : Type 0 where
-  pub supplied : Stepped
-  pub supplies : Supplies c (dispatch_called s c p).state supplied
-  pub all : r ≡ one_after_other (dispatch_called s c p) supplied
+-- a call of dispatch, and then the local queue is supplied, unless the task before keeps its slice
+pub data Dispatches (s : State) (c : ℕ) (p : Option ℕ) (r : Stepped) : Type 0 where
+  Supplied_then : (supplied : Stepped)
+      → GivesWay (dispatch_called s c p).state p → Supplies c (dispatch_called s c p).state supplied
+      → r ≡ one_after_other (dispatch_called s c p) supplied → Dispatches s c p r
+  Kept_then : KeepsSlice (dispatch_called s c p).state p → r ≡ dispatch_called s c p
+      → Dispatches s c p r
 
--- so many calls at most: one more where the local queue is still empty and the last
--- call moved a task
+-- so many calls at most: one more where the local queue is still empty, the last call moved a task,
+-- and the task before doesn't keep its slice
 pub data Asks : ℕ → State → ℕ → Option ℕ → Stepped → Type 0 where
   Enough : (s : State) (c : ℕ) (p : Option ℕ) (r : Stepped) → r ≡ stays s → Asks 0 s c p r
   Came : (n : ℕ) (s : State) (c : ℕ) (p : Option ℕ) (r : Stepped)
@@ -160,25 +167,34 @@ pub data Asks : ℕ → State → ℕ → Option ℕ → Stepped → Type 0 wher
   NothingMoved : (n : ℕ) (s : State) (c : ℕ) (p : Option ℕ) (r : Stepped)
       → Dispatches s c p r → local_len r.state.world c ≡ 0 → r.state.world.call.has_moved ≡ false
       → Asks (suc n) s c p r
+  KeptOn : (n : ℕ) (s : State) (c : ℕ) (p : Option ℕ) (r : Stepped)
+      → Dispatches s c p r → KeepsSlice r.state p → Asks (suc n) s c p r
   Again : (n : ℕ) (s : State) (c : ℕ) (p : Option ℕ) (d more r : Stepped)
-      → Dispatches s c p d → local_len d.state.world c ≡ 0 → d.state.world.call.has_moved ≡ true
+      → Dispatches s c p d → IsToAsk d.state c p
       → Asks n d.state c p more → r ≡ one_after_other d more → Asks (suc n) s c p r
 
 -- ---- pick
+
+-- a task that was stopped is put; one that keeps its slice goes to the front of the local queue,
+-- and enqueue isn't called (ext.c, `put_prev_task_scx`)
+pub data PutsBack (s : State) (c t : ℕ) (r : Stepped) : Type 0 where
+  Is_put : GivesWay s (Some t) → Puts s t c 0 r → PutsBack s c t r
+  Goes_first : KeepsSlice s (Some t) → r ≡ entering s t (to_front c) → PutsBack s c t r
 
 -- the task before leaves the processor, and is put
 pub data Leaves (s : State) (c : ℕ) (p : Option ℕ) (r : Stepped) : Type 0 where
   Nobody : p ≡ None → r ≡ stays s → Leaves s c p r
   Stops : (t : ℕ) (left put : Stepped)
-      → p ≡ Some t → HasStopped (gone_off s c t) c t 1 left → Puts left.state t c 0 put
+      → p ≡ Some t → HasStopped (gone_off s c t) c t 1 left → PutsBack left.state c t put
       → r ≡ after (note_now s.world (note.Stop t c) ∷ []) (one_after_other left put)
       → Leaves s c p r
 
 -- the front of the local queue runs
 pub data Starts (s : State) (c : ℕ) (r : Stepped) : Type 0 where
   Empty : front_of s.world.queues (local_on c) ≡ None → r ≡ stays s → Starts s c r
-  Front : (t : ℕ) (begun : Stepped)
-      → front_of s.world.queues (local_on c) ≡ Some t → HasStarted (gone_on s c t) c t begun
+  Front : (t : ℕ) (on : State) (begun : Stepped)
+      → front_of s.world.queues (local_on c) ≡ Some t → Switches (gone_on s c t) t on
+      → HasStarted on c t begun
       → r ≡ after (note_now s.world (note.Run t c) ∷ []) begun → Starts s c r
 
 -- ---- rest
@@ -219,31 +235,60 @@ pub record CyclesBuiltin (s : State) (c : ℕ) (p : Option ℕ) (ran : Bool) (r 
 
 -- ---- the policy's cycle
 
--- the front of the local queue runs in the place of the task before; where an ejection as that left
--- has emptied the local queue, the cycle begins anew
-pub data Picks (s : State) (c : ℕ) (p : Option ℕ) (ran : Bool) (r : Stepped) : Type 0 where
-  Runs_front : (left started : Stepped)
-      → Leaves s c p left → 0 < local_len left.state.world c → Starts left.state c started
-      → r ≡ one_after_other left started → Picks s c p ran r
-  Emptied : (left anew : Stepped)
-      → Leaves s c p left → local_len left.state.world c ≡ 0
-      → CyclesBuiltin left.state c None ran anew → r ≡ one_after_other left anew → Picks s c p ran r
+-- the front of the local queue runs; where an ejection has emptied the local queue, the cycle
+-- begins anew
+pub data StartsOrAnew (s : State) (c : ℕ) (ran : Bool) (r : Stepped) : Type 0 where
+  Runs_front : 0 < local_len s.world c → Starts s c r → StartsOrAnew s c ran r
+  Emptied : local_len s.world c ≡ 0 → CyclesBuiltin s c None ran r → StartsOrAnew s c ran r
 
--- once dispatch was asked
+-- the task that was picked runs, from wherever it waits in the local queue
+pub record StartsPicked (s : State) (c t : ℕ) (r : Stepped) : Type 0 where
+  pub on : State
+  pub switches : Switches (picked_on s c t) t on
+  pub begun : Stepped
+  pub starts : HasStarted on c t begun
+  pub all : r ≡ after (note_now s.world (note.Run t c) ∷ []) begun
+
+-- the state in which the task that is picked has a slice: a new one where it had none
+abbrev pub picking : State → ℕ → State
+picking s t = with_world s (after_keep s.world (Some t))
+
+-- the task before leaves, and another runs in its place: under plain rules the front of the local
+-- queue by then; under Linux rules its front before that, which is picked, and gets a slice if it
+-- has none (ext.c, `do_pick_task_scx`), unless an ejection took it away
+pub data Picks (s : State) (c : ℕ) (p : Option ℕ) (ran : Bool) (r : Stepped) : Type 0 where
+  Picks_then : (left started : Stepped)
+      → is_by_linux s ≡ false → Leaves s c p left → StartsOrAnew left.state c ran started
+      → r ≡ one_after_other left started → Picks s c p ran r
+  Picks_before : (t : ℕ) (left started : Stepped)
+      → is_by_linux s ≡ true → front_of s.world.queues (local_on c) ≡ Some t
+      → Leaves (picking s t) c p left → queue_of left.state.world.queues t ≡ Some (local_on c)
+      → StartsPicked left.state c t started → r ≡ one_after_other left started
+      → Picks s c p ran r
+  Picks_anew : (t : ℕ) (left started : Stepped)
+      → is_by_linux s ≡ true → front_of s.world.queues (local_on c) ≡ Some t
+      → Leaves (picking s t) c p left → ¬ (queue_of left.state.world.queues t ≡ Some (local_on c))
+      → StartsOrAnew left.state c ran started → r ≡ one_after_other left started
+      → Picks s c p ran r
+
+-- once dispatch was asked; a task that keeps its slice stays, and nothing is noted
 pub data Ends (s : State) (c : ℕ) (p : Option ℕ) (ran : Bool) (r : Stepped) : Type 0 where
   Anew : (x : Eject) → s.world.ejected ≡ Some x → CyclesBuiltin s c p ran r → Ends s c p ran r
-  Picked : s.world.ejected ≡ None → 0 < local_len s.world c → Picks s c p ran r → Ends s c p ran r
-  Rested : s.world.ejected ≡ None → local_len s.world c ≡ 0 → Rests s c p ran r → Ends s c p ran r
+  KeepsOn : s.world.ejected ≡ None → KeepsSlice s p → r ≡ stays s → Ends s c p ran r
+  Picked : s.world.ejected ≡ None → GivesWay s p → 0 < local_len s.world c → Picks s c p ran r
+      → Ends s c p ran r
+  Rested : s.world.ejected ≡ None → GivesWay s p → local_len s.world c ≡ 0 → Rests s c p ran r
+      → Ends s c p ran r
 
 -- of a processor on which that task ran and may stay, or none
 pub data Seeks (s : State) (c : ℕ) (p : Option ℕ) (ran : Bool) (r : Stepped) : Type 0 where
   Filled : (filled picked : Stepped)
       → Supplies c s filled → 0 < local_len filled.state.world c → Picks filled.state c p ran picked
       → r ≡ one_after_other filled picked → Seeks s c p ran r
-  Asked : (filled asked ended : Stepped)
+  Asked : (filled asked ended : Stepped) (done : State)
       → Supplies c s filled → local_len filled.state.world c ≡ 0 → Asks 32 filled.state c p asked
-      → Ends asked.state c p ran ended → r ≡ one_after_other filled (one_after_other asked ended)
-      → Seeks s c p ran r
+      → GivesUp asked.state c p done → Ends done c p ran ended
+      → r ≡ one_after_other filled (one_after_other asked ended) → Seeks s c p ran r
 
 -- of whichever scheduler is in force
 pub data Looks (s : State) (c : ℕ) (p : Option ℕ) (ran : Bool) (r : Stepped) : Type 0 where
@@ -251,7 +296,8 @@ pub data Looks (s : State) (c : ℕ) (p : Option ℕ) (ran : Bool) (r : Stepped)
   Of_builtin : (x : Eject)
       → s.world.ejected ≡ Some x → CyclesBuiltin s c p ran r → Looks s c p ran r
 
--- a cycle is under way from the first step to the last
+-- a cycle is under way from the first step to the last; as it begins, the claim on its processor
+-- ends
 pub record Cycles (s : State) (c : ℕ) (p : Option ℕ) (ran : Bool) (r : Stepped) : Type 0 where
   pub found : Stepped
   pub looks : Looks (cycling s (Some c)) c p ran found

@@ -7,18 +7,21 @@ use Rattle.scx_vm.specs.Programs.{VerifiedProgram}
 use Rattle.scx_sched_world.specs.declared.call.Insert.{Insert}
 use Rattle.scx_sched_world.specs.declared.notes.What.TheVariants as note
 use Rattle.scx_sched_world.specs.Ids.{parked_queue}
-use Rattle.scx_sched_world.specs.World.{is_throttled, with_tree, task_at, wait, running, cpu_of, is_idle, note_now}
+use Rattle.scx_sched_world.specs.World.{WorldState, is_throttled, with_tree, task_at, wait, running, cpu_of, is_idle, at_callback, note_now}
 use Rattle.scx_sched_world.specs.declared.eject.Eject.{Eject}
 use Rattle.scx_sched_world.specs.declared.eject.Eject.TheVariants as cause
-use Rattle.scx_sched_world.specs.Tasks.{for_cpu, after_wake, after_sleep, after_leave, let_go, after_tick, used_ms, later, begun_periods}
+use Rattle.scx_sched_world.specs.Tasks.{for_cpu, to_local, after_wake, after_sleep, after_leave, let_go, after_tick, used_ms, later, begun_periods}
+use Rattle.scx_sched_world.specs.Helpers.{with_insert}
 use Rattle.scx_sched_world.specs.Waits.{IsFirstOverdue}
 use Rattle.scx_sched_machine.specs.declared.events.Event.{Event}
 use Rattle.scx_sched_machine.specs.declared.events.Event.TheVariants.{Wake, Sleep, Tick, Clock, SetWeight}
-use Rattle.scx_sched_machine.specs.Steps.{State, Stepped, with_world, stays, after, one_after_other}
+use Rattle.scx_sched_machine.specs.Steps.{State, Stepped, with_world, stays, after, one_after_other, is_by_linux, kicked}
 use Rattle.scx_sched_machine.specs.Callbacks.{call_back, answered_by, task_cpu_and_0}
-use Rattle.scx_sched_rules.specs.Helpers.{IsChoice}
+use Rattle.scx_sched_rules.specs.Differences.{Homes, EndsSlices, TellsSleep, LooksIfIdle}
+use Rattle.scx_sched_rules.specs.Helpers.{IsChoice, IsDefault, with_claim}
 use Rattle.scx_sched_rules.specs.Ejections.{Ejects}
 use Rattle.scx_sched_rules.specs.Cycles.{noting, silent, entering, gone_off, HasStopped, Puts, parking, Cycles}
+use Rattle.scx_sched_rules.specs.Rounds.{IsFollowed}
 
 -- the state in which a task has become runnable, and waits from now on
 abbrev pub after_waking : State → ℕ → State
@@ -39,12 +42,38 @@ select_answered s t =
 -- after select_cpu, which answered so: the processor that it names; the default choice where there
 -- is no such callback, or the policy is ejected, as it is by an answer that is no processor
 pub data IsTarget (s : State) (t : ℕ) (answer : Option ℕ) (c : ℕ) : Type 0 where
-  Is_ejected : (x : Eject) → s.world.ejected ≡ Some x → IsChoice s.world t c → IsTarget s t answer c
-  NoCallback : s.world.ejected ≡ None → s.policy.callbacks.select_cpu ≡ None → IsChoice s.world t c
+  Is_ejected : (x : Eject) → s.world.ejected ≡ Some x → IsDefault s.world t c → IsTarget s t answer c
+  NoCallback : s.world.ejected ≡ None → s.policy.callbacks.select_cpu ≡ None → IsDefault s.world t c
       → IsTarget s t answer c
   Named : (p : VerifiedProgram)
       → s.world.ejected ≡ None → s.policy.callbacks.select_cpu ≡ Some p → answer ≡ Some c
       → c < length s.world.cpus → IsTarget s t answer c
+
+-- under Linux rules, where there is no such callback, the processor that is chosen is claimed, and
+-- the task inserted into the local queue there (ext.c, `select_task_rq_scx`)
+pub data InsertsByChoice (s : State) (t : ℕ) (v : State) : Type 0 where
+  AsByPlain : is_by_linux s ≡ false → v ≡ s → InsertsByChoice s t v
+  HasCallback : (p : VerifiedProgram)
+      → s.policy.callbacks.select_cpu ≡ Some p → v ≡ s → InsertsByChoice s t v
+  NoneChosen : s.policy.callbacks.select_cpu ≡ None → IsChoice s.world t None → v ≡ s
+      → InsertsByChoice s t v
+  IsChosen : (c : ℕ)
+      → is_by_linux s ≡ true → s.policy.callbacks.select_cpu ≡ None → IsChoice s.world t (Some c)
+      → v ≡ with_world s (with_insert (with_claim s.world c) (to_local c)) → InsertsByChoice s t v
+
+-- the target of a task that is runnable is found: select_cpu is called; not so under Linux rules
+-- with one processor, which is the target (ext/idle.c, `scx_select_cpu_dfl`)
+pub data Selects (s : State) (t c : ℕ) (r : Stepped) : Type 0 where
+  Asks_by_plain : (v : State)
+      → is_by_linux s ≡ false → IsTarget (select_called s t).state t (select_answered s t) c
+      → InsertsByChoice (select_called s t).state t v
+      → r ≡ record (select_called s t) { state = v } → Selects s t c r
+  Asks_of_several : (v : State)
+      → ¬ (length s.world.cpus ≡ 1) → IsTarget (select_called s t).state t (select_answered s t) c
+      → InsertsByChoice (select_called s t).state t v
+      → r ≡ record (select_called s t) { state = v } → Selects s t c r
+  Is_only_one : is_by_linux s ≡ true → length s.world.cpus ≡ 1 → c ≡ 0
+      → r ≡ silent s (at_callback s.world callback.SelectCpu t 0) → Selects s t c r
 
 -- what select_cpu inserted is applied, LOCAL being of the target; else the task is put. An ejection
 -- has dropped what was inserted
@@ -53,23 +82,29 @@ pub data Settles (s : State) (t c : ℕ) (r : Stepped) : Type 0 where
       → s.world.call.insert ≡ Some i → r ≡ entering s t (for_cpu c i) → Settles s t c r
   WasPut : s.world.call.insert ≡ None → Puts s t c 1 r → Settles s t c r
 
--- the task is runnable, and comes to wait for its target, which looks for a task if it is idle
+-- the task is runnable, and comes to wait for its target, which looks for a task if it is idle: at
+-- once, or, under Linux rules, as the event ends
 pub data Wakes (s : State) (t : ℕ) (r : Stepped) : Type 0 where
-  IdleTarget : (c : ℕ) (settled found : Stepped)
-      → IsTarget (select_called (after_waking s t) t).state t
-      (select_answered (after_waking s t) t) c
-      → Settles (select_called (after_waking s t) t).state t c settled
-      → is_idle settled.state.world c ≡ true → Cycles settled.state c None false found
+  IdleTarget : (c : ℕ) (selected settled found : Stepped) (v : WorldState)
+      → Selects (after_waking s t) t c selected → Homes selected.state.world t c v
+      → Settles (with_world selected.state v) t c settled
+      → is_by_linux settled.state ≡ false → is_idle settled.state.world c ≡ true
+      → Cycles settled.state c None false found
       → r ≡ after (note_now s.world (note.Wake t) ∷ [])
-      (one_after_other (select_called (after_waking s t) t) (one_after_other settled found))
+      (one_after_other selected (one_after_other settled found))
       → Wakes s t r
-  BusyTarget : (c : ℕ) (settled : Stepped)
-      → IsTarget (select_called (after_waking s t) t).state t
-      (select_answered (after_waking s t) t) c
-      → Settles (select_called (after_waking s t) t).state t c settled
+  BusyTarget : (c : ℕ) (selected settled : Stepped) (v : WorldState)
+      → Selects (after_waking s t) t c selected → Homes selected.state.world t c v
+      → Settles (with_world selected.state v) t c settled
       → is_idle settled.state.world c ≡ false
+      → r ≡ after (note_now s.world (note.Wake t) ∷ []) (one_after_other selected settled)
+      → Wakes s t r
+  KickedTarget : (c : ℕ) (selected settled : Stepped) (v : WorldState)
+      → Selects (after_waking s t) t c selected → Homes selected.state.world t c v
+      → Settles (with_world selected.state v) t c settled
+      → is_by_linux settled.state ≡ true → is_idle settled.state.world c ≡ true
       → r ≡ after (note_now s.world (note.Wake t) ∷ [])
-      (one_after_other (select_called (after_waking s t) t) settled)
+      (one_after_other selected (record settled { state = kicked settled.state c }))
       → Wakes s t r
 
 -- the task leaves its queue, or its processor, which looks for another task
@@ -78,9 +113,10 @@ pub data Sleeps (s : State) (t : ℕ) (r : Stepped) : Type 0 where
       → r ≡ after (note_now s.world (note.Sleep t) ∷ [])
       (silent s (after_sleep (after_leave s.world t) t))
       → Sleeps s t r
-  FromCpu : (c : ℕ) (left found : Stepped)
+  FromCpu : (c : ℕ) (left found : Stepped) (told : State)
       → cpu_of s.world t ≡ Some c → HasStopped (gone_off s c t) c t 0 left
-      → Cycles (with_world left.state (after_sleep left.state.world t)) c None true found
+      → TellsSleep (with_world left.state (after_sleep left.state.world t)) t told
+      → Cycles told c None true found
       → r ≡ after (note_now s.world (note.Sleep t) ∷ note_now s.world (note.Stop t c) ∷ [])
       (one_after_other left found)
       → Sleeps s t r
@@ -90,9 +126,12 @@ abbrev pub ran_on : State → ℕ → State
 ran_on s t = with_world s (used_ms (after_tick s.world t) t)
 
 -- a task that may not run any more leaves its processor and is parked, and the processor looks for
--- another; else it runs on while its slice lasts, and then the processor looks for a task
+-- another; else it runs on while its slice lasts, and then the processor looks for a task. A
+-- processor that runs no task looks for one; under Linux rules it sleeps until it is given work
 pub data Ticks (s : State) (c : ℕ) (r : Stepped) : Type 0 where
-  NobodyRuns : running s.world c ≡ None → Cycles s c None false r → Ticks s c r
+  NobodyRuns : is_by_linux s ≡ false → running s.world c ≡ None → Cycles s c None false r
+      → Ticks s c r
+  SleepsOn : is_by_linux s ≡ true → running s.world c ≡ None → r ≡ stays s → Ticks s c r
   IsThrottled : (t : ℕ) (left found : Stepped)
       → running s.world c ≡ Some t → is_throttled (ran_on s t).world t ≡ true
       → HasStopped (gone_off (ran_on s t) c t) c t 1 left
@@ -105,21 +144,26 @@ pub data Ticks (s : State) (c : ℕ) (r : Stepped) : Type 0 where
       → 0 < (task_at (ran_on s t).world t).slice → r ≡ stays (ran_on s t) → Ticks s c r
   RunsOut : (t : ℕ)
       → running s.world c ≡ Some t → is_throttled (ran_on s t).world t ≡ false
-      → (task_at (ran_on s t).world t).slice ≡ 0 → Cycles (ran_on s t) c (Some t) true r
-      → Ticks s c r
+      → (task_at (ran_on s t).world t).slice ≡ 0 → EndsSlices (ran_on s t)
+      → Cycles (ran_on s t) c (Some t) true r → Ticks s c r
+  RunsToTick : (t : ℕ)
+      → running s.world c ≡ Some t → is_throttled (ran_on s t).world t ≡ false
+      → ¬ EndsSlices (ran_on s t) → r ≡ stays (ran_on s t) → Ticks s c r
 
 -- of the parked, from that one on in their order, so many are looked at: who may run again is
--- parked no more, waits from now on, and is put as for the processor on which it ran last
+-- parked no more, waits from now on, and is put as for its processor, which looks for it if it is
+-- idle
 pub data LetsGo : ℕ → State → Option ℕ → Stepped → Type 0 where
   Enough : (s : State) (at : Option ℕ) (r : Stepped) → r ≡ stays s → LetsGo 0 s at r
   NoMore : (n : ℕ) (s : State) (r : Stepped) → r ≡ stays s → LetsGo (suc n) s None r
   StaysParked : (n : ℕ) (s : State) (t : ℕ) (r : Stepped)
       → is_throttled s.world t ≡ true → LetsGo n s (behind_of s.world.queues t) r
       → LetsGo (suc n) s (Some t) r
-  IsLetGo : (n : ℕ) (s : State) (t : ℕ) (put more r : Stepped)
+  IsLetGo : (n : ℕ) (s : State) (t : ℕ) (put more r : Stepped) (v : State)
       → is_throttled s.world t ≡ false
       → Puts (with_world s (let_go s.world t)) t (task_at s.world t).prev_cpu 0 put
-      → LetsGo n put.state (behind_of s.world.queues t) more → r ≡ one_after_other put more
+      → LooksIfIdle put.state (task_at s.world t).prev_cpu v
+      → LetsGo n v (behind_of s.world.queues t) more → r ≡ one_after_other put more
       → LetsGo (suc n) s (Some t) r
 
 -- the clock has grown, and periods have begun
@@ -152,11 +196,17 @@ pub record Ages (s : State) (r : Stepped) : Type 0 where
   pub watches : Watches gone.state watched
   pub all : r ≡ one_after_other gone watched
 
--- what an accepted event does, each kind by its own cases
-abbrev pub Happens : State → Event → Stepped → Type 0
-Happens s (Wake t) r = Wakes s t r
-Happens s (Sleep t) r = Sleeps s t r
-Happens s (Tick c) r = Ticks s c r
-Happens s Clock r = Ages s r
-Happens s (SetWeight g x) r =
+-- what an accepted event does, each kind by its own cases, before processors look for work
+abbrev pub Does : State → Event → Stepped → Type 0
+Does s (Wake t) r = Wakes s t r
+Does s (Sleep t) r = Sleeps s t r
+Does s (Tick c) r = Ticks s c r
+Does s Clock r = Ages s r
+Does s (SetWeight g x) r =
     r ≡ noting s (with_tree s.world (with_weight s.world.tree g x)) (note.Weight g x)
+
+-- what an accepted event does, and what follows it
+pub record Happens (s : State) (v : Event) (r : Stepped) : Type 0 where
+  pub own : Stepped
+  pub does : Does s v own
+  pub followed : IsFollowed own r

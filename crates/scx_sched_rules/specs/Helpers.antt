@@ -10,7 +10,7 @@ use Rattle.scx_dsq.specs.declared.entries.Rank.{Rank}
 use Rattle.scx_dsq.specs.declared.entries.Rank.TheVariants.{Fifo, Vtime}
 use Rattle.scx_isa_semantics.specs.declared.callbacks.Callback.TheVariants.{SelectCpu, Enqueue, Dispatch}
 use Rattle.scx_isa_semantics.specs.declared.host_tables.Helper.{Helper}
-use Rattle.scx_isa_semantics.specs.declared.host_tables.Helper.TheVariants.{MapLookupElem, KtimeGetNs, CreateDsq, DsqInsert, DsqInsertVtime, DsqMoveToLocal, SelectCpuDfl, CpuIdle, TaskByPid, DsqNrQueued}
+use Rattle.scx_isa_semantics.specs.declared.host_tables.Helper.TheVariants.{MapLookupElem, KtimeGetNs, CreateDsq, DsqInsert, DsqInsertVtime, DsqMoveToLocal, SelectCpuDfl, CpuIdle, TaskByPid, DsqNrQueued, KickCpu}
 use Rattle.scx_vm.specs.declared.arguments.Arg.{Arg}
 use Rattle.scx_vm.specs.declared.arguments.Answer.{Answer}
 use Rattle.scx_vm.specs.declared.arguments.Answer.TheVariants.{Num, Task}
@@ -19,9 +19,11 @@ use Rattle.scx_sched_world.specs.declared.faults.Fault.{Fault}
 use Rattle.scx_sched_world.specs.declared.faults.Fault.TheVariants.{Stuck, NoSuchQueue, CannotInsert, NoSuchCpu, UnknownFlag, CannotCreate, BuiltinVtime, Mixed}
 use Rattle.scx_sched_world.specs.declared.notes.What.TheVariants as notes
 use Rattle.scx_sched_world.specs.Ids.{policy_end, global, local, held_queue, local_on}
-use Rattle.scx_sched_world.specs.World.{WorldState, with_queues, task_at, is_idle, with_note}
+use Rattle.scx_sched_world.specs.CpuSets.{is_in_set, and_cpu}
+use Rattle.scx_sched_world.specs.World.{WorldState, with_queues, with_kick, with_preemption, is_by_linux, task_at, running, is_idle, is_claimed, with_note}
 use Rattle.scx_sched_world.specs.Tasks.{after_leave, after_enter, queue_for, for_cpu}
 use Rattle.scx_sched_world.specs.Helpers.{invalid, with_fault, with_insert, with_move, given_number, given_task, insert_of, insert_of_vtime}
+use Rattle.scx_sched_rules.specs.Differences.{Homes}
 
 -- ---- queues that a call names
 
@@ -79,23 +81,56 @@ pub record MayMove (w : WorldState) (q : ℕ) : Type 0 where
   pub here : w.call.callback ≡ Dispatch
   pub there : IsPolicyQueue w q
 
+-- the flags of an insert: that of a wake, and, under Linux rules, PREEMPT (2^32), HEAD (2^48), and
+-- their sums
+pub data AreFlags (w : WorldState) (flags : ℕ) : Type 0 where
+  OfWake : flags ≤ 1 → AreFlags w flags
+  OfLinux : (wake preempt head : ℕ)
+      → is_by_linux w ≡ true → wake ≤ 1 → preempt ≤ 1 → head ≤ 1
+      → flags ≡ wake + preempt * 2 ^ 32 + head * 2 ^ 48 → AreFlags w flags
+
+-- under Linux rules an insert in dispatch of a task that isn't held is late (ext.c,
+-- `finish_dispatch`)
+pub record IsLate (w : WorldState) (t : Option ℕ) : Type 0 where
+  pub by_linux : is_by_linux w ≡ true
+  pub here : w.call.callback ≡ Dispatch
+  pub gone : ¬ MayInsert w t
+
 -- of several faults of an insert the first one here
 abbrev pub JudgesInsert : WorldState → Option ℕ → Insert → ℕ → Option Fault → Type 0
 JudgesInsert w t i flags (Some CannotInsert) = ¬ MayInsert w t
-JudgesInsert w t i flags (Some UnknownFlag) = MayInsert w t × (1 < flags)
+JudgesInsert w t i flags (Some UnknownFlag) = MayInsert w t × (¬ AreFlags w flags)
 JudgesInsert w t i flags (Some NoSuchQueue) =
-    MayInsert w t × (flags ≤ 1) × (¬ IsDestination w i.queue) × (¬ NamesNoCpu w i.queue)
-JudgesInsert w t i flags (Some NoSuchCpu) = MayInsert w t × (flags ≤ 1) × NamesNoCpu w i.queue
+    MayInsert w t × AreFlags w flags × (¬ IsDestination w i.queue) × (¬ NamesNoCpu w i.queue)
+JudgesInsert w t i flags (Some NoSuchCpu) = MayInsert w t × AreFlags w flags × NamesNoCpu w i.queue
 JudgesInsert w t i flags (Some BuiltinVtime) =
-    MayInsert w t × (flags ≤ 1) × IsDestination w i.queue × IsBuiltinVtime i.queue i.rank
+    MayInsert w t × AreFlags w flags × IsDestination w i.queue × IsBuiltinVtime i.queue i.rank
 JudgesInsert w t i flags (Some Mixed) =
-    MayInsert w t × (flags ≤ 1) × IsDestination w i.queue × (¬ IsBuiltinVtime i.queue i.rank)
+    MayInsert w t × AreFlags w flags × IsDestination w i.queue × (¬ IsBuiltinVtime i.queue i.rank)
     × IsMixed w i.queue i.rank
 JudgesInsert w t i flags None =
-    MayInsert w t × (flags ≤ 1) × IsDestination w i.queue × (¬ IsBuiltinVtime i.queue i.rank)
+    MayInsert w t × AreFlags w flags × IsDestination w i.queue × (¬ IsBuiltinVtime i.queue i.rank)
     × (¬ IsMixed w i.queue i.rank)
 JudgesInsert w t i flags (Some CannotCreate) = ⊥
 JudgesInsert w t i flags (Some Stuck) = ⊥
+
+-- only the flags of a late insert are looked at
+abbrev pub JudgesFlags : WorldState → ℕ → Option Fault → Type 0
+JudgesFlags w flags None = AreFlags w flags
+JudgesFlags w flags (Some UnknownFlag) = ¬ AreFlags w flags
+JudgesFlags w flags (Some CannotInsert) = ⊥
+JudgesFlags w flags (Some NoSuchQueue) = ⊥
+JudgesFlags w flags (Some NoSuchCpu) = ⊥
+JudgesFlags w flags (Some BuiltinVtime) = ⊥
+JudgesFlags w flags (Some Mixed) = ⊥
+JudgesFlags w flags (Some CannotCreate) = ⊥
+JudgesFlags w flags (Some Stuck) = ⊥
+
+-- an insert, in time or late
+pub data JudgesAnInsert (w : WorldState) (t : Option ℕ) (i : Insert) (flags : ℕ)
+    (o : Option Fault) : Type 0 where
+  InTime : ¬ IsLate w t → JudgesInsert w t i flags o → JudgesAnInsert w t i flags o
+  TooLate : IsLate w t → JudgesFlags w flags o → JudgesAnInsert w t i flags o
 
 -- a call that wants to create a queue: it can, or CannotCreate is the fault
 abbrev pub JudgesCreate : WorldState → ℕ → Option Fault → Type 0
@@ -133,61 +168,116 @@ JudgesCpu w c (Some BuiltinVtime) = ⊥
 JudgesCpu w c (Some Mixed) = ⊥
 JudgesCpu w c (Some Stuck) = ⊥
 
+-- a kick: the flags 0, 1 (IDLE) and 2 (PREEMPT) are known
+abbrev pub JudgesKick : WorldState → ℕ → ℕ → Option Fault → Type 0
+JudgesKick w c flags None = (flags ≤ 2) × (c < length w.cpus)
+JudgesKick w c flags (Some UnknownFlag) = 2 < flags
+JudgesKick w c flags (Some NoSuchCpu) = (flags ≤ 2) × (length w.cpus ≤ c)
+JudgesKick w c flags (Some NoSuchQueue) = ⊥
+JudgesKick w c flags (Some CannotCreate) = ⊥
+JudgesKick w c flags (Some CannotInsert) = ⊥
+JudgesKick w c flags (Some BuiltinVtime) = ⊥
+JudgesKick w c flags (Some Mixed) = ⊥
+JudgesKick w c flags (Some Stuck) = ⊥
+
 -- the fault of a call, or that it has none; of the look-up of an element, which a run does
 -- itself, nothing is allowed
 abbrev pub Judges : WorldState → Helper → List Arg → Option Fault → Type 0
 Judges w KtimeGetNs a o = o ≡ None
 Judges w CreateDsq a o = JudgesCreate w (given_number a 0) o
-Judges w DsqInsert a o = JudgesInsert w (given_task a 0) (insert_of a) (given_number a 3) o
+Judges w DsqInsert a o = JudgesAnInsert w (given_task a 0) (insert_of w a) (given_number a 3) o
 Judges w DsqInsertVtime a o =
-    JudgesInsert w (given_task a 0) (insert_of_vtime a) (given_number a 4) o
+    JudgesAnInsert w (given_task a 0) (insert_of_vtime w a) (given_number a 4) o
 Judges w DsqMoveToLocal a o = JudgesQueue (MayMove w (given_number a 0)) o
 Judges w SelectCpuDfl a o = o ≡ None
 Judges w CpuIdle a o = JudgesCpu w (given_number a 0) o
 Judges w TaskByPid a o = o ≡ None
 Judges w DsqNrQueued a o = JudgesQueue (IsPolicyQueue w (given_number a 0)) o
+Judges w KickCpu a o = JudgesKick w (given_number a 0) (given_number a 1) o
 Judges w MapLookupElem a o = ⊥
 
 -- ---- what a call does where nothing is wrong: its answer, and the world that it leaves
 
 -- the insert is kept until the callback ends; in dispatch the held task goes at once to where it
--- wants it, and that is noted
+-- wants it, and that is noted; a late insert counts as one, and does nothing else
 pub data Inserts (w : WorldState) (t : Option ℕ) (i : Insert) (v : WorldState) : Type 0 where
   Keeps : ¬ (w.call.callback ≡ Dispatch) → v ≡ with_insert w i → Inserts w t i v
   Releases : (u : ℕ)
-      → w.call.callback ≡ Dispatch → t ≡ Some u
+      → w.call.callback ≡ Dispatch → t ≡ Some u → ¬ IsLate w t
       → v ≡ with_note (with_move (after_enter (after_leave w u) u (for_cpu w.call.cpu i)))
       (notes.Insert u (queue_for w.call.cpu i.queue))
       → Inserts w t i v
+  PassesOver : IsLate w t → v ≡ with_move w → Inserts w t i v
 
 -- the front of the queue goes to the local queue of the processor at hand, and that is noted;
 -- an empty queue stays
 pub data Moves (w : WorldState) (q n : ℕ) (v : WorldState) : Type 0 where
-  Front : (t : ℕ)
+  Front : (t : ℕ) (moved : WorldState)
       → front_of w.queues q ≡ Some t → n ≡ 1
-      → v ≡ with_note
-      (with_move (with_queues w (after_push (after_pop w.queues q) (local_on w.call.cpu) t Fifo)))
-      (notes.Move t w.call.cpu)
-      → Moves w q n v
+      → Homes
+      (with_queues w (after_push (after_pop w.queues q) (local_on w.call.cpu) t Fifo)) t w.call.cpu
+      moved
+      → v ≡ with_note (with_move moved) (notes.Move t w.call.cpu) → Moves w q n v
   Empty : front_of w.queues q ≡ None → n ≡ 0 → v ≡ w → Moves w q n v
 
--- the processor for which a task is put: where it ran last if that is idle, else the lowest idle
--- one, else where it ran last
-pub data IsChoice (w : WorldState) (t c : ℕ) : Type 0 where
-  LastRan : is_idle w (task_at w t).prev_cpu ≡ true → c ≡ (task_at w t).prev_cpu → IsChoice w t c
-  Lowest : is_idle w (task_at w t).prev_cpu ≡ false → is_idle w c ≡ true
-      → ((d : ℕ) → d < c → is_idle w d ≡ false) → IsChoice w t c
-  NoneIdle : ((d : ℕ) → is_idle w d ≡ false) → c ≡ (task_at w t).prev_cpu → IsChoice w t c
+-- a processor that may be chosen: it is idle, and, under Linux rules, chosen for no other task
+-- (ext/idle.c, `scx_idle_test_and_clear_cpu`)
+pub record IsFree (w : WorldState) (c : ℕ) : Type 0 where
+  pub idle : is_idle w c ≡ true
+  pub unclaimed : is_claimed w c ≡ false
 
--- of a task; what isn't one has no choice
-pub data Chooses (w : WorldState) (n : ℕ) : Option ℕ → Type 0 where
-  OfTask : (t : ℕ) → IsChoice w t n → Chooses w n (Some t)
-  OfNobody : n ≡ 0 → Chooses w n None
+-- the processor that is chosen for a task: its own if that is free, else the lowest free one
+pub data IsChoice (w : WorldState) (t : ℕ) : Option ℕ → Type 0 where
+  ItsOwn : (c : ℕ) → c ≡ (task_at w t).prev_cpu → IsFree w c → IsChoice w t (Some c)
+  Lowest : (c : ℕ)
+      → ¬ IsFree w (task_at w t).prev_cpu → IsFree w c → ((d : ℕ) → d < c → ¬ IsFree w d)
+      → IsChoice w t (Some c)
+  NoneFree : ((d : ℕ) → ¬ IsFree w d) → IsChoice w t None
 
--- whether a processor is idle, as 1 or 0; one that isn't there is not idle
+-- the processor for which a task is put by default: the one that is chosen, else its own
+pub data IsDefault (w : WorldState) (t c : ℕ) : Type 0 where
+  Chosen : IsChoice w t (Some c) → IsDefault w t c
+  NotChosen : IsChoice w t None → c ≡ (task_at w t).prev_cpu → IsDefault w t c
+
+-- the world with that processor claimed, by the callback at hand
+abbrev pub with_claim : WorldState → ℕ → WorldState
+with_claim w c = record w {
+  claimed = and_cpu w.claimed c;
+  call = record w.call { claims = and_cpu w.call.claims c };
+}
+
+-- under Linux rules the processor that is chosen is claimed, until a cycle begins there
+pub data Claims (w : WorldState) (c : ℕ) (v : WorldState) : Type 0 where
+  NoClaim : is_by_linux w ≡ false → v ≡ w → Claims w c v
+  MakesClaim : is_by_linux w ≡ true → v ≡ with_claim w c → Claims w c v
+
+-- the choice for a task, and its claim; what isn't a task has none
+pub data Chooses (w : WorldState) (n : ℕ) (o : Option ℕ) (v : WorldState) : Type 0 where
+  OfTask : (t : ℕ) → o ≡ Some t → IsChoice w t (Some n) → Claims w n v → Chooses w n o v
+  OfNone : (t : ℕ)
+      → o ≡ Some t → IsChoice w t None → n ≡ (task_at w t).prev_cpu → v ≡ w → Chooses w n o v
+  OfNobody : o ≡ None → n ≡ 0 → v ≡ w → Chooses w n o v
+
+-- a processor seems idle to a callback: it is, and no other callback has claimed it
+pub data SeemsIdle (w : WorldState) (c : ℕ) : Type 0 where
+  IsUnclaimed : IsFree w c → SeemsIdle w c
+  ClaimedHere : is_idle w c ≡ true → is_in_set w.call.claims c ≡ true → SeemsIdle w c
+
+-- 1 where a processor seems idle, else 0; one that isn't there is not idle
 pub data Tells (w : WorldState) (c n : ℕ) : Type 0 where
-  TellsIdle : is_idle w c ≡ true → n ≡ 1 → Tells w c n
-  TellsBusy : is_idle w c ≡ false → n ≡ 0 → Tells w c n
+  TellsIdle : SeemsIdle w c → n ≡ 1 → Tells w c n
+  TellsBusy : ¬ SeemsIdle w c → n ≡ 0 → Tells w c n
+
+-- a processor that is kicked looks for work as the event ends: whether it is idle or not (flag 0),
+-- only where no task runs or its own cycle is under way (1), or once the slice of its task is taken
+-- (2)
+pub data Kicks (w : WorldState) (c flags : ℕ) (v : WorldState) : Type 0 where
+  KicksAny : flags ≡ 0 → v ≡ with_kick w c → Kicks w c flags v
+  KicksIdle : flags ≡ 1 → running w c ≡ None → v ≡ with_kick w c → Kicks w c flags v
+  KicksCycling : flags ≡ 1 → w.cycling ≡ Some c → v ≡ with_kick w c → Kicks w c flags v
+  LeavesBusy : (t : ℕ)
+      → flags ≡ 1 → running w c ≡ Some t → ¬ (w.cycling ≡ Some c) → v ≡ w → Kicks w c flags v
+  KicksToPreempt : flags ≡ 2 → v ≡ with_preemption w c → Kicks w c flags v
 
 -- the task of that pid, which is its number and 1
 pub data Finds (w : WorldState) (n : ℕ) (x : Answer) : Type 0 where
@@ -198,12 +288,13 @@ pub data Finds (w : WorldState) (n : ℕ) (x : Answer) : Type 0 where
 abbrev pub Does : WorldState → Helper → List Arg → ℕ → WorldState → Type 0
 Does w KtimeGetNs a n v = (n ≡ w.clock * 1000000) × (v ≡ w)
 Does w CreateDsq a n v = (n ≡ 0) × (v ≡ with_queues w (with_queue w.queues (given_number a 0)))
-Does w DsqInsert a n v = (n ≡ 0) × Inserts w (given_task a 0) (insert_of a) v
-Does w DsqInsertVtime a n v = (n ≡ 0) × Inserts w (given_task a 0) (insert_of_vtime a) v
+Does w DsqInsert a n v = (n ≡ 0) × Inserts w (given_task a 0) (insert_of w a) v
+Does w DsqInsertVtime a n v = (n ≡ 0) × Inserts w (given_task a 0) (insert_of_vtime w a) v
 Does w DsqMoveToLocal a n v = Moves w (given_number a 0) n v
-Does w SelectCpuDfl a n v = Chooses w n (given_task a 0) × (v ≡ w)
+Does w SelectCpuDfl a n v = Chooses w n (given_task a 0) v
 Does w CpuIdle a n v = Tells w (given_number a 0) n × (v ≡ w)
 Does w DsqNrQueued a n v = (n ≡ len_of w.queues (given_number a 0)) × (v ≡ w)
+Does w KickCpu a n v = (n ≡ 0) × Kicks w (given_number a 0) (given_number a 1) v
 Does w TaskByPid a n v = ⊥
 Does w MapLookupElem a n v = ⊥
 

@@ -1,5 +1,6 @@
 -- What the machine computes is what the rules allow, and the only thing that they allow.
-use Rattle.std.specs.Prelude.{◌≡◌, ℕ, ℤ, Bool, true, List, Option, Some, None, Result}
+use Rattle.std.specs.Prelude.{◌≡◌, ◌≢◌, ℕ, ℤ, ◌^◌, ◌<◌, Bool, true, false, nat_lt, int_lt, List, length, Option, Some, None, Result}
+use Rattle.std.specs.Int.{w64, cast_signed}
 use Rattle.scx_isa_semantics.specs.declared.callbacks.Callback.{Callback}
 use Rattle.scx_isa_semantics.specs.declared.host_tables.Helper.{Helper}
 use Rattle.scx_isa_semantics.specs.declared.host_tables.Helper.TheVariants.{MapLookupElem}
@@ -7,7 +8,10 @@ use Rattle.scx_vm.specs.declared.arguments.Arg.{Arg}
 use Rattle.scx_vm.specs.declared.arguments.Answer.{Answer}
 use Rattle.scx_vm.specs.declared.arguments.Args.{Args}
 use Rattle.scx_weights.specs.Hierarchy.{Hierarchy}
-use Rattle.scx_sched_world.specs.World.{WorldState}
+use Rattle.scx_sched_world.specs.declared.call.Insert.{Insert}
+use Rattle.scx_sched_world.specs.CpuSets.{is_in_set}
+use Rattle.scx_sched_world.specs.World.{WorldState, with_cycling, is_by_linux}
+use Rattle.scx_sched_world.specs.Tasks.{key_by, after_enter}
 use Rattle.scx_sched_world.specs.Helpers.{helper_answer, helper_after}
 use Rattle.scx_sched_machine.specs.declared.events.Event.{Event}
 use Rattle.scx_sched_machine.specs.declared.events.Refused.{Refused}
@@ -17,6 +21,7 @@ use Rattle.scx_sched_machine.specs.Callbacks.{call_back, answered_by, AreAnswere
 use Rattle.scx_sched_machine.specs.Cycle.{cycle}
 use Rattle.scx_sched_machine.specs.Events.{refusal, event_step}
 use Rattle.scx_sched_machine.specs.Start.{is_bad_shape, first_state, start_calls}
+use Rattle.scx_sched_rules.specs.Entries.{EntersQueue}
 use Rattle.scx_sched_rules.specs.Helpers.{IsEffect}
 use Rattle.scx_sched_rules.specs.Callbacks.{CallsBack}
 use Rattle.scx_sched_rules.specs.Cycles.{Cycles}
@@ -35,6 +40,34 @@ abbrev pub RulesAllowHelpersOnly : Type 0
 RulesAllowHelpersOnly =
     (w : WorldState) (h : Helper) (a : List Arg) (x : Answer) (v : WorldState) → IsEffect w h a x v
     → (x ≡ helper_answer w h a) × (v ≡ helper_after w h a)
+
+-- a task that comes into a queue
+abbrev pub RulesAllowEntries : Type 0
+RulesAllowEntries =
+    (w : WorldState) (t : ℕ) (i : Insert)
+    → t < length w.tasks → EntersQueue w t i (after_enter w t i)
+
+-- the rules of entries allow no other world than the one that is computed
+abbrev pub RulesAllowEntriesOnly : Type 0
+RulesAllowEntriesOnly =
+    (w : WorldState) (t : ℕ) (i : Insert) (v : WorldState)
+    → t < length w.tasks → EntersQueue w t i v → v ≡ after_enter w t i
+
+-- under Linux rules the keys of a queue compare as virtual times do that are signed numbers
+abbrev pub KeysCompareBySign : Type 0
+KeysCompareBySign =
+    (w : WorldState) (m n : ℕ)
+    → is_by_linux w ≡ true → m < 2 ^ 64 → n < 2 ^ 64
+    → nat_lt (key_by w m) (key_by w n) ≡ int_lt (cast_signed w64 m) (cast_signed w64 n)
+
+-- as a cycle begins the claim on its processor ends, and no other does
+abbrev pub CyclesEndClaims : Type 0
+CyclesEndClaims =
+    (w : WorldState) (c : ℕ)
+    → c < 64
+    → (is_in_set (with_cycling w (Some c)).claimed c ≡ false)
+    × ((d : ℕ)
+    → d < 64 → d ≢ c → is_in_set (with_cycling w (Some c)).claimed d ≡ is_in_set w.claimed d)
 
 -- a callback that comes to an answer, as each does that an event calls
 abbrev pub RulesAllowCallbacks : Type 0

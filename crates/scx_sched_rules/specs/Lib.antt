@@ -1,7 +1,10 @@
+pub mod Differences
+pub mod Entries
 pub mod Helpers
 pub mod Ejections
 pub mod Callbacks
 pub mod Cycles
+pub mod Rounds
 pub mod Events
 pub mod Refusals
 pub mod Starts

@@ -1,9 +1,17 @@
-ghost use Rattle.scx_sched_rules.specs.Laws.{RulesAllowHelpers, RulesAllowHelpersOnly, RulesAllowCallbacks, RulesAllowCallbacksOnly, RulesAllowCycles, RulesAllowCyclesOnly, RulesAllowEvents, RulesAllowEventsOnly, RulesRefuseEvents, RulesRefuseEventsOnly, RulesAllowStarts, RulesAllowStartsOnly, RulesRefuseShapes, RulesRefuseShapesOnly};
+ghost use Rattle.scx_sched_rules.specs.Laws.{RulesAllowHelpers, RulesAllowHelpersOnly, RulesAllowEntries, RulesAllowEntriesOnly, KeysCompareBySign, CyclesEndClaims, RulesAllowCallbacks, RulesAllowCallbacksOnly, RulesAllowCycles, RulesAllowCyclesOnly, RulesAllowEvents, RulesAllowEventsOnly, RulesRefuseEvents, RulesRefuseEventsOnly, RulesAllowStarts, RulesAllowStartsOnly, RulesRefuseShapes, RulesRefuseShapesOnly};
 
 /// The rules of helpers allow each helper's answer and its change of the world, and nothing else.
 pub fn rules_allow_helpers()
     ensures allowed { RulesAllowHelpers }
     ensures only { RulesAllowHelpersOnly }
+{}
+
+/// The rules of entries allow what becomes of a task and its queue as it comes in, and nothing else. Under
+/// Linux rules a queue by virtual time is in the order of signed numbers.
+pub fn rules_allow_entries()
+    ensures allowed { RulesAllowEntries }
+    ensures only { RulesAllowEntriesOnly }
+    ensures by_sign { KeysCompareBySign }
 {}
 
 /// The rules of callbacks allow the state from which the machine goes on after a callback, and no other.
@@ -12,10 +20,12 @@ pub fn rules_allow_callbacks()
     ensures only { RulesAllowCallbacksOnly }
 {}
 
-/// A scheduling cycle is what the rules of cycles allow, and the only thing that they allow.
+/// A scheduling cycle is what the rules of cycles allow, and the only thing that they allow. It ends the claim
+/// on its CPU.
 pub fn rules_allow_cycles()
     ensures allowed { RulesAllowCycles }
     ensures only { RulesAllowCyclesOnly }
+    ensures claims { CyclesEndClaims }
 {}
 
 /// The rules of events allow an event's change of the machine and its notes, and nothing else.

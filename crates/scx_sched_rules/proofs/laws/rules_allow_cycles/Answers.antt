@@ -1,4 +1,5 @@
 use Rattle.scx_sched_rules.proofs.Cycling.{cycles, only_cycles}
+use Rattle.scx_sched_rules.proofs.Entering.{claims_end}
 use Rattle.scx_sched_rules.proofs.laws.rules_allow_cycles.Goals as goal
 
 pub returns-clause-allowed : goal.returns-clause-allowed
@@ -6,3 +7,6 @@ returns-clause-allowed c = cycles
 
 pub returns-clause-only : goal.returns-clause-only
 returns-clause-only c = only_cycles
+
+pub returns-clause-claims : goal.returns-clause-claims
+returns-clause-claims c = claims_end

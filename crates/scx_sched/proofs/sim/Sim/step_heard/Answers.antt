@@ -1,6 +1,6 @@
 use Rattle.std.proofs.Common.{◌≡◌, ℕ, ◌<◌, ◌≤◌, ◌+◌, ◌^◌, Option, None, sym, ap, ◌∙◌, subst, arith}
 use Rattle.scx_sched_machine.specs.declared.events.Refused.{Refused}
-use Rattle.scx_sched_machine.specs.Steps.{State}
+use Rattle.scx_sched_machine.specs.Steps.{State, is_by_linux}
 use Rattle.scx_sched_machine.specs.Notes.{Takes}
 use Rattle.scx_sched_machine.specs.Hearing.{Hears}
 use Rattle.scx_sched_machine.specs.Callbacks.{AreAnswered}
@@ -30,7 +30,8 @@ returns-clause-bounded g c =
 pub returns-clause-idle : goal.returns-clause-idle
 returns-clause-idle g c =
     let ok : refusal (record { state = c.self.inside.machine; events = accepted c.self.inside.left }) c.args.event ≡ None = ap (λ x. refusal x c.args.event) c.self.view_is ∙ (sym c.refusal.ensures.cause ∙ c.in_default.is) in
-    subst (λ (x : State). LeavesNothingIdle c.args.event x.world) (sym c.event_heard.ensures.state) (step_leaves c.self.inside.machine (accepted c.self.inside.left) c.args.event ok c.self.invariant.valid)
+    λ plain. subst (λ (x : State). LeavesNothingIdle c.args.event x.world) (sym c.event_heard.ensures.state)
+    (step_leaves c.self.inside.machine (accepted c.self.inside.left) c.args.event ok c.self.invariant.valid (ap (λ (s : SimState). is_by_linux s.state) c.self.view_is ∙ plain))
 
 pub returns-clause-decided : goal.returns-clause-decided
 returns-clause-decided g c =
@@ -60,7 +61,7 @@ invariant_of-self g c =
     let ok : refusal (record { state = c.self.inside.machine; events = n }) c.args.event ≡ None = ap (λ x. refusal x c.args.event) c.self.view_is ∙ (sym c.refusal.ensures.cause ∙ c.in_default.is) in
     let seen : n ≡ c.args.self.now.events = ap (λ (s : SimState). s.events) c.self.view_is in
     let some : 0 < c.self.inside.left = omega (arith, seen, c.refusal.ensures.early c.in_default.is) in
-    let few = subst (λ (x : State). x.world.queues.pushes ≤ c.self.inside.machine.world.queues.pushes + 2 ^ 19) c.event_heard.ensures.state c.event_heard.ensures.few in
+    let few = subst (λ (x : State). x.world.queues.pushes ≤ c.self.inside.machine.world.queues.pushes + 2 ^ 27) c.event_heard.ensures.state c.event_heard.ensures.few in
     let valid : IsValid c.event_heard.new.self (n + 1) = subst (λ (x : State). IsValid x (n + 1)) (sym c.event_heard.ensures.state) (valid_step c.self.inside.machine n c.args.event ok c.self.invariant.valid (are_answered _ _ _ _ c.event_heard.ensures.calls) few) in
     record {
       few = omega (arith, c.self.invariant.few);
@@ -70,28 +71,28 @@ invariant_of-self g c =
 pub returns-clause-once : goal.returns-clause-once
 returns-clause-once g c =
     let ok : refusal (record { state = c.self.inside.machine; events = accepted c.self.inside.left }) c.args.event ≡ None = ap (λ x. refusal x c.args.event) c.self.view_is ∙ (sym c.refusal.ensures.cause ∙ c.in_default.is) in
-    let few = subst (λ (x : State). x.world.queues.pushes ≤ c.self.inside.machine.world.queues.pushes + 2 ^ 19) c.event_heard.ensures.state c.event_heard.ensures.few in
+    let few = subst (λ (x : State). x.world.queues.pushes ≤ c.self.inside.machine.world.queues.pushes + 2 ^ 27) c.event_heard.ensures.state c.event_heard.ensures.few in
     let valid : IsValid c.event_heard.new.self ((accepted c.self.inside.left) + 1) = subst (λ (x : State). IsValid x ((accepted c.self.inside.left) + 1)) (sym c.event_heard.ensures.state) (valid_step c.self.inside.machine (accepted c.self.inside.left) c.args.event ok c.self.invariant.valid (are_answered _ _ _ _ c.event_heard.ensures.calls) few) in
     valid.fine.sound.once
 
 pub returns-clause-there : goal.returns-clause-there
 returns-clause-there g c =
     let ok : refusal (record { state = c.self.inside.machine; events = accepted c.self.inside.left }) c.args.event ≡ None = ap (λ x. refusal x c.args.event) c.self.view_is ∙ (sym c.refusal.ensures.cause ∙ c.in_default.is) in
-    let few = subst (λ (x : State). x.world.queues.pushes ≤ c.self.inside.machine.world.queues.pushes + 2 ^ 19) c.event_heard.ensures.state c.event_heard.ensures.few in
+    let few = subst (λ (x : State). x.world.queues.pushes ≤ c.self.inside.machine.world.queues.pushes + 2 ^ 27) c.event_heard.ensures.state c.event_heard.ensures.few in
     let valid : IsValid c.event_heard.new.self ((accepted c.self.inside.left) + 1) = subst (λ (x : State). IsValid x ((accepted c.self.inside.left) + 1)) (sym c.event_heard.ensures.state) (valid_step c.self.inside.machine (accepted c.self.inside.left) c.args.event ok c.self.invariant.valid (are_answered _ _ _ _ c.event_heard.ensures.calls) few) in
     valid.there
 
 pub returns-clause-timely : goal.returns-clause-timely
 returns-clause-timely g c =
     let ok : refusal (record { state = c.self.inside.machine; events = accepted c.self.inside.left }) c.args.event ≡ None = ap (λ x. refusal x c.args.event) c.self.view_is ∙ (sym c.refusal.ensures.cause ∙ c.in_default.is) in
-    let few = subst (λ (x : State). x.world.queues.pushes ≤ c.self.inside.machine.world.queues.pushes + 2 ^ 19) c.event_heard.ensures.state c.event_heard.ensures.few in
+    let few = subst (λ (x : State). x.world.queues.pushes ≤ c.self.inside.machine.world.queues.pushes + 2 ^ 27) c.event_heard.ensures.state c.event_heard.ensures.few in
     let valid : IsValid c.event_heard.new.self ((accepted c.self.inside.left) + 1) = subst (λ (x : State). IsValid x ((accepted c.self.inside.left) + 1)) (sym c.event_heard.ensures.state) (valid_step c.self.inside.machine (accepted c.self.inside.left) c.args.event ok c.self.invariant.valid (are_answered _ _ _ _ c.event_heard.ensures.calls) few) in
     valid.timely
 
 pub returns-clause-never_stuck : goal.returns-clause-never_stuck
 returns-clause-never_stuck g c =
     let ok : refusal (record { state = c.self.inside.machine; events = accepted c.self.inside.left }) c.args.event ≡ None = ap (λ x. refusal x c.args.event) c.self.view_is ∙ (sym c.refusal.ensures.cause ∙ c.in_default.is) in
-    let few = subst (λ (x : State). x.world.queues.pushes ≤ c.self.inside.machine.world.queues.pushes + 2 ^ 19) c.event_heard.ensures.state c.event_heard.ensures.few in
+    let few = subst (λ (x : State). x.world.queues.pushes ≤ c.self.inside.machine.world.queues.pushes + 2 ^ 27) c.event_heard.ensures.state c.event_heard.ensures.few in
     let valid : IsValid c.event_heard.new.self ((accepted c.self.inside.left) + 1) = subst (λ (x : State). IsValid x ((accepted c.self.inside.left) + 1)) (sym c.event_heard.ensures.state) (valid_step c.self.inside.machine (accepted c.self.inside.left) c.args.event ok c.self.invariant.valid (are_answered _ _ _ _ c.event_heard.ensures.calls) few) in
     valid.unstuck
 
