@@ -13,7 +13,7 @@ use Rattle.scx_sched_machine.specs.Events as machine
 use Rattle.scx_sched.specs.Sim.{SimState, max_events, refusal, after_event, stepped_if}
 use Rattle.scx_load_driver.specs.Runs.{stepped_all, AreAccepted}
 use Rattle.scx_load_driver.specs.Blocks.{events_below}
-use Rattle.scx_load_driver.proofs.Alike.{Times, IsLike, times_of, like_groups, like_active}
+use Rattle.scx_load_driver.proofs.Alike.{Times, IsLike, times_of, like_groups, like_active, like_rounds}
 use Rattle.scx_load_driver.proofs.Happening.{like_clock, times_after_tick, like_tick, like_wake, like_sleep, others_stay}
 
 -- ---- lists, one behind another
@@ -130,8 +130,14 @@ module _ (n c g e : ℕ) where
       x = goes (SetWeight k y) s (omega (arith, few, h.events)) (rw (lt-ltb k (length s.state.world.tree.groups) (omega (arith, l, h.groups)), right) refl)
 
       go : (b : Bool) → is_none (weight_fault s.state.world.tree k y) ≡ b → IsOf n c g (e + 1) (after_event s (SetWeight k y))
-      go true w = is_of (with_weight s.state.world.tree k y) (times s) (SetWeight k y) s refl (length-set s.state.world.tree.groups k _ ∙ h.groups) x (rw w ((refl, refl, refl), (h.tasks, λ u. omega arith), h.cpus)) h.events
-      go false w = is_of s.state.world.tree (times s) (SetWeight k y) s refl h.groups x (rw w ((refl, refl, refl), (h.tasks, λ u. omega arith), h.cpus)) h.events
+      go true w =
+          let tree = with_weight s.state.world.tree k y in
+          let own : IsLike tree (times s) c (machine.own_step s.state (SetWeight k y)).state.world = rw w ((refl, refl, refl), (h.tasks, λ u. omega arith), h.cpus) in
+          is_of tree (times s) (SetWeight k y) s refl (length-set s.state.world.tree.groups k _ ∙ h.groups) x (like_rounds tree (times s) c (machine.own_step s.state (SetWeight k y)) own) h.events
+      go false w =
+          let tree = s.state.world.tree in
+          let own : IsLike tree (times s) c (machine.own_step s.state (SetWeight k y)).state.world = rw w ((refl, refl, refl), (h.tasks, λ u. omega arith), h.cpus) in
+          is_of tree (times s) (SetWeight k y) s refl h.groups x (like_rounds tree (times s) c (machine.own_step s.state (SetWeight k y)) own) h.events
 
 -- ---- the events of numbers that pass a test
 

@@ -1,6 +1,6 @@
 -- A scheduling cycle leaves the groups and tasks, who is active, how many tasks and processors there are, and how long
 -- each task has run.
-use Rattle.std.proofs.Common.{◌≡◌, ℕ, zero, suc, ◌<◌, ◌≤◌, ◌⊎◌, inl, inr, Bool, true, false, nat_lt, cond, List, length, set, get_or, map, Option, Some, None, Result, Ok, Err, ℤ, refl, ◌∙◌, subst, arith}
+use Rattle.std.proofs.Common.{◌≡◌, ℕ, zero, suc, ◌<◌, ◌≤◌, ◌⊎◌, inl, inr, Bool, true, false, ◌&&◌, ◌==◌, not, nat_lt, cond, List, length, set, get_or, map, Option, Some, None, Result, Ok, Err, ℤ, refl, ◌∙◌, subst, arith}
 use Rattle.std.proofs.lemmas.Bool.{cases_eq, cases_lt}
 use Rattle.std.proofs.lemmas.List.{length-set, length-replicate, get_or-set_same, get_or-set_other, set_past}
 use Rattle.scx_dsq.specs.Queues.{len_of, front_of, behind_of}
@@ -23,24 +23,27 @@ use Rattle.scx_sched_world.specs.declared.call.Insert.{Insert}
 use Rattle.scx_sched_tasks.specs.declared.task.Task.{Task}
 use Rattle.scx_sched_tasks.specs.Tasks.{no_task}
 use Rattle.scx_sched_world.specs.declared.faults.Fault.{Fault}
+use Rattle.scx_sched_world.specs.CpuSets.{is_in_set}
 use Rattle.scx_sched_world.specs.Ids.{global, builtin_queue, parked_queue, local_on}
-use Rattle.scx_sched_world.specs.World.{WorldState, with_task, task_at, is_throttled, waits, running, at_callback}
-use Rattle.scx_sched_world.specs.Tasks.{after_leave, after_enter, for_cpu, brought, fill_front, after_stop, started_at, put_parked, after_take, let_go}
+use Rattle.scx_sched_world.specs.World.{WorldState, with_task, without_kick, task_at, is_throttled, is_idle, waits, running, at_callback}
+use Rattle.scx_sched_world.specs.Tasks.{with_home, with_slice, to_front, after_leave, after_enter, for_cpu, brought, fill_front, after_stop, started_at, after_run, after_switch, after_cut_off, put_parked, after_take, let_go}
 use Rattle.scx_sched_world.specs.Helpers.{is_dispatch, with_insert, after_release, insert_or_fault, front_moved_to_local, helper_after, stored_in, world_functions}
 use Rattle.scx_sched_machine.specs.Policy.{PolicyState}
 use Rattle.scx_sched_world.specs.declared.eject.Eject.{Eject}
 use Rattle.scx_sched_world.specs.Ejecting.{put_out, put_builtin, after_evictions, after_cut, cut_task, after_charge, after_catch_up}
-use Rattle.scx_sched_machine.specs.Steps.{State, Stepped, one_after_other, stays, with_world, is_ejected}
+use Rattle.scx_sched_machine.specs.Steps.{State, Stepped, one_after_other, stays, with_world, is_ejected, is_by_linux, kicked, kicked_if_idle}
 use Rattle.scx_sched_machine.specs.Ejecting.{moves_over, eject, ejected_for}
 use Rattle.scx_sched_machine.specs.Callbacks.{call_ending, acting, fault_of, call_back, after_callback, no_arguments, one_task, task_and_number, cpu_and_task}
 use Rattle.scx_sched_machine.specs.Put.{enters, enqueue_choice, enters_builtin, comes_in, put}
 use Rattle.scx_sched_machine.specs.Events.{insert_or_put}
 use Rattle.scx_sched_machine.specs.Filling.{fill}
 use Rattle.scx_sched_machine.specs.Parking.{park, park_front, throttled_front, park_then, park_fronts, clear, in_reach, supply, let_go_one, let_go_from, let_all_go}
-use Rattle.scx_sched_machine.specs.Cycle.{has_local, after_dispatch, asks_again, tries, stopping_called, after_stopping, after_running, leave, started_if, start as run_front, rest, swap, swap_or_rest, builtin_dispatch, builtin_fill, builtin_ask, builtin_cycle, start_or_cycle, pick, pick_or_rest, conclude, ask, seek, look, cycling, cycle}
+use Rattle.scx_sched_machine.specs.Cycle.{has_local, keeps_slice, supply_unless_kept, told_of, after_dispatch, asks_again, tries, stopping_called, after_stopping, after_running, put_back, leave, switched, started_if, start as run_front, rest, swap, swap_or_rest, builtin_dispatch, builtin_fill, builtin_ask, builtin_cycle, start_or_cycle, picked, refilled, is_local, start_picked, start_picked_or_cycle, pick, pick_or_rest, keep_or_pick, conclude, give_up, ask, seek, look, cycling, cycle}
+use Rattle.scx_sched_machine.specs.Rounds.{most_rounds, next_to_look, cut_off_if, look_past, look_from, round, round_then, rounds, with_rounds}
 use Rattle.scx_sched_machine.specs.Start.{blank, init_ending, bad_answer, ok_unless, after_init, enable_ending, has_failed, enable, then_enable, after_enables, ok_if, all_enabled, first_state}
 use Rattle.scx_sched_machine.proofs.Choices.{keeps_if}
 use Rattle.scx_sched_machine.proofs.HelperCalls.{by_helper}
+use Rattle.scx_sched.proofs.Marks.{KeepsMarks, Anywhere, kept_kicked_so, kept_claim, kept_local, kept_entered}
 use Rattle.scx_sched.proofs.Fine.{stored_run, given_run, renewed_run}
 
 -- the same groups and tasks, of which the same are active
@@ -87,8 +90,17 @@ module _ (h : Hierarchy) (n : Times) (c : ℕ) where
   like_task : (w : WorldState) (t : ℕ) (x : Task) → x.run_ns ≡ (task_at w t).run_ns → IsLike h n c w → IsLike h n c (with_task w t x)
   like_task w t x same i = (i.0, timed_set n w.tasks t x same i.1, i.2)
 
+  -- processors of tasks, slices and sets of processors are no part of it
+  pub like_marks : KeepsMarks Anywhere (IsLike h n c)
+  like_marks = record {
+    there = λ w d i l. tt;
+    homed = λ w t d l i. like_task w t (with_home (task_at w t) d) refl i;
+    sliced = λ w t k i. like_task w t (with_slice (task_at w t) k) refl i;
+    sets = λ w claimed kicked preempted claims i. i;
+  }
+
   like_entered : (w : WorldState) (t : ℕ) (k : Insert) → IsLike h n c w → IsLike h n c (after_enter w t k)
-  like_entered w t k i = keeps_if (IsLike h n c) (nat_lt t (length w.tasks)) _ w (like_task w t _ (given_run (task_at w t) k) i) i
+  like_entered w t k i = kept_entered Anywhere (IsLike h n c) like_marks w t k (like_task w t _ (given_run (task_at w t) k) i) i
 
   like_released : (w : WorldState) (t : Option ℕ) (k : Insert) → IsLike h n c w → IsLike h n c (after_release w t k)
   like_released w None k i = i
@@ -100,18 +112,21 @@ module _ (h : Hierarchy) (n : Times) (c : ℕ) where
 
   like_moved : (w : WorldState) (o : Option ℕ) (q : ℕ) → IsLike h n c w → IsLike h n c (front_moved_to_local w o q)
   like_moved w None q i = i
-  like_moved w (Some t) q i = i
+  like_moved w (Some t) q i = let x = kept_local Anywhere (IsLike h n c) like_marks (after_take w q) w.call.cpu t tt i in (x.0, x.1, x.2)
 
   like_brought : (o : Option ℕ) (w : WorldState) (q d : ℕ) → IsLike h n c w → IsLike h n c (brought o w q d)
   like_brought None w q d i = i
-  like_brought (Some t) w q d i = i
+  like_brought (Some t) w q d i = kept_local Anywhere (IsLike h n c) like_marks (after_take w q) d t tt i
 
   like_helper : (w : WorldState) (f : Helper) (a : List Arg) → IsLike h n c w → IsLike h n c (helper_after w f a)
   like_helper w f a i = by_helper (IsLike h n c) w (record {
     same = i;
     faulty = λ f other. i;
     created = λ q. i;
-    inserted = λ t k flags none. like_inserted w None t k i;
+    inserted = λ t k flags back none. like_inserted w None t k i;
+    late = λ linux here. i;
+    claimed = λ o. kept_claim Anywhere (IsLike h n c) like_marks w o i;
+    kicked = λ d k. kept_kicked_so Anywhere (IsLike h n c) like_marks w d k i;
     moved = λ q here low. like_moved w (front_of w.queues q) q i;
   }) f a
 
@@ -125,6 +140,13 @@ module _ (h : Hierarchy) (n : Times) (c : ℕ) where
 
   like_started : (w : WorldState) (d t : ℕ) → IsLike h n c w → IsLike h n c (started_at (Some t) w d)
   like_started w d t i = (i.0, timed_set n w.tasks t _ refl i.1, length-set w.cpus d (Some t) ∙ i.2)
+
+  like_ran : (w : WorldState) (d t : ℕ) → IsLike h n c w → IsLike h n c (after_run w d t)
+  like_ran w d t i = (i.0, timed_set n w.tasks t _ refl i.1, length-set w.cpus d (Some t) ∙ i.2)
+
+  -- a processor that is kicked
+  pub like_kicked_if_idle : (s : State) (d : ℕ) → IsLike h n c s.world → IsLike h n c (kicked_if_idle s d).world
+  like_kicked_if_idle s d i = keeps_if (λ (r : State). IsLike h n c r.world) (is_by_linux s && is_idle s.world d) (kicked s d) s i i
 
   -- ---- an ejection
 
@@ -242,7 +264,10 @@ module _ (h : Hierarchy) (n : Times) (c : ℕ) where
 
   like_let_go_one : (s : State) (t : ℕ) → IsLike h n c s.world → IsLike h n c (let_go_one s t).state.world
   unfolding let_go_one
-  like_let_go_one s t i = like_put (with_world s (let_go s.world t)) t (task_at s.world t).prev_cpu 0 (like_task s.world t _ refl i)
+  like_let_go_one s t i =
+      let d = (task_at s.world t).prev_cpu in
+      let v = with_world s (let_go s.world t) in
+      like_kicked_if_idle (put v t d 0).state d (like_put v t d 0 (like_task s.world t _ refl i))
 
   like_let_go_from : (m : ℕ) (s : State) (at : Option ℕ) → IsLike h n c s.world → IsLike h n c (let_go_from m s at).state.world
   unfolding let_go_from
@@ -260,9 +285,15 @@ module _ (h : Hierarchy) (n : Times) (c : ℕ) where
 
   -- ---- dispatch
 
+  like_supply_unless_kept : (s : State) (d : ℕ) (p : Option ℕ) → IsLike h n c s.world → IsLike h n c (supply_unless_kept s d p).state.world
+  unfolding supply_unless_kept
+  like_supply_unless_kept s d p i = keeps_if (λ (r : Stepped). IsLike h n c r.state.world) (keeps_slice s p) (stays s) (supply s d) i (like_supply s d i)
+
   like_dispatched : (s : State) (d : ℕ) (p : Option ℕ) → IsLike h n c s.world → IsLike h n c (after_dispatch s d p).state.world
   unfolding after_dispatch
-  like_dispatched s d p i = like_supply (call_back s callback.Dispatch (cpu_and_task d p) 0 d).state d (like_call_back s callback.Dispatch (cpu_and_task d p) 0 d i)
+  like_dispatched s d p i =
+      let a = cpu_and_task d (told_of s p) in
+      like_supply_unless_kept (call_back s callback.Dispatch a 0 d).state d p (like_call_back s callback.Dispatch a 0 d i)
 
   like_tries : (m : ℕ) (s : State) (d : ℕ) (p : Option ℕ) → IsLike h n c s.world → IsLike h n c (tries m s d p).state.world
   unfolding tries
@@ -270,7 +301,12 @@ module _ (h : Hierarchy) (n : Times) (c : ℕ) where
   like_tries (suc m) s d p i =
       let r = after_dispatch s d p in
       let x = like_dispatched s d p i in
-      keeps_if (λ (r : Stepped). IsLike h n c r.state.world) (asks_again r.state d) (one_after_other r (tries m r.state d p)) r (like_tries m r.state d p x) x
+      keeps_if (λ (r : Stepped). IsLike h n c r.state.world) (asks_again r.state d p) (one_after_other r (tries m r.state d p)) r (like_tries m r.state d p x) x
+
+  -- a slice that grows as a task begins to run
+  like_switched : (s : State) (t : ℕ) → IsLike h n c s.world → IsLike h n c (switched s t).world
+  unfolding switched
+  like_switched s t i = keeps_if (λ (r : State). IsLike h n c r.world) (is_by_linux s && not (s.policy.tick_ms == 0)) (with_world s (after_switch s.world t)) s (like_task s.world t _ refl i) i
 
   like_start : (s : State) (d : ℕ) → IsLike h n c s.world → IsLike h n c (run_front s d).state.world
   unfolding run_front
@@ -278,19 +314,25 @@ module _ (h : Hierarchy) (n : Times) (c : ℕ) where
     where
       go : (o : Option ℕ) → IsLike h n c (started_if o s d).state.world
       go None = i
-      go (Some t) = like_running_on (with_world s (started_at (Some t) s.world d)) d t (like_started s.world d t i)
+      go (Some t) =
+          let v = with_world s (started_at (Some t) s.world d) in
+          like_running_on (switched v t) d t (like_switched v t (like_started s.world d t i))
 
   like_rest : (s : State) (d : ℕ) (p : Option ℕ) (ran : Bool) → IsLike h n c s.world → IsLike h n c (rest s d p ran).state.world
   unfolding rest
   like_rest s d None ran i = i
   like_rest s d (Some t) ran i = like_task s.world t _ (renewed_run (task_at s.world t)) i
 
+  like_put_back : (s : State) (d t : ℕ) → IsLike h n c s.world → IsLike h n c (put_back s d t).state.world
+  unfolding put_back enters
+  like_put_back s d t i = keeps_if (λ (r : Stepped). IsLike h n c r.state.world) (keeps_slice s (Some t)) (enters s t (to_front d)) (put s t d 0) (like_entered s.world t (to_front d) i) (like_put s t d 0 i)
+
   like_leave : (s : State) (d : ℕ) (p : Option ℕ) → IsLike h n c s.world → IsLike h n c (leave s d p).state.world
   unfolding leave
   like_leave s d None i = i
   like_leave s d (Some t) i =
       let off = with_world s (after_stop s.world d t) in
-      like_put (after_stopping off d t 1).state t d 0 (like_stopping off d t 1 (like_stopped s.world d t i))
+      like_put_back (after_stopping off d t 1).state d t (like_stopping off d t 1 (like_stopped s.world d t i))
 
   like_swap : (s : State) (d : ℕ) (p : Option ℕ) → IsLike h n c s.world → IsLike h n c (swap s d p).state.world
   unfolding swap
@@ -315,22 +357,49 @@ module _ (h : Hierarchy) (n : Times) (c : ℕ) where
   like_start_or_cycle s d ran i =
       keeps_if (λ (r : Stepped). IsLike h n c r.state.world) (has_local s d) (run_front s d) (builtin_cycle s d None ran) (like_start s d i) (like_builtin_cycle s d None ran i)
 
+  like_start_picked : (s : State) (d t : ℕ) → IsLike h n c s.world → IsLike h n c (start_picked s d t).state.world
+  unfolding start_picked
+  like_start_picked s d t i =
+      let v = with_world s (after_run s.world d t) in
+      like_running_on (switched v t) d t (like_switched v t (like_ran s.world d t i))
+
+  like_start_picked_or_cycle : (o : Option ℕ) (s : State) (d : ℕ) (ran : Bool) → IsLike h n c s.world → IsLike h n c (start_picked_or_cycle o s d ran).state.world
+  like_start_picked_or_cycle None s d ran i = like_start_or_cycle s d ran i
+  like_start_picked_or_cycle (Some t) s d ran i =
+      keeps_if (λ (r : Stepped). IsLike h n c r.state.world) (is_local s d t) (start_picked s d t) (start_or_cycle s d ran) (like_start_picked s d t i) (like_start_or_cycle s d ran i)
+
+  like_refilled : (o : Option ℕ) (s : State) → IsLike h n c s.world → IsLike h n c (refilled s o).world
+  like_refilled None s i = i
+  like_refilled (Some t) s i = like_task s.world t _ (renewed_run (task_at s.world t)) i
+
   like_pick : (s : State) (d : ℕ) (p : Option ℕ) (ran : Bool) → IsLike h n c s.world → IsLike h n c (pick s d p ran).state.world
   unfolding pick
-  like_pick s d p ran i = like_start_or_cycle (leave s d p).state d ran (like_leave s d p i)
+  like_pick s d p ran i =
+      let v = refilled s (picked s d) in
+      like_start_picked_or_cycle (picked s d) (leave v d p).state d ran (like_leave v d p (like_refilled (picked s d) s i))
 
   like_pick_or_rest : (s : State) (d : ℕ) (p : Option ℕ) (ran : Bool) → IsLike h n c s.world → IsLike h n c (pick_or_rest s d p ran).state.world
   unfolding pick_or_rest
   like_pick_or_rest s d p ran i = keeps_if (λ (r : Stepped). IsLike h n c r.state.world) (has_local s d) (pick s d p ran) (rest s d p ran) (like_pick s d p ran i) (like_rest s d p ran i)
 
+  like_keep_or_pick : (s : State) (d : ℕ) (p : Option ℕ) (ran : Bool) → IsLike h n c s.world → IsLike h n c (keep_or_pick s d p ran).state.world
+  unfolding keep_or_pick
+  like_keep_or_pick s d p ran i = keeps_if (λ (r : Stepped). IsLike h n c r.state.world) (keeps_slice s p) (stays s) (pick_or_rest s d p ran) i (like_pick_or_rest s d p ran i)
+
   like_conclude : (s : State) (d : ℕ) (p : Option ℕ) (ran : Bool) → IsLike h n c s.world → IsLike h n c (conclude s d p ran).state.world
   unfolding conclude
   like_conclude s d p ran i =
-      keeps_if (λ (r : Stepped). IsLike h n c r.state.world) (is_ejected s) (builtin_cycle s d p ran) (pick_or_rest s d p ran) (like_builtin_cycle s d p ran i) (like_pick_or_rest s d p ran i)
+      keeps_if (λ (r : Stepped). IsLike h n c r.state.world) (is_ejected s) (builtin_cycle s d p ran) (keep_or_pick s d p ran) (like_builtin_cycle s d p ran i) (like_keep_or_pick s d p ran i)
+
+  like_give_up : (s : State) (d : ℕ) (p : Option ℕ) → IsLike h n c s.world → IsLike h n c (give_up s d p).world
+  unfolding give_up
+  like_give_up s d p i = keeps_if (λ (r : State). IsLike h n c r.world) (is_by_linux s && asks_again s d p) (kicked s d) s i i
 
   like_ask : (s : State) (d : ℕ) (p : Option ℕ) (ran : Bool) → IsLike h n c s.world → IsLike h n c (ask s d p ran).state.world
   unfolding ask
-  like_ask s d p ran i = like_conclude (tries 32 s d p).state d p ran (like_tries 32 s d p i)
+  like_ask s d p ran i =
+      let r = (tries 32 s d p).state in
+      like_conclude (give_up r d p) d p ran (like_give_up r d p (like_tries 32 s d p i))
 
   like_seek : (s : State) (d : ℕ) (p : Option ℕ) (ran : Bool) → IsLike h n c s.world → IsLike h n c (seek s d p ran).state.world
   unfolding seek
@@ -348,6 +417,41 @@ module _ (h : Hierarchy) (n : Times) (c : ℕ) where
   pub like_cycle : (s : State) (d : ℕ) (p : Option ℕ) (ran : Bool) → IsLike h n c s.world → IsLike h n c (cycle s d p ran).state.world
   unfolding cycle
   like_cycle s d p ran i = let x = like_look (cycling s (Some d)) d p ran (i.0, i.1, i.2) in (x.0, x.1, x.2)
+
+  -- ---- rounds
+
+  like_look_past : (s : State) (d t : ℕ) → IsLike h n c s.world → IsLike h n c (look_past s d t).state.world
+  unfolding look_past
+  like_look_past s d t i = keeps_if (λ (r : Stepped). IsLike h n c r.state.world) ((task_at s.world t).slice == 0) (cycle s d (Some t) true) (stays s) (like_cycle s d (Some t) true i) i
+
+  like_round : (s : State) (d : ℕ) → IsLike h n c s.world → IsLike h n c (round s d).state.world
+  unfolding round
+  like_round s d i = go (running s.world d)
+    where
+      v : State
+      v = with_world s (without_kick s.world d)
+
+      cut : (b : Bool) (t : ℕ) → IsLike h n c (look_past (cut_off_if b v t) d t).state.world
+      cut false t = like_look_past v d t i
+      cut true t = like_look_past (with_world v (after_cut_off v.world t)) d t (like_task v.world t _ refl i)
+
+      go : (o : Option ℕ) → IsLike h n c (look_from o (is_in_set s.world.preempted d) v d).state.world
+      go None = like_cycle v d None false i
+      go (Some t) = cut (is_in_set s.world.preempted d) t
+
+  like_all_rounds : (j : ℕ) (s : State) → IsLike h n c s.world → IsLike h n c (rounds j s).state.world
+  unfolding rounds
+  like_all_rounds zero s i = i
+  like_all_rounds (suc j) s i = go (next_to_look s) (λ d. like_all_rounds j (round s d).state (like_round s d i))
+    where
+      go : (o : Option ℕ) → ((d : ℕ) → IsLike h n c (rounds j (round s d).state).state.world) → IsLike h n c (round_then (λ r. rounds j r) s o).state.world
+      go None more = i
+      go (Some d) more = more d
+
+  -- a step, and the processors that look for work after it
+  pub like_rounds : (r : Stepped) → IsLike h n c r.state.world → IsLike h n c (with_rounds r).state.world
+  unfolding with_rounds
+  like_rounds r i = keeps_if (λ (r : Stepped). IsLike h n c r.state.world) (is_by_linux r.state) (one_after_other r (rounds most_rounds r.state)) r (like_all_rounds most_rounds r.state i) i
 
   -- ---- init and enable
 

@@ -1,5 +1,5 @@
 -- What an event leaves of groups and tasks, and of how many tasks and processors there are.
-use Rattle.std.proofs.Common.{◌≡◌, ℕ, ◌+◌, ◌<◌, ◌≤◌, ◌⊎◌, inl, inr, Bool, true, false, ◌==◌, if◌then◌else◌, nat_lt, List, length, set, get_or, Option, Some, None, refl, ◌∙◌, ap, arith}
+use Rattle.std.proofs.Common.{◌≡◌, ℕ, ◌+◌, ◌<◌, ◌≤◌, ◌⊎◌, inl, inr, Bool, true, false, ◌==◌, ◌&&◌, if◌then◌else◌, nat_lt, List, length, set, get_or, Option, Some, None, refl, ◌∙◌, ap, arith}
 use Rattle.std.proofs.lemmas.Bool.{cases_eq, cases_lt, eq-eqb, lt-ltb}
 use Rattle.std.proofs.lemmas.List.{length-set, get_or-set_same, get_or-set_other, set_past}
 use Rattle.scx_isa_semantics.specs.declared.callbacks.Callback.TheVariants as callback
@@ -8,33 +8,68 @@ use Rattle.scx_weights.specs.Hierarchy as tree
 use Rattle.scx_weights.specs.Limits.{with_use}
 use Rattle.scx_sched_tasks.specs.declared.task.Task.{Task}
 use Rattle.scx_sched_tasks.specs.Tasks.{no_task}
-use Rattle.scx_sched_world.specs.World.{WorldState, with_tree, running, cpu_of, is_idle, is_throttled, is_this, task_at}
-use Rattle.scx_sched_world.specs.Tasks.{after_wake, after_sleep, after_leave, after_stop, tick_ns, ran_a_tick, after_tick, used_ms, later, begun_periods}
-use Rattle.scx_sched_machine.specs.Steps.{State, Stepped, with_world, stays, one_after_other}
+use Rattle.scx_vm.specs.Programs.{VerifiedProgram}
+use Rattle.scx_sched_world.specs.World as world
+use Rattle.scx_sched_world.specs.World.{WorldState, with_tree, with_slept, running, cpu_of, is_idle, is_throttled, is_this, task_at, choice, after_claim, at_callback}
+use Rattle.scx_sched_world.specs.Tasks.{homed, after_wake, after_sleep, after_leave, after_stop, tick_ns, ran_a_tick, after_tick, used_ms, later, begun_periods}
+use Rattle.scx_sched_machine.specs.Steps.{State, Stepped, with_world, stays, one_after_other, is_by_linux, kicked_if_idle}
 use Rattle.scx_sched_machine.specs.Callbacks.{acting, call_back, answered_by, task_cpu_and_0}
 use Rattle.scx_sched_machine.specs.Parking.{park, let_all_go}
 use Rattle.scx_sched_machine.specs.Cycle.{after_stopping, cycle}
-use Rattle.scx_sched_machine.specs.Events.{target, insert_or_put, settle, select, wake, sleep_from_cpu, sleep_from, sleep, throttle, expire, count_down, tick_of, tick, overdue, eject_if_stalled, clock}
+use Rattle.scx_sched_machine.specs.declared.events.Event.TheVariants.{Wake, Sleep, Tick, Clock}
+use Rattle.scx_sched_machine.specs.Events.{target, insert_or_put, wake_target, settle, inserted_by_choice, chosen, ask_target, asks_target, select, wake, told_of_sleep, sleep_from_cpu, sleep_from, sleep, throttle, ends_slices, expire, count_down, tick_idle, tick_of, tick, overdue, eject_if_stalled, clock, event_step}
 use Rattle.scx_sched_machine.proofs.Choices.{keeps_if}
-use Rattle.scx_load_driver.proofs.Alike.{IsTreeLike, Times, AreTimed, IsLike, timed_set, like_stopped, like_eject, like_call_back, like_stopping, like_settled, like_park, like_let_all_go, like_cycle}
+use Rattle.scx_sched.proofs.Marks.{Anywhere, kept_homed, kept_claim}
+use Rattle.scx_load_driver.proofs.Alike.{IsTreeLike, Times, AreTimed, IsLike, timed_set, like_marks, like_kicked_if_idle, like_stopped, like_eject, like_call_back, like_stopping, like_settled, like_park, like_let_all_go, like_cycle, like_rounds}
 
 -- a task is active, or not, in both
 tree_set : (h t : Hierarchy) (k : ℕ) (on : Bool) → IsTreeLike h t → IsTreeLike (tree.with_task h k on) (tree.with_task t k on)
 tree_set h t k on i = (i.0, i.1, ap (λ xs. set xs k on) i.2)
 
-like_settle : (h : Hierarchy) (n : Times) (c : ℕ) (s : State) (t d : ℕ) → IsLike h n c s.world → IsLike h n c (settle s t d).state.world
-unfolding settle
-like_settle h n c s t d i =
-    let r = insert_or_put s.world.call.insert s t d in
-    let x = like_settled h n c s.world.call.insert s t d i in
-    keeps_if (λ (r : Stepped). IsLike h n c r.state.world) (is_idle r.state.world d) (one_after_other r (cycle r.state d None false)) r (like_cycle h n c r.state d None false x) x
+-- ---- a task that wakes
 
-like_select : (h : Hierarchy) (n : Times) (c : ℕ) (s : State) (t : ℕ) → IsLike h n c s.world → IsLike h n c (select s t).state.world
-unfolding select
-like_select h n c s t i =
-    let d = (task_at s.world t).prev_cpu in
-    let r = call_back s callback.SelectCpu (task_cpu_and_0 t d) t d in
-    like_settle h n c r.state t (target (acting r.state callback.SelectCpu) r.state.world t (answered_by s callback.SelectCpu (task_cpu_and_0 t d) t d)) (like_call_back h n c s callback.SelectCpu (task_cpu_and_0 t d) t d i)
+module _ (h : Hierarchy) (n : Times) (c : ℕ) where
+  like_homed : (w : WorldState) (t d : ℕ) → IsLike h n c w → IsLike h n c (homed w t d)
+  like_homed w t d i = kept_homed Anywhere (IsLike h n c) (like_marks h n c) w t d tt i
+
+  like_wake_target : (s : State) (d : ℕ) → IsLike h n c s.world → IsLike h n c (wake_target s d).state.world
+  unfolding wake_target
+  like_wake_target s d i =
+      keeps_if (λ (r : Stepped). IsLike h n c r.state.world) (is_by_linux s) (stays (kicked_if_idle s d)) (if is_idle s.world d then cycle s d None false else stays s) (like_kicked_if_idle h n c s d i)
+      (keeps_if (λ (r : Stepped). IsLike h n c r.state.world) (is_idle s.world d) (cycle s d None false) (stays s) (like_cycle h n c s d None false i) i)
+
+  like_settle : (s : State) (t d : ℕ) → IsLike h n c s.world → IsLike h n c (settle s t d).state.world
+  unfolding settle
+  like_settle s t d i =
+      let v = with_world s (homed s.world t d) in
+      let r = insert_or_put v.world.call.insert v t d in
+      like_wake_target r.state d (like_settled h n c v.world.call.insert v t d (like_homed s.world t d i))
+
+  like_by_choice : (w : WorldState) (o : Option ℕ) → IsLike h n c w → IsLike h n c (inserted_by_choice w o)
+  like_by_choice w None i = i
+  like_by_choice w (Some d) i = i
+
+  like_chosen : (p : Option VerifiedProgram) (s : State) (t : ℕ) → IsLike h n c s.world → IsLike h n c (chosen p s t).world
+  like_chosen None s t i =
+      let o = choice s.world t in
+      keeps_if (IsLike h n c) (world.is_by_linux s.world) (inserted_by_choice (after_claim s.world o) o) s.world (like_by_choice (after_claim s.world o) o (kept_claim Anywhere (IsLike h n c) (like_marks h n c) s.world o i)) i
+  like_chosen (Some p) s t i = i
+
+  like_ask_target : (s : State) (t : ℕ) → IsLike h n c s.world → IsLike h n c (ask_target s t).state.world
+  unfolding ask_target
+  like_ask_target s t i =
+      let d = (task_at s.world t).prev_cpu in
+      let r = call_back s callback.SelectCpu (task_cpu_and_0 t d) t d in
+      let p = acting r.state callback.SelectCpu in
+      like_settle (chosen p r.state t) t (target p r.state.world t (answered_by s callback.SelectCpu (task_cpu_and_0 t d) t d)) (like_chosen p r.state t (like_call_back h n c s callback.SelectCpu (task_cpu_and_0 t d) t d i))
+
+  like_select : (s : State) (t : ℕ) → IsLike h n c s.world → IsLike h n c (select s t).state.world
+  unfolding select
+  like_select s t i =
+      let v = with_world s (at_callback s.world callback.SelectCpu t 0) in
+      keeps_if (λ (r : Stepped). IsLike h n c r.state.world) (asks_target s) (ask_target s t) (settle v t 0) (like_ask_target s t i) (like_settle v t 0 i)
+
+-- ---- events
 
 module _ (h : Hierarchy) (n : Times) (c : ℕ) where
   like_throttle : (s : State) (d t : ℕ) → IsLike h n c s.world → IsLike h n c (throttle s d t).state.world
@@ -47,7 +82,7 @@ module _ (h : Hierarchy) (n : Times) (c : ℕ) where
 
   like_expire : (s : State) (d t : ℕ) → IsLike h n c s.world → IsLike h n c (expire s d t).state.world
   unfolding expire
-  like_expire s d t i = keeps_if (λ (r : Stepped). IsLike h n c r.state.world) ((task_at s.world t).slice == 0) (cycle s d (Some t) true) (stays s) (like_cycle h n c s d (Some t) true i) i
+  like_expire s d t i = keeps_if (λ (r : Stepped). IsLike h n c r.state.world) (((task_at s.world t).slice == 0) && ends_slices s) (cycle s d (Some t) true) (stays s) (like_cycle h n c s d (Some t) true i) i
 
   -- usages are no part of it
   like_used_ms : (w : WorldState) (t : ℕ) → IsLike h n c w → IsLike h n c (used_ms w t)
@@ -62,44 +97,60 @@ module _ (h : Hierarchy) (n : Times) (c : ℕ) where
       keeps_if (λ (r : Stepped). IsLike h n c r.state.world) (is_throttled v.world t) (throttle v d t) (expire v d t) (like_throttle v d t x) (like_expire v d t x)
 
   -- a task that wakes is active
-  pub like_wake : (s : State) (t : ℕ) → IsLike h n c s.world → IsLike (tree.with_task h t true) n c (wake s t).state.world
+  like_woken : (s : State) (t : ℕ) → IsLike h n c s.world → IsLike (tree.with_task h t true) n c (wake s t).state.world
   unfolding wake
-  like_wake s t i =
+  like_woken s t i =
       let w = with_world s (after_wake s.world t) in
       like_select (tree.with_task h t true) n c w t (tree_set h s.world.tree t true i.0, timed_set n s.world.tasks t _ refl i.1, i.2)
+
+  pub like_wake : (s : State) (t : ℕ) → IsLike h n c s.world → IsLike (tree.with_task h t true) n c (event_step s (Wake t)).state.world
+  like_wake s t i = like_rounds (tree.with_task h t true) n c (wake s t) (like_woken s t i)
 
   -- a task that sleeps isn't
   like_asleep : (w : WorldState) (t : ℕ) → t < n.many → IsLike h n c w → IsLike (tree.with_task h t false) n c (after_sleep w t)
   like_asleep w t l i = rw (lt-ltb t (length w.tasks) (omega (arith, l, i.1.0))) (tree_set h w.tree t false i.0, timed_set n w.tasks t _ refl i.1, i.2)
 
+  like_told_of_sleep : (s : State) (t : ℕ) → IsLike h n c s.world → IsLike h n c (told_of_sleep s t).world
+  unfolding told_of_sleep
+  like_told_of_sleep s t i = keeps_if (λ (r : State). IsLike h n c r.world) (is_by_linux s) (with_world s (with_slept s.world t)) s i i
+
+module _ (h : Hierarchy) (n : Times) (c : ℕ) where
   like_sleep_from_cpu : (s : State) (t d : ℕ) → t < n.many → IsLike h n c s.world → IsLike (tree.with_task h t false) n c (sleep_from_cpu s t d).state.world
   unfolding sleep_from_cpu
   like_sleep_from_cpu s t d l i =
       let off = with_world s (after_stop s.world d t) in
       let r = after_stopping off d t 0 in
       let x : IsLike h n c r.state.world = like_stopping h n c off d t 0 (like_stopped h n c s.world d t i) in
-      like_cycle (tree.with_task h t false) n c (with_world r.state (after_sleep r.state.world t)) d None true (like_asleep r.state.world t l x)
+      let v = with_world r.state (after_sleep r.state.world t) in
+      like_cycle (tree.with_task h t false) n c (told_of_sleep v t) d None true (like_told_of_sleep (tree.with_task h t false) n c v t (like_asleep h n c r.state.world t l x))
 
   -- a task that sleeps is no longer active
-  pub like_sleep : (s : State) (t : ℕ) → t < n.many → IsLike h n c s.world → IsLike (tree.with_task h t false) n c (sleep s t).state.world
+  like_slept : (s : State) (t : ℕ) → t < n.many → IsLike h n c s.world → IsLike (tree.with_task h t false) n c (sleep s t).state.world
   unfolding sleep
-  like_sleep s t l i = go (cpu_of s.world t)
+  like_slept s t l i = go (cpu_of s.world t)
     where
       go : (o : Option ℕ) → IsLike (tree.with_task h t false) n c (sleep_from o s t).state.world
-      go None = like_asleep (after_leave s.world t) t l i
+      go None = like_asleep h n c (after_leave s.world t) t l i
       go (Some d) = like_sleep_from_cpu s t d l i
+
+  pub like_sleep : (s : State) (t : ℕ) → t < n.many → IsLike h n c s.world → IsLike (tree.with_task h t false) n c (event_step s (Sleep t)).state.world
+  like_sleep s t l i = like_rounds (tree.with_task h t false) n c (sleep s t) (like_slept s t l i)
 
 module _ (h : Hierarchy) (n : Times) (c : ℕ) where
   like_stalled : (o : Option ℕ) (s : State) → IsLike h n c s.world → IsLike h n c (eject_if_stalled o s).state.world
   like_stalled None s i = i
   like_stalled (Some t) s i = like_eject h n c s _ i
 
-  pub like_clock : (s : State) → IsLike h n c s.world → IsLike h n c (clock s).state.world
+  like_later : (s : State) → IsLike h n c s.world → IsLike h n c (clock s).state.world
   unfolding clock
-  like_clock s i =
+  like_later s i =
       let v = with_world s (begun_periods (later s.world)) in
       let r = (let_all_go v).state in
       like_stalled (overdue r) r (like_let_all_go h n c v (i.0, i.1, i.2))
+
+  -- the clock leaves all of it
+  pub like_clock : (s : State) → IsLike h n c s.world → IsLike h n c (event_step s Clock).state.world
+  like_clock s i = like_rounds h n c (clock s) (like_later s i)
 
 -- who runs may have run for a tick more
 abbrev pub times_after_tick : Option ℕ → Times → Times
@@ -118,14 +169,21 @@ timed_ticked n xs t h = (length-set xs t x ∙ h.0, λ u. go u (cases_eq u t) (c
     go u (inr d) l = rw (get_or-set_other xs t u x no_task d) (omega (arith, h.1 u))
 
 module _ (h : Hierarchy) (n : Times) (c : ℕ) where
-  -- a tick leaves all of it, but for who runs there
-  pub like_tick : (s : State) (d : ℕ) → IsLike h n c s.world → IsLike h (times_after_tick (running s.world d) n) c (tick s d).state.world
+  like_tick_idle : (s : State) (d : ℕ) → IsLike h n c s.world → IsLike h n c (tick_idle s d).state.world
+  unfolding tick_idle
+  like_tick_idle s d i = keeps_if (λ (r : Stepped). IsLike h n c r.state.world) (is_by_linux s) (stays s) (cycle s d None false) i (like_cycle h n c s d None false i)
+
+  like_ticked : (s : State) (d : ℕ) → IsLike h n c s.world → IsLike h (times_after_tick (running s.world d) n) c (tick s d).state.world
   unfolding tick
-  like_tick s d i = go (running s.world d)
+  like_ticked s d i = go (running s.world d)
     where
       go : (o : Option ℕ) → IsLike h (times_after_tick o n) c (tick_of o s d).state.world
-      go None = let x = like_cycle h n c s d None false i in (x.0, (x.1.0, λ u. omega (arith, x.1.1 u)), x.2)
+      go None = let x = like_tick_idle s d i in (x.0, (x.1.0, λ u. omega (arith, x.1.1 u)), x.2)
       go (Some t) = like_count_down h (times_after_tick (Some t) n) c s d t (i.0, timed_ticked n s.world.tasks t i.1, i.2)
+
+  -- a tick leaves all of it, but for who runs there
+  pub like_tick : (s : State) (d : ℕ) → IsLike h n c s.world → IsLike h (times_after_tick (running s.world d) n) c (event_step s (Tick d)).state.world
+  like_tick s d i = like_rounds h (times_after_tick (running s.world d) n) c (tick s d) (like_ticked s d i)
 
 -- whether other tasks are active stays
 pub others_stay : (h : Hierarchy) (t u : ℕ) (on : Bool) → (u ≡ t → ⊥) → is_active_task (tree.with_task h t on) u ≡ is_active_task h u

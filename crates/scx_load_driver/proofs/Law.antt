@@ -2,16 +2,15 @@
 -- processors and groups.
 use Rattle.std.proofs.Common.{◌≡◌, ℕ, zero, suc, ◌+◌, ◌*◌, ◌<◌, ◌≤◌, Bool, true, false, not, ◌&&◌, List, [], ◌∷◌, length, refl, ◌∙◌, ap, arith}
 use Rattle.std.proofs.lemmas.List.{length-map}
-use Rattle.scx_weights.specs.Hierarchy.{idle}
 use Rattle.scx_sched_world.specs.World.{WorldState, is_runnable}
 use Rattle.scx_sched_machine.specs.declared.events.Event.TheVariants as event
 use Rattle.scx_sched_machine.specs.Policy.{PolicyState}
 use Rattle.scx_sched_machine.specs.Start.{blank}
 use Rattle.scx_sched.specs.Sim.{SimState, max_events, IsFirstState}
 use Rattle.scx_load_workloads.specs.declared.workload.Timing.{Timing}
-use Rattle.scx_load_workloads.specs.Workload.{WorkloadState, IsWorkload, IsChange, change_at}
+use Rattle.scx_load_workloads.specs.Workload.{WorkloadState, IsWorkload, first_tree, IsChange, change_at}
 use Rattle.scx_load_driver.specs.Runs.{stepped_all, AreAccepted}
-use Rattle.scx_load_driver.specs.Blocks.{Plan, Memory, Block, Changes, Wakes, Ticks, Sleeps, Clock, events_below, is_at, is_due, has_run_enough, block_events, memory_after}
+use Rattle.scx_load_driver.specs.Blocks.{Plan, Memory, Block, Changes, Wakes, Ticks, Sleeps, Clock, events_below, is_at, is_due, has_run_enough, may_sleep, goes_to_sleep, block_events, memory_after}
 use Rattle.scx_load_driver.specs.Events.{blocks_from, events_from, plan_of, first_memory, workload_events}
 use Rattle.scx_load_driver.proofs.Below.{length_set_below}
 use Rattle.scx_load_driver.proofs.Alike.{Times, IsLike, times_of, like_groups, like_first}
@@ -62,7 +61,7 @@ module _ (n c g : ℕ) (p : Plan) (plan : IsPlan n c g p) where
   still_due k (Changes m) w l = l
   still_due k (Wakes m) w l = l
   still_due k Ticks w l = l
-  still_due k (Sleeps m) w l = length_set_below (length p.timings) (has_run_enough p.timings k.ran w) _ k.due ∙ l
+  still_due k (Sleeps m) w l = length_set_below (length p.timings) (goes_to_sleep p.timings k.ran w) _ k.due ∙ l
   still_due k Clock w l = l
 
   -- ---- each block
@@ -109,10 +108,10 @@ module _ (n c g : ℕ) (p : Plan) (plan : IsPlan n c g p) where
       left_out = λ k v l e i. record { counted = one_more k v i.counted; same = λ u l'. i.same u (omega (arith, l')) };
     } record { counted = at_first; same = λ u l. refl }
 
-    sleep_block : (ran : List ℕ) → s.events + 1024 ≤ max_events → Led Untouched (length p.timings) s (events_below (length p.timings) (has_run_enough p.timings ran s.state.world) event.Sleep)
-    sleep_block ran room = led (length p.timings) (has_run_enough p.timings ran s.state.world) event.Sleep Untouched s record {
+    sleep_block : (ran : List ℕ) → s.events + 1024 ≤ max_events → Led Untouched (length p.timings) s (events_below (length p.timings) (goes_to_sleep p.timings ran s.state.world) event.Sleep)
+    sleep_block ran room = led (length p.timings) (goes_to_sleep p.timings ran s.state.world) event.Sleep Untouched s record {
       passed = λ k v l e i.
-          let runs : is_runnable v.state.world k ≡ true = i.same k (omega arith) ∙ and_left _ _ e in
+          let runs : is_runnable v.state.world k ≡ true = i.same k (omega arith) ∙ and_left _ _ (and_left (has_run_enough p.timings ran s.state.world k) (may_sleep s.state.world k) e) in
           let x = sleep_leads n c g (s.events + k) v k (omega (arith, l, room, plan.timed, plan.few_tasks)) (omega (arith, l, plan.timed)) runs i.counted in
           (x.0, record { counted = next_is k _ x.1; same = λ u l'. x.2 u (λ d. absurd (omega (arith, d, l'))) ∙ i.same u (omega (arith, l')) });
       left_out = λ k v l e i. record { counted = one_more k v i.counted; same = λ u l'. i.same u (omega (arith, l')) };
@@ -145,7 +144,7 @@ module _ (n c g : ℕ) (p : Plan) (plan : IsPlan n c g p) where
 -- ---- a workload's
 
 -- the law
-pub none_is_refused : (w : WorkloadState) (p : PolicyState) (s : SimState) → IsWorkload w → IsFirstState p (idle w.groups w.homes) w.cpus s → AreAccepted s (workload_events w s)
+pub none_is_refused : (w : WorkloadState) (p : PolicyState) (s : SimState) → IsWorkload w → IsFirstState p (first_tree w) w.cpus s → AreAccepted s (workload_events w s)
 none_is_refused w p s whole first =
     all_blocks (length w.homes) w.cpus (length w.groups) (plan_of w) plan (blocks_from w.ms 0) (first_memory w.timings) s (length-map w.timings (λ (t : Timing). t.start) ∙ whole.timed) now (omega (arith, first.1, most_from w.ms 0, whole.few_ms))
   where
@@ -153,10 +152,10 @@ none_is_refused w p s whole first =
     plan = record { cpus = refl; timed = whole.timed; few_tasks = whole.few_tasks; few_cpus = whole.few_cpus; few_changes = whole.few_changes; changes = whole.changes }
 
     times : Times
-    times = times_of (length w.homes) (blank p (idle w.groups w.homes) w.cpus).world
+    times = times_of (length w.homes) (blank p (first_tree w) w.cpus).world
 
-    like : IsLike (idle w.groups w.homes) times w.cpus s.state.world
-    like = like_first p (idle w.groups w.homes) w.cpus s.state first.0
+    like : IsLike (first_tree w) times w.cpus s.state.world
+    like = like_first p (first_tree w) w.cpus s.state first.0
 
     now : IsOf (length w.homes) w.cpus (length w.groups) s.events s
-    now = record { tasks = like.1.0; cpus = like.2; groups = ap (λ gs. length gs) (like_groups (idle w.groups w.homes) times w.cpus s.state.world like); events = omega arith }
+    now = record { tasks = like.1.0; cpus = like.2; groups = ap (λ gs. length gs) (like_groups (first_tree w) times w.cpus s.state.world like); events = omega arith }

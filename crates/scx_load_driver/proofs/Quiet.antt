@@ -6,8 +6,8 @@ use Rattle.scx_sched_world.specs.World.{WorldState, task_at}
 use Rattle.scx_sched_machine.specs.declared.events.Event.TheVariants as event
 use Rattle.scx_load_workloads.specs.declared.workload.Timing.{Timing}
 use Rattle.scx_load_workloads.specs.Workload.{timing_at}
-use Rattle.scx_load_driver.specs.Blocks.{set_below, has_run_enough}
-use Rattle.scx_load_driver.specs.Watch.{is_watched, watched_if, is_seen, sleeps_seen, due_seen, watched_still}
+use Rattle.scx_load_driver.specs.Blocks.{set_below, has_run_enough, may_sleep}
+use Rattle.scx_load_driver.specs.Watch.{is_watched, watched_if, is_seen, is_seen_off, sleeps_seen, due_seen, watched_still}
 use Rattle.scx_load_driver.specs.Driver.{AreUnwatched}
 use Rattle.scx_load_driver.proofs.Below.{no_events, sets_nothing, kept_above}
 
@@ -54,13 +54,16 @@ module _ (timings : List Timing) (ran : List ℕ) (xs : List Bool) (w : WorldSta
   unseen : (t : ℕ) → is_seen timings ran xs w t ≡ false
   unseen t = ap (λ b. b && has_run_enough timings ran w t) (h refl t)
 
+  unseen_off : (t : ℕ) → is_seen_off timings ran xs w t ≡ false
+  unseen_off t = ap (λ b. b && may_sleep w t) (unseen t)
+
   -- nobody goes to sleep
   pub no_sleeps : sleeps_seen timings ran xs w ≡ []
-  no_sleeps = no_events (length timings) (is_seen timings ran xs w) event.Sleep (λ t l. unseen t)
+  no_sleeps = no_events (length timings) (is_seen_off timings ran xs w) event.Sleep (λ t l. unseen_off t)
 
   -- so nothing is remembered anew
   pub same_due : (due : List ℕ) (m : ℕ) → due_seen timings due ran xs m w ≡ due
-  same_due due m = sets_nothing (length timings) (is_seen timings ran xs w) (λ t. m + 1 + (timing_at timings t).sleep) due 0 (λ t l e. let x = unseen t in absurd (cc))
+  same_due due m = sets_nothing (length timings) (is_seen_off timings ran xs w) (λ t. m + 1 + (timing_at timings t).sleep) due 0 (λ t l e. let x = unseen_off t in absurd (cc))
 
   pub same_watched : watched_still timings ran xs w ≡ xs
   same_watched = sets_nothing (length timings) (λ t. not (is_seen timings ran xs w t)) (λ t. false) xs false (λ t l e. h refl t)

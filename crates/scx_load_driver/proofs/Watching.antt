@@ -24,14 +24,14 @@ use Rattle.scx_load_workloads.specs.declared.workload.Change.{Change}
 use Rattle.scx_load_workloads.specs.Workload.{WorkloadState, timing_at, change_at}
 use Rattle.scx_load_driver.specs.Runs.{stepped_all}
 use Rattle.scx_load_driver.specs.Blocks as block
-use Rattle.scx_load_driver.specs.Blocks.{Plan, Memory, Block, is_due, has_run_enough, block_events, memory_after, events_below, is_at, ran_after}
-use Rattle.scx_load_driver.specs.Watch.{is_watched, last_ticks_of, watched_if, watched_at_tick, watched_after, watched_after_all, is_seen, block_seen, memory_seen, watched_in, events_seen}
+use Rattle.scx_load_driver.specs.Blocks.{Plan, Memory, Block, is_due, has_run_enough, may_sleep, goes_to_sleep, block_events, memory_after, events_below, is_at, ran_after}
+use Rattle.scx_load_driver.specs.Watch.{is_watched, last_ticks_of, watched_if, watched_at_tick, watched_after, watched_after_all, is_seen, is_seen_off, block_seen, memory_seen, watched_in, events_seen}
 use Rattle.scx_load_driver.specs.Events.{blocks_from, events_from, plan_of, first_memory, workload_events}
 use Rattle.scx_load_driver.specs.Driver.{remaining}
 use Rattle.scx_load_driver.proofs.Below.{events_alike, sets_alike, kept_out, set_here, length_set_below}
 use Rattle.scx_load_driver.proofs.LastTicks.{last_at, lacking}
 use Rattle.scx_load_driver.proofs.Accepting.{stepped_behind}
-use Rattle.scx_load_driver.proofs.Alike.{IsLike, times_of}
+use Rattle.scx_load_driver.proofs.Alike.{IsLike, times_of, like_rounds}
 use Rattle.scx_load_driver.proofs.Happening.{like_clock, like_tick, like_wake, like_sleep, others_stay}
 
 -- ---- lists
@@ -241,7 +241,15 @@ module _ (timings : List Timing) (ran : List ℕ) where
           let after = (machine.event_step s Clock).state.world in
           let x = like_clock s.world.tree (times_of n s.world) c s like in
           quietly xs s.world after (λ u y. sym (runs s.world.tree after x.0.2 u) ∙ y) (λ u. x.1.1 u) h
-      go _ (Weighs g k) still = keeps_if (AreAllWatched xs) (is_none (weight_fault s.world.tree g k)) (with_tree s.world (with_weight s.world.tree g k)) s.world (record { many = h.many; all = λ t l e. h.all t l e }) h
+      go _ (Weighs g k) still =
+          let own = machine.own_step s (SetWeight g k) in
+          let after = (machine.event_step s (SetWeight g k)).state.world in
+          let b = is_none (weight_fault s.world.tree g k) in
+          let v = with_tree s.world (with_weight s.world.tree g k) in
+          let alike : IsLike own.state.world.tree (times_of n s.world) c own.state.world = keeps_if (λ (w : WorldState). IsLike w.tree (times_of n s.world) c w) b v s.world ((refl, refl, refl), (refl, λ u. omega arith), refl) ((refl, refl, refl), (refl, λ u. omega arith), refl) in
+          let as_active : own.state.world.tree.active ≡ s.world.tree.active = keeps_if (λ (w : WorldState). w.tree.active ≡ s.world.tree.active) b v s.world refl refl in
+          let x = like_rounds own.state.world.tree (times_of n s.world) c own alike in
+          quietly xs s.world after (λ u y. sym (runs s.world.tree after (x.0.2 ∙ as_active) u) ∙ y) (λ u. x.1.1 u) h
 
   -- each event keeps it
   watching : (xs : List Bool) (s : SimState) (v : Event) → IsFresh ran s.state.world v → AreAllWatched xs s.state.world → AreAllWatched (watched_after last s.state.world v xs) (after_event s v).state.world
@@ -272,18 +280,21 @@ module _ (p : Plan) (k : Memory) (xs : List Bool) (w : WorldState) (h : AreAllWa
   seen : (t : ℕ) → t < length p.timings → is_seen p.timings k.ran xs w t ≡ has_run_enough p.timings k.ran w t
   seen t l = all_seen p.timings k.ran xs w t (h.all t l)
 
+  seen_off : (t : ℕ) → t < length p.timings → is_seen_off p.timings k.ran xs w t ≡ goes_to_sleep p.timings k.ran w t
+  seen_off t l = ap (λ b. b && may_sleep w t) (seen t l)
+
   same_events : (b : Block) → block_seen p b k xs w ≡ block_events p b k w
   same_events (block.Changes m) = refl
   same_events (block.Wakes m) = refl
   same_events block.Ticks = refl
-  same_events (block.Sleeps m) = events_alike (length p.timings) (is_seen p.timings k.ran xs w) (has_run_enough p.timings k.ran w) event.Sleep seen
+  same_events (block.Sleeps m) = events_alike (length p.timings) (is_seen_off p.timings k.ran xs w) (goes_to_sleep p.timings k.ran w) event.Sleep seen_off
   same_events block.Clock = refl
 
   same_memory : (b : Block) → memory_seen p b k xs w ≡ memory_after p b k w
   same_memory (block.Changes m) = refl
   same_memory (block.Wakes m) = refl
   same_memory block.Ticks = refl
-  same_memory (block.Sleeps m) = ap (λ due. record { due = due; ran = k.ran }) (sets_alike (length p.timings) (is_seen p.timings k.ran xs w) (has_run_enough p.timings k.ran w) (λ t. m + 1 + (timing_at p.timings t).sleep) k.due seen)
+  same_memory (block.Sleeps m) = ap (λ due. record { due = due; ran = k.ran }) (sets_alike (length p.timings) (is_seen_off p.timings k.ran xs w) (goes_to_sleep p.timings k.ran w) (λ t. m + 1 + (timing_at p.timings t).sleep) k.due seen_off)
   same_memory block.Clock = refl
 
   -- a task that wakes isn't runnable yet
@@ -299,7 +310,7 @@ module _ (p : Plan) (k : Memory) (xs : List Bool) (w : WorldState) (h : AreAllWa
           let same : get_or later t 0 ≡ get_or k.ran t 0 = kept_out (length k.due) t (is_due k.due m w) (λ u. (task_at w u).run_ns) k.ran 0 e in
           h.all t l (has_enough p.timings k.ran w t (record { runs = x.runs; some = x.some; long = omega (arith, x.long, same) }))
 
-  -- whoever goes to sleep is watched still
+  -- whoever has run enough is watched still
   sleeps_begun : AreAllWatched p.timings k.ran (watched_in p (block.Sleeps 0) k xs w) w
   sleeps_begun = record {
     many = length_set_below (length p.timings) (λ t. not (is_seen p.timings k.ran xs w t)) (λ t. false) xs ∙ h.many;
@@ -333,7 +344,7 @@ fresh_block p k xs s (block.Wakes m) l = (fresh_wakes later (length k.due) (is_d
         let here : get_or later t 0 ≡ (task_at w t).run_ns = set_here (length k.due) t (is_due k.due m w) (λ u. (task_at w u).run_ns) k.ran 0 within (omega (arith, within, l)) e in
         omega (arith, here)
 fresh_block p k xs s block.Ticks l = fresh_others k.ran p.cpus (λ c. true) Tick s (λ i w. tt)
-fresh_block p k xs s (block.Sleeps m) l = fresh_others k.ran (length p.timings) (is_seen p.timings k.ran xs s.state.world) Sleep s (λ i w. tt)
+fresh_block p k xs s (block.Sleeps m) l = fresh_others k.ran (length p.timings) (is_seen_off p.timings k.ran xs s.state.world) Sleep s (λ i w. tt)
 fresh_block p k xs s block.Clock l = (tt, tt)
 
 -- as many tasks are remembered
@@ -341,7 +352,7 @@ kept_lengths : (p : Plan) (k : Memory) (xs : List Bool) (w : WorldState) (b : Bl
 kept_lengths p k xs w (block.Changes m) l = l
 kept_lengths p k xs w (block.Wakes m) l = omega (arith, l, length_set_below (length k.due) (is_due k.due m w) (λ t. (task_at w t).run_ns) k.ran)
 kept_lengths p k xs w block.Ticks l = l
-kept_lengths p k xs w (block.Sleeps m) l = omega (arith, l, length_set_below (length p.timings) (is_seen p.timings k.ran xs w) (λ t. m + 1 + (timing_at p.timings t).sleep) k.due)
+kept_lengths p k xs w (block.Sleeps m) l = omega (arith, l, length_set_below (length p.timings) (is_seen_off p.timings k.ran xs w) (λ t. m + 1 + (timing_at p.timings t).sleep) k.due)
 kept_lengths p k xs w block.Clock l = l
 
 -- the driver sees all events of these blocks

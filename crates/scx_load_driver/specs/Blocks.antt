@@ -1,7 +1,7 @@
 -- The blocks of events of a millisecond, each fixed by the state in which it begins, and what is
 -- remembered from one block to the next.
-use Rattle.std.specs.Prelude.{ℕ, zero, suc, ◌+◌, ◌-◌, ◌*◌, Bool, true, not, ◌&&◌, ◌==◌, nat_lt, nat_le, List, [], ◌∷◌, ◌++◌, length, slice_index, slice_set, if◌then◌else◌}
-use Rattle.scx_sched_world.specs.World.{WorldState, task_at, is_runnable}
+use Rattle.std.specs.Prelude.{ℕ, zero, suc, ◌+◌, ◌-◌, ◌*◌, Bool, true, not, ◌&&◌, ◌==◌, nat_lt, nat_le, List, [], ◌∷◌, ◌++◌, length, slice_index, slice_set, is_some, if◌then◌else◌}
+use Rattle.scx_sched_world.specs.World.{WorldState, task_at, is_runnable, is_by_linux, cpu_of}
 use Rattle.scx_sched_world.specs.Tasks.{tick_ns}
 use Rattle.scx_sched_machine.specs.declared.events.Event.{Event}
 use Rattle.scx_sched_machine.specs.declared.events.Event.TheVariants as event
@@ -51,13 +51,26 @@ is_at changes m i = (change_at changes i).at == m
 abbrev pub is_due : List ℕ → ℕ → WorldState → ℕ → Bool
 is_due due m w t = not (is_runnable w t) && (slice_index due t == m)
 
--- the task is runnable, and has run as long as it runs at once; one that runs 0 at
--- once never sleeps
+-- the task is runnable, and has run as long as it runs at once, or longer; one that runs 0 at once
+-- never sleeps
 abbrev pub has_run_enough : List Timing → List ℕ → WorldState → ℕ → Bool
 has_run_enough timings ran w t =
     is_runnable w t
     && (nat_lt 0 (timing_at timings t).run
     && nat_le (tick_ns * (timing_at timings t).run) ((task_at w t).run_ns - slice_index ran t))
+
+-- whether only a task that runs on a processor goes to sleep: under Linux rules, where a process
+-- sleeps by a system call of its own; under plain rules one that waits does too
+abbrev pub only_runners_sleep : WorldState → Bool
+only_runners_sleep w = is_by_linux w
+
+-- the rules let the task go to sleep where it is
+abbrev pub may_sleep : WorldState → ℕ → Bool
+may_sleep w t = if only_runners_sleep w then is_some (cpu_of w t) else true
+
+-- the task has run enough, and may go to sleep
+abbrev pub goes_to_sleep : List Timing → List ℕ → WorldState → ℕ → Bool
+goes_to_sleep timings ran w t = has_run_enough timings ran w t && may_sleep w t
 
 -- ---- blocks
 
@@ -75,9 +88,9 @@ wakes_at due m w = events_below (length due) (is_due due m w) event.Wake
 abbrev pub ticks_of : ℕ → List Event
 ticks_of cpus = events_below cpus (λ c. true) event.Tick
 
--- the tasks that have run enough since they woke last go to sleep, by number
+-- the tasks that have run enough since they woke last, and may, go to sleep, by number
 abbrev pub sleeps_at : List Timing → List ℕ → WorldState → List Event
-sleeps_at timings ran w = events_below (length timings) (has_run_enough timings ran w) event.Sleep
+sleeps_at timings ran w = events_below (length timings) (goes_to_sleep timings ran w) event.Sleep
 
 -- the events of a block that begins in that world, by what is planned and remembered
 abbrev pub block_events : Plan → Block → Memory → WorldState → List Event
@@ -94,7 +107,7 @@ ran_after due ran m w = set_below (length due) (is_due due m w) (λ t. (task_at 
 -- a task that goes to sleep at m wakes once its sleep is over
 abbrev pub due_after : List Timing → List ℕ → List ℕ → ℕ → WorldState → List ℕ
 due_after timings due ran m w =
-    set_below (length timings) (has_run_enough timings ran w)
+    set_below (length timings) (goes_to_sleep timings ran w)
     (λ t. m + 1 + (timing_at timings t).sleep) due
 
 -- what is remembered after a block that begins in that state

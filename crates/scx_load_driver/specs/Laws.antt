@@ -1,8 +1,7 @@
 -- No event of a workload is refused.
-use Rattle.scx_weights.specs.Hierarchy.{idle}
 use Rattle.scx_sched_machine.specs.Policy.{PolicyState}
 use Rattle.scx_sched.specs.Sim.{SimState, IsFirstState}
-use Rattle.scx_load_workloads.specs.Workload.{WorkloadState, IsWorkload}
+use Rattle.scx_load_workloads.specs.Workload.{WorkloadState, IsWorkload, first_tree}
 use Rattle.scx_load_driver.specs.Runs.{AreAccepted}
 use Rattle.scx_load_driver.specs.Events.{workload_events}
 
@@ -10,5 +9,5 @@ use Rattle.scx_load_driver.specs.Events.{workload_events}
 abbrev pub NoEventIsRefused : Type 0
 NoEventIsRefused =
     (w : WorkloadState) (p : PolicyState) (s : SimState)
-    → IsWorkload w → IsFirstState p (idle w.groups w.homes) w.cpus s
+    → IsWorkload w → IsFirstState p (first_tree w) w.cpus s
     → AreAccepted s (workload_events w s)

@@ -9,7 +9,7 @@ use Rattle.scx_sched.specs.Sim.{SimState, after_event}
 use Rattle.scx_load_workloads.specs.declared.workload.Timing.{Timing}
 use Rattle.scx_load_workloads.specs.Workload.{timing_at}
 use Rattle.scx_load_driver.specs.Runs.{stepped_all}
-use Rattle.scx_load_driver.specs.Blocks.{Plan, Memory, Block, Sleeps, events_below, set_below, has_run_enough, block_events, memory_after}
+use Rattle.scx_load_driver.specs.Blocks.{Plan, Memory, Block, Sleeps, events_below, set_below, has_run_enough, may_sleep, block_events, memory_after}
 
 -- true if the task is watched; none is past the end
 abbrev pub is_watched : List Bool → ℕ → Bool
@@ -55,18 +55,22 @@ watched_after_all last s (e ∷ es) watched =
 abbrev pub is_seen : List Timing → List ℕ → List Bool → WorldState → ℕ → Bool
 is_seen timings ran watched w t = is_watched watched t && has_run_enough timings ran w t
 
--- the tasks that are seen to have run enough go to sleep, by number
+-- the task is seen to have run enough, and may go to sleep
+abbrev pub is_seen_off : List Timing → List ℕ → List Bool → WorldState → ℕ → Bool
+is_seen_off timings ran watched w t = is_seen timings ran watched w t && may_sleep w t
+
+-- the tasks that are seen to have run enough go to sleep if they may, by number
 abbrev pub sleeps_seen : List Timing → List ℕ → List Bool → WorldState → List Event
 sleeps_seen timings ran watched w =
-    events_below (length timings) (is_seen timings ran watched w) event.Sleep
+    events_below (length timings) (is_seen_off timings ran watched w) event.Sleep
 
 -- each of these tasks wakes once its sleep is over
 abbrev pub due_seen : List Timing → List ℕ → List ℕ → List Bool → ℕ → WorldState → List ℕ
 due_seen timings due ran watched m w =
-    set_below (length timings) (is_seen timings ran watched w)
+    set_below (length timings) (is_seen_off timings ran watched w)
     (λ t. m + 1 + (timing_at timings t).sleep) due
 
--- the other tasks are watched no more
+-- the tasks that have run enough are watched still, the others no more
 abbrev pub watched_still : List Timing → List ℕ → List Bool → WorldState → List Bool
 watched_still timings ran watched w =
     set_below (length timings) (λ t. not (is_seen timings ran watched w t)) (λ t. false) watched

@@ -2,9 +2,9 @@
 ghost use Rattle.std.specs.Prelude.{◌≡◌, ℕ, ◌+◌, ◌≤◌, ◌<◌, [], ◌∷◌, ◌++◌, length, slice_set, vec_len, vec_capacity, if◌then◌else◌};
 ghost use Rattle.scx_sched_world.specs.World.{task_at, running};
 ghost use Rattle.scx_load_workloads.specs.Workload.{max_ms, timing_at};
-ghost use Rattle.scx_load_driver.specs.Blocks.{is_due, has_run_enough, changes_at, wakes_at, ran_after};
+ghost use Rattle.scx_load_driver.specs.Blocks.{is_due, has_run_enough, only_runners_sleep, may_sleep, changes_at, wakes_at, ran_after};
 ghost use Rattle.scx_load_driver.specs.Watch.{last_tick, last_ticks_of, watched_if, watched_at_tick, watched_after, sleeps_seen, due_seen, watched_still};
-ghost use Rattle.scx_sched_machine.specs.declared.events.Event.TheVariants.{Wake};
+ghost use Rattle.scx_sched_machine.specs.declared.events.Event.TheVariants.{Wake, Sleep};
 ghost use Rattle.scx_load_driver.specs.Changes.{AreLater};
 ghost use Rattle.scx_load_driver.specs.Calendar.{IsWhole, AreNoted};
 ghost use Rattle.scx_load_driver.specs.Driver.{AreUnwatched};
@@ -44,6 +44,25 @@ fn has_run_enough(timings: &[Timing], ran: &[u64], sim: &Sim, task: u16) -> bool
     0 < run
         && sim.is_runnable(task)
         && MS_NS * u64::from(run) <= run_ns(sim, task).saturating_sub(ran[task as usize])
+}
+
+/// True if only a task that runs on a CPU goes to sleep: under Linux rules, where a process sleeps by a system call of
+/// its own.
+fn only_runners_sleep(sim: &Sim) -> bool
+    ensures { result ≡ only_runners_sleep sim.now.state.world }
+{
+    sim.world().is_by_linux()
+}
+
+/// True if the rules let the task go to sleep where it is.
+fn may_sleep(sim: &Sim, task: u16) -> bool
+    ensures { result ≡ may_sleep sim.now.state.world task }
+{
+    if only_runners_sleep(sim) {
+        sim.world().cpu_of(task).is_some()
+    } else {
+        true
+    }
 }
 
 /// The first millisecond after this one in which a weight changes.
@@ -287,8 +306,46 @@ pub(crate) fn watch_event(
     }
 }
 
-/// Adds the watched tasks that go to sleep now, and remembers when each wakes. No other task remains watched.
-/// Answers true if some task does.
+/// Adds the sleep of a task that has run enough, and remembers when it wakes, if it may go to sleep.
+#[inline(always)]
+#[tactic(auto, using(crate::proofs::Days::whole_with, crate::proofs::Days::noted_set))]
+fn send_to_sleep(
+    timings: &[Timing],
+    due: &mut [u32],
+    calendar: &mut Calendar,
+    now: u32,
+    sim: &Sim,
+    task: u16,
+    events: &mut Vec<Event>,
+)
+    requires there { task < length timings.now }
+    requires few { length timings.now ≤ 1024 }
+    requires even { length due.old ≡ length timings.now }
+    requires early { now < max_ms }
+    requires sleep { (timing_at timings.now task).sleep ≤ max_ms }
+    requires whole { IsWhole calendar.old }
+    requires noted { AreNoted due.old (now + 1) calendar.old }
+    requires room { vec_len events.old < vec_capacity events.old }
+    ensures events { events.new.items ≡ events.old.items
+        ++ (if may_sleep sim.now.state.world task then Sleep task ∷ [] else []) }
+    ensures due { due.new ≡ if may_sleep sim.now.state.world task
+        then slice_set due.old task (now + 1 + (timing_at timings.now task).sleep) else due.old }
+    ensures even { length due.new ≡ length timings.now }
+    ensures whole { IsWhole calendar.new }
+    ensures noted { AreNoted due.new (now + 1) calendar.new }
+    ensures one { vec_len events.new ≤ vec_len events.old + 1 }
+    ensures room { vec_capacity events.new ≡ vec_capacity events.old }
+{
+    if may_sleep(sim, task) {
+        let ms = now + 1 + timings[task as usize].sleep;
+        events.push_reserved(Event::Sleep(task));
+        due[task as usize] = ms;
+        calendar.insert(task as usize, ms);
+    }
+}
+
+/// Adds the watched tasks that go to sleep now, and remembers when each wakes. Those that have run enough remain
+/// watched, and no others. Answers true if some task does.
 fn find_sleeps(
     timings: &[Timing],
     due: &mut [u32],
@@ -326,10 +383,7 @@ fn find_sleeps(
     let mut task = watched.next(0, timings.len());
     while task < timings.len() {
         if has_run_enough(timings, ran, sim, task as u16) {
-            let ms = now + 1 + timings[task].sleep;
-            events.push_reserved(Event::Sleep(task as u16));
-            due[task] = ms;
-            calendar.insert(task, ms);
+            send_to_sleep(timings, due, calendar, now, sim, task as u16, events);
             some = true;
         } else {
             watched.remove(task);

@@ -10,10 +10,10 @@ use Rattle.scx_sched_machine.specs.Policy.{Programs}
 use Rattle.scx_load_policies.specs.declared.building.BuildError.{BuildError}
 use Rattle.scx_load_policies.specs.declared.building.BuildError.TheVariants as errors
 use Rattle.scx_load_policies.specs.Policies.{PolicyFile, program_of}
-use Rattle.scx_load_policies.specs.Building.{AreAccepted, IsFirstRefused, IsVerified, AreVerified, IsRefusedAs}
+use Rattle.scx_load_policies.specs.Building.{context_of, AreAccepted, IsFirstRefused, IsVerified, AreVerified, IsRefusedAs}
 
 -- the first that is refused is the refusal
-refused_at : (text : PolicyFile) (b : Callback) (e : BuildError) → AreAccepted text (earlier b) → IsRefusedAs text.shapes (program_of text b) b e → IsFirstRefused text e
+refused_at : (text : PolicyFile) (b : Callback) (e : BuildError) → AreAccepted text (earlier b) → IsRefusedAs (context_of text b) (program_of text b) e → IsFirstRefused text e
 refused_at text b (errors.Refused a fault slot) before (is, refused) = rw is (before, refused)
 refused_at text b errors.NoMemory before asked = record { callback = b; before = before; asked = asked }
 
@@ -21,15 +21,15 @@ refused_at text b errors.NoMemory before asked = record { callback = b; before =
 module _ {F : Type 0} (g : Shared F (Callback × (Code × Unit {0})) (Result VerifiedProgram BuildError)) (f : F) (text : PolicyFile) where
   -- what it answers of a program is its verification
   abbrev pub Verifies : Type 0
-  Verifies = (b : Callback) (x : Code) (v : VerifiedProgram) → FnReturns g f (b, (x, tt)) (Ok v) → IsVerified text.shapes (Some x) b (Some v)
+  Verifies = (b : Callback) (x : Code) (v : VerifiedProgram) → FnReturns g f (b, (x, tt)) (Ok v) → IsVerified (context_of text b) (Some x) (Some v)
 
   -- or its refusal
   abbrev pub Refuses : Type 0
-  Refuses = (b : Callback) (x : Code) (e : BuildError) → FnReturns g f (b, (x, tt)) (Err e) → IsRefusedAs text.shapes (Some x) b e
+  Refuses = (b : Callback) (x : Code) (e : BuildError) → FnReturns g f (b, (x, tt)) (Err e) → IsRefusedAs (context_of text b) (Some x) e
 
   -- one that was made is verified
-  verified_at : Verifies → (b : Callback) (p : Option Code) (v : Option VerifiedProgram) → Made g f b p v → IsVerified text.shapes p b v
-  verified_at verifies b None None made = record { code = refl; as_callback = tt; for_maps = tt; accepted = tt }
+  verified_at : Verifies → (b : Callback) (p : Option Code) (v : Option VerifiedProgram) → Made g f b p v → IsVerified (context_of text b) p v
+  verified_at verifies b None None made = record { code = refl; as_callback = tt; for_maps = tt; by_rules = tt; accepted = tt }
   verified_at verifies b None (Some v) made = absurd made
   verified_at verifies b (Some x) None made = absurd made
   verified_at verifies b (Some x) (Some v) made = verifies b x v made
@@ -44,7 +44,7 @@ module _ {F : Type 0} (g : Shared F (Callback × (Code × Unit {0})) (Result Ver
   accepted_each verifies [] made = tt
   accepted_each verifies (b ∷ bs) ((v, made), more) = ((verified_at verifies b (program_of text b) v made).accepted, accepted_each verifies bs more)
 
-  failed_at : Refuses → (b : Callback) (p : Option Code) (e : BuildError) → Failed g f b p e → IsRefusedAs text.shapes p b e
+  failed_at : Refuses → (b : Callback) (p : Option Code) (e : BuildError) → Failed g f b p e → IsRefusedAs (context_of text b) p e
   failed_at refuses b None e failed = absurd failed
   failed_at refuses b (Some x) e failed = refuses b x e failed
 

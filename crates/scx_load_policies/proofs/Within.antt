@@ -1,5 +1,5 @@
 -- What was read is within its limits.
-use Rattle.std.proofs.Common.{◌≡◌, ℕ, suc, ◌+◌, ◌≤◌, codes, Bool, true, false, nat_le, ◌&&◌, if◌then◌else◌, List, [], ◌∷◌, length, pos, negsuc, Option, Some, None, Ok, Err, Result, IsOk, ◌↔◌, All, refl, ap, subst, arith}
+use Rattle.std.proofs.Common.{◌≡◌, ℕ, suc, ◌+◌, ◌≤◌, codes, Bool, true, false, nat_le, ◌&&◌, if◌then◌else◌, List, [], ◌∷◌, length, pos, negsuc, Option, Some, None, Ok, Err, Result, IsOk, IfOk, ◌↔◌, All, refl, ap, subst, arith}
 use Rattle.std.proofs.lemmas.Bool.{and_parts, leb-true, false≢true}
 use Rattle.std.proofs.lemmas.List.Elements.{All-nil, All-cons}
 use Rattle.toml.specs.Data.{Data, string, integer, float, boolean, datetime, array, table, Items, no_items, item, Members, get_member}
@@ -9,9 +9,12 @@ use Rattle.scx_maps.specs.Limits.{total_bytes, IsWithinLimits, AreWithinLimits}
 use Rattle.scx_load_files.specs.declared.fault.Cause.TheVariants as cause
 use Rattle.scx_load_files.specs.declared.section.Limits.{Limits}
 use Rattle.scx_isa_semantics.specs.Results.{◌>>=◌}
-use Rattle.scx_load_files.specs.Faults.{Reading, refusal}
+use Rattle.scx_isa_semantics.specs.declared.rules.Rules.TheVariants.{Linux}
+use Rattle.scx_load_files.specs.declared.fault.LoadError.{LoadError}
+use Rattle.scx_load_files.specs.Faults.{Reading, Gives, refusal}
 use Rattle.scx_load_files.specs.Paths.{below, element}
 use Rattle.scx_load_files.specs.Values.{found_or, integer_of, table_of, elements_of, item_count, each_from, required, optional}
+use Rattle.scx_load_policies.specs.Reading.{tick_limits, tick_in}
 use Rattle.scx_load_policies.specs.Maps.{entry_limits, size_limits, shape_in, map_at, fitting}
 
 -- ---- readings that gave a value
@@ -69,6 +72,11 @@ optional_found limits default path (Some d) n h e = integer_in limits path d n e
 -- an integer that may be absent
 pub optional_in : (limits : Limits) (default : ℕ) (path key : List ℕ) (ms : Members) (n : ℕ) → IsIn limits default → optional (integer_of limits) default path key ms ≡ Ok n → IsIn limits n
 optional_in limits default path key ms n h e = optional_found limits default (below path key) (get_member key ms) n h e
+
+-- ticks that were read under Linux rules
+pub ticks_given : (ms : Members) (r : Result ℕ LoadError) → Gives (λ n. n) r (tick_in Linux ms) → IfOk r (λ n. n ≤ 100)
+ticks_given ms (Ok n) e = let range = optional_in tick_limits 4 [] (codes "tick_ms") ms n (omega arith, omega arith) e in range.1
+ticks_given ms (Err e) g = tt
 
 -- ---- maps
 

@@ -5,10 +5,12 @@ use Rattle.scx_maps.specs.declared.shape.Shape.{Shape}
 use Rattle.scx_isa_semantics.specs.Code.{Code}
 use Rattle.scx_isa.specs.Flow.{Flows}
 use Rattle.scx_isa_semantics.specs.declared.callbacks.Callback.{Callback}
+use Rattle.scx_isa_semantics.specs.declared.rules.Rules.{Rules}
+use Rattle.scx_vm.specs.declared.context.Context.{Context}
 use Rattle.scx_isa_semantics.specs.Callbacks.{at, earlier}
 use Rattle.scx_verify.specs.declared.faults.Fault.{Fault}
 use Rattle.scx_verify.specs.declared.faults.Fault.TheVariants.{NoMemory}
-use Rattle.scx_vm.specs.Programs.{VerifiedProgram, context}
+use Rattle.scx_vm.specs.Programs.{VerifiedProgram, context, by_rules}
 use Rattle.scx_verify.specs.Typing.{IsTyped}
 use Rattle.scx_verify.specs.Faults.{IsRefusal}
 use Rattle.scx_sched_machine.specs.Policy as machine
@@ -17,23 +19,28 @@ use Rattle.scx_load_policies.specs.declared.building.BuildError.{BuildError}
 use Rattle.scx_load_policies.specs.declared.building.BuildError.TheVariants as errors
 use Rattle.scx_load_policies.specs.Policies.{PolicyFile, program_of}
 
--- the program of a callback, if there is one, has a typing
-abbrev pub IsAccepted : List Shape → Option Code → Callback → Type 0
-IsAccepted shapes None b = ⊤
-IsAccepted shapes (Some code) b = IsTyped (context b shapes) code
+-- the context in which the program of a callback is verified: the file's maps and rules
+abbrev pub context_of : PolicyFile → Callback → Context
+context_of text b = by_rules text.rules (context b text.shapes)
 
--- the program of a callback is refused for this fault, at this slot
-pub record IsRefusedFor (shapes : List Shape) (program : Option Code) (b : Callback) (fault : Fault)
+-- the program, if there is one, has a typing in that context
+abbrev pub IsAccepted : Context → Option Code → Type 0
+IsAccepted context None = ⊤
+IsAccepted context (Some code) = IsTyped context code
+
+-- the program is refused in that context for this fault, at this slot
+pub record IsRefusedFor (context : Context) (program : Option Code) (fault : Fault)
     (slot : ℕ) : Type 0 where
   pub code : Code
   pub there : program ≡ Some code
-  pub refused : IsRefusal (context b shapes) code (record { fault = fault; slot = slot })
+  pub refused : IsRefusal context code (record { fault = fault; slot = slot })
   pub known : fault ≢ NoMemory
 
 -- of these callbacks each that has a program has one with a typing
 abbrev pub AreAccepted : PolicyFile → List Callback → Type 0
 AreAccepted text [] = ⊤
-AreAccepted text (b ∷ bs) = IsAccepted text.shapes (program_of text b) b × AreAccepted text bs
+AreAccepted text (b ∷ bs) =
+    IsAccepted (context_of text b) (program_of text b) × AreAccepted text bs
 
 -- verifying a program asks for memory: it is there, and its flow has no fault
 pub record AsksForMemory (program : Option Code) : Type 0 where
@@ -50,41 +57,46 @@ pub record IsStarved (text : PolicyFile) : Type 0 where
 -- the first callback whose program is refused, or one for which there is no memory
 abbrev pub IsFirstRefused : PolicyFile → BuildError → Type 0
 IsFirstRefused text (errors.Refused b fault slot) =
-    AreAccepted text (earlier b) × IsRefusedFor text.shapes (program_of text b) b fault slot
+    AreAccepted text (earlier b) × IsRefusedFor (context_of text b) (program_of text b) fault slot
 IsFirstRefused text errors.NoMemory = IsStarved text
 
 -- the code of a verified program
 abbrev pub code_of : Option VerifiedProgram → Option Code
 code_of v = option_map (λ p. p.code) v
 
--- the policy of these programs, which has them all, each verified as its callback and for these
--- maps, with this timeout
+-- the policy of these programs, which has them all, each verified as its callback, for these maps and
+-- by these rules, with this timeout and these ticks
 pub record IsBuilt (text : PolicyFile) (policy : PolicyState) : Type 0 where
   pub shapes : policy.shapes ≡ text.shapes
   pub timeout : policy.timeout_ms ≡ text.timeout_ms
+  pub rules : policy.rules ≡ text.rules
+  pub ticks : policy.tick_ms ≡ text.tick_ms
   pub programs : (b : Callback) → code_of (machine.program_of policy b) ≡ program_of text b
-  pub accepted : (b : Callback) → IsAccepted text.shapes (program_of text b) b
+  pub accepted : (b : Callback) → IsAccepted (context_of text b) (program_of text b)
   pub as_callbacks : machine.AreAs policy.callbacks
   pub for_maps : machine.HaveMaps policy.shapes policy.callbacks
+  pub by_rules : machine.AreBy policy.rules policy.callbacks
 
 -- ---- one callback
 
--- what `verify` makes of the program of a callback
-pub record IsVerified (shapes : List Shape) (program : Option Code) (b : Callback)
-    (v : Option VerifiedProgram) : Type 0 where
+-- what `verify_by` makes of a program in that context
+pub record IsVerified (context : Context) (program : Option Code) (v : Option VerifiedProgram) :
+    Type 0 where
   pub code : code_of v ≡ program
-  pub as_callback : machine.IsAs b v
-  pub for_maps : machine.HasMaps shapes v
-  pub accepted : IsAccepted shapes program b
+  pub as_callback : machine.IsAs context.callback v
+  pub for_maps : machine.HasMaps context.defs v
+  pub by_rules : machine.IsBy context.rules v
+  pub accepted : IsAccepted context program
 
 -- `build` ends so at this callback: its program is refused, or verifying it asks for memory
-abbrev pub IsRefusedAs : List Shape → Option Code → Callback → BuildError → Type 0
-IsRefusedAs shapes program b (errors.Refused a fault slot) =
-    (a ≡ b) × IsRefusedFor shapes program b fault slot
-IsRefusedAs shapes program b errors.NoMemory = AsksForMemory program
+abbrev pub IsRefusedAs : Context → Option Code → BuildError → Type 0
+IsRefusedAs context program (errors.Refused b fault slot) =
+    (b ≡ context.callback) × IsRefusedFor context program fault slot
+IsRefusedAs context program errors.NoMemory = AsksForMemory program
 
 -- ---- all callbacks
 
 -- what `verify` makes of all programs, each at its callback
 abbrev pub AreVerified : PolicyFile → Programs → Type 0
-AreVerified text c = (b : Callback) → IsVerified text.shapes (program_of text b) b (at c b)
+AreVerified text c =
+    (b : Callback) → IsVerified (context_of text b) (program_of text b) (at c b)

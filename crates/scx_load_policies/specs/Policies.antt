@@ -1,9 +1,11 @@
--- The content of a policy file: its name, the shapes of its maps, the time a task may wait, and its
--- programs.
-use Rattle.std.specs.Prelude.{ℕ, List, map, Option, None}
+-- The content of a policy file: its name, the shapes of its maps, the time a task may wait, the rules
+-- of the machine and its ticks, and its programs.
+use Rattle.std.specs.Prelude.{ℕ, ◌≡◌, ◌≤◌, List, map, Option, None}
 use Rattle.scx_maps.specs.declared.shape.Shape.{Shape}
 use Rattle.scx_isa_semantics.specs.Code.{Code}
 use Rattle.scx_isa_semantics.specs.declared.callbacks.Callback.{Callback}
+use Rattle.scx_isa_semantics.specs.declared.rules.Rules.{Rules}
+use Rattle.scx_isa_semantics.specs.declared.rules.Rules.TheVariants.{Plain, Linux}
 use Rattle.scx_isa_semantics.specs.declared.per_callback.PerCallback.{PerCallback}
 use Rattle.scx_isa_semantics.specs.Callbacks.{callback_name, callbacks, at, with_at}
 
@@ -11,11 +13,19 @@ use Rattle.scx_isa_semantics.specs.Callbacks.{callback_name, callbacks, at, with
 abbrev pub Programs : Type 0
 Programs = PerCallback (Option Code)
 
--- what a policy file says: its name, maps, the milliseconds of its timeout, and programs
+-- under plain rules there are no ticks; under Linux rules they are 100 ms apart at most
+abbrev pub IsTick : Rules → ℕ → Type 0
+IsTick Plain n = n ≡ 0
+IsTick Linux n = n ≤ 100
+
+-- what a policy file says: its name, maps, the milliseconds of its timeout, by whose rules the machine
+-- goes, the milliseconds from tick to tick, and programs
 pub record PolicyFile : Type 0 where
   pub name : List ℕ  -- empty where the file gives none
   pub shapes : List Shape
   pub timeout_ms : ℕ
+  pub rules : Rules
+  pub tick_ms : ℕ  -- 0 where slices end exactly
   pub programs : Programs
 
 -- the program of a callback

@@ -1,11 +1,15 @@
--- The reading of a policy file: unknown keys first, wherever they are; then the name, the
--- timeout, the maps, the programs in `code` and those in `slots`.
-use Rattle.std.specs.Prelude.{ℕ, List, [], ◌∷◌, ◌++◌, codes, Ok}
-use Rattle.toml.specs.Data.{Members, no_members}
+-- The reading of a policy file: unknown keys first, wherever they are; then the name, the timeout,
+-- the rules, the ticks, the maps, the programs in `code` and those in `slots`.
+use Rattle.std.specs.Prelude.{ℕ, List, [], ◌∷◌, ◌++◌, codes, Ok, if◌then◌else◌}
+use Rattle.std.specs.Str.{bytes_eq}
+use Rattle.toml.specs.Data.{Data, Members, no_members}
+use Rattle.scx_load_files.specs.declared.fault.Cause.TheVariants as cause
 use Rattle.scx_load_files.specs.declared.section.Limits.{Limits}
 use Rattle.scx_isa_semantics.specs.Results.{◌>>=◌}
-use Rattle.scx_load_files.specs.Faults.{Reading}
-use Rattle.scx_load_files.specs.Values.{document, optional, table_of, name_of, integer_of}
+use Rattle.scx_isa_semantics.specs.declared.rules.Rules.{Rules}
+use Rattle.scx_isa_semantics.specs.declared.rules.Rules.TheVariants.{Plain, Linux}
+use Rattle.scx_load_files.specs.Faults.{Reading, refusal}
+use Rattle.scx_load_files.specs.Values.{document, optional, table_of, text_of, name_of, integer_of}
 use Rattle.scx_load_files.specs.Unknown.{known_alone, unknown, unknown_in, unknown_in_each}
 use Rattle.scx_isa_semantics.specs.Callbacks.{none}
 use Rattle.scx_load_policies.specs.Policies.{PolicyFile, Programs, callback_keys}
@@ -14,7 +18,9 @@ use Rattle.scx_load_policies.specs.Programs.{with_code, with_slots}
 
 -- the keys that the table of a whole file may have
 abbrev pub file_keys : List (List ℕ)
-file_keys = codes "name" ∷ codes "timeout_ms" ∷ codes "map" ∷ codes "code" ∷ codes "slots" ∷ []
+file_keys =
+    codes "name" ∷ codes "timeout_ms" ∷ codes "rules" ∷ codes "tick_ms" ∷ codes "map"
+    ∷ codes "code" ∷ codes "slots" ∷ []
 
 -- the keys that an element of the array `map` may have
 abbrev pub map_keys : List (List ℕ)
@@ -32,9 +38,42 @@ unknown_keys ms =
 abbrev pub timeout_limits : Limits
 timeout_limits = record { least = 1; most = 30000 }
 
+-- how many milliseconds there may be from tick to tick, 0 to 100
+abbrev pub tick_limits : Limits
+tick_limits = record { least = 0; most = 100 }
+
 -- the name; where it is absent, an empty one
 abbrev pub policy_name : Members → Reading (List ℕ)
 policy_name ms = optional name_of [] [] (codes "name") ms
+
+-- the rules that a text names; any other text is refused
+abbrev pub rules_named : List ℕ → List ℕ → Reading Rules
+rules_named path text =
+    if bytes_eq text (codes "plain") then Ok Plain
+    else if bytes_eq text (codes "linux") then Ok Linux
+    else refusal path cause.OutOfRange
+
+-- the rules that a value names
+abbrev pub rules_of : List ℕ → Data → Reading Rules
+rules_of path d = text_of path d >>= rules_named path
+
+-- the rules of the machine; where the key is absent, the plain ones
+abbrev pub rules_in : Members → Reading Rules
+rules_in ms = optional rules_of Plain [] (codes "rules") ms
+
+-- the milliseconds from tick to tick where a file says none: those of a kernel with HZ=250
+abbrev pub default_tick : Rules → ℕ
+default_tick Plain = 0
+default_tick Linux = 4
+
+-- the milliseconds from tick to tick that a value says; under plain rules each value is refused
+abbrev pub tick_of : Rules → List ℕ → Data → Reading ℕ
+tick_of Plain path d = refusal path cause.OutOfRange
+tick_of Linux path d = integer_of tick_limits path d
+
+-- the milliseconds from tick to tick
+abbrev pub tick_in : Rules → Members → Reading ℕ
+tick_in rules ms = optional (tick_of rules) (default_tick rules) [] (codes "tick_ms") ms
 
 -- the table at a key; where it is absent, one without keys
 abbrev pub table_in : List ℕ → Members → Reading Members
@@ -60,9 +99,18 @@ abbrev pub policy_in : Members → Reading PolicyFile
 policy_in ms = do
   name ← policy_name ms
   timeout ← optional (integer_of timeout_limits) 30000 [] (codes "timeout_ms") ms
+  rules ← rules_in ms
+  tick ← tick_in rules ms
   shapes ← maps ms
   programs ← programs_in ms
-  Ok (record { name = name; shapes = shapes; timeout_ms = timeout; programs = programs })
+  Ok (record {
+    name = name;
+    shapes = shapes;
+    timeout_ms = timeout;
+    rules = rules;
+    tick_ms = tick;
+    programs = programs;
+  })
 
 -- what the table of a file says; an unknown key is refused before any other fault
 abbrev pub policy_file : Members → Reading PolicyFile

@@ -3,9 +3,9 @@ ghost use Rattle.scx_load_policies.specs.Building.{IsBuilt, IsFirstRefused, AreV
 
 use crate::policy_text::PolicyText;
 use scx_isa::{Callback, Program};
-use scx_maps::MapDefs;
 use scx_sched_machine::{Callbacks, Policy};
-use scx_verify::{Fault, Verified, verify};
+use scx_verify::{Fault, Verified, verify_by};
+use scx_vm::Context;
 use std::alloc::Global;
 use std::fmt;
 use thiserror::Error;
@@ -39,33 +39,34 @@ pub fn build(alloc: Global, text: PolicyText) -> Result<Policy, BuildError>
 {
     let defs = *text.defs();
     let timeout_ms = text.timeout_ms();
+    let rules = text.rules();
+    let tick_ms = text.tick_ms();
     let callbacks = verify_all(alloc, text)?;
-    match Policy::new(defs, timeout_ms, callbacks) {
-        Ok(policy) => Ok(policy),
+    match Policy::new_by(rules, defs, timeout_ms, callbacks) {
+        Ok(policy) => Ok(policy.with_ticks(tick_ms)),
         Err(_) => unreachable!(),
     }
 }
 
-/// Verifies each program as its callback.
+/// Verifies each program as its callback, by the rules of the file.
 fn verify_all(alloc: Global, text: PolicyText) -> Result<Callbacks, BuildError>
     ensures ok { IfOk result (AreVerified text) }
     ensures refused { IfErr result (IsFirstRefused text) }
 {
     let defs = *text.defs();
-    text.into_programs().try_map(&|callback, program| verified(alloc, program, callback, &defs))
+    let rules = text.rules();
+    text.into_programs().try_map(&|callback, program| {
+        verified(alloc, program, Context::new(callback, defs).by_rules(rules))
+    })
 }
 
-/// The program of a callback, verified.
-fn verified(
-    alloc: Global,
-    program: Program,
-    callback: Callback,
-    defs: &MapDefs,
-) -> Result<Verified, BuildError>
-    ensures ok { IfOk result (λ v. IsVerified defs.now (Some program) callback (Some v)) }
-    ensures refused { IfErr result (IsRefusedAs defs.now (Some program) callback) }
+/// A program, verified in that context.
+fn verified(alloc: Global, program: Program, context: Context) -> Result<Verified, BuildError>
+    ensures ok { IfOk result (λ v. IsVerified context (Some program) (Some v)) }
+    ensures refused { IfErr result (IsRefusedAs context (Some program)) }
 {
-    match verify(alloc, program, callback, defs) {
+    let callback = context.callback;
+    match verify_by(alloc, program, context) {
         Ok(verified) => Ok(verified),
         Err(error) => match error.fault {
             Fault::NoMemory => Err(BuildError::NoMemory),

@@ -1,8 +1,8 @@
 ghost use Rattle.std.specs.Prelude.{◌≡◌, map, string_bytes};
 ghost use Rattle.scx_sched_machine.specs.Policy.{IsTimeout};
-ghost use Rattle.scx_load_policies.specs.Policies.{callback_keys, program_of, without};
+ghost use Rattle.scx_load_policies.specs.Policies.{IsTick, callback_keys, program_of, without};
 
-use scx_isa::{CALLBACKS, Callback, PerCallback, Program};
+use scx_isa::{CALLBACKS, Callback, PerCallback, Program, Rules};
 use scx_maps::MapDefs;
 use std::marker::Model;
 
@@ -15,13 +15,15 @@ pub struct PolicyText {
     pub(crate) name: String,
     pub(crate) defs: MapDefs,
     pub(crate) timeout_ms: u32,
+    pub(crate) rules: Rules,
+    pub(crate) tick_ms: u32,
     pub(crate) programs: Programs,
 }
 
 impl Model for PolicyText {
     ghost use Rattle.std.specs.Prelude.{string_bytes};
     ghost use Rattle.scx_sched_machine.specs.Policy.{IsTimeout};
-    ghost use Rattle.scx_load_policies.specs.Policies.{PolicyFile};
+    ghost use Rattle.scx_load_policies.specs.Policies.{PolicyFile, IsTick};
 
     ghost Value = { PolicyFile };
 
@@ -29,10 +31,12 @@ impl Model for PolicyText {
       name = string_bytes p.name;
       shapes = p.defs;
       timeout_ms = p.timeout_ms;
+      rules = p.rules;
+      tick_ms = p.tick_ms;
       programs = p.programs;
     } };
 
-    ghost invariant = { λ p. IsTimeout p.timeout_ms };
+    ghost invariant = { λ p. IsTimeout p.timeout_ms × IsTick p.rules p.tick_ms };
 }
 
 impl PolicyText {
@@ -56,6 +60,21 @@ impl PolicyText {
         ensures limits { IsTimeout result }
     {
         self.timeout_ms
+    }
+
+    /// The rules of the machine, plain ones where the file names none.
+    pub fn rules(&self) -> Rules
+        ensures { result ≡ self.now.rules }
+    {
+        self.rules
+    }
+
+    /// The milliseconds from tick to tick; 0 under plain rules, and where slices end exactly.
+    pub fn tick_ms(&self) -> u32
+        ensures value { result ≡ self.now.tick_ms }
+        ensures limits { IsTick self.now.rules result }
+    {
+        self.tick_ms
     }
 
     /// Its programs.

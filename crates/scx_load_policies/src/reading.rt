@@ -1,16 +1,19 @@
-ghost use Rattle.std.specs.Prelude.{◌≡◌, [], IfOk, string_bytes};
+ghost use Rattle.std.specs.Prelude.{◌≡◌, ◌≤◌, [], codes, IfOk, string_bytes};
 ghost use Rattle.toml.specs.Data.{no_members};
-ghost use Rattle.toml.specs.View.{table_view};
+ghost use Rattle.toml.specs.View.{view, table_view};
+ghost use Rattle.scx_isa_semantics.specs.declared.rules.Rules.TheVariants.{Plain, Linux};
 ghost use Rattle.scx_load_files.specs.Faults.{Gives};
 ghost use Rattle.scx_load_files.specs.Unknown.{known_alone};
-ghost use Rattle.scx_load_policies.specs.Reading.{unknown_keys, policy_name, table_in, programs_in, programs_with, policy_in, policy_file, policy_text};
+ghost use Rattle.scx_load_policies.specs.Policies.{IsTick};
+ghost use Rattle.scx_load_policies.specs.Reading.{unknown_keys, policy_name, rules_in, rules_of, rules_named, tick_in, table_in, programs_in, programs_with, policy_in, policy_file, policy_text};
 
 use crate::maps::read_maps;
 use crate::policy_text::{PolicyText, Programs, callback_keys};
 use crate::programs::{put_code, put_slots};
-use scx_load_files::{Limits, LoadError, Section, Unknown, read_document};
+use scx_isa::Rules;
+use scx_load_files::{Cause, Limits, LoadError, Section, Unknown, read_document, refused};
 use std::alloc::Global;
-use toml::Table;
+use toml::{Table, Value};
 
 /// The longest time that a task may wait, in milliseconds; also the time of a file that gives none.
 const LONGEST_TIMEOUT: u32 = 30_000;
@@ -20,10 +23,19 @@ const TIMEOUT: Limits = Limits {
     most: LONGEST_TIMEOUT,
 };
 
+/// The milliseconds from tick to tick.
+const TICK: Limits = Limits {
+    least: 0,
+    most: 100,
+};
+
+/// The milliseconds from tick to tick of a file by Linux rules that gives none: those of a kernel with `HZ=250`.
+const USUAL_TICK: u32 = 4;
+
 /// Reads a policy file, or names its first fault.
 ///
 /// Unknown keys are faults before all others, the least path by bytes first. Then the order is the
-/// name, the timeout, each map, the programs in `code` and those in `slots`, both in the order of
+/// name, the timeout, the rules, the ticks, each map, the programs in `code` and those in `slots`, both in the order of
 /// callbacks.
 pub fn read_policy(alloc: Global, text: &str) -> Result<PolicyText, LoadError>
     ensures { Gives (λ policy. policy) result (policy_text text.now) }
@@ -50,7 +62,19 @@ fn check_keys(alloc: Global, file: Section<'_>) -> Result<(), LoadError>
 {
     let callbacks = callback_keys();
     let unknown = Unknown::none()
-        .in_section(alloc, file, &["name", "timeout_ms", "map", "code", "slots"])?
+        .in_section(
+            alloc,
+            file,
+            &[
+                "name",
+                "timeout_ms",
+                "rules",
+                "tick_ms",
+                "map",
+                "code",
+                "slots",
+            ],
+        )?
         .below_each(alloc, file, "map", &["entries", "value_size"])?
         .below(alloc, file, "code", &callbacks)?
         .below(alloc, file, "slots", &callbacks)?;
@@ -64,12 +88,16 @@ fn read_file(alloc: Global, file: Section<'_>) -> Result<PolicyText, LoadError>
 {
     let name = read_name(alloc, file)?;
     let timeout_ms = file.integer_or(alloc, "timeout_ms", TIMEOUT, LONGEST_TIMEOUT)?;
+    let rules = read_rules(alloc, file)?;
+    let tick_ms = read_tick(alloc, file, rules)?;
     let defs = read_maps(alloc, file)?;
     let programs = read_programs(alloc, file)?;
     Ok(PolicyText {
         name,
         defs,
         timeout_ms,
+        rules,
+        tick_ms,
         programs,
     })
 }
@@ -86,6 +114,64 @@ fn read_name(alloc: Global, file: Section<'_>) -> Result<String, LoadError>
         }
         None => Ok(String::new(alloc)),
     }
+}
+
+/// The rules of the machine, plain ones where the key is absent.
+fn read_rules(alloc: Global, file: Section<'_>) -> Result<Rules, LoadError>
+    requires { file.path.now ≡ [] }
+    ensures { Gives (λ r. r) result (rules_in (table_view file.entry.table.now)) }
+{
+    match file.value("rules") {
+        Some(value) => rules_of(alloc, file, value),
+        None => Ok(Rules::Plain),
+    }
+}
+
+/// The rules that the value of the key names.
+fn rules_of(alloc: Global, file: Section<'_>, value: &Value) -> Result<Rules, LoadError>
+    requires { file.path.now ≡ [] }
+    ensures { Gives (λ r. r) result (rules_of (codes "rules") (view value.now)) }
+{
+    let text = file.text_in(alloc, "rules", value)?;
+    match text {
+        "plain" => Ok(Rules::Plain),
+        "linux" => Ok(Rules::Linux),
+        _ => refused(alloc, "", "rules", Cause::OutOfRange),
+    }
+}
+
+/// The milliseconds from tick to tick.
+fn read_tick(alloc: Global, file: Section<'_>, rules: Rules) -> Result<u32, LoadError>
+    requires { file.path.now ≡ [] }
+    ensures tick { Gives (λ n. n) result (tick_in rules (table_view file.entry.table.now)) }
+    ensures limits { IfOk result (IsTick rules) }
+{
+    match rules {
+        Rules::Plain => read_no_tick(alloc, file),
+        Rules::Linux => read_linux_tick(alloc, file),
+    }
+}
+
+/// Refuses the key under plain rules, which have no ticks.
+fn read_no_tick(alloc: Global, file: Section<'_>) -> Result<u32, LoadError>
+    requires { file.path.now ≡ [] }
+    ensures tick { Gives (λ n. n) result (tick_in Plain (table_view file.entry.table.now)) }
+    ensures none { IfOk result (λ n. n ≡ 0) }
+{
+    match file.value("tick_ms") {
+        Some(_) => refused(alloc, "", "tick_ms", Cause::OutOfRange),
+        None => Ok(0),
+    }
+}
+
+/// The milliseconds from tick to tick under Linux rules.
+#[tactic(auto, using(crate::proofs::Within::ticks_given))]
+fn read_linux_tick(alloc: Global, file: Section<'_>) -> Result<u32, LoadError>
+    requires { file.path.now ≡ [] }
+    ensures tick { Gives (λ n. n) result (tick_in Linux (table_view file.entry.table.now)) }
+    ensures limits { IfOk result (λ n. n ≤ 100) }
+{
+    file.integer_or(alloc, "tick_ms", TICK, USUAL_TICK)
 }
 
 /// The programs of both tables. Each table may be absent.

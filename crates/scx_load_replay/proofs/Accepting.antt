@@ -1,7 +1,7 @@
 -- No event of a file is refused: who is awake follows from the lines alone, and is who is active in
 -- the machine.
 use Rattle.std.proofs.Common.{◌≡◌, ℕ, zero, suc, ◌+◌, ◌*◌, ◌<◌, ◌≤◌, Bool, true, false, cond, List, [], ◌∷◌, length, get_or, set, None, is_none, refl, ap, ◌∙◌, arith}
-use Rattle.scx_weights.specs.Hierarchy.{Hierarchy, idle}
+use Rattle.scx_weights.specs.Hierarchy.{Hierarchy}
 use Rattle.scx_weights.specs.Hierarchy as tree
 use Rattle.scx_weights.specs.Refusals.{weight_fault}
 use Rattle.scx_sched_world.specs.World.{running}
@@ -10,9 +10,9 @@ use Rattle.scx_sched_machine.specs.declared.events.Event.TheVariants as event
 use Rattle.scx_sched_machine.specs.Policy.{PolicyState}
 use Rattle.scx_sched_machine.specs.Events as machine
 use Rattle.scx_sched.specs.Sim.{SimState, max_events, refusal, after_event, stepped_if, IsFirstState}
-use Rattle.scx_load_workloads.specs.Workload.{WorkloadState}
+use Rattle.scx_load_workloads.specs.Workload.{WorkloadState, first_tree}
 use Rattle.scx_load_driver.specs.Runs.{stepped_all, AreAccepted}
-use Rattle.scx_load_driver.proofs.Alike.{Times, IsLike, times_of, like_groups, like_active, like_first}
+use Rattle.scx_load_driver.proofs.Alike.{Times, AreTimed, IsLike, times_of, like_groups, like_active, like_rounds, like_first}
 use Rattle.scx_load_driver.proofs.Happening.{like_clock, times_after_tick, like_tick, like_wake, like_sleep}
 use Rattle.scx_load_driver.proofs.Accepting.{accepted_behind, IsOf, wake_leads, sleep_leads, tick_leads, clock_leads, weight_leads}
 use Rattle.scx_load_replay.specs.declared.lines.Line.{Line}
@@ -64,14 +64,18 @@ module _ (n c g : ℕ) where
       let x = clock_leads n c g e s few h.of in
       (x.0, record { of = x.1; active = active_is s.state.world.tree (times s) event.Clock s x.0 (like_clock s.state.world.tree (times s) c s.state (like_now e awake s h)) ∙ h.active })
 
+  -- a weight leaves all but groups
+  weighed : (s : SimState) (k y : ℕ) → AreTimed (times s) s.state.world.tasks → length s.state.world.cpus ≡ c → (b : Bool) → is_none (weight_fault s.state.world.tree k y) ≡ b
+      → (let own = machine.own_step s.state (event.SetWeight k y) in IsLike own.state.world.tree (times s) c own.state.world × (own.state.world.tree.active ≡ s.state.world.tree.active))
+  weighed s k y timed cpus true w = rw w (((refl, refl, refl), timed, cpus), refl)
+  weighed s k y timed cpus false w = rw w (((refl, refl, refl), timed, cpus), refl)
+
   weight_goes : (e : ℕ) (awake : List Bool) (s : SimState) (k y : ℕ) → e < max_events → k < g → 1 ≤ y → y ≤ 10000 → IsAt e awake s → Goes e awake (event.SetWeight k y) s
   weight_goes e awake s k y few within least greatest h =
       let x = weight_leads n c g e s k y few within least greatest h.of in
-      (x.0, record { of = x.1; active = ap (λ v. v.world.tree.active) (state_is (event.SetWeight k y) s x.0) ∙ by_test (is_none (weight_fault s.state.world.tree k y)) refl ∙ h.active })
-    where
-      by_test : (b : Bool) → is_none (weight_fault s.state.world.tree k y) ≡ b → (machine.event_step s.state (event.SetWeight k y)).state.world.tree.active ≡ s.state.world.tree.active
-      by_test true w = rw w refl
-      by_test false w = rw w refl
+      let own = machine.own_step s.state (event.SetWeight k y) in
+      let as_own = weighed s k y (h.of.tasks, λ u. omega arith) h.of.cpus (is_none (weight_fault s.state.world.tree k y)) refl in
+      (x.0, record { of = x.1; active = active_is own.state.world.tree (times s) (event.SetWeight k y) s x.0 (like_rounds own.state.world.tree (times s) c own as_own.0) ∙ as_own.1 ∙ h.active })
 
   -- an event that fits
   fitting_goes : (w : WorkloadState) (e : ℕ) (awake : List Bool) (s : SimState) (v : Event) → length w.homes ≡ n → length w.groups ≡ g → e < max_events → Fits w awake v → IsAt e awake s → Goes e (awake_after awake v) v s
@@ -144,12 +148,12 @@ module _ (n c g : ℕ) where
       (accepted_behind (first_events (is_behind_ticks m) ls1) _ s2 behind.accepted (clock.0, later)))
 
 -- the law
-pub none_is_refused : (r : ReplayState) (p : PolicyState) (s : SimState) → IsReplay r → IsFirstState p (idle r.workload.groups r.workload.homes) r.workload.cpus s → AreAccepted s (replay_events r)
+pub none_is_refused : (r : ReplayState) (p : PolicyState) (s : SimState) → IsReplay r → IsFirstState p (first_tree r.workload) r.workload.cpus s → AreAccepted s (replay_events r)
 none_is_refused r p s whole first =
     let w = r.workload in
-    let like = like_first p (idle w.groups w.homes) w.cpus s.state first.0 in
-    let groups = ap (λ gs. length gs) (like_groups (idle w.groups w.homes) _ w.cpus s.state.world like) in
-    let active = like_active (idle w.groups w.homes) _ w.cpus s.state.world like in
+    let like = like_first p (first_tree w) w.cpus s.state first.0 in
+    let groups = ap (λ gs. length gs) (like_groups (first_tree w) _ w.cpus s.state.world like) in
+    let active = like_active (first_tree w) _ w.cpus s.state.world like in
     all_go (length w.homes) w.cpus (length w.groups) w w.ms 0 0 0 s.events (all_asleep w) r.lines s refl refl whole.follow
     whole.workload.few_cpus (omega (arith, first.1, whole.workload.few_ms, whole.few_lines))
     (record { of = record { tasks = like.1.0; cpus = like.2; groups = groups; events = omega arith }; active = active })

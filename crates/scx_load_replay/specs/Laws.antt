@@ -1,9 +1,9 @@
 -- Laws of the events of every file: each line comes, and none is refused.
 use Rattle.std.specs.Prelude.{◌≡◌, nat_lt, Bool, map, filter}
-use Rattle.scx_weights.specs.Hierarchy.{idle}
 use Rattle.scx_sched_machine.specs.declared.events.Event.{Event}
 use Rattle.scx_sched_machine.specs.Policy.{PolicyState}
 use Rattle.scx_sched.specs.Sim.{SimState, IsFirstState}
+use Rattle.scx_load_workloads.specs.Workload.{first_tree}
 use Rattle.scx_load_driver.specs.Runs.{AreAccepted}
 use Rattle.scx_load_replay.specs.Replay.{ReplayState, IsReplay, block_of}
 use Rattle.scx_load_replay.specs.Events.{replay_events}
@@ -23,5 +23,5 @@ EachLineComes =
 abbrev pub NoEventIsRefused : Type 0
 NoEventIsRefused =
     (r : ReplayState) (p : PolicyState) (s : SimState)
-    → IsReplay r → IsFirstState p (idle r.workload.groups r.workload.homes) r.workload.cpus s
+    → IsReplay r → IsFirstState p (first_tree r.workload) r.workload.cpus s
     → AreAccepted s (replay_events r)

@@ -1,9 +1,12 @@
 -- The reading of a file of events: unknown keys first, wherever they are; then `cpus`, `ms`, the
--- groups and the tasks as in a workload, and `events`, line by line.
+-- groups and the tasks as in a workload, and `events`, line by line. Rules are those by which the
+-- policy that it is read for goes.
 use Rattle.std.specs.Prelude.{ℕ, ◌+◌, ⊤, List, [], ◌∷◌, ◌++◌, Result, Ok, Err, codes}
 use Rattle.std.specs.Str.Lines.{lines}
 use Rattle.toml.specs.Data.{Members}
 use Rattle.scx_isa_semantics.specs.Results.{◌>>=◌}
+use Rattle.scx_isa_semantics.specs.declared.rules.Rules.{Rules}
+use Rattle.scx_isa_semantics.specs.declared.rules.Rules.TheVariants.{Plain, Linux}
 use Rattle.scx_load_files.specs.declared.event_fault.EventFault.{EventFault}
 use Rattle.scx_load_files.specs.declared.fault.Cause.TheVariants as cause
 use Rattle.scx_load_files.specs.Faults.{Reading, refusal}
@@ -42,29 +45,34 @@ replay_with w text = lines_in w text >>= λ p. Ok (record { workload = w; lines 
 abbrev pub file_keys : List (List ℕ)
 file_keys = codes "cpus" ∷ codes "ms" ∷ codes "group" ∷ codes "task" ∷ codes "events" ∷ []
 
--- the keys that an element of the array `task` may have
-abbrev pub task_keys : List (List ℕ)
-task_keys = codes "name" ∷ codes "group" ∷ []
+-- the keys that an element of the array `task` may have under those rules
+abbrev pub task_keys : Rules → List (List ℕ)
+task_keys Plain = codes "name" ∷ codes "group" ∷ []
+task_keys Linux = codes "name" ∷ codes "group" ∷ codes "weight" ∷ []
 
 -- the paths of all unknown keys of a file
-abbrev pub unknown_keys : Members → List (List ℕ)
-unknown_keys ms =
+abbrev pub unknown_keys : Rules → Members → List (List ℕ)
+unknown_keys rules ms =
     unknown file_keys [] ms
     ++ unknown_in_each group_keys [] (codes "group") ms
-    ++ unknown_in_each task_keys [] (codes "task") ms
+    ++ unknown_in_each (task_keys rules) [] (codes "task") ms
 
 -- no key is unknown, or the least path is refused
-abbrev pub known_file_keys : Members → Reading ⊤
-known_file_keys ms = known_alone (unknown_keys ms)
+abbrev pub known_file_keys : Rules → Members → Reading ⊤
+known_file_keys rules ms = known_alone (unknown_keys rules ms)
 
 -- what the table of a file says
-abbrev pub replay_file : Members → Reading ReplayState
-replay_file ms = do
-  known ← known_file_keys ms
-  w ← workload_in ms
+abbrev pub replay_file : Rules → Members → Reading ReplayState
+replay_file rules ms = do
+  known ← known_file_keys rules ms
+  w ← workload_in rules ms
   text ← required text_of [] (codes "events") ms
   replay_with w text
 
--- the file of events that a text is
+-- the file of events that a text is for a policy by those rules
+abbrev pub replay_by : Rules → List ℕ → Reading ReplayState
+replay_by rules text = document text >>= replay_file rules
+
+-- the file of events that a text is for a policy by plain rules
 abbrev pub replay_of : List ℕ → Reading ReplayState
-replay_of text = document text >>= replay_file
+replay_of text = replay_by Plain text

@@ -15,6 +15,6 @@ mod replayer;
 
 pub use laws::{each_line_comes, no_event_is_refused};
 pub use lines::Line;
-pub use reading::read_replay;
+pub use reading::{read_replay, read_replay_by};
 pub use replay::Replay;
 pub use replayer::Replayer;

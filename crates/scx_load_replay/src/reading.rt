@@ -3,36 +3,46 @@ ghost use Rattle.std.specs.Str.Lines.{lines};
 ghost use Rattle.toml.specs.View.{table_view};
 ghost use Rattle.scx_load_files.specs.declared.fault.Cause.TheVariants.{Event};
 ghost use Rattle.scx_load_files.specs.Faults.{Gives, refusal};
+ghost use Rattle.scx_load_files.specs.Unknown.{words};
 ghost use Rattle.scx_load_replay.specs.Lines.{line_behind, text_behind};
 ghost use Rattle.scx_load_replay.specs.Kept.{progress_of};
-ghost use Rattle.scx_load_replay.specs.Reading.{at_line, lines_in, replay_of, replay_file, known_file_keys, replay_with};
+ghost use Rattle.scx_load_replay.specs.Reading.{at_line, lines_in, task_keys, replay_by, replay_of, replay_file, known_file_keys, replay_with};
 
 use crate::lines::{Line, line_in};
 use crate::progress::Progress;
 use crate::replay::Replay;
+use scx_isa_semantics::Rules;
 use scx_load_files::{Cause, EventFault, LoadError, Section, Unknown, read_document, refused};
-use scx_load_workloads::{Workload, read_known_keys};
+use scx_load_workloads::{Workload, read_known_keys_by};
 use std::alloc::{AllocError, Global};
 
-/// Reads a file of events, or names its first fault.
-///
-/// Unknown keys are faults before all others, the least path by bytes first. Then the order is `cpus`, `ms`,
-/// the groups and the tasks, as in a workload, and `events`, line by line.
+/// Reads a file of events for a policy by plain rules, as `read_replay_by` does.
 pub fn read_replay(alloc: Global, text: &str) -> Result<Replay, LoadError>
     ensures { Gives (λ replay. replay) result (replay_of text.now) }
 {
+    read_replay_by(alloc, Rules::Plain, text)
+}
+
+/// Reads a file of events for a policy by those rules, or names its first fault.
+///
+/// Unknown keys are faults before all others, the least path by bytes first. Then the order is `cpus`, `ms`,
+/// the groups and the tasks, as in a workload, and `events`, line by line.
+pub fn read_replay_by(alloc: Global, rules: Rules, text: &str) -> Result<Replay, LoadError>
+    ensures { Gives (λ replay. replay) result (replay_by rules text.now) }
+{
     let table = read_document(alloc, text)?;
-    let replay = read_table(alloc, Section::whole(&table));
+    let replay = read_table(alloc, rules, Section::whole(&table));
     drop(table);
     replay
 }
 
-fn read_table(alloc: Global, file: Section<'_>) -> Result<Replay, LoadError>
+fn read_table(alloc: Global, rules: Rules, file: Section<'_>) -> Result<Replay, LoadError>
     requires { file.path.now ≡ [] }
-    ensures { Gives (λ replay. replay) result (replay_file (table_view file.entry.table.now)) }
+    ensures { Gives (λ replay. replay) result
+        (replay_file rules (table_view file.entry.table.now)) }
 {
-    check_keys(alloc, file)?;
-    let workload = read_known_keys(alloc, file)?;
+    check_keys(alloc, rules, file)?;
+    let workload = read_known_keys_by(alloc, rules, file)?;
     match file.text(alloc, "events") {
         Ok(text) => read_events(alloc, workload, text),
         Err(error) => {
@@ -42,10 +52,20 @@ fn read_table(alloc: Global, file: Section<'_>) -> Result<Replay, LoadError>
     }
 }
 
+/// The keys that a task may have.
+fn task_keys(rules: Rules) -> &'static [&'static str]
+    ensures { words result.now ≡ task_keys rules }
+{
+    match rules {
+        Rules::Plain => &["name", "group"],
+        Rules::Linux => &["name", "group", "weight"],
+    }
+}
+
 /// Refuses the unknown key of the least path.
-fn check_keys(alloc: Global, file: Section<'_>) -> Result<(), LoadError>
+fn check_keys(alloc: Global, rules: Rules, file: Section<'_>) -> Result<(), LoadError>
     requires { file.path.now ≡ [] }
-    ensures { Gives (λ t. t) result (known_file_keys (table_view file.entry.table.now)) }
+    ensures { Gives (λ t. t) result (known_file_keys rules (table_view file.entry.table.now)) }
 {
     let unknown = Unknown::none()
         .in_section(alloc, file, &["cpus", "ms", "group", "task", "events"])?
@@ -55,7 +75,7 @@ fn check_keys(alloc: Global, file: Section<'_>) -> Result<(), LoadError>
             "group",
             &["name", "weight", "parent", "cpu_max"],
         )?
-        .below_each(alloc, file, "task", &["name", "group"])?;
+        .below_each(alloc, file, "task", task_keys(rules))?;
     unknown.refuse()
 }
 

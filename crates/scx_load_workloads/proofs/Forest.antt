@@ -7,6 +7,7 @@ use Rattle.std.proofs.lemmas.List.Folds.{list_any-append}
 use Rattle.toml.specs.Data.{Data, Items, no_items, item, Members, get_member}
 use Rattle.scx_load_files.specs.declared.fault.Cause.TheVariants as cause
 use Rattle.scx_isa_semantics.specs.Results.{◌>>=◌}
+use Rattle.scx_isa_semantics.specs.declared.rules.Rules.{Rules}
 use Rattle.scx_load_files.specs.Faults.{Reading, refusal}
 use Rattle.scx_load_files.specs.Paths.{below, element}
 use Rattle.scx_load_files.specs.Values.{found_or, required, optional, table_of, text_of, integer_of, elements_of, item_count}
@@ -14,7 +15,7 @@ use Rattle.scx_weights.specs.declared.group.Group.{Group}
 use Rattle.scx_weights.specs.Counting.{any_below}
 use Rattle.scx_weights.specs.Hierarchy.{parent_of}
 use Rattle.scx_weights.specs.Refusals.{is_outside, is_late, has_late_parent, has_unknown_home, has_bad_weight, max_period, is_bad_quota, has_bad_limit, above, has_deep_group, has_task_above, first_fault}
-use Rattle.scx_load_workloads.specs.Reading.{weight_limits, fold_from, some_of, some_elements, index_of, new_name, group_named, GroupList, no_groups, is_deep, if_shallow, parent_named, limit_read, with_group, group_at, groups_in, TaskList, no_tasks, has_children, if_leaf, leaf_named, timing_in, with_task, task_at, tasks_in}
+use Rattle.scx_load_workloads.specs.Reading.{weight_limits, fold_from, some_of, some_elements, index_of, new_name, group_named, GroupList, no_groups, is_deep, if_shallow, parent_named, limit_read, with_group, group_at, groups_in, TaskList, no_tasks, has_children, if_leaf, leaf_named, own_weight_in, timing_in, with_task, task_at, tasks_in}
 use Rattle.scx_load_workloads.specs.declared.limit.Limit.{Limit}
 use Rattle.scx_load_workloads.specs.Limit.{no_limit, limit_in}
 use Rattle.scx_load_workloads.proofs.Limits.{IsRight, says_right}
@@ -22,20 +23,20 @@ use Rattle.scx_load_workloads.proofs.Values.{IsWithin, optional_within, few_item
 
 -- ---- what was read in turn
 
-record Parts {A B : Type 0} (r : Reading A) (f : A → Reading B) (y : B) : Type 0 where
+pub record Parts {A B : Type 0} (r : Reading A) (f : A → Reading B) (y : B) : Type 0 where
   pub value : A
   pub first : r ≡ Ok value
   pub second : f value ≡ Ok y
 
-parts : {A B : Type 0} (r : Reading A) (f : A → Reading B) (y : B) → (r >>= f) ≡ Ok y → Parts r f y
+pub parts : {A B : Type 0} (r : Reading A) (f : A → Reading B) (y : B) → (r >>= f) ≡ Ok y → Parts r f y
 parts (Ok x) f y e = record { value = x; first = refl; second = e }
 parts (Err e) f y x = absurd (cc)
 
-same_ok : {A : Type 0} (a b : A) → ◌≡◌ {A = Reading A} (Ok a) (Ok b) → a ≡ b
+pub same_ok : {A : Type 0} (a b : A) → ◌≡◌ {A = Reading A} (Ok a) (Ok b) → a ≡ b
 same_ok a b e = cc
 
 -- what each element keeps, and how many there are
-kept : {S : Type 0} (read : S → ℕ → Data → Reading S) (P : S → Type 0) → ((s : S) (n : ℕ) (d : Data) (t : S) → read s n d ≡ Ok t → P s → P t)
+pub kept : {S : Type 0} (read : S → ℕ → Data → Reading S) (P : S → Type 0) → ((s : S) (n : ℕ) (d : Data) (t : S) → read s n d ≡ Ok t → P s → P t)
     → (ds : Items) (s : S) (n : ℕ) (t : S) → fold_from read s n ds ≡ Ok t → P s → P t
 kept read P step no_items s n t e p = subst P (same_ok s t e) p
 kept read P step (item d ds) s n t e p =
@@ -251,32 +252,34 @@ leaf_is g path key ms h even e = at (get_member key ms) e
         let x = parts (group_named g.names (below path key) d) (if_leaf g.groups (below path key)) h f in
         right x.value (let l = named_below g.names (below path key) d x.value x.first in omega (arith, l, even)) x.second
 
-task_step : (g : GroupList) (t : TaskList) (path : List ℕ) (ms : Members) (u : TaskList) → length g.names ≡ length g.groups → with_task g t path ms ≡ Ok u → AreHome g t → AreHome g u
-task_step g t path ms u even e f =
+task_step : (rules : Rules) (g : GroupList) (t : TaskList) (path : List ℕ) (ms : Members) (u : TaskList) → length g.names ≡ length g.groups → with_task rules g t path ms ≡ Ok u → AreHome g t → AreHome g u
+task_step rules g t path ms u even e f =
     let a = parts (new_name t.names path ms) _ u e in
     let b = parts (required (leaf_named g) path (codes "group") ms) _ u a.second in
-    let c = parts (timing_in path ms) _ u b.second in
+    let w = parts (own_weight_in rules path ms) _ u b.second in
+    let c = parts (timing_in path ms) _ u w.second in
     let l = leaf_is g path (codes "group") ms b.value even b.first in
     subst (AreHome g) (same_ok _ u c.second) record {
       known = rw (list_any-append (λ home. nat_le (length g.groups) home) t.homes (b.value ∷ []), f.known, l.known) refl;
       leaves = rw (list_any-append (λ home. has_children g.groups home) t.homes (b.value ∷ []), f.leaves, l.leaf) refl;
     }
 
-task_count : (g : GroupList) (t : TaskList) (path : List ℕ) (ms : Members) (u : TaskList) → with_task g t path ms ≡ Ok u → length u.homes ≡ length t.homes + 1
-task_count g t path ms u e =
+task_count : (rules : Rules) (g : GroupList) (t : TaskList) (path : List ℕ) (ms : Members) (u : TaskList) → with_task rules g t path ms ≡ Ok u → length u.homes ≡ length t.homes + 1
+task_count rules g t path ms u e =
     let a = parts (new_name t.names path ms) _ u e in
     let b = parts (required (leaf_named g) path (codes "group") ms) _ u a.second in
-    let c = parts (timing_in path ms) _ u b.second in
+    let w = parts (own_weight_in rules path ms) _ u b.second in
+    let c = parts (timing_in path ms) _ u w.second in
     subst (λ (y : TaskList). length y.homes ≡ length t.homes + 1) (same_ok _ u c.second) (length-append t.homes (b.value ∷ []))
 
 -- ---- both
 
-inside : (most n : ℕ) → 1 ≤ n → n ≤ most → is_outside most n ≡ false
+pub inside : (most n : ℕ) → 1 ≤ n → n ≤ most → is_outside most n ≡ false
 inside most n l m = let a : nat_lt n 1 ≡ false = grind (arith, nat_tests, l) in let b : nat_lt most n ≡ false = grind (arith, nat_tests, m) in rw (a, b) refl
 
 -- whatever the file
-pub tree_is_right : (ms : Members) (g : GroupList) (t : TaskList) → groups_in ms ≡ Ok g → tasks_in g ms ≡ Ok t → first_fault g.groups t.homes ≡ None
-tree_is_right ms g t e f = rw (forest.late, homes.known, inside 256 (length g.groups) (omega (arith, groups, x'.least)) (omega (arith, groups, x'.greatest)), inside 1024 (length t.homes) (omega (arith, tasks, y'.least)) (omega (arith, tasks, y'.greatest)), forest.weights, forest.limits, forest.deep, homes.leaves) refl
+pub tree_is_right : (rules : Rules) (ms : Members) (g : GroupList) (t : TaskList) → groups_in ms ≡ Ok g → tasks_in rules g ms ≡ Ok t → first_fault g.groups t.homes ≡ None
+tree_is_right rules ms g t e f = rw (forest.late, homes.known, inside 256 (length g.groups) (omega (arith, groups, x'.least)) (omega (arith, groups, x'.greatest)), inside 1024 (length t.homes) (omega (arith, tasks, y'.least)) (omega (arith, tasks, y'.greatest)), forest.weights, forest.limits, forest.deep, homes.leaves) refl
   where
     x : Parts (some_elements 256 (codes "group") ms) (fold_from group_at no_groups 0) g
     x = parts (some_elements 256 (codes "group") ms) (fold_from group_at no_groups 0) g e
@@ -284,8 +287,8 @@ tree_is_right ms g t e f = rw (forest.late, homes.known, inside 256 (length g.gr
     x' : AreSome 256 x.value
     x' = some_are 256 (codes "group") ms x.value x.first
 
-    y : Parts (some_elements 1024 (codes "task") ms) (fold_from (task_at g) no_tasks 0) t
-    y = parts (some_elements 1024 (codes "task") ms) (fold_from (task_at g) no_tasks 0) t f
+    y : Parts (some_elements 1024 (codes "task") ms) (fold_from (task_at rules g) no_tasks 0) t
+    y = parts (some_elements 1024 (codes "task") ms) (fold_from (task_at rules g) no_tasks 0) t f
 
     y' : AreSome 1024 y.value
     y' = some_are 1024 (codes "task") ms y.value y.first
@@ -299,9 +302,9 @@ tree_is_right ms g t e f = rw (forest.late, homes.known, inside 256 (length g.gr
         x.value no_groups 0 g x.second
 
     homes : AreHome g t
-    homes = kept (task_at g) (AreHome g) (λ s n d u r p. let z = parts (table_of (element (codes "task") n) d) (with_task g s (element (codes "task") n)) u r in task_step g s (element (codes "task") n) z.value u forest.even z.second p)
+    homes = kept (task_at rules g) (AreHome g) (λ s n d u r p. let z = parts (table_of (element (codes "task") n) d) (with_task rules g s (element (codes "task") n)) u r in task_step rules g s (element (codes "task") n) z.value u forest.even z.second p)
         y.value no_tasks 0 t y.second record { known = refl; leaves = refl }
 
     tasks : length t.homes ≡ 0 + item_count y.value
-    tasks = counted (task_at g) (λ (s : TaskList). length s.homes) (λ s n d u r. let z = parts (table_of (element (codes "task") n) d) (with_task g s (element (codes "task") n)) u r in task_count g s (element (codes "task") n) z.value u z.second)
+    tasks = counted (task_at rules g) (λ (s : TaskList). length s.homes) (λ s n d u r. let z = parts (table_of (element (codes "task") n) d) (with_task rules g s (element (codes "task") n)) u r in task_count rules g s (element (codes "task") n) z.value u z.second)
         y.value no_tasks 0 t y.second

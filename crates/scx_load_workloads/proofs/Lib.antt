@@ -3,3 +3,5 @@ pub mod Limits
 pub mod Numbers
 pub mod Values
 pub mod Forest
+pub mod Plainly
+pub mod OwnWeights

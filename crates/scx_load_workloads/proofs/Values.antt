@@ -18,7 +18,7 @@ use Rattle.scx_load_files.proofs.Counts.{count_of_view}
 use Rattle.scx_load_files.proofs.Least.{least_with-append}
 use Rattle.scx_load_workloads.specs.declared.workload.Timing.{Timing}
 use Rattle.scx_load_workloads.specs.declared.workload.Change.{Change}
-use Rattle.scx_load_workloads.specs.Workload.{IsTiming, IsChange, timing_at, change_at}
+use Rattle.scx_load_workloads.specs.Workload.{IsOwnWeight, IsTiming, IsChange, own_weight_at, timing_at, change_at}
 use Rattle.scx_load_workloads.specs.Reading.{some_of, index_from}
 
 -- ---- numbers
@@ -138,6 +138,14 @@ pub timings_more : (xs : List Timing) (x : Timing) → ((t : ℕ) → t < length
 timings_more xs x all new t l = go (cases_lt t (length xs))
   where
     go : (t < length xs) ⊎ (length xs ≤ t) → IsTiming (timing_at (xs ++ x ∷ []) t)
+    go (inl within) = rw (get_or_append_left xs (x ∷ []) _ t within) (all t within)
+    go (inr past) = let last : t ≡ length xs + 0 = omega (arith, past, l, length-append xs (x ∷ [])) in rw (last, get_or-append-add xs (x ∷ []) 0 _) new
+
+-- one weight more
+pub weights_more : (xs : List ℕ) (x : ℕ) → ((t : ℕ) → t < length xs → IsOwnWeight (own_weight_at xs t)) → IsOwnWeight x → (t : ℕ) → t < length (xs ++ x ∷ []) → IsOwnWeight (own_weight_at (xs ++ x ∷ []) t)
+weights_more xs x all new t l = go (cases_lt t (length xs))
+  where
+    go : (t < length xs) ⊎ (length xs ≤ t) → IsOwnWeight (own_weight_at (xs ++ x ∷ []) t)
     go (inl within) = rw (get_or_append_left xs (x ∷ []) _ t within) (all t within)
     go (inr past) = let last : t ≡ length xs + 0 = omega (arith, past, l, length-append xs (x ∷ [])) in rw (last, get_or-append-add xs (x ∷ []) 0 _) new
 

@@ -4,7 +4,7 @@ use Rattle.std.specs.declared.alloc.Global.{Global}
 use Rattle.scx_load_workloads.specs.declared.workload.Workload.TheInside.{Inside}
 use Rattle.scx_load_workloads.specs.declared.groups.Groups.TheInside.{Inside as InsideGroups}
 use Rattle.scx_load_workloads.specs.declared.tasks.Tasks.TheInside.{Inside as InsideTasks}
-use Rattle.scx_load_workloads.specs.Workload.{WorkloadState, IsTiming, timing_at}
+use Rattle.scx_load_workloads.specs.Workload.{WorkloadState, IsOwnWeight, own_weight_at, IsTiming, timing_at}
 use Rattle.scx_load_workloads.specs.Reading.{GroupList, TaskList}
 
 -- the bytes of each of some names
@@ -20,6 +20,7 @@ state_of w = record {
   group_names = texts w.group_names.items;
   homes = w.homes.items;
   task_names = texts w.task_names.items;
+  own_weights = w.own_weights.items;
   timings = w.timings.items;
   changes = w.changes.items;
 }
@@ -37,11 +38,19 @@ pub record AreGroups (g : InsideGroups) : Type 0 where
 
 -- the tasks, with their names, that the fields of a `Tasks` mean
 abbrev pub tasks_of : InsideTasks → TaskList
-tasks_of t =
-    record { names = texts t.names.items; homes = t.homes.items; timings = t.timings.items }
+tasks_of t = record {
+  names = texts t.names.items;
+  homes = t.homes.items;
+  own_weights = t.own_weights.items;
+  timings = t.timings.items;
+}
 
--- what holds of tasks as they are read: each has a name, and times that are in their limits
+-- what holds of tasks as they are read: each has a name, and a weight and times that are in their
+-- limits
 pub record AreTasks (t : InsideTasks) : Type 0 where
   pub named : length t.names.items ≡ length t.homes.items
+  pub weighed : length t.own_weights.items ≡ length t.homes.items
   pub timed : length t.timings.items ≡ length t.homes.items
+  pub own_weights : (k : ℕ)
+      → k < length t.own_weights.items → IsOwnWeight (own_weight_at t.own_weights.items k)
   pub times : (k : ℕ) → k < length t.timings.items → IsTiming (timing_at t.timings.items k)

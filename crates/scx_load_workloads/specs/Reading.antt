@@ -1,5 +1,6 @@
 -- The reading of a workload file: unknown keys first, wherever they are; then `cpus`, `ms`, the
--- groups, the tasks and the changes of weights, each element by itself.
+-- groups, the tasks and the changes of weights, each element by itself. Rules are those by which
+-- the policy that it is read for goes: under Linux rules a task may have a weight of its own.
 use Rattle.std.specs.Prelude.{ℕ, ◌+◌, Bool, List, [], ◌∷◌, ◌++◌, Option, Some, None, is_some, Ok, codes, if◌then◌else◌}
 use Rattle.std.specs.List.{list_any}
 use Rattle.std.specs.Str.{bytes_eq}
@@ -7,6 +8,8 @@ use Rattle.toml.specs.Data.{Data, Items, no_items, item, Members}
 use Rattle.scx_load_files.specs.declared.fault.Cause.TheVariants as cause
 use Rattle.scx_load_files.specs.declared.section.Limits.{Limits}
 use Rattle.scx_isa_semantics.specs.Results.{◌>>=◌}
+use Rattle.scx_isa_semantics.specs.declared.rules.Rules.{Rules}
+use Rattle.scx_isa_semantics.specs.declared.rules.Rules.TheVariants.{Plain, Linux}
 use Rattle.scx_load_files.specs.Faults.{Reading, refusal}
 use Rattle.scx_load_files.specs.Paths.{below, element}
 use Rattle.scx_load_files.specs.Unknown.{known_alone, unknown, unknown_in_each}
@@ -33,7 +36,7 @@ length_limits = record { least = 1; most = 1000000 }
 abbrev pub time_limits : Limits
 time_limits = record { least = 0; most = 1000000 }
 
--- the weight of a group, 1 to 10000
+-- the weight of a group, and of a task itself, 1 to 10000
 abbrev pub weight_limits : Limits
 weight_limits = record { least = 1; most = 10000 }
 
@@ -135,15 +138,17 @@ groups_in ms = some_elements 256 (codes "group") ms >>= fold_from group_at no_gr
 
 -- ---- tasks
 
--- the tasks that have been read so far: of each its name, the number of its group and its times
+-- the tasks that have been read so far: of each its name, the number of its group, its own weight
+-- and its times
 pub record TaskList : Type 0 where
   pub names : List (List ℕ)
   pub homes : List ℕ
+  pub own_weights : List ℕ
   pub timings : List Timing
 
 -- no task has been read yet
 abbrev pub no_tasks : TaskList
-no_tasks = record { names = []; homes = []; timings = [] }
+no_tasks = record { names = []; homes = []; own_weights = []; timings = [] }
 
 -- a group has others below it: it is the parent of one at least
 abbrev pub has_children : List Group → ℕ → Bool
@@ -157,6 +162,11 @@ if_leaf groups path g = if has_children groups g then refusal path cause.NotALea
 abbrev pub leaf_named : GroupList → List ℕ → Data → Reading ℕ
 leaf_named g path d = group_named g.names path d >>= if_leaf g.groups path
 
+-- the weight of a task itself, as the table at a path says; under plain rules no key says it
+abbrev pub own_weight_in : Rules → List ℕ → Members → Reading ℕ
+own_weight_in Plain path ms = Ok 100
+own_weight_in Linux path ms = optional (integer_of weight_limits) 100 path (codes "weight") ms
+
 -- when a task works, as the table at a path says; a time that is absent is 0
 abbrev pub timing_in : List ℕ → Members → Reading Timing
 timing_in path ms = do
@@ -166,24 +176,28 @@ timing_in path ms = do
   Ok (record { start = start; run = run; sleep = sleep })
 
 -- with one more task, in one of these groups, which the table at a path says
-abbrev pub with_task : GroupList → TaskList → List ℕ → Members → Reading TaskList
-with_task g t path ms = do
+abbrev pub with_task : Rules → GroupList → TaskList → List ℕ → Members → Reading TaskList
+with_task rules g t path ms = do
   name ← new_name t.names path ms
   home ← required (leaf_named g) path (codes "group") ms
+  weight ← own_weight_in rules path ms
   timing ← timing_in path ms
   Ok (record {
     names = t.names ++ name ∷ [];
     homes = t.homes ++ home ∷ [];
+    own_weights = t.own_weights ++ weight ∷ [];
     timings = t.timings ++ timing ∷ [];
   })
 
 -- with one more task, which the element of that number in the array `task` says
-abbrev pub task_at : GroupList → TaskList → ℕ → Data → Reading TaskList
-task_at g t n d = table_of (element (codes "task") n) d >>= with_task g t (element (codes "task") n)
+abbrev pub task_at : Rules → GroupList → TaskList → ℕ → Data → Reading TaskList
+task_at rules g t n d =
+    table_of (element (codes "task") n) d >>= with_task rules g t (element (codes "task") n)
 
 -- the tasks that the table of a file says, 1 to 1024, each in one of these groups
-abbrev pub tasks_in : GroupList → Members → Reading TaskList
-tasks_in g ms = some_elements 1024 (codes "task") ms >>= fold_from (task_at g) no_tasks 0
+abbrev pub tasks_in : Rules → GroupList → Members → Reading TaskList
+tasks_in rules g ms =
+    some_elements 1024 (codes "task") ms >>= fold_from (task_at rules g) no_tasks 0
 
 -- ---- changes
 
@@ -219,29 +233,31 @@ file_keys = codes "cpus" ∷ codes "ms" ∷ codes "group" ∷ codes "task" ∷ c
 abbrev pub group_keys : List (List ℕ)
 group_keys = codes "name" ∷ codes "weight" ∷ codes "parent" ∷ codes "cpu_max" ∷ []
 
--- the keys that an element of the array `task` may have
-abbrev pub task_keys : List (List ℕ)
-task_keys = codes "name" ∷ codes "group" ∷ codes "start" ∷ codes "run" ∷ codes "sleep" ∷ []
+-- the keys that an element of the array `task` may have under those rules
+abbrev pub task_keys : Rules → List (List ℕ)
+task_keys Plain = codes "name" ∷ codes "group" ∷ codes "start" ∷ codes "run" ∷ codes "sleep" ∷ []
+task_keys Linux =
+    codes "name" ∷ codes "group" ∷ codes "weight" ∷ codes "start" ∷ codes "run" ∷ codes "sleep" ∷ []
 
 -- the keys that an element of the array `change` may have
 abbrev pub change_keys : List (List ℕ)
 change_keys = codes "at" ∷ codes "group" ∷ codes "weight" ∷ []
 
 -- the paths of all unknown keys of a file
-abbrev pub unknown_keys : Members → List (List ℕ)
-unknown_keys ms =
+abbrev pub unknown_keys : Rules → Members → List (List ℕ)
+unknown_keys rules ms =
     unknown file_keys [] ms
     ++ unknown_in_each group_keys [] (codes "group") ms
-    ++ unknown_in_each task_keys [] (codes "task") ms
+    ++ unknown_in_each (task_keys rules) [] (codes "task") ms
     ++ unknown_in_each change_keys [] (codes "change") ms
 
 -- what the known keys of a file say
-abbrev pub workload_in : Members → Reading WorkloadState
-workload_in ms = do
+abbrev pub workload_in : Rules → Members → Reading WorkloadState
+workload_in rules ms = do
   cpus ← required (integer_of cpu_limits) [] (codes "cpus") ms
   length ← required (integer_of length_limits) [] (codes "ms") ms
   g ← groups_in ms
-  t ← tasks_in g ms
+  t ← tasks_in rules g ms
   changes ← changes_in g ms
   Ok (record {
     cpus = cpus;
@@ -250,14 +266,19 @@ workload_in ms = do
     group_names = g.names;
     homes = t.homes;
     task_names = t.names;
+    own_weights = t.own_weights;
     timings = t.timings;
     changes = changes;
   })
 
 -- what the table of a file says; an unknown key is refused before any other fault
-abbrev pub workload_file : Members → Reading WorkloadState
-workload_file ms = known_alone (unknown_keys ms) >>= λ known. workload_in ms
+abbrev pub workload_file : Rules → Members → Reading WorkloadState
+workload_file rules ms = known_alone (unknown_keys rules ms) >>= λ known. workload_in rules ms
 
--- the workload that a text is
+-- the workload that a text is for a policy by those rules
+abbrev pub workload_by : Rules → List ℕ → Reading WorkloadState
+workload_by rules text = document text >>= workload_file rules
+
+-- the workload that a text is for a policy by plain rules
 abbrev pub workload_of : List ℕ → Reading WorkloadState
-workload_of text = document text >>= workload_file
+workload_of text = workload_by Plain text

@@ -1,6 +1,7 @@
--- A workload: its groups and tasks, the times of the tasks, and changes of weights.
+-- A workload: its groups and tasks, the weights and times of the tasks, and changes of weights.
 use Rattle.std.specs.Prelude.{◌≡◌, ℕ, ◌<◌, ◌≤◌, List, length, None, slice_index_or}
 use Rattle.scx_weights.specs.declared.group.Group.{Group}
+use Rattle.scx_weights.specs.Hierarchy.{Hierarchy, idle, with_own_weights}
 use Rattle.scx_weights.specs.Refusals.{first_fault}
 use Rattle.scx_load_workloads.specs.declared.workload.Timing.{Timing}
 use Rattle.scx_load_workloads.specs.declared.workload.Change.{Change}
@@ -9,7 +10,8 @@ use Rattle.scx_load_workloads.specs.declared.workload.Change.{Change}
 abbrev pub max_ms : ℕ
 max_ms = 1000000
 
--- what a workload file says: processors, milliseconds, groups, tasks, and changes of weights
+-- what a workload file says: processors, milliseconds, groups, tasks with their own weights, and
+-- changes of weights of groups
 pub record WorkloadState : Type 0 where
   pub cpus : ℕ
   pub ms : ℕ
@@ -17,8 +19,13 @@ pub record WorkloadState : Type 0 where
   pub group_names : List (List ℕ)
   pub homes : List ℕ  -- the group of each task
   pub task_names : List (List ℕ)
+  pub own_weights : List ℕ  -- of each task itself
   pub timings : List Timing  -- of each task
   pub changes : List Change
+
+-- the groups and tasks of a workload as a machine begins with them: no task is active
+abbrev pub first_tree : WorkloadState → Hierarchy
+first_tree w = with_own_weights (idle w.groups w.homes) w.own_weights
 
 -- when the task of that number works; all times are 0 where there is none
 abbrev pub timing_at : List Timing → ℕ → Timing
@@ -27,6 +34,15 @@ timing_at timings t = slice_index_or timings t (record { start = 0; run = 0; sle
 -- the change of that number in the order of the file; all of it is 0 where there is none
 abbrev pub change_at : List Change → ℕ → Change
 change_at changes i = slice_index_or changes i (record { at = 0; group = 0; weight = 0 })
+
+-- the weight that the task of that number has itself; 0 where there is none
+abbrev pub own_weight_at : List ℕ → ℕ → ℕ
+own_weight_at own_weights t = slice_index_or own_weights t 0
+
+-- a task itself has a weight of 1 to 10000
+pub record IsOwnWeight (w : ℕ) : Type 0 where
+  pub least : 1 ≤ w
+  pub greatest : w ≤ 10000
 
 -- no time of a task exceeds the most milliseconds of a workload
 pub record IsTiming (t : Timing) : Type 0 where
@@ -51,7 +67,10 @@ pub record IsWorkload (w : WorkloadState) : Type 0 where
   pub few_tasks : length w.homes ≤ 1024
   pub named_groups : length w.group_names ≡ length w.groups
   pub named_tasks : length w.task_names ≡ length w.homes
+  pub weighed : length w.own_weights ≡ length w.homes
   pub timed : length w.timings ≡ length w.homes
   pub few_changes : length w.changes ≤ 1024
+  pub own_weights : (t : ℕ)
+      → t < length w.own_weights → IsOwnWeight (own_weight_at w.own_weights t)
   pub timings : (t : ℕ) → t < length w.timings → IsTiming (timing_at w.timings t)
   pub changes : (i : ℕ) → i < length w.changes → IsChange (length w.groups) (change_at w.changes i)

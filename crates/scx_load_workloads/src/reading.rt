@@ -1,14 +1,16 @@
 ghost use Rattle.std.specs.Prelude.{◌≡◌, ℕ, ◌<◌, ◌≤◌, [], length, IfOk};
 ghost use Rattle.toml.specs.View.{view, table_view, items_view};
 ghost use Rattle.scx_load_files.specs.Faults.{Gives};
-ghost use Rattle.scx_load_files.specs.Unknown.{known_alone};
+ghost use Rattle.scx_load_files.specs.Unknown.{known_alone, words};
 ghost use Rattle.scx_load_workloads.specs.Workload.{IsChange, change_at};
-ghost use Rattle.scx_load_workloads.specs.Reading.{unknown_keys, workload_in, workload_file, workload_of, changes_in, change_from, with_change, fold_from};
+ghost use Rattle.scx_isa_semantics.specs.declared.rules.Rules.TheVariants.{Plain};
+ghost use Rattle.scx_load_workloads.specs.Reading.{task_keys, unknown_keys, workload_in, workload_file, workload_by, workload_of, changes_in, change_from, with_change, fold_from};
 
 use crate::elements::{elements, integer};
 use crate::groups::{Groups, WEIGHT};
 use crate::tasks::{TIME, Tasks};
 use crate::workload::{Change, MAX_CHANGES, MAX_CPUS, MAX_MS, Workload};
+use scx_isa_semantics::Rules;
 use scx_load_files::{Limits, LoadError, Section, Unknown, element_path, read_document};
 use std::alloc::Global;
 use toml::Value;
@@ -23,34 +25,52 @@ const LENGTH: Limits = Limits {
     most: MAX_MS,
 };
 
-/// Reads a workload file, or names its first fault.
+/// Reads a workload file for a policy by plain rules, as `read_workload_by` does.
+pub fn read_workload(alloc: Global, text: &str) -> Result<Workload, LoadError>
+    ensures { Gives (λ workload. workload) result (workload_of text.now) }
+{
+    read_workload_by(alloc, Rules::Plain, text)
+}
+
+/// Reads a workload file for a policy by those rules, or names its first fault.
 ///
 /// Unknown keys are faults before all others, the least path by bytes first. Then the order is `cpus`,
 /// `ms`, the groups, the tasks, the changes; of each array its type and count, then its elements one by
 /// one.
-pub fn read_workload(alloc: Global, text: &str) -> Result<Workload, LoadError>
-    ensures { Gives (λ workload. workload) result (workload_of text.now) }
+pub fn read_workload_by(alloc: Global, rules: Rules, text: &str) -> Result<Workload, LoadError>
+    ensures { Gives (λ workload. workload) result (workload_by rules text.now) }
 {
     let table = read_document(alloc, text)?;
-    let workload = read_table(alloc, Section::whole(&table));
+    let workload = read_table(alloc, rules, Section::whole(&table));
     drop(table);
     workload
 }
 
 /// Reads the table of a file.
-fn read_table(alloc: Global, file: Section<'_>) -> Result<Workload, LoadError>
+fn read_table(alloc: Global, rules: Rules, file: Section<'_>) -> Result<Workload, LoadError>
     requires { file.path.now ≡ [] }
     ensures { Gives (λ workload. workload) result
-        (workload_file (table_view file.entry.table.now)) }
+        (workload_file rules (table_view file.entry.table.now)) }
 {
-    check_keys(alloc, file)?;
-    read_known_keys(alloc, file)
+    check_keys(alloc, rules, file)?;
+    read_known_keys_by(alloc, rules, file)
+}
+
+/// The keys that a task may have.
+fn task_keys(rules: Rules) -> &'static [&'static str]
+    ensures { words result.now ≡ task_keys rules }
+{
+    match rules {
+        Rules::Plain => &["name", "group", "start", "run", "sleep"],
+        Rules::Linux => &["name", "group", "weight", "start", "run", "sleep"],
+    }
 }
 
 /// Refuses the unknown key of the least path.
-fn check_keys(alloc: Global, file: Section<'_>) -> Result<(), LoadError>
+fn check_keys(alloc: Global, rules: Rules, file: Section<'_>) -> Result<(), LoadError>
     requires { file.path.now ≡ [] }
-    ensures { Gives (λ t. t) result (known_alone (unknown_keys (table_view file.entry.table.now))) }
+    ensures { Gives (λ t. t) result
+        (known_alone (unknown_keys rules (table_view file.entry.table.now))) }
 {
     let unknown = Unknown::none()
         .in_section(alloc, file, &["cpus", "ms", "group", "task", "change"])?
@@ -60,31 +80,39 @@ fn check_keys(alloc: Global, file: Section<'_>) -> Result<(), LoadError>
             "group",
             &["name", "weight", "parent", "cpu_max"],
         )?
-        .below_each(
-            alloc,
-            file,
-            "task",
-            &["name", "group", "start", "run", "sleep"],
-        )?
+        .below_each(alloc, file, "task", task_keys(rules))?
         .below_each(alloc, file, "change", &["at", "group", "weight"])?;
     unknown.refuse()
 }
 
-/// Reads the known keys of the table of a file: `cpus`, `ms`, the groups, the tasks and the changes, in this
-/// order. Other keys aren't looked at.
-#[tactic(auto, using(crate::proofs::Forest::tree_is_right))]
+/// Reads the keys of the table of a file that are known under plain rules, as `read_known_keys_by` does.
 pub fn read_known_keys(alloc: Global, file: Section<'_>) -> Result<Workload, LoadError>
     requires { file.path.now ≡ [] }
-    ensures { Gives (λ workload. workload) result (workload_in (table_view file.entry.table.now)) }
+    ensures { Gives (λ workload. workload) result
+        (workload_in Plain (table_view file.entry.table.now)) }
+{
+    read_known_keys_by(alloc, Rules::Plain, file)
+}
+
+/// Reads the keys of the table of a file that are known under those rules: `cpus`, `ms`, the groups, the tasks and
+/// the changes, in this order. Other keys aren't looked at.
+pub fn read_known_keys_by(
+    alloc: Global,
+    rules: Rules,
+    file: Section<'_>,
+) -> Result<Workload, LoadError>
+    requires { file.path.now ≡ [] }
+    ensures { Gives (λ workload. workload) result
+        (workload_in rules (table_view file.entry.table.now)) }
 {
     let cpus = integer(alloc, file, "cpus", CPUS)?;
     let ms = integer(alloc, file, "ms", LENGTH)?;
     let groups = Groups::read(alloc, file)?;
-    match Tasks::read(alloc, file, &groups) {
+    match Tasks::read(alloc, file, rules, &groups) {
         Ok(tasks) => match read_changes(alloc, file, &groups) {
             Ok(changes) => {
                 let (groups, group_names) = groups.into_parts();
-                let (homes, task_names, timings) = tasks.into_parts();
+                let (homes, task_names, own_weights, timings) = tasks.into_parts();
                 Ok(Workload {
                     cpus,
                     ms,
@@ -92,6 +120,7 @@ pub fn read_known_keys(alloc: Global, file: Section<'_>) -> Result<Workload, Loa
                     group_names,
                     homes,
                     task_names,
+                    own_weights,
                     timings,
                     changes,
                 })

@@ -3,15 +3,16 @@ ghost use Rattle.std.specs.Prelude.{◌≡◌, ℕ, ◌+◌, ◌<◌, ◌≤◌,
 ghost use Rattle.toml.specs.View.{view, table_view, items_view};
 ghost use Rattle.scx_load_files.specs.declared.fault.LoadError.TheVariants.{NoMemory};
 ghost use Rattle.scx_load_files.specs.Faults.{Gives};
-ghost use Rattle.scx_load_workloads.specs.Workload.{IsTiming, timing_at};
-ghost use Rattle.scx_load_workloads.specs.Reading.{timing_in, fold_from};
+ghost use Rattle.scx_load_workloads.specs.Workload.{IsOwnWeight, own_weight_at, IsTiming, timing_at};
+ghost use Rattle.scx_load_workloads.specs.Reading.{own_weight_in, timing_in, fold_from};
 ghost use Rattle.scx_load_workloads.specs.Kept.{texts};
 
 use crate::elements::{integer_or, some_elements};
-use crate::groups::{Groups, new_name};
+use crate::groups::{Groups, WEIGHT, new_name};
 use crate::workload::{MAX_MS, Timing};
+use scx_isa_semantics::Rules;
 use scx_load_files::{Limits, LoadError, Section, element_path};
-use scx_weights::MAX_TASKS;
+use scx_weights::{DEFAULT_OWN_WEIGHT, MAX_TASKS};
 use std::alloc::Global;
 use std::marker::Model;
 use toml::Value;
@@ -27,6 +28,7 @@ pub(crate) const TIME: Limits = Limits {
 pub struct Tasks {
     pub(crate) names: Vec<String>,
     pub(crate) homes: Vec<u32>,
+    pub(crate) own_weights: Vec<u32>,
     pub(crate) timings: Vec<Timing>,
 }
 
@@ -44,21 +46,22 @@ impl Model for Tasks {
 impl Tasks {
     ghost use Rattle.scx_load_workloads.specs.Reading.{no_tasks, tasks_in, task_at, with_task};
 
-    /// The tasks of a file.
+    /// The tasks of a file, for a policy by those rules.
     pub(crate) fn read(
         alloc: Global,
         file: Section<'_>,
+        rules: Rules,
         groups: &Groups,
     ) -> Result<Tasks, LoadError>
         requires { file.path.now ≡ [] }
         ensures tasks { Gives (λ t. t) result
-            (tasks_in groups.now (table_view file.entry.table.now)) }
+            (tasks_in rules groups.now (table_view file.entry.table.now)) }
         ensures some { IfOk result (λ t. 1 ≤ length t.homes) }
         ensures few { IfOk result (λ t. length t.homes ≤ 1024) }
     {
         let values = some_elements(alloc, file, "task", MAX_TASKS)?;
         let mut tasks = Tasks::none(alloc);
-        match tasks.push_all(alloc, values, groups) {
+        match tasks.push_all(alloc, values, rules, groups) {
             Ok(()) => Ok(tasks),
             Err(error) => {
                 drop(tasks);
@@ -73,15 +76,16 @@ impl Tasks {
         &mut self,
         alloc: Global,
         values: &[Value],
+        rules: Rules,
         groups: &Groups,
     ) -> Result<(), LoadError>
         requires { self.old ≡ no_tasks }
         ensures tasks { Gives (λ _. self.new) result
-            (fold_from (task_at groups.now) no_tasks 0 (items_view values.now)) }
+            (fold_from (task_at rules groups.now) no_tasks 0 (items_view values.now)) }
         ensures count { OnOk result (length self.new.homes ≡ length values.now) }
     {
         for (number, value) in values.iter().enumerate() {
-            self.push_element(alloc, groups, number, value)?;
+            self.push_element(alloc, rules, groups, number, value)?;
         }
         Ok(())
     }
@@ -92,6 +96,7 @@ impl Tasks {
         Tasks {
             names: Vec::new(alloc),
             homes: Vec::new(alloc),
+            own_weights: Vec::new(alloc),
             timings: Vec::new(alloc),
         }
     }
@@ -100,51 +105,57 @@ impl Tasks {
     fn push_element(
         &mut self,
         alloc: Global,
+        rules: Rules,
         groups: &Groups,
         number: usize,
         value: &Value,
     ) -> Result<(), LoadError>
         ensures tasks { Gives (λ _. self.new) result
-            (task_at groups.now self.old number (view value.now)) }
+            (task_at rules groups.now self.old number (view value.now)) }
         ensures count { OnOk result (length self.new.homes ≡ length self.old.homes + 1) }
     {
         let path = element_path(alloc, "task", number)?;
         let section = Section::of(alloc, &path, value)?;
-        self.push_section(alloc, groups, section)
+        self.push_section(alloc, rules, groups, section)
     }
 
     fn push_section(
         &mut self,
         alloc: Global,
+        rules: Rules,
         groups: &Groups,
         section: Section<'_>,
     ) -> Result<(), LoadError>
         ensures tasks { Gives (λ _. self.new) result
-            (with_task groups.now self.old section.entry.path.now
+            (with_task rules groups.now self.old section.entry.path.now
             (table_view section.entry.table.now)) }
         ensures count { OnOk result (length self.new.homes ≡ length self.old.homes + 1) }
     {
         let name = new_name(alloc, &self.names, section)?;
         let home = groups.leaf(alloc, section)?;
+        let weight = read_own_weight(alloc, section, rules)?;
         let timing = read_timing(alloc, section)?;
-        self.push(alloc, name, home, timing)
+        self.push(alloc, name, home, weight, timing)
     }
 
-    #[tactic(auto, using(crate::proofs::Values::timings_more))]
+    #[tactic(auto, using(crate::proofs::Values::timings_more, crate::proofs::Values::weights_more))]
     fn push(
         &mut self,
         alloc: Global,
         name: &str,
         home: u32,
+        weight: u32,
         timing: Timing,
     ) -> Result<(), LoadError>
-        requires { IsTiming timing }
+        requires weight { IsOwnWeight weight }
+        requires timing { IsTiming timing }
         ensures tasks { OnOk result
             (self.new
             ≡ (record {
               names = self.old.names ++ name.now ∷ [];
               homes = self.old.homes ++ home
                   ∷ [];
+              own_weights = self.old.own_weights ++ weight ∷ [];
               timings = self.old.timings ++ timing ∷ [];
             })) }
         ensures memory { IfErr result (λ e. e ≡ NoMemory) }
@@ -152,22 +163,40 @@ impl Tasks {
         let name = String::from_str(alloc, name)?;
         self.names.reserve(1)?;
         self.homes.reserve(1)?;
+        self.own_weights.reserve(1)?;
         self.timings.reserve(1)?;
         self.names.push_reserved(name);
         self.homes.push_reserved(home);
+        self.own_weights.push_reserved(weight);
         self.timings.push_reserved(timing);
         Ok(())
     }
 
-    pub(crate) fn into_parts(self) -> (Vec<u32>, Vec<String>, Vec<Timing>)
+    pub(crate) fn into_parts(self) -> (Vec<u32>, Vec<String>, Vec<u32>, Vec<Timing>)
         ensures homes { result.0.items ≡ self.homes }
         ensures names { texts result.1.items ≡ self.names }
-        ensures timings { result.2.items ≡ self.timings }
+        ensures own_weights { result.2.items ≡ self.own_weights }
+        ensures timings { result.3.items ≡ self.timings }
         ensures named { length self.names ≡ length self.homes }
+        ensures weighed { length self.own_weights ≡ length self.homes }
         ensures timed { length self.timings ≡ length self.homes }
+        ensures weights { (t : ℕ)
+            → t < length self.own_weights → IsOwnWeight (own_weight_at self.own_weights t) }
         ensures times { (t : ℕ) → t < length self.timings → IsTiming (timing_at self.timings t) }
     {
-        (self.homes, self.names, self.timings)
+        (self.homes, self.names, self.own_weights, self.timings)
+    }
+}
+
+/// The weight of a task itself. Under plain rules no key says it.
+fn read_own_weight(alloc: Global, section: Section<'_>, rules: Rules) -> Result<u32, LoadError>
+    ensures weight { Gives (λ w. w) result
+        (own_weight_in rules section.entry.path.now (table_view section.entry.table.now)) }
+    ensures valid { IfOk result IsOwnWeight }
+{
+    match rules {
+        Rules::Plain => Ok(DEFAULT_OWN_WEIGHT),
+        Rules::Linux => integer_or(alloc, section, "weight", WEIGHT, DEFAULT_OWN_WEIGHT),
     }
 }
 

@@ -1,8 +1,9 @@
-ghost use Rattle.std.specs.Prelude.{◌≡◌, ◌<◌, length, slice_index_or, []};
+ghost use Rattle.std.specs.Prelude.{◌≡◌, ◌<◌, length, slice_index_or, [], IfOk};
 ghost use Rattle.scx_load_workloads.specs.Reading.{index_of};
 
 use crate::elements::index_of;
-use scx_weights::Group;
+use scx_weights::{Group, Tree};
+use std::alloc::{AllocError, Global};
 use std::marker::Model;
 
 /// The most CPUs of a workload; the least is 1.
@@ -33,7 +34,7 @@ pub struct Change {
     pub weight: u32,
 }
 
-/// Groups, tasks in them, the times of the tasks, and changes of weights.
+/// Groups, tasks in them, the weights and times of the tasks, and changes of weights of groups.
 ///
 /// Groups and tasks go by their numbers in the file. In a contract a workload is its lists: names are
 /// lists of bytes.
@@ -45,6 +46,7 @@ pub struct Workload {
     pub(crate) group_names: Vec<String>,
     pub(crate) homes: Vec<u32>,
     pub(crate) task_names: Vec<String>,
+    pub(crate) own_weights: Vec<u32>,
     pub(crate) timings: Vec<Timing>,
     pub(crate) changes: Vec<Change>,
 }
@@ -61,7 +63,7 @@ impl Model for Workload {
 }
 
 impl Workload {
-    ghost use Rattle.scx_load_workloads.specs.Workload.{IsWorkload};
+    ghost use Rattle.scx_load_workloads.specs.Workload.{IsWorkload, first_tree};
 
     /// Every workload is whole. The function does nothing: its contract is the law.
     pub fn is_whole(&self)
@@ -100,6 +102,13 @@ impl Workload {
         &self.homes
     }
 
+    /// The weight of each task itself, 1 to 10000.
+    pub fn own_weights(&self) -> &[u32]
+        ensures { result.now ≡ self.now.own_weights }
+    {
+        &self.own_weights
+    }
+
     /// The times of each task.
     pub fn timings(&self) -> &[Timing]
         ensures { result.now ≡ self.now.timings }
@@ -112,6 +121,20 @@ impl Workload {
         ensures { result.now ≡ self.now.changes }
     {
         &self.changes
+    }
+
+    /// The tree of its groups and tasks, each task with its own weight; no task is active.
+    pub fn tree(&self, alloc: Global) -> Result<Tree, AllocError>
+        ensures { IfOk result (λ tree. tree ≡ first_tree self.now) }
+    {
+        let mut tree = match Tree::new(alloc, &self.groups, &self.homes) {
+            Ok(tree) => tree,
+            Err(_) => return Err(AllocError),
+        };
+        match tree.set_own_weights(&self.own_weights) {
+            Ok(()) => Ok(tree),
+            Err(_) => unreachable!(),
+        }
     }
 
     /// The number of the group of that name, if there is one.

@@ -2,9 +2,8 @@ use Rattle.std.proofs.Common.{rules, ◌≡◌, ◌+◌, false, not, length, sym
 use Rattle.scx_sched_machine.specs.declared.events.Event.TheVariants.{Sleep}
 use Rattle.scx_load_workloads.specs.Workload.{timing_at}
 use Rattle.scx_load_driver.specs.Blocks.{events_below, set_below}
-use Rattle.scx_load_driver.specs.Watch.{is_seen}
-use Rattle.scx_load_driver.specs.Calendar.{IsWhole, AreNoted, with_task}
-use Rattle.scx_load_driver.proofs.Days.{whole_with, noted_set}
+use Rattle.scx_load_driver.specs.Watch.{is_seen, is_seen_off}
+use Rattle.scx_load_driver.specs.Calendar.{IsWhole, AreNoted}
 use Rattle.scx_load_driver.proofs.Quiet.{unwatched_all}
 use Rattle.scx_load_driver.proofs.Sleeping.{AreAsleep, none_asleep, asleep_to, one_more, one_less}
 use Rattle.scx_load_driver.proofs.blocks.find_sleeps.Goals.{then-has_run_enough, else-has_run_enough}
@@ -34,14 +33,13 @@ loop-task-preserved c =
     let k = c.loop-task.task in
     let w = c.args.sim.now.state.world in
     let inv = c.loop-task.invariant in
-    let back = c.args.now + 1 + (timing_at c.args.timings.now k).sleep in
     let watched = inv.there (omega (arith, c.loop-task-test.true)) in
     let next = c.next-task-in-loop-task.ensures.next in
     let one : AreAsleep c.args.timings.now c.args.ran.now c.args.watched.now w c.args.now c.args.due.now (k + 1) c.if-has_run_enough.events.items c.if-has_run_enough.due c.if-has_run_enough.watched c.if-has_run_enough.some =
     elim c.if-has_run_enough.branch [
       | then-has_run_enough x ↦
           one_more c.args.timings.now c.args.ran.now c.args.watched.now w c.args.now c.args.due.now k _ _ _ _ inv.asleep _ _ _ _ watched
-          (sym c.has_run_enough.ensures ∙ x.if-has_run_enough.true) (search rules) x.due-is x.watched-is x.some-is
+          (sym c.has_run_enough.ensures ∙ x.if-has_run_enough.true) (search rules) (x.due-is ∙ x.send_to_sleep.ensures.due) x.watched-is x.some-is
       | else-has_run_enough x ↦
           one_less c.args.timings.now c.args.ran.now c.args.watched.now w c.args.now c.args.due.now k _ _ _ _ inv.asleep _ _ _ _ watched
           (sym c.has_run_enough.ensures ∙ x.if-has_run_enough.false) (search rules) x.due-is (x.watched-is ∙ x.remove.ensures) x.some-is
@@ -61,14 +59,13 @@ loop-task-preserved c =
         | else-has_run_enough x ↦ (search rules)
       ];
       whole = elim c.if-has_run_enough.branch [
-        | then-has_run_enough x ↦ subst IsWhole (sym (x.calendar-is ∙ x.insert.ensures)) (whole_with c.loop-task.calendar k back inv.whole)
+        | then-has_run_enough x ↦ subst IsWhole (sym x.calendar-is) x.send_to_sleep.ensures.whole
         | else-has_run_enough x ↦ subst IsWhole (sym x.calendar-is) inv.whole
       ];
       noted = elim c.if-has_run_enough.branch [
         | then-has_run_enough x ↦
-            subst (λ q. AreNoted c.if-has_run_enough.due (c.args.now + 1) q) (sym (x.calendar-is ∙ x.insert.ensures))
-            (subst (λ ds. AreNoted ds (c.args.now + 1) (with_task c.loop-task.calendar k back)) (sym x.due-is)
-            (noted_set c.loop-task.due k back (c.args.now + 1) c.loop-task.calendar (omega (arith, c.loop-task-test.true, c.requires.few)) inv.whole inv.noted))
+            subst (λ q. AreNoted c.if-has_run_enough.due (c.args.now + 1) q) (sym x.calendar-is)
+            (subst (λ ds. AreNoted ds (c.args.now + 1) x.send_to_sleep.new.calendar) (sym x.due-is) x.send_to_sleep.ensures.noted)
         | else-has_run_enough x ↦
             subst (λ q. AreNoted c.if-has_run_enough.due (c.args.now + 1) q) (sym x.calendar-is)
             (subst (λ ds. AreNoted ds (c.args.now + 1) c.loop-task.calendar) (sym x.due-is) inv.noted)
@@ -89,8 +86,8 @@ returns c =
     let inv = c.loop-task.invariant in
     let end : c.loop-task.task ≡ length c.args.timings.now = omega (arith, inv.within, c.loop-task-test.false) in
     record {
-      events = inv.asleep.events ∙ ap (λ n. events_below n (is_seen c.args.timings.now c.args.ran.now c.args.watched.now w) Sleep) end;
-      due = inv.asleep.due ∙ ap (λ n. set_below n (is_seen c.args.timings.now c.args.ran.now c.args.watched.now w) (λ t. c.args.now + 1 + (timing_at c.args.timings.now t).sleep) c.args.due.now) end;
+      events = inv.asleep.events ∙ ap (λ n. events_below n (is_seen_off c.args.timings.now c.args.ran.now c.args.watched.now w) Sleep) end;
+      due = inv.asleep.due ∙ ap (λ n. set_below n (is_seen_off c.args.timings.now c.args.ran.now c.args.watched.now w) (λ t. c.args.now + 1 + (timing_at c.args.timings.now t).sleep) c.args.due.now) end;
       watched = inv.asleep.watched ∙ ap (λ n. set_below n (λ t. not (is_seen c.args.timings.now c.args.ran.now c.args.watched.now w t)) (λ t. false) c.args.watched.now) end;
       even = inv.even;
       even_watched = inv.even_watched;

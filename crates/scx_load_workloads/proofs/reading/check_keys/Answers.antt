@@ -1,6 +1,6 @@
 use Rattle.std.proofs.Common.{◌≡◌, [], None, codes}
 use Rattle.toml.specs.View.{table_view}
-use Rattle.scx_load_files.specs.Unknown.{least_path, least_with, unknown, unknown_in_each}
+use Rattle.scx_load_files.specs.Unknown.{words, least_path, least_with, unknown, unknown_in_each}
 use Rattle.scx_load_files.proofs.Least.{four_looks}
 use Rattle.scx_load_workloads.specs.Reading.{file_keys, group_keys, task_keys, change_keys}
 use Rattle.scx_load_workloads.proofs.reading.check_keys.Goals as goal
@@ -10,7 +10,8 @@ returns c =
     let ms = table_view c.args.file.table.now in
     let first : least_path c.in_ok-in_section.field-0 ≡ least_with None (unknown file_keys [] ms) = rw (c.none.ensures, c.requires) at c.in_ok-in_section.ensures in
     let second : least_path c.in_ok-below_each.field-0 ≡ least_with (least_path c.in_ok-in_section.field-0) (unknown_in_each group_keys [] (codes "group") ms) = rw c.requires at c.in_ok-below_each.ensures in
-    let third : least_path c.in_ok-below_each-2.field-0 ≡ least_with (least_path c.in_ok-below_each.field-0) (unknown_in_each task_keys [] (codes "task") ms) = rw c.requires at c.in_ok-below_each-2.ensures in
+    let keys : words c.task_keys.result.now ≡ task_keys c.args.rules = c.task_keys.ensures in
+    let third : least_path c.in_ok-below_each-2.field-0 ≡ least_with (least_path c.in_ok-below_each.field-0) (unknown_in_each (task_keys c.args.rules) [] (codes "task") ms) = rw (c.requires, keys) at c.in_ok-below_each-2.ensures in
     let fourth : least_path c.in_ok-unknown.unknown ≡ least_with (least_path c.in_ok-below_each-2.field-0) (unknown_in_each change_keys [] (codes "change") ms) = rw c.requires at c.in_ok-unknown.ensures in
     let all = rw (third, second, first) at fourth in
-    rw (all, four_looks (unknown file_keys [] ms) (unknown_in_each group_keys [] (codes "group") ms) (unknown_in_each task_keys [] (codes "task") ms) (unknown_in_each change_keys [] (codes "change") ms)) at c.refuse.ensures
+    rw (all, four_looks (unknown file_keys [] ms) (unknown_in_each group_keys [] (codes "group") ms) (unknown_in_each (task_keys c.args.rules) [] (codes "task") ms) (unknown_in_each change_keys [] (codes "change") ms)) at c.refuse.ensures

@@ -1,0 +1,37 @@
+use Rattle.std.proofs.Common.{◌≡◌, ℕ, ◌<◌, List, length, sym, ap, ◌∙◌, subst}
+use Rattle.toml.specs.View.{table_view}
+use Rattle.scx_weights.specs.declared.group.Group.{Group}
+use Rattle.scx_weights.specs.Refusals.{first_fault}
+use Rattle.scx_load_workloads.specs.declared.workload.Timing.{Timing}
+use Rattle.scx_load_workloads.specs.Workload.{IsTiming, IsChange, timing_at, change_at}
+use Rattle.scx_load_workloads.proofs.Forest.{tree_is_right}
+use Rattle.scx_load_workloads.proofs.OwnWeights.{AreOwn}
+use Rattle.scx_load_workloads.proofs.reading.read_known_keys_by.Goals as goal
+
+pub invariant_of-result : goal.invariant_of-result
+invariant_of-result c =
+    let ms = table_view c.args.file.table.now in
+    let groups = c.into_parts-groups.ensures in
+    let tasks = c.into_parts-homes.ensures in
+    let read = c.in-Ok.ensures {u = tt} in
+    let changes = c.in-Ok-read_changes.ensures {u = tt} in
+    record {
+      some_cpus = c.in_ok-cpus.ensures.least;
+      few_cpus = c.in_ok-cpus.ensures.most;
+      some_ms = c.in_ok-ms.ensures.least;
+      few_ms = c.in_ok-ms.ensures.most;
+      tree =
+          ap (λ (gs : List Group). first_fault gs c.into_parts-homes.result.0.items) groups.groups
+          ∙ ap (λ (hs : List ℕ). first_fault c.in_ok-groups.groups.groups hs) tasks.homes
+          ∙ tree_is_right c.args.rules ms c.in_ok-groups.groups c.in-Ok.tasks c.in_ok-groups.ensures read.tasks;
+      some_tasks = rw tasks.homes read.some;
+      few_tasks = rw tasks.homes read.few;
+      named_groups = rw (groups.names, groups.groups) groups.even;
+      named_tasks = rw (tasks.names, tasks.homes) tasks.named;
+      weighed = rw (tasks.own_weights, tasks.homes) tasks.weighed;
+      timed = rw (tasks.timings, tasks.homes) tasks.timed;
+      few_changes = changes.few;
+      own_weights = subst AreOwn (sym tasks.own_weights) tasks.weights;
+      timings = subst (λ (xs : List Timing). (t : ℕ) → t < length xs → IsTiming (timing_at xs t)) (sym tasks.timings) tasks.times;
+      changes = subst (λ (gs : List Group). (i : ℕ) → i < length c.in-Ok-read_changes.changes.items → IsChange (length gs) (change_at c.in-Ok-read_changes.changes.items i)) (sym groups.groups) changes.valid;
+    }

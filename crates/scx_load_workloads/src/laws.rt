@@ -1,0 +1,7 @@
+ghost use Rattle.scx_load_workloads.specs.Laws.{PlainTasksWeighAlike};
+
+/// Under plain rules no file gives a task a weight of its own. The function does nothing: its contract is the law.
+#[tactic(auto, using(crate::proofs::Plainly::plain_tasks_weigh_alike))]
+pub fn plain_tasks_weigh_alike()
+    ensures { PlainTasksWeighAlike }
+{}
