@@ -94,7 +94,7 @@ impl Search {
 
     fn sleep_choice(&self, memory: Memory, task: u16, ran: &Ticks) -> Choice {
         match self.bounds.mode {
-            Mode::Workloads => memory.sleep_choice(task, ran.of(task)),
+            Mode::Workloads => memory.sleep_choice(task, ran),
             Mode::Events | Mode::Milliseconds => Choice::May,
         }
     }
@@ -113,6 +113,7 @@ impl Search {
         let Some(part) = self.try_until_sleeps(state, machine, wakes, &mut ran) else {
             return machine;
         };
+        ran.end(self.machines.sim(machine));
         memory.use_up(wakes);
         if self.bounds.mode == Mode::Workloads {
             memory.wake(wakes);

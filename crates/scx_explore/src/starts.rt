@@ -22,7 +22,7 @@ pub struct Starts {
 /// Memory runs out.
 pub fn starts_of(alloc: Global, policy: &str, workload: &Workload) -> Result<Starts, AllocError> {
     let policy = policy_of(alloc, policy)?;
-    match Tree::new(alloc, workload.groups(), workload.tasks()) {
+    match workload.tree(alloc) {
         Ok(tree) => starts_with(alloc, policy, tree, workload),
         Err(_) => {
             drop(policy);

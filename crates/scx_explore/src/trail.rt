@@ -1,5 +1,5 @@
 use crate::search::{Search, Stop};
-use scx_explore_bounds::{Memory, Mode, Ticks, event_at, places};
+use scx_explore_bounds::{Memory, Mode, Ticks, event_at, is_behind_ticks, places};
 use scx_explore_machines::push;
 use scx_explore_states::{Step, Tasks};
 use scx_sched::Event;
@@ -80,6 +80,9 @@ impl Search {
             .watch
             .begin(self.machines.sim(machine), memory.began);
         for place in 0..places(step, cpus) {
+            if is_behind_ticks(place, cpus) {
+                ran.end(self.machines.sim(machine));
+            }
             if let Some(event) = event_at(step, cpus, place) {
                 self.follow_event(machine, event, &mut ran);
             }

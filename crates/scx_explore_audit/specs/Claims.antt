@@ -82,8 +82,8 @@ ShowsNoneAtFirst sorts s (e ∷ es) =
     → AreFree sorts (after_event s e) e
     × ((after_event s e).state.world.ejected ≡ None → ShowsNoneAtFirst sorts (after_event s e) es)
 
--- as long as the policy stays in force, no event of the list shows anything of these sorts; one that
--- is refused shows nothing and changes nothing, and the list goes on
+-- as long as the policy stays in force, no event of the list shows anything of these sorts; one
+-- that is refused shows nothing and changes nothing, and the list goes on
 abbrev pub ShowsNone : List Sort → SimState → List Event → Type 0
 ShowsNone sorts s [] = ⊤
 ShowsNone sorts s (e ∷ es) =

@@ -25,8 +25,8 @@ ClosedTablesCover =
     → IsClosed c root room
     → NoneIn c.moves c.limit c.sorts root
 
--- A list shows nothing if the list of its events that are accepted doesn't, and the other way round.
--- And then it shows nothing as far as its events are accepted.
+-- A list shows nothing if the list of its events that are accepted doesn't, and the other way
+-- round. And then it shows nothing as far as its events are accepted.
 pub record ShowsAsAccepted (sorts : List Sort) (s : SimState) (es : List Event) : Type 0 where
   pub there : ShowsNone sorts s (accepted_of s es) → ShowsNone sorts s es
   pub back : ShowsNone sorts s es → ShowsNone sorts s (accepted_of s es)

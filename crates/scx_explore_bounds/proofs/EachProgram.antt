@@ -2,24 +2,25 @@
 use Rattle.std.proofs.Common.{◌≡◌, ℕ, zero, suc, ◌+◌, ◌<◌, List, [], ◌∷◌, length, take, get_or, refl, subst, arith}
 use Rattle.scx_isa_semantics.specs.declared.callbacks.Callback.{Callback}
 use Rattle.scx_isa_semantics.specs.Callbacks.{at}
+use Rattle.scx_isa_semantics.specs.declared.rules.Rules.{Rules}
 use Rattle.scx_maps.specs.declared.shape.Shape.{Shape}
 use Rattle.scx_load_policies.specs.Policies.{Programs}
 use Rattle.scx_explore_bounds.specs.declared.uses.Uses.{Uses}
 use Rattle.scx_explore_bounds.specs.Forms.{DoAll, DoesAs}
 
 -- nothing is done by none
-pub none_do : (shapes : List Shape) (p : Programs) (u : Uses) → DoAll shapes p [] u u
-none_do shapes p u = refl
+pub none_do : (r : Rules) (shapes : List Shape) (p : Programs) (u : Uses) → DoAll r shapes p [] u u
+none_do r shapes p u = refl
 
-then_one : (shapes : List Shape) (p : Programs) (bs : List Callback) (k : ℕ) (b : Callback) (u v w : Uses) → k < length bs
-    → DoAll shapes p (take k bs) u v → DoesAs shapes (get_or bs k b) (at p (get_or bs k b)) v w → DoAll shapes p (take (suc k) bs) u w
-then_one shapes p [] k b u v w l so_far one = absurd (omega (arith, l))
-then_one shapes p (a ∷ bs) zero b u v w l so_far one = (w, subst (λ (x : Uses). DoesAs shapes a (at p a) x w) so_far one, refl)
-then_one shapes p (a ∷ bs) (suc k) b u v w l (x, first, rest) one = (x, first, then_one shapes p bs k b x v w (omega (arith, l)) rest one)
+then_one : (r : Rules) (shapes : List Shape) (p : Programs) (bs : List Callback) (k : ℕ) (b : Callback) (u v w : Uses) → k < length bs
+    → DoAll r shapes p (take k bs) u v → DoesAs r shapes (get_or bs k b) (at p (get_or bs k b)) v w → DoAll r shapes p (take (suc k) bs) u w
+then_one r shapes p [] k b u v w l so_far one = absurd (omega (arith, l))
+then_one r shapes p (a ∷ bs) zero b u v w l so_far one = (w, subst (λ (x : Uses). DoesAs r shapes a (at p a) x w) so_far one, refl)
+then_one r shapes p (a ∷ bs) (suc k) b u v w l (x, first, rest) one = (x, first, then_one r shapes p bs k b x v w (omega (arith, l)) rest one)
 
 -- one more after the first so many
-pub one_more : (shapes : List Shape) (p : Programs) (bs : List Callback) (k : ℕ) (b : Callback) (u v w : Uses) → k < length bs
-    → DoAll shapes p (take k bs) u v → DoesAs shapes (get_or bs k b) (at p (get_or bs k b)) v w → DoAll shapes p (take (k + 1) bs) u w
-one_more shapes p bs k b u v w l so_far one =
+pub one_more : (r : Rules) (shapes : List Shape) (p : Programs) (bs : List Callback) (k : ℕ) (b : Callback) (u v w : Uses) → k < length bs
+    → DoAll r shapes p (take k bs) u v → DoesAs r shapes (get_or bs k b) (at p (get_or bs k b)) v w → DoAll r shapes p (take (k + 1) bs) u w
+one_more r shapes p bs k b u v w l so_far one =
     let next : suc k ≡ k + 1 = omega arith in
-    subst (λ (n : ℕ). DoAll shapes p (take n bs) u w) next (then_one shapes p bs k b u v w l so_far one)
+    subst (λ (n : ℕ). DoAll r shapes p (take n bs) u w) next (then_one r shapes p bs k b u v w l so_far one)

@@ -2,9 +2,10 @@
 use Rattle.std.specs.Prelude.{◌≡◌, ℕ, nat_lt, Bool, true, false, ◌&&◌, ◌||◌, List, [], ◌∷◌, Option, Some, None, Ok}
 use Rattle.scx_isa_semantics.specs.Code.{Code}
 use Rattle.scx_isa_semantics.specs.declared.callbacks.Callback.{Callback}
+use Rattle.scx_isa_semantics.specs.declared.rules.Rules.{Rules}
 use Rattle.scx_isa_semantics.specs.Callbacks.{at, callbacks}
 use Rattle.scx_maps.specs.declared.shape.Shape.{Shape}
-use Rattle.scx_vm.specs.Programs.{context}
+use Rattle.scx_vm.specs.Programs.{context, by_rules}
 use Rattle.scx_load_policies.specs.Policies.{PolicyFile, Programs}
 use Rattle.scx_load_policies.specs.Reading.{policy_text}
 use Rattle.scx_explore_states.specs.declared.form.Form.{Form}
@@ -36,9 +37,9 @@ form_of u waits = record {
 }
 
 -- that form, where tasks of a group may change places unless a program tells them apart: loads the
--- number of a task or asks for a task by it
+-- number of a task or a weight of its own, or asks for a task by its number
 abbrev pub without_names : Form → Uses → Form
-without_names f u = record f { names = u.pid || u.task_by_pid }
+without_names f u = record f { names = u.pid || (u.task_by_pid || u.own_weight) }
 
 -- ---- under a policy
 
@@ -50,6 +51,7 @@ no_uses = record {
   vtime_inserts = false;
   pid = false;
   weight = false;
+  own_weight = false;
   vtime = false;
   run_ns = false;
   slice = false;
@@ -57,15 +59,16 @@ no_uses = record {
   empty_slice = false;
 }
 
--- the second are the first with what the program of the callback does, if it has one
-abbrev pub DoesAs : List Shape → Callback → Option Code → Uses → Uses → Type 0
-DoesAs shapes b None u v = v ≡ u
-DoesAs shapes b (Some code) u v = Does u (context b shapes) code v
+-- the second are the first with what the program of the callback does by these rules, if it has one
+abbrev pub DoesAs : Rules → List Shape → Callback → Option Code → Uses → Uses → Type 0
+DoesAs r shapes b None u v = v ≡ u
+DoesAs r shapes b (Some code) u v = Does u (by_rules r (context b shapes)) code v
 
 -- the second are the first with what the programs of these callbacks do, one after another
-abbrev pub DoAll : List Shape → Programs → List Callback → Uses → Uses → Type 0
-DoAll shapes p [] u v = v ≡ u
-DoAll shapes p (b ∷ bs) u v = (w : Uses) × DoesAs shapes b (at p b) u w × DoAll shapes p bs w v
+abbrev pub DoAll : Rules → List Shape → Programs → List Callback → Uses → Uses → Type 0
+DoAll r shapes p [] u v = v ≡ u
+DoAll r shapes p (b ∷ bs) u v =
+    (w : Uses) × DoesAs r shapes b (at p b) u w × DoAll r shapes p bs w v
 
 -- What is kept in lists of that mode and depth, where tasks wait so long at most and programs do
 -- that: in lists of events waits only where one may be too long, and tasks of a group may change
@@ -78,7 +81,7 @@ form_within Workloads depth timeout_ms u = form_of u true
 -- what is kept in lists within the bounds, under the policy of a file
 pub record IsFormIn (file : PolicyFile) (b : Bounds) (f : Form) : Type 0 where
   pub uses : Uses
-  pub done : DoAll file.shapes file.programs callbacks no_uses uses
+  pub done : DoAll file.rules file.shapes file.programs callbacks no_uses uses
   pub form : f ≡ form_within b.mode b.depth file.timeout_ms uses
 
 -- what is kept in lists within the bounds, under the policy of a text

@@ -8,6 +8,8 @@ use Rattle.scx_isa_semantics.specs.declared.host_tables.Helper.{Helper}
 use Rattle.scx_isa_semantics.specs.declared.host_tables.Helper.TheVariants as helper
 use Rattle.scx_isa_semantics.specs.declared.instructions.Insn.{Insn}
 use Rattle.scx_isa_semantics.specs.declared.instructions.Insn.TheVariants.{Call, Load}
+use Rattle.scx_isa_semantics.specs.declared.rules.Rules.{Rules}
+use Rattle.scx_isa_semantics.specs.declared.rules.Rules.TheVariants.{Plain, Linux}
 use Rattle.scx_isa_semantics.specs.Arithmetic.{at_distance}
 use Rattle.scx_isa_semantics.specs.Code.{Code, at}
 use Rattle.scx_isa_semantics.specs.HostTables.{field_at, field_offset, helper_at, helper_number}
@@ -98,14 +100,21 @@ is_early callback.Running b = false
 is_early callback.Stopping b = false
 is_early c b = b
 
--- what the program of a listing does as a callback, beside what others do
-abbrev pub with_listing : Uses → Callback → Listing → Uses
-with_listing u c l = record {
+-- there is a load of a weight that is the task's own, as Linux rules tell it; plain rules tell that
+-- of a task by its groups, which is the same for all tasks of a group
+abbrev pub is_own : Rules → Bool → Bool
+is_own Plain b = false
+is_own Linux b = b
+
+-- what the program of a listing does as a callback, by these rules, beside what others do
+abbrev pub with_listing : Uses → Callback → Rules → Listing → Uses
+with_listing u c r l = record {
   clock = either u.clock (has l (such.Call helper.KtimeGetNs));
   task_by_pid = either u.task_by_pid (has l (such.Call helper.TaskByPid));
   vtime_inserts = either u.vtime_inserts (has l (such.Call helper.DsqInsertVtime));
   pid = either u.pid (has l (such.Load field.Pid));
   weight = either u.weight (has l (such.Load field.Weight));
+  own_weight = either u.own_weight (is_own r (has l (such.Load field.Weight)));
   vtime = either u.vtime (has l (such.Load field.DsqVtime));
   run_ns = either u.run_ns (has l (such.Load field.RunNs));
   slice = either u.slice (has l (such.Load field.Slice));
@@ -117,4 +126,4 @@ with_listing u c l = record {
 pub record Does (u : Uses) (c : Context) (code : Code) (v : Uses) : Type 0 where
   pub listing : Listing
   pub known : IsListing c code listing
-  pub uses : v ≡ with_listing u c.callback listing
+  pub uses : v ≡ with_listing u c.callback c.rules listing

@@ -5,9 +5,10 @@ ghost use Rattle.scx_explore_bounds.specs.Forms.{DoAll, DoesAs, IsFormIn, IsForm
 use crate::bounds::{Bounds, Mode};
 use crate::uses::Uses;
 use scx_explore_states::Form;
-use scx_isa::{CALLBACKS, Callback, Program};
+use scx_isa::{CALLBACKS, Callback, Program, Rules};
 use scx_load_policies::{PolicyText, Programs, read_policy};
 use scx_maps::MapDefs;
+use scx_vm::Context;
 use std::alloc::{AllocError, Global};
 
 /// The form of states in lists within the bounds, under the policy of a text that was read before.
@@ -46,21 +47,26 @@ fn form_in(alloc: Global, text: PolicyText, bounds: Bounds) -> Result<Form, Allo
 
 /// All that the policy's programs do.
 fn uses_of(alloc: Global, text: PolicyText) -> Result<Uses, AllocError>
-    ensures { IfOk result (DoAll text.shapes text.programs callbacks no_uses) }
+    ensures { IfOk result (DoAll text.rules text.shapes text.programs callbacks no_uses) }
 {
-    let defs = *text.defs();
+    let (rules, defs) = (text.rules(), *text.defs());
     let programs = text.into_programs();
-    let uses = uses_in(alloc, &programs, &defs);
+    let uses = uses_in(alloc, rules, &programs, &defs);
     drop(programs);
     uses
 }
 
-fn uses_in(alloc: Global, programs: &Programs, defs: &MapDefs) -> Result<Uses, AllocError>
-    ensures { IfOk result (DoAll defs.now programs.now callbacks no_uses) }
+fn uses_in(
+    alloc: Global,
+    rules: Rules,
+    programs: &Programs,
+    defs: &MapDefs,
+) -> Result<Uses, AllocError>
+    ensures { IfOk result (DoAll rules defs.now programs.now callbacks no_uses) }
 {
     let mut uses = Uses::NONE;
     for callback in CALLBACKS {
-        uses = with_callback(alloc, uses, programs.get(callback), callback, defs)?;
+        uses = with_callback(alloc, uses, programs.get(callback), rules, callback, defs)?;
     }
     Ok(uses)
 }
@@ -70,14 +76,16 @@ fn with_callback(
     alloc: Global,
     uses: Uses,
     program: Option<&Program>,
+    rules: Rules,
     callback: Callback,
     defs: &MapDefs,
 ) -> Result<Uses, AllocError>
     ensures { IfOk result
-        (DoesAs defs.now callback (option_map (λ p. p.now) program.entry) uses) }
+        (DoesAs rules defs.now callback (option_map (λ p. p.now) program.entry) uses) }
 {
+    let context = Context::new(callback, *defs).by_rules(rules);
     match program {
-        Some(program) => uses.with(alloc, program, callback, defs),
+        Some(program) => uses.with(alloc, program, context),
         None => Ok(uses),
     }
 }
@@ -116,14 +124,14 @@ fn form_by(uses: Uses, waits: bool) -> Form
 
 /// The form in which tasks of a group may change places, if no program tells them apart.
 ///
-/// A program does so if it loads the number of a task or asks for one by its number. Else the machine alone orders tasks
-/// by their numbers, as a policy is ejected, and in a state that is kept it is in force. So if two tasks of a group have
-/// changed places, what follows is the same with these two changed.
+/// A program does so if it loads the number of a task, or asks for one by its number, or loads the weight of a task where
+/// each has its own. Else the machine alone orders tasks by their numbers, as a policy is ejected, and in a state that is
+/// kept it is in force. So if two tasks of a group have changed places, what follows is the same with these two changed.
 fn without_names(form: Form, uses: Uses) -> Form
     ensures { result ≡ without_names form uses }
 {
     Form {
-        names: uses.pid || uses.task_by_pid,
+        names: uses.pid || (uses.task_by_pid || uses.own_weight),
         ..form
     }
 }

@@ -18,7 +18,7 @@ pub use bounds::{Bounds, Mode};
 pub use changes::{Changes, MOST_CHANGES};
 pub use forms::form_of;
 pub use memory::{Choice, Memory};
-pub use steps::{count_of, event_at, most_events, places};
+pub use steps::{count_of, event_at, is_behind_ticks, most_events, places};
 pub use ticks::Ticks;
 pub use twins::twins_of;
 pub use uses::Uses;

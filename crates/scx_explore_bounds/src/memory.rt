@@ -47,9 +47,15 @@ impl Plan {
 
     /// It doesn't, though it could.
     fn go_on(self, ran: u16) -> Plan {
+        let mut plan = self.run_on(ran);
+        plan.least = plan.least.max(plan.count);
+        plan
+    }
+
+    /// It doesn't, and couldn't.
+    fn run_on(self, ran: u16) -> Plan {
         let mut plan = self;
         plan.count = plan.count.saturating_add(ran);
-        plan.least = plan.least.max(plan.count);
         plan
     }
 
@@ -125,11 +131,11 @@ impl Memory {
         }
     }
 
-    /// Chooses if a runnable task that ran for `ran` ticks of this millisecond goes to sleep in it.
-    pub fn sleep_choice(&self, task: u16, ran: u16) -> Choice {
+    /// Chooses if a runnable task goes to sleep in this millisecond, in whose ticks tasks ran so.
+    pub fn sleep_choice(&self, task: u16, ran: &Ticks) -> Choice {
         let plan = self.plan(task);
-        let count = plan.count.saturating_add(ran);
-        if ran == 0 || count <= plan.least {
+        let count = plan.count.saturating_add(ran.of(task));
+        if !ran.may_sleep(task) || count <= plan.least {
             Choice::MayNot
         } else if count >= plan.most {
             Choice::Must
@@ -156,15 +162,14 @@ impl Memory {
     pub fn end(&mut self, sim: &Sim, sleeps: Tasks, ran: &Ticks) {
         for task in 0..MOST_TASKS as u16 {
             let plan = self.plan(task);
-            let ran = ran.of(task);
             let next = if sleeps.has(task) {
-                plan.fall_asleep(ran)
+                plan.fall_asleep(ran.of(task))
             } else if !sim.is_runnable(task) {
                 plan.sleep_on()
-            } else if ran > 0 {
-                plan.go_on(ran)
+            } else if ran.may_sleep(task) {
+                plan.go_on(ran.of(task))
             } else {
-                plan
+                plan.run_on(ran.of(task))
             };
             self.set(task, next);
         }

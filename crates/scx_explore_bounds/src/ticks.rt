@@ -1,15 +1,17 @@
-use scx_explore_states::MOST_TASKS;
+use scx_explore_states::{MOST_TASKS, Tasks};
 use scx_sched::{Event, Sim};
 
-/// For how many ticks of a millisecond each task ran.
+/// For how many ticks of a millisecond each task ran, and who may go to sleep once they are over.
 #[derive(Clone, Copy)]
 pub struct Ticks {
     ticks: [u16; MOST_TASKS],
+    sleepers: Tasks,
 }
 
 impl Ticks {
     pub const NONE: Ticks = Ticks {
         ticks: [0; MOST_TASKS],
+        sleepers: Tasks::NONE,
     };
 
     /// For how many the task ran.
@@ -32,4 +34,23 @@ impl Ticks {
             *ticks = ticks.saturating_add(1);
         }
     }
+
+    /// They are over, and sleeps come next.
+    pub fn end(&mut self, sim: &Sim) {
+        for task in 0..MOST_TASKS as u16 {
+            if may_sleep(sim, task) {
+                self.sleepers = self.sleepers.with(task);
+            }
+        }
+    }
+
+    /// True if a workload may send the task to sleep, if it is runnable.
+    pub fn may_sleep(&self, task: u16) -> bool {
+        self.sleepers.has(task)
+    }
+}
+
+/// True if the rules let a runnable task go to sleep where it is: under Linux rules one that runs alone does.
+fn may_sleep(sim: &Sim, task: u16) -> bool {
+    !sim.world().is_by_linux() || sim.world().cpu_of(task).is_some()
 }

@@ -1,10 +1,9 @@
 ghost use Rattle.std.specs.Prelude.{◌≡◌, option_copied, IfOk};
 ghost use Rattle.scx_explore_bounds.specs.Forms.{tells_idle_slices};
-ghost use Rattle.scx_explore_bounds.specs.Uses.{Does, either, gives_none, has, is_call, is_early, is_field, is_helper, is_insert, is_load, is_of_task, is_task, is_use, may_be_0, with_listing};
+ghost use Rattle.scx_explore_bounds.specs.Uses.{Does, either, gives_none, has, is_call, is_early, is_field, is_helper, is_insert, is_load, is_of_task, is_own, is_task, is_use, may_be_0, with_listing};
 
 use scx_abs::{AbsState, Kind};
-use scx_isa::{Callback, Field, Helper, Insn, Program, Register};
-use scx_maps::MapDefs;
+use scx_isa::{Callback, Field, Helper, Insn, Program, Register, Rules};
 use scx_verify_explain::Listing;
 use scx_vm::Context;
 use std::alloc::{AllocError, Global};
@@ -22,6 +21,8 @@ pub struct Uses {
     pub pid: bool,
     /// One loads the weight of a task.
     pub weight: bool,
+    /// One loads the weight of a task where that is its own, which others of its group may not have.
+    pub own_weight: bool,
     /// One loads the virtual time of a task.
     pub vtime: bool,
     /// One loads how long a task has run.
@@ -53,6 +54,7 @@ impl Uses {
         vtime_inserts: false,
         pid: false,
         weight: false,
+        own_weight: false,
         vtime: false,
         run_ns: false,
         slice: false,
@@ -60,7 +62,7 @@ impl Uses {
         empty_slice: false,
     };
 
-    /// And what that program does as that callback, with maps of those shapes.
+    /// And what that program does in that context.
     ///
     /// # Errors
     ///
@@ -69,26 +71,22 @@ impl Uses {
         self,
         alloc: Global,
         program: &Program,
-        callback: Callback,
-        defs: &MapDefs,
+        context: Context,
     ) -> Result<Uses, AllocError>
-        ensures { IfOk result
-            (Does self (record { callback = callback; defs = defs.now }) program.now) }
+        ensures { IfOk result (Does self context program.now) }
     {
-        let context = Context {
-            callback,
-            defs: *defs,
-        };
+        let (callback, rules) = (context.callback, context.rules);
         let listing = Listing::new(alloc, program, context)?;
-        let uses = self.with_listing(callback, &listing);
+        let uses = self.with_listing(callback, rules, &listing);
         drop(listing);
         Ok(uses)
     }
 
-    fn with_listing(self, callback: Callback, listing: &Listing) -> Uses
-        ensures { result ≡ with_listing self callback listing.now }
+    fn with_listing(self, callback: Callback, rules: Rules, listing: &Listing) -> Uses
+        ensures { result ≡ with_listing self callback rules listing.now }
     {
         let slice = has(listing, Use::Load(Field::Slice));
+        let weight = has(listing, Use::Load(Field::Weight));
         Uses {
             clock: either(self.clock, has(listing, Use::Call(Helper::KtimeGetNs))),
             task_by_pid: either(self.task_by_pid, has(listing, Use::Call(Helper::TaskByPid))),
@@ -97,7 +95,8 @@ impl Uses {
                 has(listing, Use::Call(Helper::DsqInsertVtime)),
             ),
             pid: either(self.pid, has(listing, Use::Load(Field::Pid))),
-            weight: either(self.weight, has(listing, Use::Load(Field::Weight))),
+            weight: either(self.weight, weight),
+            own_weight: either(self.own_weight, is_own(rules, weight)),
             vtime: either(self.vtime, has(listing, Use::Load(Field::DsqVtime))),
             run_ns: either(self.run_ns, has(listing, Use::Load(Field::RunNs))),
             slice: either(self.slice, slice),
@@ -128,6 +127,16 @@ fn is_early(callback: Callback, load: bool) -> bool
     match callback {
         Callback::Running | Callback::Stopping => false,
         _ => load,
+    }
+}
+
+/// True if there is a load of a weight, by rules that tell a task's own one.
+fn is_own(rules: Rules, load: bool) -> bool
+    ensures { result ≡ is_own rules load }
+{
+    match rules {
+        Rules::Plain => false,
+        Rules::Linux => load,
     }
 }
 

@@ -1,25 +1,27 @@
 -- What a scheduling cycle comes to doesn't depend on what is hidden.
-use Rattle.std.proofs.Common.{◌≡◌, ℕ, zero, suc, Bool, true, false, if◌then◌else◌, [], ◌∷◌, Option, Some, None, refl, sym, ap, ◌∙◌}
+use Rattle.std.proofs.Common.{◌≡◌, ℕ, zero, suc, ◌==◌, ◌&&◌, not, Bool, true, false, if◌then◌else◌, length, [], ◌∷◌, Option, Some, None, refl, sym, ap, ◌∙◌, subst}
 use Rattle.scx_dsq.specs.Queues.{len_of, front_of}
 use Rattle.scx_isa_semantics.specs.declared.callbacks.Callback.{Callback}
 use Rattle.scx_isa_semantics.specs.declared.callbacks.Callback.TheVariants as callback
 use Rattle.scx_sched_world.specs.declared.notes.What.TheVariants.{Stop, Run}
 use Rattle.scx_sched_world.specs.Ids.{builtin_queue, local_on}
-use Rattle.scx_sched_world.specs.World.{WorldState, note_now}
-use Rattle.scx_sched_world.specs.Tasks.{after_stop, started_at, after_keep}
+use Rattle.scx_sched_world.specs.World.{WorldState, with_kick, without_kick, task_at, running, or_this, this_if, note_now}
+use Rattle.scx_sched_world.specs.CpuSets.{is_in_set}
+use Rattle.scx_sched_world.specs.Tasks.{local_len, after_stop, started_at, after_run, after_switch, after_keep, to_front}
 use Rattle.scx_sched_world.specs.Ejecting.{after_catch_up, after_charge}
 use Rattle.scx_sched_machine.specs.Policy.{PolicyState, program_of}
-use Rattle.scx_sched_machine.specs.Steps.{Stepped, with_world, is_ejected, stays, one_after_other}
+use Rattle.scx_sched_machine.specs.Steps.{State, Stepped, with_world, is_ejected, is_by_linux, stays, one_after_other}
 use Rattle.scx_sched_machine.specs.Callbacks.{call_back, one_task, task_and_number, cpu_and_task}
-use Rattle.scx_sched_machine.specs.Put.{put}
+use Rattle.scx_sched_machine.specs.Put.{enters, put}
 use Rattle.scx_sched_machine.specs.Filling.{fill}
 use Rattle.scx_sched_machine.specs.Parking.{park_fronts, supply}
-use Rattle.scx_sched_machine.specs.Cycle.{has_local, after_dispatch, asks_again, tries, stopping_called, after_stopping, after_running, leave, started_if, start, idle_note, rest, swap, swap_or_rest, builtin_dispatch, builtin_fill, builtin_ask, builtin_cycle, start_or_cycle, pick, pick_or_rest, conclude, ask, seek, look, cycling, cycle}
+use Rattle.scx_sched_machine.specs.Cycle.{has_local, keeps_slice, supply_unless_kept, told_of, after_dispatch, asks_again, tries, stopping_called, after_stopping, after_running, put_back, leave, switched, started_if, start, idle_note, rest, swap, swap_or_rest, builtin_dispatch, builtin_fill, builtin_ask, builtin_cycle, start_or_cycle, refilled, is_local, start_picked, start_picked_or_cycle, picked, pick, pick_or_rest, keep_or_pick, conclude, give_up, ask, seek, look, cycling, cycle}
+use Rattle.scx_sched_machine.specs.Rounds.{most_rounds, is_pending, pending_below, next_to_look, cut_off_if, look_past, look_from, round, round_then, rounds, with_rounds}
 use Rattle.scx_explore_findings.specs.Hidden.{Hidden, hide}
 use Rattle.scx_explore_findings.specs.HiddenStates.{hide_state, hide_step}
 use Rattle.scx_explore_findings.specs.Unread.{IsUnread}
-use Rattle.scx_explore_findings.proofs.Worlds.{hides_stop, hides_started, hides_keep, hides_charge, hides_catch_up}
-use Rattle.scx_explore_findings.proofs.Steps.{Passes, On, in_world, chain, noted, choose, single, rests, passes_call_back, passes_put, passes_fill, passes_park_fronts, passes_supply}
+use Rattle.scx_explore_findings.proofs.Worlds.{plain, read, hides_stop, hides_started, hides_run, hides_switch, hides_cut_off, hides_keep, hides_charge, hides_catch_up}
+use Rattle.scx_explore_findings.proofs.Steps.{Passes, On, in_world, Turns, after_turn, turns_if, chain, noted, choose, single, rests, passes_call_back, passes_enters, passes_put, passes_fill, passes_park_fronts, passes_supply}
 
 module _ (h : Hidden) (p : PolicyState) (unread : (b : Callback) → IsUnread h (program_of p b)) where
   -- a part of a step that is the same as another is read alike
@@ -28,11 +30,26 @@ module _ (h : Hidden) (p : PolicyState) (unread : (b : Callback) → IsUnread h 
 
   -- ---- dispatch
 
+  -- whether a task keeps its processor
+  keeps_same : (s : State) (o : Option ℕ) → keeps_slice s o ≡ keeps_slice (hide_state h s) o
+  keeps_same s None = refl
+  keeps_same s (Some t) = read h (λ x. is_by_linux s && not (x.slice == 0)) (λ x. refl) s.world t
+
+  -- whether dispatch is asked again
+  asks_same : (s : State) (c : ℕ) (o : Option ℕ) → asks_again s c o ≡ asks_again (hide_state h s) c o
+  asks_same s c o = ap (λ (b : Bool). not b && ((local_len s.world c == 0) && s.world.call.has_moved)) (keeps_same s o)
+
+  passes_supply_unless_kept : (c : ℕ) (o : Option ℕ) → On h p (λ s. supply_unless_kept s c o)
+  unfolding supply_unless_kept
+  passes_supply_unless_kept c o s is =
+      choose h p (keeps_slice s o) (keeps_slice (hide_state h s) o) (stays s) (stays (hide_state h s)) (supply s c) (supply (hide_state h s) c) (keeps_same s o) (rests h p s is) (passes_supply h p c s is)
+
   passes_dispatch : (c : ℕ) (o : Option ℕ) → On h p (λ s. after_dispatch s c o)
   unfolding after_dispatch
   passes_dispatch c o s is =
-      chain h p (call_back s callback.Dispatch (cpu_and_task c o) 0 c) (call_back (hide_state h s) callback.Dispatch (cpu_and_task c o) 0 c) (λ r. supply r c)
-      (passes_call_back h p unread callback.Dispatch (cpu_and_task c o) 0 c s is) (passes_supply h p c)
+      let a = cpu_and_task c (told_of s o) in
+      chain h p (call_back s callback.Dispatch a 0 c) (call_back (hide_state h s) callback.Dispatch a 0 c) (λ r. supply_unless_kept r c o)
+      (passes_call_back h p unread callback.Dispatch a 0 c s is) (passes_supply_unless_kept c o)
 
   passes_tries : (n c : ℕ) (o : Option ℕ) → On h p (λ s. tries n s c o)
   unfolding tries
@@ -41,8 +58,8 @@ module _ (h : Hidden) (p : PolicyState) (unread : (b : Callback) → IsUnread h 
       let d = after_dispatch s c o in
       let e = after_dispatch (hide_state h s) c o in
       let x = passes_dispatch c o s is in
-      choose h p (asks_again d.state c) (asks_again e.state c) (one_after_other d (tries n d.state c o)) (one_after_other e (tries n e.state c o)) d e
-      (read_step (λ r. asks_again r.state c) (λ r. refl) d e x) (chain h p d e (λ r. tries n r c o) x (passes_tries n c o)) x
+      choose h p (asks_again d.state c o) (asks_again e.state c o) (one_after_other d (tries n d.state c o)) (one_after_other e (tries n e.state c o)) d e
+      (read_step (λ r. asks_again r.state c o) (λ r. sym (asks_same r.state c o)) d e x) (chain h p d e (λ r. tries n r c o) x (passes_tries n c o)) x
 
   -- ---- on and off a processor
 
@@ -63,20 +80,35 @@ module _ (h : Hidden) (p : PolicyState) (unread : (b : Callback) → IsUnread h 
   pub passes_off : (c t n : ℕ) → On h p (λ s. after_stopping (with_world s (after_stop s.world c t)) c t n)
   passes_off c t n s is = in_world h p (λ r. after_stopping r c t n) (passes_stopping c t n) s (after_stop s.world c t) (after_stop (hide h s.world) c t) (hides_stop h c t s.world) is
 
+  -- a task that was stopped comes to wait
+  passes_put_back : (c t : ℕ) → On h p (λ s. put_back s c t)
+  unfolding put_back
+  passes_put_back c t s is =
+      choose h p (keeps_slice s (Some t)) (keeps_slice (hide_state h s) (Some t)) (enters s t (to_front c)) (enters (hide_state h s) t (to_front c)) (put s t c 0) (put (hide_state h s) t c 0) (keeps_same s (Some t))
+      (passes_enters h p unread t (to_front c) s is) (passes_put h p unread t c 0 s is)
+
   passes_leave : (c : ℕ) (o : Option ℕ) → On h p (λ s. leave s c o)
   unfolding leave
   passes_leave c None s is = rests h p s is
   passes_leave c (Some t) s is =
       let r = after_stopping (with_world s (after_stop s.world c t)) c t 1 in
       let q = after_stopping (with_world (hide_state h s) (after_stop (hide h s.world) c t)) c t 1 in
-      noted h p (note_now s.world (Stop t c) ∷ []) (one_after_other r (put r.state t c 0)) (one_after_other q (put q.state t c 0))
-      (chain h p r q (λ x. put x t c 0) (passes_off c t 1 s is) (passes_put h p unread t c 0))
+      noted h p (note_now s.world (Stop t c) ∷ []) (one_after_other r (put_back r.state c t)) (one_after_other q (put_back q.state c t))
+      (chain h p r q (λ x. put_back x c t) (passes_off c t 1 s is) (passes_put_back c t))
+
+  -- a task has begun to run
+  turns_switched : (t : ℕ) → Turns h p (λ s. switched s t)
+  unfolding switched
+  turns_switched t = turns_if h p (λ s. is_by_linux s && not (s.policy.tick_ms == 0)) (λ s. refl) (λ w. after_switch w t) (hides_switch h t)
+
+  passes_begun : (c t : ℕ) → On h p (λ s. after_running (switched s t) c t)
+  passes_begun c t = after_turn h p (λ s. switched s t) (λ s. after_running s c t) (turns_switched t) (passes_running c t)
 
   passes_started : (o : Option ℕ) (c : ℕ) → On h p (λ s. started_if o s c)
   passes_started None c s is = rests h p s is
   passes_started (Some t) c s is =
-      noted h p (note_now s.world (Run t c) ∷ []) (after_running (with_world s (started_at (Some t) s.world c)) c t) (after_running (with_world (hide_state h s) (started_at (Some t) (hide h s.world) c)) c t)
-      (in_world h p (λ r. after_running r c t) (passes_running c t) s (started_at (Some t) s.world c) (started_at (Some t) (hide h s.world) c) (hides_started h (Some t) c s.world) is)
+      noted h p (note_now s.world (Run t c) ∷ []) (after_running (switched (with_world s (started_at (Some t) s.world c)) t) c t) (after_running (switched (with_world (hide_state h s) (started_at (Some t) (hide h s.world) c)) t) c t)
+      (in_world h p (λ r. after_running (switched r t) c t) (passes_begun c t) s (started_at (Some t) s.world c) (started_at (Some t) (hide h s.world) c) (hides_started h (Some t) c s.world) is)
 
   passes_start : (c : ℕ) → On h p (λ s. start s c)
   unfolding start
@@ -128,23 +160,49 @@ module _ (h : Hidden) (p : PolicyState) (unread : (b : Callback) → IsUnread h 
   passes_start_or_cycle c ran s is =
       choose h p (has_local s c) (has_local s c) (start s c) (start (hide_state h s) c) (builtin_cycle s c None ran) (builtin_cycle (hide_state h s) c None ran) refl (passes_start c s is) (passes_builtin_cycle c None ran s is)
 
+  -- the task that was picked runs
+  passes_start_picked : (c t : ℕ) → On h p (λ s. start_picked s c t)
+  unfolding start_picked
+  passes_start_picked c t s is =
+      noted h p (note_now s.world (Run t c) ∷ []) (after_running (switched (with_world s (after_run s.world c t)) t) c t) (after_running (switched (with_world (hide_state h s) (after_run (hide h s.world) c t)) t) c t)
+      (in_world h p (λ r. after_running (switched r t) c t) (passes_begun c t) s (after_run s.world c t) (after_run (hide h s.world) c t) (hides_run h c t s.world) is)
+
+  passes_start_picked_or_cycle : (o : Option ℕ) (c : ℕ) (ran : Bool) → On h p (λ s. start_picked_or_cycle o s c ran)
+  passes_start_picked_or_cycle None c ran s is = passes_start_or_cycle c ran s is
+  passes_start_picked_or_cycle (Some t) c ran s is =
+      choose h p (is_local s c t) (is_local s c t) (start_picked s c t) (start_picked (hide_state h s) c t) (start_or_cycle s c ran) (start_or_cycle (hide_state h s) c ran) refl (passes_start_picked c t s is) (passes_start_or_cycle c ran s is)
+
   passes_pick : (c : ℕ) (o : Option ℕ) (ran : Bool) → On h p (λ s. pick s c o ran)
-  unfolding pick
-  passes_pick c o ran s is = chain h p (leave s c o) (leave (hide_state h s) c o) (λ r. start_or_cycle r c ran) (passes_leave c o s is) (passes_start_or_cycle c ran)
+  unfolding pick picked
+  passes_pick c o ran s is =
+      let t = picked s c in
+      chain h p (leave (refilled s t) c o) (leave (refilled (hide_state h s) t) c o) (λ r. start_picked_or_cycle t r c ran)
+      (in_world h p (λ r. leave r c o) (passes_leave c o) s (after_keep s.world t) (after_keep (hide h s.world) t) (hides_keep h t s.world) is) (passes_start_picked_or_cycle t c ran)
 
   passes_pick_or_rest : (c : ℕ) (o : Option ℕ) (ran : Bool) → On h p (λ s. pick_or_rest s c o ran)
   unfolding pick_or_rest
   passes_pick_or_rest c o ran s is =
       choose h p (has_local s c) (has_local s c) (pick s c o ran) (pick (hide_state h s) c o ran) (rest s c o ran) (rest (hide_state h s) c o ran) refl (passes_pick c o ran s is) (passes_rest c o ran s is)
 
+  passes_keep_or_pick : (c : ℕ) (o : Option ℕ) (ran : Bool) → On h p (λ s. keep_or_pick s c o ran)
+  unfolding keep_or_pick
+  passes_keep_or_pick c o ran s is =
+      choose h p (keeps_slice s o) (keeps_slice (hide_state h s) o) (stays s) (stays (hide_state h s)) (pick_or_rest s c o ran) (pick_or_rest (hide_state h s) c o ran) (keeps_same s o) (rests h p s is) (passes_pick_or_rest c o ran s is)
+
   passes_conclude : (c : ℕ) (o : Option ℕ) (ran : Bool) → On h p (λ s. conclude s c o ran)
   unfolding conclude
   passes_conclude c o ran s is =
-      choose h p (is_ejected s) (is_ejected s) (builtin_cycle s c o ran) (builtin_cycle (hide_state h s) c o ran) (pick_or_rest s c o ran) (pick_or_rest (hide_state h s) c o ran) refl (passes_builtin_cycle c o ran s is) (passes_pick_or_rest c o ran s is)
+      choose h p (is_ejected s) (is_ejected s) (builtin_cycle s c o ran) (builtin_cycle (hide_state h s) c o ran) (keep_or_pick s c o ran) (keep_or_pick (hide_state h s) c o ran) refl (passes_builtin_cycle c o ran s is) (passes_keep_or_pick c o ran s is)
+
+  turns_give_up : (c : ℕ) (o : Option ℕ) → Turns h p (λ s. give_up s c o)
+  unfolding give_up
+  turns_give_up c o = turns_if h p (λ s. is_by_linux s && asks_again s c o) (λ s. ap (λ (b : Bool). is_by_linux s && b) (asks_same s c o)) (λ w. with_kick w c) (λ w. plain h (with_kick w c))
 
   passes_ask : (c : ℕ) (o : Option ℕ) (ran : Bool) → On h p (λ s. ask s c o ran)
   unfolding ask
-  passes_ask c o ran s is = chain h p (tries 32 s c o) (tries 32 (hide_state h s) c o) (λ r. conclude r c o ran) (passes_tries 32 c o s is) (passes_conclude c o ran)
+  passes_ask c o ran s is =
+      chain h p (tries 32 s c o) (tries 32 (hide_state h s) c o) (λ r. conclude (give_up r c o) c o ran) (passes_tries 32 c o s is)
+      (after_turn h p (λ r. give_up r c o) (λ r. conclude r c o ran) (turns_give_up c o) (passes_conclude c o ran))
 
   passes_seek : (c : ℕ) (o : Option ℕ) (ran : Bool) → On h p (λ s. seek s c o ran)
   unfolding seek
@@ -163,3 +221,53 @@ module _ (h : Hidden) (p : PolicyState) (unread : (b : Callback) → IsUnread h 
   passes_cycle c o ran s is =
       let x = passes_look c o ran (cycling s (Some c)) is in
       (ap (λ (r : Stepped). record r { state = cycling r.state None }) x.0, x.1)
+
+  -- ---- rounds
+
+  pending_same : (n : ℕ) (s : State) → pending_below n s ≡ pending_below n (hide_state h s)
+  unfolding pending_below
+  pending_same zero s = refl
+  pending_same (suc n) s = ap (λ (o : Option ℕ). or_this o (this_if (is_pending s n) n)) (pending_same n s)
+
+  next_same : (s : State) → next_to_look s ≡ next_to_look (hide_state h s)
+  unfolding next_to_look
+  next_same s = ap (λ (o : Option ℕ). if is_by_linux s then o else None) (pending_same (length s.world.cpus) s)
+
+  turns_cut_off : (cut : Bool) (t : ℕ) → Turns h p (λ s. cut_off_if cut s t)
+  turns_cut_off false t s = (ap (λ (u : WorldState). with_world s u) (plain h s.world), refl)
+  turns_cut_off true t s = (ap (λ (u : WorldState). with_world s u) (hides_cut_off h t s.world), refl)
+
+  passes_look_past : (c t : ℕ) → On h p (λ s. look_past s c t)
+  unfolding look_past
+  passes_look_past c t s is =
+      choose h p ((task_at s.world t).slice == 0) ((task_at (hide h s.world) t).slice == 0) (cycle s c (Some t) true) (cycle (hide_state h s) c (Some t) true) (stays s) (stays (hide_state h s))
+      (read h (λ x. x.slice == 0) (λ x. refl) s.world t) (passes_cycle c (Some t) true s is) (rests h p s is)
+
+  passes_look_from : (o : Option ℕ) (cut : Bool) (c : ℕ) → On h p (λ s. look_from o cut s c)
+  passes_look_from None cut c s is = passes_cycle c None false s is
+  passes_look_from (Some t) cut c s is = after_turn h p (λ r. cut_off_if cut r t) (λ r. look_past r c t) (turns_cut_off cut t) (passes_look_past c t) s is
+
+  passes_round : (c : ℕ) → On h p (λ s. round s c)
+  unfolding round
+  passes_round c s is =
+      let o = running s.world c in
+      let cut = is_in_set s.world.preempted c in
+      in_world h p (λ r. look_from o cut r c) (passes_look_from o cut c) s (without_kick s.world c) (without_kick (hide h s.world) c) (plain h (without_kick s.world c)) is
+
+  passes_round_then : (next : State → Stepped) → On h p next → (o : Option ℕ) → On h p (λ s. round_then next s o)
+  passes_round_then next more None s is = rests h p s is
+  passes_round_then next more (Some c) s is = chain h p (round s c) (round (hide_state h s) c) next (passes_round c s is) more
+
+  passes_rounds : (n : ℕ) → On h p (λ s. rounds n s)
+  unfolding rounds
+  passes_rounds zero s is = rests h p s is
+  passes_rounds (suc n) s is =
+      subst (λ (o : Option ℕ). Passes h p (round_then (λ r. rounds n r) s (next_to_look s)) (round_then (λ r. rounds n r) (hide_state h s) o)) (next_same s)
+      (passes_round_then (λ r. rounds n r) (passes_rounds n) (next_to_look s) s is)
+
+  -- what a step comes to, with its rounds
+  pub passes_with_rounds : (r q : Stepped) → Passes h p r q → Passes h p (with_rounds r) (with_rounds q)
+  unfolding with_rounds
+  passes_with_rounds r q x =
+      choose h p (is_by_linux r.state) (is_by_linux q.state) (one_after_other r (rounds most_rounds r.state)) (one_after_other q (rounds most_rounds q.state)) r q
+      (read_step (λ y. is_by_linux y.state) (λ y. refl) r q x) (chain h p r q (λ y. rounds most_rounds y) x (passes_rounds most_rounds)) x

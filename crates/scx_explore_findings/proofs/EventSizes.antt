@@ -16,7 +16,7 @@ use Rattle.scx_sched_world.specs.declared.call.Insert.{Insert}
 use Rattle.scx_sched_world.specs.declared.eject.Eject.{Eject}
 use Rattle.scx_sched_world.specs.declared.faults.Fault.{Fault}
 use Rattle.scx_sched_world.specs.World.{WorldState, task_at, with_task, at_callback}
-use Rattle.scx_sched_world.specs.Tasks.{with_since, for_cpu}
+use Rattle.scx_sched_world.specs.Tasks.{with_since, for_cpu, to_front}
 use Rattle.scx_sched_world.specs.Ejecting.{put_out, after_evictions}
 use Rattle.scx_sched_world.specs.Helpers.{world_functions}
 use Rattle.scx_sched_machine.specs.declared.events.Event.{Event}
@@ -30,7 +30,7 @@ use Rattle.scx_sched_machine.proofs.Choices.{keeps_if}
 use Rattle.scx_sched.specs.Sim.{SimState, after_event}
 use Rattle.scx_explore_findings.proofs.Queries.{IsAllowed, stores_allowed, asks_allowed, run_keeps}
 use Rattle.scx_explore_findings.proofs.EventWalk.{IsKeptBySmallSteps, eject_policy, call_back_policy, put_policy, settled_policy, walk_after}
-use Rattle.scx_explore_findings.proofs.WorldSizes.{HasSize, sized_query, sized_evicted, sized_cut, sized_task, sized_entered, sized_put_builtin, sized_brought, sized_put_parked, sized_taken, sized_started, sized_kept, sized_stopped, sized_asleep, sized_left, sized_used, sized_reweighed}
+use Rattle.scx_explore_findings.proofs.WorldSizes.{HasSize, sized_query, sized_evicted, sized_cut, sized_task, sized_homed, sized_entered, sized_put_builtin, sized_brought, sized_put_parked, sized_taken, sized_started, sized_run, sized_kept, sized_stopped, sized_asleep, sized_left, sized_used, sized_reweighed, sized_chosen}
 
 module _ (v : WorldState) where
   -- ---- a callback but init
@@ -111,6 +111,16 @@ module _ (v : WorldState) where
     let_off = λ w t h. sized_left v (with_task w t (with_since (task_at w t) (Some w.clock))) t (sized_task v w t (with_since (task_at w t) (Some w.clock)) h);
     begun = λ w h. h;
     reweighed = sized_reweighed v;
+    fronted = λ w t c h. sized_entered v w t (to_front c) h;
+    runs = sized_run v;
+    lengthened = λ w t h. sized_task v w t _ h;
+    cut_off = λ w t h. sized_task v w t _ h;
+    homed = sized_homed v;
+    chosen = sized_chosen v;
+    at_hand = λ w t h. h;
+    told = λ w t h. h;
+    kicks = λ w c h. h;
+    unkicked = λ w c h. h;
   }
 
   -- an event keeps all of it, whether it is accepted or not

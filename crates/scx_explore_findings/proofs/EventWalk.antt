@@ -1,6 +1,6 @@
 -- One walk over the events of the machine: what has to be shown of a property of worlds at each small step, so that each
 -- event keeps it, under a policy that stays.
-use Rattle.std.proofs.Common.{◌≡◌, ℕ, zero, suc, Bool, true, false, ◌==◌, List, [], ◌∷◌, Option, Some, None, refl, ◌∙◌}
+use Rattle.std.proofs.Common.{◌≡◌, ℕ, zero, suc, Bool, true, false, ◌==◌, ◌&&◌, not, List, [], ◌∷◌, Option, Some, None, refl, ◌∙◌, if◌then◌else◌}
 use Rattle.scx_dsq.specs.Queues.{len_of, front_of, behind_of}
 use Rattle.scx_isa_semantics.specs.declared.callbacks.Callback.{Callback}
 use Rattle.scx_isa_semantics.specs.declared.callbacks.Callback.TheVariants as callback
@@ -11,21 +11,24 @@ use Rattle.scx_sched_world.specs.declared.call.Insert.{Insert}
 use Rattle.scx_sched_world.specs.declared.eject.Eject.{Eject}
 use Rattle.scx_sched_world.specs.declared.faults.Fault.{Fault}
 use Rattle.scx_sched_world.specs.Ids.{global, builtin_queue, parked_queue, local_on}
-use Rattle.scx_sched_world.specs.World.{WorldState, with_cycling, task_at, is_throttled, running, cpu_of, is_idle, at_callback}
-use Rattle.scx_sched_world.specs.Tasks.{after_wake, after_sleep, after_leave, brought, fill_front, after_stop, started_at, after_keep, put_parked, after_take, let_go, after_tick, used_ms, later, begun_periods, after_reweigh}
+use Rattle.scx_sched_world.specs.CpuSets.{is_in_set}
+use Rattle.scx_sched_world.specs.World.{WorldState, with_cycling, with_slept, with_kick, without_kick, task_at, is_throttled, running, cpu_of, is_idle, at_callback}
+use Rattle.scx_sched_world.specs.Tasks.{after_wake, after_sleep, after_leave, homed, after_enter, to_front, brought, fill_front, after_stop, started_at, after_run, after_keep, after_switch, after_cut_off, put_parked, after_take, let_go, after_tick, used_ms, later, begun_periods, after_reweigh}
 use Rattle.scx_sched_world.specs.Ejecting.{after_charge, after_catch_up}
 use Rattle.scx_sched_machine.specs.declared.events.Event.{Event}
 use Rattle.scx_sched_machine.specs.declared.events.Event.TheVariants.{Wake, Sleep, Tick, Clock, SetWeight}
 use Rattle.scx_sched_machine.specs.declared.events.Refused.{Refused}
 use Rattle.scx_sched_machine.specs.Policy.{PolicyState}
-use Rattle.scx_sched_machine.specs.Steps.{State, Stepped, with_world, stays, is_ejected, one_after_other}
+use Rattle.scx_sched_machine.specs.Steps.{State, Stepped, with_world, stays, is_ejected, is_by_linux, kicked, kicked_if_idle, one_after_other}
 use Rattle.scx_sched_machine.specs.Ejecting.{moves_over, eject, ejected_for}
 use Rattle.scx_sched_machine.specs.Callbacks.{call_ending, after_callback, fault_of, acting, call_back, answered_by, one_task, task_cpu_and_0, task_and_number, cpu_and_task}
 use Rattle.scx_sched_machine.specs.Put.{enters, enqueue_choice, enters_builtin, comes_in, put}
 use Rattle.scx_sched_machine.specs.Filling.{fill}
 use Rattle.scx_sched_machine.specs.Parking.{park, park_front, throttled_front, park_then, park_fronts, clear, in_reach, supply, let_go_one, let_go_from, let_all_go}
-use Rattle.scx_sched_machine.specs.Cycle.{has_local, after_dispatch, asks_again, tries, stopping_called, after_stopping, after_running, leave, started_if, start as begin, rest, swap, swap_or_rest, builtin_dispatch, builtin_fill, builtin_ask, builtin_cycle, start_or_cycle, pick, pick_or_rest, conclude, ask, seek, look, cycling, cycle}
-use Rattle.scx_sched_machine.specs.Events.{target, insert_or_put, settle, select, wake, sleep_from_cpu, sleep_from, sleep, throttle, expire, count_down, tick_of, tick, overdue, eject_if_stalled, clock, event_step}
+use Rattle.scx_sched_machine.specs.Cycle.{has_local, keeps_slice, supply_unless_kept, told_of, after_dispatch, asks_again, tries, stopping_called, after_stopping, after_running, put_back, leave, switched, started_if, start as begin, rest, swap, swap_or_rest, builtin_dispatch, builtin_fill, builtin_ask, builtin_cycle, start_or_cycle, picked, refilled, is_local, start_picked, start_picked_or_cycle, pick, pick_or_rest, keep_or_pick, conclude, give_up, ask, seek, look, cycling, cycle}
+use Rattle.scx_sched_machine.specs.Rounds.{most_rounds, next_to_look, cut_off_if, look_past, look_from, round, round_then, rounds, with_rounds}
+use Rattle.scx_vm.specs.Programs.{VerifiedProgram}
+use Rattle.scx_sched_machine.specs.Events.{target, insert_or_put, wake_target, settle, chosen_by_default, chosen, ask_target, asks_target, select, wake, told_of_sleep, sleep_from_cpu, sleep_from, sleep, throttle, ends_slices, expire, count_down, tick_idle, tick_of, tick, overdue, eject_if_stalled, clock, own_step, event_step}
 use Rattle.scx_sched_machine.proofs.Choices.{keeps_if}
 use Rattle.scx_sched.specs.Sim.{SimState, stepped_if, refusal, after_event}
 use Rattle.scx_load_driver.specs.Runs.{stepped_all}
@@ -72,7 +75,7 @@ abbrev pub IsKeptIn : PolicyState → (WorldState → Type 0) → State → Type
 IsKeptIn p I s = (s.policy ≡ p) × I s.world
 
 -- each small step keeps that: a callback that may create no queue, an ejection, a task that is put or inserted; and of
--- worlds what the machine does to its queues, tasks, groups and processors
+-- worlds what the machine does to its queues, tasks, groups and processors, by both rules
 pub record IsKeptBySmallSteps (p : PolicyState) (I : WorldState → Type 0) : Type 0 where
   pub called_back : (s : State) (b : Callback) (a : Args) (t c : ℕ) → is_allowed CreateDsq b ≡ false → IsKeptIn p I s → IsKeptIn p I (call_back s b a t c).state
   pub ejected : (s : State) (x : Eject) → IsKeptIn p I s → IsKeptIn p I (eject s x).state
@@ -95,6 +98,16 @@ pub record IsKeptBySmallSteps (p : PolicyState) (I : WorldState → Type 0) : Ty
   pub let_off : (w : WorldState) (t : ℕ) → I w → I (let_go w t)
   pub begun : (w : WorldState) → I w → I (begun_periods (later w))
   pub reweighed : (w : WorldState) (g x : ℕ) → I w → I (after_reweigh w g x)
+  pub fronted : (w : WorldState) (t c : ℕ) → I w → I (after_enter w t (to_front c))
+  pub runs : (w : WorldState) (c t : ℕ) → I w → I (after_run w c t)
+  pub lengthened : (w : WorldState) (t : ℕ) → I w → I (after_switch w t)
+  pub cut_off : (w : WorldState) (t : ℕ) → I w → I (after_cut_off w t)
+  pub homed : (w : WorldState) (t c : ℕ) → I w → I (homed w t c)
+  pub chosen : (w : WorldState) (t : ℕ) → I w → I (chosen_by_default w t)
+  pub at_hand : (w : WorldState) (t : ℕ) → I w → I (at_callback w callback.SelectCpu t 0)
+  pub told : (w : WorldState) (t : ℕ) → I w → I (with_slept w t)
+  pub kicks : (w : WorldState) (c : ℕ) → I w → I (with_kick w c)
+  pub unkicked : (w : WorldState) (c : ℕ) → I w → I (without_kick w c)
 
 module _ (old : PolicyState) (I : WorldState → Type 0) (k : IsKeptBySmallSteps old I) where
   abbrev Kept : State → Type 0
@@ -137,11 +150,16 @@ module _ (old : PolicyState) (I : WorldState → Type 0) (k : IsKeptBySmallSteps
   unfolding supply
   walk_supply s c h = walk_clear (in_reach s c) s c h
 
+  walk_supply_unless_kept : (s : State) (c : ℕ) (p : Option ℕ) → Kept s → Leaves (supply_unless_kept s c p)
+  unfolding supply_unless_kept
+  walk_supply_unless_kept s c p h = keeps_if Leaves (keeps_slice s p) (stays s) (supply s c) h (walk_supply s c h)
+
   walk_dispatched : (s : State) (c : ℕ) (p : Option ℕ) → Kept s → Leaves (after_dispatch s c p)
   unfolding after_dispatch
   walk_dispatched s c p h =
-      let r = call_back s callback.Dispatch (cpu_and_task c p) 0 c in
-      walk_supply r.state c (k.called_back s callback.Dispatch (cpu_and_task c p) 0 c refl h)
+      let a = cpu_and_task c (told_of s p) in
+      let r = call_back s callback.Dispatch a 0 c in
+      walk_supply_unless_kept r.state c p (k.called_back s callback.Dispatch a 0 c refl h)
 
   walk_tries : (j : ℕ) (s : State) (c : ℕ) (p : Option ℕ) → Kept s → Leaves (tries j s c p)
   unfolding tries
@@ -149,7 +167,7 @@ module _ (old : PolicyState) (I : WorldState → Type 0) (k : IsKeptBySmallSteps
   walk_tries (suc j) s c p h =
       let d = after_dispatch s c p in
       let x = walk_dispatched s c p h in
-      keeps_if Leaves (asks_again d.state c) (one_after_other d (tries j d.state c p)) d (walk_tries j d.state c p x) x
+      keeps_if Leaves (asks_again d.state c p) (one_after_other d (tries j d.state c p)) d (walk_tries j d.state c p x) x
 
   walk_stopping : (s : State) (c t n : ℕ) → Kept s → Leaves (after_stopping s c t n)
   unfolding after_stopping
@@ -159,13 +177,21 @@ module _ (old : PolicyState) (I : WorldState → Type 0) (k : IsKeptBySmallSteps
   unfolding after_running
   walk_running s c t h = keeps_if Leaves (is_ejected s) (stays (with_world s (after_catch_up s.world t))) (call_back s callback.Running (one_task t) t c) (h.0, k.caught_up s.world t h.1) (k.called_back s callback.Running (one_task t) t c refl h)
 
+  walk_put_back : (s : State) (c t : ℕ) → Kept s → Leaves (put_back s c t)
+  unfolding put_back enters
+  walk_put_back s c t h = keeps_if Leaves (keeps_slice s (Some t)) (enters s t (to_front c)) (put s t c 0) (h.0, k.fronted s.world t c h.1) (k.puts s t c 0 h)
+
   walk_leave : (s : State) (c : ℕ) (p : Option ℕ) → Kept s → Leaves (leave s c p)
   unfolding leave
   walk_leave s c None h = h
   walk_leave s c (Some t) h =
       let off = with_world s (after_stop s.world c t) in
       let r = after_stopping off c t 1 in
-      k.puts r.state t c 0 (walk_stopping off c t 1 (h.0, k.stopped s.world c t h.1))
+      walk_put_back r.state c t (walk_stopping off c t 1 (h.0, k.stopped s.world c t h.1))
+
+  walk_switched : (s : State) (t : ℕ) → Kept s → Kept (switched s t)
+  unfolding switched
+  walk_switched s t h = keeps_if Kept (is_by_linux s && not (s.policy.tick_ms == 0)) (with_world s (after_switch s.world t)) s (h.0, k.lengthened s.world t h.1) h
 
   walk_begin : (s : State) (c : ℕ) → Kept s → Leaves (begin s c)
   unfolding begin
@@ -173,7 +199,9 @@ module _ (old : PolicyState) (I : WorldState → Type 0) (k : IsKeptBySmallSteps
     where
       go : (o : Option ℕ) → Leaves (started_if o s c)
       go None = h
-      go (Some t) = walk_running (with_world s (started_at (Some t) s.world c)) c t (h.0, k.started s.world t c h.1)
+      go (Some t) =
+          let u = with_world s (started_at (Some t) s.world c) in
+          walk_running (switched u t) c t (walk_switched u t (h.0, k.started s.world t c h.1))
 
   walk_rest : (s : State) (c : ℕ) (p : Option ℕ) (ran : Bool) → Kept s → Leaves (rest s c p ran)
   unfolding rest
@@ -210,21 +238,44 @@ module _ (old : PolicyState) (I : WorldState → Type 0) (k : IsKeptBySmallSteps
   unfolding start_or_cycle
   walk_begin_or_cycle s c ran h = keeps_if Leaves (has_local s c) (begin s c) (builtin_cycle s c None ran) (walk_begin s c h) (walk_builtin_cycle s c None ran h)
 
+  walk_start_picked : (s : State) (c t : ℕ) → Kept s → Leaves (start_picked s c t)
+  unfolding start_picked
+  walk_start_picked s c t h =
+      let u = with_world s (after_run s.world c t) in
+      walk_running (switched u t) c t (walk_switched u t (h.0, k.runs s.world c t h.1))
+
+  walk_picked : (o : Option ℕ) (s : State) (c : ℕ) (ran : Bool) → Kept s → Leaves (start_picked_or_cycle o s c ran)
+  walk_picked None s c ran h = walk_begin_or_cycle s c ran h
+  walk_picked (Some t) s c ran h = keeps_if Leaves (is_local s c t) (start_picked s c t) (start_or_cycle s c ran) (walk_start_picked s c t h) (walk_begin_or_cycle s c ran h)
+
   walk_pick : (s : State) (c : ℕ) (p : Option ℕ) (ran : Bool) → Kept s → Leaves (pick s c p ran)
   unfolding pick
-  walk_pick s c p ran h = walk_begin_or_cycle (leave s c p).state c ran (walk_leave s c p h)
+  walk_pick s c p ran h =
+      let o = picked s c in
+      let u = refilled s o in
+      walk_picked o (leave u c p).state c ran (walk_leave u c p (h.0, k.kept s.world o h.1))
 
   walk_pick_or_rest : (s : State) (c : ℕ) (p : Option ℕ) (ran : Bool) → Kept s → Leaves (pick_or_rest s c p ran)
   unfolding pick_or_rest
   walk_pick_or_rest s c p ran h = keeps_if Leaves (has_local s c) (pick s c p ran) (rest s c p ran) (walk_pick s c p ran h) (walk_rest s c p ran h)
 
+  walk_keep_or_pick : (s : State) (c : ℕ) (p : Option ℕ) (ran : Bool) → Kept s → Leaves (keep_or_pick s c p ran)
+  unfolding keep_or_pick
+  walk_keep_or_pick s c p ran h = keeps_if Leaves (keeps_slice s p) (stays s) (pick_or_rest s c p ran) h (walk_pick_or_rest s c p ran h)
+
   walk_conclude : (s : State) (c : ℕ) (p : Option ℕ) (ran : Bool) → Kept s → Leaves (conclude s c p ran)
   unfolding conclude
-  walk_conclude s c p ran h = keeps_if Leaves (is_ejected s) (builtin_cycle s c p ran) (pick_or_rest s c p ran) (walk_builtin_cycle s c p ran h) (walk_pick_or_rest s c p ran h)
+  walk_conclude s c p ran h = keeps_if Leaves (is_ejected s) (builtin_cycle s c p ran) (keep_or_pick s c p ran) (walk_builtin_cycle s c p ran h) (walk_keep_or_pick s c p ran h)
+
+  walk_give_up : (s : State) (c : ℕ) (p : Option ℕ) → Kept s → Kept (give_up s c p)
+  unfolding give_up
+  walk_give_up s c p h = keeps_if Kept (is_by_linux s && asks_again s c p) (kicked s c) s (h.0, k.kicks s.world c h.1) h
 
   walk_ask : (s : State) (c : ℕ) (p : Option ℕ) (ran : Bool) → Kept s → Leaves (ask s c p ran)
   unfolding ask
-  walk_ask s c p ran h = walk_conclude (tries 32 s c p).state c p ran (walk_tries 32 s c p h)
+  walk_ask s c p ran h =
+      let d = tries 32 s c p in
+      walk_conclude (give_up d.state c p) c p ran (walk_give_up d.state c p (walk_tries 32 s c p h))
 
   walk_seek : (s : State) (c : ℕ) (p : Option ℕ) (ran : Bool) → Kept s → Leaves (seek s c p ran)
   unfolding seek
@@ -245,23 +296,47 @@ module _ (old : PolicyState) (I : WorldState → Type 0) (k : IsKeptBySmallSteps
 
   -- ---- events
 
+  walk_kicked_if_idle : (s : State) (c : ℕ) → Kept s → Kept (kicked_if_idle s c)
+  walk_kicked_if_idle s c h = keeps_if Kept (is_by_linux s && is_idle s.world c) (kicked s c) s (h.0, k.kicks s.world c h.1) h
+
+  walk_target : (s : State) (c : ℕ) → Kept s → Leaves (wake_target s c)
+  unfolding wake_target
+  walk_target s c h =
+      keeps_if Leaves (is_by_linux s) (stays (kicked_if_idle s c)) (if is_idle s.world c then cycle s c None false else stays s) (walk_kicked_if_idle s c h)
+      (keeps_if Leaves (is_idle s.world c) (cycle s c None false) (stays s) (walk_cycle s c None false h) h)
+
   walk_settle : (s : State) (t c : ℕ) → Kept s → Leaves (settle s t c)
   unfolding settle
   walk_settle s t c h =
-      let r = insert_or_put s.world.call.insert s t c in
-      let x = k.settled s t c h in
-      keeps_if Leaves (is_idle r.state.world c) (one_after_other r (cycle r.state c None false)) r (walk_cycle r.state c None false x) x
+      let v = with_world s (homed s.world t c) in
+      let r = insert_or_put v.world.call.insert v t c in
+      walk_target r.state c (k.settled v t c (h.0, k.homed s.world t c h.1))
+
+  walk_chosen : (p : Option VerifiedProgram) (s : State) (t : ℕ) → Kept s → Kept (chosen p s t)
+  walk_chosen None s t h = (h.0, k.chosen s.world t h.1)
+  walk_chosen (Some p) s t h = h
+
+  walk_ask_target : (s : State) (t : ℕ) → Kept s → Leaves (ask_target s t)
+  unfolding ask_target
+  walk_ask_target s t h =
+      let c = (task_at s.world t).prev_cpu in
+      let r = call_back s callback.SelectCpu (task_cpu_and_0 t c) t c in
+      let p = acting r.state callback.SelectCpu in
+      walk_settle (chosen p r.state t) t (target p r.state.world t (answered_by s callback.SelectCpu (task_cpu_and_0 t c) t c)) (walk_chosen p r.state t (k.called_back s callback.SelectCpu (task_cpu_and_0 t c) t c refl h))
 
   walk_select : (s : State) (t : ℕ) → Kept s → Leaves (select s t)
   unfolding select
   walk_select s t h =
-      let c = (task_at s.world t).prev_cpu in
-      let r = call_back s callback.SelectCpu (task_cpu_and_0 t c) t c in
-      walk_settle r.state t (target (acting r.state callback.SelectCpu) r.state.world t (answered_by s callback.SelectCpu (task_cpu_and_0 t c) t c)) (k.called_back s callback.SelectCpu (task_cpu_and_0 t c) t c refl h)
+      let u = with_world s (at_callback s.world callback.SelectCpu t 0) in
+      keeps_if Leaves (asks_target s) (ask_target s t) (settle u t 0) (walk_ask_target s t h) (walk_settle u t 0 (h.0, k.at_hand s.world t h.1))
 
   walk_wake : (s : State) (t : ℕ) → Kept s → Leaves (wake s t)
   unfolding wake
   walk_wake s t h = walk_select (with_world s (after_wake s.world t)) t (h.0, k.woken s.world t h.1)
+
+  walk_told : (s : State) (t : ℕ) → Kept s → Kept (told_of_sleep s t)
+  unfolding told_of_sleep
+  walk_told s t h = keeps_if Kept (is_by_linux s) (with_world s (with_slept s.world t)) s (h.0, k.told s.world t h.1) h
 
   walk_sleep_from_cpu : (s : State) (t c : ℕ) → Kept s → Leaves (sleep_from_cpu s t c)
   unfolding sleep_from_cpu
@@ -269,7 +344,8 @@ module _ (old : PolicyState) (I : WorldState → Type 0) (k : IsKeptBySmallSteps
       let off = with_world s (after_stop s.world c t) in
       let r = after_stopping off c t 0 in
       let x = walk_stopping off c t 0 (h.0, k.stopped s.world c t h.1) in
-      walk_cycle (with_world r.state (after_sleep r.state.world t)) c None true (x.0, k.asleep r.state.world t x.1)
+      let u = with_world r.state (after_sleep r.state.world t) in
+      walk_cycle (told_of_sleep u t) c None true (walk_told u t (x.0, k.asleep r.state.world t x.1))
 
   walk_sleep_from : (o : Option ℕ) (s : State) (t : ℕ) → Kept s → Leaves (sleep_from o s t)
   walk_sleep_from None s t h = (h.0, k.asleep (after_leave s.world t) t (k.left s.world t h.1))
@@ -288,7 +364,7 @@ module _ (old : PolicyState) (I : WorldState → Type 0) (k : IsKeptBySmallSteps
 
   walk_expire : (s : State) (c t : ℕ) → Kept s → Leaves (expire s c t)
   unfolding expire
-  walk_expire s c t h = keeps_if Leaves ((task_at s.world t).slice == 0) (cycle s c (Some t) true) (stays s) (walk_cycle s c (Some t) true h) h
+  walk_expire s c t h = keeps_if Leaves (((task_at s.world t).slice == 0) && ends_slices s) (cycle s c (Some t) true) (stays s) (walk_cycle s c (Some t) true h) h
 
   walk_count_down : (s : State) (c t : ℕ) → Kept s → Leaves (count_down s c t)
   unfolding count_down
@@ -298,8 +374,12 @@ module _ (old : PolicyState) (I : WorldState → Type 0) (k : IsKeptBySmallSteps
       let x : Kept u = (h.0, k.used (after_tick s.world t) t (k.ticked s.world t h.1)) in
       keeps_if Leaves (is_throttled w t) (throttle u c t) (expire u c t) (walk_throttle u c t x) (walk_expire u c t x)
 
+  walk_tick_idle : (s : State) (c : ℕ) → Kept s → Leaves (tick_idle s c)
+  unfolding tick_idle
+  walk_tick_idle s c h = keeps_if Leaves (is_by_linux s) (stays s) (cycle s c None false) h (walk_cycle s c None false h)
+
   walk_tick_of : (o : Option ℕ) (s : State) (c : ℕ) → Kept s → Leaves (tick_of o s c)
-  walk_tick_of None s c h = walk_cycle s c None false h
+  walk_tick_of None s c h = walk_tick_idle s c h
   walk_tick_of (Some t) s c h = walk_count_down s c t h
 
   walk_tick : (s : State) (c : ℕ) → Kept s → Leaves (tick s c)
@@ -308,7 +388,10 @@ module _ (old : PolicyState) (I : WorldState → Type 0) (k : IsKeptBySmallSteps
 
   walk_let_go_one : (s : State) (t : ℕ) → Kept s → Leaves (let_go_one s t)
   unfolding let_go_one
-  walk_let_go_one s t h = k.puts (with_world s (let_go s.world t)) t (task_at s.world t).prev_cpu 0 (h.0, k.let_off s.world t h.1)
+  walk_let_go_one s t h =
+      let c = (task_at s.world t).prev_cpu in
+      let u = with_world s (let_go s.world t) in
+      walk_kicked_if_idle (put u t c 0).state c (k.puts u t c 0 (h.0, k.let_off s.world t h.1))
 
   walk_let_go_from : (j : ℕ) (s : State) (at : Option ℕ) → Kept s → Leaves (let_go_from j s at)
   unfolding let_go_from
@@ -330,12 +413,46 @@ module _ (old : PolicyState) (I : WorldState → Type 0) (k : IsKeptBySmallSteps
       let r = let_all_go u in
       walk_stalled (overdue r.state) r.state (walk_let_go_from (len_of u.world.queues parked_queue) u (front_of u.world.queues parked_queue) (h.0, k.begun s.world h.1))
 
+  walk_own : (s : State) (e : Event) → Kept s → Leaves (own_step s e)
+  walk_own s (Wake t) h = walk_wake s t h
+  walk_own s (Sleep t) h = walk_sleep s t h
+  walk_own s (Tick c) h = walk_tick s c h
+  walk_own s Clock h = walk_clock s h
+  walk_own s (SetWeight g x) h = (h.0, k.reweighed s.world g x h.1)
+
+  -- ---- rounds
+
+  walk_look_past : (s : State) (c t : ℕ) → Kept s → Leaves (look_past s c t)
+  unfolding look_past
+  walk_look_past s c t h = keeps_if Leaves ((task_at s.world t).slice == 0) (cycle s c (Some t) true) (stays s) (walk_cycle s c (Some t) true h) h
+
+  walk_cut : (b : Bool) (s : State) (t : ℕ) → Kept s → Kept (cut_off_if b s t)
+  walk_cut false s t h = h
+  walk_cut true s t h = (h.0, k.cut_off s.world t h.1)
+
+  walk_look_from : (o : Option ℕ) (cut : Bool) (s : State) (c : ℕ) → Kept s → Leaves (look_from o cut s c)
+  walk_look_from None cut s c h = walk_cycle s c None false h
+  walk_look_from (Some t) cut s c h = walk_look_past (cut_off_if cut s t) c t (walk_cut cut s t h)
+
+  walk_round : (s : State) (c : ℕ) → Kept s → Leaves (round s c)
+  unfolding round
+  walk_round s c h = walk_look_from (running s.world c) (is_in_set s.world.preempted c) (with_world s (without_kick s.world c)) c (h.0, k.unkicked s.world c h.1)
+
+  walk_round_then : (next : State → Stepped) → ((r : State) → Kept r → Leaves (next r)) → (s : State) (o : Option ℕ) → Kept s → Leaves (round_then next s o)
+  walk_round_then next more s None h = h
+  walk_round_then next more s (Some c) h = more (round s c).state (walk_round s c h)
+
+  walk_rounds : (j : ℕ) (s : State) → Kept s → Leaves (rounds j s)
+  unfolding rounds
+  walk_rounds zero s h = h
+  walk_rounds (suc j) s h = walk_round_then (λ r. rounds j r) (λ r x. walk_rounds j r x) s (next_to_look s) h
+
+  walk_with_rounds : (r : Stepped) → Leaves r → Leaves (with_rounds r)
+  unfolding with_rounds
+  walk_with_rounds r h = keeps_if Leaves (is_by_linux r.state) (one_after_other r (rounds most_rounds r.state)) r (walk_rounds most_rounds r.state h) h
+
   walk_event : (s : State) (e : Event) → Kept s → Leaves (event_step s e)
-  walk_event s (Wake t) h = walk_wake s t h
-  walk_event s (Sleep t) h = walk_sleep s t h
-  walk_event s (Tick c) h = walk_tick s c h
-  walk_event s Clock h = walk_clock s h
-  walk_event s (SetWeight g x) h = (h.0, k.reweighed s.world g x h.1)
+  walk_event s e h = walk_with_rounds (own_step s e) (walk_own s e h)
 
   -- an event keeps it, whether it is accepted or not
   pub walk_after : (s : SimState) (e : Event) → Kept s.state → Kept (after_event s e).state

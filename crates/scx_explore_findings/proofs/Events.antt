@@ -1,5 +1,5 @@
 -- What an event comes to doesn't depend on what is hidden.
-use Rattle.std.proofs.Common.{◌≡◌, ℕ, zero, suc, ◌==◌, Bool, true, false, cond, nat_lt, [], ◌∷◌, length, Option, Some, None, refl, sym, ap, ◌∙◌, subst}
+use Rattle.std.proofs.Common.{◌≡◌, ℕ, zero, suc, ◌==◌, ◌&&◌, Bool, true, false, cond, nat_lt, [], ◌∷◌, length, Option, Some, None, refl, sym, ap, ◌∙◌, subst}
 use Rattle.scx_dsq.specs.Queues.{len_of, front_of, behind_of}
 use Rattle.scx_isa_semantics.specs.declared.callbacks.Callback.{Callback}
 use Rattle.scx_isa_semantics.specs.declared.callbacks.Callback.TheVariants as callback
@@ -8,24 +8,25 @@ use Rattle.scx_sched_world.specs.declared.call.Insert.{Insert}
 use Rattle.scx_sched_world.specs.declared.eject.Eject.TheVariants as cause
 use Rattle.scx_sched_world.specs.declared.notes.What.TheVariants as note
 use Rattle.scx_sched_world.specs.Ids.{parked_queue}
-use Rattle.scx_sched_world.specs.World.{WorldState, task_at, is_runnable, is_throttled, running, cpu_of, is_idle, note_now}
-use Rattle.scx_sched_world.specs.Tasks.{for_cpu, after_wake, after_sleep, after_leave, after_stop, let_go, after_tick, used_ms, later, begun_periods, after_reweigh}
+use Rattle.scx_sched_world.specs.World.{WorldState, with_kick, with_slept, task_at, is_runnable, is_throttled, running, cpu_of, is_idle, choice, after_claim, at_callback, note_now}
+use Rattle.scx_sched_world.specs.Tasks.{for_cpu, to_local, homed, after_wake, after_sleep, after_leave, after_stop, let_go, after_tick, used_ms, later, begun_periods, after_reweigh}
+use Rattle.scx_sched_world.specs.Helpers.{with_insert}
 use Rattle.scx_sched_machine.specs.declared.events.Event.{Event}
 use Rattle.scx_sched_machine.specs.declared.events.Event.TheVariants.{Wake, Sleep, Tick, Clock, SetWeight}
 use Rattle.scx_sched_machine.specs.declared.events.Refused.TheVariants.{AlreadyRunnable, NotRunnable, UnknownTask}
 use Rattle.scx_sched_machine.specs.Policy.{PolicyState, program_of}
-use Rattle.scx_sched_machine.specs.Steps.{State, Stepped, with_world, is_ejected, stays, one_after_other}
+use Rattle.scx_sched_machine.specs.Steps.{State, Stepped, with_world, is_ejected, is_by_linux, kicked_if_idle, stays, one_after_other}
 use Rattle.scx_sched_machine.specs.Callbacks.{acting, call_back, answered_by, task_cpu_and_0}
 use Rattle.scx_sched_machine.specs.Put.{put}
 use Rattle.scx_sched_machine.specs.Parking.{park, let_go_one, let_go_from, let_all_go}
 use Rattle.scx_sched_machine.specs.Cycle.{after_stopping, cycle}
-use Rattle.scx_sched_machine.specs.Events.{refusal, answered_cpu, target, insert_or_put, settle, select, wake, sleep_from_cpu, sleep_from, sleep, throttle, expire, count_down, tick_of, tick, overdue, eject_if_stalled, clock, event_step}
+use Rattle.scx_sched_machine.specs.Events.{refusal, answered_cpu, target, insert_or_put, wake_target, settle, inserted_by_choice, chosen_by_default, chosen, ask_target, asks_target, select, wake, told_of_sleep, sleep_from_cpu, sleep_from, sleep, throttle, ends_slices, expire, count_down, tick_idle, tick_of, tick, overdue, eject_if_stalled, clock, own_step, event_step}
 use Rattle.scx_explore_findings.specs.Hidden.{Hidden, hide}
-use Rattle.scx_explore_findings.specs.HiddenStates.{hide_state, once_later, late_in}
+use Rattle.scx_explore_findings.specs.HiddenStates.{hide_state, hide_step, once_later, late_in}
 use Rattle.scx_explore_findings.specs.Unread.{IsUnread}
-use Rattle.scx_explore_findings.proofs.Worlds.{both, read, known, throttled_same, choice_same, overdue_same, hides_wake, hides_sleep, hides_let_go, hides_tick, hides_used, hides_reweigh}
-use Rattle.scx_explore_findings.proofs.Steps.{Passes, On, from, in_world, chain, noted, choose, single, rests, passes_eject, answered_same, passes_call_back, passes_enters, passes_put, passes_park}
-use Rattle.scx_explore_findings.proofs.Cycles.{read_step, passes_off, passes_cycle}
+use Rattle.scx_explore_findings.proofs.Worlds.{Hides, plain, both, by_linux, read, known, throttled_same, chosen_same, choice_same, hides_homed, hides_claim, overdue_same, hides_wake, hides_sleep, hides_let_go, hides_tick, hides_used, hides_reweigh}
+use Rattle.scx_explore_findings.proofs.Steps.{Passes, On, from, in_world, Turns, after_turn, turns_if, chain, noted, choose, single, rests, passes_eject, answered_same, passes_call_back, passes_enters, passes_put, passes_park}
+use Rattle.scx_explore_findings.proofs.Cycles.{passes_off, passes_cycle, passes_with_rounds}
 
 -- an event of one of two such states is refused for the same cause in the other one
 pub refusal_same : (h : Hidden) (s : State) (e : Event) → refusal s e ≡ refusal (hide_state h s) e
@@ -42,15 +43,28 @@ module _ (h : Hidden) (p : PolicyState) (unread : (b : Callback) → IsUnread h 
   passes_settled None t c s is = passes_put h p unread t c 1 s is
   passes_settled (Some i) t c s is = passes_enters h p unread t (for_cpu c i) s is
 
+  -- a processor looks for work as the event ends, if it is idle
+  turns_kicked : (c : ℕ) → Turns h p (λ s. kicked_if_idle s c)
+  turns_kicked c = turns_if h p (λ s. is_by_linux s && is_idle s.world c) (λ s. refl) (λ w. with_kick w c) (λ w. plain h (with_kick w c))
+
+  passes_wake_target : (c : ℕ) → On h p (λ s. wake_target s c)
+  unfolding wake_target
+  passes_wake_target c s is =
+      let one : State → Stepped = λ r. cond (is_idle r.world c) (cycle r c None false) (stays r) in
+      choose h p (is_by_linux s) (is_by_linux s) (stays (kicked_if_idle s c)) (stays (kicked_if_idle (hide_state h s) c)) (one s) (one (hide_state h s)) refl
+      (after_turn h p (λ r. kicked_if_idle r c) stays (turns_kicked c) (rests h p) s is)
+      (choose h p (is_idle s.world c) (is_idle s.world c) (cycle s c None false) (cycle (hide_state h s) c None false) (stays s) (stays (hide_state h s)) refl (passes_cycle h p unread c None false s is) (rests h p s is))
+
+  -- once the task's processor is known
+  passes_homed : (t c : ℕ) → On h p (λ s. one_after_other (insert_or_put s.world.call.insert s t c) (wake_target (insert_or_put s.world.call.insert s t c).state c))
+  passes_homed t c s is =
+      let o = s.world.call.insert in
+      chain h p (insert_or_put o s t c) (insert_or_put o (hide_state h s) t c) (λ y. wake_target y c) (passes_settled o t c s is) (passes_wake_target c)
+
   passes_settle : (t c : ℕ) → On h p (λ s. settle s t c)
   unfolding settle
   passes_settle t c s is =
-      let o = s.world.call.insert in
-      let r = insert_or_put o s t c in
-      let q = insert_or_put o (hide_state h s) t c in
-      let x = passes_settled o t c s is in
-      choose h p (is_idle r.state.world c) (is_idle q.state.world c) (one_after_other r (cycle r.state c None false)) (one_after_other q (cycle q.state c None false)) r q
-      (read_step h p unread (λ y. is_idle y.state.world c) (λ y. refl) r q x) (chain h p r q (λ y. cycle y c None false) x (passes_cycle h p unread c None false)) x
+      in_world h p (λ v. one_after_other (insert_or_put v.world.call.insert v t c) (wake_target (insert_or_put v.world.call.insert v t c).state c)) (passes_homed t c) s (homed s.world t c) (homed (hide h s.world) t c) (hides_homed h t c s.world) is
 
   answered_cpu_same : (w : WorldState) (t : ℕ) (a : Option ℕ) → answered_cpu w t a ≡ answered_cpu (hide h w) t a
   answered_cpu_same w t None = choice_same h w t
@@ -60,14 +74,31 @@ module _ (h : Hidden) (p : PolicyState) (unread : (b : Callback) → IsUnread h 
   target_same None w t a = choice_same h w t
   target_same (Some q) w t a = answered_cpu_same w t a
 
+  hides_inserted : (o : Option ℕ) → Hides h (λ w. inserted_by_choice w o)
+  hides_inserted None w = plain h w
+  hides_inserted (Some c) w = plain h (with_insert w (to_local c))
+
+  hides_chosen : (t : ℕ) → Hides h (λ w. chosen_by_default w t)
+  hides_chosen t = by_linux h (λ w. inserted_by_choice (after_claim w (choice w t)) (choice w t)) one
+    where
+      one : Hides h (λ w. inserted_by_choice (after_claim w (choice w t)) (choice w t))
+      one w =
+          both h (λ v. after_claim v (choice w t)) (λ v. inserted_by_choice v (choice w t)) (hides_claim h (choice w t)) (hides_inserted (choice w t)) w
+          ∙ ap (λ (o : Option ℕ). hide h (inserted_by_choice (after_claim (hide h w) o) o)) (chosen_same h w t)
+
+  turns_chosen : (q : Option VerifiedProgram) (t : ℕ) → Turns h p (λ s. chosen q s t)
+  turns_chosen None t s = (ap (λ (u : WorldState). with_world s u) (hides_chosen t s.world), refl)
+  turns_chosen (Some q) t s = (ap (λ (u : WorldState). with_world s u) (plain h s.world), refl)
+
   -- of a processor that was answered
   abbrev settled_by : ℕ → Option ℕ → State → Stepped
-  settled_by t a s = settle s t (target (acting s callback.SelectCpu) s.world t a)
+  settled_by t a s = settle (chosen (acting s callback.SelectCpu) s t) t (target (acting s callback.SelectCpu) s.world t a)
 
   passes_settled_by : (t : ℕ) (a : Option ℕ) → On h p (settled_by t a)
   passes_settled_by t a s is =
-      subst (λ (c : ℕ). Passes h p (settled_by t a s) (settle (hide_state h s) t c)) (target_same (acting s callback.SelectCpu) s.world t a)
-      (passes_settle t (target (acting s callback.SelectCpu) s.world t a) s is)
+      let q = acting s callback.SelectCpu in
+      subst (λ (c : ℕ). Passes h p (settled_by t a s) (settle (chosen q (hide_state h s) t) t c)) (target_same q s.world t a)
+      (after_turn h p (λ r. chosen q r t) (λ r. settle r t (target q s.world t a)) (turns_chosen q t) (passes_settle t (target q s.world t a)) s is)
 
   -- with that processor as the one on which it ran last
   abbrev selected : ℕ → ℕ → State → Stepped
@@ -83,11 +114,18 @@ module _ (h : Hidden) (p : PolicyState) (unread : (b : Callback) → IsUnread h 
       subst (λ (b : Option ℕ). Passes h p (selected t c s) (one_after_other q (settled_by t b q.state))) (answered_same h p unread s callback.SelectCpu (task_cpu_and_0 t c) t c is)
       (chain h p r q (settled_by t a) (passes_call_back h p unread callback.SelectCpu (task_cpu_and_0 t c) t c s is) (passes_settled_by t a))
 
+  passes_ask_target : (t : ℕ) → On h p (λ s. ask_target s t)
+  unfolding ask_target
+  passes_ask_target t s is =
+      subst (λ (c : ℕ). Passes h p (selected t (task_at s.world t).prev_cpu s) (selected t c (hide_state h s))) (read h (λ x. x.prev_cpu) (λ x. refl) s.world t)
+      (passes_selected t (task_at s.world t).prev_cpu s is)
+
   passes_select : (t : ℕ) → On h p (λ s. select s t)
   unfolding select
   passes_select t s is =
-      subst (λ (c : ℕ). Passes h p (selected t (task_at s.world t).prev_cpu s) (selected t c (hide_state h s))) (read h (λ x. x.prev_cpu) (λ x. refl) s.world t)
-      (passes_selected t (task_at s.world t).prev_cpu s is)
+      let only : State → WorldState = λ r. at_callback r.world callback.SelectCpu t 0 in
+      choose h p (asks_target s) (asks_target s) (ask_target s t) (ask_target (hide_state h s) t) (settle (with_world s (only s)) t 0) (settle (with_world (hide_state h s) (only (hide_state h s))) t 0) refl (passes_ask_target t s is)
+      (in_world h p (λ r. settle r t 0) (passes_settle t 0) s (only s) (only (hide_state h s)) (plain h (only s)) is)
 
   passes_wake : (t : ℕ) → On h p (λ s. wake s t)
   unfolding wake
@@ -97,17 +135,23 @@ module _ (h : Hidden) (p : PolicyState) (unread : (b : Callback) → IsUnread h 
 
   -- ---- a task goes to sleep
 
+  turns_told : (t : ℕ) → Turns h p (λ s. told_of_sleep s t)
+  unfolding told_of_sleep
+  turns_told t = turns_if h p (λ s. is_by_linux s) (λ s. refl) (λ w. with_slept w t) (λ w. plain h (with_slept w t))
+
   -- the processor looks for another once the task sleeps
-  passes_asleep : (t c : ℕ) → On h p (λ s. cycle (with_world s (after_sleep s.world t)) c None true)
-  passes_asleep t c s is = in_world h p (λ r. cycle r c None true) (passes_cycle h p unread c None true) s (after_sleep s.world t) (after_sleep (hide h s.world) t) (hides_sleep h t s.world) is
+  passes_asleep : (t c : ℕ) → On h p (λ s. cycle (told_of_sleep (with_world s (after_sleep s.world t)) t) c None true)
+  passes_asleep t c s is =
+      in_world h p (λ r. cycle (told_of_sleep r t) c None true) (after_turn h p (λ r. told_of_sleep r t) (λ r. cycle r c None true) (turns_told t) (passes_cycle h p unread c None true)) s (after_sleep s.world t) (after_sleep (hide h s.world) t) (hides_sleep h t s.world) is
 
   passes_sleep_from_cpu : (t c : ℕ) → On h p (λ s. sleep_from_cpu s t c)
   unfolding sleep_from_cpu
   passes_sleep_from_cpu t c s is =
       let r = after_stopping (with_world s (after_stop s.world c t)) c t 0 in
       let q = after_stopping (with_world (hide_state h s) (after_stop (hide h s.world) c t)) c t 0 in
-      noted h p (note_now s.world (note.Stop t c) ∷ []) (one_after_other r (cycle (with_world r.state (after_sleep r.state.world t)) c None true)) (one_after_other q (cycle (with_world q.state (after_sleep q.state.world t)) c None true))
-      (chain h p r q (λ x. cycle (with_world x (after_sleep x.world t)) c None true) (passes_off h p unread c t 0 s is) (passes_asleep t c))
+      let f : State → Stepped = λ x. cycle (told_of_sleep (with_world x (after_sleep x.world t)) t) c None true in
+      noted h p (note_now s.world (note.Stop t c) ∷ []) (one_after_other r (f r.state)) (one_after_other q (f q.state))
+      (chain h p r q f (passes_off h p unread c t 0 s is) (passes_asleep t c))
 
   passes_sleep_from : (o : Option ℕ) (t : ℕ) → On h p (λ s. sleep_from o s t)
   passes_sleep_from None t s is = single h p s (after_sleep (after_leave s.world t) t) (after_sleep (after_leave (hide h s.world) t) t) [] [] (hides_sleep h t (after_leave s.world t)) refl is
@@ -129,10 +173,10 @@ module _ (h : Hidden) (p : PolicyState) (unread : (b : Callback) → IsUnread h 
       (chain h p r q f (passes_off h p unread c t 1 s is) (λ x there. chain h p (park x t) (park (hide_state h x) t) (λ y. cycle y c None true) (passes_park h p t x there) (passes_cycle h p unread c None true)))
 
   passes_expire : (c t : ℕ) → On h p (λ s. expire s c t)
-  unfolding expire
+  unfolding expire ends_slices
   passes_expire c t s is =
-      choose h p ((task_at s.world t).slice == 0) ((task_at (hide h s.world) t).slice == 0) (cycle s c (Some t) true) (cycle (hide_state h s) c (Some t) true) (stays s) (stays (hide_state h s))
-      (read h (λ x. x.slice == 0) (λ x. refl) s.world t) (passes_cycle h p unread c (Some t) true s is) (rests h p s is)
+      choose h p ((task_at s.world t).slice == 0 && ends_slices s) ((task_at (hide h s.world) t).slice == 0 && ends_slices s) (cycle s c (Some t) true) (cycle (hide_state h s) c (Some t) true) (stays s) (stays (hide_state h s))
+      (read h (λ x. x.slice == 0 && ends_slices s) (λ x. refl) s.world t) (passes_cycle h p unread c (Some t) true s is) (rests h p s is)
 
   -- whether the task may run on
   abbrev counted : ℕ → ℕ → State → Stepped
@@ -149,8 +193,13 @@ module _ (h : Hidden) (p : PolicyState) (unread : (b : Callback) → IsUnread h 
       in_world h p (counted c t) (passes_counted c t) s (used_ms (after_tick s.world t) t) (used_ms (after_tick (hide h s.world) t) t)
       (both h (λ w. after_tick w t) (λ w. used_ms w t) (hides_tick h t) (hides_used h t) s.world) is
 
+  passes_tick_idle : (c : ℕ) → On h p (λ s. tick_idle s c)
+  unfolding tick_idle
+  passes_tick_idle c s is =
+      choose h p (is_by_linux s) (is_by_linux s) (stays s) (stays (hide_state h s)) (cycle s c None false) (cycle (hide_state h s) c None false) refl (rests h p s is) (passes_cycle h p unread c None false s is)
+
   passes_tick_of : (o : Option ℕ) (c : ℕ) → On h p (λ s. tick_of o s c)
-  passes_tick_of None c s is = passes_cycle h p unread c None false s is
+  passes_tick_of None c s is = passes_tick_idle c s is
   passes_tick_of (Some t) c s is = passes_count_down c t s is
 
   passes_tick : (c : ℕ) → On h p (λ s. tick s c)
@@ -159,15 +208,32 @@ module _ (h : Hidden) (p : PolicyState) (unread : (b : Callback) → IsUnread h 
 
   -- ---- the clock
 
+  -- a task is put, and its processor looks for work, if it is idle
+  abbrev put_and_kick : ℕ → State → ℕ → Stepped
+  put_and_kick t s c = let r = put s t c 0 in record r { state = kicked_if_idle r.state c }
+
+  passes_put_and_kick : (t c : ℕ) → On h p (λ s. put_and_kick t s c)
+  passes_put_and_kick t c s is =
+      let x = passes_put h p unread t c 0 s is in
+      let r = put s t c 0 in
+      let q = put (hide_state h s) t c 0 in
+      let k : State → State = λ y. kicked_if_idle y c in
+      let turn = turns_kicked c in (
+        ap (λ (u : State). record r { state = u; calls = (hide_step h r).calls }) (turn r.state).0
+            ∙ ap (λ (u : Stepped). record u { state = hide_state h (k u.state) }) x.0
+            ∙ sym (ap (λ (u : State). record q { state = u; calls = (hide_step h q).calls }) (turn q.state).0),
+        (turn r.state).1 ∙ x.1,
+      )
+
   abbrev put_anew : ℕ → State → ℕ → Stepped
-  put_anew t s c = put (with_world s (let_go s.world t)) t c 0
+  put_anew t s c = put_and_kick t (with_world s (let_go s.world t)) c
 
   passes_let_go_one : (t : ℕ) → On h p (λ s. let_go_one s t)
   unfolding let_go_one
   passes_let_go_one t s is =
       let c = (task_at s.world t).prev_cpu in
       subst (λ (d : ℕ). Passes h p (put_anew t s c) (put_anew t (hide_state h s) d)) (read h (λ x. x.prev_cpu) (λ x. refl) s.world t)
-      (in_world h p (λ r. put r t c 0) (passes_put h p unread t c 0) s (let_go s.world t) (let_go (hide h s.world) t) (hides_let_go h t s.world) is)
+      (in_world h p (λ r. put_and_kick t r c) (passes_put_and_kick t c) s (let_go s.world t) (let_go (hide h s.world) t) (hides_let_go h t s.world) is)
 
   passes_let_go_from : (n : ℕ) (at : Option ℕ) → On h p (λ s. let_go_from n s at)
   unfolding let_go_from
@@ -206,16 +272,19 @@ module _ (h : Hidden) (p : PolicyState) (unread : (b : Callback) → IsUnread h 
 
   -- ---- any event
 
-  passes_weight : (g x : ℕ) → On h p (λ s. event_step s (SetWeight g x))
+  passes_weight : (g x : ℕ) → On h p (λ s. own_step s (SetWeight g x))
   passes_weight g x s is = single h p s (after_reweigh s.world g x) (after_reweigh (hide h s.world) g x) _ _ (hides_reweigh h g x s.world) refl is
+
+  passes_own : (e : Event) (s t : State) → hide_state h s ≡ hide_state h t → s.policy ≡ p → late_in s e ≡ late_in t e → Passes h p (own_step s e) (own_step t e)
+  passes_own (Wake u) s t same is late = from h p (λ r. wake r u) (passes_wake u) s t same is
+  passes_own (Sleep u) s t same is late = from h p (λ r. sleep r u) (passes_sleep u) s t same is
+  passes_own (Tick c) s t same is late = from h p (λ r. tick r c) (passes_tick c) s t same is
+  passes_own Clock s t same is late = passes_clock s t same is late
+  passes_own (SetWeight g x) s t same is late = from h p (λ r. own_step r (SetWeight g x)) (passes_weight g x) s t same is
 
   -- in two states that are the same an event comes to the same, where the same task or none waits too long in both
   pub passes_event : (e : Event) (s t : State) → hide_state h s ≡ hide_state h t → s.policy ≡ p → late_in s e ≡ late_in t e → Passes h p (event_step s e) (event_step t e)
-  passes_event (Wake u) s t same is late = from h p (λ r. wake r u) (passes_wake u) s t same is
-  passes_event (Sleep u) s t same is late = from h p (λ r. sleep r u) (passes_sleep u) s t same is
-  passes_event (Tick c) s t same is late = from h p (λ r. tick r c) (passes_tick c) s t same is
-  passes_event Clock s t same is late = passes_clock s t same is late
-  passes_event (SetWeight g x) s t same is late = from h p (λ r. event_step r (SetWeight g x)) (passes_weight g x) s t same is
+  passes_event e s t same is late = passes_with_rounds h p unread (own_step s e) (own_step t e) (passes_own e s t same is late)
 
   late_shown : h.waits ≡ false → (s t : State) → hide_state h s ≡ hide_state h t → s.policy ≡ p → late_in s Clock ≡ late_in t Clock
   late_shown e s t same is =

@@ -2,7 +2,7 @@
 use Rattle.std.proofs.Common.{◌≡◌, ℕ, zero, suc, true, false, if◌then◌else◌, nat_lt, List, [], ◌∷◌, length, map, set, Option, Some, None, is_some, is_none, refl, sym, ◌∙◌, subst}
 use Rattle.scx_dsq.specs.declared.entries.Entry.{Entry}
 use Rattle.scx_dsq.specs.declared.entries.Rank.{Rank}
-use Rattle.scx_dsq.specs.declared.entries.Rank.TheVariants.{Fifo, Vtime}
+use Rattle.scx_dsq.specs.declared.entries.Rank.TheVariants.{Fifo, Front, Vtime}
 use Rattle.scx_dsq.specs.Entries.{key_of}
 use Rattle.scx_dsq.specs.Queues.{QueueState, entry_of, front_of}
 use Rattle.scx_dsq.specs.Calls.{create_refusal, with_queue, after_create, push_refusal, next_entry, with_task as with_entry, after_push, without_task, after_remove, without, after_pop}
@@ -29,15 +29,15 @@ use Rattle.scx_sched_world.specs.declared.call.Insert.{Insert}
 use Rattle.scx_sched_world.specs.declared.eject.Eject.{Eject}
 use Rattle.scx_sched_world.specs.declared.faults.Fault.{Fault}
 use Rattle.scx_sched_world.specs.Ids.{parked_queue, local_on}
-use Rattle.scx_sched_world.specs.World.{WorldState, with_queues, with_tree, at_callback, task_at, with_task}
-use Rattle.scx_sched_world.specs.Tasks.{with_since, after_leave, after_enter, for_cpu, brought, started_at, after_keep, put_parked, after_take, after_sleep, used_ms, after_reweigh}
+use Rattle.scx_sched_world.specs.World.{WorldState, with_queues, with_tree, is_by_linux, with_kick, at_callback, task_at, with_task, running, is_this, choice, after_claim}
+use Rattle.scx_sched_world.specs.Tasks.{with_since, with_slice, with_home, after_leave, homed, local_cpu, homed_at, after_local, task_after_insert, rank_by, after_preempt_of, after_preempt_at, after_preempt, after_enter, for_cpu, to_front, brought, started_at, after_run, after_keep, put_parked, after_take, after_sleep, used_ms, after_reweigh}
 use Rattle.scx_sched_world.specs.Helpers.{is_dispatch, with_insert, after_release, insert_or_fault, front_moved_to_local, helper_after, world_functions}
 use Rattle.scx_sched_machine.specs.Policy.{PolicyState, program_of}
 use Rattle.scx_sched_machine.specs.Steps.{State, Stepped}
-use Rattle.scx_sched_machine.specs.Ejecting.{moves_over, eject, ejected_for}
+use Rattle.scx_sched_machine.specs.Ejecting.{eject, ejected_for}
 use Rattle.scx_sched_machine.specs.Callbacks.{call_ending, after_callback, fault_of, unless_ejected, acting, call_back, task_and_number}
 use Rattle.scx_sched_machine.specs.Put.{enters, enqueue_choice, enters_builtin, comes_in, put}
-use Rattle.scx_sched_machine.specs.Events.{insert_or_put}
+use Rattle.scx_sched_machine.specs.Events.{insert_or_put, inserted_by_choice, chosen_by_default}
 use Rattle.scx_sched_machine.proofs.Choices.{keeps_if}
 use Rattle.scx_sched.proofs.Unchanged.{same_put_builtin, eject_sets}
 use Rattle.scx_load_driver.specs.Runs.{stepped_all}
@@ -75,29 +75,70 @@ created s q h = keeps_if (λ (u : QueueState). AreInOrder u.entries) (is_none (c
 
 -- ---- small changes of a world
 
+fifo_by : (w : WorldState) (r : Rank) → IsFifo r → IsFifo (rank_by w r)
+fifo_by w Fifo f = tt
+fifo_by w Front f = tt
+fifo_by w (Vtime n) f = absurd f
+
+-- a task has another processor
+pub order_homed : (w : WorldState) (t c : ℕ) → IsInOrder w → IsInOrder (homed w t c)
+order_homed w t c h = keeps_if IsInOrder (is_by_linux w) (with_task w t (with_home (task_at w t) c)) w h h
+
+order_homed_at : (w : WorldState) (t : ℕ) (o : Option ℕ) → IsInOrder w → IsInOrder (homed_at w t o)
+order_homed_at w t None h = h
+order_homed_at w t (Some c) h = order_homed w t c h
+
+order_preempt_of : (w : WorldState) (c : ℕ) (o : Option ℕ) → IsInOrder w → IsInOrder (after_preempt_of w c o)
+order_preempt_of w c None h = h
+order_preempt_of w c (Some t) h = keeps_if IsInOrder (is_this c w.cycling) w (with_kick (with_task w t (with_slice (task_at w t) 0)) c) h h
+
+order_preempt_at : (w : WorldState) (o : Option ℕ) → IsInOrder w → IsInOrder (after_preempt_at w o)
+order_preempt_at w None h = h
+order_preempt_at w (Some c) h = order_preempt_of w c (running w c) h
+
+order_preempt : (w : WorldState) (i : Insert) → IsInOrder w → IsInOrder (after_preempt w i)
+order_preempt w i h = keeps_if IsInOrder i.preempts (after_preempt_at w (local_cpu w i.queue)) w (order_preempt_at w (local_cpu w i.queue) h) h
+
 -- a task goes into a queue in order of arrival
 pub order_entered : (w : WorldState) (t : ℕ) (i : Insert) → (w.ejected ≡ None → IsFifo i.rank) → IsInOrder w → IsInOrder (after_enter w t i)
-order_entered w t i f h = keeps_if IsInOrder (nat_lt t (length w.tasks)) _ w (λ none. (pushed w.queues i.queue t i.rank (f none) (h none).0, (h none).1)) h
+order_entered w t i f h =
+    keeps_if IsInOrder (nat_lt t (length w.tasks)) (after_preempt home i) w
+    (order_preempt home i (order_homed_at given t at (λ none. (pushed w.queues i.queue t (rank_by w i.rank) (fifo_by w i.rank (f none)) (h none).0, (h none).1))))
+    h
+  where
+    given : WorldState
+    given = with_queues (with_task w t (task_after_insert (task_at w t) i)) (after_push w.queues i.queue t (rank_by w i.rank))
+
+    at : Option ℕ
+    at = local_cpu w i.queue
+
+    home : WorldState
+    home = homed_at given t at
 
 -- a task leaves its queue
 pub order_left : (w : WorldState) (t : ℕ) → IsInOrder w → IsInOrder (after_leave w t)
 order_left w t h none = (removed w.queues t (h none).0, (h none).1)
 
-passed : (w : WorldState) (q c t : ℕ) → IsInOrder w → IsInOrder (with_queues w (after_push (after_pop w.queues q) (local_on c) t Fifo))
-passed w q c t h none = (pushed (after_pop w.queues q) (local_on c) t Fifo tt (popped w.queues q (h none).0), (h none).1)
-
--- a task is brought from one queue to a local one
-pub order_brought : (o : Option ℕ) (w : WorldState) (q c : ℕ) → IsInOrder w → IsInOrder (brought o w q c)
-order_brought None w q c h = h
-order_brought (Some t) w q c h = passed w q c t h
-
 -- a front leaves its queue
 pub order_taken : (w : WorldState) (q : ℕ) → IsInOrder w → IsInOrder (after_take w q)
 order_taken w q h none = (popped w.queues q (h none).0, (h none).1)
 
+-- a task comes to the end of a local queue
+order_local : (w : WorldState) (c t : ℕ) → IsInOrder w → IsInOrder (after_local w c t)
+order_local w c t h = order_homed (with_queues w (after_push w.queues (local_on c) t Fifo)) t c (λ none. (pushed w.queues (local_on c) t Fifo tt (h none).0, (h none).1))
+
+-- a task is brought from one queue to a local one
+pub order_brought : (o : Option ℕ) (w : WorldState) (q c : ℕ) → IsInOrder w → IsInOrder (brought o w q c)
+order_brought None w q c h = h
+order_brought (Some t) w q c h = order_local (after_take w q) c t (order_taken w q h)
+
 -- a front comes to a processor
 pub order_started : (w : WorldState) (t c : ℕ) → IsInOrder w → IsInOrder (started_at (Some t) w c)
 order_started w t c h none = (popped w.queues (local_on c) (h none).0, (h none).1)
+
+-- a task that was picked comes to a processor
+pub order_run : (w : WorldState) (c t : ℕ) → IsInOrder w → IsInOrder (after_run w c t)
+order_run w c t h = order_left w t h
 
 -- a task keeps its processor
 pub order_kept : (w : WorldState) (o : Option ℕ) → IsInOrder w → IsInOrder (after_keep w o)
@@ -120,6 +161,22 @@ order_used w t h = keeps_if IsInOrder (nat_lt t (length w.tasks)) _ w h h
 pub order_reweighed : (w : WorldState) (g x : ℕ) → IsInOrder w → IsInOrder (after_reweigh w g x)
 order_reweighed w g x h = keeps_if IsInOrder (is_none (weight_fault w.tree g x)) (with_tree w (with_weight w.tree g x)) w h h
 
+-- ---- choices
+
+order_claimed : (w : WorldState) (o : Option ℕ) → IsInOrder w → IsInOrder (after_claim w o)
+order_claimed w None h = h
+order_claimed w (Some c) h = keeps_if IsInOrder (is_by_linux w) _ w h h
+
+order_choice : (w : WorldState) (o : Option ℕ) → IsInOrder w → IsInOrder (inserted_by_choice w o)
+order_choice w None h = h
+order_choice w (Some c) h = λ none. ((h none).0, tt)
+
+-- a processor is chosen by default
+pub order_chosen : (w : WorldState) (t : ℕ) → IsInOrder w → IsInOrder (chosen_by_default w t)
+order_chosen w t h =
+    let o = choice w t in
+    keeps_if IsInOrder (is_by_linux w) (inserted_by_choice (after_claim w o) o) w (order_choice (after_claim w o) o (order_claimed w o h)) h
+
 -- ---- callbacks
 
 released : (w : WorldState) (t : Option ℕ) (i : Insert) → IsFifo i.rank → IsInOrder w → IsInOrder (after_release w t i)
@@ -132,7 +189,7 @@ inserted w (Some x) t i f h = h
 
 moved : (w : WorldState) (o : Option ℕ) (q : ℕ) → IsInOrder w → IsInOrder (front_moved_to_local w o q)
 moved w None q h = h
-moved w (Some t) q h = passed w q w.call.cpu t h
+moved w (Some t) q h = order_local (after_take w q) w.call.cpu t (order_taken w q h)
 
 apart : true ≡ false → ⊥
 apart e = absurd (cc)
@@ -144,7 +201,11 @@ helped w f a fine h = by_helper (λ (g : Helper). is_by_vtime (Some g) ≡ false
   created = λ may q none. (created w.queues q (h none).0, (h none).1);
   inserted = λ t i fifo. inserted w None t i fifo h;
   by_vtime = λ may t i. absurd (apart may);
+  late = h;
   moved = λ o q. moved w o q h;
+  claimed = λ o. order_claimed w o h;
+  kicked = λ c. h;
+  preempted = λ c. h;
 }) f fine a
 
 -- a query that inserts nobody by a virtual time
@@ -229,7 +290,7 @@ module _ (p : PolicyState) (may : InsertInOrder p) where
 
       go : (o : Option Eject) → s.world.ejected ≡ o → Leaves (if is_some o then enters_builtin s t else enters s t i)
       go None is = order_enters s t i (λ none. chosen s.policy.callbacks.enqueue c s.world.call.insert (h.1 none).1) h
-      go (Some x) is = (h.0, λ none. absurd (no_cause x (sym ((same_put_builtin s.world s.world t (refl, refl, refl, refl)).1 ∙ is) ∙ none)))
+      go (Some x) is = (h.0, λ none. absurd (no_cause x (sym ((same_put_builtin s.world s.world t (refl, refl, refl, refl, refl, refl)).1 ∙ is) ∙ none)))
 
   -- a task is put
   pub order_puts : (s : State) (t c flags : ℕ) → Kept s → Leaves (put s t c flags)
@@ -263,10 +324,21 @@ module _ (p : PolicyState) (may : InsertInOrder p) where
     let_off = λ w t h. order_left (with_task w t (with_since (task_at w t) (Some w.clock))) t h;
     begun = λ w h. h;
     reweighed = order_reweighed;
+    fronted = λ w t c h. order_entered w t (to_front c) (λ none. tt) h;
+    runs = order_run;
+    lengthened = λ w t h. h;
+    cut_off = λ w t h. h;
+    homed = order_homed;
+    chosen = order_chosen;
+    at_hand = λ w t h none. ((h none).0, tt);
+    told = λ w t h. h;
+    kicks = λ w c h. h;
+    unkicked = λ w c h. h;
   }
 
 key_is : (r : Rank) → IsFifo r → key_of r ≡ 0
 key_is Fifo f = refl
+key_is Front f = refl
 key_is (Vtime n) f = absurd f
 
 waiting_is : (o : Option Entry) → WaitsInOrder o → waiting_key o ≡ 0

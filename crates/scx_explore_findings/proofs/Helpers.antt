@@ -1,15 +1,15 @@
 -- One walk over the helpers, for what holds of each world that an allowed call may leave. And what a helper answers and
 -- makes of a world doesn't depend on what is hidden, nor does what is loaded of a field that isn't hidden, or stored to
 -- any.
-use Rattle.std.proofs.Common.{◌≡◌, ℕ, ◌-◌, ◌&&◌, Bool, false, cond, nat_lt, nat_le, List, length, map, Option, Some, None, refl, sym, ap, ◌∙◌}
+use Rattle.std.proofs.Common.{◌≡◌, ℕ, ◌-◌, ◌&&◌, ◌||◌, is_none, Bool, false, cond, nat_lt, nat_le, List, length, map, Option, Some, None, refl, sym, ap, ◌∙◌}
 use Rattle.scx_dsq.specs.Queues.{front_of}
-use Rattle.scx_dsq.specs.Calls.{after_create}
+use Rattle.scx_dsq.specs.Calls.{after_create, after_pop}
 use Rattle.scx_isa_semantics.specs.declared.callbacks.Callback.{Callback}
 use Rattle.scx_isa_semantics.specs.declared.callbacks.Callback.TheVariants as callback
 use Rattle.scx_isa_semantics.specs.declared.host_tables.Field.{Field}
 use Rattle.scx_isa_semantics.specs.declared.host_tables.Field.TheVariants.{Pid, Weight, Slice, DsqVtime, PrevCpu, Group, RunNs}
 use Rattle.scx_isa_semantics.specs.declared.host_tables.Helper.{Helper}
-use Rattle.scx_isa_semantics.specs.declared.host_tables.Helper.TheVariants.{CreateDsq, DsqInsert, DsqInsertVtime, DsqMoveToLocal, SelectCpuDfl, CpuIdle, TaskByPid, DsqNrQueued}
+use Rattle.scx_isa_semantics.specs.declared.host_tables.Helper.TheVariants.{CreateDsq, DsqInsert, DsqInsertVtime, DsqMoveToLocal, SelectCpuDfl, CpuIdle, TaskByPid, DsqNrQueued, KickCpu}
 use Rattle.scx_isa_semantics.specs.declared.values.Value.TheVariants.{Number}
 use Rattle.scx_isa_semantics.specs.Effects.{Query, Call, Load, Store}
 use Rattle.scx_vm.specs.declared.arguments.Arg.{Arg}
@@ -18,43 +18,75 @@ use Rattle.scx_vm.specs.Arguments.{argument_of, answer_value}
 use Rattle.scx_vm.specs.Host.{answer_to, after_query}
 use Rattle.scx_sched_world.specs.declared.call.Insert.{Insert}
 use Rattle.scx_sched_world.specs.declared.faults.Fault.{Fault}
-use Rattle.scx_sched_world.specs.declared.faults.Fault.TheVariants.{NoSuchQueue, NoSuchCpu, CannotCreate, CannotInsert, UnknownFlag}
+use Rattle.scx_sched_world.specs.declared.faults.Fault.TheVariants.{NoSuchQueue, NoSuchCpu, CannotCreate, CannotInsert}
+use Rattle.scx_sched_world.specs.declared.kicks.Kick.{Kick}
+use Rattle.scx_sched_world.specs.declared.kicks.Kick.TheVariants.{Any, IfIdle, Preempt}
+use Rattle.scx_dsq.specs.declared.entries.Rank.TheVariants.{Fifo, Front}
 use Rattle.scx_sched_world.specs.declared.notes.What.TheVariants as notes
-use Rattle.scx_sched_world.specs.World.{WorldState, with_queues, with_note}
+use Rattle.scx_sched_world.specs.World.{WorldState, with_queues, with_kick, with_preemption, is_by_linux, running, is_this, choice, after_claim, with_note}
+use Rattle.scx_weights.specs.Hierarchy.{own_weight}
 use Rattle.scx_sched_world.specs.Tasks.{after_leave, for_cpu}
-use Rattle.scx_sched_world.specs.Helpers.{with_fault, invalid_if, is_there, can_create, is_dispatch, may_insert_in, queue_fault, rank_fault, or_fault, insert_fault, with_insert, with_move, after_release, insert_or_fault, after_insert, insert_of, insert_of_vtime, can_move, front_moved_to_local, choice_answer, given_number, given_task, helper_answer, helper_after, field_of, stored_in, world_functions}
+use Rattle.scx_sched_world.specs.Helpers.{with_fault, invalid_if, is_there, can_create, is_dispatch, may_insert_in, queue_fault, rank_fault, or_fault, has_preempt, has_head, arrival_rank, flags_fault, insert_fault, is_late, after_late, with_insert, with_move, after_release, insert_or_fault, after_insert, insert_answer, insert_of, insert_of_vtime, can_move, front_moved_to_local, choice_answer, after_choice, kick_of, kick_fault, kicked_or_fault, after_kick, given_number, given_task, helper_answer, helper_after, field_of, stored_in, world_functions}
 use Rattle.scx_sched_machine.proofs.Choices.{keeps_if}
 use Rattle.scx_explore_findings.specs.Hidden.{Hidden, hide}
 use Rattle.scx_explore_findings.specs.Unread.{is_hidden}
 use Rattle.scx_explore_findings.specs.FifoOnly.{IsFifo}
 use Rattle.scx_explore_findings.proofs.Records.{alike_if, keeps_store, length_same}
-use Rattle.scx_explore_findings.proofs.Worlds.{Hides, plain, read, weight_same, group_same, choice_same, set_task, hides_enter}
+use Rattle.scx_explore_findings.proofs.Worlds.{Hides, plain, read, weight_same, group_same, chosen_same, choice_same, set_task, hides_local, hides_enter, hides_claim}
 
 -- ---- what a call may leave
 
 -- of what a helper leaves that may be called, the property holds: the world as it is, one with a fault, with a queue
--- created, with an insert kept or done at once, with a task moved
+-- created, with an insert kept, done at once or passed over, with a task moved, a processor claimed or kicked
 pub record HoldsAfter (may : Helper → Type 0) (P : WorldState → Type 0) (w : WorldState) : Type 0 where
   pub same : P w
   pub faulty : (f : Fault) → P (with_fault w f)
   pub created : may CreateDsq → (q : ℕ) → P (with_queues w (after_create w.queues q))
   pub inserted : (t : Option ℕ) (i : Insert) → IsFifo i.rank → P (insert_or_fault w None t i)
   pub by_vtime : may DsqInsertVtime → (t : Option ℕ) (i : Insert) → P (insert_or_fault w None t i)
+  pub late : P (with_move w)
   pub moved : (o : Option ℕ) (q : ℕ) → P (front_moved_to_local w o q)
+  pub claimed : (o : Option ℕ) → P (after_claim w o)
+  pub kicked : (c : ℕ) → P (with_kick w c)
+  pub preempted : (c : ℕ) → P (with_preemption w c)
 
 module _ (may : Helper → Type 0) (P : WorldState → Type 0) (w : WorldState) (h : HoldsAfter may P w) where
   tried : (o : Option Fault) (t : Option ℕ) (i : Insert) → P (insert_or_fault w None t i) → P (insert_or_fault w o t i)
   tried None t i done = done
   tried (Some f) t i done = h.faulty f
 
+  passed_over : (o : Option Fault) → P (after_late w o)
+  passed_over None = h.late
+  passed_over (Some f) = h.faulty f
+
+  inserts : (t : Option ℕ) (i : Insert) (flags : ℕ) → P (insert_or_fault w None t i) → P (after_insert w t i flags)
+  inserts t i flags done =
+      keeps_if P (is_late w t) (after_late w (flags_fault w flags)) (insert_or_fault w (insert_fault w t i flags) t i) (passed_over (flags_fault w flags)) (tried (insert_fault w t i flags) t i done)
+
+  arrives : (n : ℕ) → IsFifo (arrival_rank n)
+  arrives n = keeps_if IsFifo (has_preempt n || has_head n) Front Fifo tt tt
+
+  chooses : (t : Option ℕ) → P (after_choice w t)
+  chooses None = h.same
+  chooses (Some t) = h.claimed (choice w t)
+
+  kicks : (o : Option Fault) (c : ℕ) (k : Option Kick) → P (kicked_or_fault w o c k)
+  kicks (Some f) c k = h.faulty f
+  kicks None c None = h.same
+  kicks None c (Some Any) = h.kicked c
+  kicks None c (Some IfIdle) = keeps_if P (is_none (running w c) || is_this c w.cycling) (with_kick w c) w (h.kicked c) h.same
+  kicks None c (Some Preempt) = h.preempted c
+
   -- whichever helper is called that may be, and whatever it is given
   pub by_helper : (f : Helper) → may f → (a : List Arg) → P (helper_after w f a)
   by_helper CreateDsq m a = keeps_if P (can_create w (given_number a 0)) (with_queues w (after_create w.queues (given_number a 0))) (with_fault w CannotCreate) (h.created m (given_number a 0)) (h.faulty CannotCreate)
-  by_helper DsqInsert m a = tried (insert_fault w (given_task a 0) (insert_of a) (given_number a 3)) (given_task a 0) (insert_of a) (h.inserted (given_task a 0) (insert_of a) tt)
-  by_helper DsqInsertVtime m a = tried (insert_fault w (given_task a 0) (insert_of_vtime a) (given_number a 4)) (given_task a 0) (insert_of_vtime a) (h.by_vtime m (given_task a 0) (insert_of_vtime a))
+  by_helper DsqInsert m a = inserts (given_task a 0) (insert_of w a) (given_number a 3) (h.inserted (given_task a 0) (insert_of w a) (arrives (given_number a 3)))
+  by_helper DsqInsertVtime m a = inserts (given_task a 0) (insert_of_vtime w a) (given_number a 4) (h.by_vtime m (given_task a 0) (insert_of_vtime w a))
   by_helper DsqMoveToLocal m a = keeps_if P (can_move w (given_number a 0)) (front_moved_to_local w (front_of w.queues (given_number a 0)) (given_number a 0)) (with_fault w NoSuchQueue) (h.moved (front_of w.queues (given_number a 0)) (given_number a 0)) (h.faulty NoSuchQueue)
   by_helper CpuIdle m a = keeps_if P (nat_lt (given_number a 0) (length w.cpus)) w (with_fault w NoSuchCpu) h.same (h.faulty NoSuchCpu)
   by_helper DsqNrQueued m a = keeps_if P (is_there w (given_number a 0)) w (with_fault w NoSuchQueue) h.same (h.faulty NoSuchQueue)
+  by_helper SelectCpuDfl m a = chooses (given_task a 0)
+  by_helper KickCpu m a = let k = kick_of (given_number a 1) in kicks (kick_fault w (given_number a 0) k) (given_number a 0) k
   by_helper f m a = h.same
 
 -- ---- what is hidden
@@ -73,7 +105,7 @@ module _ (h : Hidden) where
 
   fault_same : (w : WorldState) (t : Option ℕ) (i : Insert) (flags : ℕ) → insert_fault w t i flags ≡ insert_fault (hide h w) t i flags
   fault_same w t i flags =
-      ap (λ (b : Bool). cond b (cond (nat_lt 1 flags) (Some UnknownFlag) (or_fault (queue_fault w i.queue) (rank_fault w i.queue i.rank))) (Some CannotInsert)) (may_same w.call.callback w t)
+      ap (λ (b : Bool). cond b (or_fault (flags_fault w flags) (or_fault (queue_fault w i.queue) (rank_fault w i.queue i.rank))) (Some CannotInsert)) (may_same w.call.callback w t)
 
   hides_release : (t : Option ℕ) (i : Insert) → Hides h (λ w. after_release w t i)
   hides_release None i w = plain h w
@@ -83,25 +115,62 @@ module _ (h : Hidden) where
   hides_inserted None t i w = alike_if (hide h) (is_dispatch w.call.callback) (is_dispatch w.call.callback) _ _ _ _ refl (hides_release t (for_cpu w.call.cpu i) w) (plain h (with_insert w i))
   hides_inserted (Some f) t i w = plain h (with_fault w f)
 
+  late_same : (w : WorldState) (t : Option ℕ) → is_late w t ≡ is_late (hide h w) t
+  late_same w None = refl
+  late_same w (Some t) = refl
+
+  hides_late : (o : Option Fault) → Hides h (λ w. after_late w o)
+  hides_late None w = plain h (with_move w)
+  hides_late (Some f) w = plain h (with_fault w f)
+
   hides_insert : (t : Option ℕ) (i : Insert) (flags : ℕ) → Hides h (λ w. after_insert w t i flags)
   hides_insert t i flags w =
-      hides_inserted (insert_fault w t i flags) t i w
-      ∙ ap (λ (o : Option Fault). hide h (insert_or_fault (hide h w) o t i)) (fault_same w t i flags)
+      alike_if (hide h) (is_late w t) (is_late (hide h w) t) _ _ _ _ (late_same w t) (hides_late (flags_fault w flags) w)
+      (hides_inserted (insert_fault w t i flags) t i w
+      ∙ ap (λ (o : Option Fault). hide h (insert_or_fault (hide h w) o t i)) (fault_same w t i flags))
+
+  answers_insert : (w : WorldState) (t : Option ℕ) (i : Insert) (flags : ℕ) → insert_answer w t i flags ≡ insert_answer (hide h w) t i flags
+  answers_insert w t i flags =
+      ap (λ (b : Bool). cond b (invalid_if (flags_fault w flags)) (invalid_if (insert_fault w t i flags))) (late_same w t)
+      ∙ ap (λ (o : Option Fault). cond (is_late (hide h w) t) (invalid_if (flags_fault w flags)) (invalid_if o)) (fault_same w t i flags)
 
   -- ---- other helpers
 
   hides_moved : (o : Option ℕ) (q : ℕ) → Hides h (λ w. front_moved_to_local w o q)
   hides_moved None q w = plain h w
-  hides_moved (Some t) q w = plain h (front_moved_to_local w (Some t) q)
+  hides_moved (Some t) q w = ap (λ (v : WorldState). with_note (with_move v) (notes.Move t w.call.cpu)) (hides_local h w.call.cpu t (with_queues w (after_pop w.queues q)))
 
   chosen : (o : Option ℕ) (w : WorldState) → choice_answer w o ≡ choice_answer (hide h w) o
   chosen None w = refl
   chosen (Some t) w = choice_same h w t
 
+  hides_choice : (t : Option ℕ) → Hides h (λ w. after_choice w t)
+  hides_choice None w = plain h w
+  hides_choice (Some t) w = hides_claim h (choice w t) w ∙ ap (λ (o : Option ℕ). hide h (after_claim (hide h w) o)) (chosen_same h w t)
+
+  kick_same : (w : WorldState) (c : ℕ) (k : Option Kick) → kick_fault w c k ≡ kick_fault (hide h w) c k
+  kick_same w c None = refl
+  kick_same w c (Some k) = refl
+
+  hides_kicked : (o : Option Fault) (c : ℕ) (k : Option Kick) → Hides h (λ w. kicked_or_fault w o c k)
+  hides_kicked (Some f) c k w = plain h (with_fault w f)
+  hides_kicked None c None w = plain h w
+  hides_kicked None c (Some Any) w = plain h (with_kick w c)
+  hides_kicked None c (Some IfIdle) w =
+      let b = is_none (running w c) || is_this c w.cycling in
+      alike_if (hide h) b b (with_kick w c) (with_kick (hide h w) c) w (hide h w) refl (plain h (with_kick w c)) (plain h w)
+  hides_kicked None c (Some Preempt) w = plain h (with_preemption w c)
+
+  hides_kick : (c flags : ℕ) → Hides h (λ w. after_kick w c flags)
+  hides_kick c flags w =
+      let k = kick_of flags in
+      hides_kicked (kick_fault w c k) c k w ∙ ap (λ (o : Option Fault). hide h (kicked_or_fault (hide h w) o c k)) (kick_same w c k)
+
   -- what it answers
   helper_same : (f : Helper) (a : List Arg) (w : WorldState) → helper_answer w f a ≡ helper_answer (hide h w) f a
-  helper_same DsqInsert a w = ap (λ (o : Option Fault). answer.Num (invalid_if o)) (fault_same w (given_task a 0) (insert_of a) (given_number a 3))
-  helper_same DsqInsertVtime a w = ap (λ (o : Option Fault). answer.Num (invalid_if o)) (fault_same w (given_task a 0) (insert_of_vtime a) (given_number a 4))
+  helper_same DsqInsert a w = ap answer.Num (answers_insert w (given_task a 0) (insert_of w a) (given_number a 3))
+  helper_same DsqInsertVtime a w = ap answer.Num (answers_insert w (given_task a 0) (insert_of_vtime w a) (given_number a 4))
+  helper_same KickCpu a w = ap (λ (o : Option Fault). answer.Num (invalid_if o)) (kick_same w (given_number a 0) (kick_of (given_number a 1)))
   helper_same SelectCpuDfl a w = ap answer.Num (chosen (given_task a 0) w)
   helper_same TaskByPid a w =
       ap (λ (n : ℕ). cond (nat_lt 0 (given_number a 0) && nat_le (given_number a 0) n) (answer.Task (record { 0 = given_number a 0 - 1 })) (answer.Num 0)) (length_same h w.tasks)
@@ -110,13 +179,15 @@ module _ (h : Hidden) where
   -- what it makes of the world
   hides_helper : (f : Helper) (a : List Arg) → Hides h (λ w. helper_after w f a)
   hides_helper CreateDsq a w = alike_if (hide h) (can_create w (given_number a 0)) (can_create w (given_number a 0)) _ _ _ _ refl (plain h (with_queues w (after_create w.queues (given_number a 0)))) (plain h (with_fault w CannotCreate))
-  hides_helper DsqInsert a w = hides_insert (given_task a 0) (insert_of a) (given_number a 3) w
-  hides_helper DsqInsertVtime a w = hides_insert (given_task a 0) (insert_of_vtime a) (given_number a 4) w
+  hides_helper DsqInsert a w = hides_insert (given_task a 0) (insert_of w a) (given_number a 3) w
+  hides_helper DsqInsertVtime a w = hides_insert (given_task a 0) (insert_of_vtime w a) (given_number a 4) w
   hides_helper DsqMoveToLocal a w =
       let q = given_number a 0 in
       alike_if (hide h) (can_move w q) (can_move w q) _ _ _ _ refl (hides_moved (front_of w.queues q) q w) (plain h (with_fault w NoSuchQueue))
   hides_helper CpuIdle a w = alike_if (hide h) (nat_lt (given_number a 0) (length w.cpus)) (nat_lt (given_number a 0) (length w.cpus)) w (hide h w) _ _ refl (plain h w) (plain h (with_fault w NoSuchCpu))
   hides_helper DsqNrQueued a w = alike_if (hide h) (is_there w (given_number a 0)) (is_there w (given_number a 0)) w (hide h w) _ _ refl (plain h w) (plain h (with_fault w NoSuchQueue))
+  hides_helper SelectCpuDfl a w = hides_choice (given_task a 0) w
+  hides_helper KickCpu a w = hides_kick (given_number a 0) (given_number a 1) w
   hides_helper f a w = plain h w
 
   -- ---- queries
@@ -131,7 +202,7 @@ module _ (h : Hidden) where
 
   field_same : (f : Field) (t : ℕ) (w : WorldState) → is_hidden h f ≡ false → field_of w t f ≡ field_of (hide h w) t f
   field_same Pid t w e = refl
-  field_same Weight t w e = weight_same h w t
+  field_same Weight t w e = ap (λ (n : ℕ). cond (is_by_linux w) (own_weight w.tree t) n) (weight_same h w t)
   field_same Slice t w e = read h (λ x. x.slice) (λ x. refl) w t
   field_same DsqVtime t w e = read h (λ x. x.vtime) (λ x. shown h.vtime x.vtime e) w t
   field_same PrevCpu t w e = read h (λ x. x.prev_cpu) (λ x. refl) w t

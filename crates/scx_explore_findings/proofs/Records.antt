@@ -1,14 +1,14 @@
 -- Records of tasks of which something is hidden.
-use Rattle.std.proofs.Common.{◌≡◌, ℕ, zero, suc, ◌+◌, ◌==◌, Bool, true, false, cond, not, nat_lt, List, [], ◌∷◌, length, set, get_or, Option, Some, None, position, refl, sym, ap, ◌∙◌, subst}
+use Rattle.std.proofs.Common.{◌≡◌, ℕ, zero, suc, ◌+◌, ◌==◌, ◌&&◌, Bool, true, false, cond, not, nat_lt, List, [], ◌∷◌, length, set, get_or, Option, Some, None, position, refl, sym, ap, ◌∙◌, subst}
 use Rattle.std.specs.List.{position_or_len}
 use Rattle.scx_dsq.specs.declared.entries.Rank.{Rank}
-use Rattle.scx_dsq.specs.declared.entries.Rank.TheVariants.{Fifo, Vtime}
+use Rattle.scx_dsq.specs.declared.entries.Rank.TheVariants.{Fifo, Front, Vtime}
 use Rattle.scx_isa_semantics.specs.declared.host_tables.Field.{Field}
 use Rattle.scx_isa_semantics.specs.declared.host_tables.Field.TheVariants.{Slice, DsqVtime}
 use Rattle.scx_sched_tasks.specs.declared.task.Task.{Task}
 use Rattle.scx_sched_tasks.specs.Tasks.{no_task, default_slice}
 use Rattle.scx_sched_world.specs.declared.call.Insert.{Insert}
-use Rattle.scx_sched_world.specs.Tasks.{with_since, with_slice, with_vtime, with_builtin, given_slice, given_vtime, task_after_insert, on_cpu, with_new_slice, tick_ns, counted_down, ran_a_tick}
+use Rattle.scx_sched_world.specs.Tasks.{with_since, with_slice, with_home, with_vtime, with_builtin, given_slice, given_vtime, task_after_insert, on_cpu, with_new_slice, tick_ns, counted_down, ran_a_tick}
 use Rattle.scx_sched_world.specs.Helpers.{stored_in}
 use Rattle.scx_explore_findings.specs.Hidden.{Hidden, unless, since_unless, with_times, hidden_in, all_hidden}
 
@@ -91,11 +91,24 @@ module _ (h : Hidden) where
   pub keeps_tick : Keeps ran_a_tick
   keeps_tick x = times (with_slice x (counted_down x.slice)) _ _ _ _ _ _ (since_twice h.waits x.since) (twice h.vtime x.vtime) (grown h.run_ns x.run_ns tick_ns)
 
-  keeps_given_slice : (n : ℕ) → Keeps (λ x. given_slice x n)
-  keeps_given_slice n x = alike_if (hidden_in h) (n == 0) (n == 0) x (hidden_in h x) (with_slice x n) (with_slice (hidden_in h x) n) refl (again x) (keeps_slice n x)
+  -- its processor is another
+  pub keeps_home : (c : ℕ) → Keeps (λ x. with_home x c)
+  keeps_home c x = kept x (with_home x c)
+
+  -- its slice is one that is told by the one before
+  pub keeps_slice_by : (f : ℕ → ℕ) → Keeps (λ x. with_slice x (f x.slice))
+  keeps_slice_by f x = kept x (with_slice x (f x.slice))
+
+  -- it has a slice of 1 where it had none, if that is so wanted
+  keeps_refilled : (b : Bool) → Keeps (λ x. cond (b && (x.slice == 0)) (with_slice x 1) x)
+  keeps_refilled b x = alike_if (hidden_in h) (b && (x.slice == 0)) (b && (x.slice == 0)) (with_slice x 1) (with_slice (hidden_in h x) 1) x (hidden_in h x) refl (keeps_slice 1 x) (again x)
+
+  keeps_given_slice : (i : Insert) → Keeps (λ x. given_slice x i)
+  keeps_given_slice i x = alike_if (hidden_in h) (i.slice == 0) (i.slice == 0) _ _ (with_slice x i.slice) (with_slice (hidden_in h x) i.slice) refl (keeps_refilled i.refills x) (keeps_slice i.slice x)
 
   keeps_given_vtime : (r : Rank) → Keeps (λ x. given_vtime x r)
   keeps_given_vtime Fifo x = again x
+  keeps_given_vtime Front x = again x
   keeps_given_vtime (Vtime n) x = keeps_vtime n x
 
   -- one change after another
@@ -104,7 +117,7 @@ module _ (h : Hidden) where
 
   -- it is inserted somewhere
   pub keeps_insert : (i : Insert) → Keeps (λ x. task_after_insert x i)
-  keeps_insert i = keeps_both (λ x. given_slice x i.slice) (λ x. given_vtime x i.rank) (keeps_given_slice i.slice) (keeps_given_vtime i.rank)
+  keeps_insert i = keeps_both (λ x. given_slice x i) (λ x. given_vtime x i.rank) (keeps_given_slice i) (keeps_given_vtime i.rank)
 
   -- a program stores to a field of it
   pub keeps_store : (f : Field) (n : ℕ) → Keeps (λ x. stored_in x f n)

@@ -29,6 +29,8 @@ use Rattle.scx_sched_machine.specs.Parking.{park, park_front, if_throttled, thro
 use Rattle.scx_explore_findings.specs.Hidden.{Hidden, hide}
 use Rattle.scx_explore_findings.specs.HiddenStates.{hide_state, hide_call, hide_step}
 use Rattle.scx_explore_findings.specs.Unread.{IsUnread}
+use Rattle.scx_sched_machine.proofs.Choices.{keeps_if}
+use Rattle.scx_explore_findings.proofs.Records.{alike_if}
 use Rattle.scx_explore_findings.proofs.Worlds.{Same, Hides, plain, both, throttled_same, hides_enter, hides_fill, hides_parked, hides_put_builtin, hides_move_over, move_notes_same, hides_cut}
 use Rattle.scx_explore_findings.proofs.Runs.{hide_ending, program_same}
 
@@ -52,6 +54,21 @@ module _ (h : Hidden) (p : PolicyState) where
   -- from two worlds that are the same
   pub in_world : (f : State → Stepped) → On f → (s : State) (v w : WorldState) → Same h v w → s.policy ≡ p → Passes (f (with_world s v)) (f (with_world (hide_state h s) w))
   in_world f on s v w e is = from f on (with_world s v) (with_world (hide_state h s) w) (ap (λ (u : WorldState). with_world s u) e) is
+
+  -- a change of the state, under the same policy, doesn't depend on what is hidden
+  abbrev pub Turns : (State → State) → Type 0
+  Turns f = (s : State) → (hide_state h (f s) ≡ hide_state h (f (hide_state h s))) × ((f s).policy ≡ s.policy)
+
+  -- a step after such a change
+  pub after_turn : (f : State → State) (g : State → Stepped) → Turns f → On g → On (λ s. g (f s))
+  after_turn f g turn on s is = from g on (f s) (f (hide_state h s)) (turn s).0 ((turn s).1 ∙ is)
+
+  -- the world is changed where a test says so
+  pub turns_if : (b : State → Bool) → ((s : State) → b s ≡ b (hide_state h s)) → (f : WorldState → WorldState) → Hides h f → Turns (λ s. cond (b s) (with_world s (f s.world)) s)
+  turns_if b e f k s = (
+    alike_if (hide_state h) (b s) (b (hide_state h s)) (with_world s (f s.world)) (with_world (hide_state h s) (f (hide h s.world))) s (hide_state h s) (e s) (ap (λ (u : WorldState). with_world s u) (k s.world)) (ap (λ (u : WorldState). with_world s u) (plain h s.world)),
+    keeps_if (λ (x : State). x.policy ≡ s.policy) (b s) (with_world s (f s.world)) s refl refl,
+  )
 
   joined : (r q : Stepped) → hide_step h (one_after_other r q) ≡ one_after_other (hide_step h r) (hide_step h q)
   joined r q = ap (λ (cs : List CallMade). record { state = hide_state h q.state; notes = r.notes ++ q.notes; calls = cs }) (map-append (hide_call h) r.calls q.calls)

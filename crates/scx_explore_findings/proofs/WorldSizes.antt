@@ -3,6 +3,7 @@
 use Rattle.std.proofs.Common.{◌≡◌, ℕ, zero, suc, Bool, true, false, nat_lt, List, length, map, Option, Some, None, is_some, is_none, sym, ◌∙◌}
 use Rattle.std.proofs.lemmas.List.{length-set}
 use Rattle.scx_dsq.specs.declared.entries.Rank.{Rank}
+use Rattle.scx_dsq.specs.declared.entries.Rank.TheVariants.{Fifo}
 use Rattle.scx_dsq.specs.Queues.{QueueState, entry_of, front_of}
 use Rattle.scx_dsq.specs.Calls.{push_refusal, with_task as with_entry, after_push, without_task, after_remove, without, after_pop}
 use Rattle.scx_isa_semantics.specs.declared.callbacks.Callback.{Callback}
@@ -19,10 +20,11 @@ use Rattle.scx_sched_tasks.specs.declared.task.Task.{Task}
 use Rattle.scx_sched_world.specs.declared.call.Insert.{Insert}
 use Rattle.scx_sched_world.specs.declared.faults.Fault.{Fault}
 use Rattle.scx_sched_world.specs.Ids.{builtin_queue, parked_queue, local_on}
-use Rattle.scx_sched_world.specs.World.{WorldState, IsLike, with_queues, with_tree, task_at, with_task, with_cpu, waits, running}
-use Rattle.scx_sched_world.specs.Tasks.{with_since, on_cpu, after_sleep, after_leave, after_enter, for_cpu, brought, after_stop, started_at, after_keep, put_parked, after_take, used_ms, after_reweigh}
+use Rattle.scx_sched_world.specs.World.{WorldState, IsLike, with_queues, with_tree, is_by_linux, with_kick, task_at, with_task, with_cpu, waits, running, is_this, choice, after_claim}
+use Rattle.scx_sched_world.specs.Tasks.{with_since, with_slice, with_home, on_cpu, after_sleep, after_leave, homed, local_cpu, homed_at, after_local, after_preempt_of, after_preempt_at, after_preempt, task_after_insert, rank_by, after_enter, for_cpu, brought, after_stop, started_at, after_run, after_keep, put_parked, after_take, used_ms, after_reweigh}
 use Rattle.scx_sched_world.specs.Ejecting.{put_builtin, after_evictions, cut_task, after_cut}
 use Rattle.scx_sched_world.specs.Helpers.{is_dispatch, with_insert, after_release, insert_or_fault, front_moved_to_local, helper_after, world_functions}
+use Rattle.scx_sched_machine.specs.Events.{inserted_by_choice, chosen_by_default}
 use Rattle.scx_sched_machine.proofs.Choices.{keeps_if}
 use Rattle.scx_explore_findings.proofs.Helpers.{by_helper}
 use Rattle.scx_explore_findings.proofs.Queries.{IsAllowed}
@@ -82,18 +84,52 @@ module _ (v : WorldState) where
   sized_put : (w : WorldState) (t : ℕ) (x : Task) (q : ℕ) (r : Rank) → HasSize v w → HasSize v (with_queues (with_task w t x) (after_push w.queues q t r))
   sized_put w t x q r h = sized_queues (with_task w t x) (after_push w.queues q t r) (queues_pushed w.queues q t r (queues_of w h)) (sized_task w t x h)
 
-  -- the front of a queue, pushed to another
-  sized_passed : (w : WorldState) (q p t : ℕ) (r : Rank) → HasSize v w → HasSize v (with_queues w (after_push (after_pop w.queues q) p t r))
-  sized_passed w q p t r h = sized_queues w (after_push (after_pop w.queues q) p t r) (queues_pushed (after_pop w.queues q) p t r (queues_popped w.queues q (queues_of w h))) h
+  -- a task whose processor is another one
+  pub sized_homed : (w : WorldState) (t c : ℕ) → HasSize v w → HasSize v (homed w t c)
+  sized_homed w t c h = keeps_if (HasSize v) (is_by_linux w) (with_task w t (with_home (task_at w t) c)) w (sized_task w t _ h) h
+
+  sized_homed_at : (w : WorldState) (t : ℕ) (o : Option ℕ) → HasSize v w → HasSize v (homed_at w t o)
+  sized_homed_at w t None h = h
+  sized_homed_at w t (Some c) h = sized_homed w t c h
+
+  sized_preempt_of : (w : WorldState) (c : ℕ) (o : Option ℕ) → HasSize v w → HasSize v (after_preempt_of w c o)
+  sized_preempt_of w c None h = h
+  sized_preempt_of w c (Some t) h = keeps_if (HasSize v) (is_this c w.cycling) w (with_kick (with_task w t (with_slice (task_at w t) 0)) c) h (sized_task w t _ h)
+
+  sized_preempt_at : (w : WorldState) (o : Option ℕ) → HasSize v w → HasSize v (after_preempt_at w o)
+  sized_preempt_at w None h = h
+  sized_preempt_at w (Some c) h = sized_preempt_of w c (running w c) h
+
+  sized_preempt : (w : WorldState) (i : Insert) → HasSize v w → HasSize v (after_preempt w i)
+  sized_preempt w i h = keeps_if (HasSize v) i.preempts (after_preempt_at w (local_cpu w i.queue)) w (sized_preempt_at w (local_cpu w i.queue) h) h
 
   -- a task that goes into a queue
   pub sized_entered : (w : WorldState) (t : ℕ) (i : Insert) → HasSize v w → HasSize v (after_enter w t i)
-  sized_entered w t i h = keeps_if (HasSize v) (nat_lt t (length w.tasks)) _ w (sized_put w t _ i.queue i.rank h) h
+  sized_entered w t i h = keeps_if (HasSize v) (nat_lt t (length w.tasks)) (after_preempt home i) w (sized_preempt home i (sized_homed_at given t at (sized_put w t (task_after_insert (task_at w t) i) i.queue (rank_by w i.rank) h))) h
+    where
+      given : WorldState
+      given = with_queues (with_task w t (task_after_insert (task_at w t) i)) (after_push w.queues i.queue t (rank_by w i.rank))
+
+      at : Option ℕ
+      at = local_cpu w i.queue
+
+      home : WorldState
+      home = homed_at given t at
+
+  -- a task that comes to the end of a local queue
+  sized_local : (w : WorldState) (c t : ℕ) → HasSize v w → HasSize v (after_local w c t)
+  sized_local w c t h =
+      let s = after_push w.queues (local_on c) t Fifo in
+      sized_homed (with_queues w s) t c (sized_queues w s (queues_pushed w.queues (local_on c) t Fifo (queues_of w h)) h)
+
+  -- a front that leaves its queue
+  pub sized_taken : (w : WorldState) (q : ℕ) → HasSize v w → HasSize v (after_take w q)
+  sized_taken w q h = sized_queues w (after_pop w.queues q) (queues_popped w.queues q (queues_of w h)) h
 
   -- a front that goes to a local queue
   pub sized_brought : (o : Option ℕ) (w : WorldState) (q c : ℕ) → HasSize v w → HasSize v (brought o w q c)
   sized_brought None w q c h = h
-  sized_brought (Some t) w q c h = sized_passed w q (local_on c) t _ h
+  sized_brought (Some t) w q c h = sized_local (after_take w q) c t (sized_taken w q h)
 
   -- a front that runs
   pub sized_started : (w : WorldState) (t c : ℕ) → HasSize v w → HasSize v (started_at (Some t) w c)
@@ -101,6 +137,13 @@ module _ (v : WorldState) where
       let u = with_queues w (after_pop w.queues (local_on c)) in
       let x = on_cpu (task_at w t) c in
       sized_cpu (with_task u t x) c (Some t) (sized_task u t x (sized_queues w (after_pop w.queues (local_on c)) (queues_popped w.queues (local_on c) (queues_of w h)) h))
+
+  -- a task that was picked, and runs
+  pub sized_run : (w : WorldState) (c t : ℕ) → HasSize v w → HasSize v (after_run w c t)
+  sized_run w c t h =
+      let u = after_leave w t in
+      let x = on_cpu (task_at w t) c in
+      sized_cpu (with_task u t x) c (Some t) (sized_task u t x (sized_left w t h))
 
   -- a task that keeps its processor
   pub sized_kept : (w : WorldState) (o : Option ℕ) → HasSize v w → HasSize v (after_keep w o)
@@ -110,10 +153,6 @@ module _ (v : WorldState) where
   -- a task that is parked
   pub sized_put_parked : (w : WorldState) (t : ℕ) → HasSize v w → HasSize v (put_parked w t)
   sized_put_parked w t h = keeps_if (HasSize v) (nat_lt t (length w.tasks)) _ w (sized_put w t _ parked_queue _ h) h
-
-  -- a front that leaves its queue
-  pub sized_taken : (w : WorldState) (q : ℕ) → HasSize v w → HasSize v (after_take w q)
-  sized_taken w q h = sized_queues w (after_pop w.queues q) (queues_popped w.queues q (queues_of w h)) h
 
   -- a task that waits for the built-in scheduler
   pub sized_put_builtin : (w : WorldState) (t : ℕ) → HasSize v w → HasSize v (put_builtin w t)
@@ -149,7 +188,22 @@ module _ (v : WorldState) where
 
   sized_moved : (w : WorldState) (o : Option ℕ) (q : ℕ) → HasSize v w → HasSize v (front_moved_to_local w o q)
   sized_moved w None q h = h
-  sized_moved w (Some t) q h = sized_passed w q (local_on w.call.cpu) t _ h
+  sized_moved w (Some t) q h = sized_local (after_take w q) w.call.cpu t (sized_taken w q h)
+
+  -- a processor that is claimed
+  sized_claimed : (w : WorldState) (o : Option ℕ) → HasSize v w → HasSize v (after_claim w o)
+  sized_claimed w None h = h
+  sized_claimed w (Some c) h = keeps_if (HasSize v) (is_by_linux w) _ w h h
+
+  sized_choice : (w : WorldState) (o : Option ℕ) → HasSize v w → HasSize v (inserted_by_choice w o)
+  sized_choice w None h = h
+  sized_choice w (Some c) h = h
+
+  -- the default choice
+  pub sized_chosen : (w : WorldState) (t : ℕ) → HasSize v w → HasSize v (chosen_by_default w t)
+  sized_chosen w t h =
+      let o = choice w t in
+      keeps_if (HasSize v) (is_by_linux w) (inserted_by_choice (after_claim w o) o) w (sized_choice (after_claim w o) o (sized_claimed w o h)) h
 
   sized_helper : (b : Callback) → is_allowed CreateDsq b ≡ false → (w : WorldState) (f : Helper) (a : List Arg) → is_allowed f b ≡ true → HasSize v w → HasSize v (helper_after w f a)
   sized_helper b barred w f a free h = by_helper (λ (g : Helper). is_allowed g b ≡ true) (HasSize v) w (record {
@@ -158,7 +212,11 @@ module _ (v : WorldState) where
     created = λ may q. absurd (apart (is_allowed CreateDsq b) may barred);
     inserted = λ t i fifo. sized_inserted w None t i h;
     by_vtime = λ may t i. sized_inserted w None t i h;
+    late = h;
     moved = λ o q. sized_moved w o q h;
+    claimed = λ o. sized_claimed w o h;
+    kicked = λ c. h;
+    preempted = λ c. h;
   }) f free a
 
   -- what a program asks in a callback that may create no queue

@@ -1,7 +1,8 @@
 -- What the small steps of a world make of it doesn't depend on what is hidden.
 use Rattle.std.proofs.Common.{◌≡◌, ℕ, zero, suc, ◌+◌, ◌-◌, ◌*◌, ◌/◌, ◌&&◌, min, max, Bool, true, false, cond, nat_lt, is_none, List, ◌++◌, length, Option, Some, None, unwrap_or, refl, sym, ap, ◌∙◌}
 use Rattle.scx_dsq.specs.Calls.{after_push, after_pop}
-use Rattle.scx_dsq.specs.declared.entries.Rank.TheVariants.{Fifo, Vtime}
+use Rattle.scx_dsq.specs.declared.entries.Rank.TheVariants.{Fifo, Front, Vtime}
+use Rattle.scx_dsq.specs.declared.entries.Rank.{Rank}
 use Rattle.scx_weights.specs.Hierarchy as tree
 use Rattle.scx_weights.specs.Limits as limits
 use Rattle.scx_weights.specs.Refusals.{weight_fault}
@@ -12,13 +13,13 @@ use Rattle.scx_sched_tasks.specs.Waits.{is_late, is_overdue}
 use Rattle.scx_sched_world.specs.declared.call.Insert.{Insert}
 use Rattle.scx_sched_world.specs.declared.notes.Note.{Note}
 use Rattle.scx_sched_world.specs.Ids.{builtin_queue, parked_queue, local_on}
-use Rattle.scx_sched_world.specs.World.{WorldState, with_queues, with_tree, task_at, with_task, is_throttled, waits, running, with_cpu, or_this, this_if, is_idle, idle_below, first_idle, default_choice}
-use Rattle.scx_sched_world.specs.Tasks.{with_since, with_slice, with_builtin, task_after_insert, after_wake, after_sleep, after_leave, after_enter, brought, fill_front, after_fill, after_stop, on_cpu, started_at, with_new_slice, after_keep, put_parked, let_go, ran_a_tick, after_tick, used_ms, after_reweigh}
+use Rattle.scx_sched_world.specs.World.{WorldState, with_queues, with_tree, task_at, with_task, is_throttled, waits, running, with_cpu, with_kick, is_by_linux, is_this, or_this, this_if, is_free, free_below, first_free, choice, default_choice, after_claim}
+use Rattle.scx_sched_world.specs.Tasks.{with_since, with_slice, with_home, with_builtin, task_after_insert, after_wake, after_sleep, after_leave, homed, local_cpu, homed_at, after_local, rank_by, after_preempt_of, after_preempt_at, after_preempt, after_enter, brought, fill_front, after_fill, after_stop, on_cpu, started_at, after_run, longer, after_switch, after_cut_off, with_new_slice, after_keep, put_parked, let_go, ran_a_tick, after_tick, used_ms, after_reweigh}
 use Rattle.scx_sched_world.specs.Waits.{first_overdue}
 use Rattle.scx_sched_world.specs.Helpers.{weight_at, group_at}
 use Rattle.scx_sched_world.specs.Ejecting.{builtin_vtime, put_builtin, after_catch_up, at_most_64_bits, after_charge, evict, after_evictions, evict_note, evict_notes, cut_task, after_cut}
 use Rattle.scx_explore_findings.specs.Hidden.{Hidden, since_unless, hidden_in, with_tasks, hide}
-use Rattle.scx_explore_findings.proofs.Records.{alike_if, Keeps, all_again, keeps_since, keeps_slice, keeps_on_cpu, keeps_numbers, keeps_new_slice, keeps_tick, keeps_insert, keeps_set, read_same, length_same, first_same}
+use Rattle.scx_explore_findings.proofs.Records.{alike_if, Keeps, all_again, keeps_since, keeps_slice, keeps_slice_by, keeps_home, keeps_on_cpu, keeps_numbers, keeps_new_slice, keeps_tick, keeps_insert, keeps_set, read_same, length_same, first_same}
 
 module _ (h : Hidden) where
   -- of two worlds all that is shown is the same
@@ -63,15 +64,21 @@ module _ (h : Hidden) where
   pub group_same : (w : WorldState) (t : ℕ) → group_at w t ≡ group_at (hide h w) t
   group_same w t = ap (λ (b : Bool). cond b (tree.home_of w.tree t) 0) (known w t)
 
-  idle_same : (n : ℕ) (w : WorldState) → idle_below n w ≡ idle_below n (hide h w)
-  idle_same zero w = refl
-  idle_same (suc n) w = ap (λ (o : Option ℕ). or_this o (this_if (is_idle w n) n)) (idle_same n w)
+  free_same : (n : ℕ) (w : WorldState) → free_below n w ≡ free_below n (hide h w)
+  free_same zero w = refl
+  free_same (suc n) w = ap (λ (o : Option ℕ). or_this o (this_if (is_free w n) n)) (free_same n w)
+
+  -- the processor that is chosen, if one is
+  pub chosen_same : (w : WorldState) (t : ℕ) → choice w t ≡ choice (hide h w) t
+  chosen_same w t =
+      ap (λ (c : ℕ). cond (is_free w c) (Some c) (first_free w)) (read (λ x. x.prev_cpu) (λ x. refl) w t)
+      ∙ ap (λ (o : Option ℕ). cond (is_free w (task_at (hide h w) t).prev_cpu) (Some (task_at (hide h w) t).prev_cpu) o) (free_same (length w.cpus) w)
 
   -- the processor that is chosen by default
   pub choice_same : (w : WorldState) (t : ℕ) → default_choice w t ≡ default_choice (hide h w) t
   choice_same w t =
-      ap (λ (c : ℕ). cond (is_idle w c) c (unwrap_or (first_idle w) c)) (read (λ x. x.prev_cpu) (λ x. refl) w t)
-      ∙ ap (λ (o : Option ℕ). cond (is_idle w (task_at (hide h w) t).prev_cpu) (task_at (hide h w) t).prev_cpu (unwrap_or o (task_at (hide h w) t).prev_cpu)) (idle_same (length w.cpus) w)
+      ap (λ (c : ℕ). unwrap_or (choice w t) c) (read (λ x. x.prev_cpu) (λ x. refl) w t)
+      ∙ ap (λ (o : Option ℕ). unwrap_or o (task_at (hide h w) t).prev_cpu) (chosen_same w t)
 
   -- who waits too long, where waits aren't hidden
   pub overdue_same : h.waits ≡ false → (w : WorldState) (limit : ℕ) → first_overdue w limit ≡ first_overdue (hide h w) limit
@@ -95,14 +102,58 @@ module _ (h : Hidden) where
   pub hides_sleep : (t : ℕ) → Hides (λ w. after_sleep w t)
   hides_sleep t = if_known t (λ w. with_tree (with_task w t (with_since (task_at w t) None)) (tree.with_task w.tree t false)) (λ w. set_task (λ x. with_since x None) (keeps_since h None) (with_tree w (tree.with_task w.tree t false)) t)
 
+  -- a step that is made under Linux rules alone
+  pub by_linux : (f : WorldState → WorldState) → Hides f → Hides (λ w. cond (is_by_linux w) (f w) w)
+  by_linux f k w = alike_if (hide h) (is_by_linux w) (is_by_linux w) (f w) (f (hide h w)) w (hide h w) refl (k w) (plain w)
+
+  -- a task's processor is that one
+  pub hides_homed : (t c : ℕ) → Hides (λ w. homed w t c)
+  hides_homed t c = by_linux (λ w. with_task w t (with_home (task_at w t) c)) (λ w. set_task (λ x. with_home x c) (keeps_home h c) w t)
+
+  hides_homed_at : (t : ℕ) (o : Option ℕ) → Hides (λ w. homed_at w t o)
+  hides_homed_at t None w = plain w
+  hides_homed_at t (Some c) w = hides_homed t c w
+
+  -- a task comes into a local queue
+  pub hides_local : (c t : ℕ) → Hides (λ w. after_local w c t)
+  hides_local c t = both (λ w. with_queues w (after_push w.queues (local_on c) t Fifo)) (λ w. homed w t c) (λ w. plain (with_queues w (after_push w.queues (local_on c) t Fifo))) (hides_homed t c)
+
+  -- the task that runs on a processor is preempted
+  hides_preempt_of : (c : ℕ) (o : Option ℕ) → Hides (λ w. after_preempt_of w c o)
+  hides_preempt_of c None w = plain w
+  hides_preempt_of c (Some t) w = alike_if (hide h) (is_this c w.cycling) (is_this c w.cycling) w (hide h w) _ _ refl (plain w) (set_task (λ x. with_slice x 0) (keeps_slice h 0) (with_kick w c) t)
+
+  hides_preempt_at : (o : Option ℕ) → Hides (λ w. after_preempt_at w o)
+  hides_preempt_at None w = plain w
+  hides_preempt_at (Some c) w = hides_preempt_of c (running w c) w
+
+  hides_preempt : (i : Insert) → Hides (λ w. after_preempt w i)
+  hides_preempt i w = alike_if (hide h) i.preempts i.preempts _ _ w (hide h w) refl (hides_preempt_at (local_cpu w i.queue) w) (plain w)
+
+  rank_same : (r : Rank) (w : WorldState) → rank_by w r ≡ rank_by (hide h w) r
+  rank_same Fifo w = refl
+  rank_same Front w = refl
+  rank_same (Vtime n) w = refl
+
   -- a task goes into a queue
   pub hides_enter : (t : ℕ) (i : Insert) → Hides (λ w. after_enter w t i)
-  hides_enter t i = if_known t (λ w. with_queues (with_task w t (task_after_insert (task_at w t) i)) (after_push w.queues i.queue t i.rank)) (λ w. set_task (λ x. task_after_insert x i) (keeps_insert h i) (with_queues w (after_push w.queues i.queue t i.rank)) t)
+  hides_enter t i = if_known t (λ w. after_preempt (homed_at (pushed w) t (local_cpu w i.queue)) i) (both homing (λ w. after_preempt w i) (both pushed (λ w. homed_at w t (local_cpu w i.queue)) pushes (λ w. hides_homed_at t (local_cpu w i.queue) w)) (hides_preempt i))
+    where
+      pushed : WorldState → WorldState
+      pushed w = with_queues (with_task w t (task_after_insert (task_at w t) i)) (after_push w.queues i.queue t (rank_by w i.rank))
+
+      homing : WorldState → WorldState
+      homing w = homed_at (pushed w) t (local_cpu w i.queue)
+
+      pushes : Hides pushed
+      pushes w =
+          set_task (λ x. task_after_insert x i) (keeps_insert h i) (with_queues w (after_push w.queues i.queue t (rank_by w i.rank))) t
+          ∙ ap (λ (r : Rank). hide h (with_queues (with_task (hide h w) t (task_after_insert (task_at (hide h w) t) i)) (after_push w.queues i.queue t r))) (rank_same i.rank w)
 
   -- a task is brought from one queue to a local one
   pub hides_brought : (o : Option ℕ) (q c : ℕ) → Hides (λ w. brought o w q c)
   hides_brought None q c w = plain w
-  hides_brought (Some t) q c w = plain (brought (Some t) w q c)
+  hides_brought (Some t) q c w = hides_local c t (with_queues w (after_pop w.queues q))
 
   -- a local queue that is empty is filled
   pub hides_fill : (q c : ℕ) → Hides (λ w. after_fill w q c)
@@ -116,6 +167,23 @@ module _ (h : Hidden) where
   pub hides_started : (o : Option ℕ) (c : ℕ) → Hides (λ w. started_at o w c)
   hides_started None c w = plain w
   hides_started (Some t) c w = set_task (λ x. on_cpu x c) (keeps_on_cpu h c) (with_cpu (with_queues w (after_pop w.queues (local_on c))) c (Some t)) t
+
+  -- a task that was picked runs
+  pub hides_run : (c t : ℕ) → Hides (λ w. after_run w c t)
+  hides_run c t w = set_task (λ x. on_cpu x c) (keeps_on_cpu h c) (with_cpu (after_leave w t) c (Some t)) t
+
+  -- a task that begins to run has a longer slice
+  pub hides_switch : (t : ℕ) → Hides (λ w. after_switch w t)
+  hides_switch t w = set_task (λ x. with_slice x (longer x.slice)) (keeps_slice_by h longer) w t
+
+  -- a task has no slice left
+  pub hides_cut_off : (t : ℕ) → Hides (λ w. after_cut_off w t)
+  hides_cut_off t w = set_task (λ x. with_slice x 0) (keeps_slice h 0) w t
+
+  -- a processor is claimed
+  pub hides_claim : (o : Option ℕ) → Hides (λ w. after_claim w o)
+  hides_claim None w = plain w
+  hides_claim (Some c) w = alike_if (hide h) (is_by_linux w) (is_by_linux w) _ _ w (hide h w) refl (plain _) (plain w)
 
   -- a task keeps its processor
   pub hides_keep : (o : Option ℕ) → Hides (λ w. after_keep w o)

@@ -3,7 +3,7 @@
 use Rattle.std.specs.Prelude.{◌≡◌, ℕ, Bool, true, false, List, Option, Some, None}
 use Rattle.scx_dsq.specs.declared.entries.Entry.{Entry}
 use Rattle.scx_dsq.specs.declared.entries.Rank.{Rank}
-use Rattle.scx_dsq.specs.declared.entries.Rank.TheVariants.{Fifo, Vtime}
+use Rattle.scx_dsq.specs.declared.entries.Rank.TheVariants.{Fifo, Front, Vtime}
 use Rattle.scx_dsq.specs.Queues.{Entries, entry_at, entry_of}
 use Rattle.scx_weights.specs.Hierarchy.{Hierarchy}
 use Rattle.scx_isa_semantics.specs.declared.callbacks.Callback.{Callback}
@@ -48,6 +48,7 @@ InsertInOrder p = (b : Callback) → InsertsInOrder (program_of p b)
 -- in order of arrival, and by no virtual time
 abbrev pub IsFifo : Rank → Type 0
 IsFifo Fifo = Unit {0}
+IsFifo Front = Unit {0}
 IsFifo (Vtime n) = ⊥
 
 -- the same of an entry, if there is one

@@ -45,7 +45,8 @@ IsEntered v xs way (Was k) new = (k < v.count) × (state_at v k ≡ xs) × (new 
 IsEntered v xs way (New k) new = (k ≡ v.count) × (new ≡ with_state v xs way)
 IsEntered v xs way Full new = new ≡ v
 
--- the place of a state that is kept is its number; one that isn't may be kept if it has as many words
+-- the place of a state that is kept is its number; one that isn't may be kept if it has as many
+-- words
 abbrev pub IsPlace : Kept → List ℕ → Place → Type 0
 IsPlace v xs (Of k) = (k < v.count) × (state_at v k ≡ xs)
 IsPlace v xs (Free k) = length xs ≡ v.width

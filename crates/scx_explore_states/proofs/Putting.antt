@@ -5,11 +5,12 @@ use Rattle.std.specs.Prelude.{◌/◌, min}
 use Rattle.scx_maps.specs.Lending.{all_bytes}
 use Rattle.scx_weights.specs.Hierarchy.{Hierarchy}
 use Rattle.scx_weights.specs.Limits.{usage_of}
+use Rattle.scx_sched_world.specs.World.{WorldState}
 use Rattle.scx_sched.specs.Sim.{SimState}
 use Rattle.scx_explore_states.specs.declared.form.Form.{Form}
 use Rattle.scx_explore_states.specs.declared.rows.Row.{Row}
 use Rattle.scx_explore_states.specs.Rows.{entries_of, rows_of}
-use Rattle.scx_explore_states.specs.Written.{AreKnown, IsFair, IsWritten, byte_words, eight_at, joined, kept_word, row_in, row_words, rows_words, spot_words, state_words, task_words, time_words, usage_words, used_words, word_from, word_of}
+use Rattle.scx_explore_states.specs.Written.{AreKnown, IsFair, IsWritten, byte_words, eight_at, joined, kept_word, row_in, flags_word, flags_words, past_tick, row_words, rows_words, rules_words, spot_words, state_words, task_words, time_words, usage_words, used_words, word_from, word_of}
 
 -- a part behind others
 pub behind : (xs ys zs ps qs : List ℕ) → zs ≡ ys ++ qs → ys ≡ xs ++ ps → zs ≡ xs ++ (ps ++ qs)
@@ -72,14 +73,36 @@ row_parts f r old xs ys zs new first second third last =
     ∙ (ap (λ (l : List ℕ). l ++ kept_word f.run_ns r.run_ns) (third ∙ (ap (λ (l : List ℕ). l ++ kept_word f.vtime r.vtime) (second ∙ ap (λ (l : List ℕ). l ++ kept_word f.keys r.key) first)))
     ∙ four old (r.slice ∷ []) (kept_word f.keys r.key) (kept_word f.vtime r.vtime) (kept_word f.run_ns r.run_ns))
 
+-- five parts behind others
+five : (o ps qs rs ts us : List ℕ) → ((((o ++ ps) ++ qs) ++ rs) ++ ts) ++ us ≡ o ++ (ps ++ (qs ++ (rs ++ (ts ++ us))))
+five o ps qs rs ts us = append_assoc (((o ++ ps) ++ qs) ++ rs) ts us ∙ four o ps qs rs (ts ++ us)
+
 -- all of them but the first word
-pub state_parts : (f : Form) (rows : List Row) (order : List ℕ) (s : SimState) (n : ℕ) (bytes old xs ys zs new : List ℕ) → n ≡ min (length s.state.world.tasks) 8 → bytes ≡ all_bytes s.state.maps → xs ≡ old ++ task_words f rows order n → ys ≡ xs ++ time_words f s.state.world → zs ≡ ys ++ usage_words s.state.world → new ≡ zs ++ byte_words bytes ((length bytes + 7) / 8) → new ≡ old ++ state_words f rows order s
-state_parts f rows order s n bytes old xs ys zs new many maps first second third last =
+pub state_parts : (f : Form) (rows : List Row) (order : List ℕ) (s : SimState) (n : ℕ) (bytes old xs ys zs us new : List ℕ) → n ≡ min (length s.state.world.tasks) 8 → bytes ≡ all_bytes s.state.maps → xs ≡ old ++ task_words f rows order n → ys ≡ xs ++ time_words f s.state.world → zs ≡ ys ++ usage_words s.state.world → us ≡ zs ++ rules_words s.state → new ≡ us ++ byte_words bytes ((length bytes + 7) / 8) → new ≡ old ++ state_words f rows order s
+state_parts f rows order s n bytes old xs ys zs us new many maps first second third fourth last =
+    let w = s.state.world in
+    let held : List ℕ → List ℕ = λ bs. byte_words bs ((length bs + 7) / 8) in
+    let rest : List ℕ → List ℕ = λ bs. time_words f w ++ (usage_words w ++ (rules_words s.state ++ held bs)) in
     last
-    ∙ (ap (λ (l : List ℕ). l ++ byte_words bytes ((length bytes + 7) / 8)) (third ∙ (ap (λ (l : List ℕ). l ++ usage_words s.state.world) (second ∙ ap (λ (l : List ℕ). l ++ time_words f s.state.world) first)))
-    ∙ (four old (task_words f rows order n) (time_words f s.state.world) (usage_words s.state.world) (byte_words bytes ((length bytes + 7) / 8))
-    ∙ (ap (λ (k : ℕ). old ++ (task_words f rows order k ++ (time_words f s.state.world ++ (usage_words s.state.world ++ byte_words bytes ((length bytes + 7) / 8))))) many
-    ∙ ap (λ (bs : List ℕ). old ++ (task_words f rows order (min (length s.state.world.tasks) 8) ++ (time_words f s.state.world ++ (usage_words s.state.world ++ byte_words bs ((length bs + 7) / 8))))) maps)))
+    ∙ (ap (λ (l : List ℕ). l ++ held bytes) (fourth ∙ (ap (λ (l : List ℕ). l ++ rules_words s.state) (third ∙ (ap (λ (l : List ℕ). l ++ usage_words w) (second ∙ ap (λ (l : List ℕ). l ++ time_words f w) first)))))
+    ∙ (five old (task_words f rows order n) (time_words f w) (usage_words w) (rules_words s.state) (held bytes)
+    ∙ (ap (λ (k : ℕ). old ++ (task_words f rows order k ++ rest bytes)) many
+    ∙ ap (λ (bs : List ℕ). old ++ (task_words f rows order (min (length w.tasks) 8) ++ rest bs)) maps)))
+
+-- the flags of one more processor
+pub flags_more : (w : WorldState) (n k : ℕ) (xs ys zs : List ℕ) → zs ≡ ys ++ k ∷ [] → ys ≡ xs ++ flags_words w n → k ≡ flags_word w n → zs ≡ xs ++ flags_words w (n + 1)
+flags_more w n k xs ys zs new old is =
+    let on : n + 1 ≡ suc n = omega arith in
+    behind xs ys zs (flags_words w n) (k ∷ []) new old
+    ∙ ap (λ (x : ℕ). xs ++ (flags_words w n ++ x ∷ [])) is
+    ∙ ap (λ (x : ℕ). xs ++ flags_words w x) (sym on)
+
+-- the clock from tick to tick behind others, and the flags of processors
+pub linux_parts : (w : WorldState) (tick clock t c n m k : ℕ) (old xs new : List ℕ) → k ≡ past_tick t c → t ≡ tick → c ≡ clock → n ≡ m → xs ≡ old ++ k ∷ [] → new ≡ xs ++ flags_words w n → new ≡ old ++ past_tick tick clock ∷ flags_words w m
+linux_parts w tick clock t c n m k old xs new past ticks now many first last =
+    behind old xs new (k ∷ []) (flags_words w n) last first
+    ∙ (ap (λ (x : ℕ). old ++ x ∷ flags_words w n) (past ∙ (ap (λ (x : ℕ). past_tick x c) ticks ∙ ap (λ (x : ℕ). past_tick tick x) now))
+    ∙ ap (λ (x : ℕ). old ++ past_tick tick clock ∷ flags_words w x) many)
 
 -- the clock behind others, and what groups have used
 pub limited_parts : (t : Hierarchy) (clock n m w : ℕ) (old xs new : List ℕ) → w ≡ clock → n ≡ m → xs ≡ old ++ w ∷ [] → new ≡ xs ++ used_words t n → new ≡ old ++ clock ∷ used_words t m

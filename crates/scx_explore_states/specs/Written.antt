@@ -1,15 +1,17 @@
 -- The words of a state, as a function of the machine's state.
-use Rattle.std.specs.Prelude.{◌≡◌, ℕ, zero, suc, ◌+◌, ◌*◌, ◌/◌, ◌%◌, ◌^◌, ◌<◌, min, Bool, true, List, [], ◌∷◌, ◌++◌, length, take, drop, bit_or, nat_lt, Contains, slice_index, slice_index_or, All, Option, IfSome, if◌then◌else◌}
+use Rattle.std.specs.Prelude.{◌≡◌, ℕ, zero, suc, ◌+◌, ◌*◌, ◌/◌, ◌%◌, ◌^◌, ◌<◌, ◌==◌, min, Bool, true, List, [], ◌∷◌, ◌++◌, length, take, drop, bit_or, nat_lt, Contains, slice_index, slice_index_or, All, Option, IfSome, if◌then◌else◌}
 use Rattle.scx_dsq.specs.declared.entries.Entry.{Entry}
 use Rattle.scx_maps.specs.Lending.{all_bytes}
 use Rattle.scx_weights.specs.Hierarchy.{Hierarchy}
 use Rattle.scx_weights.specs.Limits.{usage_of, has_quota}
-use Rattle.scx_sched_world.specs.World.{WorldState}
+use Rattle.scx_sched_world.specs.CpuSets.{is_in_set}
+use Rattle.scx_sched_world.specs.World.{WorldState, are_linux, is_free}
 use Rattle.scx_sched_world.specs.Helpers.{group_at}
+use Rattle.scx_sched_machine.specs.Steps.{State}
 use Rattle.scx_sched.specs.Sim.{SimState}
 use Rattle.scx_explore_states.specs.declared.form.Form.{Form}
 use Rattle.scx_explore_states.specs.declared.rows.Row.{Row}
-use Rattle.scx_explore_states.specs.Rows.{entries_of, no_row, rows_of}
+use Rattle.scx_explore_states.specs.Rows.{bit_of, entries_of, no_row, rows_of}
 use Rattle.scx_explore_states.specs.Words.{number_in}
 
 -- ---- words
@@ -49,8 +51,8 @@ row_in rows order p = slice_index_or rows (task_in order p) no_row
 abbrev pub home_at : WorldState → ℕ → ℕ
 home_at w t = if nat_lt t (length w.tasks) then group_at w t else 18446744073709551615
 
--- each of the first eight tasks is at some place, and tasks of a group may have changed places; they
--- haven't where the form tells them apart
+-- each of the first eight tasks is at some place, and tasks of a group may have changed places;
+-- they haven't where the form tells them apart
 pub record IsFair (f : Form) (w : WorldState) (order : List ℕ) : Type 0 where
   pub names : f.names ≡ true → order ≡ own_order
   pub whole : (t : ℕ) → t < 8 → Contains order t
@@ -89,6 +91,29 @@ abbrev pub usage_words : WorldState → List ℕ
 usage_words w =
     if has_quota w.tree.groups then w.clock ∷ used_words w.tree (length w.tree.groups) else []
 
+-- what is kept of a processor under Linux rules: whether it may be chosen, is to look for work, and
+-- its task is to lose its slice
+abbrev pub flags_word : WorldState → ℕ → ℕ
+flags_word w c =
+    bit_of (is_free w c)
+    + (2 * bit_of (is_in_set w.kicked c) + 4 * bit_of (is_in_set w.preempted c))
+
+-- of each of the first n processors
+abbrev pub flags_words : WorldState → ℕ → List ℕ
+flags_words w zero = []
+flags_words w (suc n) = flags_words w n ++ flags_word w n ∷ []
+
+-- how far the clock is past a tick, in milliseconds; 0 where slices end exactly
+abbrev pub past_tick : ℕ → ℕ → ℕ
+past_tick tick clock = if tick == 0 then 0 else clock % tick
+
+-- under Linux rules the clock from tick to tick, and what is kept of each processor
+abbrev pub rules_words : State → List ℕ
+rules_words s =
+    if are_linux s.world.rules
+    then past_tick s.policy.tick_ms s.world.clock ∷ flags_words s.world (length s.world.cpus)
+    else []
+
 -- eight of the bytes
 abbrev pub eight_at : List ℕ → ℕ → List ℕ
 eight_at bytes n = take 8 (drop (8 * n) bytes)
@@ -108,8 +133,8 @@ task_words f rows order n = spot_words rows order ((n + 1) / 2) ++ rows_words f 
 abbrev pub state_words : Form → List Row → List ℕ → SimState → List ℕ
 state_words f rows order s =
     task_words f rows order (min (length s.state.world.tasks) 8)
-    ++ (time_words f s.state.world ++ (usage_words s.state.world
-    ++ byte_words (all_bytes s.state.maps) ((length (all_bytes s.state.maps) + 7) / 8)))
+    ++ (time_words f s.state.world ++ (usage_words s.state.world ++ (rules_words s.state
+    ++ byte_words (all_bytes s.state.maps) ((length (all_bytes s.state.maps) + 7) / 8))))
 
 -- each task that waits does so in a queue that has a number
 abbrev pub AreKnown : List ℕ → List (Option Entry) → Type 0

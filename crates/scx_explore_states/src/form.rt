@@ -1,6 +1,7 @@
 ghost use Rattle.std.specs.Prelude.{◌≤◌};
 
 use crate::rows::kept_tasks;
+use scx_isa::Rules;
 use scx_sched::Sim;
 
 /// The most tasks of a machine that is searched.
@@ -53,6 +54,7 @@ impl Form {
             + usize::from(self.clock)
             + usize::from(self.pushes)
             + usage_words(sim)
+            + rules_words(sim)
             + sim.maps().bytes().len().div_ceil(8)
     }
 
@@ -72,5 +74,15 @@ fn usage_words(sim: &Sim) -> usize
         sim.groups() as usize + 1
     } else {
         0
+    }
+}
+
+/// The number of words under Linux rules beside those of plain ones.
+fn rules_words(sim: &Sim) -> usize
+    ensures { result ≤ 4294967296 }
+{
+    match sim.world().rules() {
+        Rules::Plain => 0,
+        Rules::Linux => sim.cpus() as usize + 1,
     }
 }

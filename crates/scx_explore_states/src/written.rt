@@ -1,14 +1,14 @@
 ghost use Rattle.std.specs.Prelude.{ℕ, ◌≡◌, ◌+◌, ◌*◌, ◌/◌, ◌<◌, ◌≤◌, ◌∷◌, ◌++◌, [], true, length, Contains, IfSome};
 ghost use Rattle.scx_explore_states.specs.Rows.{entries_of};
 ghost use Rattle.scx_explore_states.specs.Words.{number_in};
-ghost use Rattle.scx_explore_states.specs.Written.{AreKnown, IsFair, IsWritten, byte_words, eight_at, home_at, joined, kept_word, own_order, row_in, row_words, rows_words, spot_words, state_words, task_in, task_words, time_words, usage_words, used_words, word_of};
+ghost use Rattle.scx_explore_states.specs.Written.{AreKnown, IsFair, IsWritten, byte_words, eight_at, flags_word, flags_words, home_at, joined, kept_word, own_order, past_tick, row_in, row_words, rows_words, rules_words, spot_words, state_words, task_in, task_words, time_words, usage_words, used_words, word_of};
 
 use crate::form::{Form, MOST_TASKS};
 use crate::order::Order;
 use crate::queue_numbers::QueueNumbers;
 use crate::rows::{Row, kept_tasks, rows_by, rows_of};
 use crate::words::{Words, put, word_of};
-use scx_isa::{Field, TaskId};
+use scx_isa::{Field, Rules, TaskId};
 use scx_sched::{Entry, Sim};
 use scx_vm::Env;
 
@@ -114,6 +114,9 @@ impl Form {
             return false;
         }
         if !put_usages(sim, words) {
+            return false;
+        }
+        if !put_rules(sim, words) {
             return false;
         }
         let bytes = sim.maps().bytes();
@@ -292,6 +295,58 @@ fn put_used(sim: &Sim, groups: u32, words: &mut Vec<u64>) -> bool
         }
     }
     true
+}
+
+/// Under Linux rules: the clock from tick to tick, and the flags of each processor.
+fn put_rules(sim: &Sim, words: &mut Vec<u64>) -> bool
+    ensures { result ≡ true → words.new.items ≡ words.old.items ++ rules_words sim.now.state }
+{
+    match sim.world().rules() {
+        Rules::Plain => true,
+        Rules::Linux => put_by_linux(sim, words),
+    }
+}
+
+/// The clock from tick to tick, and the flags of each processor.
+fn put_by_linux(sim: &Sim, words: &mut Vec<u64>) -> bool
+    ensures { result ≡ true → words.new.items ≡ words.old.items
+        ++ past_tick sim.now.state.policy.tick_ms sim.now.state.world.clock
+        ∷ flags_words sim.now.state.world (length sim.now.state.world.cpus) }
+{
+    let (tick, clock, cpus) = (sim.policy().tick_ms(), sim.clock(), sim.cpus());
+    if !put(words, past_tick(tick, clock)) {
+        return false;
+    }
+    put_flags(sim, cpus, words)
+}
+
+/// The milliseconds since the last tick; 0 if slices end exactly.
+fn past_tick(tick: u64, clock: u64) -> u64
+    ensures { result ≡ past_tick tick clock }
+{
+    if tick == 0 { 0 } else { clock % tick }
+}
+
+/// The flags of the first `cpus` processors.
+fn put_flags(sim: &Sim, cpus: u32, words: &mut Vec<u64>) -> bool
+    ensures { result ≡ true → words.new.items
+        ≡ words.old.items ++ flags_words sim.now.state.world cpus }
+{
+    for cpu in 0..cpus {
+        if !put(words, flags_of(sim, cpu)) {
+            return false;
+        }
+    }
+    true
+}
+
+/// A bit if the processor may be chosen, one if it is to look for work, and one if its task is to lose its slice.
+fn flags_of(sim: &Sim, cpu: u32) -> u64
+    ensures { result ≡ flags_word sim.now.state.world cpu }
+{
+    let world = sim.world();
+    u64::from(world.is_free(cpu))
+        + (2 * u64::from(world.is_kicked(cpu)) + 4 * u64::from(world.is_preempted(cpu)))
 }
 
 /// Eight bytes a word, the last one filled up with zeros.

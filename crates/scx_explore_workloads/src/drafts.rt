@@ -48,12 +48,15 @@ impl Draft {
         }
     }
 
-    /// The task goes to sleep in that millisecond, once it has run so long.
+    /// The task goes to sleep in that millisecond, once it has run so long. Under Linux rules it may have run longer than
+    /// it had to.
     fn go_to_sleep(&mut self, now: u32, run_ns: u64) {
         self.slept = Some(now);
-        if self.run.is_none() {
-            self.run = Some(milliseconds(run_ns.saturating_sub(self.ran)));
-        }
+        let ran = milliseconds(run_ns.saturating_sub(self.ran));
+        self.run = Some(match self.run {
+            Some(run) => run.min(ran),
+            None => ran,
+        });
     }
 
     /// The task's times in a workload of `ms` milliseconds. What the list doesn't say comes after its end.

@@ -6,8 +6,9 @@ use crate::drafts::times_in;
 use crate::following::follows;
 use crate::likeness::has_same_parts;
 use crate::writing::text_of;
+use scx_isa_semantics::Rules;
 use scx_load_files::LoadError;
-use scx_load_workloads::{Workload, read_workload};
+use scx_load_workloads::{Workload, read_workload_by};
 use scx_sched::{Event, Sim};
 use std::alloc::{AllocError, Global};
 
@@ -37,8 +38,8 @@ pub fn workload_file(
     }
 }
 
-/// True if the text is a workload file with the groups, tasks and CPUs of that workload, whose events, for that
-/// machine, begin with the list. The machine goes through them.
+/// True if the text is a workload file with the groups, tasks and CPUs of that workload, for a policy by the machine's
+/// rules, whose events, for that machine, begin with the list. The machine goes through them.
 ///
 /// # Errors
 ///
@@ -54,11 +55,19 @@ pub fn begins_with(
     ensures { IfOk result
         (λ answer. answer ≡ true → IsFileOf workload.now sim.old events.now text.now) }
 {
-    match read_workload(alloc, text) {
+    let rules = rules_of(sim);
+    match read_workload_by(alloc, rules, text) {
         Ok(file) => is_file_of(alloc, &file, workload, sim, events),
         Err(LoadError::NoMemory) => Err(AllocError),
         Err(LoadError::At { .. }) => Ok(false),
     }
+}
+
+/// The rules of the machine's policy.
+fn rules_of(sim: &Sim) -> Rules
+    ensures { result ≡ sim.now.state.world.rules }
+{
+    sim.world().rules()
 }
 
 /// True if the file has the parts of that workload, and its events begin with the list.

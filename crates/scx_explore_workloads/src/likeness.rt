@@ -5,13 +5,14 @@ ghost use Rattle.scx_explore_workloads.specs.Files.{HasSameParts};
 use scx_load_workloads::Workload;
 use scx_weights::Group;
 
-/// True if both have the same CPUs, groups and tasks in groups.
+/// True if both have the same CPUs, groups and tasks in groups, and each task the same weight.
 pub(crate) fn has_same_parts(file: &Workload, workload: &Workload) -> bool
     ensures { result ≡ true → HasSameParts file.now workload.now }
 {
     file.cpus() == workload.cpus()
         && are_same_groups(file.groups(), workload.groups())
         && file.tasks() == workload.tasks()
+        && file.own_weights() == workload.own_weights()
 }
 
 #[tactic(auto, using(crate::proofs::Same::same_lists))]

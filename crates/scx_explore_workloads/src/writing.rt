@@ -4,7 +4,7 @@ use scx_load_workloads::{Timing, Workload};
 use scx_weights::{DEFAULT_PERIOD_MS, Group};
 use std::alloc::{AllocError, Global};
 
-/// The weight of a group that names none.
+/// The weight of a group or a task that names none.
 const DEFAULT_WEIGHT: u32 = 100;
 
 /// The text of the workload with these times, without its changes of weights.
@@ -86,7 +86,16 @@ fn put_task(
     text.push_str("\n[[task]]\n")?;
     put_text(text, "name", task_name(workload, number))?;
     put_text(text, "group", group_name(workload, home))?;
+    put_own_weight(text, workload, number)?;
     put_timing(text, drafts.timing(number))
+}
+
+/// Adds the weight of a task itself, where it isn't that of one that names none.
+fn put_own_weight(text: &mut String, workload: &Workload, task: u16) -> Result<(), AllocError> {
+    match workload.own_weights().get(usize::from(task)) {
+        Some(weight) if *weight != DEFAULT_WEIGHT => put_number(text, "weight", *weight),
+        _ => Ok(()),
+    }
 }
 
 /// Adds a task's times that aren't 0.

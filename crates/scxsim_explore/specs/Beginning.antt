@@ -10,8 +10,8 @@ use Rattle.scxsim_explore.specs.declared.beginning.Start.{Start}
 use Rattle.scxsim_explore.specs.declared.beginning.Start.TheVariants.{Past, Within}
 use Rattle.scxsim_explore.specs.Words.{IsPastIn, IsPastTexts, IsWithin}
 
--- the texts stand for the run of that workload from that machine, which is past no limit, and states
--- of lists within the bounds are written in that form
+-- the texts stand for the run of that workload from that machine, which is past no limit, and
+-- states of lists within the bounds are written in that form
 pub record IsReady
     (policy workload : List ℕ) (b : Bounds) (w : WorkloadState) (first : SimState) (form : Form) :
     Type 0
@@ -20,8 +20,8 @@ pub record IsReady
     pub within : IsWithin b w first
     pub of_policy : IsFormOf policy b form
 
--- the search of that workload begins from that machine within the bounds, with states in that form, or
--- the machine is past that limit
+-- the search of that workload begins from that machine within the bounds, with states in that form,
+-- or the machine is past that limit
 abbrev pub IsStartOf : WorkloadState → SimState → Form → Bounds → Start → Type 0
 IsStartOf w first form b (Past limit) = IsPastIn b w first limit
 IsStartOf w first form b (Within begun v f) =

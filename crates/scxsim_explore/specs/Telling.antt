@@ -28,8 +28,8 @@ use Rattle.scxsim_explore_lines.specs.Found.{told_text}
 use Rattle.scxsim_explore_lines.specs.Summary.{Depths, Nones, memory_line, summary_text}
 use Rattle.scxsim_explore.specs.Words.{IsBoundsOf, IsPast, IsWithin, limit_line}
 
--- The text after the trace of a list, if there is one. A list of `events` has none. In the other modes
--- it is the file of a workload with the same parts, whose events begin with the list.
+-- The text after the trace of a list, if there is one. A list of `events` has none. In the other
+-- modes it is the file of a workload with the same parts, whose events begin with the list.
 abbrev pub HasFile : Mode → WorkloadState → SimState → List Event → Option (List ℕ) → Type 0
 HasFile mode.Events w s events file = file ≡ None
 HasFile mode.Milliseconds w s events file = IfSome file (IsFileOf w s events)
@@ -89,9 +89,9 @@ pub record IsSure
       room ≤ most_events b (length first.state.world.tasks) (length first.state.world.cpus)
   pub none : IsSureBy form moves limit sorts first room
 
--- States may only be said to have been gone through once more where the lists of the lines below are
--- all that are made of such moves, and where it is sure that none of these shows anything of their
--- sorts. Of tasks that are overtaken nothing is said.
+-- States may only be said to have been gone through once more where the lists of the lines below
+-- are all that are made of such moves, and where it is sure that none of these shows anything of
+-- their sorts. Of tasks that are overtaken nothing is said.
 pub record IsGoneThrough
     (form : Form) (w : WorkloadState) (first : SimState) (n : Nones) (moves : Moves) : Type 0
   where
@@ -110,12 +110,13 @@ pub record MayBeLooked (b : Bounds) (w : WorkloadState) (moves : Moves) : Type 0
 abbrev pub CantBeLooked : Bounds → WorkloadState → Type 0
 CantBeLooked b w = (moves : Moves) → ¬ MayBeLooked b w moves
 
--- the search went as far as the bounds ask, or a depth doesn't fit, or the last one has no new state
+-- the search went as far as the bounds ask, or a depth doesn't fit, or the last one has no new
+-- state
 abbrev pub IsThrough : Bounds → Depths → ℕ → Type 0
 IsThrough b d depth = (b.depth ≤ depth) ⊎ (IsSome d.misfit ⊎ HasNoNew d.last)
 
--- The lists of which it is said that nothing was found in them. These are lists of any length only if
--- they were audited or, where they can't be, if the last depth of the search has no new state.
+-- The lists of which it is said that nothing was found in them. These are lists of any length only
+-- if they were audited or, where they can't be, if the last depth of the search has no new state.
 -- Otherwise they are lists up to the last depth.
 pub record IsReach (b : Bounds) (w : WorkloadState) (d : Depths) (n : Nones) : Type 0 where
   pub any : n.reach ≡ None → IsSome n.again ⊎ (CantBeLooked b w × HasNoNew d.last)
@@ -139,8 +140,8 @@ pub record IsEnded
 
 -- ---- all of it
 
--- lists are written, each of which the machine shows, then the summary, and then a line if memory ran
--- out
+-- lists are written, each of which the machine shows, then the summary, and then a line if memory
+-- ran out
 abbrev pub IsTold :
     Form → WorkloadState → SimState → Bounds → Bool → Option (List ℕ) → Option (List ℕ) → Type 0
 IsTold form w s b whole old new =
@@ -148,9 +149,9 @@ IsTold form w s b whole old new =
     × IsEnded form w s b between end × Appends end new (memory_line whole)
 
 -- Lists within the bounds are written of which the machine that the texts stand for shows that they
--- are accepted and end in what is said of them, each with its events and its trace; then the summary,
--- with states written in the form that the policy's programs decide. The machine is past no limit.
--- The last line says whether memory ran out meanwhile.
+-- are accepted and end in what is said of them, each with its events and its trace; then the
+-- summary, with states written in the form that the policy's programs decide. The machine is past
+-- no limit. The last line says whether memory ran out meanwhile.
 pub record IsExplored
     (policy workload : List ℕ) (b : Bounds) (whole : Bool) (old new : Option (List ℕ)) : Type 0
   where

@@ -1,5 +1,5 @@
--- The text of a list of events in which something was found: what it is, the events, their trace, and
--- the workload file that begins with them.
+-- The text of a list of events in which something was found: what it is, the events, their trace,
+-- and the workload file that begins with them.
 use Rattle.std.specs.Prelude.{ℕ, ◌+◌, List, [], ◌∷◌, ◌++◌, length, Bool, true, false, Option, Some, None, codes, decimal, flat_map}
 use Rattle.scx_isa_semantics.specs.declared.callbacks.Callback.{Callback}
 use Rattle.scx_isa_semantics.specs.Callbacks.{callback_name}
@@ -65,8 +65,8 @@ ms_begun [] first = 0
 ms_begun (e ∷ es) true = 1 + ms_begun es (is_clock e)
 ms_begun (e ∷ es) false = ms_begun es (is_clock e)
 
--- the length of a list: the number of its events or, in the other modes, of the milliseconds that it
--- begins
+-- the length of a list: the number of its events or, in the other modes, of the milliseconds that
+-- it begins
 abbrev pub length_in : Mode → List Event → ℕ
 length_in mode.Events es = length es
 length_in mode.Milliseconds es = ms_begun es true
@@ -111,8 +111,8 @@ list_text x s f m events =
 abbrev pub workload_text : List ℕ → List ℕ
 workload_text file = codes "workload\n" ++ file ++ codes "\n"
 
--- the text after the trace: a workload file whose events begin with the list, if there is one, and an
--- empty line
+-- the text after the trace: a workload file whose events begin with the list, if there is one, and
+-- an empty line
 abbrev pub file_text : Option (List ℕ) → List ℕ
 file_text None = codes "\n"
 file_text (Some file) = workload_text file

@@ -1,5 +1,5 @@
--- The lines at the end of a search: instructions before any event, how far the search came, and what
--- is in none of the lists.
+-- The lines at the end of a search: instructions before any event, how far the search came, and
+-- what is in none of the lists.
 use Rattle.std.specs.Prelude.{ℕ, List, [], ◌++◌, Bool, true, false, Option, Some, None, codes, decimal, flat_map}
 use Rattle.scx_isa_semantics.specs.declared.callbacks.Callback.{Callback}
 use Rattle.scx_isa_semantics.specs.declared.callbacks.Callback.TheVariants.{Init, Enable}
@@ -73,8 +73,8 @@ abbrev pub misfit_line : Mode → Option ℕ → List ℕ
 misfit_line m None = []
 misfit_line m (Some depth) = codes "depth " ++ decimal depth ++ misfit_end m
 
--- How far a search came: whether tasks of a group count as alike, the depths before the last one that
--- are told, the last one, and the depth that doesn't fit.
+-- How far a search came: whether tasks of a group count as alike, the depths before the last one
+-- that are told, the last one, and the depth that doesn't fit.
 pub record Depths : Type 0 where
   pub alike : Bool
   pub levels : List (Option Level)
@@ -142,8 +142,8 @@ again_line (Some moves.Milliseconds) =
     codes "gone through once more for faults, stalls and idle processors\n"
 
 -- What is in none of the lists that were searched within these bounds: the most events or
--- milliseconds of a list, where that is bounded; the sorts, whether overtaken tasks are one of them,
--- and by which moves the states were audited, if they were.
+-- milliseconds of a list, where that is bounded; the sorts, whether overtaken tasks are one of
+-- them, and by which moves the states were audited, if they were.
 pub record Nones : Type 0 where
   pub bounds : Bounds
   pub reach : Option ℕ
@@ -169,8 +169,8 @@ nones_text n =
 
 -- ---- all of it
 
--- the summary: what callbacks take before any event, how far the search came, and what is in none of
--- the lists
+-- the summary: what callbacks take before any event, how far the search came, and what is in none
+-- of the lists
 abbrev pub summary_text : Starts → Depths → Nones → List ℕ
 summary_text x d n = start_lines x ++ depth_lines n.bounds.mode d ++ nones_text n
 
