@@ -53,7 +53,7 @@ impl Account {
         Ok(Account {
             idling: Idling::new(alloc, tasks, cpus)?,
             stretches: IdleStretches::new(alloc, cpus)?,
-            waits: Waits::new(alloc, worst, tasks as usize, cpus)?,
+            waits: Waits::new(alloc, worst, sim.world().rules(), tasks as usize, cpus)?,
             queues: QueueTraffic::new(alloc, tasks as usize, cpus)?,
             calls: Calls::new(alloc, tasks as usize, cpus)?,
             recent: RecentNotes::if_wanted(alloc, is_ejected, tasks as usize, cpus)?,

@@ -7,7 +7,7 @@ use Rattle.scx_isa_semantics.specs.declared.callbacks.Callback.{Callback}
 use Rattle.scx_isa_semantics.specs.Callbacks.{at, Made, Failed, FirstFailed}
 use Rattle.scxsim_commands.specs.declared.refusal.Refusal.{Refusal}
 use Rattle.scxsim_commands.specs.declared.refusal.Refusal.TheVariants.{NoMemory}
-use Rattle.scx_load_policies.specs.Building.{AsksForMemory}
+use Rattle.scx_load_policies.specs.Building.{context_of, AsksForMemory}
 use Rattle.scx_load_policies.specs.Policies.{PolicyFile, program_of}
 use Rattle.scxsim_commands.specs.declared.verdict.Verdict.{Verdict}
 use Rattle.scxsim_commands.specs.Verdicts.{IsVerdict, IsVerdictOf, Verdicts, HasVerdicts}
@@ -16,13 +16,13 @@ use Rattle.scxsim_commands.specs.Verdicts.{IsVerdict, IsVerdictOf, Verdicts, Has
 module _ {F : Type 0} (g : Shared F (Callback × (Code × Unit {0})) (Result Verdict Refusal)) (f : F) (policy : PolicyFile) where
   -- what it answers of a program is the verdict on it
   abbrev pub Judges : Type 0
-  Judges = (b : Callback) (x : Code) (v : Verdict) → FnReturns g f (b, (x, tt)) (Ok v) → IsVerdict policy.shapes b x v
+  Judges = (b : Callback) (x : Code) (v : Verdict) → FnReturns g f (b, (x, tt)) (Ok v) → IsVerdict (context_of policy b) x v
 
   -- where it fails memory ran out, for which the program asks
   abbrev pub Asks : Type 0
   Asks = (b : Callback) (x : Code) (e : Refusal) → FnReturns g f (b, (x, tt)) (Err e) → (e ≡ NoMemory) × AsksForMemory (Some x)
 
-  verdict_at : Judges → (b : Callback) (p : Option Code) (v : Option Verdict) → Made g f b p v → IsVerdictOf policy.shapes b p v
+  verdict_at : Judges → (b : Callback) (p : Option Code) (v : Option Verdict) → Made g f b p v → IsVerdictOf (context_of policy b) p v
   verdict_at judges b None None made = tt
   verdict_at judges b None (Some v) made = absurd made
   verdict_at judges b (Some x) None made = absurd made

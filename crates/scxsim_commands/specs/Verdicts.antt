@@ -5,36 +5,37 @@ use Rattle.scx_isa_semantics.specs.declared.callbacks.Callback.{Callback}
 use Rattle.scx_isa_semantics.specs.declared.per_callback.PerCallback.{PerCallback}
 use Rattle.scx_isa_semantics.specs.Callbacks.{callbacks, at}
 use Rattle.scx_isa_semantics.specs.Code.{Code, instruction_count}
-use Rattle.scx_maps.specs.declared.shape.Shape.{Shape}
 use Rattle.scx_verify.specs.declared.faults.Fault.TheVariants.{NoMemory}
-use Rattle.scx_vm.specs.Programs.{context}
+use Rattle.scx_vm.specs.declared.context.Context.{Context}
 use Rattle.scx_verify.specs.Typing.{IsTyped}
 use Rattle.scx_verify.specs.Faults.{IsRefusal}
 use Rattle.scx_load_policies.specs.Policies.{PolicyFile, program_of}
+use Rattle.scx_load_policies.specs.Building.{context_of}
 use Rattle.scxsim_commands.specs.declared.verdict.Verdict.{Verdict}
 use Rattle.scxsim_commands.specs.declared.verdict.Verdict.TheVariants.{Accepted, Refused}
 
--- the verdict on a program as that callback, with maps of these shapes
-abbrev pub IsVerdict : List Shape → Callback → Code → Verdict → Type 0
-IsVerdict shapes b code (Accepted count) =
-    IsTyped (context b shapes) code × (count ≡ instruction_count code)
-IsVerdict shapes b code (Refused fault slot) =
-    IsRefusal (context b shapes) code (record { fault = fault; slot = slot }) × (fault ≢ NoMemory)
+-- the verdict on a program in that context
+abbrev pub IsVerdict : Context → Code → Verdict → Type 0
+IsVerdict context code (Accepted count) =
+    IsTyped context code × (count ≡ instruction_count code)
+IsVerdict context code (Refused fault slot) =
+    IsRefusal context code (record { fault = fault; slot = slot }) × (fault ≢ NoMemory)
 
 -- where there is a program, and only there, there is a verdict on it
-abbrev pub IsVerdictOf : List Shape → Callback → Option Code → Option Verdict → Type 0
-IsVerdictOf shapes b None None = ⊤
-IsVerdictOf shapes b None (Some verdict) = ⊥
-IsVerdictOf shapes b (Some code) None = ⊥
-IsVerdictOf shapes b (Some code) (Some verdict) = IsVerdict shapes b code verdict
+abbrev pub IsVerdictOf : Context → Option Code → Option Verdict → Type 0
+IsVerdictOf context None None = ⊤
+IsVerdictOf context None (Some verdict) = ⊥
+IsVerdictOf context (Some code) None = ⊥
+IsVerdictOf context (Some code) (Some verdict) = IsVerdict context code verdict
 
 -- the verdicts on the programs of a policy, one for each callback or none
 abbrev pub Verdicts : Type 0
 Verdicts = PerCallback (Option Verdict)
 
--- the verdicts on all programs of a policy
+-- the verdicts on all programs of a policy, each as its callback, with its maps and by its rules
 abbrev pub HasVerdicts : PolicyFile → Verdicts → Type 0
-HasVerdicts policy v = (b : Callback) → IsVerdictOf policy.shapes b (program_of policy b) (at v b)
+HasVerdicts policy v =
+    (b : Callback) → IsVerdictOf (context_of policy b) (program_of policy b) (at v b)
 
 -- the program isn't refused: it is accepted, or there is none
 abbrev pub is_accepted : Option Verdict → Bool

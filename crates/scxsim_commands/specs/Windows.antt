@@ -1,10 +1,8 @@
 -- The part of a run that two words name, and why they are refused.
-use Rattle.std.specs.Prelude.{◌≡◌, ℕ, ◌<◌, ◌≤◌, max, List, Option, Some, None, Ok, ◌⊎◌}
+use Rattle.std.specs.Prelude.{◌≡◌, ℕ, ◌<◌, ◌≤◌, max, List, Option, Some, None, ◌⊎◌}
 use Rattle.std.specs.Str.Parse.{IsNumeral, digits_value, without_leading_plus}
 use Rattle.scxsim_commands.specs.declared.windows.Span.{Span}
 use Rattle.scxsim_commands.specs.declared.windows.Window.{Window}
-use Rattle.scx_load_workloads.specs.Workload.{WorkloadState}
-use Rattle.scx_load_workloads.specs.Reading.{workload_of}
 use Rattle.scxsim_commands.specs.declared.refusal.Refusal.{Refusal}
 use Rattle.scxsim_commands.specs.declared.refusal.Refusal.TheVariants.{OutOfRange}
 use Rattle.scxsim_commands.specs.declared.refusal.Word.TheVariants as word
@@ -35,8 +33,3 @@ IsSpanRefusal r = (r ≡ OutOfRange word.From) ⊎ (r ≡ OutOfRange word.To)
 abbrev pub IsBadSpan : ℕ → Option Span → Refusal → Type 0
 IsBadSpan ms None r = ⊥
 IsBadSpan ms (Some span) r = IsSpanRefusal r × ((from to : ℕ) → ¬ IsPart ms span from to)
-
--- the workload is read, and the words name no part of its run
-abbrev pub HasBadSpan : List ℕ → Option Span → Refusal → Type 0
-HasBadSpan workload span r =
-    (w : WorkloadState) × (workload_of workload ≡ Ok w) × IsBadSpan w.ms span r

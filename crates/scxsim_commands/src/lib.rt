@@ -36,6 +36,6 @@ pub use refusal::{Fault, FileKind, MOST_STRETCHES, Refusal, Word};
 pub use scxsim_output::{Counted, Failed, Out, write_all};
 pub use status::{DONE, FAILED, REFUSED, USAGE};
 pub use texts::text;
-pub use verdict::{Verdict, Verdicts, are_accepted, judge};
+pub use verdict::{Verdict, Verdicts, are_accepted, judge, judge_by};
 pub use verdict_lines::verdict_line;
 pub use windows::{Span, Window};

@@ -3,13 +3,15 @@ ghost use Rattle.scxsim_commands.specs.declared.refusal.Refusal.TheVariants.{NoM
 ghost use Rattle.scx_load_policies.specs.Building.{AsksForMemory};
 ghost use Rattle.scx_load_policies.specs.Policies.{program_of};
 ghost use Rattle.scx_isa_semantics.specs.declared.callbacks.Callback.{Callback};
+ghost use Rattle.scx_vm.specs.Programs.{context};
 ghost use Rattle.scxsim_commands.specs.Verdicts.{IsVerdict, HasVerdicts, is_accepted, are_accepted};
 
 use crate::refusal::Refusal;
 use scx_isa::{CALLBACKS, Callback, PerCallback, Program};
 use scx_load_policies::PolicyText;
 use scx_maps::MapDefs;
-use scx_verify::{Fault, verify};
+use scx_verify::{Fault, verify_by};
+use scx_vm::Context;
 use std::alloc::Global;
 
 /// The verifier's answer to a program.
@@ -57,10 +59,13 @@ pub(crate) fn verdicts_of(alloc: Global, policy: PolicyText) -> Result<Verdicts,
     ensures asked { OnErr result ((b : Callback) × AsksForMemory (program_of policy b)) }
 {
     let defs = *policy.defs();
-    policy.into_programs().try_map(&|callback, program| judge(alloc, program, callback, &defs))
+    let rules = policy.rules();
+    policy.into_programs().try_map(&|callback, program| {
+        judge_by(alloc, program, Context::new(callback, defs).by_rules(rules))
+    })
 }
 
-/// The verdict on a program.
+/// The verdict on a program as that callback, by plain rules.
 ///
 /// # Errors
 ///
@@ -71,11 +76,24 @@ pub fn judge(
     callback: Callback,
     defs: &MapDefs,
 ) -> Result<Verdict, Refusal>
-    ensures verdict { IfOk result (IsVerdict defs.now callback program) }
+    ensures verdict { IfOk result (IsVerdict (context callback defs.now) program) }
     ensures memory { IfErr result (λ refusal. refusal ≡ NoMemory) }
     ensures asked { OnErr result (AsksForMemory (Some program)) }
 {
-    match verify(alloc, program, callback, defs) {
+    judge_by(alloc, program, Context::new(callback, *defs))
+}
+
+/// The verdict on a program in that context.
+///
+/// # Errors
+///
+/// Memory ran out.
+pub fn judge_by(alloc: Global, program: Program, context: Context) -> Result<Verdict, Refusal>
+    ensures verdict { IfOk result (IsVerdict context program) }
+    ensures memory { IfErr result (λ refusal. refusal ≡ NoMemory) }
+    ensures asked { OnErr result (AsksForMemory (Some program)) }
+{
+    match verify_by(alloc, program, context) {
         Ok(verified) => Ok(Verdict::Accepted(verified.instructions())),
         Err(error) => match error.fault {
             Fault::NoMemory => Err(Refusal::NoMemory),

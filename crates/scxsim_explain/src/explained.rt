@@ -1,7 +1,8 @@
 ghost use Rattle.std.specs.Prelude.{◌≡◌, [], ◌∷◌, ◌++◌, map, IfOk, IfErr, OnOk};
 ghost use Rattle.scxsim_commands.specs.declared.refusal.Refusal.TheVariants.{NoMemory};
 ghost use Rattle.scx_load_policies.specs.Policies.{program_of, without};
-ghost use Rattle.scx_vm.specs.Programs.{context};
+ghost use Rattle.scx_load_policies.specs.Building.{context_of};
+ghost use Rattle.scx_vm.specs.Programs.{context, by_rules};
 ghost use Rattle.scx_verify_explain.specs.Listings.{IsListing};
 ghost use Rattle.scxsim_commands.specs.Verdicts.{IsVerdict, IsVerdictOf, HasVerdicts};
 ghost use Rattle.scxsim_explain.specs.Explained.{IsExplained, IsSo, HasJumps, ArePrograms};
@@ -9,12 +10,12 @@ ghost use Rattle.scxsim_explain.specs.Explained.{first_line};
 ghost use Rattle.scxsim_explain.specs.Listed.{line_on, first_lines};
 
 use crate::writing::room_for_line;
-use scx_isa::{CALLBACKS, Callback, PerCallback, Program};
+use scx_isa::{CALLBACKS, Callback, PerCallback, Program, Rules};
 use scx_load_policies::PolicyText;
 use scx_maps::MapDefs;
 use scx_verify_explain::{Explanation, Jumps, Listing, explanation_of};
 use scx_vm::Context;
-use scxsim_commands::{Refusal, Verdict, Verdicts, judge};
+use scxsim_commands::{Refusal, Verdict, Verdicts, judge_by};
 use scxsim_output::Text;
 use std::alloc::{AllocError, Global};
 
@@ -96,7 +97,7 @@ fn explain_callback(
     programs: &mut Vec<Explained>,
 ) -> Result<Option<Verdict>, Refusal>
     ensures verdict { IfOk result
-        (IsVerdictOf policy.old.shapes callback (program_of policy.old callback)) }
+        (IsVerdictOf (context_of policy.old callback) (program_of policy.old callback)) }
     ensures programs { IfOk result (λ verdict. map first_line programs.new.items
         ≡ map first_line programs.old.items ++ line_on callback verdict) }
     ensures memory { IfErr result (λ refusal. refusal ≡ NoMemory) }
@@ -105,7 +106,7 @@ fn explain_callback(
     match policy.take(callback) {
         Some(program) => {
             let defs = *policy.defs();
-            let explained = explain_program(alloc, program, callback, &defs)?;
+            let explained = explain_program(alloc, program, callback, policy.rules(), &defs)?;
             let verdict = explained.verdict;
             keep(programs, explained)?;
             Ok(Some(verdict))
@@ -126,23 +127,22 @@ fn explain_program(
     alloc: Global,
     program: Program,
     callback: Callback,
+    rules: Rules,
     defs: &MapDefs,
 ) -> Result<Explained, Refusal>
-    ensures verdict { IfOk result
-        (λ explained. IsVerdict defs.now callback program explained.verdict) }
-    ensures listing { IfOk result
-        (λ explained. IsListing (context callback defs.now) program explained.listing) }
+    ensures verdict { IfOk result (λ explained.
+        IsVerdict (by_rules rules (context callback defs.now)) program explained.verdict) }
+    ensures listing { IfOk result (λ explained.
+        IsListing (by_rules rules (context callback defs.now)) program explained.listing) }
     ensures explanation { IfOk result IsExplained }
     ensures so { IfOk result IsSo }
     ensures jumps { IfOk result HasJumps }
     ensures memory { IfErr result (λ refusal. refusal ≡ NoMemory) }
 {
-    let context = Context {
-        callback,
-        defs: *defs,
-    };
-    let listing = Listing::new(alloc, &program, context)?;
-    let verdict = judge(alloc, program, callback, defs)?;
+    let listed = Context::new(callback, *defs).by_rules(rules);
+    let listing = Listing::new(alloc, &program, listed)?;
+    let judged = Context::new(callback, *defs).by_rules(rules);
+    let verdict = judge_by(alloc, program, judged)?;
     explain_verdict(alloc, listing, verdict)
 }
 

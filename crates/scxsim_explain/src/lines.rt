@@ -4,7 +4,7 @@ use crate::sentences::push_explanation;
 use crate::words::helper_name;
 use arrayvec::ArrayString;
 use scx_asm_text::Canonical;
-use scx_isa::{Helper, Insn};
+use scx_isa::{Helper, Insn, Rules};
 use scx_verify_explain::{Listing, Way, target_of};
 use scxsim_output::Text;
 use std::fmt::Write;
@@ -30,11 +30,11 @@ pub(crate) fn push_slot(line: &mut Text, explained: &Explained, slot: usize, wid
 
 /// The canonical text of an instruction, and the slot to which it jumps or the name of the helper that it
 /// calls.
-fn text_of(slot: usize, insn: Insn) -> InsnText {
+fn text_of(slot: usize, insn: Insn, rules: Rules) -> InsnText {
     let mut text = InsnText::new();
     // There is room for each instruction.
     let _ = write!(text, "{}", Canonical(insn));
-    let _ = match (target_of(slot, insn), helper_of(insn)) {
+    let _ = match (target_of(slot, insn), helper_of(insn, rules)) {
         (Some(target), _) => write!(text, " (to {target})"),
         (None, Some(helper)) => write!(text, "  {helper}"),
         (None, None) => Ok(()),
@@ -42,20 +42,21 @@ fn text_of(slot: usize, insn: Insn) -> InsnText {
     text
 }
 
-/// The name of the helper that an instruction calls, if there is one of that number.
-fn helper_of(insn: Insn) -> Option<&'static str> {
+/// The name of the helper that an instruction calls, if these rules know one of that number.
+fn helper_of(insn: Insn, rules: Rules) -> Option<&'static str> {
     let Insn::Call(number) = insn else {
         return None;
     };
-    Helper::new(number).map(helper_name)
+    Helper::known(number, rules).map(helper_name)
 }
 
 /// The length of the longest text of the listing.
 pub(crate) fn width_of(listing: &Listing) -> usize {
+    let rules = listing.context().rules;
     let mut width = 0;
     for slot in 0..listing.slots() {
         if let Some(insn) = listing.insn(slot) {
-            width = text_of(slot, insn).len().max(width);
+            width = text_of(slot, insn, rules).len().max(width);
         }
     }
     width
@@ -63,7 +64,7 @@ pub(crate) fn width_of(listing: &Listing) -> usize {
 
 /// Appends a slot, its instruction, and what is known before it.
 fn push_line(line: &mut Text, explained: &Explained, slot: usize, insn: Insn, width: usize) {
-    let text = text_of(slot, insn);
+    let text = text_of(slot, insn, explained.listing.context().rules);
     line.number_right(slot as u64, 4);
     line.push("  ");
     line.push(text.as_str());

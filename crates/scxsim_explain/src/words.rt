@@ -156,5 +156,6 @@ pub(crate) fn helper_name(helper: Helper) -> &'static str {
         Helper::CpuIdle => "cpu_idle",
         Helper::TaskByPid => "task_by_pid",
         Helper::DsqNrQueued => "dsq_nr_queued",
+        Helper::KickCpu => "kick_cpu",
     }
 }

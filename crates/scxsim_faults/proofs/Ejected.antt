@@ -13,10 +13,10 @@ use Rattle.scx_sched_machine.specs.Start.{first_state, IsRefusal, start_calls, c
 use Rattle.scx_sched_machine.specs.declared.start.NewError.{NewError}
 use Rattle.scx_sched_machine.specs.declared.start.NewError.TheVariants as start
 use Rattle.scx_sched.specs.Sim.{SimState, IsFirstState, after_event, calls_of}
-use Rattle.scx_weights.specs.Hierarchy.{Hierarchy, idle}
+use Rattle.scx_weights.specs.Hierarchy.{Hierarchy}
 use Rattle.scx_load_driver.specs.Driver.{DriverState, remaining}
 use Rattle.scx_load_driver.specs.Events.{workload_events}
-use Rattle.scx_load_workloads.specs.Workload.{WorkloadState}
+use Rattle.scx_load_workloads.specs.Workload.{WorkloadState, first_tree}
 use Rattle.scxsim_faults.specs.declared.finder.Finder.{Finder}
 use Rattle.scxsim_faults.specs.declared.place.FaultPlace.{FaultPlace}
 use Rattle.scxsim_faults.specs.Places.{IsPlaceOf, IsPlaceAt, IsPlaceIn, IsPlaceAtStart, IsPlaceUnder, In_event, At_start, IsPolicyOf, IsPlaceFound}
@@ -107,7 +107,7 @@ if_found_in P Q (Err e) h there = tt
 -- ---- the run under a policy
 
 -- in an event
-pub in_event : {E : Type 0} (policy : PolicyState) (w : WorkloadState) (tree : Hierarchy) (cpus : ℕ) (s : SimState) (r : Result (Option FaultPlace) E) → tree ≡ idle w.groups w.homes → cpus ≡ w.cpus
+pub in_event : {E : Type 0} (policy : PolicyState) (w : WorkloadState) (tree : Hierarchy) (cpus : ℕ) (s : SimState) (r : Result (Option FaultPlace) E) → tree ≡ first_tree w → cpus ≡ w.cpus
     → IsFirstState policy tree cpus s → IfOk r (λ o. IfSome o (IsPlaceIn s (workload_events w s))) → IfOk r (λ o. IfSome o (IsPlaceUnder policy w))
 in_event policy w tree cpus s r same count first there =
     let First : Hierarchy → Type 0 = λ t. IsFirstState policy t w.cpus s in
@@ -115,7 +115,7 @@ in_event policy w tree cpus s r same count first there =
     if_found_in (IsPlaceIn s (workload_events w s)) (IsPlaceUnder policy w) r (λ p x. In_event s (subst First same (subst On count first)) x) there
 
 -- a machine that can't begin
-begins : (policy : PolicyState) (w : WorkloadState) (tree : Hierarchy) (cpus : ℕ) (n : ℤ) (p : FaultPlace) → tree ≡ idle w.groups w.homes → cpus ≡ w.cpus → first_state policy tree cpus ≡ Err n
+begins : (policy : PolicyState) (w : WorkloadState) (tree : Hierarchy) (cpus : ℕ) (n : ℤ) (p : FaultPlace) → tree ≡ first_tree w → cpus ≡ w.cpus → first_state policy tree cpus ≡ Err n
     → (m : CallMade) × IsLast m (start_calls policy tree cpus) × IsPlaceOf m p → IsPlaceAtStart policy w p
 begins policy w tree cpus n p same count fails found =
     let Fails : Hierarchy → Type 0 = λ t. first_state policy t w.cpus ≡ Err n in
@@ -125,7 +125,7 @@ begins policy w tree cpus n p same count fails found =
     record { answer = n; fails = subst Fails same (subst FailsOn count fails); failing = found.0; last = subst Last same (subst LastOn count found.1); place = found.2 }
 
 -- where the machine can't begin
-pub at_start : {E : Type 0} (policy : PolicyState) (w : WorkloadState) (tree : Hierarchy) (cpus : ℕ) (e : NewError) (f g : Finder) (r : Result (Option FaultPlace) E) → tree ≡ idle w.groups w.homes → cpus ≡ w.cpus
+pub at_start : {E : Type 0} (policy : PolicyState) (w : WorkloadState) (tree : Hierarchy) (cpus : ℕ) (e : NewError) (f g : Finder) (r : Result (Option FaultPlace) E) → tree ≡ first_tree w → cpus ≡ w.cpus
     → IsRefusal policy tree cpus e → f.found ≡ None → Hears Finds f (calls_before policy tree cpus e) g → (is_init_failed e ≡ false → IfOk r (λ o. o ≡ None)) → IfOk r (λ o. IfSome o (λ p. g.found ≡ Some p))
     → IfOk r (λ o. IfSome o (IsPlaceUnder policy w))
 at_start policy w tree cpus e f g (Err x) same count refused empty hears none kept = tt

@@ -1,6 +1,7 @@
 -- The first fault of a callback stays its first fault, and a run can go one way only.
-use Rattle.std.proofs.Common.{◌≡◌, ℕ, zero, suc, ◌+◌, ◌-◌, ◌≤◌, nat_lt, List, length, map, Option, Some, None, refl, sym, ap, ◌∙◌, subst, arith}
+use Rattle.std.proofs.Common.{◌≡◌, ℕ, zero, suc, ◌+◌, ◌-◌, ◌≤◌, ◌||◌, nat_lt, List, length, map, Option, Some, None, is_none, refl, sym, ap, ◌∙◌, subst, arith}
 use Rattle.scx_dsq.specs.Queues.{front_of}
+use Rattle.scx_dsq.specs.Calls.{after_push}
 use Rattle.scx_isa_semantics.specs.declared.callbacks.Callback.{Callback}
 use Rattle.scx_isa_semantics.specs.declared.host_tables.Helper.{Helper}
 use Rattle.scx_isa_semantics.specs.Code.{Code}
@@ -13,9 +14,11 @@ use Rattle.scx_vm.specs.declared.arguments.Arg.{Arg}
 use Rattle.scx_vm.specs.Host.{host, after_query}
 use Rattle.scx_sched_world.specs.declared.call.Insert.{Insert}
 use Rattle.scx_sched_world.specs.declared.faults.Fault.{Fault}
-use Rattle.scx_sched_world.specs.World.{WorldState}
-use Rattle.scx_sched_world.specs.Tasks.{after_leave, after_enter, for_cpu}
-use Rattle.scx_sched_world.specs.Helpers.{with_fault, is_dispatch, with_insert, after_release, insert_or_fault, front_moved_to_local, helper_after, world_functions}
+use Rattle.scx_sched_world.specs.declared.kicks.Kick.{Kick}
+use Rattle.scx_sched_world.specs.declared.kicks.Kick.TheVariants.{Any, IfIdle, Preempt}
+use Rattle.scx_sched_world.specs.World.{WorldState, with_queues, with_kick, is_by_linux, task_at, with_task, running, is_this, after_claim}
+use Rattle.scx_sched_world.specs.Tasks.{after_leave, homed, homed_at, local_cpu, task_after_insert, rank_by, after_preempt_of, after_preempt_at, after_preempt, after_enter, for_cpu}
+use Rattle.scx_sched_world.specs.Helpers.{with_fault, is_dispatch, with_insert, after_release, insert_or_fault, front_moved_to_local, kicked_so, helper_after, world_functions}
 use Rattle.scx_sched_machine.proofs.Choices.{keeps_if}
 use Rattle.scx_sched_machine.proofs.HelperCalls.{by_helper}
 
@@ -26,8 +29,32 @@ module _ (f : Fault) where
   has_faulted : (w : WorldState) (g : Fault) → Has w → Has (with_fault w g)
   has_faulted w g h = rw h refl
 
+  has_home : (w : WorldState) (t c : ℕ) → Has w → Has (homed w t c)
+  has_home w t c h = keeps_if Has (is_by_linux w) _ w h h
+
+  has_home_at : (w : WorldState) (t : ℕ) (o : Option ℕ) → Has w → Has (homed_at w t o)
+  has_home_at w t None h = h
+  has_home_at w t (Some c) h = has_home w t c h
+
+  has_cut_off : (w : WorldState) (c : ℕ) (o : Option ℕ) → Has w → Has (after_preempt_of w c o)
+  has_cut_off w c None h = h
+  has_cut_off w c (Some t) h = keeps_if Has (is_this c w.cycling) w _ h h
+
+  has_preempted_at : (w : WorldState) (o : Option ℕ) → Has w → Has (after_preempt_at w o)
+  has_preempted_at w None h = h
+  has_preempted_at w (Some c) h = has_cut_off w c (running w c) h
+
+  has_preempted : (w : WorldState) (i : Insert) → Has w → Has (after_preempt w i)
+  has_preempted w i h = keeps_if Has i.preempts _ w (has_preempted_at w (local_cpu w i.queue) h) h
+
   has_entered : (w : WorldState) (t : ℕ) (i : Insert) → Has w → Has (after_enter w t i)
-  has_entered w t i h = keeps_if Has (nat_lt t (length w.tasks)) _ w h h
+  has_entered w t i h = keeps_if Has (nat_lt t (length w.tasks)) _ w (has_preempted (homed_at given t at) i (has_home_at given t at h)) h
+    where
+      given : WorldState
+      given = with_queues (with_task w t (task_after_insert (task_at w t) i)) (after_push w.queues i.queue t (rank_by w i.rank))
+
+      at : Option ℕ
+      at = local_cpu w i.queue
 
   has_released : (w : WorldState) (t : Option ℕ) (i : Insert) → Has w → Has (after_release w t i)
   has_released w None i h = h
@@ -38,14 +65,26 @@ module _ (f : Fault) where
 
   has_moved : (w : WorldState) (o : Option ℕ) (q : ℕ) → Has w → Has (front_moved_to_local w o q)
   has_moved w None q h = h
-  has_moved w (Some t) q h = h
+  has_moved w (Some t) q h = has_home _ t w.call.cpu h
+
+  has_claimed : (w : WorldState) (o : Option ℕ) → Has w → Has (after_claim w o)
+  has_claimed w None h = h
+  has_claimed w (Some c) h = keeps_if Has (is_by_linux w) _ w h h
+
+  has_kicked : (w : WorldState) (c : ℕ) (k : Kick) → Has w → Has (kicked_so w c k)
+  has_kicked w c Any h = h
+  has_kicked w c IfIdle h = keeps_if Has (is_none (running w c) || is_this c w.cycling) (with_kick w c) w h h
+  has_kicked w c Preempt h = h
 
   has_helper : (w : WorldState) (x : Helper) (a : List Arg) → Has w → Has (helper_after w x a)
   has_helper w x a h = by_helper Has w (record {
     same = h;
     faulty = λ g other. has_faulted w g h;
     created = λ q. h;
-    inserted = λ t i flags none. has_inserted w t i h;
+    inserted = λ t i flags behind none. has_inserted w t i h;
+    late = λ linux here. h;
+    claimed = λ o. has_claimed w o h;
+    kicked = λ c k. has_kicked w c k h;
     moved = λ q here low. has_moved w (front_of w.queues q) q h;
   }) x a
 

@@ -13,7 +13,6 @@ use Rattle.scx_vm.specs.declared.arguments.Args.{Args}
 use Rattle.scx_vm.specs.Arguments.{program_arguments}
 use Rattle.scx_vm.specs.Host.{host}
 use Rattle.scx_vm_tagged.specs.Watched.{held, EndsAt}
-use Rattle.scx_weights.specs.Hierarchy.{idle}
 use Rattle.scx_sched_world.specs.declared.eject.Eject.TheVariants as cause
 use Rattle.scx_sched_world.specs.declared.faults.Fault.{Fault}
 use Rattle.scx_sched_world.specs.declared.faults.Fault.TheVariants.{NoSuchCpu}
@@ -28,7 +27,7 @@ use Rattle.scx_sched.specs.Sim.{SimState, IsFirstState, after_event, calls_of}
 use Rattle.scx_load_policies.specs.Policies.{PolicyFile}
 use Rattle.scx_load_policies.specs.Reading.{policy_text}
 use Rattle.scx_load_policies.specs.Building.{IsBuilt}
-use Rattle.scx_load_workloads.specs.Workload.{WorkloadState}
+use Rattle.scx_load_workloads.specs.Workload.{WorkloadState, first_tree}
 use Rattle.scx_load_driver.specs.Runs.{stepped_all}
 use Rattle.scx_load_driver.specs.Events.{workload_events}
 use Rattle.scxsim_faults.specs.declared.place.FaultPlace.{FaultPlace}
@@ -88,8 +87,8 @@ abbrev pub IsFaultAt : CallMade → FaultPlace → Option HelperCall → Type 0
 IsFaultAt m p None = IsWrongAnswer m p.fault p.slot p.answer
 IsFaultAt m p (Some call) = IsFirstFault m p.fault p.slot call
 
--- the policy's queues before the fault: at least those that were there as the callback began, and of
--- those that are there as it ends the first ones
+-- the policy's queues before the fault: at least those that were there as the callback began, and
+-- of those that are there as it ends the first ones
 pub record HasQueues (m : CallMade) (w : WorldState) (queues : PolicyQueues) : Type 0 where
   pub count : ℕ
   pub enough : length (policy_queues m.world) ≤ count
@@ -133,14 +132,14 @@ pub record IsPlaceIn (s : SimState) (events : List Event) (p : FaultPlace) : Typ
 -- is called, and the place is its.
 pub record IsPlaceAtStart (policy : PolicyState) (w : WorkloadState) (p : FaultPlace) : Type 0 where
   pub answer : ℤ
-  pub fails : first_state policy (idle w.groups w.homes) w.cpus ≡ Err answer
+  pub fails : first_state policy (first_tree w) w.cpus ≡ Err answer
   pub failing : CallMade
-  pub last : IsLast failing (start_calls policy (idle w.groups w.homes) w.cpus)
+  pub last : IsLast failing (start_calls policy (first_tree w) w.cpus)
   pub place : IsPlaceOf failing p
 
 -- in the run of the workload under the policy the place is where it was ejected, or couldn't begin
 pub data IsPlaceUnder (policy : PolicyState) (w : WorkloadState) (p : FaultPlace) : Type 0 where
-  In_event : (s : SimState) → IsFirstState policy (idle w.groups w.homes) w.cpus s
+  In_event : (s : SimState) → IsFirstState policy (first_tree w) w.cpus s
       → IsPlaceIn s (workload_events w s) p → IsPlaceUnder policy w p
   At_start : IsPlaceAtStart policy w p → IsPlaceUnder policy w p
 

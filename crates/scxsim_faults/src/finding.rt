@@ -1,8 +1,8 @@
 ghost use Rattle.std.specs.Prelude.{◌≡◌, false, Some, None, IfOk, IfSome};
-ghost use Rattle.scx_weights.specs.Hierarchy.{idle};
 ghost use Rattle.scx_load_driver.specs.Driver.{remaining};
 ghost use Rattle.scx_load_driver.specs.Events.{workload_events};
 ghost use Rattle.scx_load_policies.specs.Building.{IsBuilt};
+ghost use Rattle.scx_load_workloads.specs.Workload.{first_tree};
 ghost use Rattle.scx_sched.specs.Sim.{after_event};
 ghost use Rattle.scxsim_faults.specs.Finding.{is_init_failed, IsUnderAny};
 ghost use Rattle.scxsim_faults.specs.Places.{IsPlaceAt, IsPlaceIn, IsPlaceUnder, IsPolicyOf, IsPlaceFound};
@@ -85,7 +85,7 @@ fn find_under(
 ) -> Result<Option<FaultPlace>, AllocError>
     ensures { IfOk result (λ found. IfSome found (IsPlaceUnder policy workload.now)) }
 {
-    match Tree::new(alloc, workload.groups(), workload.tasks()) {
+    match workload.tree(alloc) {
         Ok(tree) => find_with(alloc, policy, tree, workload, clock),
         Err(_) => {
             drop(policy);
@@ -102,7 +102,7 @@ fn find_with(
     workload: &Workload,
     clock: u64,
 ) -> Result<Option<FaultPlace>, AllocError>
-    requires { tree ≡ idle workload.now.groups workload.now.homes }
+    requires { tree ≡ first_tree workload.now }
     ensures { IfOk result (λ found. IfSome found (IsPlaceUnder policy workload.now)) }
 {
     let mut finder = Finder::new();

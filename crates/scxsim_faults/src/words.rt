@@ -32,6 +32,7 @@ fn meanings(helper: Helper) -> &'static [Meaning] {
         ],
         Helper::CreateDsq | Helper::DsqMoveToLocal | Helper::DsqNrQueued => &[Meaning::Queue],
         Helper::CpuIdle | Helper::TaskByPid => &[Meaning::Number],
+        Helper::KickCpu => &[Meaning::Number, Meaning::Number],
         Helper::SelectCpuDfl => &[Meaning::Task],
         Helper::KtimeGetNs | Helper::MapLookupElem => &[],
     }
@@ -49,6 +50,7 @@ fn name_of(helper: Helper) -> &'static str {
         Helper::CpuIdle => "cpu_idle",
         Helper::TaskByPid => "task_by_pid",
         Helper::DsqNrQueued => "dsq_nr_queued",
+        Helper::KickCpu => "kick_cpu",
     }
 }
 
@@ -168,8 +170,16 @@ fn write_reason_of<N: Names>(place: &FaultPlace, call: &HelperCall, names: &N, s
             write_queue(queue, said);
         }
         Fault::NoSuchCpu => write_no_cpu(cpu_of(call), place.cpus, said),
-        Fault::UnknownFlag => said.push("flags other than 0 and 1"),
+        Fault::UnknownFlag => said.push(unknown_flags(call)),
         Fault::CannotCreate => write_no_room(place, queue, said),
+    }
+}
+
+/// The words for flags that a call doesn't know.
+fn unknown_flags(call: &HelperCall) -> &'static str {
+    match call.helper {
+        Helper::KickCpu => "flags other than 0, 1 and 2",
+        _ => "flags other than 0 and 1",
     }
 }
 

@@ -1,5 +1,6 @@
 use crate::named_text::NamedText;
-use scx_load_workloads::{Workload, read_workload};
+use crate::remarks::rules_of;
+use scx_load_workloads::{Workload, read_workload_by};
 use scxsim_faults::{FaultPlace, find_fault, write_place, write_reason};
 use scxsim_output::Text;
 use std::alloc::Global;
@@ -12,7 +13,8 @@ pub fn remark_on_fault(
     workload: NamedText<'_>,
     clock: u64,
 ) -> Option<String> {
-    let workload = read_workload(alloc, workload.text).ok()?;
+    let rules = rules_of(alloc, policy.text);
+    let workload = read_workload_by(alloc, rules, workload.text).ok()?;
     let remark = remark_of(alloc, policy, &workload, clock);
     drop(workload);
     remark

@@ -1,4 +1,4 @@
-use scx_isa::CALLBACKS;
+use scx_isa::{CALLBACKS, Rules};
 use std::alloc::{AllocError, Global};
 use strsim::levenshtein;
 
@@ -6,8 +6,10 @@ use strsim::levenshtein;
 #[derive(Clone, Copy)]
 pub(crate) enum Format {
     Policy,
-    Workload,
-    Events,
+    /// For a policy by those rules.
+    Workload(Rules),
+    /// For a policy by those rules.
+    Events(Rules),
 }
 
 /// A table of a file, in any format.
@@ -61,35 +63,76 @@ pub(crate) fn nearest_key(alloc: Global, format: Format, path: &str) -> Option<&
 fn keys_of(format: Format, table: Table) -> &'static [&'static str] {
     match format {
         Format::Policy => policy_keys(table),
-        Format::Workload => workload_keys(table),
-        Format::Events => events_keys(table),
+        Format::Workload(rules) => workload_keys(rules, table),
+        Format::Events(rules) => events_keys(rules, table),
     }
+}
+
+/// True if the key at the end of a path is unknown under the plain rules of that format, and known under Linux rules.
+pub(crate) fn is_known_by_linux(format: Format, path: &str) -> bool {
+    let key = key_of(path);
+    match format {
+        Format::Workload(Rules::Plain) => is_among(
+            key.word,
+            workload_keys(Rules::Linux, key.table),
+        ),
+        Format::Events(Rules::Plain) => is_among(key.word, events_keys(Rules::Linux, key.table)),
+        _ => false,
+    }
+}
+
+fn is_among(word: &str, keys: &[&str]) -> bool {
+    keys.iter().any(|key| *key == word)
 }
 
 fn policy_keys(table: Table) -> &'static [&'static str] {
     match table {
-        Table::Top => &["name", "timeout_ms", "map", "code", "slots"],
+        Table::Top => &[
+            "name",
+            "timeout_ms",
+            "rules",
+            "tick_ms",
+            "map",
+            "code",
+            "slots",
+        ],
         Table::Map => &["entries", "value_size"],
         Table::Programs | Table::Group | Table::Task | Table::Change => &[],
     }
 }
 
-fn workload_keys(table: Table) -> &'static [&'static str] {
+fn workload_keys(rules: Rules, table: Table) -> &'static [&'static str] {
     match table {
         Table::Top => &["cpus", "ms", "group", "task", "change"],
         Table::Group => &["name", "weight", "parent", "cpu_max"],
-        Table::Task => &["name", "group", "start", "run", "sleep"],
+        Table::Task => task_keys(rules),
         Table::Change => &["at", "group", "weight"],
         Table::Map | Table::Programs => &[],
     }
 }
 
-fn events_keys(table: Table) -> &'static [&'static str] {
+/// The keys of a task of a workload.
+fn task_keys(rules: Rules) -> &'static [&'static str] {
+    match rules {
+        Rules::Plain => &["name", "group", "start", "run", "sleep"],
+        Rules::Linux => &["name", "group", "weight", "start", "run", "sleep"],
+    }
+}
+
+fn events_keys(rules: Rules, table: Table) -> &'static [&'static str] {
     match table {
         Table::Top => &["cpus", "ms", "group", "task", "events"],
         Table::Group => &["name", "weight", "parent", "cpu_max"],
-        Table::Task => &["name", "group"],
+        Table::Task => listed_task_keys(rules),
         Table::Map | Table::Programs | Table::Change => &[],
+    }
+}
+
+/// The keys of a task of a file of events.
+fn listed_task_keys(rules: Rules) -> &'static [&'static str] {
+    match rules {
+        Rules::Plain => &["name", "group"],
+        Rules::Linux => &["name", "group", "weight"],
     }
 }
 

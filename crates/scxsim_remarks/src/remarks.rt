@@ -1,11 +1,12 @@
 use crate::faults::remark_on_fault;
-use crate::meant::{Format, nearest_key};
+use crate::meant::{Format, is_known_by_linux, nearest_key};
 use crate::named_text::NamedText;
 use scx_asm::AsmFault;
-use scx_isa::Callback;
+use scx_isa::{Callback, Rules};
 use scx_load_files::Cause;
 use scx_load_places::{Place, first_toml_fault, place_of_key, place_of_line};
-use scx_load_workloads::read_workload;
+use scx_load_policies::read_policy;
+use scx_load_workloads::read_workload_by;
 use scx_verify::Fault;
 use scxsim_commands::Refusal;
 use scxsim_output::Text;
@@ -22,10 +23,12 @@ pub fn remark_on_run(
     match refusal {
         Refusal::Policy { path, cause } => remark_on_policy(alloc, policy, path, *cause),
         Refusal::Workload { path, cause } => {
-            remark_on_key(alloc, workload, Format::Workload, path, *cause)
+            let format = Format::Workload(rules_of(alloc, policy.text));
+            remark_on_key(alloc, workload, format, path, *cause)
         }
         Refusal::Events { path, cause } => {
-            remark_on_key(alloc, workload, Format::Events, path, *cause)
+            let format = Format::Events(rules_of(alloc, policy.text));
+            remark_on_key(alloc, workload, format, path, *cause)
         }
         Refusal::Callback {
             callback,
@@ -34,6 +37,18 @@ pub fn remark_on_run(
         } => remark_on_callback(alloc, policy, *callback, *fault, *slot),
         Refusal::Init(_) => remark_on_fault(alloc, policy, workload, 0),
         _ => None,
+    }
+}
+
+/// The rules by which a policy's text says that the machine goes; plain ones if the text is refused.
+pub(crate) fn rules_of(alloc: Global, policy: &str) -> Rules {
+    match read_policy(alloc, policy) {
+        Ok(text) => {
+            let rules = text.rules();
+            drop(text);
+            rules
+        }
+        Err(_) => Rules::Plain,
     }
 }
 
@@ -68,7 +83,7 @@ fn remark_on_policy(
     path: &str,
     cause: Cause,
 ) -> Option<String> {
-    match read_workload(alloc, policy.text) {
+    match read_workload_by(alloc, Rules::Linux, policy.text) {
         Ok(workload) => {
             drop(workload);
             hint_at_workload(alloc, policy.path).ok()
@@ -144,7 +159,9 @@ fn remark_on_unknown(
     let mut what = Text::new(alloc);
     what.push(path);
     what.push(": unknown");
-    if let Some(known) = nearest_key(alloc, format, path) {
+    if is_known_by_linux(format, path) {
+        what.push("; it is known under rules = \"linux\"");
+    } else if let Some(known) = nearest_key(alloc, format, path) {
         what.push("; is ");
         what.push(known);
         what.push(" meant?");

@@ -4,9 +4,9 @@ use Rattle.std.specs.List.{AllByRecursion}
 use Rattle.std.proofs.lemmas.Bool.{cases_eq, cases_lt, le-ltb}
 use Rattle.std.proofs.lemmas.List.{length-set, get_or-set_same, get_or-set_other, set_past}
 use Rattle.scx_weights.specs.declared.group.Group.{Group}
-use Rattle.scx_weights.specs.Hierarchy.{Hierarchy, idle, group_at, parent_of, quota_at, period_at, with_weight_of}
+use Rattle.scx_weights.specs.Hierarchy.{Hierarchy, group_at, parent_of, quota_at, period_at, with_weight_of, with_weight}
 use Rattle.scx_weights.specs.Refusals.{weight_fault}
-use Rattle.scx_sched_world.specs.World.{WorldState, running}
+use Rattle.scx_sched_world.specs.World.{WorldState, with_tree, running}
 use Rattle.scx_sched_machine.specs.declared.events.Event.{Event}
 use Rattle.scx_sched_machine.specs.declared.events.Event.TheVariants as event
 use Rattle.scx_sched_machine.specs.declared.events.Refused.{Refused}
@@ -15,13 +15,14 @@ use Rattle.scx_sched_machine.specs.Events as machine
 use Rattle.scx_sched_machine.specs.Policy.{PolicyState}
 use Rattle.scx_sched_machine.specs.Start.{first_state, start_calls}
 use Rattle.scx_sched_machine.specs.Steps.{State}
+use Rattle.scx_sched_machine.proofs.Choices.{keeps_if}
 use Rattle.scx_sched.specs.Sim.{SimState, IsFirstState, max_events, refusal, after_event, stepped_if}
 use Rattle.scx_sched.specs.Decided.{used_at_tick, tree_after, Follows}
 use Rattle.scx_sched.proofs.First.{policy_started}
 use Rattle.scx_load_policies.specs.Policies.{PolicyFile}
 use Rattle.scx_load_policies.specs.Building.{IsBuilt}
-use Rattle.scx_load_workloads.specs.Workload.{WorkloadState}
-use Rattle.scx_load_driver.proofs.Alike.{IsLike, Times, times_of, like_first}
+use Rattle.scx_load_workloads.specs.Workload.{WorkloadState, first_tree}
+use Rattle.scx_load_driver.proofs.Alike.{IsLike, Times, times_of, like_first, like_rounds}
 use Rattle.scx_load_driver.proofs.Happening.{like_clock, like_tick, like_wake, like_sleep}
 use Rattle.scxsim_headline.specs.Headline.{Run, states_from, run_from, run_if, machine_run}
 use Rattle.scxsim_trace.specs.Runs.{StaysInOrder}
@@ -63,11 +64,13 @@ stays_as_large (event.Tick c) s accepted =
 stays_as_large event.Clock s accepted =
     let x = like_clock s.world.tree (times s) (length s.world.cpus) s (like_now s) in
     (x.1.0, x.2)
-stays_as_large (event.SetWeight g x) s accepted = go (is_none (weight_fault s.world.tree g x)) refl
-  where
-    go : (b : Bool) → is_none (weight_fault s.world.tree g x) ≡ b → HasSize s (machine.event_step s (event.SetWeight g x)).state
-    go true e = rw e (refl, refl)
-    go false e = rw e (refl, refl)
+stays_as_large (event.SetWeight g x) s accepted =
+    let own = machine.own_step s (event.SetWeight g x) in
+    let b = is_none (weight_fault s.world.tree g x) in
+    let v = with_tree s.world (with_weight s.world.tree g x) in
+    let alike : IsLike own.state.world.tree (times s) (length s.world.cpus) own.state.world = keeps_if (λ (w : WorldState). IsLike w.tree (times s) (length s.world.cpus) w) b v s.world ((refl, refl, refl), (refl, λ u. omega arith), refl) ((refl, refl, refl), (refl, λ u. omega arith), refl) in
+    let y = like_rounds own.state.world.tree (times s) (length s.world.cpus) own alike in
+    (y.1.0, y.2)
 
 by_machine : (b : Bool) (o : Option Refused) → cond b (Some RunOver) o ≡ None → o ≡ None
 by_machine true o e = absurd (cc)
@@ -131,9 +134,9 @@ module _ (groups : List Group) (homes : List ℕ) where
 
 module _ (p : PolicyFile) (w : WorkloadState) where
   -- as it begins
-  begins_as : (q : PolicyState) (s : SimState) → IsBuilt p q → first_state q (idle w.groups w.homes) w.cpus ≡ Ok s.state → IsMachineOf p w s
+  begins_as : (q : PolicyState) (s : SimState) → IsBuilt p q → first_state q (first_tree w) w.cpus ≡ Ok s.state → IsMachineOf p w s
   begins_as q s built first =
-      let tree = idle w.groups w.homes in
+      let tree = first_tree w in
       let x = like_first q tree w.cpus s.state first in
       record {
         policy = subst (IsBuilt p) (sym (policy_started q tree w.cpus s.state first)) built;
@@ -161,9 +164,9 @@ module _ (p : PolicyFile) (w : WorkloadState) where
       (m, stays_as (after_event s e) es (goes_on_as (refusal s e) s e (after_event s e) (stays_as_large_counted e s) well.1 m) more)
 
   -- in its whole run
-  pub is_that_machine : (q : PolicyState) (s : SimState) (events : List Event) → IsBuilt p q → IsFirstState q (idle w.groups w.homes) w.cpus s → StaysInOrder s events → AllByRecursion (IsMachineOf p w) (machine_run q (idle w.groups w.homes) w.cpus events).states
+  pub is_that_machine : (q : PolicyState) (s : SimState) (events : List Event) → IsBuilt p q → IsFirstState q (first_tree w) w.cpus s → StaysInOrder s events → AllByRecursion (IsMachineOf p w) (machine_run q (first_tree w) w.cpus events).states
   is_that_machine q s events built first h =
-      let tree = idle w.groups w.homes in
+      let tree = first_tree w in
       let from_state : ℕ → Run = λ n. run_from (start_calls q tree w.cpus) (record { state = s.state; events = n }) events in
       let same : machine_run q tree w.cpus events ≡ run_from (start_calls q tree w.cpus) s events = ap (λ r. run_if r (start_calls q tree w.cpus) events) first.0 ∙ ap from_state (sym first.1) in
       subst (λ (r : Run). AllByRecursion (IsMachineOf p w) r.states) (sym same) (stays_as s events (begins_as q s built first.0) h)

@@ -1,6 +1,5 @@
 -- Why texts are refused whose workload, or file of events, is.
-use Rattle.std.proofs.Common.{◌≡◌, ℕ, List, Ok, refl, sym, subst}
-use Rattle.std.specs.Prelude.{IsOk}
+use Rattle.std.proofs.Common.{◌≡◌, ℕ, List, Ok}
 use Rattle.scx_load_policies.specs.Policies.{PolicyFile}
 use Rattle.scx_load_policies.specs.Reading.{policy_text}
 use Rattle.scxsim_commands.specs.declared.refusal.Refusal.{Refusal}
@@ -9,8 +8,8 @@ use Rattle.scxsim_simulation.specs.Runs.{IsWorkloadFault, IsCause}
 use Rattle.scxsim_simulation.specs.Replays.{IsEventsFault, IsReplayCause}
 
 -- where the policy is read, what its workload is refused for is why both are
-pub workload_cause : (policy workload : List ℕ) (file : PolicyFile) (r : Refusal) → policy_text policy ≡ Ok file → IsWorkloadFault workload r → IsCause policy workload r
-workload_cause policy workload file (Workload path cause) read fault = (subst (λ x. IsOk x) (sym read) refl, fault)
+pub workload_cause : (policy workload : List ℕ) (file : PolicyFile) (r : Refusal) → policy_text policy ≡ Ok file → IsWorkloadFault file.rules workload r → IsCause policy workload r
+workload_cause policy workload file (Workload path cause) read fault = record { file = file; policy_read = read; refused = fault }
 workload_cause policy workload file NoMemory read fault = tt
 workload_cause policy workload file TooLarge read fault = absurd fault
 workload_cause policy workload file (OutOfRange word) read fault = absurd fault
@@ -26,8 +25,8 @@ workload_cause policy workload file (TooManyStretches n) read fault = absurd fau
 workload_cause policy workload file (Init answer) read fault = absurd fault
 
 -- where the policy is read, what its file of events is refused for is why both are
-pub events_cause : (policy events : List ℕ) (file : PolicyFile) (r : Refusal) → policy_text policy ≡ Ok file → IsEventsFault events r → IsReplayCause policy events r
-events_cause policy events file (Events path cause) read fault = (subst (λ x. IsOk x) (sym read) refl, fault)
+pub events_cause : (policy events : List ℕ) (file : PolicyFile) (r : Refusal) → policy_text policy ≡ Ok file → IsEventsFault file.rules events r → IsReplayCause policy events r
+events_cause policy events file (Events path cause) read fault = record { file = file; policy_read = read; refused = fault }
 events_cause policy events file NoMemory read fault = tt
 events_cause policy events file TooLarge read fault = absurd fault
 events_cause policy events file (OutOfRange word) read fault = absurd fault

@@ -1,7 +1,6 @@
 -- The headline holds of a run through the events that its machine took.
 use Rattle.std.proofs.Common.{◌≡◌, ℕ, List, [], ◌∷◌, ◌++◌, Option, None, Result, Ok, Err, OnErr, sym, subst, ap, ◌∙◌}
 use Rattle.std.specs.List.{AllByRecursion}
-use Rattle.scx_weights.specs.Hierarchy.{idle}
 use Rattle.scx_sched_machine.specs.declared.events.Event.{Event}
 use Rattle.scx_sched_machine.specs.Callbacks.{AreAnswered}
 use Rattle.scx_sched_machine.specs.Policy.{PolicyState, IsTimeout}
@@ -11,7 +10,7 @@ use Rattle.scx_sched.specs.Once.{IsOnce}
 use Rattle.scx_sched.specs.Waits.{IsTimely, HasWaits}
 use Rattle.scx_sched.specs.Usages.{AreBounded}
 use Rattle.scx_sched.proofs.First.{policy_started}
-use Rattle.scx_load_workloads.specs.Workload.{WorkloadState, IsWorkload}
+use Rattle.scx_load_workloads.specs.Workload.{WorkloadState, IsWorkload, first_tree}
 use Rattle.scxsim_headline.specs.Headline.{states_from, calls_of_all, NoneIsLate, EachFollows}
 use Rattle.scxsim_headline.proofs.Going.{follows_before}
 use Rattle.scxsim_headline.proofs.Whole.{run_notes, run_last, run_never_stuck, run_once, run_counted, run_timely, run_bounded, run_follows}
@@ -38,12 +37,12 @@ all_follow s (e ∷ es) (now, well, more) = follows_before s e es well.1 (all_fo
 -- the limit of a machine that has begun is that of the policy's text
 limit_of_text : {policy : List ℕ} {w : WorkloadState} {s : SimState} (x : IsBegun policy w s) → s.state.policy.timeout_ms ≡ x.file.timeout_ms
 limit_of_text {policy} {w} {s} x =
-    ap (λ (p : PolicyState). p.timeout_ms) (policy_started x.machine (idle w.groups w.homes) w.cpus s.state x.first.0) ∙ x.built.timeout
+    ap (λ (p : PolicyState). p.timeout_ms) (policy_started x.machine (first_tree w) w.cpus s.state x.first.0) ∙ x.built.timeout
 
 -- the headline holds of a run through events that leave its machine in order after each
 pub headline_holds : {policy : List ℕ} {w : WorkloadState} {s : SimState} (x : IsBegun policy w s) (events : List Event) → IsWorkload w → IsTimeout s.state.policy.timeout_ms → StaysInOrder s events → IsOfHeadline x events
 headline_holds {policy} {w} {s} x events whole limit_is h =
-    let tree = idle w.groups w.homes in
+    let tree = first_tree w in
     let limit : ℕ → Type 0 = λ n. NoneIsLate n (run_of x events) in
     record {
       notes = sym (run_notes x.machine tree w.cpus events s x.first);

@@ -6,12 +6,16 @@ use Rattle.scxsim_commands.specs.declared.refusal.Refusal.{Refusal}
 use Rattle.scxsim_commands.specs.declared.refusal.Refusal.TheVariants.{NoMemory}
 use Rattle.scxsim_commands.specs.declared.windows.Span.{Span}
 use Rattle.scxsim_commands.specs.Windows.{IsBadSpan}
-use Rattle.scxsim_simulation.specs.Runs.{IsRun, IsCause}
+use Rattle.scxsim_simulation.specs.Runs.{IsRun, AreRead, IsCause}
 use Rattle.scxsim_simulation.specs.Parts.{IsPartCause}
+
+-- the texts of a run are read
+pub are_read : (policy workload : List ℕ) (w : WorkloadState) (s : SimState) → IsRun policy workload w s → AreRead policy workload w
+are_read policy workload w s x = record { file = x.begun.file; policy_read = x.begun.policy_read; workload_read = x.workload_read }
 
 -- the run is that of the texts, and the words name no part of it
 pub bad_span : (policy workload : List ℕ) (w : WorkloadState) (s : SimState) (span : Option Span) (r : Refusal) → IsRun policy workload w s → IsBadSpan w.ms span r → IsPartCause policy workload span r
-bad_span policy workload w s span r x bad = inr (w, x.workload_read, bad)
+bad_span policy workload w s span r x bad = inr (w, are_read policy workload w s x, bad)
 
 -- memory ran out
 pub out_of_memory : (policy workload : List ℕ) (span : Option Span) (r : Refusal) → r ≡ NoMemory → IsPartCause policy workload span r

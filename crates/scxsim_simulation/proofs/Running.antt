@@ -1,6 +1,5 @@
 -- What is read, built and begun makes a run.
 use Rattle.std.proofs.Common.{◌≡◌, ℕ, List, Result, Ok, Err, IfOk, OnOk, sym, subst}
-use Rattle.scx_weights.specs.Hierarchy.{idle}
 use Rattle.scx_sched_machine.specs.declared.events.Event.{Event}
 use Rattle.scx_sched_machine.specs.Policy.{PolicyState}
 use Rattle.scx_sched_machine.specs.Callbacks.{AreAnswered}
@@ -9,29 +8,29 @@ use Rattle.scx_sched.specs.Sim.{SimState, IsFirstState}
 use Rattle.scx_load_policies.specs.Policies.{PolicyFile}
 use Rattle.scx_load_policies.specs.Reading.{policy_text}
 use Rattle.scx_load_policies.specs.Building.{IsBuilt}
-use Rattle.scx_load_workloads.specs.Workload.{WorkloadState}
-use Rattle.scx_load_workloads.specs.Reading.{workload_of}
+use Rattle.scx_load_workloads.specs.Workload.{WorkloadState, first_tree}
+use Rattle.scx_load_workloads.specs.Reading.{workload_by}
 use Rattle.scx_load_driver.specs.Runs.{AreAccepted}
 use Rattle.scx_load_driver.specs.Events.{workload_events}
 use Rattle.scx_load_replay.specs.Replay.{ReplayState}
-use Rattle.scx_load_replay.specs.Reading.{replay_of}
+use Rattle.scx_load_replay.specs.Reading.{replay_by}
 use Rattle.scx_load_replay.specs.Events.{replay_events}
 use Rattle.scxsim_simulation.specs.Runs.{IsRun}
 use Rattle.scxsim_simulation.specs.Replays.{IsReplayRun}
 
 -- of whatever is handed back with a workload and a machine
-pub run_is : {R E : Type 0} (policy workload : List ℕ) (file : PolicyFile) (machine : PolicyState) (w : WorkloadState) (workload_in : R → WorkloadState) (machine_in : R → SimState) (r : Result R E) → policy_text policy ≡ Ok file → workload_of workload ≡ Ok w → IsBuilt file machine
-    → IfOk r (λ run. workload_in run ≡ w) → IfOk r (λ run. IsFirstState machine (idle w.groups w.homes) w.cpus (machine_in run)) → IfOk r (λ run. AreAccepted (machine_in run) (workload_events w (machine_in run)))
-    → OnOk r (AreAnswered (start_calls machine (idle w.groups w.homes) w.cpus))
+pub run_is : {R E : Type 0} (policy workload : List ℕ) (file : PolicyFile) (machine : PolicyState) (w : WorkloadState) (workload_in : R → WorkloadState) (machine_in : R → SimState) (r : Result R E) → policy_text policy ≡ Ok file → workload_by file.rules workload ≡ Ok w → IsBuilt file machine
+    → IfOk r (λ run. workload_in run ≡ w) → IfOk r (λ run. IsFirstState machine (first_tree w) w.cpus (machine_in run)) → IfOk r (λ run. AreAccepted (machine_in run) (workload_events w (machine_in run)))
+    → OnOk r (AreAnswered (start_calls machine (first_tree w) w.cpus))
     → IfOk r (λ run. IsRun policy workload (workload_in run) (machine_in run))
 run_is policy workload file machine w workload_in machine_in (Ok run) policy_read workload_read built same first accepted answered =
     subst (λ v. IsRun policy workload v (machine_in run)) (sym same) (record { begun = record { file = file; machine = machine; policy_read = policy_read; built = built; first = first; answered = answered }; workload_read = workload_read; accepted = accepted })
 run_is policy workload file machine w workload_in machine_in (Err e) policy_read workload_read built same first accepted answered = tt
 
 -- the same of a file of events
-pub replay_is : {R E : Type 0} (policy events : List ℕ) (file : PolicyFile) (machine : PolicyState) (r : ReplayState) (workload_in : R → WorkloadState) (machine_in : R → SimState) (events_in : R → List Event) (x : Result R E) → policy_text policy ≡ Ok file → replay_of events ≡ Ok r → IsBuilt file machine
-    → IfOk x (λ run. workload_in run ≡ r.workload) → IfOk x (λ run. events_in run ≡ replay_events r) → IfOk x (λ run. IsFirstState machine (idle r.workload.groups r.workload.homes) r.workload.cpus (machine_in run)) → IfOk x (λ run. AreAccepted (machine_in run) (replay_events r))
-    → OnOk x (AreAnswered (start_calls machine (idle r.workload.groups r.workload.homes) r.workload.cpus))
+pub replay_is : {R E : Type 0} (policy events : List ℕ) (file : PolicyFile) (machine : PolicyState) (r : ReplayState) (workload_in : R → WorkloadState) (machine_in : R → SimState) (events_in : R → List Event) (x : Result R E) → policy_text policy ≡ Ok file → replay_by file.rules events ≡ Ok r → IsBuilt file machine
+    → IfOk x (λ run. workload_in run ≡ r.workload) → IfOk x (λ run. events_in run ≡ replay_events r) → IfOk x (λ run. IsFirstState machine (first_tree r.workload) r.workload.cpus (machine_in run)) → IfOk x (λ run. AreAccepted (machine_in run) (replay_events r))
+    → OnOk x (AreAnswered (start_calls machine (first_tree r.workload) r.workload.cpus))
     → IfOk x (λ run. (q : ReplayState) × IsReplayRun policy events q (machine_in run) × (workload_in run ≡ q.workload) × (events_in run ≡ replay_events q))
 replay_is policy events file machine r workload_in machine_in events_in (Ok run) policy_read events_read built same listed first accepted answered =
     (r, record { begun = record { file = file; machine = machine; policy_read = policy_read; built = built; first = first; answered = answered }; events_read = events_read; accepted = accepted }, same, listed)

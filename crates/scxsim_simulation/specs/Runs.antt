@@ -1,10 +1,11 @@
 -- What the texts of a policy file and of a workload file say together: a run, with its trace and
 -- its report, or why they are refused.
-use Rattle.std.specs.Prelude.{◌≡◌, ℕ, ℤ, false, List, [], ◌∷◌, ◌++◌, Option, ⊤, Ok, Err, IsOk, string_bytes}
+use Rattle.std.specs.Prelude.{◌≡◌, ℕ, ℤ, false, List, [], ◌∷◌, ◌++◌, Option, ⊤, Ok, Err, string_bytes}
 use Rattle.std.specs.List.{AllByRecursion}
 use Rattle.scx_isa_semantics.specs.declared.callbacks.Callback as callbacks
+use Rattle.scx_isa_semantics.specs.declared.rules.Rules.{Rules}
 use Rattle.scx_verify.specs.declared.faults.Fault.{Fault}
-use Rattle.scx_weights.specs.Hierarchy.{Hierarchy, idle}
+use Rattle.scx_weights.specs.Hierarchy.{Hierarchy}
 use Rattle.scx_sched_machine.specs.declared.events.Event.{Event}
 use Rattle.scx_sched_machine.specs.Policy.{PolicyState, IsTimeout, AreAs}
 use Rattle.scx_sched_machine.specs.Callbacks.{AreAnswered}
@@ -16,8 +17,8 @@ use Rattle.scx_load_policies.specs.Policies.{PolicyFile}
 use Rattle.scx_load_policies.specs.Reading.{policy_text}
 use Rattle.scx_load_policies.specs.declared.building.BuildError.TheVariants as build
 use Rattle.scx_load_policies.specs.Building.{IsBuilt, IsFirstRefused}
-use Rattle.scx_load_workloads.specs.Workload.{WorkloadState}
-use Rattle.scx_load_workloads.specs.Reading.{workload_of}
+use Rattle.scx_load_workloads.specs.Workload.{WorkloadState, first_tree}
+use Rattle.scx_load_workloads.specs.Reading.{workload_by}
 use Rattle.scx_load_driver.specs.Runs.{stepped_all, notes_of_all, AreAccepted}
 use Rattle.scx_load_driver.specs.Events.{workload_events}
 use Rattle.scxsim_headline.specs.Headline.{Run, machine_run, IsLast, NoneIsStuck, EachIsOnce, EachWaitIsCounted, NoneIsLate, EachUsageIsBounded, EachFollows}
@@ -35,15 +36,21 @@ pub record IsBegun (policy : List ℕ) (w : WorkloadState) (s : SimState) : Type
   pub machine : PolicyState
   pub policy_read : policy_text policy ≡ Ok file
   pub built : IsBuilt file machine
-  pub first : IsFirstState machine (idle w.groups w.homes) w.cpus s
-  pub answered : AreAnswered (start_calls machine (idle w.groups w.homes) w.cpus)
+  pub first : IsFirstState machine (first_tree w) w.cpus s
+  pub answered : AreAnswered (start_calls machine (first_tree w) w.cpus)
 
 -- the texts give the run of that workload from that first state on; none of its events is
 -- refused
 pub record IsRun (policy workload : List ℕ) (w : WorkloadState) (s : SimState) : Type 0 where
   pub begun : IsBegun policy w s
-  pub workload_read : workload_of workload ≡ Ok w
+  pub workload_read : workload_by begun.file.rules workload ≡ Ok w
   pub accepted : AreAccepted s (workload_events w s)
+
+-- both texts are read, and the workload is that one, for a policy by the rules of the policy file
+pub record AreRead (policy workload : List ℕ) (w : WorkloadState) : Type 0 where
+  pub file : PolicyFile
+  pub policy_read : policy_text policy ≡ Ok file
+  pub workload_read : workload_by file.rules workload ≡ Ok w
 
 -- the name that a policy's text gives the policy; empty where it gives none
 abbrev pub name_in : List ℕ → Reading (List ℕ)
@@ -68,7 +75,7 @@ report_text w s =
 -- the run of its machine through these events
 abbrev pub run_of :
     {policy : List ℕ} {w : WorkloadState} {s : SimState} → IsBegun policy w s → List Event → Run
-run_of {policy} {w} {s} x events = machine_run x.machine (idle w.groups w.homes) w.cpus events
+run_of {policy} {w} {s} x events = machine_run x.machine (first_tree w) w.cpus events
 
 -- Through these events it is that run: it has these notes, and ends in that state. In it no
 -- callback is ever stuck or takes more steps than it has instructions, every runnable task appears
@@ -88,7 +95,7 @@ pub record IsOfHeadline {policy : List ℕ} {w : WorkloadState} {s : SimState}
   pub timely : NoneIsLate x.file.timeout_ms (run_of x events)
   pub bounded : EachUsageIsBounded (run_of x events)
   pub follows : EachFollows events (run_of x events).states
-  pub shape : is_bad_shape (idle w.groups w.homes) w.cpus ≡ false
+  pub shape : is_bad_shape (first_tree w) w.cpus ≡ false
   pub limit : IsTimeout x.file.timeout_ms
   pub programs : AreAs x.machine.callbacks
   pub machine : AllByRecursion (IsMachineOf x.file w) (run_of x events).states
@@ -113,12 +120,18 @@ IsPolicyFault policy (Policy path cause) =
 IsPolicyFault policy NoMemory = ⊤
 IsPolicyFault policy refusal = ⊥
 
--- the workload's text isn't a workload file
-abbrev pub IsWorkloadFault : List ℕ → Refusal → Type 0
-IsWorkloadFault workload (Workload path cause) =
-    workload_of workload ≡ Err (record { path = string_bytes path; cause = cause })
-IsWorkloadFault workload NoMemory = ⊤
-IsWorkloadFault workload refusal = ⊥
+-- the workload's text isn't a workload file for a policy by those rules
+abbrev pub IsWorkloadFault : Rules → List ℕ → Refusal → Type 0
+IsWorkloadFault rules workload (Workload path cause) =
+    workload_by rules workload ≡ Err (record { path = string_bytes path; cause = cause })
+IsWorkloadFault rules workload NoMemory = ⊤
+IsWorkloadFault rules workload refusal = ⊥
+
+-- the policy's text is a policy file, and the workload's no workload file for one by its rules
+pub record HasBadWorkload (policy workload : List ℕ) (refusal : Refusal) : Type 0 where
+  pub file : PolicyFile
+  pub policy_read : policy_text policy ≡ Ok file
+  pub refused : IsWorkloadFault file.rules workload refusal
 
 -- init, or enable of a task, fails
 abbrev pub IsStartFault : PolicyState → Hierarchy → ℕ → Refusal → Type 0
@@ -132,7 +145,7 @@ pub record HasBadCallback (policy workload : List ℕ) (b : callbacks.Callback) 
   pub file : PolicyFile
   pub w : WorkloadState
   pub policy_read : policy_text policy ≡ Ok file
-  pub workload_read : workload_of workload ≡ Ok w
+  pub workload_read : workload_by file.rules workload ≡ Ok w
   pub refused : IsFirstRefused file (build.Refused b fault slot)
 
 -- the policy is built, and its machine can't begin
@@ -141,15 +154,15 @@ pub record HasBadStart (policy workload : List ℕ) (answer : ℤ) : Type 0 wher
   pub w : WorkloadState
   pub machine : PolicyState
   pub policy_read : policy_text policy ≡ Ok file
-  pub workload_read : workload_of workload ≡ Ok w
+  pub workload_read : workload_by file.rules workload ≡ Ok w
   pub built : IsBuilt file machine
-  pub failed : first_state machine (idle w.groups w.homes) w.cpus ≡ Err answer
+  pub failed : first_state machine (first_tree w) w.cpus ≡ Err answer
 
 -- the texts are refused for that cause, with nothing wrong before; want of memory says nothing
 abbrev pub IsCause : List ℕ → List ℕ → Refusal → Type 0
 IsCause policy workload (Policy path cause) = IsPolicyFault policy (Policy path cause)
 IsCause policy workload (Workload path cause) =
-    IsOk (policy_text policy) × IsWorkloadFault workload (Workload path cause)
+    HasBadWorkload policy workload (Workload path cause)
 IsCause policy workload (Callback b fault slot) = HasBadCallback policy workload b fault slot
 IsCause policy workload NoMemory = ⊤
 IsCause policy workload (Init answer) = HasBadStart policy workload answer

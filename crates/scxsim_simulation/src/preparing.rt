@@ -1,11 +1,11 @@
 ghost use Rattle.std.specs.Prelude.{◌≡◌, ◌≢◌, false, Ok, IfOk, IfErr, OnOk, string_bytes};
-ghost use Rattle.scx_weights.specs.Hierarchy.{idle};
 ghost use Rattle.scx_sched_machine.specs.declared.start.NewError.TheVariants.{BadShape};
 ghost use Rattle.scx_sched_machine.specs.Callbacks.{AreAnswered};
 ghost use Rattle.scx_sched_machine.specs.Start.{is_bad_shape, start_calls};
 ghost use Rattle.scx_sched.specs.Sim.{IsFirstState};
 ghost use Rattle.scx_load_policies.specs.Reading.{policy_text};
-ghost use Rattle.scx_load_workloads.specs.Reading.{workload_of};
+ghost use Rattle.scx_load_workloads.specs.Workload.{first_tree};
+ghost use Rattle.scx_load_workloads.specs.Reading.{workload_by};
 ghost use Rattle.scx_load_driver.specs.Driver.{remaining};
 ghost use Rattle.scx_load_driver.specs.Events.{workload_events};
 ghost use Rattle.scx_load_driver.specs.Runs.{AreAccepted};
@@ -15,12 +15,13 @@ ghost use Rattle.scxsim_simulation.specs.Runs.{IsRun, name_in, IsCause, IsPolicy
 ghost use Rattle.scxsim_simulation.specs.Refusals.{or_refusal, IsStartRefusal};
 
 use crate::listener::{Heard, Listener};
+use scx_isa_semantics::Rules;
 use scx_load_driver::Driver;
 use scx_load_files::LoadError;
 use scx_load_policies::{PolicyText, build, read_policy};
-use scx_load_workloads::{Workload, read_workload};
+use scx_load_workloads::{Workload, read_workload_by};
 use scx_sched::{NewError, Policy, Sim};
-use scx_weights::{Tree, TreeError};
+use scx_weights::Tree;
 use scxsim_commands::{FileKind, Refusal};
 use scxsim_trace::Events;
 use std::alloc::{AllocError, Global};
@@ -72,7 +73,7 @@ pub fn prepare(alloc: Global, policy: &str, workload: &str) -> Result<Run, Refus
     ensures refused { IfErr result (IsCause policy.now workload.now) }
 {
     let text = policy_in(alloc, policy)?;
-    let workload = workload_in(alloc, workload)?;
+    let workload = workload_in(alloc, text.rules(), workload)?;
     let name = String::from_str(alloc, text.name())?;
     let policy = build(alloc, text)?;
     begin(alloc, name, policy, workload)
@@ -84,14 +85,14 @@ fn begin(alloc: Global, name: String, policy: Policy, workload: Workload) -> Res
     ensures name { IfOk result (λ run. run.policy_name ≡ name) }
     ensures workload { IfOk result (λ run. run.workload ≡ workload) }
     ensures first { IfOk result
-        (λ run. IsFirstState policy (idle workload.groups workload.homes) workload.cpus run.sim) }
+        (λ run. IsFirstState policy (first_tree workload) workload.cpus run.sim) }
     ensures events { IfOk result
         (λ run. remaining run.driver run.sim ≡ workload_events workload run.sim) }
     ensures accepted { IfOk result (λ run. AreAccepted run.sim (workload_events workload run.sim)) }
     ensures answered { OnOk result (AreAnswered
-        (start_calls policy (idle workload.groups workload.homes) workload.cpus)) }
+        (start_calls policy (first_tree workload) workload.cpus)) }
     ensures refused { IfErr result
-        (IsStartFault policy (idle workload.groups workload.homes) workload.cpus) }
+        (IsStartFault policy (first_tree workload) workload.cpus) }
 {
     workload.is_whole();
     match Driver::new(alloc, &workload) {
@@ -117,11 +118,11 @@ pub(crate) fn begin_with<E: Drop>(
     ensures workload { IfOk result (λ run. run.workload ≡ workload) }
     ensures driver { IfOk result (λ run. run.driver ≡ driver) }
     ensures first { IfOk result
-        (λ run. IsFirstState policy (idle workload.groups workload.homes) workload.cpus run.sim) }
+        (λ run. IsFirstState policy (first_tree workload) workload.cpus run.sim) }
     ensures answered { OnOk result (AreAnswered
-        (start_calls policy (idle workload.groups workload.homes) workload.cpus)) }
+        (start_calls policy (first_tree workload) workload.cpus)) }
     ensures refused { IfErr result
-        (IsStartFault policy (idle workload.groups workload.homes) workload.cpus) }
+        (IsStartFault policy (first_tree workload) workload.cpus) }
 {
     match start(alloc, policy, &workload) {
         Ok(sim) => Ok(Run {
@@ -143,11 +144,11 @@ pub(crate) fn begin_with<E: Drop>(
 #[tactic(auto, using(crate::proofs::Shapes::shape_is_right))]
 fn start(alloc: Global, policy: Policy, workload: &Workload) -> Result<Sim, Refusal>
     ensures first { IfOk result
-        (IsFirstState policy (idle workload.now.groups workload.now.homes) workload.now.cpus) }
+        (IsFirstState policy (first_tree workload.now) workload.now.cpus) }
     ensures answered { OnOk result (AreAnswered
-        (start_calls policy (idle workload.now.groups workload.now.homes) workload.now.cpus)) }
+        (start_calls policy (first_tree workload.now) workload.now.cpus)) }
     ensures refused { IfErr result
-        (IsStartFault policy (idle workload.now.groups workload.now.homes) workload.now.cpus) }
+        (IsStartFault policy (first_tree workload.now) workload.now.cpus) }
 {
     workload.is_whole();
     match tree_of(alloc, workload) {
@@ -166,11 +167,12 @@ pub(crate) fn policy_in(alloc: Global, text: &str) -> Result<PolicyText, Refusal
     or_refusal(FileKind::Policy, read_policy(alloc, text))
 }
 
-fn workload_in(alloc: Global, text: &str) -> Result<Workload, Refusal>
-    ensures read { IfOk result (λ workload. workload_of text.now ≡ Ok workload) }
-    ensures refused { IfErr result (IsWorkloadFault text.now) }
+/// The workload of a text, for a policy by those rules.
+fn workload_in(alloc: Global, rules: Rules, text: &str) -> Result<Workload, Refusal>
+    ensures read { IfOk result (λ workload. workload_by rules text.now ≡ Ok workload) }
+    ensures refused { IfErr result (IsWorkloadFault rules text.now) }
 {
-    or_refusal(FileKind::Workload, read_workload(alloc, text))
+    or_refusal(FileKind::Workload, read_workload_by(alloc, rules, text))
 }
 
 /// What was read of a file of that kind, or its refusal: its fault where one was found.
@@ -183,16 +185,14 @@ pub(crate) fn or_refusal<T>(kind: FileKind, read: Result<T, LoadError>) -> Resul
     }
 }
 
-/// The groups and tasks of a workload, with no task active.
+/// The groups and tasks of a workload, each task with its own weight and none active.
 fn tree_of(alloc: Global, workload: &Workload) -> Result<Tree, Refusal>
-    ensures tree { IfOk result (λ tree. tree ≡ idle workload.now.groups workload.now.homes) }
+    ensures tree { IfOk result (λ tree. tree ≡ first_tree workload.now) }
     ensures refused { IfErr result (λ refusal. refusal ≡ NoMemory) }
 {
-    workload.is_whole();
-    match Tree::new(alloc, workload.groups(), workload.tasks()) {
+    match workload.tree(alloc) {
         Ok(tree) => Ok(tree),
-        Err(TreeError::OutOfMemory) => Err(Refusal::NoMemory),
-        Err(_) => unreachable!(),
+        Err(AllocError) => Err(Refusal::NoMemory),
     }
 }
 

@@ -1,12 +1,12 @@
 ghost use Rattle.std.specs.Prelude.{◌≡◌, true, Ok, Err, IfOk, IfErr, OnOk, string_bytes};
 ghost use Rattle.std.specs.Io.KnownBytes.{Appends};
-ghost use Rattle.scx_weights.specs.Hierarchy.{idle};
 ghost use Rattle.scx_sched_machine.specs.Callbacks.{AreAnswered};
 ghost use Rattle.scx_sched_machine.specs.Start.{start_calls};
 ghost use Rattle.scx_sched.specs.Sim.{SimState, IsFirstState};
 ghost use Rattle.scx_load_driver.specs.Runs.{AreAccepted};
+ghost use Rattle.scx_load_workloads.specs.Workload.{first_tree};
 ghost use Rattle.scx_load_replay.specs.Events.{replay_events};
-ghost use Rattle.scx_load_replay.specs.Reading.{replay_of};
+ghost use Rattle.scx_load_replay.specs.Reading.{replay_by};
 ghost use Rattle.scx_load_replay.specs.Replay.{ReplayState};
 ghost use Rattle.scx_load_replay.specs.Replayer.{remaining};
 ghost use Rattle.scxsim_output.specs.Output.{HasFailed, AppendsBeginning};
@@ -17,8 +17,9 @@ ghost use Rattle.scxsim_simulation.specs.Replays.{IsReplayRun, IsReplayCause, Is
 use crate::listener::Listener;
 use crate::preparing::{Run, begin_with, or_refusal, policy_in};
 use crate::simulating::write_trace;
+use scx_isa_semantics::Rules;
 use scx_load_policies::build;
-use scx_load_replay::{Replay, Replayer, read_replay};
+use scx_load_replay::{Replay, Replayer, read_replay_by};
 use scx_sched::Policy;
 use scxsim_commands::{Fault, FileKind, Refusal};
 use scxsim_output::Out;
@@ -75,17 +76,18 @@ pub fn prepare_replay(alloc: Global, policy: &str, events: &str) -> Result<Run<R
     ensures refused { IfErr result (IsReplayCause policy.now events.now) }
 {
     let text = policy_in(alloc, policy)?;
-    let replay = events_in(alloc, events)?;
+    let replay = events_in(alloc, text.rules(), events)?;
     let name = String::from_str(alloc, text.name())?;
     let policy = build(alloc, text)?;
     begin_replay(alloc, name, policy, replay)
 }
 
-fn events_in(alloc: Global, text: &str) -> Result<Replay, Refusal>
-    ensures read { IfOk result (λ replay. replay_of text.now ≡ Ok replay) }
-    ensures refused { IfErr result (IsEventsFault text.now) }
+/// The file of events of a text, for a policy by those rules.
+fn events_in(alloc: Global, rules: Rules, text: &str) -> Result<Replay, Refusal>
+    ensures read { IfOk result (λ replay. replay_by rules text.now ≡ Ok replay) }
+    ensures refused { IfErr result (IsEventsFault rules text.now) }
 {
-    or_refusal(FileKind::Events, read_replay(alloc, text))
+    or_refusal(FileKind::Events, read_replay_by(alloc, rules, text))
 }
 
 /// The run of a file of events under a policy.
@@ -100,14 +102,14 @@ fn begin_replay(
     ensures workload { IfOk result (λ run. run.workload ≡ replay.workload) }
     ensures events { IfOk result (λ run. remaining run.driver ≡ replay_events replay) }
     ensures first { IfOk result
-        (λ run. IsFirstState policy (idle replay.workload.groups replay.workload.homes)
+        (λ run. IsFirstState policy (first_tree replay.workload)
         replay.workload.cpus run.sim) }
     ensures accepted { IfOk result (λ run. AreAccepted run.sim (replay_events replay)) }
     ensures answered { OnOk result (AreAnswered
-        (start_calls policy (idle replay.workload.groups replay.workload.homes)
+        (start_calls policy (first_tree replay.workload)
         replay.workload.cpus)) }
     ensures refused { IfErr result
-        (IsStartFault policy (idle replay.workload.groups replay.workload.homes)
+        (IsStartFault policy (first_tree replay.workload)
         replay.workload.cpus) }
 {
     replay.is_whole();

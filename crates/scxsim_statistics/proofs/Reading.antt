@@ -2,12 +2,11 @@
 use Rattle.std.proofs.Common.{◌≡◌, ℕ, List, Ok, length, sym, ap, subst, ◌∙◌}
 use Rattle.std.specs.Prelude.{String, string_bytes}
 use Rattle.std.specs.declared.alloc.Global.{Global}
-use Rattle.scx_weights.specs.Hierarchy.{idle}
 use Rattle.scx_sched_machine.specs.declared.events.Event.{Event}
 use Rattle.scx_sched.specs.Sim.{SimState}
 use Rattle.scx_load_driver.specs.Events.{workload_events}
 use Rattle.scx_load_driver.proofs.Alike.{like_first}
-use Rattle.scx_load_workloads.specs.Workload.{WorkloadState}
+use Rattle.scx_load_workloads.specs.Workload.{WorkloadState, first_tree}
 use Rattle.scx_load_driver.specs.Runs.{stepped_all}
 use Rattle.scx_load_replay.specs.Replay.{ReplayState}
 use Rattle.scx_load_replay.specs.Events.{replay_events}
@@ -19,7 +18,7 @@ use Rattle.scxsim_statistics.proofs.Staying.{tasks_stay}
 
 all_there : (policy workload : List ℕ) (w : WorkloadState) (s : SimState) → IsRun policy workload w s → length (last_of w s).state.world.tasks ≡ length w.homes
 all_there policy workload w s run =
-    tasks_stay (workload_events w s) s run.accepted ∙ (like_first run.begun.machine (idle w.groups w.homes) w.cpus s.state run.begun.first.0).1.0
+    tasks_stay (workload_events w s) s run.accepted ∙ (like_first run.begun.machine (first_tree w) w.cpus s.state run.begun.first.0).1.0
 
 -- figures of the run of two texts, through all its events, are figures of the texts
 pub of_texts : (policy workload : List ℕ) (w : WorkloadState) (s : SimState) (es : List Event) (f : Figures)
@@ -38,7 +37,7 @@ of_texts policy workload w s es f same run events figures named =
 
 all_listed : (policy events : List ℕ) (r : ReplayState) (s : SimState) → IsReplayRun policy events r s → length (stepped_all s (replay_events r)).state.world.tasks ≡ length r.workload.homes
 all_listed policy events r s run =
-    tasks_stay (replay_events r) s run.accepted ∙ (like_first run.begun.machine (idle r.workload.groups r.workload.homes) r.workload.cpus s.state run.begun.first.0).1.0
+    tasks_stay (replay_events r) s run.accepted ∙ (like_first run.begun.machine (first_tree r.workload) r.workload.cpus s.state run.begun.first.0).1.0
 
 -- figures of the run of a policy's text and a file of events are figures of these
 pub of_events : (policy events : List ℕ) (r : ReplayState) (w : WorkloadState) (s : SimState) (es : List Event) (f : Figures)

@@ -6,11 +6,11 @@ use Rattle.scx_sched_machine.specs.declared.events.Event.{Event}
 use Rattle.scx_sched_machine.specs.declared.events.Event.TheVariants as event
 use Rattle.scx_sched_machine.specs.declared.events.Refused.{Refused}
 use Rattle.scx_sched_machine.specs.declared.events.Refused.TheVariants.{RunOver, UnknownTask}
-use Rattle.scx_sched_machine.specs.Steps.{State}
+use Rattle.scx_sched_machine.specs.Steps.{State, Stepped}
 use Rattle.scx_sched_machine.specs.Events as machine
 use Rattle.scx_sched.specs.Sim.{SimState, max_events, refusal, after_event, stepped_if}
 use Rattle.scx_load_driver.specs.Runs.{stepped_all, AreAccepted}
-use Rattle.scx_load_driver.proofs.Alike.{IsLike, Times, times_of}
+use Rattle.scx_load_driver.proofs.Alike.{IsLike, Times, times_of, like_rounds}
 use Rattle.scx_load_driver.proofs.Happening.{like_clock, like_tick, like_wake, like_sleep}
 
 -- as many tasks as now, which have run as long
@@ -35,11 +35,15 @@ as_many (event.Sleep t) s accepted = go (cases_lt t (length s.world.tasks))
         absurd (cc)
 as_many (event.Tick c) s accepted = (like_tick s.world.tree (times s) (length s.world.cpus) s c (like_now s)).1.0
 as_many event.Clock s accepted = (like_clock s.world.tree (times s) (length s.world.cpus) s (like_now s)).1.0
-as_many (event.SetWeight g x) s accepted = go (is_none (weight_fault s.world.tree g x)) refl
+as_many (event.SetWeight g x) s accepted =
+    (like_rounds own.state.world.tree (times s) (length s.world.cpus) own (go (is_none (weight_fault s.world.tree g x)) refl)).1.0
   where
-    go : (b : Bool) → is_none (weight_fault s.world.tree g x) ≡ b → length (machine.event_step s (event.SetWeight g x)).state.world.tasks ≡ length s.world.tasks
-    go true e = rw e refl
-    go false e = rw e refl
+    own : Stepped
+    own = machine.own_step s (event.SetWeight g x)
+
+    go : (b : Bool) → is_none (weight_fault s.world.tree g x) ≡ b → IsLike own.state.world.tree (times s) (length s.world.cpus) own.state.world
+    go true e = rw e ((refl, refl, refl), (refl, λ u. omega arith), refl)
+    go false e = rw e ((refl, refl, refl), (refl, λ u. omega arith), refl)
 
 by_machine : (b : Bool) (o : Option Refused) → cond b (Some RunOver) o ≡ None → o ≡ None
 by_machine true o e = absurd (cc)

@@ -40,7 +40,7 @@ fn titled(alloc: Global, text: &Text) -> Text {
 }
 
 fn start_of(alloc: Global, policy: Policy, workload: &Workload) -> Result<Text, AllocError> {
-    match Tree::new(alloc, workload.groups(), workload.tasks()) {
+    match workload.tree(alloc) {
         Ok(tree) => start_with(alloc, policy, tree, workload),
         Err(_) => {
             drop(policy);

@@ -8,6 +8,7 @@ use Rattle.scx_sched.specs.Sim.{SimState}
 use Rattle.scxsim_commands.specs.declared.refusal.Refusal.{Refusal}
 use Rattle.scxsim_commands.specs.declared.refusal.Refusal.TheVariants.{NoMemory, NoSuchTask}
 use Rattle.scxsim_simulation.specs.Runs.{IsRun, IsCause}
+use Rattle.scxsim_simulation.proofs.PartCauses.{are_read}
 use Rattle.scx_sched_world.specs.declared.notes.Note.{Note}
 use Rattle.scxsim_story.specs.declared.subject.Subject.{Subject}
 use Rattle.scxsim_story.specs.Occurrences.{occurrences, Tells}
@@ -16,7 +17,7 @@ use Rattle.scxsim_story.specs.Stories.{IsSubject, IsNoTask, IsToldIn, IsStory, I
 -- the run is that of the texts, and memory ran out, or the word names no task
 pub cause_of_run : (policy workload task : List ℕ) (w : WorkloadState) (s : SimState) (r : Refusal) → IsRun policy workload w s → (r ≡ NoMemory) ⊎ ((r ≡ NoSuchTask) × IsNoTask w task) → IsStoryCause policy workload task r
 cause_of_run policy workload task w s r x (inl e) = inl (subst (λ q. IsCause policy workload q) (sym e) tt)
-cause_of_run policy workload task w s r x (inr (e, none)) = inr (record { of_workload = w; read = x.workload_read; none = none; refused = e })
+cause_of_run policy workload task w s r x (inr (e, none)) = inr (record { of_workload = w; read = are_read policy workload w s x; none = none; refused = e })
 
 -- the run is that of the texts, and its story was told
 pub story_of_run : (policy workload task : List ℕ) (w : WorkloadState) (s : SimState) (es : List Event) (text : List ℕ) → IsRun policy workload w s → es ≡ workload_events w s → IsToldIn w task (notes_of_all s es) text → IsStory policy workload task text

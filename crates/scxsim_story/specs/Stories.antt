@@ -1,15 +1,14 @@
 -- The text of `story`, and the causes of its refusals.
-use Rattle.std.specs.Prelude.{◌≡◌, ℕ, ◌<◌, List, [], length, slice_index_or, Ok, ◌⊎◌}
+use Rattle.std.specs.Prelude.{◌≡◌, ℕ, ◌<◌, List, [], length, slice_index_or, ◌⊎◌}
 use Rattle.scx_sched_world.specs.declared.notes.Note.{Note}
 use Rattle.scx_sched.specs.Sim.{SimState}
 use Rattle.scx_load_workloads.specs.Workload.{WorkloadState}
-use Rattle.scx_load_workloads.specs.Reading.{workload_of}
 use Rattle.scx_load_driver.specs.Runs.{notes_of_all}
 use Rattle.scx_load_driver.specs.Events.{workload_events}
 use Rattle.scxsim_trace.specs.Lines.{names_of, task_name}
 use Rattle.scxsim_commands.specs.declared.refusal.Refusal.{Refusal}
 use Rattle.scxsim_commands.specs.declared.refusal.Refusal.TheVariants.{NoSuchTask}
-use Rattle.scxsim_simulation.specs.Runs.{IsRun, IsCause}
+use Rattle.scxsim_simulation.specs.Runs.{IsRun, AreRead, IsCause}
 use Rattle.scxsim_story.specs.declared.subject.Subject.{Subject}
 use Rattle.scxsim_story.specs.Occurrences.{occurrences, Tells}
 
@@ -38,13 +37,14 @@ pub record IsStory (policy workload task text : List ℕ) : Type 0 where
   pub told :
       IsToldIn of_workload task (notes_of_all first (workload_events of_workload first)) text
 
--- the workload is read, and the word names none of its tasks
-pub record IsUnknownTask (workload task : List ℕ) (r : Refusal) : Type 0 where
+-- both texts are read, and the word names none of the workload's tasks
+pub record IsUnknownTask (policy workload task : List ℕ) (r : Refusal) : Type 0 where
   pub of_workload : WorkloadState
-  pub read : workload_of workload ≡ Ok of_workload
+  pub read : AreRead policy workload of_workload
   pub none : IsNoTask of_workload task
   pub refused : r ≡ NoSuchTask
 
 -- the texts are refused, or the word is
 abbrev pub IsStoryCause : List ℕ → List ℕ → List ℕ → Refusal → Type 0
-IsStoryCause policy workload task r = IsCause policy workload r ⊎ IsUnknownTask workload task r
+IsStoryCause policy workload task r =
+    IsCause policy workload r ⊎ IsUnknownTask policy workload task r

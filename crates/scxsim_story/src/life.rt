@@ -1,6 +1,9 @@
 use scx_sched::{Event, Sim, What};
 use scx_sched_world::{LOCAL_ON, PARKED};
 
+/// A millisecond in nanoseconds.
+const MS: u64 = 1_000_000;
+
 /// The state of a task before an occurrence.
 #[derive(Clone, Copy)]
 pub(crate) struct Life {
@@ -18,8 +21,10 @@ pub(crate) struct Life {
     pub(crate) is_leaving: bool,
     /// The number of CPUs that were idle as some task woke last.
     pub(crate) idle_cpus: u32,
-    /// The rest of its slice as the tick of its CPU came, in nanoseconds.
-    pub(crate) slice: u64,
+    /// The rest of its slice once the event has taken its time, in nanoseconds.
+    pub(crate) left: u64,
+    /// True if it may be stopped before its slice is used up, for another task or by a kick: under Linux rules it may.
+    pub(crate) is_preemptible: bool,
 }
 
 impl Life {
@@ -33,22 +38,22 @@ impl Life {
             sleeps_since: None,
             is_leaving: false,
             idle_cpus: 0,
-            slice: 0,
+            left: 0,
+            is_preemptible: false,
         }
     }
 
     /// The state as that event comes.
     pub(crate) fn expecting(self, sim: &Sim, event: Event, task: u16) -> Life {
-        match event {
-            Event::Wake(_) => Life {
-                idle_cpus: idle_cpus(sim),
-                ..self
-            },
-            Event::Tick(_) => Life {
-                slice: slice_of(sim, task),
-                ..self
-            },
-            Event::Sleep(_) | Event::Clock | Event::SetWeight(_, _) => self,
+        let idle_cpus = match event {
+            Event::Wake(_) => idle_cpus(sim),
+            _ => self.idle_cpus,
+        };
+        Life {
+            idle_cpus,
+            left: left_after(sim, event, task),
+            is_preemptible: sim.world().is_by_linux(),
+            ..self
         }
     }
 
@@ -91,6 +96,18 @@ impl Life {
             is_leaving: false,
             ..self
         }
+    }
+}
+
+/// The rest of the task's slice once that event has taken its time: a tick of its CPU takes a millisecond, unless the slice
+/// has no end.
+fn left_after(sim: &Sim, event: Event, task: u16) -> u64 {
+    let slice = slice_of(sim, task);
+    match event {
+        Event::Tick(cpu) if slice != u64::MAX && sim.runner(cpu) == Some(task) => {
+            slice.saturating_sub(MS)
+        }
+        _ => slice,
     }
 }
 

@@ -7,9 +7,6 @@ use scxsim_output::Text;
 use scxsim_trace::Names;
 use scxsim_views::{QueueName, fault_words};
 
-/// A millisecond in nanoseconds.
-const MS: u64 = 1_000_000;
-
 /// An occurrence, and its outcome.
 #[derive(Clone, Copy)]
 pub(crate) struct Occurrence<'a> {
@@ -175,16 +172,19 @@ fn write_stop(of: Occurrence<'_>, cpu: u32, words: &mut Text) {
         "it sleeps"
     } else if is_spent_at(of) {
         "a quota is used up"
+    } else if 0 < of.life.left {
+        "it is preempted"
     } else {
         "its slice is used up"
     });
 }
 
-/// True if the task stops since a group of its may not run, and not since its slice is used up.
+/// True if the task stops since a group of its may not run, and not since its slice is used up or taken.
 fn is_spent_at(of: Occurrence<'_>) -> bool {
+    let may_not_run = 0 < of.life.left && !of.life.is_preemptible;
     match of.next {
-        Some(What::Insert(_, queue)) => queue == PARKED || MS < of.life.slice,
-        Some(_) | None => MS < of.life.slice,
+        Some(What::Insert(_, queue)) => queue == PARKED || may_not_run,
+        Some(_) | None => may_not_run,
     }
 }
 

@@ -60,8 +60,9 @@ pub record Watches {V : Type 0} (expects : V → SimState → Event → V → Ty
 
 -- ---- the sink of an observer
 
--- A sink that hands notes on to an observer. Its states are of any type: the definition speaks of the
--- observer that they lead to, of the event's place in its millisecond, and of the observer's state.
+-- A sink that hands notes on to an observer. Its states are of any type: the definition speaks of
+-- the observer that they lead to, of the event's place in its millisecond, and of the observer's
+-- state.
 abbrev pub HandsOn :
     {S G V : Type 0}
     → (S → G) → (S → Bool) → (S → V) → (V → Bool) → (V → ℕ → ℕ → What → V → Type 0) → S → Note → S

@@ -1,2 +1,3 @@
 mod Pausing
 pub mod Keeping
+mod Shifting

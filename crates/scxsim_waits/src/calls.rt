@@ -4,6 +4,7 @@ use scx_isa::{Callback, PerCallback};
 use scx_sched::{Note, Rank, What};
 use scx_sched_world::World;
 use scx_vm::{Arg, Args};
+use scxsim_views::{key_of_time, rules_in_force};
 use std::alloc::{AllocError, Global};
 use std::marker::Model;
 
@@ -31,7 +32,7 @@ pub struct CpuCalls {
 pub struct Calls {
     counts: PerCallback<Option<u64>>,
     by_cpu: Vec<CpuCalls>,
-    /// The rank by which the policy last put each task into a queue, if that is known.
+    /// The rank by which each task last came into a queue, with the key of a virtual time, if that is known.
     ranks: Vec<Option<Rank>>,
 }
 
@@ -57,6 +58,7 @@ impl Calls {
         match callback {
             Callback::Dispatch => self.heed_dispatch(arguments, world),
             Callback::SelectCpu | Callback::Enqueue => self.heed_insert(arguments, world),
+            Callback::Stopping => self.heed_stop(arguments, world),
             _ => {}
         }
     }
@@ -77,7 +79,7 @@ impl Calls {
         }
     }
 
-    /// The rank by which the policy last put the task into a queue, if that is known.
+    /// The rank by which the task last came into a queue, with the key of a virtual time, if that is known.
     pub fn rank(&self, task: u16) -> Option<Rank> {
         *self.ranks.get(task as usize)?
     }
@@ -119,8 +121,18 @@ impl Calls {
             return;
         };
         match world.insert() {
-            Some(insert) => self.set_rank(task.0, Some(insert.rank)),
+            Some(insert) => self.set_rank(task.0, Some(rank_for(world, insert.rank))),
             None => self.set_rank(task.0, None),
+        }
+    }
+
+    /// Keeps that a task goes to the front of the CPU's local queue, where it stops and stays.
+    fn heed_stop(&mut self, arguments: Args, world: &World) {
+        let Arg::Task(task) = arguments.first else {
+            return;
+        };
+        if keeps_front(world, task.0) {
+            self.set_rank(task.0, Some(Rank::Front));
         }
     }
 
@@ -128,6 +140,20 @@ impl Calls {
         if let Some(place) = self.ranks.get_mut(task as usize) {
             *place = rank;
         }
+    }
+}
+
+/// True if a task that stops and stays runnable goes to the front of the CPU's local queue: under Linux rules it does with
+/// some of its slice left.
+fn keeps_front(world: &World, task: u16) -> bool {
+    world.is_by_linux() && world.task(task).slice != 0
+}
+
+/// The rank in a queue of the policy of a task that is put there by that one.
+fn rank_for(world: &World, rank: Rank) -> Rank {
+    match rank {
+        Rank::Vtime(time) => Rank::Vtime(key_of_time(rules_in_force(world), time)),
+        Rank::Fifo | Rank::Front => rank,
     }
 }
 

@@ -8,7 +8,7 @@ use scx_sched::{Note, Rank, What};
 /// The most queues that a policy may create, and that of held tasks.
 const MOST: usize = 17;
 
-/// The least and the greatest of some virtual times.
+/// The least and the greatest of some keys of virtual times.
 #[derive(Clone, Copy)]
 pub struct KeyRange {
     pub low: u64,
@@ -36,11 +36,11 @@ pub struct CallShare {
 pub struct Spell {
     pub task: u16,
     pub queue: u64,
-    /// Its rank there, if that is known.
+    /// Its rank there, with the key of a virtual time, if that is known.
     pub rank: Option<Rank>,
     /// The number of others that were taken out of that queue.
     pub taken: u64,
-    /// Their virtual times, where each is known.
+    /// The keys of their virtual times, where each is known.
     pub theirs: Option<KeyRange>,
     pub is_known: bool,
     /// The calls of dispatch that took another out of that queue, that took tasks of other queues alone, and that took
@@ -100,7 +100,7 @@ impl Spell {
     {
         match rank {
             Some(Rank::Vtime(key)) => self.theirs = Some(widened(self.theirs, key)),
-            Some(Rank::Fifo) => {}
+            Some(Rank::Fifo | Rank::Front) => {}
             None => self.is_known = false,
         }
     }

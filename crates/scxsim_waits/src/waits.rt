@@ -1,5 +1,6 @@
 use crate::TaskQueues;
 use crate::watched_wait::{LongWait, Occurrence, Scene, WatchedWait, place_of};
+use scx_isa::Rules;
 use scx_sched::Note;
 use std::alloc::{AllocError, Global};
 use std::marker::Model;
@@ -10,6 +11,8 @@ use std::marker::Model;
 #[derive(Drop)]
 pub struct Waits {
     pub waits: Vec<WatchedWait>,
+    /// The rules of the policy, which give the virtual times of keys.
+    pub rules: Rules,
     /// True if the current millisecond is of one of them.
     is_counting: bool,
     tasks: usize,
@@ -25,6 +28,7 @@ impl Waits {
     pub fn new(
         alloc: Global,
         worst: &[LongWait],
+        rules: Rules,
         tasks: usize,
         cpus: u32,
     ) -> Result<Self, AllocError> {
@@ -34,6 +38,7 @@ impl Waits {
         }
         Ok(Waits {
             waits,
+            rules,
             is_counting: false,
             tasks,
         })

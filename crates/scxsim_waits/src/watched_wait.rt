@@ -16,7 +16,7 @@ pub struct LongWait {
 pub struct Station {
     pub queue: u64,
     pub clock: u64,
-    /// Its rank there, if that is known.
+    /// Its rank there, with the key of a virtual time, if that is known.
     pub rank: Option<Rank>,
     /// The number of tasks before it there, if that is known.
     pub ahead: Option<u64>,
@@ -145,8 +145,14 @@ impl WatchedWait {
     /// Follows a note of the task while it waits.
     fn follow(&mut self, of: Occurrence, scene: Scene<'_>) -> Result<(), AllocError> {
         match of.what {
-            What::Insert(_, queue) => self.come(queue, of.clock, scene),
-            What::Move(_, cpu) => self.come(LOCAL_ON + u64::from(cpu), of.clock, scene),
+            What::Insert(task, queue) => {
+                let rank = rank_at_insert(scene.calls, task, queue);
+                self.come(queue, rank, of.clock, scene)
+            }
+            What::Move(_, cpu) => {
+                let queue = LOCAL_ON + u64::from(cpu);
+                self.come(queue, Some(Rank::Fifo), of.clock, scene)
+            }
             What::Wake(_)
             | What::Sleep(_)
             | What::Run(_, _)
@@ -159,9 +165,14 @@ impl WatchedWait {
     }
 
     /// Keeps that the task comes into a queue.
-    fn come(&mut self, queue: u64, clock: u64, scene: Scene<'_>) -> Result<(), AllocError> {
+    fn come(
+        &mut self,
+        queue: u64,
+        rank: Option<Rank>,
+        clock: u64,
+        scene: Scene<'_>,
+    ) -> Result<(), AllocError> {
         let task = self.wait.task;
-        let rank = rank_in(scene.calls, task, queue);
         self.stations.push(Station {
             queue,
             clock,
@@ -275,7 +286,16 @@ fn place_of_queue(spells: &[Spell], queue: u64) -> usize {
     spells.len()
 }
 
-/// The rank of a task that came into that queue, if that is known.
+/// The rank of a task that is inserted into that queue, if that is known.
+fn rank_at_insert(calls: &Calls, task: u16, queue: u64) -> Option<Rank> {
+    match (rank_in(calls, task, queue), calls.rank(task)) {
+        (Some(Rank::Fifo), Some(Rank::Front)) => Some(Rank::Front),
+        (rank, _) => rank,
+    }
+}
+
+/// The rank of a task that came into that queue, if that is known. A task at the front of a queue of the machine counts as
+/// one in order of arrival.
 fn rank_in(calls: &Calls, task: u16, queue: u64) -> Option<Rank> {
     if queue < POLICY_END {
         calls.rank(task)
@@ -304,6 +324,7 @@ fn ahead(scene: Scene<'_>, tasks: usize, task: u16, queue: u64, rank: Option<Ran
 fn is_before(earlier: Rank, rank: Rank) -> bool {
     match (earlier, rank) {
         (Rank::Vtime(theirs), Rank::Vtime(own)) => theirs <= own,
+        (_, Rank::Front) => false,
         _ => true,
     }
 }

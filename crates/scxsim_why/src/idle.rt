@@ -1,20 +1,77 @@
 use crate::words::write_count;
+use scx_isa::Rules;
 use scx_load_workloads::Workload;
+use scx_sched_world::{GLOBAL, POLICY_END};
 use scxsim_output::Text;
 use scxsim_trace::Names;
 use scxsim_views::QueueName;
-use scxsim_waits::{CpuCalls, IdleStretches, LastCall, SeenStretch};
+use scxsim_waits::{CpuCalls, IdleStretches, LastCall, SeenStretch, WaitingTask};
 
 /// Writes the milliseconds in which CPUs were idle while a task waited, and the longest stretch of them.
-pub fn write_idle(workload: &Workload, lost: u64, stretches: &IdleStretches, page: &mut Text) {
+pub fn write_idle(
+    workload: &Workload,
+    lost: u64,
+    rules: Rules,
+    stretches: &IdleStretches,
+    page: &mut Text,
+) {
     let Some(longest) = stretches.longest.as_slice().first() else {
         page.push("no processor was idle while a task waited\n");
         return;
     };
     page.number("idle while tasks waited: ", lost);
     page.push(" ms in all; ");
-    write_stretch(workload, longest, page);
+    match unwoken_for(*longest, rules) {
+        Some((waiting, queue)) => write_sleep(workload, longest, waiting, queue, page),
+        None => write_stretch(workload, longest, page),
+    }
     page.push("\n");
+}
+
+/// The task that waited as a stretch began, and its queue, where the CPU slept and nothing woke it for that queue.
+fn unwoken_for(seen: SeenStretch, rules: Rules) -> Option<(WaitingTask, u64)> {
+    let waiting = seen.beginning.waiting?;
+    let queue = waiting.queue?;
+    if idle_cpus_sleep(rules) && seen.vain() == 0 && wakes_no_cpu(queue) {
+        Some((waiting, queue))
+    } else {
+        None
+    }
+}
+
+/// True if an idle CPU looks for a task only once it is woken.
+fn idle_cpus_sleep(rules: Rules) -> bool {
+    match rules {
+        Rules::Plain => false,
+        Rules::Linux => true,
+    }
+}
+
+/// True for a queue of the policy, and for that of all CPUs.
+fn wakes_no_cpu(queue: u64) -> bool {
+    queue < POLICY_END || queue == GLOBAL
+}
+
+/// Writes that a CPU slept while a task waited that no CPU was woken for.
+fn write_sleep(
+    workload: &Workload,
+    seen: &SeenStretch,
+    waiting: WaitingTask,
+    queue: u64,
+    page: &mut Text,
+) {
+    let stretch = seen.stretch;
+    page.number("cpu ", u64::from(stretch.cpu));
+    page.number(" slept from ", stretch.since);
+    page.number(" to ", stretch.until);
+    page.push(" ms while ");
+    page.push(workload.task(waiting.task));
+    page.show(" waited in ", &QueueName(queue));
+    page.push(if queue == GLOBAL {
+        ": an insert into global wakes no CPU; kick one"
+    } else {
+        ": an insert into a policy's queue wakes no CPU; kick one"
+    });
 }
 
 fn write_stretch(workload: &Workload, seen: &SeenStretch, page: &mut Text) {
@@ -37,6 +94,7 @@ fn write_stretch(workload: &Workload, seen: &SeenStretch, page: &mut Text) {
 pub fn write_stretches(
     workload: &Workload,
     count: u64,
+    rules: Rules,
     stretches: &IdleStretches,
     has_dispatch: bool,
     page: &mut Text,
@@ -49,8 +107,16 @@ pub fn write_stretches(
     page.push("; the longest are\n");
     for seen in longest {
         page.push("  ");
-        write_stretch(workload, seen, page);
-        write_asked(*seen, has_dispatch, page);
+        match unwoken_for(*seen, rules) {
+            Some((waiting, queue)) => {
+                write_sleep(workload, seen, waiting, queue, page);
+                page.push("\n");
+            }
+            None => {
+                write_stretch(workload, seen, page);
+                write_asked(*seen, has_dispatch, page);
+            }
+        }
     }
 }
 

@@ -18,7 +18,8 @@ pub(crate) fn write_page(alloc: Global, found: &Findings, page: &mut Text) {
     let has_dispatch = found.programs.get(Callback::Dispatch).is_some();
     write_ending(workload, account.ejection, found.fault, page);
     write_worst(alloc, workload, &account.waits, found.idle.has_waited, page);
-    write_idle(workload, found.idle.lost, &account.stretches, page);
+    let rules = account.waits.rules;
+    write_idle(workload, found.idle.lost, rules, &account.stretches, page);
     write_undrained(&account.queues, page);
     write_unrun(alloc, found, page);
     write_up_to_ejection(alloc, workload, account, page);
@@ -26,6 +27,7 @@ pub(crate) fn write_page(alloc: Global, found: &Findings, page: &mut Text) {
     write_stretches(
         workload,
         found.idle.count,
+        rules,
         &account.stretches,
         has_dispatch,
         page,

@@ -1,21 +1,22 @@
 use crate::words::write_count;
+use scx_isa::Rules;
 use scx_sched::Rank;
 use scx_sched_world::{HELD, POLICY_END};
 use scxsim_output::Text;
-use scxsim_views::QueueName;
+use scxsim_views::{QueueName, time_of_key};
 use scxsim_waits::{KeyRange, Spell, WatchedWait};
 
 /// Writes why a task wasn't taken while it was in a queue.
-pub(crate) fn write_spell(wait: &WatchedWait, spell: &Spell, page: &mut Text) {
+pub(crate) fn write_spell(wait: &WatchedWait, spell: &Spell, rules: Rules, page: &mut Text) {
     if spell.queue < POLICY_END || spell.queue == HELD {
-        write_asked(wait, spell, page);
+        write_asked(wait, spell, rules, page);
     } else {
         write_passed(spell, page);
     }
 }
 
 /// Writes the calls of dispatch that might have taken the task.
-fn write_asked(wait: &WatchedWait, spell: &Spell, page: &mut Text) {
+fn write_asked(wait: &WatchedWait, spell: &Spell, rules: Rules, page: &mut Text) {
     let calls = spell.calls();
     if calls == 0 && wait.stood_in(spell.queue) == 0 {
         return;
@@ -27,7 +28,7 @@ fn write_asked(wait: &WatchedWait, spell: &Spell, page: &mut Text) {
     }
     page.push(" of dispatch");
     write_where(spell.queue, page);
-    write_took(spell, page);
+    write_took(spell, rules, page);
     write_others(spell, page);
     write_vain(spell, page);
 }
@@ -42,7 +43,7 @@ fn write_where(queue: u64, page: &mut Text) {
 }
 
 /// Writes the number of calls that took others out of the queue of the task.
-fn write_took(spell: &Spell, page: &mut Text) {
+fn write_took(spell: &Spell, rules: Rules, page: &mut Text) {
     let took = spell.took;
     if took == 0 {
         return;
@@ -55,32 +56,33 @@ fn write_took(spell: &Spell, page: &mut Text) {
         page.push(" others from there");
     }
     if spell.queue != HELD {
-        write_keys(spell, page);
+        write_keys(spell, rules, page);
     }
     page.push("\n");
 }
 
 /// Writes why those that were taken came before the task.
-fn write_keys(spell: &Spell, page: &mut Text) {
+fn write_keys(spell: &Spell, rules: Rules, page: &mut Text) {
     match spell.rank {
-        Some(Rank::Fifo) => page.push(", who came before it"),
-        Some(Rank::Vtime(own)) => write_times(spell, own, page),
+        Some(Rank::Fifo | Rank::Front) => page.push(", who came before it"),
+        Some(Rank::Vtime(own)) => write_times(spell, own, rules, page),
         None => {}
     }
 }
 
-fn write_times(spell: &Spell, own: u64, page: &mut Text) {
+/// Writes the virtual times of those that were taken, and the task's own, of their keys.
+fn write_times(spell: &Spell, own: u64, rules: Rules, page: &mut Text) {
     if !spell.is_known {
         return;
     }
     let Some(KeyRange { low, high }) = spell.theirs else {
         return;
     };
-    page.number(", of virtual time ", low);
+    page.number(", of virtual time ", time_of_key(rules, low));
     if low < high {
-        page.number(" to ", high);
+        page.number(" to ", time_of_key(rules, high));
     }
-    page.number("; its own is ", own);
+    page.number("; its own is ", time_of_key(rules, own));
 }
 
 /// Writes the number of calls that took tasks of other queues alone, and the queues of the first ones.

@@ -1,11 +1,12 @@
 use crate::runners::{ms_at, runners, write_ran};
 use crate::spells::write_spell;
 use crate::words::tasks_of;
+use scx_isa::Rules;
 use scx_load_workloads::Workload;
 use scx_sched::Rank;
 use scxsim_output::Text;
 use scxsim_trace::Names;
-use scxsim_views::QueueName;
+use scxsim_views::{QueueName, time_of_key};
 use scxsim_waits::{Station, Waits, WatchedWait};
 use std::alloc::Global;
 
@@ -84,7 +85,7 @@ pub fn write_waits(alloc: Global, workload: &Workload, waits: &Waits, page: &mut
         write_wait(workload, wait, page);
         page.push("\n");
         for station in wait.stations.as_slice() {
-            write_station(*station, page);
+            write_station(*station, waits.rules, page);
         }
         for cpu in 0..workload.cpus() {
             page.number("  processor ", u64::from(cpu));
@@ -93,17 +94,17 @@ pub fn write_waits(alloc: Global, workload: &Workload, waits: &Waits, page: &mut
             page.push("\n");
         }
         for spell in wait.spells.as_slice() {
-            write_spell(wait, spell, page);
+            write_spell(wait, spell, waits.rules, page);
         }
     }
 }
 
 /// Writes the clock at which a task came into a queue, its virtual time, and the number of tasks before it.
-fn write_station(station: Station, page: &mut Text) {
+fn write_station(station: Station, rules: Rules, page: &mut Text) {
     page.number("  at ", station.clock);
     page.show(" it came into ", &QueueName(station.queue));
-    if let Some(Rank::Vtime(vtime)) = station.rank {
-        page.number(" by virtual time ", vtime);
+    if let Some(Rank::Vtime(key)) = station.rank {
+        page.number(" by virtual time ", time_of_key(rules, key));
     }
     match station.ahead {
         Some(0) => page.push(", at its front"),
