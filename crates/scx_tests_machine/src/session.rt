@@ -55,7 +55,7 @@ impl Session {
         }
     }
 
-    /// That many milliseconds go by on the one CPU.
+    /// Lets milliseconds go by on the one CPU.
     pub(crate) fn go_by(&mut self, rt: &impl Abort, milliseconds: u32) {
         for _ in 0..milliseconds {
             self.run(rt, &[Event::Tick(0), Event::Clock]);

@@ -1,7 +1,7 @@
 ghost use Rattle.std.specs.Prelude.{◌≡◌, ◌<◌};
 
 use crate::same::expect_same;
-use scx_dsq::{QueueError, Queues, Steps};
+use scx_dsq::{QueueError, Queues, Rank, Steps};
 use scx_tests_examples::xorshift;
 use std::marker::Brand;
 use std::process::Abort;
@@ -12,6 +12,7 @@ use std::sync::ledger::{Blank, Ledger};
 enum Command {
     Create(u64),
     PushFifo(u64, u32),
+    PushFront(u64, u32),
     PushVtime(u64, u32, u64),
     Front(u64),
     Pop(u64),
@@ -21,9 +22,9 @@ enum Command {
     Pushes,
 }
 
-use Command::{Create, Front, Len, Pop, PushFifo, PushVtime, Pushes, QueueOf, Remove};
+use Command::{Create, Front, Len, Pop, PushFifo, PushFront, PushVtime, Pushes, QueueOf, Remove};
 
-/// The answer of a call: the error of a `Create`, `PushFifo` or `PushVtime`; or a task, a queue or a count, if the
+/// The answer of a call: the error of a `Create` or of one of the three pushes; or a task, a queue or a count, if the
 /// call has one. `Remove` answers 1 for a task that was in a queue, and 0 for another.
 type Reply = Result<Option<u64>, QueueError>;
 
@@ -72,7 +73,8 @@ fn ask_counted<L: Ledger, R: Abort>(
     let mut steps = Steps::<L>::new(blank);
     match command {
         Create(queue) => done(queues.create(queue)),
-        PushFifo(queue, task) => done(push_by_order(rt, queues, queue, task)),
+        PushFifo(queue, task) => done(push_by_order(rt, queues, queue, task, false)),
+        PushFront(queue, task) => done(push_by_order(rt, queues, queue, task, true)),
         PushVtime(queue, task, key) => done(push_by_key(rt, queues, queue, task, key, &mut steps)),
         Front(queue) => found(queues.front(queue)),
         Pop(queue) => found(queues.pop(queue, &mut steps)),
@@ -88,10 +90,15 @@ fn push_by_order(
     queues: &mut Queues,
     queue: u64,
     task: u32,
+    to_front: bool,
 ) -> Result<(), QueueError> {
     assert!(rt; queues.pushes() < 1 << 62);
     assert!(rt; (task as usize) < queues.tasks());
-    queues.push_fifo(queue, task)
+    if to_front {
+        queues.push_front(queue, task)
+    } else {
+        queues.push_fifo(queue, task)
+    }
 }
 
 fn push_by_key<L: Ledger>(
@@ -179,6 +186,39 @@ fn tasks_leave_by_key_and_then_by_stamp(rt: HostRuntime) {
     expect(&rt, 1, 5, &BY_KEY);
 }
 
+const TO_THE_FRONT: [Row; 24] = [
+    (Create(3), DONE),
+    (PushFront(4, 0), NO_SUCH_QUEUE),
+    (PushFront(3, 0), DONE),
+    (PushFront(3, 0), ALREADY_THERE),
+    (PushFifo(3, 1), DONE),
+    (PushFifo(3, 2), DONE),
+    (PushFront(3, 3), DONE),
+    (PushFront(3, 4), DONE),
+    (PushVtime(3, 5, 0), MIXED),
+    (Front(3), Ok(Some(4))),
+    (Len(3), Ok(Some(5))),
+    (Pushes, Ok(Some(5))),
+    (Remove(3), Ok(Some(1))),
+    (PushFifo(3, 3), DONE),
+    (Pop(3), Ok(Some(4))),
+    // The last pushed to the front first, and then in order of arrival.
+    (Pop(3), Ok(Some(0))),
+    (PushFront(3, 5), DONE),
+    (Pop(3), Ok(Some(5))),
+    (Pop(3), Ok(Some(1))),
+    (Pop(3), Ok(Some(2))),
+    (Pop(3), Ok(Some(3))),
+    (Pop(3), NOBODY),
+    (PushVtime(3, 5, 0), DONE),
+    (PushFront(3, 0), MIXED),
+];
+
+#[test]
+fn tasks_pushed_to_the_front_leave_first(rt: HostRuntime) {
+    expect(&rt, 1, 6, &TO_THE_FRONT);
+}
+
 const KEPT_APART: [Row; 18] = [
     (Create(7), DONE),
     (Create(8), DONE),
@@ -260,14 +300,14 @@ struct Waiting {
     queue: u64,
     by_vtime: bool,
     key: u64,
-    /// The number of tasks that had come to queues before it.
-    stamp: u64,
+    /// The number of tasks that had come to queues before it; below 0, the later the lower, at the front.
+    turn: i64,
 }
 
 impl Waiting {
     /// True if it leaves its queue before another task of that queue.
     fn is_before(&self, other: &Waiting) -> bool {
-        self.key < other.key || (self.key == other.key && self.stamp < other.stamp)
+        self.key < other.key || (self.key == other.key && self.turn < other.turn)
     }
 }
 
@@ -341,7 +381,7 @@ impl Plain {
         }
     }
 
-    fn push(&mut self, queue: u64, task: u32, by_vtime: bool, key: u64) -> Reply {
+    fn push(&mut self, queue: u64, task: u32, rank: Rank) -> Reply {
         if !self.has(queue) {
             return NO_SUCH_QUEUE;
         }
@@ -349,18 +389,24 @@ impl Plain {
             return ALREADY_THERE;
         }
         match self.first(queue) {
-            Some(first) if first.by_vtime != by_vtime => MIXED,
-            _ => self.put(queue, task, by_vtime, key),
+            Some(first) if first.by_vtime != matches!(rank, Rank::Vtime(_)) => MIXED,
+            _ => self.put(queue, task, rank),
         }
     }
 
-    fn put(&mut self, queue: u64, task: u32, by_vtime: bool, key: u64) -> Reply {
+    fn put(&mut self, queue: u64, task: u32, rank: Rank) -> Reply {
+        let stamp = self.pushes.cast_signed();
+        let (by_vtime, key, turn) = match rank {
+            Rank::Fifo => (false, 0, stamp),
+            Rank::Front => (false, 0, stamp.wrapping_neg().wrapping_sub(1)),
+            Rank::Vtime(key) => (true, key, stamp),
+        };
         let waiting = Waiting {
             task,
             queue,
             by_vtime,
             key,
-            stamp: self.pushes,
+            turn,
         };
         self.set(task, Some(waiting));
         self.pushes = self.pushes.wrapping_add(1);
@@ -402,8 +448,9 @@ impl Plain {
     fn answer(&mut self, command: Command) -> Reply {
         match command {
             Create(queue) => self.create(queue),
-            PushFifo(queue, task) => self.push(queue, task, false, 0),
-            PushVtime(queue, task, key) => self.push(queue, task, true, key),
+            PushFifo(queue, task) => self.push(queue, task, Rank::Fifo),
+            PushFront(queue, task) => self.push(queue, task, Rank::Front),
+            PushVtime(queue, task, key) => self.push(queue, task, Rank::Vtime(key)),
             Front(queue) => found(self.front(queue)),
             Pop(queue) => found(self.pop(queue)),
             Remove(task) => Ok(Some(u64::from(self.remove(task)))),
@@ -422,7 +469,8 @@ fn command_of(number: u64) -> Command {
     let key = keys[((number >> 32) % 5) as usize];
     match number % 16 {
         0 => Create(queue),
-        1..=4 => PushFifo(queue, task),
+        1..=3 => PushFifo(queue, task),
+        4 => PushFront(queue, task),
         5..=9 => PushVtime(queue, task, key),
         10..=11 => Pop(queue),
         12 => Remove(task),

@@ -12,7 +12,7 @@ pub(crate) enum Step {
     Run(&'static [Event]),
     /// The event is accepted, that many times.
     Repeat(u32, Event),
-    /// That many milliseconds go by on the one CPU.
+    /// Lets milliseconds go by on the one CPU.
     GoBy(u32),
     /// Each event is refused so, and nothing is noted and counted.
     Refuse(&'static [(Event, Refused)]),

@@ -6,10 +6,10 @@ use super::both_machines::{SHAPES, push_lines};
 use crate::same::expect_same;
 use scx_abs::{AbsState, Context, Why, join, start, transfer};
 use scx_asm::assemble;
-use scx_isa::{Callback, Insn, Program, decode, flow};
+use scx_isa::{Callback, Insn, Program, Rules, decode, flow};
 use scx_maps::MapDefs;
 use scx_tests_examples::{EXIT, Numbers, bytes_of};
-use scx_verify::{Fault, verify};
+use scx_verify::{Fault, verify_by};
 use std::alloc::{AllocError, Global};
 use std::process::Abort;
 
@@ -83,9 +83,9 @@ fn give(states: &mut Vec<Option<AbsState>>, slot: usize, state: &Option<AbsState
     states[slot] = Some(merged);
 }
 
-/// By `verify`, of a program whose flow is accepted.
+/// By `verify_by`, of a program whose flow is accepted.
 fn by_verify(alloc: Global, program: Program, context: &Context) -> Verdict {
-    match verify(alloc, program, context.callback, &context.defs) {
+    match verify_by(alloc, program, *context) {
         Ok(_) => Some(None),
         Err(error) => match error.fault {
             Fault::Rule(why) => Some(Some((why, error.slot))),
@@ -142,10 +142,10 @@ fn count_accepted<R: AllocGlobal + Abort>(rt: &R, context: &Context) -> u32 {
 
 #[test]
 fn random_programs_are_judged_alike(rt: HostRuntime) {
-    let context = Context {
-        callback: Callback::SelectCpu,
-        defs: MapDefs::new(&SHAPES).expect(&rt, "the map is within the limits"),
-    };
+    let context = Context::new(
+        Callback::SelectCpu,
+        MapDefs::new(&SHAPES).expect(&rt, "the map is within the limits"),
+    );
     let accepted = count_accepted(&rt, &context);
     // Of both kinds there are thousands.
     assert!(rt; 5000 < accepted && accepted < 95_000);
@@ -178,13 +178,46 @@ fn count_accepted_arrays<R: AllocGlobal + Abort>(rt: &R, context: &Context) -> u
 /// Ranges are joined where ways meet, and cut where they part.
 #[test]
 fn arrays_are_judged_alike(rt: HostRuntime) {
-    let context = Context {
-        callback: Callback::SelectCpu,
-        defs: MapDefs::new(&ARRAYS).expect(&rt, "the map is within the limits"),
-    };
+    let context = Context::new(
+        Callback::SelectCpu,
+        MapDefs::new(&ARRAYS).expect(&rt, "the map is within the limits"),
+    );
     let accepted = count_accepted_arrays(&rt, &context);
     // Of both kinds there are thousands.
     assert!(rt; 1000 < accepted && accepted < 4000);
+}
+
+/// A call of `kick_cpu`.
+const KICK: &str = "r1 = 0\nr2 = 0\ncall 1009\nexit";
+
+/// A callback, rules and the check that the call fails at slot 2, if it fails one.
+const KICKS: [(Callback, Rules, Option<(Why, usize)>); 5] = [
+    (
+        Callback::Enqueue,
+        Rules::Plain,
+        Some((Why::UnknownHelper, 2)),
+    ),
+    (
+        Callback::Enable,
+        Rules::Plain,
+        Some((Why::UnknownHelper, 2)),
+    ),
+    (Callback::Enqueue, Rules::Linux, None),
+    (Callback::Running, Rules::Linux, None),
+    (
+        Callback::Enable,
+        Rules::Linux,
+        Some((Why::HelperNotHere, 2)),
+    ),
+];
+
+#[test]
+fn kicks_are_known_by_linux_rules_alone(rt: HostRuntime) {
+    for (callback, rules, wanted) in KICKS {
+        let context = Context::new(callback, MapDefs::none()).by_rules(rules);
+        let program = assemble(rt.alloc(), KICK).expect(&rt, "it is a program");
+        expect_same(&rt, compare(&rt, program, &context), Some(wanted), "a kick");
+    }
 }
 
 /// The slots of a program of 4096, as the benchmark verifies it: those of the body over and over.
@@ -217,10 +250,7 @@ fn long_program<R: AllocGlobal + Abort>(rt: &R, body: &[u64]) -> Program {
 
 fn expect_accepted<R: AllocGlobal + Abort>(rt: &R, body: &[u64]) {
     let program = long_program(rt, body);
-    let context = Context {
-        callback: Callback::Plain,
-        defs: MapDefs::none(),
-    };
+    let context = Context::new(Callback::Plain, MapDefs::none());
     expect_same(rt, compare(rt, program, &context), Some(None), body);
 }
 

@@ -10,7 +10,7 @@ use scx_asm::assemble;
 use scx_isa::{Callback, Program, flow};
 use scx_maps::MapDefs;
 use scx_tests_examples::Numbers;
-use scx_verify::{Fault, VerifyError, verify};
+use scx_verify::{Fault, VerifyError, verify_by};
 use scx_verify_explain::{Explanation, Listing, explanation_of};
 use std::process::Abort;
 use std::test::Fail;
@@ -62,7 +62,7 @@ fn compare<R: AllocGlobal + Abort>(
     context: &Context,
 ) -> Result<bool, Fail> {
     let listing = Listing::new(rt.alloc(), &program, *context)?;
-    match verify(rt.alloc(), program, context.callback, &context.defs) {
+    match verify_by(rt.alloc(), program, *context) {
         Ok(_) => {
             assert!(rt; listing.is_looked_at(listing.slots().wrapping_sub(1)));
             Ok(true)
@@ -127,10 +127,10 @@ fn count_explained<R: AllocGlobal + Abort>(rt: &R, context: &Context) -> Result<
 
 #[test]
 fn listings_end_where_programs_are_refused(rt: HostRuntime) -> Result<(), Fail> {
-    let context = Context {
-        callback: Callback::SelectCpu,
-        defs: MapDefs::new(&SHAPES).expect(&rt, "the map is within the limits"),
-    };
+    let context = Context::new(
+        Callback::SelectCpu,
+        MapDefs::new(&SHAPES).expect(&rt, "the map is within the limits"),
+    );
     let (accepted, refused) = count_explained(&rt, &context)?;
     // Of both kinds there are many.
     assert!(&rt; 10 < accepted && 100 < refused);
@@ -150,10 +150,10 @@ fn count_explained_arrays<R: AllocGlobal + Abort>(rt: &R, context: &Context) -> 
 
 #[test]
 fn listings_of_arrays_end_where_they_are_refused(rt: HostRuntime) -> Result<(), Fail> {
-    let context = Context {
-        callback: Callback::SelectCpu,
-        defs: MapDefs::new(&ARRAYS).expect(&rt, "the map is within the limits"),
-    };
+    let context = Context::new(
+        Callback::SelectCpu,
+        MapDefs::new(&ARRAYS).expect(&rt, "the map is within the limits"),
+    );
     let accepted = count_explained_arrays(&rt, &context)?;
     // Of both kinds there are many.
     assert!(&rt; 50 < accepted && accepted < 250);
