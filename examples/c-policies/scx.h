@@ -50,6 +50,12 @@ struct task {
 #define SCX_SLICE_INF (~0ull)
 #define SCX_ENQ_WAKEUP 1ull		/* in flags of enqueue: the task has just woken */
 
+/* By Linux rules alone, for which build --rules linux makes a policy. */
+#define SCX_ENQ_PREEMPT (1ull << 32)	/* in flags of an insert: the task that runs there loses its slice */
+#define SCX_ENQ_HEAD (1ull << 48)	/* in flags of an insert: at the front */
+#define SCX_KICK_IDLE 1ull		/* in flags of a kick: only if the processor is idle */
+#define SCX_KICK_PREEMPT 2ull		/* in flags of a kick: the task that runs there loses its slice */
+
 /* The helpers, at their numbers. */
 static void *(*const map_lookup_elem)(u64 map, const u32 *key) = (void *)1;
 static u64 (*const ktime_get_ns)(void) = (void *)5;
@@ -61,6 +67,7 @@ static u64 (*const select_cpu_dfl)(struct task *task) = (void *)1005;
 static s64 (*const cpu_idle)(u64 cpu) = (void *)1006;
 static struct task *(*const task_by_pid)(u64 pid) = (void *)1007;
 static s64 (*const dsq_nr_queued)(u64 queue) = (void *)1008;
+static s64 (*const kick_cpu)(u64 cpu, u64 flags) = (void *)1009;	/* by Linux rules */
 
 /* Map NUMBER of the policy, counted from 0, has so many elements of that type. */
 #define DEFINE_MAP(number, entries, type) \

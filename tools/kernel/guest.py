@@ -13,6 +13,9 @@ PACKAGES = {QEMU: "qemu-system-x86", "gcc": "gcc libc6-dev", "zstd": "zstd"}
 # with it qemu 7.2 corrupts lists of the guest's memory.
 MACHINE = ["-accel", "tcg", "-cpu", "max,-cx16,-la57", "-icount", "shift=2,sleep=off", "-m", "512"]
 MACHINE += ["-display", "none", "-no-reboot", "-nic", "none", "-serial", "stdio"]
+# The guest programs the clock of the machine to 4096 interrupts a second. Without them qemu lets each of its processors
+# run up to the next timer of any, which may be many milliseconds.
+MACHINE += ["-rtc", "clock=vm"]
 WORDS = "console=ttyS0 quiet panic=-1 mitigations=off rdinit=/init nokaslr tsc=reliable no_timer_check audit=0"
 
 
@@ -53,14 +56,14 @@ def archive(program, cases):
 
 
 def boot(kernel, version, cases, cpus, work):
-    """The lines that the guest wrote. There are two processors at least: its own program is on the last."""
+    """The lines that the guest wrote. There is one processor more, for its own program."""
     made = subprocess.run(["gcc", "-O2", "-static", "-o", work / "init", HERE / "guest.c"], stderr=subprocess.PIPE, text=True)
     if made.returncode != 0:
         raise Failed(f"gcc can't make the guest's program: {made.stderr.strip()}")
     (work / "archive").write_bytes(archive((work / "init").read_bytes(), cases))
     # On 7.x a processor that halts is woken late where the clock goes by instructions, so it has to poll.
     more = " idle=poll" if not version.startswith("6.") else ""
-    words = [QEMU, *MACHINE, "-smp", str(max(2, cpus)), "-kernel", kernel / "vmlinuz", "-initrd", work / "archive"]
+    words = [QEMU, *MACHINE, "-smp", str(cpus + 1), "-kernel", kernel / "vmlinuz", "-initrd", work / "archive"]
     words += ["-append", WORDS + more, "-serial", f"file:{work / 'out'}"]
     try:
         console = subprocess.run(words, stdin=subprocess.DEVNULL, stdout=subprocess.PIPE, stderr=subprocess.STDOUT, timeout=1800)

@@ -2,11 +2,12 @@
 import re
 import subprocess
 import tempfile
+import tomllib
 from pathlib import Path
 
 from guest import SCXSIM, boot, kernel_folder, results_of
 from kernel_types import KernelTypes, NoCounterpart
-from translate import policy_lines, workload_lines
+from translate import policy_lines, rules_of, workload_lines
 
 ERRORS = 1024		# exits of this kind and above are errors
 
@@ -23,6 +24,13 @@ def here(policy, workload):
         tasks[name] = tasks[name][0], tasks[name][1] + 1
     ejected = re.search(r"^\d+ eject .*$", trace, re.M)
     return tasks, ejected[0] if ejected else "in force"
+
+
+def rules_here(policy):
+    """The rules of a policy file, in words."""
+    read = tomllib.loads(Path(policy).read_text())
+    ticks = read.get("tick_ms", 4)
+    return f"linux, ticks of {ticks} ms" if rules_of(read) == "linux" and ticks else rules_of(read)
 
 
 def reason_of(result):
@@ -42,21 +50,24 @@ def ending(result):
 
 
 def cases_of(types, pairs, by_groups):
-    """Of each number of processors the cases that want so many, each with its policy and its workload."""
-    cases = {}
-    for number, (policy, workload) in enumerate(pairs):
+    """For each pair how many processors it wants, and the lines of its case."""
+    cases = []
+    for policy, workload in pairs:
         try:
-            lines = [f"case {number}", *policy_lines(types, SCXSIM, policy), *workload_lines(workload, by_groups)]
+            rules = rules_of(tomllib.loads(Path(policy).read_text()))
+            lines = ["case 0", *policy_lines(types, SCXSIM, policy), *workload_lines(workload, by_groups, rules)]
         except NoCounterpart as error:
             raise NoCounterpart(f"{policy} {workload}: {error}")
-        cases.setdefault(int(lines[-1].split()[1]), []).append((policy, workload, "\n".join(lines) + "\n"))
+        cases.append((int(lines[-1].split()[1]), "\n".join(lines) + "\n"))
     return cases
 
 
 def there(version, by_groups, pairs):
-    """What the kernel does: of each pair the policy, the workload and the result, those of one number of processors together."""
+    """What the kernel does: the policy, the workload and the result of each pair. Each has a boot of its own, as 6.18
+    doesn't end a second one after the guest has programmed the clock."""
     folder = kernel_folder(version)
-    for cpus, those in cases_of(KernelTypes(folder / "types"), pairs, by_groups).items():
+    cases = cases_of(KernelTypes(folder / "types"), pairs, by_groups)
+    for (policy, workload), (cpus, lines) in zip(pairs, cases):
         with tempfile.TemporaryDirectory() as work:
-            results = results_of(boot(folder, version, "".join(lines for _, _, lines in those), cpus, Path(work)))
-        yield [(policy, workload, result) for (policy, workload, _), result in zip(those, results)]
+            results = results_of(boot(folder, version, lines, cpus, Path(work)))
+        yield policy, workload, results[0]

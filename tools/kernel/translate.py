@@ -2,7 +2,8 @@
 
 A callback is taken instruction by instruction. Arguments are loaded from the context, a field of a task is the
 kernel's own at its offset there, and helpers are functions of the kernel. Which registers point to tasks is what
-scxsim explain says; where it refuses a callback, kernel/registers.py.
+scxsim explain says; where it refuses a callback, kernel/registers.py. A policy by Linux rules has flags of inserts whose
+numbers differ by version: they become those of the kernel at hand.
 """
 import re
 import subprocess
@@ -23,6 +24,7 @@ GROUP = 28
 NICE = [88761, 71755, 56483, 46273, 36291, 29154, 23254, 18705, 14949, 11916, 9548, 7620, 6100, 4904, 3906, 3121, 2501, 1991,
         1586, 1277, 1024, 820, 655, 526, 423, 335, 272, 215, 172, 137, 110, 87, 70, 56, 45, 36, 29, 23, 18, 15]
 EXIT_VALUE = 24		# bytes that the exit callback keeps: kind, code and time
+INSERT_FLAGS = {"SCX_ENQ_PREEMPT": 32, "SCX_ENQ_HEAD": 48}	# the bits that these have here
 
 
 def output_of(*words):
@@ -60,9 +62,14 @@ def task_registers(facts):
     return registers
 
 
+def rules_of(policy):
+    """The rules for which a policy file is."""
+    return policy.get("rules", "plain")
+
+
 class Callback:
-    def __init__(self, types, name, code, facts):
-        self.types, self.name = types, name
+    def __init__(self, types, name, code, facts, rules):
+        self.types, self.name, self.rules = types, name, rules
         self.tasks, self.used = facts
         self.read, self.slots = slots.read(code)
         calls = [one.number for one in self.read if one.code == slots.CALL]
@@ -139,7 +146,7 @@ class Callback:
             return [slots.Instruction(0xb4, 2, 0, 0, -1), self.kernel_call("scx_bpf_create_dsq"), slots.Instruction(0xbf, 0, 0, 32)]
         if number in (1002, 1003):
             name = "scx_bpf_dsq_insert" + ("_vtime" if number == 1003 else "")
-            return [self.kernel_call(name), slots.move_number(0, 0)]
+            return [*self.insert_flags(4 if number == 1002 else 5), self.kernel_call(name), slots.move_number(0, 0)]
         if number == 1004:
             return [self.kernel_call("scx_bpf_dsq_move_to_local"), slots.Instruction(0x54, 0, 0, 0, 1)]
         if number == 1005:
@@ -150,7 +157,21 @@ class Callback:
             return [self.kernel_call("bpf_task_from_pid"), slots.store(10, next(held), 0)]
         if number == 1008:
             return [self.kernel_call("scx_bpf_dsq_nr_queued"), slots.Instruction(0xbf, 0, 0, 32)]
+        if number == 1009 and self.rules == "linux":
+            return [self.kernel_call("scx_bpf_kick_cpu"), slots.move_number(0, 0)]
         return [slots.call(number)]
+
+    def insert_flags(self, register):
+        """Puts the kernel's numbers of flags in place of ours. r0 is free, as a call comes next."""
+        lines = []
+        for name, bit in INSERT_FLAGS.items() if self.rules == "linux" else ():
+            number = self.types.flag(name)
+            if number != 1 << bit:
+                other = [slots.wide_number(0, ~(1 << bit)), slots.Instruction(0x5f, register, 0)]
+                other += [slots.wide_number(0, number), slots.Instruction(0x4f, register, 0)]
+                lines += [slots.move(0, register), slots.Instruction(0x77, 0, 0, 0, bit), slots.Instruction(0x57, 0, 0, 0, 1)]
+                lines += [slots.Instruction(0x15, 0, 0, sum(one.size() for one in other), 0), *other]
+        return lines
 
     def choose(self):
         """The kernel's choice claims a processor that is idle, and says so in a byte."""
@@ -217,10 +238,10 @@ def program_line(types, callback, code):
     return f"program {callback} {number} {start + offset} {int(callback == 'init')} {code.hex()}"
 
 
-def translated(types, callback, code, facts):
+def translated(types, callback, code, facts, rules):
     """A callback for the kernel. Where jumps lead to nothing it stays as it is, as a kernel looks at jumps first."""
     try:
-        return Callback(types, callback, code, facts.get(callback) or guessed(callback, code)).code()
+        return Callback(types, callback, code, facts.get(callback) or guessed(callback, code), rules).code()
     except slots.JumpToNothing:
         return code
 
@@ -232,7 +253,7 @@ def policy_lines(types, scxsim, path):
     for callback in ARGUMENTS:
         code = code_of(scxsim, policy, callback)
         if code is not None:
-            yield program_line(types, callback, translated(types, callback, code, facts))
+            yield program_line(types, callback, translated(types, callback, code, facts, rules_of(policy)))
     yield program_line(types, "exit", exit_code(types, len(shapes_of_maps(policy))))
 
 
@@ -241,8 +262,8 @@ def nice_of(weight):
     return min(range(40), key=lambda at: abs(NICE[at] * 100 / 1024 - weight)) - 20
 
 
-def workload_lines(path, by_groups):
-    """Weights of groups are nice values of their tasks, or weights of cgroups."""
+def workload_lines(path, by_groups, rules):
+    """Weights are nice values: by Linux rules those of the tasks, else those of their groups, or weights of cgroups."""
     workload = tomllib.loads(Path(path).read_text())
     if "change" in workload or any("cpu_max" in group for group in workload["group"]):
         raise NoCounterpart("changes of weights and cpu_max are not passed on to a kernel")
@@ -252,6 +273,6 @@ def workload_lines(path, by_groups):
         yield f"group {names.index(group['parent']) if 'parent' in group else -1} {weight if by_groups else 100}"
     for task in workload["task"]:
         group = names.index(task["group"])
-        nice = 0 if by_groups else nice_of(weights[group])
+        nice = 0 if by_groups else nice_of(task.get("weight", 100) if rules == "linux" else weights[group])
         yield f"task {task['name']} {group} {nice} {task.get('start', 0)} {task.get('run', 0)} {task.get('sleep', 0)}"
     yield f"go {workload['cpus']} {workload['ms']}"

@@ -191,12 +191,12 @@ class Callback:
         if name == "nr_cpus_allowed" and self.policy.cpus and one.code & 7 == 1:
             return [slots.move_number(one.dst, self.policy.cpus)]
         if name not in names.FIELDS:
-            self.refuse(one, f"p->{name} isn't here: {names.NO_FIELD.get(name, 'the host has nothing like it')}")
+            self.refuse(one, f"p->{name} isn't here: {names.said(names.NO_FIELD, name, self.policy.rules) or 'the host has nothing like it'}")
             return [one]
         if one.code == 0x07:
             self.refuse(one, f"the address of p->{name}: read the field where it is used, not by its address")
             return [one]
-        if name in names.FIELD_NOTES:
+        if name in names.FIELD_NOTES and self.policy.rules == "plain":
             self.policy.warn(f"{one.place}: warning: p->{name} is {names.FIELD_NOTES[name]}", name)
         one.offset = names.FIELDS[name] + number - start
         if one.code == SIGNED_LOAD:

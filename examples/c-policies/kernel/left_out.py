@@ -37,11 +37,11 @@ class OfLeftOut(Callback):
 
 
 class LeftOut(Policy):
-    """The policy of one callback. It has maps and variables of its own."""
+    """The policy of one callback of a whole one. It has maps and variables of its own."""
 
-    def __init__(self, source, data, settings, member, function_name):
+    def __init__(self, whole, data, member, function_name):
         self.member, self.function_name = member, function_name
-        super().__init__(source, data, settings)
+        super().__init__(whole.source, data, whole.kept_settings(), whole.rules)
 
     def read(self):
         self.globals = Globals(self.elf)

@@ -77,6 +77,20 @@ FLAGS_OF_NO_MEANING = {
     "SCX_OPS_HAS_CGROUP_WEIGHT": "p->scx.weight follows the weights of the groups",
 }
 
+# By Linux rules, in place of what tables say of the same names.
+BY_LINUX = {
+    "cgroup_set_weight": "weights of groups reach no policy; p->scx.weight is that of the task",
+    "SCX_OPS_HAS_CGROUP_WEIGHT": "weights of groups reach no policy",
+    "prio": "p->scx.weight is the weight of the task",
+    "static_prio": "p->scx.weight is the weight of the task",
+}
+
+
+def said(table, name, rules):
+    """What a table says of a name by these rules, or None."""
+    return BY_LINUX.get(name, table.get(name)) if rules == "linux" else table.get(name)
+
+
 # The kernel's functions that stay calls, with the host's number.
 HELPERS = {"scx_bpf_error": 1008}
 
@@ -93,6 +107,7 @@ NOTES = {
     11: "a map that is a queue or a stack is a ring in an array map",
     12: "scx_bpf_dispatch_nr_slots is 32: dispatch inserts at once, as many tasks as it likes",
     13: "scx_bpf_exit ends the policy as scx_bpf_error does, by a fault",
+    14: "the mask of a task has all CPUs",
 }
 NOTE_ERROR = 6
 ROUNDS = 8	# of a loop whose bounds aren't constant
@@ -118,11 +133,12 @@ NOT_HERE = [
     ("scx_bpf_task_running", "keep it in a variable, which running and stopping write"),
     ("scx_bpf_cpu_(rq|curr)", "keep the pid in an array, which running and stopping write"),
     ("scx_bpf_cpuperf_.*", "processors are all as fast"),
-    ("scx_bpf_kick_cpu_with_flags", "without flags or with SCX_KICK_IDLE it is nothing; nothing here stops a task before its slice ends: give shorter slices"),
+    ("scx_bpf_kick_cpu_with_flags", "by plain rules nothing stops a task before its slice ends: take --rules linux, or give shorter slices"),
+    ("scx_bpf_kick_cpu_and_wait", "no CPU waits for another; leave the flag out"),
     ("scx_bpf_nr_cpu_ids", "say how many there are, as build --set cpus=4"),
     ("scx_bpf_reenqueue_local", "tasks stay in the queue of a processor"),
     ("bpf_strncmp", "tasks have no names here; p->pid is the number in the workload"),
-    ("SCX_ENQ_(HEAD|PREEMPT)", "inserts go to the end of a queue, and nothing stops a task before its slice ends; a queue by virtual time may put one first"),
+    ("SCX_ENQ_(HEAD|PREEMPT)", "by plain rules inserts go to the end of a queue, and nothing stops a task before its slice ends; take --rules linux"),
 ]
 
 
@@ -150,9 +166,9 @@ def advice_for(name):
     return advice or likely(name, [one for one in here if one != name])
 
 
-SHOWN = {"scx_bpf_kick_cpu_with_flags": "scx_bpf_kick_cpu with these flags"}
+SHOWN = {"scx_bpf_kick_cpu_with_flags": "scx_bpf_kick_cpu with these flags", "scx_bpf_kick_cpu_and_wait": "scx_bpf_kick_cpu with SCX_KICK_WAIT"}
 
-# Fields of a task, at the host's offsets.
+# Fields of a task, at the host's offsets. Notes are of plain rules.
 FIELDS = {"pid": 0, "scx.weight": 4, "scx.slice": 8, "scx.dsq_vtime": 16, "thread_info.cpu": 24, "group": 28, "se.sum_exec_runtime": 32}
 FIRST_FIELD = 16384
 MEMBERS = ["pid", "scx", "weight", "slice", "dsq_vtime", "se", "sum_exec_runtime", "group", "flags"]

@@ -26,8 +26,8 @@ class Policy:
 
     header = "scx/common.bpf.h"
 
-    def __init__(self, source, data, settings):
-        self.source, self.settings = source, dict(settings)
+    def __init__(self, source, data, settings, rules):
+        self.source, self.settings, self.rules = source, dict(settings), rules
         self.refusals, self.warnings, self.warned = [], [], set()
         self.elf = Elf(data)
         self.messages, self.maps, self.callbacks, self.instructions = [], [], {}, {}
@@ -125,7 +125,7 @@ class Policy:
         elif does_nothing(symbol):
             self.warn(f"{self.place_of_text(symbol.name)}: warning: {member} is left out: it does nothing")
         else:
-            self.refuse(f"{place} isn't here: {names.NO_CALLBACK.get(member, 'the host has nothing like it')}")
+            self.refuse(f"{place} isn't here: {names.said(names.NO_CALLBACK, member, self.rules) or 'the host has nothing like it'}")
 
     def take_name(self, ops, name):
         if re.fullmatch(r"[a-z][a-z0-9_]{0,15}", name):
@@ -144,7 +144,7 @@ class Policy:
             if member == "flags" and number >> bit & 1:
                 name = names.FLAGS[bit] if bit < len(names.FLAGS) else f"flag {bit}"
                 if name in names.FLAGS_OF_NO_MEANING:
-                    self.warn(f"{place}: warning: {name} means nothing here: {names.FLAGS_OF_NO_MEANING[name]}")
+                    self.warn(f"{place}: warning: {name} means nothing here: {names.said(names.FLAGS_OF_NO_MEANING, name, self.rules)}")
                 else:
                     self.refuse(f"{place}: flags: {name} isn't here")
 
@@ -297,6 +297,8 @@ class Policy:
             lines.append(f'name = "{self.name}"')
         if self.timeout:
             lines.append(f"timeout_ms = {self.timeout}")
+        if self.rules == "linux":
+            lines.append('rules = "linux"')
         maps = [("", 1, self.globals.size)] * (self.globals.size > 0) + self.maps
         lines += [f"\n[[map]]\nentries = {entries}\nvalue_size = {size}" for _, entries, size in maps]
         codes = {callback: self.callbacks[callback] for callback in names.CALLBACKS if callback in self.callbacks}

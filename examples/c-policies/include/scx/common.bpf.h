@@ -72,6 +72,7 @@ typedef _Bool bool;
 #define NOTE_RING 11
 #define NOTE_SLOTS 12
 #define NOTE_EXIT 13
+#define NOTE_ALL_CPUS 14
 
 /* A number or pointer of which clang knows nothing. So it tests this one and no copy of it. */
 #define FORGOTTEN(value) \
@@ -260,11 +261,16 @@ struct task_struct {
 #define SCX_OPS_BUILTIN_IDLE_PER_NODE 64ull
 #define SCX_OPS_HAS_CGROUP_WEIGHT 65536ull
 
-/* Flags that an insert can't have here. */
+/* Flags of an insert that only Linux rules have. HEAD is the host's own number: that of a kernel changes by version. */
+#ifdef HOST_LINUX
+#define SCX_ENQ_PREEMPT (1ull << 32)
+#define SCX_ENQ_HEAD (1ull << 48)
+#else
 extern u64 SCX_ENQ_HEAD(void);
 extern u64 SCX_ENQ_PREEMPT(void);
 #define SCX_ENQ_HEAD SCX_ENQ_HEAD()
 #define SCX_ENQ_PREEMPT SCX_ENQ_PREEMPT()
+#endif
 
 /* What a policy is: build reads it from the section .struct_ops.link. */
 struct sched_ext_ops {
@@ -333,6 +339,7 @@ static u64 (*const host_select_cpu_dfl)(struct task_struct *p) = (void *)1005;
 static s64 (*const host_cpu_idle)(u64 cpu) = (void *)1006;
 static struct task_struct *(*const host_task_by_pid)(u64 pid) = (void *)1007;
 static s64 (*const host_dsq_nr_queued)(u64 queue) = (void *)1008;
+static s64 (*const host_kick_cpu)(u64 cpu, u64 flags) = (void *)1009;	/* by Linux rules */
 
 INSTEAD void *bpf_map_lookup_elem(void *map, const void *key)
 {
@@ -429,7 +436,18 @@ INSTEAD bool scx_bpf_task_set_dsq_vtime(struct task_struct *p, u64 vtime)
 	return true;
 }
 
-/* A processor that has nothing to do looks for a task each millisecond, so nobody has to wake it. */
+#ifdef HOST_LINUX
+/* Flags that aren't constant are looked at by the helper. */
+extern void scx_bpf_kick_cpu_and_wait(s32 cpu, u64 flags);
+INSTEAD void scx_bpf_kick_cpu(s32 cpu, u64 flags)
+{
+	if (__builtin_constant_p(flags) && flags & SCX_KICK_WAIT)
+		scx_bpf_kick_cpu_and_wait(cpu, flags);
+	else
+		host_kick_cpu((u32)cpu, flags);
+}
+#else
+/* By plain rules an idle processor looks for a task each millisecond, so no policy has to wake it. */
 extern void scx_bpf_kick_cpu_with_flags(s32 cpu, u64 flags);
 INSTEAD void scx_bpf_kick_cpu(s32 cpu, u64 flags)
 {
@@ -438,6 +456,7 @@ INSTEAD void scx_bpf_kick_cpu(s32 cpu, u64 flags)
 	else
 		NOTE(NOTE_NO_KICK);
 }
+#endif
 
 /* A callback is one step here, and no other runs beside it. */
 INSTEAD void bpf_spin_lock(struct bpf_spin_lock *lock)
@@ -617,11 +636,17 @@ INSTEAD void scx_bpf_put_idle_cpumask(const struct cpumask *mask)
 {
 }
 
+/* By Linux rules the CPU is claimed. */
+#ifdef HOST_LINUX
+#define NOTE_SELECTED NOTE_ALL_CPUS
+#else
+#define NOTE_SELECTED NOTE_MASK
+#endif
 INSTEAD s32 scx_bpf_select_cpu_and(struct task_struct *p, s32 prev_cpu, u64 wake_flags, const struct cpumask *allowed, u64 flags)
 {
 	u64 cpu = host_select_cpu_dfl(p);
 
-	NOTE(NOTE_MASK);
+	NOTE(NOTE_SELECTED);
 	return host_cpu_idle(cpu) ? (s32)cpu : -EBUSY;
 }
 

@@ -13,7 +13,7 @@ void BPF_STRUCT_OPS(fields_enqueue, struct task_struct *p, u64 enq_flags)
 		queue = SCX_DSQ_GLOBAL;
 	if (p->comm[0] == 'k')	/* refused: enqueue: p->comm isn't here: tasks have no names */
 		queue = SCX_DSQ_GLOBAL;
-	scx_bpf_dsq_insert(p, queue, p->scx.weight * 1000, enq_flags);	/* warned: p->scx.weight is the task's part */
+	scx_bpf_dsq_insert(p, queue, p->scx.weight * 1000, enq_flags);	/* warned by plain rules: p->scx.weight is the task's part */
 }
 
 void BPF_STRUCT_OPS(fields_running, struct task_struct *p)
