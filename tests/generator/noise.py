@@ -1,4 +1,5 @@
 """Code that does nothing of use. Each function adds some lines."""
+from . import workloads
 from .host import CALLBACKS, FIELDS, IMMEDIATES, INSERTING, MAYBE, NUMBER, NUMBERS, TASK, WITH_TASK
 from .assembler import CONDITIONS, OPERATORS, SWAPS
 from .programs import look_up, null_tested
@@ -173,6 +174,12 @@ def ask_idle(code):
     code.call(1006)
 
 
+def kick(code):
+    code.set(1, code.random.randrange(code.plan.processors))
+    code.set(2, code.random.choice([0, 1, 2, 2]))
+    code.call(1009)
+
+
 def ask_choice(code):
     code.fetch(code.task, 1)
     code.call(1005)
@@ -252,7 +259,11 @@ NOISE = [
 ]
 
 
+KICKS = [(3, kick, ["select_cpu", "enqueue", "dispatch", "running", "stopping"])]
+
+
 def add_noise(code, count):
-    usable = [(weight, add) for weight, add, callbacks in NOISE if code.callback in callbacks]
+    noise = NOISE + KICKS if workloads.LINUX else NOISE
+    usable = [(weight, add) for weight, add, callbacks in noise if code.callback in callbacks]
     for add in code.random.choices([add for _, add in usable], [weight for weight, _ in usable], k=count):
         add(code)

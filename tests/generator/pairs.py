@@ -2,6 +2,7 @@
 import re
 import tomllib
 from random import Random
+from . import workloads
 
 from .host import CALLBACKS, INSERTING
 from .assembler import slots_of
@@ -171,6 +172,9 @@ class Pair:
         _, self.sort, make = random.choices(SORTS, [weight for weight, _, _ in SORTS])[0]
         policy, workload = make(random)
         head = f"# sort: {self.sort} (pair {number} of seed {seed})\n"
+        if workloads.LINUX:
+            tick = Random(f"{seed} {number} tick").choice([0, 0, 1, 2, 4, 10, 100])
+            head += f'rules = "linux"\ntick_ms = {tick}\n'
         self.policy, self.workload = head.encode() + as_bytes(policy), as_bytes(workload)
         # a file that was padded to the limit keeps to it
         if len(self.policy) in range(MOST_BYTES + 1, MOST_BYTES + len(head) + 1):

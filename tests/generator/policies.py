@@ -1,4 +1,5 @@
 """Policies: maps, queues, and the steps of each callback."""
+from . import workloads
 from .host import CALLBACKS, GLOBAL, GROUP, LOCAL, LOCAL_ON, PID, PREVIOUS, RUN, SLICE, VTIME, WEIGHT
 from .programs import Code
 from .noise import add_noise, write_field
@@ -55,7 +56,12 @@ def some_slice(random):
                           modulo(field(random.choice([PID, WEIGHT])), 4 * MS, MS)])
 
 
+PREEMPT, HEAD = 2**32, 2**48  # flags that Linux rules alone know
+
+
 def some_flags(random):
+    if workloads.LINUX and random.random() < 0.4:
+        return constant(random.choice([PREEMPT, HEAD, PREEMPT + 1, HEAD + 1, PREEMPT + HEAD]))
     return random.choice([constant(0), constant(0), constant(1)])
 
 

@@ -1,4 +1,4 @@
-"""Workloads that can be run. A caller may set SHAPES and QUOTAS."""
+"""Workloads that can be run. A caller may set SHAPES, QUOTAS and LINUX."""
 
 
 class Plan:
@@ -16,6 +16,7 @@ SHAPES = [  # weight; the most processors, tasks, groups and milliseconds
 
 
 QUOTAS = False  # whether groups have quotas
+LINUX = False  # whether policies go by Linux rules, and tasks have weights
 
 
 def some_quota(random):
@@ -57,6 +58,8 @@ def some_tasks(random, count, leaves, ms):
         if manner == "sleepy" or manner == "mixed" and random.random() < 0.5:
             task["run"] = random.choice([1, 2, 3, 5, 20, random.randrange(1, 30)])
             task["sleep"] = random.choice([0, 1, 2, 5, 10, random.randrange(50)])
+        if LINUX and random.random() < 0.5:
+            task["weight"] = random.choice([1, 50, 100, 300, 10000, random.randrange(1, 10001)])
         tasks.append(task)
     return tasks
 
