@@ -8,7 +8,7 @@ use Rattle.scx_isa_semantics.specs.declared.operations.Size.TheVariants as size
 use Rattle.scx_isa_semantics.specs.declared.operations.Access.{Access}
 use Rattle.scx_isa_semantics.specs.declared.operations.Access.TheVariants as access
 use Rattle.scx_isa_semantics.specs.declared.host_tables.Field.{Field}
-use Rattle.scx_isa_semantics.specs.declared.host_tables.Field.TheVariants.{Pid, Weight, Slice, DsqVtime, PrevCpu, Group, RunNs}
+use Rattle.scx_isa_semantics.specs.declared.host_tables.Field.TheVariants.{Pid, Weight, Slice, DsqVtime, PrevCpu, Group, RunNs, Cpus}
 use Rattle.scx_isa_semantics.specs.declared.host_tables.TaskId.{TaskId}
 use Rattle.scx_isa_semantics.specs.declared.values.Value.{Value}
 use Rattle.scx_isa_semantics.specs.declared.values.Value.TheVariants as value
@@ -18,7 +18,7 @@ use Rattle.scx_isa_semantics.specs.declared.registers.Register.{Register}
 use Rattle.scx_isa_semantics.specs.Registers.{number}
 use Rattle.scx_isa_semantics.specs.Arithmetic.{at_distance}
 use Rattle.scx_isa_semantics.specs.Memory.{Stack, stack_size, aligned_within, bytes_at, write, number_bytes, parts, value_in, value_bytes, load, read_as, size_bytes, access_size}
-use Rattle.scx_isa_semantics.specs.HostTables.{field_width, field_offset, found_field, field_at, is_writable}
+use Rattle.scx_isa_semantics.specs.HostTables.{field_width, field_offset, found_field, field_at, is_known_field, is_writable}
 use Rattle.scx_isa_semantics.specs.Elements.{Maps, element, number_at, with_element, with_number}
 use Rattle.scx_isa_semantics.specs.Locations as location
 use Rattle.scx_isa_semantics.specs.Locations.{Location, on_stack, in_element, in_task, address}
@@ -28,7 +28,9 @@ use Rattle.scx_isa_semantics.specs.Effects.{set_register, set_register_by_answer
 use Rattle.scx_isa_semantics.specs.Meaning.{operand_value, is_plain, load_effect, store_effect}
 use Rattle.scx_isa_semantics.proofs.Bytes.{with_number_bytes, with_element_bytes}
 use Rattle.scx_isa_encoding.specs.Spelling.{IsOperand}
+use Rattle.scx_isa_semantics.specs.declared.rules.Rules.{Rules}
 use Rattle.scx_maps.specs.declared.shape.Shape.{Shape}
+use Rattle.scx_vm.specs.declared.context.Context.{Context}
 use Rattle.scx_maps.specs.Contents.{HasShapes}
 use Rattle.scx_abs.specs.declared.faults.Why.{Why}
 use Rattle.scx_abs.specs.declared.faults.Why.TheVariants.{UnwrittenStack, TaskField}
@@ -97,7 +99,7 @@ first_width n at (g ∷ fs) f e = go (nat_eq at (field_offset g) && nat_eq n (fi
 
 width_found : (n : ℕ) (at : Option ℕ) (f : Field) → field_at n at ≡ Some f → field_width f ≡ n
 width_found n None f e = absurd (cc)
-width_found n (Some at) f e = first_width n at (Pid ∷ Weight ∷ Slice ∷ DsqVtime ∷ PrevCpu ∷ Group ∷ RunNs ∷ []) f e
+width_found n (Some at) f e = first_width n at (Pid ∷ Weight ∷ Slice ∷ DsqVtime ∷ PrevCpu ∷ Group ∷ RunNs ∷ Cpus ∷ []) f e
 
 field_found : (maps : Maps) (n : ℕ) (t : TaskId) (at : Option ℕ) → Finds maps n (field_area (field_at n at)) (in_task t (field_at n at))
 field_found maps n t at = go (field_at n at) refl
@@ -150,42 +152,43 @@ loads maps (Pointer k) stack access.DoubleWord at h fits =
     rw is read.stands
 loads maps (Pointer k) stack a at h fits = tt
 
-field_loaded : (shapes : List Shape) (a : AbsState) (m : Machine) (r : ℕ) (access : Access) (t : TaskId) (f : Field) → IsMember shapes a m → field_width f ≡ size_bytes (access_size access)
-    → IsSoundFor shapes (sets a r (kind_in a access (InTask f))) (load_effect m r access (location.InTask t f))
-field_loaded shapes a m r access t f h wide = go (is_plain access) refl
+field_loaded : (by : Rules) (shapes : List Shape) (a : AbsState) (m : Machine) (r : ℕ) (access : Access) (t : TaskId) (f : Field) → IsMember shapes a m → field_width f ≡ size_bytes (access_size access)
+    → IsSoundFor shapes (sets a r (kind_in by a access (InTask f))) (load_effect m r access (location.InTask t f))
+field_loaded by shapes a m r access t f h wide = go (is_plain access) (is_known_field f by) refl
   where
-    go : (b : Bool) → is_plain access ≡ b
-        → IsSoundFor shapes (sets a r (if b then Ok (Num (results.loaded_range access)) else Err TaskField)) (if b then set_register_by_answer m r (effect.Load t f) else effect.Stuck)
-    go true e = answer_sound shapes a m r (Num (results.loaded_range access)) (effect.Load t f) h (λ v fits. field_stands m.maps t f access v e wide fits)
-    go false e = refused_sound shapes a r TaskField effect.Stuck
+    go : (b known : Bool) → is_plain access ≡ b
+        → IsSoundFor shapes (sets a r (if b && known then Ok (Num (results.loaded_range access)) else Err TaskField)) (if b then set_register_by_answer m r (effect.Load t f) else effect.Stuck)
+    go true true e = answer_sound shapes a m r (Num (results.loaded_range access)) (effect.Load t f) h (λ v fits. field_stands m.maps t f access v e wide fits)
+    go true false e = refused_sound shapes a r TaskField (set_register_by_answer m r (effect.Load t f))
+    go false known e = refused_sound shapes a r TaskField effect.Stuck
 
-load_in : (shapes : List Shape) (a : AbsState) (m : Machine) (r : ℕ) (access : Access) (area : Area) (to : Location) → IsMember shapes a m
-    → Means m.maps (size_bytes (access_size access)) area to → IsSoundFor shapes (sets a r (kind_in a access area)) (load_effect m r access to)
-load_in shapes a m r access (OnStack at) (location.OnStack to) h g =
+load_in : (by : Rules) (shapes : List Shape) (a : AbsState) (m : Machine) (r : ℕ) (access : Access) (area : Area) (to : Location) → IsMember shapes a m
+    → Means m.maps (size_bytes (access_size access)) area to → IsSoundFor shapes (sets a r (kind_in by a access area)) (load_effect m r access to)
+load_in by shapes a m r access (OnStack at) (location.OnStack to) h g =
     rw (← g.0) (set_sound shapes a m r (loaded_kind (cell_at a (at / 8)) access (at % 8)) (load m.stack access at) h
     (loads m.maps (cell_at a (at / 8)) m.stack access at (h.cells (at / 8)) (fits_cell (access_size access) at g.1)))
-load_in shapes a m r access (OnStack at) to h g = absurd g
-load_in shapes a m r access InElement (location.InElement k i at) h g =
+load_in by shapes a m r access (OnStack at) to h g = absurd g
+load_in by shapes a m r access InElement (location.InElement k i at) h g =
     set_sound shapes a m r (Ok (Num (results.loaded_range access))) (Some (value.Number (read_as access (number_at (element m.maps k i) at (size_bytes (access_size access)))))) h
     ((loads_are_sound access).kept (number_at (element m.maps k i) at (size_bytes (access_size access))) (element_below (element m.maps k i) at (size_bytes (access_size access)) (h.maps.bytes k i)))
-load_in shapes a m r access InElement to h g = absurd g
-load_in shapes a m r access (InTask f) (location.InTask t e) h g = field_loaded shapes a m r access t e h (ap field_width (sym g.0) ∙ g.1)
-load_in shapes a m r access (InTask f) to h g = absurd g
+load_in by shapes a m r access InElement to h g = absurd g
+load_in by shapes a m r access (InTask f) (location.InTask t e) h g = rw g.0 (field_loaded by shapes a m r access t e h (ap field_width (sym g.0) ∙ g.1))
+load_in by shapes a m r access (InTask f) to h g = absurd g
 
 -- the rule of loads is sound
-pub load_sound : (shapes : List Shape) (a : AbsState) (m : Machine) (access : Access) (d r : Register) (offset : ℤ) → IsProper a → IsMember shapes a m
-    → IsSoundFor shapes (sets a (number d) (load_kind shapes a access r offset)) (load_effect m (number d) access (address m.maps (m.registers (number r)) offset (size_bytes (access_size access))))
-load_sound shapes a m access d r offset p h =
+pub load_sound : (c : Context) (a : AbsState) (m : Machine) (access : Access) (d r : Register) (offset : ℤ) → IsProper a → IsMember c.defs a m
+    → IsSoundFor c.defs (sets a (number d) (load_kind c a access r offset)) (load_effect m (number d) access (address m.maps (m.registers (number r)) offset (size_bytes (access_size access))))
+load_sound c a m access d r offset p h =
     let n = size_bytes (access_size access) in
     let to = address m.maps (m.registers (number r)) offset n in
     checked m.maps (usable (kind_at a (number r))) (m.registers (number r))
-    (λ base. area_of shapes base offset n >>= λ area. kind_in a access area)
-    (λ res. IsSoundFor shapes (sets a (number d) res) (load_effect m (number d) access to)) (λ why. refused_sound shapes a (number d) why (load_effect m (number d) access to))
-    (register_allows shapes a m r p h)
-    (λ base ub pb hb. area_cases m.maps n (area_of shapes base offset n) to (λ area. kind_in a access area)
-    (λ res. IsSoundFor shapes (sets a (number d) res) (load_effect m (number d) access to)) (λ why. refused_sound shapes a (number d) why (load_effect m (number d) access to))
-    (area_found shapes m.maps base (m.registers (number r)) offset (access_size access) h.maps pb hb)
-    (λ area means. load_in shapes a m (number d) access area to h means))
+    (λ base. area_of c.defs base offset n >>= λ area. kind_in c.rules a access area)
+    (λ res. IsSoundFor c.defs (sets a (number d) res) (load_effect m (number d) access to)) (λ why. refused_sound c.defs a (number d) why (load_effect m (number d) access to))
+    (register_allows c.defs a m r p h)
+    (λ base ub pb hb. area_cases m.maps n (area_of c.defs base offset n) to (λ area. kind_in c.rules a access area)
+    (λ res. IsSoundFor c.defs (sets a (number d) res) (load_effect m (number d) access to)) (λ why. refused_sound c.defs a (number d) why (load_effect m (number d) access to))
+    (area_found c.defs m.maps base (m.registers (number r)) offset (access_size access) h.maps pb hb)
+    (λ area means. load_in c.rules c.defs a m (number d) access area to h means))
 
 -- ---- stores
 

@@ -1,5 +1,5 @@
 -- Helper calls: what the checks pass the helper takes, and the state after a call.
-use Rattle.std.proofs.Common.{◌≡◌, ℕ, ◌+◌, ◌*◌, ◌/◌, ◌%◌, ◌≤◌, Bool, true, false, ◌&&◌, nat_lt, pos, List, [], ◌∷◌, length, Option, Some, None, is_some, Result, Ok, Err, if◌then◌else◌, refl, ◌∙◌, arith}
+use Rattle.std.proofs.Common.{◌≡◌, ℕ, ◌+◌, ◌*◌, ◌/◌, ◌%◌, ◌≤◌, Bool, true, false, ◌&&◌, nat_lt, pos, List, [], ◌∷◌, length, Option, Some, None, is_some, Result, Ok, Err, if◌then◌else◌, MatchBool, ◌^◌, refl, ◌∙◌, arith}
 use Rattle.std.proofs.lemmas.Bool.{and_parts, and_from, lt-ltb, ltb-true}
 use Rattle.scx_isa_semantics.specs.declared.operations.Access.TheVariants as access
 use Rattle.scx_isa_semantics.specs.declared.operations.Size.TheVariants as sizes
@@ -14,7 +14,8 @@ use Rattle.scx_isa_semantics.specs.declared.values.Value.TheVariants as value
 use Rattle.scx_isa_semantics.specs.declared.values.Pointer.TheVariants as pointer
 use Rattle.scx_isa_semantics.specs.Arithmetic.{at_distance}
 use Rattle.scx_isa_semantics.specs.Memory.{Stack, stack_size, aligned_within, load}
-use Rattle.scx_isa_semantics.specs.HostTables.{parameters, is_known, is_allowed, if_known}
+use Rattle.scx_isa_semantics.specs.HostTables.{parameters, answers_task, is_known, is_allowed, if_known}
+use Rattle.scx_isa_semantics.specs.Runs.{IsNumberBelow, IsTaskOrNull}
 use Rattle.scx_isa_semantics.specs.Elements.{Maps, elements, element}
 use Rattle.scx_isa_semantics.specs.Locations as location
 use Rattle.scx_isa_semantics.specs.Locations.{on_stack, in_element, address}
@@ -164,14 +165,18 @@ look_up_sound shapes a m k v key h g t s = absurd (cc)
 
 -- ---- calls
 
+-- a helper's answer is of the kind that it answers
+answer_stands : (maps : Maps) (b : Bool) (v : Value) → MatchBool b (IsTaskOrNull v) (IsNumberBelow (2 ^ 64) v) → Stands maps (if b then TaskOrNull else Num all) v
+answer_stands maps true v fits = task_or_null_fits maps v fits
+answer_stands maps false v fits = number_stands maps v fits
+
 called_sound : (shapes : List Shape) (h : Helper) (a : AbsState) (m : Machine) → IsMember shapes a m → takes_all m (parameters h) 1 ≡ true
     → IsSoundFor shapes (goes_on (rules.after_call a (answer_kind h (kind_at a 1)))) (call_effect m h)
 called_sound shapes helper.MapLookupElem a m g t =
     let map = and_parts (meaning.takes m parameter.Map (m.registers 1)) (meaning.takes m parameter.Key (m.registers 2) && true) t in
     let second = and_parts (is_some (key m (m.registers 2))) true map.1 in
     look_up_sound shapes a m (kind_at a 1) (m.registers 1) (key m (m.registers 2)) g (g.registers 1) map.0 second.0
-called_sound shapes helper.TaskByPid a m g t = λ v fits. after_member shapes a m TaskOrNull v g (task_or_null_fits m.maps v fits)
-called_sound shapes h a m g t = λ v fits. after_member shapes a m (Num all) v g (number_stands m.maps v fits)
+called_sound shapes h a m g t = λ v fits. after_member shapes a m (if answers_task h then TaskOrNull else Num all) v g (answer_stands m.maps (answers_task h) v fits)
 
 allowed_sound : (shapes : List Shape) (h : Helper) (a : AbsState) (m : Machine) (r : Result (Unit {0}) Why) (b : Bool) → IsMember shapes a m → Passes r b → takes_all m (parameters h) 1 ≡ b
     → IsSoundFor shapes (r >>= λ fine. goes_on (rules.after_call a (answer_kind h (kind_at a 1)))) (if b then call_effect m h else effect.Stuck)

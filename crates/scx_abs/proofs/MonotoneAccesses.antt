@@ -12,10 +12,12 @@ use Rattle.scx_isa_semantics.specs.Registers.{number}
 use Rattle.scx_isa_semantics.specs.Arithmetic.{at_distance}
 use Rattle.scx_isa_semantics.specs.Memory.{size_bytes, access_size, stack_size}
 use Rattle.scx_isa_semantics.specs.declared.host_tables.Field.{Field}
-use Rattle.scx_isa_semantics.specs.HostTables.{is_writable, field_at}
+use Rattle.scx_isa_semantics.specs.HostTables.{is_writable, is_known_field, field_at}
+use Rattle.scx_isa_semantics.specs.declared.rules.Rules.{Rules}
 use Rattle.scx_isa_semantics.specs.Meaning.{is_plain}
 use Rattle.scx_isa_encoding.specs.Spelling.{IsOperand}
 use Rattle.scx_maps.specs.declared.shape.Shape.{Shape}
+use Rattle.scx_vm.specs.declared.context.Context.{Context}
 use Rattle.scx_abs.specs.declared.faults.Why.{Why}
 use Rattle.scx_abs.specs.declared.faults.Why.TheVariants.{UnwrittenStack, OutOfBounds, Misaligned, TaskField}
 use Rattle.scx_abs_ranges.specs.declared.ranges.Range.{Range}
@@ -147,24 +149,24 @@ loaded_monotone (Pointer k) (Bytes t) a j le h = absurd h
 loaded_monotone (Pointer k) (Pointer l) access.DoubleWord j le h = h
 loaded_monotone (Pointer k) (Pointer l) a j le h = tt
 
-kind_in_monotone : (b a : AbsState) (access : Access) (x y : Area) → CoversState b a → SameArea (size_bytes (access_size access)) x y → PassesToo CoversKind (kind_in b access x) (kind_in a access y)
-kind_in_monotone b a access x (OnStack at) h g =
+kind_in_monotone : (by : Rules) (b a : AbsState) (access : Access) (x y : Area) → CoversState b a → SameArea (size_bytes (access_size access)) x y → PassesToo CoversKind (kind_in by b access x) (kind_in by a access y)
+kind_in_monotone by b a access x (OnStack at) h g =
     rw g.0 (loaded_monotone (cell_at b (at / 8)) (cell_at a (at / 8)) access (at % 8) (fits_cell (access_size access) at g.1.aligned) (h.cells (at / 8)))
-kind_in_monotone b a access x InElement h g = rw g.0 (kind_itself (Num (loaded_range access)))
-kind_in_monotone b a access x (InTask f) h g =
-    rw g.0 (elim (is_plain access) as (λ t. PassesToo CoversKind (if t then Ok (Num (loaded_range access)) else Err TaskField) (if t then Ok (Num (loaded_range access)) else Err TaskField))
+kind_in_monotone by b a access x InElement h g = rw g.0 (kind_itself (Num (loaded_range access)))
+kind_in_monotone by b a access x (InTask f) h g =
+    rw g.0 (elim (is_plain access && is_known_field f by) as (λ t. PassesToo CoversKind (if t then Ok (Num (loaded_range access)) else Err TaskField) (if t then Ok (Num (loaded_range access)) else Err TaskField))
     [ true ↦ kind_itself (Num (loaded_range access)) | false ↦ tt ])
 
 -- loads
-pub load_monotone : (shapes : List Shape) (b a : AbsState) (access : Access) (r : Register) (offset : ℤ) → IsProper b → IsProper a → CoversState b a
-    → PassesToo CoversKind (load_kind shapes b access r offset) (load_kind shapes a access r offset)
-load_monotone shapes b a access r offset q p h =
+pub load_monotone : (c : Context) (b a : AbsState) (access : Access) (r : Register) (offset : ℤ) → IsProper b → IsProper a → CoversState b a
+    → PassesToo CoversKind (load_kind c b access r offset) (load_kind c a access r offset)
+load_monotone c b a access r offset q p h =
     let n = size_bytes (access_size access) in
     passes_then CoversUsable CoversKind (usable (kind_at b (number r))) (usable (kind_at a (number r)))
-    (λ j. area_of shapes j offset n >>= λ x. kind_in b access x) (λ j. area_of shapes j offset n >>= λ x. kind_in a access x)
+    (λ j. area_of c.defs j offset n >>= λ x. kind_in c.rules b access x) (λ j. area_of c.defs j offset n >>= λ x. kind_in c.rules a access x)
     (registers.read_monotone b a r q p h)
-    (λ j k g. passes_then (SameArea n) CoversKind (area_of shapes j offset n) (area_of shapes k offset n) (λ x. kind_in b access x) (λ x. kind_in a access x)
-    (area_monotone shapes j k offset (access_size access) g) (λ x y f. kind_in_monotone b a access x y h f))
+    (λ j k g. passes_then (SameArea n) CoversKind (area_of c.defs j offset n) (area_of c.defs k offset n) (λ x. kind_in c.rules b access x) (λ x. kind_in c.rules a access x)
+    (area_monotone c.defs j k offset (access_size access) g) (λ x y f. kind_in_monotone c.rules b a access x y h f))
 
 -- ---- stores
 

@@ -7,13 +7,13 @@ use Rattle.scx_isa_semantics.specs.declared.host_tables.Helper.{Helper}
 use Rattle.scx_isa_semantics.specs.declared.host_tables.Helper.TheVariants as helper
 use Rattle.scx_isa_semantics.specs.declared.host_tables.Parameter.{Parameter}
 use Rattle.scx_isa_semantics.specs.declared.host_tables.Parameter.TheVariants as parameter
-use Rattle.scx_isa_semantics.specs.HostTables.{parameters, is_allowed}
+use Rattle.scx_isa_semantics.specs.HostTables.{parameters, answers_task, is_allowed}
 use Rattle.scx_maps.specs.declared.shape.Shape.{Shape}
 use Rattle.scx_abs.specs.declared.faults.Why.TheVariants.{HelperNotHere}
 use Rattle.scx_abs_ranges.specs.Ranges.{all}
 use Rattle.scx_abs.specs.declared.kinds.Kind.{Kind}
 use Rattle.scx_abs.specs.declared.kinds.Kind.TheVariants as kind
-use Rattle.scx_abs.specs.declared.kinds.Kind.TheVariants.{Unusable, Num, Elem, Task, MapRef}
+use Rattle.scx_abs.specs.declared.kinds.Kind.TheVariants.{Unusable, Num, Elem, Task, TaskOrNull, MapRef}
 use Rattle.scx_abs.specs.declared.states.AbsState.{AbsState}
 use Rattle.scx_abs.specs.Kinds.{CoversKind, IsProperKind}
 use Rattle.scx_abs.specs.Cells.{written_in}
@@ -73,8 +73,7 @@ element_of_monotone j k h = tt
 
 answer_monotone : (h : Helper) (j k : Kind) → CoversKind j k → CoversKind (answer_kind h j) (answer_kind h k)
 answer_monotone helper.MapLookupElem j k g = element_of_monotone j k g
-answer_monotone helper.TaskByPid j k g = tt
-answer_monotone h j k g = kind_itself (Num all)
+answer_monotone h j k g = kind_itself (if answers_task h then TaskOrNull else Num all)
 
 after_monotone : (b a : AbsState) (j k : Kind) → IsProper a → CoversState b a → CoversKind j k → CoversState (after_call b j) (after_call a k)
 after_monotone b a j k p h g =

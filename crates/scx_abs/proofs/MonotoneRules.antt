@@ -44,7 +44,7 @@ rules_monotone c (insn.LoadImmediate d low_half high_half) b a fits q p h =
     sets_monotone b a d (Ok k) (Ok k) p h (kind_itself k)
 rules_monotone c (insn.LoadMapReference d k) b a fits q p h = sets_monotone b a d (map_kind c.defs k) (map_kind c.defs k) p h (passes_itself CoversKind (map_kind c.defs k) kind_itself)
 rules_monotone c (insn.Load access d r offset) b a fits q p h =
-    sets_monotone b a d (load_kind c.defs b access r offset) (load_kind c.defs a access r offset) p h (load_monotone c.defs b a access r offset q p h)
+    sets_monotone b a d (load_kind c b access r offset) (load_kind c a access r offset) p h (load_monotone c b a access r offset q p h)
 rules_monotone c (insn.Store s r offset x) b a fits q p h = store_monotone c.defs b a s r offset x fits.1 q p h
 rules_monotone c (insn.JumpIf w k r x offset) b a fits q p h = jump_monotone b a w k r x fits.1 q p h
 rules_monotone c (insn.Goto offset) b a fits q p h = record { on = tt; jump = h }

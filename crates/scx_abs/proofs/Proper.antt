@@ -29,10 +29,12 @@ use Rattle.scx_isa_semantics.specs.Memory.{size_bytes, access_size, stack_size}
 use Rattle.scx_isa_semantics.specs.Meaning.{pointer_step, is_plain}
 use Rattle.scx_isa_semantics.proofs.Numbers.{immediate_below, wide_immediate_below}
 use Rattle.scx_isa_encoding.specs.Spelling.{IsOperand}
-use Rattle.scx_isa_semantics.specs.HostTables.{is_writable, helper_known, answers, parameters, is_allowed}
+use Rattle.scx_isa_semantics.specs.HostTables.{is_writable, is_known_field, helper_known, answers, answers_task, parameters, is_allowed}
+use Rattle.scx_isa_semantics.specs.declared.rules.Rules.{Rules}
 use Rattle.scx_maps.specs.declared.shape.Shape.{Shape}
+use Rattle.scx_vm.specs.declared.context.Context.{Context}
 use Rattle.scx_abs_ranges.specs.declared.ranges.Range.{Range}
-use Rattle.scx_abs_ranges.specs.Ranges.{IsWellFormed, IsRange, CoversRange, join_ranges, single, is_single}
+use Rattle.scx_abs_ranges.specs.Ranges.{IsWellFormed, IsRange, CoversRange, all, join_ranges, single, is_single}
 use Rattle.scx_abs_ranges.specs.Offsets as offsets
 use Rattle.scx_abs_ranges.specs.OffsetLaws.{IsInElement}
 use Rattle.scx_abs_ranges.proofs.Order.{join_formed}
@@ -281,16 +283,16 @@ loaded_is_proper (Bytes b) a j p = elim (all_written b j (size_bytes (access_siz
 loaded_is_proper (Pointer k) access.DoubleWord j p = p
 loaded_is_proper (Pointer k) a j p = tt
 
-kind_in_proper : (a : AbsState) (access : Access) (x : Area) → IsProper a → IsKind (kind_in a access x)
-kind_in_proper a access (OnStack at) p = loaded_is_proper (cell_at a (at / 8)) access (at % 8) (cell_keeps a (at / 8) p)
-kind_in_proper a access InElement p = load_range access
-kind_in_proper a access (InTask f) p = elim (is_plain access) as (λ t. IsKind (if t then Ok (Num (loaded_range access)) else Err TaskField)) [ true ↦ load_range access | false ↦ tt ]
+kind_in_proper : (by : Rules) (a : AbsState) (access : Access) (x : Area) → IsProper a → IsKind (kind_in by a access x)
+kind_in_proper by a access (OnStack at) p = loaded_is_proper (cell_at a (at / 8)) access (at % 8) (cell_keeps a (at / 8) p)
+kind_in_proper by a access InElement p = load_range access
+kind_in_proper by a access (InTask f) p = elim (is_plain access && is_known_field f by) as (λ t. IsKind (if t then Ok (Num (loaded_range access)) else Err TaskField)) [ true ↦ load_range access | false ↦ tt ]
 
-load_is_proper : (shapes : List Shape) (a : AbsState) (access : Access) (r : Register) (offset : ℤ) → IsProper a → IsKind (load_kind shapes a access r offset)
-load_is_proper shapes a access r offset p =
+load_is_proper : (c : Context) (a : AbsState) (access : Access) (r : Register) (offset : ℤ) → IsProper a → IsKind (load_kind c a access r offset)
+load_is_proper c a access r offset p =
     let n = size_bytes (access_size access) in
-    kind_then (usable (kind_at a (number r))) (λ base. area_of shapes base offset n >>= λ x. kind_in a access x)
-    (λ base. kind_then (area_of shapes base offset n) (λ x. kind_in a access x) (λ x. kind_in_proper a access x p))
+    kind_then (usable (kind_at a (number r))) (λ base. area_of c.defs base offset n >>= λ x. kind_in c.rules a access x)
+    (λ base. kind_then (area_of c.defs base offset n) (λ x. kind_in c.rules a access x) (λ x. kind_in_proper c.rules a access x p))
 
 -- ---- what flows on
 
@@ -379,8 +381,7 @@ element_of_proper k = tt
 
 answer_proper : (h : Helper) (k : Kind) → IsProperKind (answer_kind h k)
 answer_proper helper.MapLookupElem k = element_of_proper k
-answer_proper helper.TaskByPid k = tt
-answer_proper h k = all_range
+answer_proper h k = elim (answers_task h) as (λ t. IsProperKind (if t then TaskOrNull else Num all)) [ true ↦ tt | false ↦ all_range ]
 
 call_proper : (shapes : List Shape) (c : Callback) (h : Option Helper) (a : AbsState) → IsProper a → FlowsIn (call_rule shapes c h a)
 call_proper shapes c None a p = tt
@@ -408,7 +409,7 @@ rule_proper c (insn.LoadImmediate d low_half high_half) a fits p =
     sets_proper a (number d) (Ok (Num (single (wide_immediate low_half high_half)))) p
     (single_range (wide_immediate low_half high_half) (wide_immediate_below low_half high_half fits.0 fits.1))
 rule_proper c (insn.LoadMapReference d k) a fits p = sets_proper a (number d) (map_kind c.defs k) p (map_is_proper c.defs k)
-rule_proper c (insn.Load access d r offset) a fits p = sets_proper a (number d) (load_kind c.defs a access r offset) p (load_is_proper c.defs a access r offset p)
+rule_proper c (insn.Load access d r offset) a fits p = sets_proper a (number d) (load_kind c a access r offset) p (load_is_proper c a access r offset p)
 rule_proper c (insn.Store s r offset x) a fits p =
     then_proper (usable (kind_at a (number r))) (λ base. operand_kind a Bits64 x >>= λ k. area_of c.defs base offset (size_bytes s) >>= λ t. stored_in a s k t)
     (λ base. then_kept (operand_kind a Bits64 x) (λ k. area_of c.defs base offset (size_bytes s) >>= λ t. stored_in a s k t) (operand_is_proper a Bits64 x fits.1 p)

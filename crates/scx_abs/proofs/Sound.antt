@@ -51,7 +51,7 @@ rules_sound c (insn.LoadImmediate d low_half high_half) a m fits p h =
     set_sound c.defs a m (number d) (Ok (Num (single (wide_immediate low_half high_half)))) (Some (value.Number (wide_immediate low_half high_half))) h (in_single (wide_immediate low_half high_half))
 rules_sound c (insn.LoadMapReference d k) a m fits p h =
     set_sound c.defs a m (number d) (map_kind c.defs k) (map_reference m.maps k) h (map_gives c.defs m.maps k h.maps)
-rules_sound c (insn.Load access d r offset) a m fits p h = load_sound c.defs a m access d r offset p h
+rules_sound c (insn.Load access d r offset) a m fits p h = load_sound c a m access d r offset p h
 rules_sound c (insn.Store s r offset x) a m fits p h = store_sound c.defs a m s r offset x fits.1 p h
 rules_sound c (insn.JumpIf w k r x offset) a m fits p h = jump_sound c.defs a m w k r x fits.1 p h
 rules_sound c (insn.Goto offset) a m fits p h = h

@@ -7,7 +7,7 @@ use Rattle.scx_isa_semantics.specs.declared.host_tables.Helper.{Helper}
 use Rattle.scx_isa_semantics.specs.declared.host_tables.Helper.TheVariants as helper
 use Rattle.scx_isa_semantics.specs.declared.host_tables.Parameter.{Parameter}
 use Rattle.scx_isa_semantics.specs.declared.host_tables.Parameter.TheVariants as parameter
-use Rattle.scx_isa_semantics.specs.HostTables.{parameters, is_allowed}
+use Rattle.scx_isa_semantics.specs.HostTables.{parameters, answers_task, is_allowed}
 use Rattle.scx_isa_semantics.specs.Memory.{stack_size}
 use Rattle.scx_maps.specs.declared.shape.Shape.{Shape}
 use Rattle.scx_abs_ranges.specs.Ranges.{all}
@@ -94,8 +94,7 @@ element_of k = Unusable
 -- the kind of a helper's answer, by that of its first argument
 abbrev pub answer_kind : Helper → Kind → Kind
 answer_kind helper.MapLookupElem k = element_of k
-answer_kind helper.TaskByPid k = TaskOrNull
-answer_kind h k = Num all
+answer_kind h k = if answers_task h then TaskOrNull else Num all
 
 -- ---- calls
 

@@ -2,7 +2,7 @@
 -- and what flows on from it. A check that fails gives its refusal, and the checks behind it aren't
 -- looked at. A register that is written is looked at first, then the registers that are read, the
 -- destination before the source, then the address, and then the value that is stored.
-use Rattle.std.specs.Prelude.{ℕ, ◌/◌, ◌%◌, ℤ, pos, unsigned_abs, Bool, true, false, nat_eq, nat_lt, List, length, Option, Some, None, option_map, Result, Ok, Err, if◌then◌else◌}
+use Rattle.std.specs.Prelude.{ℕ, ◌/◌, ◌%◌, ℤ, pos, unsigned_abs, Bool, true, false, ◌&&◌, nat_eq, nat_lt, List, length, Option, Some, None, option_map, Result, Ok, Err, if◌then◌else◌}
 use Rattle.scx_isa_semantics.specs.declared.instructions.Insn.{Insn}
 use Rattle.scx_isa_semantics.specs.declared.instructions.Insn.TheVariants as insn
 use Rattle.scx_isa_semantics.specs.declared.instructions.Operand.{Operand}
@@ -22,7 +22,8 @@ use Rattle.scx_isa_semantics.specs.Registers.{number}
 use Rattle.scx_isa_semantics.specs.Arithmetic.{at_distance, wide_immediate}
 use Rattle.scx_isa_semantics.specs.Memory.{size_bytes, access_size, stack_size}
 use Rattle.scx_isa_semantics.specs.declared.host_tables.Field.{Field}
-use Rattle.scx_isa_semantics.specs.HostTables.{field_at, is_writable, helper_known, answers}
+use Rattle.scx_isa_semantics.specs.HostTables.{field_at, is_known_field, is_writable, helper_known, answers}
+use Rattle.scx_isa_semantics.specs.declared.rules.Rules.{Rules}
 use Rattle.scx_isa_semantics.specs.Meaning.{pointer_step, is_plain}
 use Rattle.scx_maps.specs.declared.shape.Shape.{Shape}
 use Rattle.scx_vm.specs.declared.context.Context.{Context}
@@ -157,19 +158,21 @@ loaded_kind (Bytes set) a j =
 loaded_kind (Pointer k) access.DoubleWord j = Ok (kind_of k)
 loaded_kind (Pointer k) a j = Err UnwrittenStack
 
--- Elements and fields hold numbers. A field is loaded without a sign.
-abbrev pub kind_in : AbsState → Access → Area → Result Kind Why
-kind_in a access (OnStack at) = loaded_kind (cell_at a (at / 8)) access (at % 8)
-kind_in a access InElement = Ok (Num (loaded_range access))
-kind_in a access (InTask f) =
-    if is_plain access then Ok (Num (loaded_range access)) else Err TaskField
+-- Elements and fields hold numbers. A field is loaded without a sign, where a machine by these
+-- rules has it.
+abbrev pub kind_in : Rules → AbsState → Access → Area → Result Kind Why
+kind_in by a access (OnStack at) = loaded_kind (cell_at a (at / 8)) access (at % 8)
+kind_in by a access InElement = Ok (Num (loaded_range access))
+kind_in by a access (InTask f) =
+    if is_plain access && is_known_field f by then Ok (Num (loaded_range access))
+    else Err TaskField
 
 -- what a load leaves, from the address in a register with an offset added
-abbrev pub load_kind : List Shape → AbsState → Access → Register → ℤ → Result Kind Why
-load_kind shapes a access r offset = do
+abbrev pub load_kind : Context → AbsState → Access → Register → ℤ → Result Kind Why
+load_kind c a access r offset = do
   base ← usable (kind_at a (number r))
-  area ← area_of shapes base offset (size_bytes (access_size access))
-  kind_in a access area
+  area ← area_of c.defs base offset (size_bytes (access_size access))
+  kind_in c.rules a access area
 
 -- the cell of a stored pointer
 abbrev pub pointer_cell : Option Held → Result Cell Why
@@ -284,7 +287,7 @@ rule c (insn.LoadImmediate d low_half high_half) a =
     sets a (number d) (Ok (Num (single (wide_immediate low_half high_half))))
 rule c (insn.LoadMapReference d k) a = sets a (number d) (map_kind c.defs k)
 rule c (insn.Load access d r offset) a =
-    sets a (number d) (load_kind c.defs a access r offset)
+    sets a (number d) (load_kind c a access r offset)
 rule c (insn.Store s r offset x) a = store_rule c.defs a s r offset x
 rule c (insn.JumpIf w k r x offset) a = jump_rule a w k r x
 rule c (insn.Goto offset) a = Ok (flows None (Some a))

@@ -140,7 +140,7 @@ fn answer_kind(helper: Helper, first: Kind) -> Kind
 {
     match helper {
         Helper::MapLookupElem => element_of(first),
-        Helper::TaskByPid => Kind::TaskOrNull,
+        _ if helper.answers_task() => Kind::TaskOrNull,
         _ => Kind::Num(Numbers::all()),
     }
 }

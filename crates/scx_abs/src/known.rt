@@ -14,6 +14,7 @@ use crate::memory::Area;
 use crate::states::{AbsState, CELLS, start};
 use scx_isa::{Access, Callback, Operand, Operation, Register, Size, Width};
 use scx_maps::MapDefs;
+use scx_vm::Context;
 use std::alloc::{AllocError, Global};
 use std::marker::Model;
 
@@ -104,14 +105,16 @@ impl Known {
         destination: Register,
         base: Register,
         offset: i16,
-        defs: &MapDefs,
+        context: &Context,
     ) -> Result<Area, Why>
         ensures done { done_on self.new result
-            ≡ sets self.old (number destination) (load_kind defs.now self.old access base offset) }
-        ensures area { IfOk result (λ area. area_of defs.now (kind_at self.old (number base)) offset
+            ≡ sets self.old (number destination)
+            (load_kind context.now self.old access base offset) }
+        ensures area { IfOk result (λ area. area_of context.now.defs
+            (kind_at self.old (number base)) offset
             (size_bytes (access_size access)) ≡ Ok area) }
     {
-        self.state.load(access, destination, base, offset, defs)
+        self.state.load(access, destination, base, offset, context)
     }
 
     /// A store, where its checks pass. The memory that it takes is answered.

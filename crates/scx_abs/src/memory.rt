@@ -19,9 +19,10 @@ use crate::kinds::{CELL_BYTES, Cell, Held, Kind, all_written, marked};
 use crate::offsets::{check_offsets, element_size, offset_for};
 use crate::states::{AbsState, CELLS};
 use scx_abs_ranges::Numbers;
-use scx_isa::{Access, Field, Operand, Register, STACK_SIZE, Size, Width};
+use scx_isa::{Access, Field, Operand, Register, Rules, STACK_SIZE, Size, Width};
 use scx_isa_semantics::{immediate, shifted};
 use scx_maps::MapDefs;
+use scx_vm::Context;
 
 /// The memory that an address means.
 #[derive(Clone, Copy)]
@@ -45,11 +46,13 @@ impl AbsState {
         destination: Register,
         base: Register,
         offset: i16,
-        defs: &MapDefs,
+        context: &Context,
     ) -> Result<Area, Why>
         ensures done { done_on self.new result
-            ≡ sets self.old (number destination) (load_kind defs.now self.old access base offset) }
-        ensures area { IfOk result (λ area. area_of defs.now (kind_at self.old (number base)) offset
+            ≡ sets self.old (number destination)
+            (load_kind context.now self.old access base offset) }
+        ensures area { IfOk result (λ area. area_of context.now.defs
+            (kind_at self.old (number base)) offset
             (size_bytes (access_size access)) ≡ Ok area) }
         ensures cells { self.new.cells ≡ self.old.cells }
     {
@@ -57,8 +60,8 @@ impl AbsState {
             return Err(Why::WritesFrame);
         }
         let base = usable(self.kind(base))?;
-        let area = area_of(base, offset, access.size(), defs)?;
-        let kind = kind_in(self, access, area)?;
+        let area = area_of(base, offset, access.size(), &context.defs)?;
+        let kind = kind_in(self, access, area, context.rules)?;
         self.set(destination, kind);
         Ok(area)
     }
@@ -263,12 +266,12 @@ fn field_area(field: Option<Field>) -> Result<Area, Why>
     }
 }
 
-/// The kind that a load from there gives.
+/// The kind that a load from there gives, by these rules.
 #[inline(always)]
 #[tactic(auto, using(crate::proofs::Bytes::fits_cell))]
-fn kind_in(state: &AbsState, access: Access, area: Area) -> Result<Kind, Why>
+fn kind_in(state: &AbsState, access: Access, area: Area, rules: Rules) -> Result<Kind, Why>
     requires { IsAlignedOnStack (size_bytes (access_size access)) area }
-    ensures { result ≡ kind_in state.now access area }
+    ensures { result ≡ kind_in rules state.now access area }
 {
     match area {
         Area::OnStack(at) => {
@@ -276,7 +279,9 @@ fn kind_in(state: &AbsState, access: Access, area: Area) -> Result<Kind, Why>
             loaded_kind(state.cell(at / CELL_BYTES), access, at % CELL_BYTES)
         }
         Area::InElement => Ok(Kind::Num(Numbers::loaded(access))),
-        Area::InTask(_) if access.is_plain() => Ok(Kind::Num(Numbers::loaded(access))),
+        Area::InTask(field) if access.is_plain() && field.is_known(rules) => {
+            Ok(Kind::Num(Numbers::loaded(access)))
+        }
         Area::InTask(_) => Err(Why::TaskField),
     }
 }

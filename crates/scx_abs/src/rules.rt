@@ -57,7 +57,7 @@ pub fn transfer(state: &AbsState, insn: &Insn, context: &Context) -> Result<Next
             on(state, assigned(state, destination, map_kind(map, defs)))
         }
         Insn::Load(access, destination, base, offset) => {
-            loaded(state, access, destination, base, offset, defs)
+            loaded(state, access, destination, base, offset, context)
         }
         Insn::Store(size, base, offset, operand) => {
             stored(state, size, base, offset, operand, defs)
@@ -106,13 +106,13 @@ fn loaded(
     destination: Register,
     base: Register,
     offset: i16,
-    defs: &MapDefs,
+    context: &Context,
 ) -> Result<Next, Why>
     ensures { result
-        ≡ sets state.now (number destination) (load_kind defs.now state.now access base offset) }
+        ≡ sets state.now (number destination) (load_kind context.now state.now access base offset) }
 {
     let mut next = *state;
-    match next.load(access, destination, base, offset, defs) {
+    match next.load(access, destination, base, offset, context) {
         Ok(_) => Ok(goes_on(next)),
         Err(why) => Err(why),
     }

@@ -1,7 +1,8 @@
 //! The text of BPF instructions, in the dialect that clang and llvm-objdump print: tokens, the items that
-//! lines hold, and the canonical text of an instruction.
+//! lines hold, the canonical text of an instruction, and the names of helpers and fields.
 #![tactic(auto)]
 
+mod host_names;
 mod items;
 mod laws;
 mod lexer;
@@ -11,6 +12,7 @@ mod statements;
 mod symbols;
 mod words;
 
+pub use host_names::{field_name, helper_name};
 pub use items::{Item, Jump, Literal, Statement, Target, WrittenOperand};
 pub use laws::longest_token_is_read;
 pub use lexer::{Token, tokens};

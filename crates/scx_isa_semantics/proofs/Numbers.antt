@@ -1,6 +1,6 @@
 -- Numbers of a running program are below 2 ^ 64: what arithmetic makes of such numbers, what stands in
 -- an instruction, and what the host answers.
-use Rattle.std.proofs.Common.{◌≡◌, ℕ, zero, suc, ◌-◌, ◌/◌, ◌%◌, ◌^◌, ◌<◌, ◌≤◌, ℤ, pos, negsuc, neg_ℤ, unsigned_abs, FitsSigned, int_div, int_rem, Bool, true, false, nat_eq, nat_lt, List, if◌then◌else◌, refl, arith}
+use Rattle.std.proofs.Common.{◌≡◌, ℕ, zero, suc, ◌-◌, ◌/◌, ◌%◌, ◌^◌, ◌<◌, ◌≤◌, ℤ, pos, negsuc, neg_ℤ, unsigned_abs, FitsSigned, int_div, int_rem, Bool, true, false, nat_eq, nat_lt, List, if◌then◌else◌, MatchBool, refl, arith}
 use Rattle.std.proofs.Math.Nat.{div-le_self, mod-le}
 use Rattle.std.proofs.lemmas.Bool.{ltb-false}
 use Rattle.std.specs.Int.{w32, int_div_euclid}
@@ -22,9 +22,9 @@ use Rattle.scx_isa_semantics.specs.declared.host_tables.TaskId.{TaskId}
 use Rattle.scx_isa_semantics.specs.declared.host_tables.Field.{Field}
 use Rattle.scx_isa_semantics.specs.declared.host_tables.Field.TheVariants.{Slice, DsqVtime, RunNs}
 use Rattle.scx_isa_semantics.specs.declared.host_tables.Helper.{Helper}
-use Rattle.scx_isa_semantics.specs.declared.host_tables.Helper.TheVariants.{TaskByPid}
 use Rattle.scx_isa_semantics.specs.Effects.{Call, Load}
-use Rattle.scx_isa_semantics.specs.Runs.{Fits}
+use Rattle.scx_isa_semantics.specs.HostTables.{answers_task}
+use Rattle.scx_isa_semantics.specs.Runs.{Fits, IsTaskOrNull, IsNumberBelow}
 use Rattle.scx_isa_semantics.specs.Arithmetic.{bits, signed, unsigned, immediate, low, operate, compute, negative, sign_extension, low_bytes, reversed_bytes, byte_swapped, wide_immediate}
 
 -- ---- signed numbers
@@ -166,8 +166,11 @@ wide_immediate_below low_half high_half p q = omega (arith, ints)
 
 -- the answer of a helper
 pub helper_answer_below : (h : Helper) (arguments : List Value) (n : ℕ) → Fits (Call h arguments) (Number n) → n < 2 ^ 64
-helper_answer_below TaskByPid arguments n fits = omega (arith, fits)
-helper_answer_below h arguments n fits = fits
+helper_answer_below h arguments n = go (answers_task h)
+  where
+    go : (b : Bool) → MatchBool b (IsTaskOrNull (Number n)) (IsNumberBelow (2 ^ 64) (Number n)) → n < 2 ^ 64
+    go true fits = omega (arith, fits)
+    go false fits = fits
 
 -- what a field holds
 pub field_below : (t : TaskId) (f : Field) (n : ℕ) → Fits (Load t f) (Number n) → n < 2 ^ 64

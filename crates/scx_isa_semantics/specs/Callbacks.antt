@@ -1,18 +1,21 @@
 -- The callbacks of a policy, in order and by name, and tables with one value for each: the value
 -- of a callback, a test of all values, and a function applied to each up to its first failure.
-use Rattle.std.specs.Prelude.{◌≡◌, ℕ, Bool, true, false, ⊤, List, [], ◌∷◌, Option, Some, None, Result, Ok, Err, MatchBool, codes}
+use Rattle.std.specs.Prelude.{◌≡◌, ℕ, Bool, true, false, ⊤, List, [], ◌∷◌, Option, Some, None, Result, Ok, Err, MatchBool, codes, take}
 use denote.Ref.{Bor}
 use denote.Param.Members.{Shared}
 use Rattle.std.specs.Fn.{FnReturns}
 use Rattle.scx_isa_semantics.specs.declared.callbacks.Callback.{Callback}
 use Rattle.scx_isa_semantics.specs.declared.callbacks.Callback.TheVariants as callback
 use Rattle.scx_isa_semantics.specs.declared.per_callback.PerCallback.{PerCallback}
+use Rattle.scx_isa_semantics.specs.declared.rules.Rules.{Rules}
+use Rattle.scx_isa_semantics.specs.declared.rules.Rules.TheVariants as rules
 
 -- the callbacks of a policy, in the order in which its programs are read and verified
 abbrev pub callbacks : List Callback
 callbacks =
     callback.Init ∷ callback.Enable ∷ callback.SelectCpu ∷ callback.Enqueue ∷ callback.Dispatch
-    ∷ callback.Running ∷ callback.Stopping ∷ []
+    ∷ callback.Running ∷ callback.Stopping ∷ callback.Tick ∷ callback.Runnable ∷ callback.Quiescent
+    ∷ []
 
 -- the names of callbacks, as a policy file and a refusal spell them
 abbrev pub callback_name : Callback → List ℕ
@@ -24,21 +27,34 @@ callback_name callback.Enqueue = codes "enqueue"
 callback_name callback.Dispatch = codes "dispatch"
 callback_name callback.Running = codes "running"
 callback_name callback.Stopping = codes "stopping"
+callback_name callback.Tick = codes "tick"
+callback_name callback.Runnable = codes "runnable"
+callback_name callback.Quiescent = codes "quiescent"
+
+-- true if a policy by these rules may have the callback
+abbrev pub is_known_callback : Callback → Rules → Bool
+is_known_callback callback.Tick rules.Plain = false
+is_known_callback callback.Runnable rules.Plain = false
+is_known_callback callback.Quiescent rules.Plain = false
+is_known_callback c r = true
+
+-- how many come before this one
+abbrev pub place : Callback → ℕ
+place callback.Plain = 0
+place callback.Init = 0
+place callback.Enable = 1
+place callback.SelectCpu = 2
+place callback.Enqueue = 3
+place callback.Dispatch = 4
+place callback.Running = 5
+place callback.Stopping = 6
+place callback.Tick = 7
+place callback.Runnable = 8
+place callback.Quiescent = 9
 
 -- those before this one
 abbrev pub earlier : Callback → List Callback
-earlier callback.Plain = []
-earlier callback.Init = []
-earlier callback.Enable = callback.Init ∷ []
-earlier callback.SelectCpu = callback.Init ∷ callback.Enable ∷ []
-earlier callback.Enqueue = callback.Init ∷ callback.Enable ∷ callback.SelectCpu ∷ []
-earlier callback.Dispatch =
-    callback.Init ∷ callback.Enable ∷ callback.SelectCpu ∷ callback.Enqueue ∷ []
-earlier callback.Running =
-    callback.Init ∷ callback.Enable ∷ callback.SelectCpu ∷ callback.Enqueue ∷ callback.Dispatch ∷ []
-earlier callback.Stopping =
-    callback.Init ∷ callback.Enable ∷ callback.SelectCpu ∷ callback.Enqueue ∷ callback.Dispatch
-    ∷ callback.Running ∷ []
+earlier c = take (place c) callbacks
 
 -- the value of one callback, if there is one; a plain program has none
 abbrev pub at : {T : Type 0} → PerCallback (Option T) → Callback → Option T
@@ -50,6 +66,9 @@ at p callback.Enqueue = p.enqueue
 at p callback.Dispatch = p.dispatch
 at p callback.Running = p.running
 at p callback.Stopping = p.stopping
+at p callback.Tick = p.tick
+at p callback.Runnable = p.runnable
+at p callback.Quiescent = p.quiescent
 
 -- all values, with that of one callback set
 abbrev pub with_at : {T : Type 0} → PerCallback T → Callback → T → PerCallback T
@@ -61,6 +80,9 @@ with_at p callback.Enqueue x = record p { enqueue = x }
 with_at p callback.Dispatch x = record p { dispatch = x }
 with_at p callback.Running x = record p { running = x }
 with_at p callback.Stopping x = record p { stopping = x }
+with_at p callback.Tick x = record p { tick = x }
+with_at p callback.Runnable x = record p { runnable = x }
+with_at p callback.Quiescent x = record p { quiescent = x }
 
 -- no value for any callback
 abbrev pub none : {T : Type 0} → PerCallback (Option T)
@@ -72,6 +94,9 @@ none = record {
   dispatch = None;
   running = None;
   stopping = None;
+  tick = None;
+  runnable = None;
+  quiescent = None;
 }
 
 -- ---- tests

@@ -1,7 +1,9 @@
 ghost use Rattle.std.specs.Prelude.{◌≡◌, slice_get};
-ghost use Rattle.scx_isa_semantics.specs.Callbacks.{callback_name};
-ghost use Rattle.scx_isa_semantics.specs.HostTables.{answers};
+ghost use Rattle.scx_isa_semantics.specs.Callbacks.{callback_name, is_known_callback};
+ghost use Rattle.scx_isa_semantics.specs.HostTables.{answers, in_events};
 ghost use Rattle.scx_isa_semantics.specs.Arguments.{callback_arguments};
+
+use crate::rules::Rules;
 
 /// The role of a program: a callback of a scheduling policy (sched-ext.rst), or a plain program with
 /// no policy around it. Each line says when a callback is called, its arguments in r1 to r3 (it may
@@ -28,11 +30,20 @@ pub enum Callback {
     /// As a task leaves its CPU. r1: the task; r2: 1 if it stays runnable, else 0. It answers
     /// nothing.
     Stopping,
+    /// In a tick of a CPU, for the task that runs there, before its slice is looked at. r1: the
+    /// task. It answers nothing. Known by Linux rules alone, as the next two.
+    Tick,
+    /// As a task wakes, after `select_cpu` and before it waits anywhere. r1: the task; r2: 1. It
+    /// answers nothing.
+    Runnable,
+    /// As a task goes to sleep, after it left its CPU or its queue. r1: the task; r2: 1. It answers
+    /// nothing.
+    Quiescent,
 }
 
 /// The callbacks of a policy, in the order in which its programs are read and verified. A plain program
 /// isn't one.
-pub const CALLBACKS: [Callback; 7] = [
+pub const CALLBACKS: [Callback; 10] = [
     Callback::Init,
     Callback::Enable,
     Callback::SelectCpu,
@@ -40,6 +51,9 @@ pub const CALLBACKS: [Callback; 7] = [
     Callback::Dispatch,
     Callback::Running,
     Callback::Stopping,
+    Callback::Tick,
+    Callback::Runnable,
+    Callback::Quiescent,
 ];
 
 /// The kind of one argument of a callback.
@@ -59,13 +73,16 @@ impl Callback {
     {
         let kinds: &[ArgumentKind] = match self {
             Callback::Plain | Callback::Init => &[],
-            Callback::Enable | Callback::Running => &[ArgumentKind::Task],
+            Callback::Enable | Callback::Running | Callback::Tick => &[ArgumentKind::Task],
             Callback::SelectCpu => &[
                 ArgumentKind::Task,
                 ArgumentKind::Number,
                 ArgumentKind::Number,
             ],
-            Callback::Enqueue | Callback::Stopping => &[ArgumentKind::Task, ArgumentKind::Number],
+            Callback::Enqueue | Callback::Stopping | Callback::Runnable | Callback::Quiescent => &[
+                ArgumentKind::Task,
+                ArgumentKind::Number,
+            ],
             Callback::Dispatch => &[ArgumentKind::Number, ArgumentKind::TaskOrNull],
         };
         kinds.get(number).copied()
@@ -76,6 +93,26 @@ impl Callback {
         ensures { result ≡ answers self }
     {
         matches!(self, Callback::Plain | Callback::Init | Callback::SelectCpu)
+    }
+
+    /// True if it is called in events, and not as the policy begins.
+    pub fn in_events(self) -> bool
+        ensures { result ≡ in_events self }
+    {
+        !matches!(self, Callback::Plain | Callback::Init | Callback::Enable)
+    }
+
+    /// True if a policy by these rules may have it.
+    pub fn is_known(self, rules: Rules) -> bool
+        ensures { result ≡ is_known_callback self rules }
+    {
+        !matches!(
+            (self, rules),
+            (
+                Callback::Tick | Callback::Runnable | Callback::Quiescent,
+                Rules::Plain
+            )
+        )
     }
 
     /// Its name, as a policy file and a refusal spell it.
@@ -91,6 +128,9 @@ impl Callback {
             Callback::Dispatch => "dispatch",
             Callback::Running => "running",
             Callback::Stopping => "stopping",
+            Callback::Tick => "tick",
+            Callback::Runnable => "runnable",
+            Callback::Quiescent => "quiescent",
         }
     }
 }

@@ -2,7 +2,7 @@ ghost use Rattle.std.specs.Prelude.{◌≡◌, ◌<◌, IfSome, slice_get};
 ghost use Rattle.scx_isa_semantics.specs.declared.host_tables.TheConstants.{MAX_ARGUMENTS};
 ghost use Rattle.scx_isa_semantics.specs.Arithmetic.{at_distance};
 ghost use Rattle.scx_isa_semantics.specs.Memory.{size_bytes};
-ghost use Rattle.scx_isa_semantics.specs.HostTables.{field_at, is_writable, helper_at, helper_known, is_known, parameters, is_allowed};
+ghost use Rattle.scx_isa_semantics.specs.HostTables.{field_at, field_known, is_known_field, is_writable, helper_at, helper_known, is_known, is_plain_helper, parameters, answers_task, is_allowed};
 
 use crate::callbacks::Callback;
 use crate::operations::Size;
@@ -24,9 +24,12 @@ pub enum Field {
     Group,
     /// The run time of the task so far, in nanoseconds.
     RunNs,
+    /// A bit for each CPU on which the task may run. Known by Linux rules alone.
+    Cpus,
 }
 
-/// A function of the host that a program may call.
+/// A function of the host that a program may call. Those from `KickCpu` on are known by Linux rules
+/// alone.
 #[derive(Clone, Copy, PartialEq, Eq)]
 pub enum Helper {
     MapLookupElem,
@@ -39,8 +42,15 @@ pub enum Helper {
     CpuIdle,
     TaskByPid,
     DsqNrQueued,
-    /// Known by Linux rules alone.
     KickCpu,
+    SmpProcessorId,
+    Exit,
+    CpuCurr,
+    DsqPeek,
+    TaskRunning,
+    TaskCpu,
+    PickIdle,
+    ClaimIdle,
 }
 
 /// The most arguments that a helper takes, in r1 to r5.
@@ -72,8 +82,28 @@ impl Field {
             (24, Size::Word) => Some(Field::PrevCpu),
             (28, Size::Word) => Some(Field::Group),
             (32, Size::DoubleWord) => Some(Field::RunNs),
+            (40, Size::DoubleWord) => Some(Field::Cpus),
             _ => None,
         }
+    }
+
+    /// The field that an access of that size takes whole there, if a machine by these rules has it.
+    pub fn known(offset: i16, size: Size, rules: Rules) -> Option<Field>
+        ensures { result ≡ field_known rules (size_bytes size) (at_distance 0 offset) }
+    {
+        let field = Field::at(offset, size)?;
+        if field.is_known(rules) {
+            Some(field)
+        } else {
+            None
+        }
+    }
+
+    /// True if a machine by these rules has it.
+    pub fn is_known(self, rules: Rules) -> bool
+        ensures { result ≡ is_known_field self rules }
+    {
+        !matches!((self, rules), (Field::Cpus, Rules::Plain))
     }
 
     /// True if a program may store to it.
@@ -101,6 +131,14 @@ impl Helper {
             1007 => Some(Helper::TaskByPid),
             1008 => Some(Helper::DsqNrQueued),
             1009 => Some(Helper::KickCpu),
+            8 => Some(Helper::SmpProcessorId),
+            1010 => Some(Helper::Exit),
+            1011 => Some(Helper::CpuCurr),
+            1012 => Some(Helper::DsqPeek),
+            1013 => Some(Helper::TaskRunning),
+            1014 => Some(Helper::TaskCpu),
+            1015 => Some(Helper::PickIdle),
+            1016 => Some(Helper::ClaimIdle),
             _ => None,
         }
     }
@@ -121,7 +159,36 @@ impl Helper {
     pub fn is_known(self, rules: Rules) -> bool
         ensures { result ≡ is_known self rules }
     {
-        !matches!((self, rules), (Helper::KickCpu, Rules::Plain))
+        match rules {
+            Rules::Plain => self.is_plain(),
+            Rules::Linux => true,
+        }
+    }
+
+    /// True if a machine by plain rules has it.
+    fn is_plain(self) -> bool
+        ensures { result ≡ is_plain_helper self }
+    {
+        matches!(
+            self,
+            Helper::MapLookupElem
+                | Helper::KtimeGetNs
+                | Helper::CreateDsq
+                | Helper::DsqInsert
+                | Helper::DsqInsertVtime
+                | Helper::DsqMoveToLocal
+                | Helper::SelectCpuDfl
+                | Helper::CpuIdle
+                | Helper::TaskByPid
+                | Helper::DsqNrQueued
+        )
+    }
+
+    /// True if it answers a task, or 0 where there is none.
+    pub fn answers_task(self) -> bool
+        ensures { result ≡ answers_task self }
+    {
+        matches!(self, Helper::TaskByPid | Helper::CpuCurr | Helper::DsqPeek)
     }
 
     /// The kind of the argument with this number, 0 for r1; `None` past the last one.
@@ -132,17 +199,25 @@ impl Helper {
         match (self, argument) {
             (Helper::MapLookupElem, 0) => Some(Parameter::Map),
             (Helper::MapLookupElem, 1) => Some(Parameter::Key),
-            (Helper::DsqInsert | Helper::DsqInsertVtime | Helper::SelectCpuDfl, 0) => {
-                Some(Parameter::Task)
-            }
+            (
+                Helper::DsqInsert
+                | Helper::DsqInsertVtime
+                | Helper::SelectCpuDfl
+                | Helper::TaskRunning
+                | Helper::TaskCpu,
+                0,
+            ) => Some(Parameter::Task),
             (Helper::DsqInsert, 1..=3) | (Helper::DsqInsertVtime, 1..=4) => Some(Parameter::Number),
-            (Helper::KickCpu, 0..=1) => Some(Parameter::Number),
+            (Helper::KickCpu | Helper::Exit | Helper::PickIdle, 0..=1) => Some(Parameter::Number),
             (
                 Helper::CreateDsq
                 | Helper::DsqMoveToLocal
                 | Helper::CpuIdle
                 | Helper::TaskByPid
-                | Helper::DsqNrQueued,
+                | Helper::DsqNrQueued
+                | Helper::CpuCurr
+                | Helper::DsqPeek
+                | Helper::ClaimIdle,
                 0,
             ) => Some(Parameter::Number),
             _ => None,
@@ -155,13 +230,6 @@ impl Helper {
     {
         match (self, callback) {
             (_, Callback::Plain) => false,
-            (
-                Helper::MapLookupElem
-                | Helper::KtimeGetNs
-                | Helper::TaskByPid
-                | Helper::DsqNrQueued,
-                _,
-            ) => true,
             (Helper::CreateDsq, _) => callback == Callback::Init,
             (Helper::DsqMoveToLocal, _) => callback == Callback::Dispatch,
             (Helper::SelectCpuDfl, _) => {
@@ -171,14 +239,8 @@ impl Helper {
                 callback,
                 Callback::SelectCpu | Callback::Enqueue | Callback::Dispatch
             ),
-            (Helper::KickCpu, _) => matches!(
-                callback,
-                Callback::SelectCpu
-                    | Callback::Enqueue
-                    | Callback::Dispatch
-                    | Callback::Running
-                    | Callback::Stopping
-            ),
+            (Helper::KickCpu | Helper::PickIdle | Helper::ClaimIdle, _) => callback.in_events(),
+            _ => true,
         }
     }
 }

@@ -13,6 +13,9 @@ pub struct PerCallback<T> {
     pub dispatch: T,
     pub running: T,
     pub stopping: T,
+    pub tick: T,
+    pub runnable: T,
+    pub quiescent: T,
 }
 
 impl<T> PerCallback<Option<T>> {
@@ -28,6 +31,9 @@ impl<T> PerCallback<Option<T>> {
             dispatch: None,
             running: None,
             stopping: None,
+            tick: None,
+            runnable: None,
+            quiescent: None,
         }
     }
 
@@ -44,6 +50,9 @@ impl<T> PerCallback<Option<T>> {
             Callback::Dispatch => self.dispatch.as_ref(),
             Callback::Running => self.running.as_ref(),
             Callback::Stopping => self.stopping.as_ref(),
+            Callback::Tick => self.tick.as_ref(),
+            Callback::Runnable => self.runnable.as_ref(),
+            Callback::Quiescent => self.quiescent.as_ref(),
         }
     }
 
@@ -87,6 +96,9 @@ impl<T: Drop> PerCallback<Option<T>> {
             Callback::Dispatch => self.dispatch.take(),
             Callback::Running => self.running.take(),
             Callback::Stopping => self.stopping.take(),
+            Callback::Tick => self.tick.take(),
+            Callback::Runnable => self.runnable.take(),
+            Callback::Quiescent => self.quiescent.take(),
         }
     }
 
@@ -103,6 +115,9 @@ impl<T: Drop> PerCallback<Option<T>> {
             Callback::Dispatch => self.dispatch = value,
             Callback::Running => self.running = value,
             Callback::Stopping => self.stopping = value,
+            Callback::Tick => self.tick = value,
+            Callback::Runnable => self.runnable = value,
+            Callback::Quiescent => self.quiescent = value,
         }
     }
 
@@ -124,6 +139,9 @@ impl<T: Drop> PerCallback<Option<T>> {
             dispatch: made(Callback::Dispatch, self.dispatch, f)?,
             running: made(Callback::Running, self.running, f)?,
             stopping: made(Callback::Stopping, self.stopping, f)?,
+            tick: made(Callback::Tick, self.tick, f)?,
+            runnable: made(Callback::Runnable, self.runnable, f)?,
+            quiescent: made(Callback::Quiescent, self.quiescent, f)?,
         })
     }
 }

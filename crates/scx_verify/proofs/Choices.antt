@@ -23,6 +23,7 @@ use Rattle.scx_isa_semantics.specs.Locations as location
 use Rattle.scx_isa_semantics.specs.Locations.{Location, address}
 use Rattle.scx_isa_semantics.specs.Machine.{Machine}
 use Rattle.scx_maps.specs.declared.shape.Shape.{Shape}
+use Rattle.scx_vm.specs.declared.context.Context.{Context}
 use Rattle.scx_abs.specs.declared.faults.Why.{Why}
 use Rattle.scx_abs.specs.declared.faults.Why.TheVariants.{WritesFrame, HelperNotHere}
 use Rattle.scx_abs.specs.declared.kinds.Kind.{Kind}
@@ -88,13 +89,13 @@ found : (shapes : List Shape) (a : AbsState) (m : Machine) (r : ℕ) (z : ℤ) (
     → Means m.maps (size_bytes s) area (address m.maps (m.registers r) z (size_bytes s))
 found shapes a m r z s area p h e = rw e at (area_found shapes m.maps (kind_at a r) (m.registers r) z s h.maps (kind_is_proper a r p) (h.registers r))
 
-load_chosen : (shapes : List Shape) (a : AbsState) (m : Machine) (x : Access) (d r : Register) (k : ℤ) (next : Next) → IsProper a → IsMember shapes a m → sets a (number d) (load_kind shapes a x r k) ≡ Ok next
-    → load_from x d r k (area_of shapes (kind_at a (number r)) k (size_bytes (access_size x))) ≡ load_op x d r k (address m.maps (m.registers (number r)) k (size_bytes (access_size x)))
-load_chosen shapes a m x d r k next p h e =
+load_chosen : (c : Context) (a : AbsState) (m : Machine) (x : Access) (d r : Register) (k : ℤ) (next : Next) → IsProper a → IsMember c.defs a m → sets a (number d) (load_kind c a x r k) ≡ Ok next
+    → load_from x d r k (area_of c.defs (kind_at a (number r)) k (size_bytes (access_size x))) ≡ load_op x d r k (address m.maps (m.registers (number r)) k (size_bytes (access_size x)))
+load_chosen c a m x d r k next p h e =
     let n : ℕ = size_bytes (access_size x) in
-    let kind = set_passes a (number d) (load_kind shapes a x r k) next e in
-    let area = area_passes shapes (kind_at a (number r)) k n (λ area. kind_in a x area) kind.0 kind.1 in
-    ap (load_from x d r k) area.1 ∙ load_means m.maps n x d r k area.0 _ (found shapes a m (number r) k (access_size x) area.0 p h area.1)
+    let kind = set_passes a (number d) (load_kind c a x r k) next e in
+    let area = area_passes c.defs (kind_at a (number r)) k n (λ area. kind_in c.rules a x area) kind.0 kind.1 in
+    ap (load_from x d r k) area.1 ∙ load_means m.maps n x d r k area.0 _ (found c.defs a m (number r) k (access_size x) area.0 p h area.1)
 
 store_passes : (shapes : List Shape) (a : AbsState) (s : Size) (r : Register) (k : ℤ) (x : Operand) (next : Next) → store_rule shapes a s r k x ≡ Ok next → (area : Area) × (area_of shapes (kind_at a (number r)) k (size_bytes s) ≡ Ok area)
 store_passes shapes a s r k x next e = by_operand (operand_kind a Bits64 x) (kind_at a (number r)) refl e
@@ -178,7 +179,7 @@ known_chosen r shapes c a m (Some g) next p h e = go (is_known g r) e
 
 -- the law
 pub typing_chooses : TypingChooses
-typing_chooses c t (insn.Load x d r k) a m next p h e = load_chosen c.defs a m x d r k next p h e
+typing_chooses c t (insn.Load x d r k) a m next p h e = load_chosen c a m x d r k next p h e
 typing_chooses c t (insn.Store s r k x) a m next p h e = store_chosen c.defs a m s r k x next p h e
 typing_chooses c t (insn.Call k) a m next p h e = known_chosen c.rules c.defs c.callback a m (helper_at k) next p h e
 typing_chooses c t i a m next p h e = refl

@@ -15,7 +15,8 @@ use Rattle.scx_isa_semantics.specs.declared.host_tables.Field.{Field}
 use Rattle.scx_isa_semantics.specs.declared.host_tables.Helper.{Helper}
 use Rattle.scx_isa_semantics.specs.declared.host_tables.Parameter.{Parameter}
 use Rattle.scx_isa_semantics.specs.declared.host_tables.Parameter.TheVariants as parameter
-use Rattle.scx_isa_semantics.specs.HostTables.{field_at, is_writable, helper_known, is_allowed}
+use Rattle.scx_isa_semantics.specs.declared.rules.Rules.{Rules}
+use Rattle.scx_isa_semantics.specs.HostTables.{field_known, is_writable, helper_known, is_allowed}
 use Rattle.scx_isa_semantics.specs.Arithmetic.{at_distance}
 use Rattle.scx_isa_semantics.specs.Code.{Code, at, size}
 use Rattle.scx_isa_semantics.specs.Meaning.{is_plain}
@@ -206,12 +207,12 @@ pub record AccessesTask (i : Insn) (a : AbsState) (offset : ℤ) (s : Size) : Ty
   pub given : address_of i ≡ Some (record { base = base; offset = offset; size = s })
   pub task : kind_at a (number base) ≡ Task
 
--- that field of a task is accessed
-pub record AccessesField (i : Insn) (a : AbsState) (f : Field) : Type 0 where
+-- that field of a task is accessed, and a machine by these rules has it
+pub record AccessesField (by : Rules) (i : Insn) (a : AbsState) (f : Field) : Type 0 where
   pub offset : ℤ
   pub bytes : Size
   pub accesses : AccessesTask i a offset bytes
-  pub there : field_at (size_bytes bytes) (at_distance 0 offset) ≡ Some f
+  pub there : field_known by (size_bytes bytes) (at_distance 0 offset) ≡ Some f
 
 -- whether it loads with a sign
 abbrev pub has_sign : Insn → Bool
@@ -223,13 +224,13 @@ abbrev pub is_store : Insn → Bool
 is_store (insn.Store s r offset x) = true
 is_store i = false
 
--- what is said of the field of a task that an instruction accesses is so
-abbrev pub IsFieldSaid : Insn → AbsState → BadField → Type 0
-IsFieldSaid i a (field.Missing offset s) =
-    AccessesTask i a offset s × (field_at (size_bytes s) (at_distance 0 offset) ≡ None)
-IsFieldSaid i a (field.Signed f) = AccessesField i a f × IsTrue (has_sign i)
-IsFieldSaid i a (field.ReadOnly f) =
-    AccessesField i a f × IsTrue (is_store i) × IsFalse (is_writable f)
+-- what is said of the field of a task that an instruction accesses is so by these rules
+abbrev pub IsFieldSaid : Rules → Insn → AbsState → BadField → Type 0
+IsFieldSaid by i a (field.Missing offset s) =
+    AccessesTask i a offset s × (field_known by (size_bytes s) (at_distance 0 offset) ≡ None)
+IsFieldSaid by i a (field.Signed f) = AccessesField by i a f × IsTrue (has_sign i)
+IsFieldSaid by i a (field.ReadOnly f) =
+    AccessesField by i a f × IsTrue (is_store i) × IsFalse (is_writable f)
 
 -- of a call of that number
 abbrev pub IsCallSaid : Context → ℤ → AbsState → BadCall → Type 0
@@ -246,7 +247,7 @@ abbrev pub IsRuleSaid : Context → Insn → AbsState → Reason → Type 0
 IsRuleSaid c i a (reason.Flow b) = ⊥
 IsRuleSaid c i a (reason.Value b) = IsValueSaid c.callback i a b
 IsRuleSaid c i a (reason.Access b) = IsAccessSaid c.defs i a b
-IsRuleSaid c i a (reason.Field b) = IsFieldSaid i a b
+IsRuleSaid c i a (reason.Field b) = IsFieldSaid c.rules i a b
 IsRuleSaid c i a (reason.Call b) = (n : ℤ) × (i ≡ insn.Call n) × IsCallSaid c n a b
 IsRuleSaid c i a (reason.UnknownMap m n) =
     LoadsMap i m × (map_kind c.defs m ≡ Err UnknownMap) × (n ≡ length c.defs)

@@ -23,8 +23,8 @@ use crate::places::{Place, Reach, distances_of, place_of, reach_of, stack_bytes}
 use crate::trails::{Trail, trail_of};
 use scx_abs::{AbsState, Area, Context, Kind, Why, area_of, map_kind};
 use scx_isa::{
-    Callback, Field, FlowFault, Helper, Insn, Operand, Operation, Parameter, Register, STACK_SIZE,
-    Size, Width,
+    Callback, Field, FlowFault, Helper, Insn, Operand, Operation, Parameter, Register, Rules,
+    STACK_SIZE, Size, Width,
 };
 use scx_isa_semantics::MAX_ARGUMENTS;
 use scx_maps::MapDefs;
@@ -257,7 +257,7 @@ fn reason_of_rule(context: &Context, why: Why, state: &AbsState, insn: Insn) -> 
         Why::UnwrittenStack => Some(Reason::Access(unwritten_in(state, insn, defs)?)),
         Why::OutOfBounds => Some(Reason::Access(out_of_bounds(state, insn, defs)?)),
         Why::Misaligned => Some(Reason::Access(misaligned(state, insn, defs)?)),
-        Why::TaskField => Some(Reason::Field(bad_field(state, insn)?)),
+        Why::TaskField => Some(Reason::Field(bad_field(state, insn, context.rules)?)),
         Why::UnknownHelper | Why::HelperNotHere | Why::BadArgument => {
             let number = called_in(insn)?;
             Some(Reason::Call(bad_call(state, why, number, context)?))
@@ -524,14 +524,14 @@ fn misaligned(state: &AbsState, insn: Insn, defs: &MapDefs) -> Option<BadAccess>
     Some(BadAccess::Misaligned(reach))
 }
 
-fn bad_field(state: &AbsState, insn: Insn) -> Option<BadField>
-    ensures { IfSome result (IsFieldSaid insn state.now) }
+fn bad_field(state: &AbsState, insn: Insn, rules: Rules) -> Option<BadField>
+    ensures { IfSome result (IsFieldSaid rules insn state.now) }
 {
     let Address { base, offset, size } = address_of(insn)?;
     let Kind::Task = state.kind(base) else {
         return None;
     };
-    match (Field::at(offset, size), insn) {
+    match (Field::known(offset, size, rules), insn) {
         (None, _) => Some(BadField::Missing { offset, size }),
         (Some(field), Insn::Store(..)) if !field.is_writable() => Some(BadField::ReadOnly(field)),
         (Some(field), Insn::Load(access, ..)) if !access.is_plain() => {
