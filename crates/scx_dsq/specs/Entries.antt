@@ -1,7 +1,8 @@
 -- Where a task waits, and which of two entries comes first. Keys are compared as unsigned numbers,
--- entries of one key by their turns. A turn is the number of pushes that were accepted before; that of
--- a push to the front is below 0, the later the lower. In order of arrival the key is 0 (sched-ext.rst,
--- "Dispatch Queues", and ext.c, `scx_dispatch_enqueue`; that keys are unsigned is this project's own).
+-- entries of one key by their turns. A turn is the number of pushes that were accepted before; that
+-- of a push to the front is below 0, the later the lower. In order of arrival the key is 0
+-- (sched-ext.rst, "Dispatch Queues", and ext.c, `scx_dispatch_enqueue`; that keys are unsigned is
+-- this project's own).
 use Rattle.std.specs.Prelude.{ℕ, ℤ, pos, negsuc, Bool, true, false, ◌==◌, ◌&&◌, ◌||◌, nat_lt, int_lt}
 use Rattle.scx_dsq.specs.declared.entries.Rank.{Rank}
 use Rattle.scx_dsq.specs.declared.entries.Rank.TheVariants.{Fifo, Front, Vtime}
