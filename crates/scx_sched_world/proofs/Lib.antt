@@ -8,4 +8,7 @@ pub mod Likes
 mod Places
 mod Running
 mod Keeping
+mod Settled
 mod Entering
+mod Scans
+mod Picks

@@ -19,8 +19,3 @@ and_cpu s c = record { 0 = bit_or s.0 (1 * 2 ^ c % 2 ^ 64) }
 -- the set but for that processor
 abbrev pub but_cpu : CpuSet → ℕ → CpuSet
 but_cpu s c = record { 0 = bit_and s.0 (bit_not w64 (1 * 2 ^ c % 2 ^ 64)) }
-
--- the set but for that processor, if one is given
-abbrev pub but_this : CpuSet → Option ℕ → CpuSet
-but_this s None = s
-but_this s (Some c) = but_cpu s c

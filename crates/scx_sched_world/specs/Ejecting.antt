@@ -4,13 +4,15 @@ use Rattle.std.specs.Prelude.{ℕ, zero, suc, ◌+◌, ◌-◌, ◌*◌, ◌/◌
 use Rattle.scx_dsq.specs.Calls.{after_push}
 use Rattle.scx_dsq.specs.declared.entries.Rank.TheVariants.{Vtime}
 use Rattle.scx_sched_world.specs.declared.call.Call.{Call}
+use Rattle.scx_sched_world.specs.declared.eject.Cause.{Cause}
+use Rattle.scx_sched_world.specs.declared.eject.Cause.TheVariants as reason
 use Rattle.scx_sched_world.specs.declared.eject.Eject.{Eject}
 use Rattle.scx_sched_world.specs.declared.eject.Eject.TheVariants as cause
 use Rattle.scx_sched_world.specs.declared.notes.Note.{Note}
 use Rattle.scx_sched_world.specs.declared.notes.What.{What}
 use Rattle.scx_sched_world.specs.declared.notes.What.TheVariants as note
 use Rattle.scx_sched_world.specs.Ids.{builtin_queue}
-use Rattle.scx_sched_world.specs.World.{WorldState, with_queues, task_at, with_task, waits, running, note_now}
+use Rattle.scx_sched_world.specs.World.{WorldState, nothing_passes, with_queues, task_at, with_task, waits, running, note_now}
 use Rattle.scx_sched_tasks.specs.Tasks.{default_slice}
 use Rattle.scx_sched_world.specs.Tasks.{with_slice, with_builtin, after_leave}
 use Rattle.scx_sched_world.specs.Helpers.{weight_at}
@@ -54,9 +56,15 @@ after_charge w t =
 abbrev pub without_insert : Call → Call
 without_insert c = record c { insert = None; has_moved = false }
 
--- the policy is out of force, for that cause
+-- the ejection for the reason for which a callback puts the policy out of force, at that clock
+abbrev pub eject_of : Cause → ℕ → Eject
+eject_of (reason.Fault f) clock = cause.Fault f clock
+eject_of (reason.Exit n) clock = cause.Exit n clock
+
+-- the policy is out of force, for that cause, and nothing that Linux rules keep is known any more
 abbrev pub put_out : WorldState → Eject → WorldState
-put_out w x = record w { ejected = Some x; call = without_insert w.call }
+put_out w x =
+    record w { ejected = Some x; call = without_insert w.call; passing = nothing_passes }
 
 -- a task that waits in any queue waits for the built-in scheduler
 abbrev pub evict : WorldState → ℕ → WorldState
@@ -87,7 +95,9 @@ abbrev pub after_cut : ℕ → WorldState → WorldState
 after_cut zero w = w
 after_cut (suc n) w = let v = after_cut n w in cut_task (running v n) v
 
--- what is noted of an ejection: the task that waited too long, or the fault, without the clock
+-- what is noted of an ejection: the task that waited too long, the fault, or the code of an exit,
+-- without the clock
 abbrev pub eject_note : Eject → What
 eject_note (cause.Stall t clock) = note.Stall t
 eject_note (cause.Fault fault clock) = note.Fault fault
+eject_note (cause.Exit code clock) = note.Exit code

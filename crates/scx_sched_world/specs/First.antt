@@ -7,7 +7,7 @@ use Rattle.scx_isa_semantics.specs.declared.rules.Rules.TheVariants.{Plain}
 use Rattle.scx_sched_tasks.specs.Tasks.{new_task}
 use Rattle.scx_sched_world.specs.CpuSets.{no_cpus}
 use Rattle.scx_sched_world.specs.Ids.{global, held_queue, builtin_queue, parked_queue, local_on}
-use Rattle.scx_sched_world.specs.World.{WorldState, no_call}
+use Rattle.scx_sched_world.specs.World.{WorldState, nothing_passes, no_call}
 
 -- a local queue for each processor
 abbrev pub with_locals : ℕ → QueueState → QueueState
@@ -25,14 +25,15 @@ own_queues cpus tasks =
 abbrev pub first_queues : ℕ → ℕ → QueueState
 first_queues cpus tasks = with_locals cpus (own_queues cpus tasks)
 
--- the world at the start, over a tree of groups and tasks and with so many processors, by plain rules
+-- the world at the start, over a tree of groups and tasks and with so many processors, by plain
+-- rules
 abbrev pub first_world : Hierarchy → ℕ → WorldState
 first_world tree cpus = record {
   clock = 0;
   tasks = replicate (length tree.homes) new_task;
   cpus = replicate cpus None;
   cycling = None;
-  slept = None;
+  passing = nothing_passes;
   rules = Plain;
   claimed = no_cpus;
   kicked = no_cpus;

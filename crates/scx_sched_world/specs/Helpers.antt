@@ -1,6 +1,7 @@
 -- What each helper answers, and what it makes of the world. A call with a fault answers that it is
 -- invalid, and changes nothing but that the fault is kept, if it is the first one of the callback.
-use Rattle.std.specs.Prelude.{ℕ, Bool, true, false, ◌&&◌, ◌==◌, nat_lt, nat_le, not, ◌||◌, ◌+◌, ◌-◌, ◌*◌, ◌/◌, ◌%◌, ◌^◌, min, List, length, if◌then◌else◌, Option, Some, None, is_none, slice_index_or}
+use Rattle.std.specs.Prelude.{ℕ, zero, suc, Bool, true, false, ◌&&◌, ◌==◌, nat_lt, nat_le, not, ◌||◌, ◌+◌, ◌-◌, ◌*◌, ◌/◌, ◌%◌, ◌^◌, min, List, length, if◌then◌else◌, Option, Some, None, is_none, slice_index_or}
+use Rattle.std.specs.Int.{w64, bit_at, cast_signed}
 use Rattle.std.specs.List.{list_any}
 use Rattle.scx_dsq.specs.Queues.{exists, entry_of, is_in, front_of, len_of}
 use Rattle.scx_dsq.specs.Calls.{create_refusal, after_create, clashes}
@@ -12,16 +13,18 @@ use Rattle.scx_weights.specs.Weights.{task_weight}
 use Rattle.scx_isa_semantics.specs.declared.callbacks.Callback.{Callback}
 use Rattle.scx_isa_semantics.specs.declared.callbacks.Callback.TheVariants as callback
 use Rattle.scx_isa_semantics.specs.declared.host_tables.Helper.{Helper}
-use Rattle.scx_isa_semantics.specs.declared.host_tables.Helper.TheVariants.{MapLookupElem, KtimeGetNs, CreateDsq, DsqInsert, DsqInsertVtime, DsqMoveToLocal, SelectCpuDfl, CpuIdle, TaskByPid, DsqNrQueued, KickCpu}
+use Rattle.scx_isa_semantics.specs.declared.host_tables.Helper.TheVariants.{MapLookupElem, KtimeGetNs, CreateDsq, DsqInsert, DsqInsertVtime, DsqMoveToLocal, SelectCpuDfl, CpuIdle, TaskByPid, DsqNrQueued, KickCpu, SmpProcessorId, Exit, CpuCurr, DsqPeek, TaskRunning, TaskCpu, PickIdle, ClaimIdle}
 use Rattle.scx_isa_semantics.specs.declared.host_tables.TaskId.{TaskId}
 use Rattle.scx_isa_semantics.specs.declared.host_tables.Field.{Field}
-use Rattle.scx_isa_semantics.specs.declared.host_tables.Field.TheVariants.{Pid, Weight, Slice, DsqVtime, PrevCpu, Group, RunNs}
+use Rattle.scx_isa_semantics.specs.declared.host_tables.Field.TheVariants.{Pid, Weight, Slice, DsqVtime, PrevCpu, Group, RunNs, Cpus}
 use Rattle.scx_vm.specs.declared.arguments.Arg.{Arg}
 use Rattle.scx_vm.specs.declared.arguments.Arg.TheVariants as argument
 use Rattle.scx_vm.specs.declared.arguments.Answer.{Answer}
 use Rattle.scx_vm.specs.declared.arguments.Answer.TheVariants as answer
 use Rattle.scx_vm.specs.Host.{Functions}
 use Rattle.scx_sched_tasks.specs.declared.task.Task.{Task}
+use Rattle.scx_sched_world.specs.declared.eject.Cause.{Cause}
+use Rattle.scx_sched_world.specs.declared.eject.Cause.TheVariants as reason
 use Rattle.scx_sched_world.specs.declared.faults.Fault.{Fault}
 use Rattle.scx_sched_world.specs.declared.faults.Fault.TheVariants.{NoSuchQueue, CannotInsert, NoSuchCpu, UnknownFlag, CannotCreate, BuiltinVtime, Mixed}
 use Rattle.scx_sched_world.specs.declared.call.Insert.{Insert}
@@ -29,7 +32,7 @@ use Rattle.scx_sched_world.specs.declared.kicks.Kick.{Kick}
 use Rattle.scx_sched_world.specs.declared.kicks.Kick.TheVariants.{Any, IfIdle, Preempt}
 use Rattle.scx_sched_world.specs.declared.notes.What.TheVariants as notes
 use Rattle.scx_sched_world.specs.Ids.{policy_end, global, local, held_queue, local_on}
-use Rattle.scx_sched_world.specs.World.{WorldState, with_queues, with_kick, with_preemption, is_by_linux, task_at, with_task, running, is_this, is_idle, is_claimed, choice, default_choice, after_claim, with_note}
+use Rattle.scx_sched_world.specs.World.{WorldState, with_queues, with_kick, with_preemption, is_by_linux, task_at, with_task, running, is_this, current, is_current, is_idle, this_if, or_this, is_claimed, is_free, choice, default_choice, after_claim, here, with_note}
 use Rattle.scx_sched_world.specs.CpuSets.{is_in_set}
 use Rattle.scx_sched_world.specs.Tasks.{with_slice, with_vtime, after_leave, after_enter, after_take, after_local, for_cpu}
 
@@ -63,14 +66,19 @@ task_argument t = argument.Task (record { 0 = t })
 
 -- ---- faults
 
--- the first fault of a callback counts
-abbrev pub first_fault : Option Fault → Fault → Option Fault
-first_fault None f = Some f
-first_fault (Some first) f = Some first
+-- the first cause of a callback counts
+abbrev pub first_cause : Option Cause → Cause → Option Cause
+first_cause None x = Some x
+first_cause (Some first) x = Some first
 
--- the callback at hand has that fault, unless it had one before; nothing else is changed
+-- the callback at hand has that cause to put the policy out of force, unless it had one before;
+-- nothing else is changed (ext.c, `scx_claim_exit`)
+abbrev pub with_cause : WorldState → Cause → WorldState
+with_cause w x = record w { call = record w.call { cause = first_cause w.call.cause x } }
+
+-- the callback at hand has that fault
 abbrev pub with_fault : WorldState → Fault → WorldState
-with_fault w f = record w { call = record w.call { fault = first_fault w.call.fault f } }
+with_fault w f = with_cause w (reason.Fault f)
 
 -- what a call answers that only does something: -22 where it has a fault, else 0
 abbrev pub invalid_if : Option Fault → ℕ
@@ -205,8 +213,8 @@ insert_fault w t i flags =
     (or_fault (queue_fault w i.queue) (rank_fault w i.queue i.rank))
     else Some CannotInsert
 
--- under Linux rules an insert in dispatch of a task that isn't held is passed over, but for its flags
--- (ext.c, `finish_dispatch`)
+-- under Linux rules an insert in dispatch of a task that isn't held is passed over, but for its
+-- flags (ext.c, `finish_dispatch`)
 abbrev pub is_late : WorldState → Option ℕ → Bool
 is_late w t = is_by_linux w && (is_dispatch w.call.callback && not (is_held w t))
 
@@ -339,8 +347,8 @@ kick_of n =
     if n == 0 then Some Any
     else (if n == 1 then Some IfIdle else (if n == 2 then Some Preempt else None))
 
--- a processor that is there is kicked; one that runs a task, with no cycle of its own under way, isn't
--- where it should be idle
+-- a processor that is there is kicked; one that runs a task, with no cycle of its own under way,
+-- isn't where it should be idle
 abbrev pub kicked_so : WorldState → ℕ → Kick → WorldState
 kicked_so w c Any = with_kick w c
 kicked_so w c IfIdle =
@@ -366,6 +374,98 @@ after_kick w c flags = kicked_or_fault w (kick_fault w c (kick_of flags)) c (kic
 abbrev pub kick_answer : WorldState → ℕ → ℕ → ℕ
 kick_answer w c flags = invalid_if (kick_fault w c (kick_of flags))
 
+-- ---- an end of the policy's own (ext.c, `scx_bpf_exit_bstr`)
+
+-- the callback at hand puts the policy out of force as it ends, with that code, unless it had a
+-- cause before
+abbrev pub after_exit : WorldState → ℕ → WorldState
+after_exit w n = with_cause w (reason.Exit (cast_signed w64 n))
+
+-- ---- who is where
+
+-- a task, or the number 0 where there is none
+abbrev pub task_or_null : Option ℕ → Answer
+task_or_null None = answer.Num 0
+task_or_null (Some t) = answer.Task (record { 0 = t })
+
+-- the current task of a processor; 0 where there is no such processor (ext.c, `scx_bpf_cpu_curr`)
+abbrev pub current_answer : WorldState → ℕ → Answer
+current_answer w c =
+    if nat_lt c (length w.cpus) then task_or_null (current w c) else answer.Num 0
+
+-- asking for a processor that isn't there is a fault
+abbrev pub after_asking_cpu : WorldState → ℕ → WorldState
+after_asking_cpu w c = if nat_lt c (length w.cpus) then w else with_fault w NoSuchCpu
+
+-- the front of a queue of the policy; 0 where it has no such queue (ext.c, `scx_bpf_dsq_peek`)
+abbrev pub peek_answer : WorldState → ℕ → Answer
+peek_answer w q =
+    if is_there w q then task_or_null (front_of w.queues q) else answer.Num 0
+
+-- whether a helper was given a task that is current on a processor
+abbrev pub is_current_one : WorldState → Option ℕ → Bool
+is_current_one w None = false
+is_current_one w (Some t) = is_current w t
+
+-- the processor of a task; 0 where a helper was given no task
+abbrev pub cpu_of_task : WorldState → Option ℕ → ℕ
+cpu_of_task w None = 0
+cpu_of_task w (Some t) = (task_at w t).prev_cpu
+
+-- ---- claims (ext/idle.c, `scx_bpf_pick_idle_cpu`, `scx_bpf_test_and_clear_cpu_idle`)
+
+-- whether the processor is in the mask, a bit for each, and may be chosen
+abbrev pub is_free_in : ℕ → WorldState → ℕ → Bool
+is_free_in mask w c = (bit_at mask c == 1) && is_free w c
+
+-- the lowest one of the first so many processors that is in the mask and may be chosen
+abbrev pub free_in_below : ℕ → ℕ → WorldState → Option ℕ
+free_in_below zero mask w = None
+free_in_below (suc n) mask w =
+    or_this (free_in_below n mask w) (this_if (is_free_in mask w n) n)
+
+-- the lowest processor of the mask that may be chosen
+abbrev pub first_free_in : ℕ → WorldState → Option ℕ
+first_free_in mask w = free_in_below (length w.cpus) mask w
+
+-- what is wrong with the flags of such a choice: 1 asks for a whole core, which is any processor
+-- here
+abbrev pub pick_fault : ℕ → Option Fault
+pick_fault flags = if nat_le flags 1 then None else Some UnknownFlag
+
+-- -16 as a number of 64 bits
+abbrev pub busy : ℕ
+busy = 0xffff_ffff_ffff_fff0
+
+-- what a choice from a mask answers: -22 where it has a fault, -16 where no processor may be chosen
+abbrev pub pick_answer_by : Option Fault → Option ℕ → ℕ
+pick_answer_by (Some f) o = invalid
+pick_answer_by None None = busy
+pick_answer_by None (Some c) = c
+
+-- what a choice from a mask answers
+abbrev pub pick_answer : WorldState → ℕ → ℕ → ℕ
+pick_answer w mask flags = pick_answer_by (pick_fault flags) (first_free_in mask w)
+
+-- the processor that is chosen is claimed, unless there was a fault
+abbrev pub after_pick_by : Option Fault → WorldState → Option ℕ → WorldState
+after_pick_by (Some f) w o = with_fault w f
+after_pick_by None w o = after_claim w o
+
+-- the world after a choice from a mask
+abbrev pub after_pick : WorldState → ℕ → ℕ → WorldState
+after_pick w mask flags = after_pick_by (pick_fault flags) w (first_free_in mask w)
+
+-- 1 where that processor may be chosen, else 0; -22 where there is no such processor
+abbrev pub claim_answer : WorldState → ℕ → ℕ
+claim_answer w c = if nat_lt c (length w.cpus) then one_if (is_free w c) else invalid
+
+-- where that processor may be chosen it is claimed; it is a fault where there is none
+abbrev pub after_claim_of : WorldState → ℕ → WorldState
+after_claim_of w c =
+    if nat_lt c (length w.cpus) then after_claim w (this_if (is_free w c) c)
+    else with_fault w NoSuchCpu
+
 -- ---- all helpers; elements of maps are looked up by the run itself
 
 -- what a helper call with these arguments answers
@@ -382,6 +482,14 @@ helper_answer w CpuIdle a = answer.Num (idle_answer w (given_number a 0))
 helper_answer w TaskByPid a = pid_answer w (given_number a 0)
 helper_answer w DsqNrQueued a = answer.Num (queued_answer w (given_number a 0))
 helper_answer w KickCpu a = answer.Num (kick_answer w (given_number a 0) (given_number a 1))
+helper_answer w SmpProcessorId a = answer.Num (here w)
+helper_answer w Exit a = answer.Num 0
+helper_answer w CpuCurr a = current_answer w (given_number a 0)
+helper_answer w DsqPeek a = peek_answer w (given_number a 0)
+helper_answer w TaskRunning a = answer.Num (one_if (is_current_one w (given_task a 0)))
+helper_answer w TaskCpu a = answer.Num (cpu_of_task w (given_task a 0))
+helper_answer w PickIdle a = answer.Num (pick_answer w (given_number a 0) (given_number a 1))
+helper_answer w ClaimIdle a = answer.Num (claim_answer w (given_number a 0))
 helper_answer w MapLookupElem a = answer.Num 0
 
 -- the world that a helper call with these arguments leaves
@@ -395,6 +503,11 @@ helper_after w SelectCpuDfl a = after_choice w (given_task a 0)
 helper_after w CpuIdle a = after_idle w (given_number a 0)
 helper_after w DsqNrQueued a = after_queued w (given_number a 0)
 helper_after w KickCpu a = after_kick w (given_number a 0) (given_number a 1)
+helper_after w Exit a = after_exit w (given_number a 0)
+helper_after w CpuCurr a = after_asking_cpu w (given_number a 0)
+helper_after w DsqPeek a = after_queued w (given_number a 0)
+helper_after w PickIdle a = after_pick w (given_number a 0) (given_number a 1)
+helper_after w ClaimIdle a = after_claim_of w (given_number a 0)
 helper_after w h a = w
 
 -- ---- the record of a task
@@ -403,14 +516,18 @@ helper_after w h a = w
 abbrev pub weight_at : WorldState → ℕ → ℕ
 weight_at w t = if nat_lt t (length w.tasks) then task_weight w.tree t else 0
 
--- the weight that a policy is told: under Linux rules the task's own, as its nice value gives it, which
--- knows nothing of groups
+-- the weight that a policy is told: under Linux rules the task's own, as its nice value gives it,
+-- which knows nothing of groups
 abbrev pub weight_told : WorldState → ℕ → ℕ
 weight_told w t = if is_by_linux w then own_weight w.tree t else weight_at w t
 
 -- the group in which a task lies; 0 where there is no such task
 abbrev pub group_at : WorldState → ℕ → ℕ
 group_at w t = if nat_lt t (length w.tasks) then home_of w.tree t else 0
+
+-- the processors on which a task may run, one bit each: all of them
+abbrev pub all_cpus : WorldState → ℕ
+all_cpus w = 2 ^ length w.cpus - 1
 
 -- what stands in a field of a task's record; where there is no such task, 0 in all but the pid
 abbrev pub field_of : WorldState → ℕ → Field → ℕ
@@ -421,6 +538,7 @@ field_of w t DsqVtime = (task_at w t).vtime
 field_of w t PrevCpu = (task_at w t).prev_cpu
 field_of w t Group = group_at w t
 field_of w t RunNs = (task_at w t).run_ns
+field_of w t Cpus = all_cpus w
 
 -- the record of a task, stored to at a field; only its slice and its virtual time change so
 abbrev pub stored_in : Task → Field → ℕ → Task

@@ -1,5 +1,5 @@
 -- What the fields of a world mean, and what always holds of them.
-use Rattle.std.specs.Prelude.{◌≡◌, ℕ, zero, suc, true, ◌+◌, ◌^◌, ◌<◌, ◌≤◌, not, ◌==◌, if◌then◌else◌, List, [], ◌∷◌, ◌++◌, take, length, Option, Some, None, is_some, slice_index_or, vec_capacity}
+use Rattle.std.specs.Prelude.{◌≡◌, ◌≢◌, ℕ, zero, suc, true, false, ◌+◌, ◌^◌, ◌<◌, ◌≤◌, ◌&&◌, not, ◌==◌, if◌then◌else◌, List, [], ◌∷◌, ◌++◌, take, length, Option, Some, None, is_none, is_some, slice_index_or, vec_capacity}
 use Rattle.std.specs.Int.{w64, bit_at, trailing_zeros}
 use Rattle.scx_dsq.specs.Laws.{one_if}
 use Rattle.scx_dsq.specs.Queues.{QueueState, task_count, queue_of}
@@ -7,7 +7,8 @@ use Rattle.scx_weights.specs.Hierarchy.{Hierarchy}
 use Rattle.scx_weights.specs.Limits as limits
 use Rattle.scx_sched_world.specs.Ids.{global, held_queue, builtin_queue, parked_queue, local_on}
 use Rattle.scx_sched_world.specs.declared.world.World.TheInside.{Inside}
-use Rattle.scx_sched_world.specs.World.{WorldState, is_this, is_idle, is_free, is_throttled}
+use Rattle.scx_sched_world.specs.World.{WorldState, are_linux, is_this, is_idle, is_free, is_throttled}
+use Rattle.scx_sched_world.specs.Pending.{is_pending}
 
 -- the state for which a world's fields stand, without what is kept beside to find answers sooner
 abbrev pub state_of : Inside → WorldState
@@ -16,7 +17,7 @@ state_of w = record {
   tasks = w.tasks;
   cpus = w.cpus.items;
   cycling = w.cycling;
-  slept = w.slept;
+  passing = w.passing;
   rules = w.rules;
   claimed = w.claimed;
   kicked = w.kicked;
@@ -52,6 +53,21 @@ AreOccupied bits w = (c : ℕ) → c < length w.cpus → bit_at bits c ≡ one_i
 abbrev pub AreTaken : ℕ → WorldState → Type 0
 AreTaken bits w = (c : ℕ) → c < length w.cpus → bit_at bits c ≡ one_if (not (is_free w c))
 
+-- each processor that is to look for work is among these, one bit a processor
+abbrev pub HoldPending : ℕ → WorldState → Type 0
+HoldPending bits w = (c : ℕ) → c < length w.cpus → bit_at bits c ≡ 0 → is_pending w c ≡ false
+
+-- nobody waits in that queue
+abbrev pub IsEmpty : QueueState → ℕ → Type 0
+IsEmpty s q = (t : ℕ) → queue_of s t ≢ Some q
+
+-- a processor on which nobody runs, whose bit is clear and on which no cycle is under way has nobody
+-- in its local queue
+abbrev pub AreSettled : ℕ → List (Option ℕ) → Option ℕ → QueueState → Type 0
+AreSettled bits cpus cycling s =
+    (c : ℕ) → c < length cpus → bit_at bits c ≡ 0 → slice_index_or cpus c None ≡ None
+    → cycling ≢ Some c → IsEmpty s (local_on c)
+
 -- who is parked is throttled
 abbrev pub AreThrottled : QueueState → Hierarchy → Type 0
 AreThrottled queues tree =
@@ -75,8 +91,9 @@ abbrev pub StandFirst : QueueState → ℕ → Type 0
 StandFirst s cpus = take (4 + cpus) s.ids ≡ own_ids cpus
 
 -- there is room for the notes of a callback, each part knows of as many tasks, the clock in
--- nanoseconds is a number of 64 bits, own queues are found by their places, and who is parked is
--- throttled where that is known
+-- nanoseconds is a number of 64 bits, own queues are found by their places, who is parked is
+-- throttled where that is known, whose rules are in force is known, and under Linux rules idle
+-- processors have empty local queues where that is known
 pub record IsKept (w : Inside) : Type 0 where
   pub notes : 4096 ≤ vec_capacity w.notes
   pub few_notes : length w.notes.items ≤ 4096
@@ -90,3 +107,6 @@ pub record IsKept (w : Inside) : Type 0 where
   pub places : StandFirst w.queues.state (length w.cpus.items)
   pub early : w.clock ≤ 2 ^ 32
   pub parked : w.parked_throttled ≡ true → AreThrottled w.queues.state w.tree
+  pub linux : w.by_linux ≡ (are_linux w.rules && is_none w.ejected)
+  pub settled : w.by_linux ≡ true
+      → AreSettled w.unsettled w.cpus.items w.cycling w.queues.state

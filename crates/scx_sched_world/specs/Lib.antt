@@ -3,6 +3,7 @@ pub mod Faults
 pub mod CpuSets
 pub mod World
 pub mod Tasks
+pub mod Pending
 pub mod Helpers
 pub mod Waits
 pub mod Ejecting

@@ -56,8 +56,9 @@ after_leave w t = with_queues w (after_remove w.queues t)
 
 -- ---- the processor of a task
 
--- under Linux rules a task's processor is the one that is chosen for it, and that of a local queue as it
--- comes in (ext.c, `move_remote_task_to_local_dsq`); under plain rules it is the one on which it ran last
+-- under Linux rules a task's processor is the one that is chosen for it, and that of a local queue
+-- as it comes in (ext.c, `move_remote_task_to_local_dsq`); under plain rules it is the one on which
+-- it ran last
 abbrev pub homed : WorldState → ℕ → ℕ → WorldState
 homed w t c = if is_by_linux w then with_task w t (with_home (task_at w t) c) else w
 
@@ -106,8 +107,8 @@ rank_by w Fifo = Fifo
 rank_by w Front = Front
 rank_by w (Vtime n) = Vtime (key_by w n)
 
--- the task that runs on a processor loses its slice, and the processor looks for work as the event ends;
--- not where its own cycle is under way (ext.c, `rq_owned_post_enq`)
+-- the task that runs on a processor loses its slice, and the processor looks for work as the event
+-- ends; not where its own cycle is under way (ext.c, `rq_owned_post_enq`)
 abbrev pub after_preempt_of : WorldState → ℕ → Option ℕ → WorldState
 after_preempt_of w c None = w
 after_preempt_of w c (Some t) =
@@ -122,6 +123,13 @@ after_preempt_at w (Some c) = after_preempt_of w c (running w c)
 -- what an insert that preempts does besides, where its queue is a local one
 abbrev pub after_preempt : WorldState → Insert → WorldState
 after_preempt w i = if i.preempts then after_preempt_at w (local_cpu w i.queue) else w
+
+-- a task comes into the queue of an insert, and where that is a local one, Linux rules make its
+-- processor the task's
+abbrev pub queued_by : WorldState → ℕ → Insert → WorldState
+queued_by w t i =
+    homed_at (with_queues w (after_push w.queues i.queue t (rank_by w i.rank)))
+    t (local_cpu w i.queue)
 
 -- a task goes into a queue, as an insert wants it to
 abbrev pub after_enter : WorldState → ℕ → Insert → WorldState

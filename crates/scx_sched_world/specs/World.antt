@@ -2,6 +2,7 @@
 use Rattle.std.specs.Prelude.{◌≡◌, ℕ, zero, suc, Bool, true, false, ◌==◌, ◌&&◌, not, nat_lt, List, [], ◌∷◌, ◌++◌, length, if◌then◌else◌, Option, Some, None, is_none, unwrap_or, slice_index_or, slice_set, position}
 use Rattle.scx_dsq.specs.Queues.{QueueState, queue_of}
 use Rattle.scx_weights.specs.Hierarchy.{Hierarchy, is_active_task}
+use Rattle.scx_weights.specs.Counting.{any_below}
 use Rattle.scx_weights.specs.Limits as limits
 use Rattle.scx_isa_semantics.specs.declared.callbacks.Callback.{Callback}
 use Rattle.scx_isa_semantics.specs.declared.callbacks.Callback.TheVariants as callback
@@ -9,13 +10,15 @@ use Rattle.scx_isa_semantics.specs.declared.rules.Rules.{Rules}
 use Rattle.scx_isa_semantics.specs.declared.rules.Rules.TheVariants.{Plain, Linux}
 use Rattle.scx_sched_world.specs.Ids.{parked_queue}
 use Rattle.scx_sched_world.specs.declared.cpu_set.CpuSet.{CpuSet}
-use Rattle.scx_sched_world.specs.CpuSets.{no_cpus, is_in_set, and_cpu, but_cpu, but_this}
+use Rattle.scx_sched_world.specs.CpuSets.{no_cpus, is_in_set, and_cpu, but_cpu}
 use Rattle.scx_sched_world.specs.declared.notes.Note.{Note}
 use Rattle.scx_sched_world.specs.declared.notes.What.{What}
 use Rattle.scx_sched_tasks.specs.declared.task.Task.{Task}
 use Rattle.scx_sched_tasks.specs.Tasks.{no_task}
 use Rattle.scx_sched_tasks.specs.Waits.{time_since}
 use Rattle.scx_sched_world.specs.declared.call.Call.{Call}
+use Rattle.scx_sched_world.specs.declared.passing.Passing.{Passing}
+use Rattle.scx_sched_world.specs.declared.passing.Switch.{Switch}
 use Rattle.scx_sched_world.specs.declared.eject.Eject.{Eject}
 
 -- what a world is at one time, with tasks and processors by number and the clock in milliseconds
@@ -24,7 +27,7 @@ pub record WorldState : Type 0 where
   pub tasks : List Task
   pub cpus : List (Option ℕ)  -- the task that runs on each processor
   pub cycling : Option ℕ  -- the processor on which a scheduling cycle is under way
-  pub slept : Option ℕ  -- the task that went to sleep from that processor, under Linux rules
+  pub passing : Passing  -- what an event by Linux rules keeps until it ends
   pub rules : Rules  -- by whose rules the machine goes while the policy is in force
   pub claimed : CpuSet  -- processors chosen for a task, on which no cycle has begun since
   pub kicked : CpuSet  -- processors that look for work as the event ends
@@ -44,22 +47,26 @@ pub record IsLike (v w : WorldState) : Type 0 where
   pub queues : v.queues.ids ≡ w.queues.ids
   pub groups : length v.tree.groups ≡ length w.tree.groups
 
+-- ---- the rules
+
+-- whether rules are those of a kernel
+abbrev pub are_linux : Rules → Bool
+are_linux Plain = false
+are_linux Linux = true
+
+-- whether the machine goes by Linux rules: the policy does, and is in force
+abbrev pub is_by_linux : WorldState → Bool
+is_by_linux w = are_linux w.rules && is_none w.ejected
+
+-- the world with these rules
+abbrev pub with_rules : WorldState → Rules → WorldState
+with_rules w r = record w { rules = r }
+
 -- ---- one part changed
 
--- who went to sleep from a processor is known until the cycle there ends
-abbrev pub known_until : Option ℕ → Option ℕ → Option ℕ
-known_until None o = None
-known_until (Some c) o = o
-
--- the world with a scheduling cycle under way on that processor, or with none; as a cycle begins, the
--- claim on its processor ends
-abbrev pub with_cycling : WorldState → Option ℕ → WorldState
-with_cycling w x =
-    record w { cycling = x; slept = known_until x w.slept; claimed = but_this w.claimed x }
-
--- the world with that task gone to sleep from the processor on which a cycle is to begin
-abbrev pub with_slept : WorldState → ℕ → WorldState
-with_slept w t = record w { slept = Some t }
+-- between events Linux rules keep nothing of the one before
+abbrev pub nothing_passes : Passing
+nothing_passes = record { slept = None; switching = None; waker = None }
 
 -- the world with that processor to look for work as the event ends
 abbrev pub with_kick : WorldState → ℕ → WorldState
@@ -81,21 +88,6 @@ with_queues w x = record w { queues = x }
 -- the world with these groups, weights and active tasks
 abbrev pub with_tree : WorldState → Hierarchy → WorldState
 with_tree w x = record w { tree = x }
-
--- ---- the rules
-
--- whether rules are those of a kernel
-abbrev pub are_linux : Rules → Bool
-are_linux Plain = false
-are_linux Linux = true
-
--- whether the machine goes by Linux rules: the policy does, and is in force
-abbrev pub is_by_linux : WorldState → Bool
-is_by_linux w = are_linux w.rules && is_none w.ejected
-
--- the world with these rules
-abbrev pub with_rules : WorldState → Rules → WorldState
-with_rules w r = record w { rules = r }
 
 -- ---- tasks and processors
 
@@ -137,6 +129,42 @@ running w c = slice_index_or w.cpus c None
 abbrev pub with_cpu : WorldState → ℕ → Option ℕ → WorldState
 with_cpu w c o = record w { cpus = slice_set w.cpus c o }
 
+-- the first switch, if there is one, else the second one
+abbrev pub or_switch : Option Switch → Switch → Option Switch
+or_switch None s = Some s
+or_switch (Some x) s = Some x
+
+-- the processor switches from the task that runs there, unless a switch is under way
+abbrev pub switch_at : WorldState → ℕ → Option Switch
+switch_at w c = or_switch w.passing.switching (record { cpu = c; from = running w c })
+
+-- under Linux rules a processor begins to switch: for helpers the task that runs there stays the
+-- current one until a cycle there ends (core.c, `__schedule`)
+abbrev pub with_switch : WorldState → ℕ → WorldState
+with_switch w c =
+    if is_by_linux w
+    then record w { passing = record w.passing { switching = switch_at w c } }
+    else w
+
+-- a cycle begins on that processor, on which a claim ends; with none, a cycle ends, and what was
+-- kept for it is forgotten
+abbrev pub cycling_by_linux : WorldState → Option ℕ → WorldState
+cycling_by_linux w None = record w { cycling = None; passing = nothing_passes }
+cycling_by_linux w (Some c) =
+    record (with_switch w c) { cycling = Some c; claimed = but_cpu w.claimed c }
+
+-- the world with a scheduling cycle under way on that processor, or with none
+abbrev pub with_cycling : WorldState → Option ℕ → WorldState
+with_cycling w x = if is_by_linux w then cycling_by_linux w x else record w { cycling = x }
+
+-- the world with that task gone to sleep from the processor on which a cycle is to begin
+abbrev pub with_slept : WorldState → ℕ → WorldState
+with_slept w t = record w { passing = record w.passing { slept = Some t } }
+
+-- the world with a task woken from that processor, or with none
+abbrev pub with_waker : WorldState → Option ℕ → WorldState
+with_waker w o = record w { passing = record w.passing { waker = o } }
+
 -- whether a task or a processor is the given one; false where none is given
 abbrev pub is_this : ℕ → Option ℕ → Bool
 is_this t None = false
@@ -145,6 +173,20 @@ is_this t (Some u) = t == u
 -- the processor on which the task runs
 abbrev pub cpu_of : WorldState → ℕ → Option ℕ
 cpu_of w t = position (is_this t) w.cpus
+
+-- the current task of a processor, where such a switch is under way
+abbrev pub current_in : Option Switch → WorldState → ℕ → Option ℕ
+current_in None w c = running w c
+current_in (Some s) w c = if s.cpu == c then s.from else running w c
+
+-- the task that helpers are told is current on a processor: who ran there as the last cycle on it
+-- ended
+abbrev pub current : WorldState → ℕ → Option ℕ
+current w c = current_in w.passing.switching w c
+
+-- whether the task is current on one of the processors
+abbrev pub is_current : WorldState → ℕ → Bool
+is_current w t = any_below (length w.cpus) (λ c. is_this t (current w c))
 
 -- a processor is idle where no task runs and no cycle is under way
 abbrev pub is_idle : WorldState → ℕ → Bool
@@ -159,17 +201,8 @@ abbrev pub or_this : Option ℕ → Option ℕ → Option ℕ
 or_this None o = o
 or_this (Some c) o = Some c
 
--- the lowest idle one of the first so many processors
-abbrev pub idle_below : ℕ → WorldState → Option ℕ
-idle_below zero w = None
-idle_below (suc n) w = or_this (idle_below n w) (this_if (is_idle w n) n)
-
--- the lowest processor that is idle, if one is
-abbrev pub first_idle : WorldState → Option ℕ
-first_idle w = idle_below (length w.cpus) w
-
--- whether the processor was chosen for a task, and no cycle has begun there since; under plain rules
--- a choice claims nothing (ext/idle.c, `scx_idle_test_and_clear_cpu`)
+-- whether the processor was chosen for a task, and no cycle has begun there since; under plain
+-- rules a choice claims nothing (ext/idle.c, `scx_idle_test_and_clear_cpu`)
 abbrev pub is_claimed : WorldState → ℕ → Bool
 is_claimed w c = is_by_linux w && is_in_set w.claimed c
 
@@ -217,7 +250,7 @@ no_call = record {
   cpu = 0;
   insert = None;
   has_moved = false;
-  fault = None;
+  cause = None;
   claims = no_cpus;
 }
 
@@ -229,6 +262,11 @@ quiet w = record w { notes = [] }
 abbrev pub at_callback : WorldState → Callback → ℕ → ℕ → WorldState
 at_callback w b t c =
     record (quiet w) { call = record no_call { callback = b; task = t; cpu = c } }
+
+-- the processor on which the callback at hand runs: for callbacks of a wake the one from which the
+-- task is woken, else the processor at hand
+abbrev pub here : WorldState → ℕ
+here w = unwrap_or w.passing.waker w.call.cpu
 
 -- what is noted now
 abbrev pub note_now : WorldState → What → Note

@@ -2,7 +2,7 @@ ghost use Rattle.std.specs.Prelude.{◌≡◌};
 ghost use Rattle.scx_sched_world.specs.Tasks.{queue_for, for_cpu, to_held, to_global, to_local, to_front};
 
 use crate::cpu_set::CpuSet;
-use crate::faults::Fault;
+use crate::eject::Cause;
 use crate::ids::{GLOBAL, HELD, LOCAL, LOCAL_ON};
 use scx_dsq::Rank;
 use scx_isa::Callback;
@@ -110,8 +110,8 @@ pub struct Call {
     pub insert: Option<Insert>,
     /// True if it moved a task to a local queue, or inserted one that was held.
     pub has_moved: bool,
-    /// Its first fault.
-    pub fault: Option<Fault>,
+    /// Its first fault or exit.
+    pub cause: Option<Cause>,
     /// The CPUs that it claimed for tasks.
     pub claims: CpuSet,
 }
@@ -123,7 +123,7 @@ impl Call {
         cpu: 0,
         insert: None,
         has_moved: false,
-        fault: None,
+        cause: None,
         claims: CpuSet::EMPTY,
     };
 }

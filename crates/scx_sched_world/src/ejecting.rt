@@ -4,6 +4,7 @@ ghost use Rattle.scx_sched_world.specs.Ejecting.{put_builtin, after_catch_up, us
 
 use crate::eject::Eject;
 use crate::ids::BUILTIN;
+use crate::passing::Passing;
 use crate::world::World;
 use scx_dsq::Rank;
 use scx_sched_tasks::DEFAULT_SLICE;
@@ -25,7 +26,7 @@ impl World {
         self.ejected.is_some()
     }
 
-    /// The policy is out of force, and what the callback at hand wanted is forgotten.
+    /// The policy is out of force. What the callback at hand wanted and what Linux rules keep of the event are forgotten.
     pub fn put_out(&mut self, why: Eject)
         ensures world { self.new ≡ put_out self.old why }
         ensures few { self.new.queues.pushes ≡ self.old.queues.pushes }
@@ -33,6 +34,8 @@ impl World {
         self.ejected = Some(why);
         self.call.insert = None;
         self.call.has_moved = false;
+        self.passing = Passing::NOTHING;
+        self.by_linux = false;
     }
 
     /// A task that waits in any queue waits for the built-in scheduler.

@@ -1,15 +1,16 @@
-ghost use Rattle.std.specs.Prelude.{◌≡◌, ◌+◌, ◌*◌, ◌^◌, ◌<◌, ◌≤◌, length, is_some, IfSome};
-ghost use Rattle.scx_dsq.specs.Queues.{IsQueueAt};
+ghost use Rattle.std.specs.Prelude.{◌≡◌, ◌+◌, ◌-◌, ◌*◌, ◌^◌, ◌<◌, ◌≤◌, length, is_some, IfSome};
+ghost use Rattle.scx_dsq.specs.Queues.{IsQueueAt, front_of};
 ghost use Rattle.scx_sched_world.specs.Ids.{policy_end};
-ghost use Rattle.scx_sched_world.specs.World.{with_note};
+ghost use Rattle.scx_sched_world.specs.World.{is_free, this_if, after_claim, with_note};
 ghost use Rattle.scx_sched_world.specs.declared.kicks.Kick.TheVariants.{IfIdle};
 ghost use Rattle.scx_isa_semantics.specs.HostTables.{field_width};
-ghost use Rattle.scx_sched_world.specs.Helpers.{invalid, with_fault, invalid_if, is_there, create_answer, after_create_dsq, queued_answer, after_queued, is_held, may_insert, queue_fault, rank_fault, or_fault, are_known, flags_fault, insert_fault, is_late, after_late, insert_or_fault, with_move, insert_answer, after_insert, after_release, choice_answer, after_choice, seems_idle, idle_answer, after_idle, pid_answer, moved_here, move_answer, after_move, kicked_so, kick_answer, after_kick, weight_at, weight_told, group_at, field_of};
+ghost use Rattle.scx_sched_world.specs.Helpers.{invalid, with_cause, with_fault, after_exit, task_or_null, current_answer, after_asking_cpu, peek_answer, is_current_one, cpu_of_task, first_free_in, pick_answer, after_pick, claim_answer, after_claim_of, invalid_if, is_there, create_answer, after_create_dsq, queued_answer, after_queued, is_held, may_insert, queue_fault, rank_fault, or_fault, are_known, flags_fault, insert_fault, is_late, after_late, insert_or_fault, with_move, insert_answer, after_insert, after_release, choice_answer, after_choice, seems_idle, idle_answer, after_idle, pid_answer, moved_here, move_answer, after_move, kicked_so, kick_answer, after_kick, weight_at, weight_told, group_at, all_cpus, field_of};
 
 use crate::call::Insert;
+use crate::eject::Cause;
 use crate::faults::Fault;
 use crate::flags::are_linux_flags;
-use crate::ids::{GLOBAL, HELD, INVALID, LOCAL, LOCAL_IDS, LOCAL_ON, POLICY_END};
+use crate::ids::{BUSY, GLOBAL, HELD, INVALID, LOCAL, LOCAL_IDS, LOCAL_ON, POLICY_END};
 use crate::kicks::Kick;
 use crate::notes::{Note, What};
 use crate::world::World;
@@ -19,15 +20,31 @@ use scx_vm::Answer;
 
 /// The helpers: each one's answer, and its change of the world.
 impl World {
-    /// Keeps the fault, if it is the first one of the callback.
+    /// Keeps the cause, if it is the first one of the callback.
+    fn keep_cause(&mut self, cause: Cause)
+        ensures world { self.new ≡ with_cause self.old cause }
+        ensures few { self.new.queues.pushes ≡ self.old.queues.pushes }
+    {
+        if self.call.cause.is_none() {
+            self.call.cause = Some(cause);
+        }
+    }
+
+    /// Keeps the fault, if the callback had neither a fault nor an exit before.
     fn fault(&mut self, fault: Fault) -> u64
         ensures answer { result ≡ invalid }
         ensures world { self.new ≡ with_fault self.old fault }
     {
-        if self.call.fault.is_none() {
-            self.call.fault = Some(fault);
-        }
+        self.keep_cause(Cause::Fault(fault));
         INVALID
+    }
+
+    /// The callback at hand puts the policy out of force as it ends, with that code.
+    pub fn end_by(&mut self, code: u64)
+        ensures world { self.new ≡ after_exit self.old code }
+        ensures few { self.new.queues.pushes ≡ self.old.queues.pushes }
+    {
+        self.keep_cause(Cause::Exit(code.cast_signed()));
     }
 
     /// The place of the policy's queue of that id.
@@ -156,8 +173,9 @@ impl World {
         }
     }
 
-    fn insert_fault(&self, task: Option<u16>, insert: Insert, flags: u64) -> Option<Fault>
-        ensures { result ≡ insert_fault self.now task insert flags }
+    #[inline(always)]
+    fn insert_fault(&self, task: Option<u16>, insert: &Insert, flags: u64) -> Option<Fault>
+        ensures { result ≡ insert_fault self.now task insert.now flags }
     {
         if !self.may_insert(task) {
             return Some(Fault::CannotInsert);
@@ -209,16 +227,18 @@ impl World {
         if self.is_late(task) {
             return self.pass_over(flags);
         }
-        self.insert_now(task, insert, flags)
+        self.insert_now(task, &insert, flags)
     }
 
     /// Inserts the task, unless that is a fault.
-    fn insert_now(&mut self, task: Option<u16>, insert: Insert, flags: u64) -> u64
+    #[inline(always)]
+    fn insert_now(&mut self, task: Option<u16>, insert: &Insert, flags: u64) -> u64
         requires notes { length self.old.notes < 4096 }
         requires few { self.old.queues.pushes < 2 ^ 63 }
-        ensures answer { result ≡ invalid_if (insert_fault self.old task insert flags) }
+        ensures answer { result ≡ invalid_if (insert_fault self.old task insert.now flags) }
         ensures world { self.new
-            ≡ insert_or_fault self.old (insert_fault self.old task insert flags) task insert }
+            ≡ insert_or_fault self.old (insert_fault self.old task insert.now flags) task
+            insert.now }
         ensures notes { length self.new.notes ≤ length self.old.notes + 1 }
         ensures few { self.new.queues.pushes ≤ self.old.queues.pushes + 1 }
     {
@@ -228,7 +248,7 @@ impl World {
         if self.call.callback == Callback::Dispatch {
             self.release(task, insert.for_cpu(self.call.cpu));
         } else {
-            self.keep_insert(insert);
+            self.keep_insert(*insert);
         }
         0
     }
@@ -382,6 +402,120 @@ impl World {
         }
     }
 
+    // ---- the current tasks of CPUs
+
+    /// The current task of the CPU.
+    pub(crate) fn ask_current(&mut self, cpu: u64) -> Answer
+        ensures answer { result ≡ current_answer self.old cpu }
+        ensures world { self.new ≡ after_asking_cpu self.old cpu }
+        ensures few { self.new.queues.pushes ≡ self.old.queues.pushes }
+    {
+        if cpu >= self.cpus.len() as u64 {
+            let _answer = self.fault(Fault::NoSuchCpu);
+            return Answer::Num(0);
+        }
+        task_or_null(self.current(cpu as u32))
+    }
+
+    /// The front of a queue of the policy.
+    pub(crate) fn peek(&mut self, id: u64) -> Answer
+        ensures answer { result ≡ peek_answer self.old id }
+        ensures world { self.new ≡ after_queued self.old id }
+        ensures few { self.new.queues.pushes ≡ self.old.queues.pushes }
+    {
+        let Some(place) = self.place(id) else {
+            let _answer = self.fault(Fault::NoSuchQueue);
+            return Answer::Num(0);
+        };
+        task_or_null(self.front_at(place, id))
+    }
+
+    /// The front of the queue of that id, which is at that place.
+    fn front_at(&self, place: usize, queue: u64) -> Option<u16>
+        requires { IsQueueAt self.now.queues place queue }
+        ensures { result ≡ front_of self.now.queues queue }
+    {
+        let task = self.queues.front_at(place, queue)?;
+        Some(task as u16)
+    }
+
+    /// True if it is a task, and the current one of a CPU.
+    pub(crate) fn is_current_one(&self, task: Option<u16>) -> bool
+        ensures { result ≡ is_current_one self.now task }
+    {
+        match task {
+            Some(task) => self.is_current(task),
+            None => false,
+        }
+    }
+
+    /// The CPU of the task.
+    pub(crate) fn cpu_of_task(&self, task: Option<u16>) -> u32
+        ensures { result ≡ cpu_of_task self.now task }
+    {
+        match task {
+            Some(task) => self.task(task).prev_cpu,
+            None => 0,
+        }
+    }
+
+    // ---- claims
+
+    /// Claims the lowest free CPU of the mask, and answers it.
+    pub(crate) fn pick_idle(&mut self, mask: u64, flags: u64) -> u64
+        ensures answer { result ≡ pick_answer self.old mask flags }
+        ensures world { self.new ≡ after_pick self.old mask flags }
+        ensures few { self.new.queues.pushes ≡ self.old.queues.pushes }
+    {
+        if flags > 1 {
+            return self.fault(Fault::UnknownFlag);
+        }
+        let picked = self.first_free_in(mask);
+        self.claim(picked);
+        match picked {
+            Some(cpu) => u64::from(cpu),
+            None => BUSY,
+        }
+    }
+
+    /// The lowest free CPU of the mask.
+    #[tactic(auto, using(crate::proofs::Picks::lowest_in, crate::proofs::Picks::none_in_mask))]
+    fn first_free_in(&self, mask: u64) -> Option<u32>
+        ensures { result ≡ first_free_in mask self.now }
+    {
+        let cpu = (mask & !self.taken()).trailing_zeros();
+        if (cpu as usize) < self.cpus.len() {
+            Some(cpu)
+        } else {
+            None
+        }
+    }
+
+    /// Claims the CPU if it is free, and answers 1 if it was.
+    pub(crate) fn claim_idle(&mut self, cpu: u64) -> u64
+        ensures answer { result ≡ claim_answer self.old cpu }
+        ensures world { self.new ≡ after_claim_of self.old cpu }
+        ensures few { self.new.queues.pushes ≡ self.old.queues.pushes }
+    {
+        if cpu >= self.cpus.len() as u64 {
+            return self.fault(Fault::NoSuchCpu);
+        }
+        u64::from(self.claim_free(cpu as u32))
+    }
+
+    /// Claims the CPU if it is free, and returns whether it was.
+    fn claim_free(&mut self, cpu: u32) -> bool
+        ensures answer { result ≡ is_free self.old cpu }
+        ensures world { self.new ≡ after_claim self.old (this_if (is_free self.old cpu) cpu) }
+        ensures few { self.new.queues.pushes ≡ self.old.queues.pushes }
+    {
+        let free = self.is_free(cpu);
+        if free {
+            self.claim(Some(cpu));
+        }
+        free
+    }
+
     // ---- the record of a task
 
     pub(crate) fn field(&self, task: u16, field: Field) -> u64
@@ -396,7 +530,15 @@ impl World {
             Field::PrevCpu => u64::from(self.task(task).prev_cpu),
             Field::Group => self.group(task),
             Field::RunNs => self.task(task).run_ns,
+            Field::Cpus => self.all_cpus(),
         }
+    }
+
+    /// The CPUs on which a task may run, one bit each.
+    fn all_cpus(&self) -> u64
+        ensures { result ≡ all_cpus self.now }
+    {
+        first_bits(self.cpus.len())
     }
 
     /// The weight that a policy is told: under Linux rules the task's own.
@@ -431,5 +573,27 @@ impl World {
         } else {
             0
         }
+    }
+}
+
+/// The number whose lowest bits are set, as many as given.
+fn first_bits(count: usize) -> u64
+    requires { count ≤ 64 }
+    ensures { result ≡ 2 ^ count - 1 }
+{
+    if count < 64 {
+        (1 << count) - 1
+    } else {
+        u64::MAX
+    }
+}
+
+/// The task as an answer; the number 0 if there is none.
+fn task_or_null(task: Option<u16>) -> Answer
+    ensures { result ≡ task_or_null task }
+{
+    match task {
+        Some(task) => Answer::Task(TaskId(task)),
+        None => Answer::Num(0),
     }
 }

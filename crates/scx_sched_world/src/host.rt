@@ -37,6 +37,21 @@ impl Env for World {
             Helper::TaskByPid => self.task_by_pid(first),
             Helper::DsqNrQueued => Answer::Num(self.queued(first)),
             Helper::KickCpu => Answer::Num(self.kick_by(first, given_number(arguments[1]))),
+            Helper::SmpProcessorId => Answer::Num(u64::from(self.here())),
+            Helper::Exit => {
+                self.end_by(first);
+                Answer::Num(0)
+            }
+            Helper::CpuCurr => self.ask_current(first),
+            Helper::DsqPeek => self.peek(first),
+            Helper::TaskRunning => {
+                Answer::Num(u64::from(self.is_current_one(given_task(arguments[0]))))
+            }
+            Helper::TaskCpu => {
+                Answer::Num(u64::from(self.cpu_of_task(given_task(arguments[0]))))
+            }
+            Helper::PickIdle => Answer::Num(self.pick_idle(first, given_number(arguments[1]))),
+            Helper::ClaimIdle => Answer::Num(self.claim_idle(first)),
             // A run looks up elements itself.
             Helper::MapLookupElem => Answer::Num(0),
         }
@@ -54,7 +69,12 @@ impl Env for World {
             }
             Field::DsqVtime => self.tasks.set_vtime(task.0, value),
             // Into these no program stores.
-            Field::Pid | Field::Weight | Field::PrevCpu | Field::Group | Field::RunNs => {}
+            Field::Pid
+            | Field::Weight
+            | Field::PrevCpu
+            | Field::Group
+            | Field::RunNs
+            | Field::Cpus => {}
         }
     }
 }

@@ -28,6 +28,9 @@ pub(crate) const LOCAL_IDS: u64 = 0x1_0000_0000;
 /// The answer of a helper call with a fault: -22, Linux's EINVAL.
 pub(crate) const INVALID: u64 = 0xffff_ffff_ffff_ffea;
 
+/// The answer of a helper call that finds no CPU to claim: -16, Linux's EBUSY.
+pub(crate) const BUSY: u64 = 0xffff_ffff_ffff_fff0;
+
 /// The place of the global queue among the queues, as it is created first.
 pub(crate) const GLOBAL_PLACE: usize = 0;
 

@@ -30,4 +30,6 @@ pub enum What {
     Stall(u16),
     /// The policy is ejected: that was the first fault of a callback.
     Fault(Fault),
+    /// The policy is ejected: a callback ended it, with that code.
+    Exit(i64),
 }

@@ -5,11 +5,12 @@ ghost use Rattle.scx_dsq.specs.Queues.{IsQueueAt, entry_of, is_in, front_of, len
 ghost use Rattle.scx_weights.specs.Limits.{usage_of, with_use};
 ghost use Rattle.scx_sched_world.specs.Ids.{global, parked_queue, local_on};
 ghost use Rattle.scx_sched_world.specs.World.{task_at, with_task, with_queues, with_tree};
-ghost use Rattle.scx_sched_world.specs.Tasks.{after_wake, after_sleep, after_leave, homed, local_cpu, homed_at, after_local, given_slice, task_after_insert, key_by, rank_by, after_preempt_of, after_preempt_at, after_preempt, after_enter, local_len, fill_front, after_fill, after_stop, after_run, after_start, after_keep, after_cut_off, longer, after_switch, put_parked, after_take, let_go, ran_a_tick, after_tick, later, used_ms, slice_left, begun_periods, after_reweigh};
+ghost use Rattle.scx_sched_world.specs.Tasks.{after_wake, after_sleep, after_leave, homed, local_cpu, homed_at, after_local, given_slice, task_after_insert, key_by, rank_by, after_preempt_of, after_preempt_at, after_preempt, queued_by, after_enter, local_len, fill_front, after_fill, after_stop, after_run, after_start, after_keep, after_cut_off, longer, after_switch, put_parked, after_take, let_go, ran_a_tick, after_tick, later, used_ms, slice_left, begun_periods, after_reweigh};
 
 use crate::call::Insert;
 use crate::counting;
 use crate::ids::{GLOBAL, GLOBAL_PLACE, LOCAL_ON, LOCAL_PLACES, PARKED, PARKED_PLACE};
+use crate::pending::{unsettle, unsettle_at};
 use crate::world::World;
 use scx_dsq::Rank;
 use scx_sched_tasks::DEFAULT_SLICE;
@@ -52,6 +53,7 @@ impl World {
         if queue == PARKED {
             self.parked_throttled = false;
         }
+        unsettle_at(&mut self.unsettled, self.by_linux, queue);
         counting::push(&mut self.queues, queue, u32::from(task), rank);
     }
 
@@ -137,6 +139,7 @@ impl World {
     {
         let queue = LOCAL_ON + u64::from(cpu);
         if (cpu as usize) < self.cpus.len() {
+            unsettle(&mut self.unsettled, self.by_linux, Some(cpu));
             let place = LOCAL_PLACES + cpu as usize;
             let _refused = self.queues.push_fifo_at(place, queue, u32::from(task));
         } else {
@@ -165,11 +168,41 @@ impl World {
     {
         if (task as usize) < self.tasks.len() {
             self.set_given(task, insert);
-            let rank = self.rank_by(insert.rank);
-            self.push(insert.queue, task, rank);
-            self.set_home_at(task, insert.queue);
+            self.queue_by(task, insert);
             self.preempt_by(insert);
         }
+    }
+
+    /// The task comes into the queue of the insert. By Linux rules its CPU is that of the queue from then on, if it is
+    /// a local one.
+    #[inline(always)]
+    #[tactic(auto, using(crate::proofs::Entering::plain_queued))]
+    fn queue_by(&mut self, task: u16, insert: Insert)
+        requires task { task < length self.old.tasks }
+        requires few { self.old.queues.pushes < 2 ^ 63 }
+        ensures world { self.new ≡ queued_by self.old task insert }
+        ensures few { self.new.queues.pushes ≤ self.old.queues.pushes + 1 }
+        ensures notes { self.new.notes ≡ self.old.notes }
+    {
+        if self.by_linux {
+            self.queue_by_linux(task, insert);
+        } else {
+            self.push(insert.queue, task, insert.rank);
+        }
+    }
+
+    /// The task comes into the queue of the insert by Linux rules.
+    #[inline(always)]
+    fn queue_by_linux(&mut self, task: u16, insert: Insert)
+        requires task { task < length self.old.tasks }
+        requires few { self.old.queues.pushes < 2 ^ 63 }
+        ensures world { self.new ≡ queued_by self.old task insert }
+        ensures few { self.new.queues.pushes ≤ self.old.queues.pushes + 1 }
+        ensures notes { self.new.notes ≡ self.old.notes }
+    {
+        let rank = self.rank_by(insert.rank);
+        self.push(insert.queue, task, rank);
+        self.set_home_at(task, insert.queue);
     }
 
     /// The rank by which a task is pushed that is to have that one.
@@ -567,6 +600,17 @@ impl World {
             None
         } else {
             Some(left)
+        }
+    }
+
+    /// The groups of the task have used a millisecond.
+    pub fn use_ms(&mut self, task: u16)
+        requires { (g : ℕ) → usage_of self.old.tree g < 2 ^ 63 }
+        ensures world { self.new ≡ used_ms self.old task }
+        ensures few { self.new.queues.pushes ≡ self.old.queues.pushes }
+    {
+        if (task as usize) < self.tasks.len() {
+            self.charge_ms(task);
         }
     }
 

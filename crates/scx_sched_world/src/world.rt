@@ -1,4 +1,4 @@
-ghost use Rattle.std.specs.Prelude.{◌≡◌, ◌≢◌, ℕ, true, ◌+◌, ◌≤◌, ◌<◌, nat_lt, length, position, slice_get, slice_index_or, vec_capacity, Some, IfSome, IfOk, OnOk};
+ghost use Rattle.std.specs.Prelude.{◌≡◌, ◌≢◌, ℕ, true, ◌&&◌, ◌+◌, ◌≤◌, ◌<◌, is_none, nat_lt, length, position, slice_get, slice_index_or, vec_capacity, Some, IfSome, IfOk, OnOk};
 ghost use Rattle.std.specs.Int.{bit_at};
 ghost use Rattle.scx_dsq.specs.Laws.{one_if};
 ghost use Rattle.scx_dsq.specs.Queues.{entry_of, queue_of, task_count};
@@ -9,15 +9,16 @@ ghost use Rattle.scx_sched_world.specs.Helpers.{task_argument, with_insert};
 ghost use Rattle.scx_sched_world.specs.Kept.{AreOccupied, AreTaken, lowest_bit, StaysParked, NobodyIsFree};
 ghost use Rattle.scx_sched_world.specs.Waits.{first_overdue};
 ghost use Rattle.scx_weights.specs.Limits.{usage_of};
-ghost use Rattle.scx_sched_world.specs.World.{task_at, wait, with_task, is_runnable, is_throttled, waits, running, with_cpu, with_cycling, with_slept, is_this, cpu_of, is_idle, is_claimed, is_free, first_free, choice, default_choice, after_claim, with_kick, with_preemption, without_kick, is_by_linux, with_rules, at_callback, quiet, note_now, IsLike};
+ghost use Rattle.scx_sched_world.specs.World.{task_at, wait, with_task, is_runnable, is_throttled, waits, running, with_cpu, with_switch, cycling_by_linux, with_cycling, with_slept, with_waker, is_this, cpu_of, current_in, current, is_current, is_idle, is_claimed, is_free, first_free, choice, default_choice, after_claim, with_kick, with_preemption, without_kick, are_linux, is_by_linux, with_rules, at_callback, quiet, here, note_now, IsLike};
 
 use crate::call::{Call, Insert};
 use crate::counting;
 use crate::cpu_set::CpuSet;
-use crate::eject::Eject;
-use crate::faults::Fault;
+use crate::eject::{Cause, Eject};
 use crate::ids::{BUILTIN, GLOBAL, HELD, LOCAL_ON, PARKED};
 use crate::notes::{Note, What};
+use crate::passing::{Passing, Switch};
+use crate::pending::unsettle;
 use scx_dsq::{Entry, Queues};
 use scx_isa::{Callback, Rules, TaskId};
 use scx_sched_tasks::{Task, Tasks};
@@ -41,8 +42,8 @@ pub struct World {
     pub(crate) running_on: Vec<u64>,
     /// The processor on which a scheduling cycle is under way.
     pub(crate) cycling: Option<u32>,
-    /// The task that went to sleep from that processor, under Linux rules.
-    pub(crate) slept: Option<u16>,
+    /// Facts that an event by Linux rules keeps until it ends.
+    pub(crate) passing: Passing,
     /// By whose rules the machine goes while the policy is in force.
     pub(crate) rules: Rules,
     /// The processors that were chosen for a task, and on which no cycle has begun since.
@@ -61,6 +62,11 @@ pub struct World {
     pub(crate) notes: Vec<Note>,
     /// True if all parked tasks are known to be throttled.
     pub(crate) parked_throttled: bool,
+    /// True if the machine goes by Linux rules.
+    pub(crate) by_linux: bool,
+    /// CPUs that may be idle with a task in their local queue, one bit each. Under Linux rules all others are known not
+    /// to be.
+    pub(crate) unsettled: u64,
 }
 
 impl Model for World {
@@ -97,7 +103,7 @@ impl World {
                 busy: 0,
                 running_on,
                 cycling: None,
-                slept: None,
+                passing: Passing::NOTHING,
                 rules: Rules::Plain,
                 claimed: CpuSet::EMPTY,
                 kicked: CpuSet::EMPTY,
@@ -109,6 +115,8 @@ impl World {
                 ejected: None,
                 notes,
                 parked_throttled: false,
+                by_linux: false,
+                unsettled: u64::MAX,
             }),
             (tasks, cpus, running_on, queues, notes) => {
                 drop(tasks);
@@ -133,7 +141,7 @@ impl World {
         self.busy = other.busy;
         self.running_on.copy_from_slice(&other.running_on);
         self.cycling = other.cycling;
-        self.slept = other.slept;
+        self.passing = other.passing;
         self.rules = other.rules;
         self.claimed = other.claimed;
         self.kicked = other.kicked;
@@ -145,6 +153,8 @@ impl World {
         self.ejected = other.ejected;
         copy_notes(&mut self.notes, &other.notes);
         self.parked_throttled = other.parked_throttled;
+        self.by_linux = other.by_linux;
+        self.unsettled = other.unsettled;
     }
 
     /// A copy of the world, in memory of its own.
@@ -165,7 +175,7 @@ impl World {
                 busy: self.busy,
                 running_on,
                 cycling: self.cycling,
-                slept: self.slept,
+                passing: self.passing,
                 rules: self.rules,
                 claimed: self.claimed,
                 kicked: self.kicked,
@@ -177,6 +187,8 @@ impl World {
                 ejected: self.ejected,
                 notes,
                 parked_throttled: self.parked_throttled,
+                by_linux: self.by_linux,
+                unsettled: self.unsettled,
             }),
             (tasks, cpus, running_on, queues, tree, notes) => {
                 drop(tasks);
@@ -342,6 +354,7 @@ impl World {
         ensures { self.new ≡ with_cpu self.old cpu task }
     {
         if (cpu as usize) < self.cpus.len() {
+            unsettle(&mut self.unsettled, self.by_linux, Some(cpu));
             let before = self.cpus[cpu as usize];
             change_running(&mut self.running_on, before, task, cpu);
             self.cpus[cpu as usize] = task;
@@ -362,34 +375,139 @@ impl World {
         }
     }
 
-    /// A scheduling cycle begins on the processor, and the claim on it ends; with none the one that is under way
-    /// ends.
+    /// A scheduling cycle begins on the CPU; with none the one that is under way ends.
+    #[inline(always)]
     pub fn set_cycling(&mut self, cpu: Option<u32>)
         ensures world { self.new ≡ with_cycling self.old cpu }
         ensures few { self.new.queues.pushes ≡ self.old.queues.pushes }
     {
-        match cpu {
-            Some(cpu) => self.claimed = self.claimed.but(cpu),
-            None => self.slept = None,
+        if !self.by_linux {
+            self.cycle_on(cpu);
+            return;
         }
+        self.cycle_by_linux(cpu);
+    }
+
+    /// As a cycle begins by Linux rules, the CPU begins to switch, and a claim on it ends. As one ends, all that was
+    /// kept for it is forgotten.
+    fn cycle_by_linux(&mut self, cpu: Option<u32>)
+        requires { is_by_linux self.old ≡ true }
+        ensures world { self.new ≡ cycling_by_linux self.old cpu }
+        ensures few { self.new.queues.pushes ≡ self.old.queues.pushes }
+    {
+        match cpu {
+            Some(cpu) => {
+                self.switch_by_linux(cpu);
+                self.claimed = self.claimed.but(cpu);
+            }
+            None => self.passing = Passing::NOTHING,
+        }
+        self.cycle_on(cpu);
+    }
+
+    /// The cycle that is under way is one on that CPU, or there is none.
+    #[inline(always)]
+    fn cycle_on(&mut self, cpu: Option<u32>)
+        ensures { self.new ≡ record self.old { cycling = cpu } }
+    {
+        unsettle(&mut self.unsettled, self.by_linux, self.cycling);
         self.cycling = cpu;
     }
 
-    /// The task went to sleep from the processor on which a cycle is to begin.
+    /// By Linux rules the CPU begins to go over to another task, unless it did so before in this event. For helpers the
+    /// task that runs there stays the current one until a cycle ends there.
+    #[inline(always)]
+    pub fn begin_switch(&mut self, cpu: u32)
+        ensures world { self.new ≡ with_switch self.old cpu }
+        ensures few { self.new.queues.pushes ≡ self.old.queues.pushes }
+    {
+        if self.by_linux {
+            self.switch_by_linux(cpu);
+        }
+    }
+
+    /// By Linux rules the CPU begins to go over to another task, unless it did so before.
+    fn switch_by_linux(&mut self, cpu: u32)
+        requires { is_by_linux self.old ≡ true }
+        ensures world { self.new ≡ with_switch self.old cpu }
+        ensures few { self.new.queues.pushes ≡ self.old.queues.pushes }
+    {
+        if self.passing.switching.is_none() {
+            let from = self.running(cpu);
+            self.passing.switching = Some(Switch { cpu, from });
+        }
+    }
+
+    /// The task went to sleep from the CPU on which a cycle is to begin.
     pub fn tell_slept(&mut self, task: u16)
         ensures world { self.new ≡ with_slept self.old task }
         ensures few { self.new.queues.pushes ≡ self.old.queues.pushes }
     {
-        self.slept = Some(task);
+        self.passing.slept = Some(task);
     }
 
-    /// The task that went to sleep from the processor on which a cycle is under way.
+    /// The task that went to sleep from the CPU on which a cycle is under way.
     #[inline(always)]
     pub fn slept(&self) -> Option<u16>
-        ensures { result ≡ self.now.slept }
+        ensures { result ≡ self.now.passing.slept }
     {
-        let slept = self.slept;
+        let slept = self.passing.slept;
         slept
+    }
+
+    /// A task is woken from that CPU, or from none any more.
+    pub fn tell_waker(&mut self, cpu: Option<u32>)
+        ensures world { self.new ≡ with_waker self.old cpu }
+        ensures few { self.new.queues.pushes ≡ self.old.queues.pushes }
+    {
+        self.passing.waker = cpu;
+    }
+
+    /// Facts that an event by Linux rules keeps until it ends.
+    pub fn passing(&self) -> Passing
+        ensures { result ≡ self.now.passing }
+    {
+        self.passing
+    }
+
+    /// The task that ran on the CPU as the last cycle there ended.
+    pub fn current(&self, cpu: u32) -> Option<u16>
+        ensures { result ≡ current self.now cpu }
+    {
+        match self.passing.switching {
+            Some(switch) => self.current_in(switch, cpu),
+            None => self.running(cpu),
+        }
+    }
+
+    /// The current task of the CPU during that switch.
+    fn current_in(&self, switch: Switch, cpu: u32) -> Option<u16>
+        ensures { result ≡ current_in (Some switch) self.now cpu }
+    {
+        if switch.cpu == cpu {
+            switch.from
+        } else {
+            self.running(cpu)
+        }
+    }
+
+    /// True if the task is the current one of a CPU.
+    pub fn is_current(&self, task: u16) -> bool
+        ensures { result ≡ is_current self.now task }
+    {
+        for cpu in 0..self.cpus() {
+            if self.is_current_on(task, cpu) {
+                return true;
+            }
+        }
+        false
+    }
+
+    /// True if the task is the current one of that CPU.
+    fn is_current_on(&self, task: u16, cpu: u32) -> bool
+        ensures { result ≡ is_this task (current self.now cpu) }
+    {
+        self.current(cpu) == Some(task)
     }
 
     /// True if no task runs on the CPU, and no cycle is under way there.
@@ -453,7 +571,7 @@ impl World {
 
     /// The processors that aren't free, one bit each.
     #[tactic(auto, using(crate::proofs::Busy::taken_claimed, crate::proofs::Busy::taken_unclaimed))]
-    fn taken(&self) -> u64
+    pub(crate) fn taken(&self) -> u64
         ensures { AreTaken result self.now }
     {
         let occupied = self.occupied();
@@ -553,10 +671,7 @@ impl World {
     pub fn is_by_linux(&self) -> bool
         ensures { result ≡ is_by_linux self.now }
     {
-        match self.rules {
-            Rules::Plain => false,
-            Rules::Linux => self.ejected.is_none(),
-        }
+        self.by_linux
     }
 
     /// From now on the machine goes by these rules.
@@ -564,7 +679,10 @@ impl World {
         ensures world { self.new ≡ with_rules self.old rules }
         ensures few { self.new.queues.pushes ≡ self.old.queues.pushes }
     {
+        let linux = goes_by_linux(rules, self.ejected);
         self.rules = rules;
+        self.by_linux = linux;
+        self.unsettled = u64::MAX;
     }
 
     // ---- weights
@@ -649,7 +767,7 @@ impl World {
             cpu,
             insert: None,
             has_moved: false,
-            fault: None,
+            cause: None,
             claims: CpuSet::EMPTY,
         };
     }
@@ -701,11 +819,40 @@ impl World {
         self.call.has_moved
     }
 
-    /// The first fault of the callback.
-    pub fn first_fault(&self) -> Option<Fault>
-        ensures { result ≡ self.now.call.fault }
+    /// The first fault or exit of the callback.
+    #[inline(always)]
+    pub fn cause(&self) -> Option<Cause>
+        ensures { result ≡ self.now.call.cause }
     {
-        self.call.fault
+        self.call.cause
+    }
+
+    /// The CPU on which the callback at hand runs.
+    #[inline(always)]
+    pub fn here(&self) -> u32
+        ensures { result ≡ here self.now }
+    {
+        match self.passing.waker {
+            Some(waker) => waker,
+            None => self.call.cpu,
+        }
+    }
+}
+
+/// True if a machine with these rules goes by Linux rules: they are those of a kernel, and the policy wasn't ejected.
+fn goes_by_linux(rules: Rules, ejected: Option<Eject>) -> bool
+    ensures { result ≡ are_linux rules && is_none ejected }
+{
+    are_linux(rules) && ejected.is_none()
+}
+
+/// True if the rules are those of a kernel.
+fn are_linux(rules: Rules) -> bool
+    ensures { result ≡ are_linux rules }
+{
+    match rules {
+        Rules::Plain => false,
+        Rules::Linux => true,
     }
 }
 
@@ -764,7 +911,7 @@ fn add_locals(queues: &mut Queues, cpus: usize)
 /// The bits with that one set or cleared.
 #[inline(always)]
 #[tactic(auto, using(crate::proofs::Busy::set_here, crate::proofs::Busy::set_others, crate::proofs::Busy::cleared_here, crate::proofs::Busy::cleared_others))]
-fn with_bit(bits: u64, at: u32, set: bool) -> u64
+pub(crate) fn with_bit(bits: u64, at: u32, set: bool) -> u64
     requires { at < 64 }
     ensures here { bit_at result at ≡ one_if set }
     ensures others { (i : ℕ) → i < 64 → i ≢ at → bit_at result i ≡ bit_at bits i }
@@ -778,7 +925,7 @@ fn with_bit(bits: u64, at: u32, set: bool) -> u64
 
 /// The lowest bit that is set.
 #[inline(always)]
-fn lowest_bit(bits: u64) -> Option<u32>
+pub(crate) fn lowest_bit(bits: u64) -> Option<u32>
     ensures { result ≡ lowest_bit bits }
 {
     if bits == 0 {

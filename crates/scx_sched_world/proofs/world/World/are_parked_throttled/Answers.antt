@@ -13,8 +13,9 @@ pub invariant_of-self : goal.invariant_of-self
 invariant_of-self c =
     let w = c.self.inside in
     let is = c.self.invariant in
-    queues_changed w w.queues c.is_nobody_free-self-inside.result is refl is.places
+    queues_changed w w.queues c.is_nobody_free-self-inside.result w.unsettled is refl is.places
     (λ known. all_looked_at (state_of w) is.queued (subst (λ (v : WorldState). (t : ℕ) → t < length v.tasks → StaysParked v t) (sym c.self.view_is) (c.is_nobody_free-self-inside.ensures.throttled known)))
+    is.settled
 
 pub returns-clause-throttled : goal.returns-clause-throttled
 returns-clause-throttled c known =

@@ -15,3 +15,8 @@ invariant_of-result c =
     (search rules)
     (search rules)
     refl
+    refl
+    refl
+    refl
+    refl
+    refl

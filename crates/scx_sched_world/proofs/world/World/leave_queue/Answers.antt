@@ -1,6 +1,7 @@
 use Rattle.std.proofs.Common.{◌∙◌}
 use Rattle.scx_sched_world.proofs.Parked.{known_removed}
 use Rattle.scx_sched_world.proofs.Places.{removed}
+use Rattle.scx_sched_world.proofs.Settled.{settled_removed}
 use Rattle.scx_sched_world.proofs.world.World.leave_queue.Goals as goal
 
 pub invariant_of-self : goal.invariant_of-self
@@ -16,5 +17,7 @@ invariant_of-self c = record {
   known_running = c.self.invariant.known_running;
   places = rw c.remove.ensures.state (removed c.self.inside.queues.state _ c.from.result ∙ c.self.invariant.places);
   early = c.self.invariant.early;
+  linux = c.self.invariant.linux;
   parked = rw c.remove.ensures.state (known_removed _ c.self.inside.queues.state c.self.inside.tree c.from.result c.self.invariant.parked);
+  settled = rw c.remove.ensures.state (settled_removed c.self.inside c.from.result c.self.invariant);
 }

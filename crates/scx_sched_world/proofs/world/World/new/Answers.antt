@@ -1,4 +1,4 @@
-use Rattle.std.proofs.Common.{◌≡◌, ◌∙◌, ℕ, length, ap, sym, arith, rules, Option, None}
+use Rattle.std.proofs.Common.{◌≡◌, ◌∙◌, ℕ, length, ap, sym, arith, rules, refl, Option, None}
 use Rattle.std.proofs.lemmas.List.{length-replicate}
 use Rattle.scx_sched_tasks.specs.Tasks.{new_task}
 use Rattle.scx_sched_world.proofs.Busy.{none_busy}
@@ -28,5 +28,7 @@ invariant_of-result c =
       known_running = rw (running, length-replicate {A = ℕ} c.tasks-count.result 0) (sym count);
       places = rw (cpus, length-replicate {A = Option ℕ} c.args.cpus None, rw made.is-3 at c.own_queues-queues.ensures.queues) (at_first c.args.cpus c.tasks-count.result);
       early = omega arith;
+      linux = refl;
       parked = λ known. absurd (cc);
+      settled = λ on. absurd (cc);
     }

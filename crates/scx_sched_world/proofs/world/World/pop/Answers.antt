@@ -1,6 +1,7 @@
 use Rattle.std.proofs.Common.{◌∙◌}
 use Rattle.scx_sched_world.proofs.Parked.{known_popped}
 use Rattle.scx_sched_world.proofs.Places.{popped}
+use Rattle.scx_sched_world.proofs.Settled.{settled_popped}
 use Rattle.scx_sched_world.proofs.world.World.pop.Goals as goal
 
 pub invariant_of-self-2 : goal.invariant_of-self-2
@@ -16,5 +17,7 @@ invariant_of-self-2 c = record {
   known_running = c.self.invariant.known_running;
   places = rw c.pop.ensures.state (popped c.self.inside.queues.state _ c.args.queue ∙ c.self.invariant.places);
   early = c.self.invariant.early;
+  linux = c.self.invariant.linux;
   parked = rw c.pop.ensures.state (known_popped _ c.self.inside.queues.state c.self.inside.tree c.args.queue c.self.invariant.parked);
+  settled = rw c.pop.ensures.state (settled_popped c.self.inside c.args.queue c.self.invariant);
 }

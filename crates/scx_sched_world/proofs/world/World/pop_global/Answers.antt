@@ -2,6 +2,7 @@ use Rattle.std.proofs.Common.{◌∙◌}
 use Rattle.scx_sched_world.specs.Ids.{global}
 use Rattle.scx_sched_world.proofs.Parked.{known_popped}
 use Rattle.scx_sched_world.proofs.Places.{popped, global_stands}
+use Rattle.scx_sched_world.proofs.Settled.{settled_popped}
 use Rattle.scx_sched_world.proofs.world.World.pop_global.Goals as goal
 
 pub pop_at-requires : goal.pop_at-requires
@@ -20,5 +21,7 @@ invariant_of-self-2 c = record {
   known_running = c.self.invariant.known_running;
   places = rw c.pop_at.ensures.state (popped c.self.inside.queues.state _ global ∙ c.self.invariant.places);
   early = c.self.invariant.early;
+  linux = c.self.invariant.linux;
   parked = rw c.pop_at.ensures.state (known_popped _ c.self.inside.queues.state c.self.inside.tree global c.self.invariant.parked);
+  settled = rw c.pop_at.ensures.state (settled_popped c.self.inside global c.self.invariant);
 }

@@ -9,9 +9,9 @@ invariant_of-self c =
     let w = c.self.inside in
     let now = c.if-queue-eq-PARKED.self-inside in
     elim c.if-queue-eq-PARKED.branch [
-      | then-queue-eq-PARKED b ↦ push_keeps_both w now c.push.new.queues c.args.queue c.from.result c.args.rank c.self.invariant
-          (inl b.self-inside-is) c.push.ensures.state c.push.ensures.tasks
-      | else-queue-eq-PARKED b ↦ push_keeps_both w now c.push.new.queues c.args.queue c.from.result c.args.rank c.self.invariant
+      | then-queue-eq-PARKED b ↦ push_keeps_both w now c.push.new.queues c.unsettle_at.new.bits c.args.queue c.from.result c.args.rank c.self.invariant
+          (inl b.self-inside-is) c.unsettle_at.ensures c.push.ensures.state c.push.ensures.tasks
+      | else-queue-eq-PARKED b ↦ push_keeps_both w now c.push.new.queues c.unsettle_at.new.bits c.args.queue c.from.result c.args.rank c.self.invariant
           (inr (b.self-inside-is, known_pushed w.parked_throttled w.queues.state w.tree c.args.queue c.from.result c.args.rank b.if-queue-eq-PARKED.false c.self.invariant.parked))
-          c.push.ensures.state c.push.ensures.tasks
+          c.unsettle_at.ensures c.push.ensures.state c.push.ensures.tasks
     ]

@@ -6,6 +6,7 @@ use Rattle.scx_sched_world.specs.Kept.{AreOn}
 use Rattle.scx_sched_world.proofs.Busy.{busy_set}
 use Rattle.scx_sched_world.proofs.Places.{cpu_set}
 use Rattle.scx_sched_world.proofs.Running.{on_set}
+use Rattle.scx_sched_world.proofs.Settled.{settled_cpu}
 use Rattle.scx_sched_world.proofs.world.World.set_cpu.Goals as goal
 
 pub invariant_of-self : goal.invariant_of-self
@@ -34,5 +35,7 @@ invariant_of-self c =
       known_running = ap (λ (bits : List ℕ). length bits) written ∙ (count ∙ is.known_running);
       places = cpu_set w.queues.state w.cpus.items cpu c.args.task is.places;
       early = is.early;
+      linux = is.linux;
       parked = is.parked;
+      settled = settled_cpu w c.unsettle.new.bits cpu c.args.task is c.unsettle.ensures;
     }
