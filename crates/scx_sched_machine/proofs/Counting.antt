@@ -1,27 +1,59 @@
--- A task has run for a millisecond: what comes of it, by what is left of its slice.
-use Rattle.std.proofs.Common.{◌≡◌, ℕ, Bool, true, false, if◌then◌else◌, Option, Some, None, is_some, unwrap_or, refl, sym, ap}
+-- A task has run for a millisecond: what comes of it, by whether the policy hears of the tick and by what is left of its
+-- slice.
+use Rattle.std.proofs.Common.{◌≡◌, ℕ, Bool, true, false, if◌then◌else◌, Option, Some, None, is_some, unwrap_or, refl, sym, ap, ◌∙◌}
+use Rattle.scx_isa_semantics.specs.declared.callbacks.Callback.TheVariants as callback
 use Rattle.scx_sched_world.specs.World.{WorldState, task_at, is_throttled}
 use Rattle.scx_sched_world.specs.Tasks.{after_tick, used_ms, slice_left}
-use Rattle.scx_sched_machine.specs.Steps.{State, with_world}
-use Rattle.scx_sched_machine.specs.Events.{throttle, expire, count_down}
+use Rattle.scx_sched_machine.specs.Steps.{State, Stepped, with_world, stays, one_after_other}
+use Rattle.scx_sched_machine.specs.Callbacks.{call_back, one_task}
+use Rattle.scx_sched_machine.specs.Events.{throttle, expire, use_up, hears_tick, tick_heard, count_down}
 
--- it has run for that long, and its groups have used it
+-- it has run for that long
+abbrev ran : State → ℕ → State
+ran s t = with_world s (after_tick s.world t)
+
+-- and its groups have used it
 abbrev counted : State → ℕ → State
 counted s t = with_world s (used_ms (after_tick s.world t) t)
 
--- it may not run any more
-pub count_throttled : (s : State) (c t : ℕ) → slice_left (counted s t).world t ≡ None → count_down s c t ≡ throttle (counted s t) c t
-unfolding count_down
-count_throttled s c t e = go (is_throttled (counted s t).world t) (task_at (counted s t).world t).slice e
+-- the policy hears of a tick or not, whatever the task ran
+heard_after : (s : State) (t : ℕ) → hears_tick (ran s t) ≡ hears_tick s
+unfolding hears_tick
+heard_after s t = refl
+
+-- what a millisecond comes to, where the policy hears of its tick or doesn't
+abbrev counted_by : State → ℕ → ℕ → Bool → Stepped
+counted_by s c t b =
+    let r = if b then call_back (ran s t) callback.Tick (one_task t) t c else stays (ran s t) in
+    one_after_other r (use_up r.state c t)
+
+count_by_hearing : (s : State) (c t : ℕ) → count_down s c t ≡ counted_by s c t (hears_tick s)
+unfolding count_down tick_heard
+count_by_hearing s c t = ap (counted_by s c t) (heard_after s t)
+
+-- the policy hears of the tick
+pub count_heard : (s : State) (c t : ℕ) → hears_tick s ≡ true → count_down s c t ≡ (
+    let r = call_back (with_world s (after_tick s.world t)) callback.Tick (one_task t) t c in
+    one_after_other r (use_up r.state c t))
+count_heard s c t e = count_by_hearing s c t ∙ ap (counted_by s c t) e
+
+-- it doesn't
+count_unheard : (s : State) (c t : ℕ) → hears_tick s ≡ false → count_down s c t ≡ use_up (ran s t) c t
+count_unheard s c t e = count_by_hearing s c t ∙ ap (counted_by s c t) e
+
+-- the task may not run any more
+pub count_throttled : (s : State) (c t : ℕ) → hears_tick s ≡ false → slice_left (counted s t).world t ≡ None → count_down s c t ≡ throttle (counted s t) c t
+unfolding use_up
+count_throttled s c t unheard e = count_unheard s c t unheard ∙ go (is_throttled (counted s t).world t) (task_at (counted s t).world t).slice e
   where
     go : (b : Bool) (m : ℕ) → (if b then None else Some m) ≡ None → (if b then throttle (counted s t) c t else expire (counted s t) c t) ≡ throttle (counted s t) c t
     go true m e = refl
     go false m e = absurd (cc)
 
 -- it may still run
-pub count_left : (s : State) (c t : ℕ) → is_some (slice_left (counted s t).world t) ≡ true → count_down s c t ≡ expire (counted s t) c t
-unfolding count_down
-count_left s c t e = go (is_throttled (counted s t).world t) (task_at (counted s t).world t).slice e
+pub count_left : (s : State) (c t : ℕ) → hears_tick s ≡ false → is_some (slice_left (counted s t).world t) ≡ true → count_down s c t ≡ expire (counted s t) c t
+unfolding use_up
+count_left s c t unheard e = count_unheard s c t unheard ∙ go (is_throttled (counted s t).world t) (task_at (counted s t).world t).slice e
   where
     go : (b : Bool) (m : ℕ) → is_some (if b then None else Some m) ≡ true → (if b then throttle (counted s t) c t else expire (counted s t) c t) ≡ expire (counted s t) c t
     go true m e = absurd (cc)
@@ -35,5 +67,5 @@ left_is w t n e = go (is_throttled w t) (task_at w t).slice e
     go true m e = absurd (cc)
     go false m e = sym (ap (λ (o : Option ℕ). unwrap_or o 0) e)
 
--- of a millisecond that a task ran for
+-- of a millisecond that a task ran for, and of whose tick the policy doesn't hear
 pub ruleset counts = (count_throttled, count_left, left_is)

@@ -9,15 +9,15 @@ use Rattle.scx_dsq.specs.Calls.{after_create, clashes}
 use Rattle.scx_dsq.specs.declared.entries.Rank.{Rank}
 use Rattle.scx_dsq.specs.declared.entries.Rank.TheVariants.{Front}
 use Rattle.scx_isa_semantics.specs.declared.host_tables.Helper.{Helper}
-use Rattle.scx_isa_semantics.specs.declared.host_tables.Helper.TheVariants.{CreateDsq, DsqInsert, DsqInsertVtime, DsqMoveToLocal, SelectCpuDfl, CpuIdle, DsqNrQueued, KickCpu}
+use Rattle.scx_isa_semantics.specs.declared.host_tables.Helper.TheVariants.{CreateDsq, DsqInsert, DsqInsertVtime, DsqMoveToLocal, SelectCpuDfl, CpuIdle, DsqNrQueued, KickCpu, Exit, CpuCurr, DsqPeek, PickIdle, ClaimIdle}
 use Rattle.scx_vm.specs.declared.arguments.Arg.{Arg}
 use Rattle.scx_sched_world.specs.declared.call.Insert.{Insert}
 use Rattle.scx_sched_world.specs.declared.faults.Fault.{Fault}
 use Rattle.scx_sched_world.specs.declared.kicks.Kick.{Kick}
 use Rattle.scx_sched_world.specs.declared.faults.Fault.TheVariants.{Stuck, NoSuchQueue, CannotInsert, NoSuchCpu, UnknownFlag, CannotCreate}
 use Rattle.scx_sched_world.specs.Ids.{policy_end, global, local, local_on}
-use Rattle.scx_sched_world.specs.World.{WorldState, with_queues, is_by_linux, choice, after_claim}
-use Rattle.scx_sched_world.specs.Helpers.{is_there, can_create, with_fault, is_dispatch, is_held, may_insert, is_vtime, queue_fault, rank_fault, or_fault, are_linux_flags, are_known, arrival_rank, flags_fault, insert_fault, is_late, insert_or_fault, with_move, after_late, after_insert, after_move, insert_of, insert_of_vtime, front_moved_to_local, after_choice, kick_of, kick_fault, kicked_so, kicked_or_fault, after_kick, given_number, given_task, helper_after}
+use Rattle.scx_sched_world.specs.World.{WorldState, with_queues, is_by_linux, this_if, is_free, choice, after_claim}
+use Rattle.scx_sched_world.specs.Helpers.{is_there, can_create, with_fault, is_dispatch, is_held, may_insert, is_vtime, queue_fault, rank_fault, or_fault, are_linux_flags, are_known, arrival_rank, flags_fault, insert_fault, is_late, insert_or_fault, with_move, after_late, after_insert, after_move, insert_of, insert_of_vtime, front_moved_to_local, after_choice, kick_of, kick_fault, kicked_so, kicked_or_fault, after_kick, after_exit, first_free_in, after_pick_by, after_pick, given_number, given_task, helper_after}
 use Rattle.scx_sched_machine.proofs.Choices.{keeps_if}
 
 -- ---- the fault of a helper call
@@ -87,12 +87,13 @@ arrives w flags fine plain = go (nat_le flags 1) refl (subst (λ b. (if (if b th
 
 -- ---- the walk
 
--- of what a helper call may leave, the property holds: the world as it is, one with a fault that helpers
--- have, with a queue created, with an insert kept or done at once, or too late, with a task moved in
--- dispatch, with a processor claimed or kicked
+-- what a helper call may leave has the property: the world as it is, one with a fault that helpers have or with an
+-- end of the policy's own, with a queue created, with an insert kept or done at once, or too late, with a task moved
+-- in dispatch, with a processor claimed or kicked
 pub record HoldsAfterCalls (P : WorldState → Type 0) (w : WorldState) : Type 0 where
   pub same : P w
   pub faulty : (f : Fault) → IsOther (Some f) → P (with_fault w f)
+  pub ended : (n : ℕ) → P (after_exit w n)
   pub created : (q : ℕ) → P (with_queues w (after_create w.queues q))
   pub inserted : (t : Option ℕ) (i : Insert) (flags : ℕ) → (is_by_linux w ≡ false → IsBehind i.rank) → insert_fault w t i flags ≡ None → P (insert_or_fault w None t i)
   pub late : is_by_linux w ≡ true → is_dispatch w.call.callback ≡ true → P (with_move w)
@@ -142,6 +143,13 @@ module _ (P : WorldState → Type 0) (w : WorldState) (h : HoldsAfterCalls P w) 
           at true = h.kicked c k
           at false = h.faulty NoSuchCpu (λ e. absurd (cc))
 
+  picks : (mask flags : ℕ) → P (after_pick w mask flags)
+  picks mask flags = go (nat_le flags 1)
+    where
+      go : (b : Bool) → P (after_pick_by (if b then None else Some UnknownFlag) w (first_free_in mask w))
+      go true = h.claimed (first_free_in mask w)
+      go false = h.faulty UnknownFlag (λ e. absurd (cc))
+
   -- whichever helper is called, and whatever it is given
   pub by_helper : (f : Helper) (a : List Arg) → P (helper_after w f a)
   by_helper CreateDsq a = keeps_if P (can_create w (given_number a 0)) (with_queues w (after_create w.queues (given_number a 0))) (with_fault w CannotCreate) (h.created (given_number a 0)) (h.faulty CannotCreate (λ e. absurd (cc)))
@@ -152,4 +160,11 @@ module _ (P : WorldState → Type 0) (w : WorldState) (h : HoldsAfterCalls P w) 
   by_helper KickCpu a = kicks (given_number a 0) (given_number a 1)
   by_helper CpuIdle a = keeps_if P (nat_lt (given_number a 0) (length w.cpus)) w (with_fault w NoSuchCpu) h.same (h.faulty NoSuchCpu (λ e. absurd (cc)))
   by_helper DsqNrQueued a = keeps_if P (is_there w (given_number a 0)) w (with_fault w NoSuchQueue) h.same (h.faulty NoSuchQueue (λ e. absurd (cc)))
+  by_helper Exit a = h.ended (given_number a 0)
+  by_helper CpuCurr a = keeps_if P (nat_lt (given_number a 0) (length w.cpus)) w (with_fault w NoSuchCpu) h.same (h.faulty NoSuchCpu (λ e. absurd (cc)))
+  by_helper DsqPeek a = keeps_if P (is_there w (given_number a 0)) w (with_fault w NoSuchQueue) h.same (h.faulty NoSuchQueue (λ e. absurd (cc)))
+  by_helper PickIdle a = picks (given_number a 0) (given_number a 1)
+  by_helper ClaimIdle a =
+      let c = given_number a 0 in
+      keeps_if P (nat_lt c (length w.cpus)) (after_claim w (this_if (is_free w c) c)) (with_fault w NoSuchCpu) (h.claimed (this_if (is_free w c) c)) (h.faulty NoSuchCpu (λ e. absurd (cc)))
   by_helper f a = h.same

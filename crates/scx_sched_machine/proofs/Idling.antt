@@ -1,19 +1,22 @@
 -- A processor on which nobody runs stays idle where nobody waits for it and there is no dispatch.
 use Rattle.std.proofs.Common.{arith, ◌≡◌, ℕ, ◌==◌, ◌&&◌, not, Bool, true, false, if◌then◌else◌, is_some, is_none, Option, Some, None, refl, ap, ◌∙◌}
 use Rattle.std.proofs.lemmas.Bool.{and_parts, eqb-true}
-use Rattle.scx_dsq.specs.Queues.{front_of}
+use Rattle.scx_dsq.specs.Queues.{QueueState, len_of, front_of}
 use Rattle.scx_isa_semantics.specs.declared.callbacks.Callback.TheVariants as callback
 use Rattle.scx_vm.specs.Programs.{VerifiedProgram}
+use Rattle.scx_weights.specs.Hierarchy.{Hierarchy}
 use Rattle.scx_weights.specs.Limits.{has_quota}
-use Rattle.scx_sched_world.specs.Ids.{global}
-use Rattle.scx_sched_world.specs.World.{at_callback}
+use Rattle.scx_sched_world.specs.Ids.{global, local_on}
+use Rattle.scx_sched_world.specs.World as world
+use Rattle.scx_sched_world.specs.World.{WorldState, with_switch, cycling_by_linux, with_cycling, at_callback}
 use Rattle.scx_sched_world.specs.Tasks.{local_len}
 use Rattle.scx_sched_machine.specs.Policy.{program_of}
 use Rattle.scx_sched_machine.specs.Steps.{State, Stepped, with_world, is_ejected, is_by_linux, kicked, stays, one_after_other}
 use Rattle.scx_sched_machine.specs.Ejecting.{ejected_for}
-use Rattle.scx_sched_machine.specs.Callbacks.{unless_ejected, acting, call_ending, after_callback, calls_of, fault_of, call_back, cpu_and_task}
+use Rattle.scx_sched_machine.specs.Callbacks.{unless_ejected, acting, call_ending, after_callback, calls_of, cause_of, call_back, cpu_and_task}
 use Rattle.scx_sched_machine.specs.Parking.{supply}
 use Rattle.scx_sched_machine.specs.Cycle.{has_local, after_dispatch, supply_unless_kept, told_of, asks_again, tries, rest, builtin_cycle, pick, pick_or_rest, keep_or_pick, conclude, give_up, ask, seek, look, cycling, stays_idle, idles, cycle}
+use Rattle.scx_sched_machine.proofs.Choices.{keeps_if}
 use Rattle.scx_sched_machine.proofs.Free.{supply_nobody}
 use Rattle.scx_sched_machine.proofs.Tries.{tries_last}
 
@@ -43,7 +46,7 @@ called_with s c p =
     let a = cpu_and_task c (told_of s None) in
     let e = call_ending p callback.Dispatch a s.maps w in
     one_after_other (record { state = after_callback s.policy e; notes = e.outside.notes; calls = calls_of p callback.Dispatch a s.maps w })
-    (ejected_for (fault_of callback.Dispatch e) (after_callback s.policy e))
+    (ejected_for (cause_of callback.Dispatch e) (after_callback s.policy e))
 
 no_call : (s : State) (c : ℕ) → Rests s c → call_back s callback.Dispatch (cpu_and_task c (told_of s None)) 0 c ≡ stays (called s c)
 unfolding call_back call_ending
@@ -101,6 +104,22 @@ is_false : (b : Bool) → not b ≡ true → b ≡ false
 is_false true e = absurd (cc)
 is_false false e = refl
 
+-- the queues, the tree and why the policy was put out of force are the same
+record LooksAlike (v w : WorldState) : Type 0 where
+  queues : w.queues ≡ v.queues
+  tree : w.tree ≡ v.tree
+  ejected : w.ejected ≡ v.ejected
+
+-- as a cycle begins they are as they were
+begins_alike : (w : WorldState) (c : ℕ) → LooksAlike w (with_cycling w (Some c))
+begins_alike w c = keeps_if (LooksAlike w) (world.is_by_linux w) (cycling_by_linux w (Some c)) _ by_linux (record { queues = refl; tree = refl; ejected = refl })
+  where
+    switched : LooksAlike w (with_switch w c)
+    switched = keeps_if (LooksAlike w) (world.is_by_linux w) _ w (record { queues = refl; tree = refl; ejected = refl }) (record { queues = refl; tree = refl; ejected = refl })
+
+    by_linux : LooksAlike w (cycling_by_linux w (Some c))
+    by_linux = record { queues = switched.queues; tree = switched.tree; ejected = switched.ejected }
+
 -- where the processor stays idle, a cycle comes to nothing
 pub idle_cycle : (s : State) (c : ℕ) → stays_idle s c ≡ true → cycle s c None false ≡ idles s c
 unfolding stays_idle cycle look idles
@@ -110,13 +129,14 @@ idle_cycle s c e =
     let second = and_parts (not (is_ejected s)) _ first.1 in
     let third = and_parts (not (has_quota s.world.tree.groups)) _ second.1 in
     let fourth = and_parts (local_len s.world c == 0) _ third.1 in
-    let force : s.world.ejected ≡ None = not_some s.world.ejected second.0 in
+    let alike = begins_alike s.world c in
+    let force : begun.world.ejected ≡ None = alike.ejected ∙ not_some s.world.ejected second.0 in
     let h : Rests begun c = record {
       force = force;
       unasked = none_is (program_of s.policy callback.Dispatch) first.0;
-      free = is_false (has_quota s.world.tree.groups) third.0;
-      empty = eqb-true (local_len s.world c) 0 fourth.0;
-      nobody = none_is (front_of s.world.queues global) fourth.1;
+      free = ap (λ (t : Hierarchy). has_quota t.groups) alike.tree ∙ is_false (has_quota s.world.tree.groups) third.0;
+      empty = ap (λ (q : QueueState). len_of q (local_on c)) alike.queues ∙ eqb-true (local_len s.world c) 0 fourth.0;
+      nobody = ap (λ (q : QueueState). front_of q global) alike.queues ∙ none_is (front_of s.world.queues global) fourth.1;
     } in
     let nothing : look begun c None false ≡ stays (called begun c) =
     ap (λ b. if b then builtin_cycle begun c None false else seek begun c None false) (ap is_some force) ∙ no_seek begun c h in

@@ -5,9 +5,11 @@ pub mod Enabling
 pub mod Evicting
 pub mod Choices
 pub mod HelperCalls
+pub mod Steady
 pub mod Unchanged
 pub mod Parked
 pub mod Free
+pub mod Plainly
 pub mod Idling
 pub mod Silent
 pub mod Counting

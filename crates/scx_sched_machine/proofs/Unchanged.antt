@@ -2,7 +2,7 @@
 -- ejection pushes.
 use Rattle.std.proofs.Common.{◌≡◌, ℕ, zero, suc, ◌+◌, ◌≤◌, Bool, true, false, ◌||◌, cond, nat_lt, List, length, map, Option, Some, None, is_some, is_none, refl, sym, ap, ◌∙◌, subst, arith}
 use Rattle.scx_dsq.specs.Queues.{QueueState}
-use Rattle.scx_dsq.specs.Calls.{create_refusal, with_queue, after_create, after_push}
+use Rattle.scx_dsq.specs.Calls.{create_refusal, with_queue, after_create}
 use Rattle.scx_isa_semantics.specs.declared.callbacks.Callback.{Callback}
 use Rattle.scx_isa_semantics.specs.declared.callbacks.Callback.TheVariants as callback
 use Rattle.scx_isa_semantics.specs.declared.host_tables.Helper.{Helper}
@@ -18,87 +18,31 @@ use Rattle.scx_vm.specs.declared.arguments.Arg.{Arg}
 use Rattle.scx_vm.specs.declared.arguments.Args.{Args}
 use Rattle.scx_vm.specs.Host.{answer_to, after_query}
 use Rattle.scx_sched_world.specs.declared.call.Insert.{Insert}
+use Rattle.scx_sched_world.specs.declared.eject.Cause.{Cause}
 use Rattle.scx_sched_world.specs.declared.eject.Eject.{Eject}
-use Rattle.scx_sched_world.specs.declared.eject.Eject.TheVariants as cause
 use Rattle.scx_sched_world.specs.declared.faults.Fault.{Fault}
 use Rattle.scx_sched_world.specs.declared.kicks.Kick.{Kick}
 use Rattle.scx_sched_world.specs.declared.kicks.Kick.TheVariants.{Any, IfIdle, Preempt}
-use Rattle.scx_sched_world.specs.World.{WorldState, with_queues, with_task, is_by_linux, task_at, waits, running, is_this, with_kick, after_claim, at_callback}
-use Rattle.scx_sched_world.specs.Tasks.{after_leave, homed_at, local_cpu, task_after_insert, rank_by, after_preempt_of, after_preempt_at, after_preempt, after_enter}
-use Rattle.scx_sched_world.specs.Ejecting.{put_out, put_builtin, after_evictions, after_cut, cut_task}
-use Rattle.scx_sched_world.specs.Helpers.{with_fault, is_dispatch, with_insert, insert_or_fault, with_move, kicked_so, helper_after, stored_in, world_functions}
+use Rattle.scx_sched_world.specs.World.{WorldState, with_queues, with_task, is_by_linux, task_at, running, is_this, with_kick, after_claim, at_callback}
+use Rattle.scx_sched_world.specs.Ejecting.{eject_of}
+use Rattle.scx_sched_world.specs.Helpers.{with_fault, is_dispatch, with_insert, insert_or_fault, with_move, kicked_so, after_exit, helper_after, stored_in, world_functions}
 use Rattle.scx_sched_machine.specs.Steps.{State, Stepped, is_ejected}
-use Rattle.scx_sched_machine.specs.Ejecting.{moves_over, eject, ejected_for}
+use Rattle.scx_sched_machine.specs.Ejecting.{ejected_for}
 use Rattle.scx_sched_machine.specs.Budgets.{eject_pushes, enter_pushes, eject_left, pushes_due}
-use Rattle.scx_sched_machine.specs.Callbacks.{call_ending, call_back, acting, unless_ejected, fault_of, after_callback, is_calm}
+use Rattle.scx_sched_machine.specs.Callbacks.{call_ending, call_back, acting, unless_ejected, cause_of, after_callback, is_calm}
 use Rattle.scx_sched_machine.specs.Put.{enters, enters_builtin, comes_in, enqueue_choice}
 use Rattle.scx_sched_machine.proofs.Choices.{keeps_if}
 use Rattle.scx_sched_machine.proofs.HelperCalls.{by_helper}
+use Rattle.scx_sched_machine.proofs.Steady.{steady, steady_entered, steady_builtin, steady_ejected}
 
 -- ---- why the policy was put out of force, if it was
-
-force_homed : (w : WorldState) (t : ℕ) (o : Option ℕ) → (homed_at w t o).ejected ≡ w.ejected
-force_homed w t None = refl
-force_homed w t (Some c) = keeps_if (λ (u : WorldState). u.ejected ≡ w.ejected) (is_by_linux w) _ w refl refl
-
-force_preempted : (w : WorldState) (o : Option ℕ) → (after_preempt_at w o).ejected ≡ w.ejected
-force_preempted w None = refl
-force_preempted w (Some c) = go (running w c)
-  where
-    go : (o : Option ℕ) → (after_preempt_of w c o).ejected ≡ w.ejected
-    go None = refl
-    go (Some t) = keeps_if (λ (u : WorldState). u.ejected ≡ w.ejected) (is_this c w.cycling) w _ refl refl
-
-force_entered : (w : WorldState) (t : ℕ) (i : Insert) → (after_enter w t i).ejected ≡ w.ejected
-force_entered w t i = keeps_if (λ (u : WorldState). u.ejected ≡ w.ejected) (nat_lt t (length w.tasks)) _ w put refl
-  where
-    given : WorldState
-    given = with_queues (with_task w t (task_after_insert (task_at w t) i)) (after_push w.queues i.queue t (rank_by w i.rank))
-
-    at : Option ℕ
-    at = local_cpu w i.queue
-
-    home : WorldState
-    home = homed_at given t at
-
-    kept : home.ejected ≡ w.ejected
-    kept = force_homed given t at
-
-    put : (after_preempt home i).ejected ≡ w.ejected
-    put = keeps_if (λ (u : WorldState). u.ejected ≡ w.ejected) i.preempts _ home (force_preempted home (local_cpu home i.queue) ∙ kept) kept
-
-force_put_builtin : (w : WorldState) (t : ℕ) → (put_builtin w t).ejected ≡ w.ejected
-force_put_builtin w t = keeps_if (λ (u : WorldState). u.ejected ≡ w.ejected) (nat_lt t (length w.tasks)) _ w refl refl
 
 -- a task that comes to wait leaves it as it is
 force_comes_in : (s : State) (t c : ℕ) → (comes_in s t c).state.world.ejected ≡ s.world.ejected
 unfolding comes_in enters enters_builtin
 force_comes_in s t c =
     let i = enqueue_choice s.policy.callbacks.enqueue c s.world.call.insert in
-    keeps_if (λ (r : Stepped). r.state.world.ejected ≡ s.world.ejected) (is_ejected s) (enters_builtin s t) (enters s t i) (force_put_builtin s.world t) (force_entered s.world t i)
-
-force_evicted : (j : ℕ) (w : WorldState) → (after_evictions j w).ejected ≡ w.ejected
-force_evicted zero w = refl
-force_evicted (suc j) w =
-    let v = after_evictions j w in
-    let same : v.ejected ≡ w.ejected = force_evicted j w in
-    keeps_if (λ (u : WorldState). u.ejected ≡ w.ejected) (waits v j) (put_builtin (after_leave v j) j) v (force_put_builtin (after_leave v j) j ∙ same) same
-
-force_cut_task : (o : Option ℕ) (w : WorldState) → (cut_task o w).ejected ≡ w.ejected
-force_cut_task None w = refl
-force_cut_task (Some t) w = refl
-
-force_cut : (j : ℕ) (w : WorldState) → (after_cut j w).ejected ≡ w.ejected
-force_cut zero w = refl
-force_cut (suc j) w = force_cut_task (running (after_cut j w) j) (after_cut j w) ∙ force_cut j w
-
--- an ejection is for its cause
-force_eject : (s : State) (x : Eject) → (eject s x).state.world.ejected ≡ Some x
-unfolding eject moves_over
-force_eject s x =
-    let w = put_out s.world x in
-    let v = after_evictions (length w.tasks) w in
-    force_cut (length v.cpus) v ∙ force_evicted (length w.tasks) w
+    keeps_if (λ (r : Stepped). r.state.world.ejected ≡ s.world.ejected) (is_ejected s) (enters_builtin s t) (enters s t i) (steady_builtin s.world s.world t (steady s.world)).ejected (steady_entered s.world s.world t i (steady s.world)).ejected
 
 -- ---- a callback that isn't dispatch
 
@@ -143,6 +87,7 @@ module _ (v : WorldState) where
   calm_helper w f a h = by_helper (IsCalm v) w (record {
     same = h;
     faulty = λ f other. calm_faulted w f h;
+    ended = λ n. calm_as w (after_exit w n) refl refl refl refl h;
     created = λ q. calm_created w q h;
     inserted = λ t i flags behind none. calm_inserted w None t i h;
     late = λ linux here. calm_as w (with_move w) refl refl refl refl h;
@@ -201,17 +146,17 @@ calm_plain : (b : Callback) → is_calm b ≡ true → is_dispatch b ≡ false
 calm_plain callback.Dispatch e = absurd (cc)
 calm_plain b e = refl
 
--- one that isn't called has no fault
-faultless : (b : Callback) (a : Args) (maps : Maps) (v : WorldState) (t c : ℕ) (f : Fault) → is_calm b ≡ true → fault_of b (call_ending None b a maps (at_callback v b t c)) ≡ Some f → ⊥
+-- one that isn't called has no cause
+causeless : (b : Callback) (a : Args) (maps : Maps) (v : WorldState) (t c : ℕ) (y : Cause) → is_calm b ≡ true → cause_of b (call_ending None b a maps (at_callback v b t c)) ≡ Some y → ⊥
 unfolding call_ending
-faultless callback.SelectCpu a maps v t c f e x = absurd (cc)
-faultless b a maps v t c f e x = absurd (cc)
+causeless callback.SelectCpu a maps v t c y e x = absurd (cc)
+causeless b a maps v t c y e x = absurd (cc)
 
 -- a callback that isn't dispatch pushes no more than an ejection does; of select_cpu this is so while the policy
 -- is in force
 pub calm_call : (s new : State) (b : Callback) (a : Args) (t c : ℕ) → is_calm b ≡ true → new ≡ (call_back s b a t c).state → new.world.queues.pushes ≤ s.world.queues.pushes + eject_pushes → pushes_due new ≤ pushes_due s
 unfolding call_back
-calm_call s new b a t c calm is few = go (fault_of b e) refl
+calm_call s new b a t c calm is few = go (cause_of b e) refl
   where
     w : WorldState
     w = at_callback s.world b t c
@@ -222,25 +167,25 @@ calm_call s new b a t c calm is few = go (fault_of b e) refl
     same : IsCalm s.world e.outside
     same = calm_called (acting s b) b a s.maps s.world t c (calm_plain b calm)
 
-    go : (o : Option Fault) → fault_of b e ≡ o → pushes_due new ≤ pushes_due s
+    go : (o : Option Cause) → cause_of b e ≡ o → pushes_due new ≤ pushes_due s
     go None x =
-        let at : new ≡ after_callback s.policy e = is ∙ ap (λ (o : Option Fault). (ejected_for o (after_callback s.policy e)).state) x in
+        let at : new ≡ after_callback s.policy e = is ∙ ap (λ (o : Option Cause). (ejected_for o (after_callback s.policy e)).state) x in
         let pushes : new.world.queues.pushes ≡ s.world.queues.pushes = ap (λ (u : State). u.world.queues.pushes) at ∙ same.pushes in
         let left : eject_left new ≡ eject_left s = left_as s new (ap (λ (u : State). u.world.ejected) at ∙ same.ejected) in
         omega (arith, pushes, left)
-    go (Some f) x = by (acting s b) refl
+    go (Some why) x = by (acting s b) refl
       where
         by : (p : Option VerifiedProgram) → acting s b ≡ p → pushes_due new ≤ pushes_due s
-        by None y = absurd (faultless b a s.maps s.world t c f calm (subst (λ (p : Option VerifiedProgram). fault_of b (call_ending p b a s.maps w) ≡ Some f) y x))
+        by None y = absurd (causeless b a s.maps s.world t c why calm (subst (λ (p : Option VerifiedProgram). cause_of b (call_ending p b a s.maps w) ≡ Some why) y x))
         by (Some p) y =
-            let at : new ≡ (ejected_for (Some f) (after_callback s.policy e)).state = is ∙ ap (λ (o : Option Fault). (ejected_for o (after_callback s.policy e)).state) x in
+            let at : new ≡ (ejected_for (Some why) (after_callback s.policy e)).state = is ∙ ap (λ (o : Option Cause). (ejected_for o (after_callback s.policy e)).state) x in
             let u : State = after_callback s.policy e in
-            let why : Eject = cause.Fault f u.world.clock in
-            let none : eject_left new ≡ 0 = left_out new why (ap (λ (v : State). v.world.ejected) at ∙ force_eject u why) in
+            let out : Eject = eject_of why u.world.clock in
+            let none : eject_left new ≡ 0 = left_out new out (ap (λ (v : State). v.world.ejected) at ∙ (steady_ejected u out).ejected) in
             let all : eject_left s ≡ eject_pushes = left_in_force s (in_force s.world.ejected _ p y) in
             omega (arith, few, none, all)
 
--- the same of what was run
+-- what was run pushes nothing, where it is such a callback
 pub calm_end : (p : Option VerifiedProgram) (b : Callback) (a : Args) (maps left : Maps) (w v u : WorldState) (t c n : ℕ) → is_calm b ≡ true → v ≡ at_callback w b t c → record { answer = Some n; maps = left; outside = u } ≡ call_ending p b a maps v → u.queues.pushes ≡ w.queues.pushes
 calm_end p b a maps left w v u t c n calm begins is =
     ap (λ (e : Ending WorldState). e.outside.queues.pushes) (is ∙ ap (λ (x : WorldState). call_ending p b a maps x) begins) ∙ (calm_called p b a maps w t c (calm_plain b calm)).pushes

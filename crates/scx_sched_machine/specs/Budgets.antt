@@ -107,17 +107,25 @@ cycle_pushes = supply_pushes + ask_pushes
 abbrev pub settle_pushes : ℕ
 settle_pushes = put_pushes + cycle_pushes
 
--- select_cpu is called before
-abbrev pub wake_pushes : ℕ
-wake_pushes = callback_pushes + settle_pushes
+-- the policy hears that the task is runnable before
+abbrev pub runnable_pushes : ℕ
+runnable_pushes = callback_pushes + settle_pushes
 
--- the policy hears that the task left, and the processor begins a cycle
+-- and select_cpu is called before that
+abbrev pub wake_pushes : ℕ
+wake_pushes = callback_pushes + runnable_pushes
+
+-- the policy hears that the task left and that it isn't runnable, and the processor begins a cycle
 abbrev pub sleep_pushes : ℕ
-sleep_pushes = callback_pushes + cycle_pushes
+sleep_pushes = callback_pushes + callback_pushes + cycle_pushes
 
 -- the policy hears that the task left, it is parked, and the processor begins a cycle
 abbrev pub throttle_pushes : ℕ
 throttle_pushes = callback_pushes + enter_pushes + cycle_pushes
+
+-- and it hears of a tick before
+abbrev pub tick_pushes : ℕ
+tick_pushes = callback_pushes + throttle_pushes
 
 -- ---- letting go
 

@@ -1,5 +1,5 @@
 -- A callback is run, and what follows it.
-use Rattle.std.specs.Prelude.{ℕ, ⊤, ◌≤◌, Bool, true, false, nat_lt, List, [], ◌∷◌, length, if◌then◌else◌, Option, Some, None}
+use Rattle.std.specs.Prelude.{ℕ, ⊤, ◌≤◌, Bool, true, false, ◌&&◌, is_some, nat_lt, List, [], ◌∷◌, length, if◌then◌else◌, Option, Some, None}
 use Rattle.scx_isa_semantics.specs.declared.callbacks.Callback.{Callback}
 use Rattle.scx_isa_semantics.specs.declared.callbacks.Callback.TheVariants as callback
 use Rattle.scx_isa_semantics.specs.Elements.{Maps}
@@ -12,13 +12,15 @@ use Rattle.scx_vm.specs.declared.arguments.Arg.TheVariants.{Unset, Num}
 use Rattle.scx_vm.specs.declared.arguments.Args.{Args}
 use Rattle.scx_vm.specs.Arguments.{program_arguments}
 use Rattle.scx_vm.specs.Host.{host, answer_to, after_query}
+use Rattle.scx_sched_world.specs.declared.eject.Cause.{Cause}
+use Rattle.scx_sched_world.specs.declared.eject.Cause.TheVariants as reason
 use Rattle.scx_sched_world.specs.declared.eject.Eject.{Eject}
 use Rattle.scx_sched_world.specs.declared.faults.Fault.{Fault}
 use Rattle.scx_sched_world.specs.declared.faults.Fault.TheVariants.{Stuck, NoSuchCpu}
 use Rattle.scx_sched_world.specs.World.{WorldState, at_callback, quiet}
-use Rattle.scx_sched_world.specs.Helpers.{or_fault, task_argument, world_functions}
+use Rattle.scx_sched_world.specs.Helpers.{task_argument, world_functions}
 use Rattle.scx_sched_machine.specs.Policy.{PolicyState, program_of}
-use Rattle.scx_sched_machine.specs.Steps.{State, CallMade, Stepped, one_after_other}
+use Rattle.scx_sched_machine.specs.Steps.{State, CallMade, Stepped, stays, one_after_other, is_by_linux}
 use Rattle.scx_sched_machine.specs.Ejecting.{ejected_for}
 
 -- the program is run with the world as its outside; one that is absent does nothing, and answers 0
@@ -51,9 +53,20 @@ abbrev pub end_fault : Callback → WorldState → Option ℕ → Option Fault
 end_fault b w None = Some Stuck
 end_fault b w (Some n) = answer_fault b w n
 
--- the first fault of its helper calls; where there is none, that of its end
-abbrev pub fault_of : Callback → Ending WorldState → Option Fault
-fault_of b e = or_fault e.outside.call.fault (end_fault b e.outside e.answer)
+-- a fault as a cause to put the policy out of force
+abbrev pub as_cause : Option Fault → Option Cause
+as_cause None = None
+as_cause (Some f) = Some (reason.Fault f)
+
+-- the first cause, if there is one, else the second one, if there is one
+abbrev pub or_cause : Option Cause → Option Cause → Option Cause
+or_cause None o = o
+or_cause (Some x) o = Some x
+
+-- why the policy is put out of force as a callback ends: the first fault or exit of its helper
+-- calls; where there is none, the fault of its end
+abbrev pub cause_of : Callback → Ending WorldState → Option Cause
+cause_of b e = or_cause e.outside.call.cause (as_cause (end_fault b e.outside e.answer))
 
 -- ---- a callback of the policy
 
@@ -72,7 +85,7 @@ is_calm callback.Dispatch = false
 is_calm callback.SelectCpu = false
 is_calm b = true
 
--- with that task and processor at hand; where it had a fault the policy is ejected as it ends
+-- with that task and processor at hand; where it had a cause the policy is ejected as it ends
 unfoldable pub call_back : State → Callback → Args → ℕ → ℕ → Stepped
 call_back s b a t c =
     let p = acting s b in
@@ -83,7 +96,12 @@ call_back s b a t c =
       notes = e.outside.notes;
       calls = calls_of p b a s.maps w;
     })
-    (ejected_for (fault_of b e) (after_callback s.policy e))
+    (ejected_for (cause_of b e) (after_callback s.policy e))
+
+-- Linux rules call some callbacks more, where the policy has them
+unfoldable pub call_by_linux : State → Callback → Args → ℕ → ℕ → Stepped
+call_by_linux s b a t c =
+    if is_by_linux s && is_some (program_of s.policy b) then call_back s b a t c else stays s
 
 -- what it answers, if it comes to an answer
 unfoldable pub answered_by : State → Callback → Args → ℕ → ℕ → Option ℕ

@@ -8,6 +8,7 @@ use Rattle.scx_sched_world.specs.declared.notes.What.TheVariants.{Stop, Run, Idl
 use Rattle.scx_weights.specs.Limits.{has_quota}
 use Rattle.scx_sched_world.specs.Ids.{global, builtin_queue, local_on}
 use Rattle.scx_sched_world.specs.World.{WorldState, or_this, with_cycling, task_at, at_callback, note_now}
+use Rattle.scx_sched_world.specs.Pending as world
 use Rattle.scx_sched_world.specs.Tasks.{local_len, after_stop, started_at, after_run, after_switch, after_keep, to_front}
 use Rattle.scx_sched_world.specs.Ejecting.{after_catch_up, after_charge}
 use Rattle.scx_sched_machine.specs.Steps.{State, Stepped, with_world, stays, after, one_after_other, is_ejected, is_by_linux, kicked}
@@ -19,11 +20,12 @@ use Rattle.scx_sched_machine.specs.Parking.{park_fronts, supply}
 
 -- whether a task waits in the local queue of the processor
 abbrev pub has_local : State → ℕ → Bool
-has_local s c = not (local_len s.world c == 0)
+has_local s c = world.has_local s.world c
 
 -- ---- dispatch
 
--- under Linux rules a task keeps the processor while some of its slice is left (ext.c, `dispatch_one`)
+-- under Linux rules a task keeps the processor while some of its slice is left (ext.c,
+-- `dispatch_one`)
 abbrev pub keeps_slice : State → Option ℕ → Bool
 keeps_slice s None = false
 keeps_slice s (Some t) = is_by_linux s && not ((task_at s.world t).slice == 0)
@@ -32,10 +34,10 @@ keeps_slice s (Some t) = is_by_linux s && not ((task_at s.world t).slice == 0)
 unfoldable pub supply_unless_kept : State → ℕ → Option ℕ → Stepped
 supply_unless_kept s c p = if keeps_slice s p then stays s else supply s c
 
--- the task that dispatch is told of: the one before, else, under Linux rules, the one that went to sleep
--- (ext.c, `prev_on_sch`)
+-- the task that dispatch is told of: the one before, else, under Linux rules, the one that went to
+-- sleep (ext.c, `prev_on_sch`)
 abbrev pub told_of : State → Option ℕ → Option ℕ
-told_of s p = or_this p s.world.slept
+told_of s p = or_this p s.world.passing.slept
 
 -- one call of dispatch, and then the local queue is supplied
 unfoldable pub after_dispatch : State → ℕ → Option ℕ → Stepped
@@ -43,10 +45,14 @@ after_dispatch s c p =
     let r = call_back s callback.Dispatch (cpu_and_task c (told_of s p)) 0 c in
     one_after_other r (supply_unless_kept r.state c p)
 
--- whether dispatch is asked again: it moved or inserted a task, the local queue is empty still, and the
--- task before doesn't keep the processor
+-- whether dispatch moved or inserted a task, and the local queue is empty still
+abbrev pub moved_in_vain : State → ℕ → Bool
+moved_in_vain s c = (local_len s.world c == 0) && s.world.call.has_moved
+
+-- whether dispatch is asked again: it moved a task in vain, and the task before doesn't keep the
+-- processor
 abbrev pub asks_again : State → ℕ → Option ℕ → Bool
-asks_again s c p = not (keeps_slice s p) && ((local_len s.world c == 0) && s.world.call.has_moved)
+asks_again s c p = not (keeps_slice s p) && moved_in_vain s c
 
 -- at most so many calls, as long as the local queue is empty and the last one moved something; an
 -- ejection forgets what was moved
@@ -74,8 +80,8 @@ after_running s c t =
     if is_ejected s then stays (with_world s (after_catch_up s.world t))
     else call_back s callback.Running (one_task t) t c
 
--- a task that was stopped is put; under Linux rules one with some of its slice left goes to the front of
--- the local queue, and enqueue isn't called (ext.c, `put_prev_task_scx`)
+-- a task that was stopped is put; under Linux rules one with some of its slice left goes to the
+-- front of the local queue, and enqueue isn't called (ext.c, `put_prev_task_scx`)
 unfoldable pub put_back : State → ℕ → ℕ → Stepped
 put_back s c t = if keeps_slice s (Some t) then enters s t (to_front c) else put s t c 0
 
@@ -86,11 +92,12 @@ leave s c (Some t) =
     let r = after_stopping (with_world s (after_stop s.world c t)) c t 1 in
     after (note_now s.world (Stop t c) ∷ []) (one_after_other r (put_back r.state c t))
 
--- under Linux rules with ticks, a task that begins to run has a slice one nanosecond longer, so that one
--- of a whole number of ticks lasts for one tick more (measured)
+-- under Linux rules with ticks, a task that begins to run has a slice one nanosecond longer, so
+-- that one of a whole number of ticks lasts for one tick more (measured)
 unfoldable pub switched : State → ℕ → State
 switched s t =
-    if is_by_linux s && not (s.policy.tick_ms == 0) then with_world s (after_switch s.world t) else s
+    if is_by_linux s && not (s.policy.tick_ms == 0) then with_world s (after_switch s.world t)
+    else s
 
 -- that task, the front of the local queue, leaves it and runs; without one nothing is done
 abbrev pub started_if : Option ℕ → State → ℕ → Stepped
@@ -154,8 +161,9 @@ builtin_cycle s c p ran = let f = supply s c in one_after_other f (builtin_ask f
 unfoldable pub start_or_cycle : State → ℕ → Bool → Stepped
 start_or_cycle s c ran = if has_local s c then start s c else builtin_cycle s c None ran
 
--- who is picked before the task before leaves: under Linux rules the front of the local queue (ext.c,
--- `do_pick_task_scx`); under plain rules nobody is, and its front runs, whoever that is by then
+-- who is picked before the task before leaves: under Linux rules the front of the local queue
+-- (ext.c, `do_pick_task_scx`); under plain rules nobody is, and its front runs, whoever that is by
+-- then
 unfoldable pub picked : State → ℕ → Option ℕ
 picked s c = if is_by_linux s then front_of s.world.queues (local_on c) else None
 
@@ -170,7 +178,8 @@ is_local s c t = is_in (local_on c) (entry_of s.world.queues t)
 -- the task that was picked runs, from wherever it waits in the local queue
 unfoldable pub start_picked : State → ℕ → ℕ → Stepped
 start_picked s c t =
-    after (note_now s.world (Run t c) ∷ []) (after_running (switched (with_world s (after_run s.world c t)) t) c t)
+    after (note_now s.world (Run t c) ∷ [])
+    (after_running (switched (with_world s (after_run s.world c t)) t) c t)
 
 -- where an ejection took it away the cycle begins anew
 abbrev pub start_picked_or_cycle : Option ℕ → State → ℕ → Bool → Stepped

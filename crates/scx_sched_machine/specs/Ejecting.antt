@@ -2,10 +2,9 @@
 -- built-in scheduler (sched-ext.rst, "Switching to and from sched_ext").
 use Rattle.std.specs.Prelude.{[], ◌∷◌, length, Option, Some, None}
 use Rattle.scx_sched_world.specs.declared.eject.Eject.{Eject}
-use Rattle.scx_sched_world.specs.declared.eject.Eject.TheVariants as cause
-use Rattle.scx_sched_world.specs.declared.faults.Fault.{Fault}
+use Rattle.scx_sched_world.specs.declared.eject.Cause.{Cause}
 use Rattle.scx_sched_world.specs.World.{note_now}
-use Rattle.scx_sched_world.specs.Ejecting.{put_out, after_evictions, evict_notes, after_cut, eject_note}
+use Rattle.scx_sched_world.specs.Ejecting.{eject_of, put_out, after_evictions, evict_notes, after_cut, eject_note}
 use Rattle.scx_sched_machine.specs.Steps.{State, Stepped, with_world, stays, after}
 
 -- all who wait go over, by number
@@ -27,7 +26,7 @@ eject s x =
     after (note_now s.world (eject_note x) ∷ [])
     (cuts (moves_over (with_world s (put_out s.world x))))
 
--- where there was a fault
-abbrev pub ejected_for : Option Fault → State → Stepped
+-- where there was a cause
+abbrev pub ejected_for : Option Cause → State → Stepped
 ejected_for None s = stays s
-ejected_for (Some f) s = eject s (cause.Fault f s.world.clock)
+ejected_for (Some x) s = eject s (eject_of x s.world.clock)

@@ -1,12 +1,12 @@
 -- Events: which are accepted, and what each one does.
-use Rattle.std.specs.Prelude.{ℕ, Bool, true, false, ◌==◌, ◌&&◌, ◌||◌, ◌+◌, ◌%◌, not, nat_lt, [], ◌∷◌, length, if◌then◌else◌, Option, Some, None}
+use Rattle.std.specs.Prelude.{ℕ, Bool, true, false, ◌==◌, ◌&&◌, ◌||◌, ◌+◌, ◌%◌, not, is_some, nat_lt, [], ◌∷◌, length, if◌then◌else◌, Option, Some, None}
 use Rattle.scx_weights.specs.Refusals.{max_weight, is_outside}
 use Rattle.scx_isa_semantics.specs.declared.callbacks.Callback.TheVariants as callback
 use Rattle.scx_sched_world.specs.declared.notes.What.TheVariants as note
 use Rattle.scx_vm.specs.Programs.{VerifiedProgram}
 use Rattle.scx_sched_world.specs.declared.call.Insert.{Insert}
 use Rattle.scx_sched_world.specs.World as world
-use Rattle.scx_sched_world.specs.World.{WorldState, with_slept, task_at, is_runnable, is_throttled, running, cpu_of, is_idle, choice, default_choice, after_claim, at_callback, note_now}
+use Rattle.scx_sched_world.specs.World.{WorldState, with_switch, with_slept, with_waker, task_at, is_runnable, is_throttled, running, cpu_of, is_idle, choice, default_choice, after_claim, at_callback, note_now}
 use Rattle.scx_sched_world.specs.declared.eject.Eject.TheVariants as cause
 use Rattle.scx_sched_world.specs.Tasks.{for_cpu, to_local, homed, after_wake, after_sleep, after_leave, after_stop, after_tick, used_ms, later, begun_periods, after_reweigh}
 use Rattle.scx_sched_world.specs.Helpers.{with_insert}
@@ -15,9 +15,10 @@ use Rattle.scx_sched_machine.specs.declared.events.Event.{Event}
 use Rattle.scx_sched_machine.specs.declared.events.Event.TheVariants.{Wake, Sleep, Tick, Clock, SetWeight}
 use Rattle.scx_sched_machine.specs.declared.events.Refused.{Refused}
 use Rattle.scx_sched_machine.specs.declared.events.Refused.TheVariants.{AlreadyRunnable, NotRunnable, UnknownTask, UnknownCpu, UnknownGroup, BadWeight}
+use Rattle.scx_sched_machine.specs.Policy.{program_of}
 use Rattle.scx_sched_machine.specs.Steps.{State, Stepped, with_world, stays, after, one_after_other, is_ejected, is_by_linux, kicked_if_idle}
 use Rattle.scx_sched_machine.specs.Ejecting.{eject}
-use Rattle.scx_sched_machine.specs.Callbacks.{acting, call_back, answered_by, task_cpu_and_0}
+use Rattle.scx_sched_machine.specs.Callbacks.{acting, call_back, call_by_linux, answered_by, one_task, task_cpu_and_0, task_and_number}
 use Rattle.scx_sched_machine.specs.Put.{enters, put}
 use Rattle.scx_sched_machine.specs.Parking.{park, let_all_go}
 use Rattle.scx_sched_machine.specs.Cycle.{after_stopping, cycle}
@@ -60,27 +61,48 @@ abbrev pub insert_or_put : Option Insert → State → ℕ → ℕ → Stepped
 insert_or_put None s t c = put s t c 1
 insert_or_put (Some i) s t c = enters s t (for_cpu c i)
 
+-- a task is woken from no processor any more
+abbrev pub woken : State → State
+woken s = with_world s (with_waker s.world None)
+
 -- a target that is idle looks for a task: under Linux rules as the event ends, else at once
 unfoldable pub wake_target : State → ℕ → Stepped
 wake_target s c =
-    if is_by_linux s then stays (kicked_if_idle s c)
+    if is_by_linux s then stays (kicked_if_idle (woken s) c)
     else (if is_idle s.world c then cycle s c None false else stays s)
 
--- the task comes to wait for the target, which under Linux rules is its processor from then on, and a
--- target that is idle looks for a task
+-- the task comes to wait for the target, as that insert wants it to, and a target that is idle
+-- looks for a task
+unfoldable pub comes_to : Option Insert → State → ℕ → ℕ → Stepped
+comes_to i s t c =
+    let r = insert_or_put i s t c in
+    one_after_other r (wake_target r.state c)
+
+-- what select_cpu inserted is dropped where the policy is out of force
+abbrev pub while_in_force : State → Option Insert → Option Insert
+while_in_force s i = if is_ejected s then None else i
+
+-- a policy that has `runnable` hears that the task woke, and the task comes to wait for the target
+-- (ext.c, `enqueue_task_scx`)
+unfoldable pub told_runnable : Option Insert → State → ℕ → ℕ → Stepped
+told_runnable i s t c =
+    let r = call_by_linux s callback.Runnable (task_and_number t 1) t c in
+    one_after_other r (comes_to (while_in_force r.state i) r.state t c)
+
+-- the target is, under Linux rules, the task's processor from then on, and the task comes to wait
 unfoldable pub settle : State → ℕ → ℕ → Stepped
 settle s t c =
     let v = with_world s (homed s.world t c) in
-    let r = insert_or_put v.world.call.insert v t c in
-    one_after_other r (wake_target r.state c)
+    if is_by_linux v then told_runnable v.world.call.insert v t c
+    else comes_to v.world.call.insert v t c
 
 -- the task is to come into the local queue of the processor that was chosen, if one was
 abbrev pub inserted_by_choice : WorldState → Option ℕ → WorldState
 inserted_by_choice w None = w
 inserted_by_choice w (Some c) = with_insert w (to_local c)
 
--- under Linux rules the default choice claims its processor, and inserts the task into the local queue
--- there (ext.c, `select_task_rq_scx`)
+-- under Linux rules the default choice claims its processor, and inserts the task into the local
+-- queue there (ext.c, `select_task_rq_scx`)
 abbrev pub chosen_by_default : WorldState → ℕ → WorldState
 chosen_by_default w t =
     if world.is_by_linux w then inserted_by_choice (after_claim w (choice w t)) (choice w t) else w
@@ -110,26 +132,51 @@ select s t =
     if asks_target s then ask_target s t
     else settle (with_world s (at_callback s.world callback.SelectCpu t 0)) t 0
 
+-- under Linux rules callbacks of a wake run on the processor on which the task was last
+unfoldable pub from_waker : State → ℕ → State
+from_waker s t =
+    if is_by_linux s then with_world s (with_waker s.world (Some (task_at s.world t).prev_cpu))
+    else s
+
 -- a task wakes: it is noted, the task waits from now on, and select_cpu is asked
 unfoldable pub wake : State → ℕ → Stepped
 wake s t =
-    after (note_now s.world (note.Wake t) ∷ []) (select (with_world s (after_wake s.world t)) t)
+    after (note_now s.world (note.Wake t) ∷ [])
+    (select (from_waker (with_world s (after_wake s.world t)) t) t)
 
 -- under Linux rules dispatch is told of the task that goes to sleep
 unfoldable pub told_of_sleep : State → ℕ → State
 told_of_sleep s t = if is_by_linux s then with_world s (with_slept s.world t) else s
 
--- a task that runs leaves its processor, which looks for another
+-- the task sleeps, and a policy that has `quiescent` hears that it isn't runnable any more (ext.c,
+-- `dequeue_task_scx`)
+unfoldable pub falls_asleep : State → ℕ → ℕ → Stepped
+falls_asleep s t c =
+    call_by_linux (with_world s (after_sleep s.world t)) callback.Quiescent (task_and_number t 1)
+    t c
+
+-- the processor of a task that sleeps now looks for another
+unfoldable pub looks_after_sleep : State → ℕ → ℕ → Stepped
+looks_after_sleep s t c = cycle (told_of_sleep s t) c None true
+
+-- a task leaves its processor, on which it was the current one; the number says whether it stays
+-- runnable
+unfoldable pub leaves_cpu : State → ℕ → ℕ → ℕ → Stepped
+leaves_cpu s c t n =
+    after (note_now s.world (note.Stop t c) ∷ [])
+    (after_stopping (with_world s (after_stop (with_switch s.world c) c t)) c t n)
+
+-- a task that runs leaves its processor and sleeps, and the processor looks for another
 unfoldable pub sleep_from_cpu : State → ℕ → ℕ → Stepped
 sleep_from_cpu s t c =
-    let r = after_stopping (with_world s (after_stop s.world c t)) c t 0 in
-    after (note_now s.world (note.Stop t c) ∷ [])
-    (one_after_other r
-    (cycle (told_of_sleep (with_world r.state (after_sleep r.state.world t)) t) c None true))
+    let r = leaves_cpu s c t 0 in
+    let q = falls_asleep r.state t c in
+    one_after_other r (one_after_other q (looks_after_sleep q.state t c))
 
 -- a task goes to sleep from that processor, or, where it runs on none, from its queue
 abbrev pub sleep_from : Option ℕ → State → ℕ → Stepped
-sleep_from None s t = stays (with_world s (after_sleep (after_leave s.world t) t))
+sleep_from None s t =
+    falls_asleep (with_world s (after_leave s.world t)) t (task_at s.world t).prev_cpu
 sleep_from (Some c) s t = sleep_from_cpu s t c
 
 -- a task goes to sleep, from where it is, and that is noted first
@@ -140,28 +187,45 @@ sleep s t = after (note_now s.world (note.Sleep t) ∷ []) (sleep_from (cpu_of s
 -- looks for another
 unfoldable pub throttle : State → ℕ → ℕ → Stepped
 throttle s c t =
-    let r = after_stopping (with_world s (after_stop s.world c t)) c t 1 in
+    let r = leaves_cpu s c t 1 in
     let p = park r.state t in
-    after (note_now s.world (note.Stop t c) ∷ [])
-    (one_after_other r (one_after_other p (cycle p.state c None true)))
+    one_after_other r (one_after_other p (cycle p.state c None true))
 
--- whether a slice that has run out ends by now: under Linux rules with ticks, at a tick alone (ext.c,
+-- whether a millisecond ends with a tick: each one where slices end exactly
+abbrev pub is_tick_time : State → Bool
+is_tick_time s = (s.policy.tick_ms == 0) || ((s.world.clock + 1) % s.policy.tick_ms == 0)
+
+-- whether a slice that has run out ends by now: under Linux rules at a tick alone (ext.c,
 -- `task_tick_scx`)
 unfoldable pub ends_slices : State → Bool
-ends_slices s =
-    not (is_by_linux s)
-    || ((s.policy.tick_ms == 0) || ((s.world.clock + 1) % s.policy.tick_ms == 0))
+ends_slices s = not (is_by_linux s) || is_tick_time s
 
 -- a task whose slice has run out may be replaced
 unfoldable pub expire : State → ℕ → ℕ → Stepped
 expire s c t =
     if ((task_at s.world t).slice == 0) && ends_slices s then cycle s c (Some t) true else stays s
 
--- a task has run for a millisecond, which its groups have used
+-- the groups of a task that ran for a millisecond have used it, and the task may be replaced
+unfoldable pub use_up : State → ℕ → ℕ → Stepped
+use_up s c t =
+    let v = with_world s (used_ms s.world t) in
+    if is_throttled v.world t then throttle v c t else expire v c t
+
+-- whether a policy hears of that tick: under Linux rules, where it has `tick` (ext.c,
+-- `task_tick_scx`)
+unfoldable pub hears_tick : State → Bool
+hears_tick s =
+    (is_by_linux s && is_some (program_of s.policy callback.Tick)) && is_tick_time s
+
+-- the policy hears of the tick of a task, if it hears of that one
+unfoldable pub tick_heard : State → ℕ → ℕ → Stepped
+tick_heard s c t = if hears_tick s then call_back s callback.Tick (one_task t) t c else stays s
+
+-- a task has run for a millisecond; the slice that `tick` leaves is the one that counts
 unfoldable pub count_down : State → ℕ → ℕ → Stepped
 count_down s c t =
-    let v = with_world s (used_ms (after_tick s.world t) t) in
-    if is_throttled v.world t then throttle v c t else expire v c t
+    let r = tick_heard (with_world s (after_tick s.world t)) c t in
+    one_after_other r (use_up r.state c t)
 
 -- a processor that runs no task looks for one; under Linux rules it sleeps until it is given work
 -- (ext.c, `task_tick_scx` is called for a task that runs)

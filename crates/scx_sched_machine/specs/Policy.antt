@@ -14,9 +14,9 @@ use Rattle.scx_sched_machine.specs.declared.policy.BadPolicy.TheVariants.{BadTim
 abbrev pub Programs : Type 0
 Programs = PerCallback (Option VerifiedProgram)
 
--- a policy: the shapes of its maps, how many milliseconds a task may wait, by whose rules the machine
--- goes while it is in force, how many milliseconds there are from tick to tick (0 where slices end
--- exactly), and its programs
+-- a policy: the shapes of its maps, how many milliseconds a task may wait, by whose rules the
+-- machine goes while it is in force, how many milliseconds there are from tick to tick (0 where
+-- slices end exactly), and its programs
 pub record PolicyState : Type 0 where
   pub shapes : List Shape
   pub timeout_ms : ℕ

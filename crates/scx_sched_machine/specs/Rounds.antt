@@ -1,28 +1,25 @@
--- Under Linux rules a processor that is given work, or kicked, looks for it as the event ends (ext.c,
--- `kick_cpus_irq_workfn`, `rq_owned_post_enq`). No other event wakes an idle processor.
-use Rattle.std.specs.Prelude.{ℕ, zero, suc, Bool, true, false, ◌==◌, ◌&&◌, ◌||◌, length, if◌then◌else◌, Option, Some, None}
+-- Under Linux rules a processor that is given work, or kicked, looks for it as the event ends
+-- (ext.c, `kick_cpus_irq_workfn`, `rq_owned_post_enq`). No other event wakes an idle processor.
+use Rattle.std.specs.Prelude.{ℕ, zero, suc, Bool, true, false, ◌==◌, if◌then◌else◌, Option, Some, None}
 use Rattle.scx_sched_world.specs.CpuSets.{is_in_set}
-use Rattle.scx_sched_world.specs.World.{without_kick, task_at, running, is_idle, this_if, or_this}
+use Rattle.scx_sched_world.specs.World.{without_kick, task_at, running}
+use Rattle.scx_sched_world.specs.Pending as world
+use Rattle.scx_sched_world.specs.Pending.{first_pending}
 use Rattle.scx_sched_world.specs.Tasks.{after_cut_off}
 use Rattle.scx_sched_machine.specs.Steps.{State, Stepped, with_world, stays, one_after_other, is_by_linux}
-use Rattle.scx_sched_machine.specs.Cycle.{has_local, cycle}
+use Rattle.scx_sched_machine.specs.Cycle.{cycle}
 
 -- how many processors look for work in an event at most
 abbrev pub most_rounds : ℕ
 most_rounds = 256
 
--- whether a processor is to look for work: it was kicked, or is idle with a task in its local queue
+-- whether a processor is to look for work
 abbrev pub is_pending : State → ℕ → Bool
-is_pending s c = is_in_set s.world.kicked c || (is_idle s.world c && has_local s c)
-
--- the lowest pending one of the first so many processors
-unfoldable pub pending_below : ℕ → State → Option ℕ
-pending_below zero s = None
-pending_below (suc n) s = or_this (pending_below n s) (this_if (is_pending s n) n)
+is_pending s c = world.is_pending s.world c
 
 -- the processor that looks next, while the policy is in force
 unfoldable pub next_to_look : State → Option ℕ
-next_to_look s = if is_by_linux s then pending_below (length s.world.cpus) s else None
+next_to_look s = if is_by_linux s then first_pending s.world else None
 
 -- where a task runs, it loses its slice if that is so wanted
 abbrev pub cut_off_if : Bool → State → ℕ → State
@@ -33,7 +30,8 @@ cut_off_if true s t = with_world s (after_cut_off s.world t)
 unfoldable pub look_past : State → ℕ → ℕ → Stepped
 look_past s c t = if (task_at s.world t).slice == 0 then cycle s c (Some t) true else stays s
 
--- a processor that runs that task, or none, looks for work; `cut` says whether the task is preempted
+-- a processor that runs that task, or none, looks for work; `cut` says whether the task is
+-- preempted
 abbrev pub look_from : Option ℕ → Bool → State → ℕ → Stepped
 look_from None cut s c = cycle s c None false
 look_from (Some t) cut s c = look_past (cut_off_if cut s t) c t

@@ -6,7 +6,8 @@ use Rattle.scx_weights.specs.Hierarchy.{Hierarchy, is_active_task}
 use Rattle.scx_weights.specs.Counting.{any_below}
 use Rattle.scx_isa_semantics.specs.declared.callbacks.Callback.TheVariants as callback
 use Rattle.scx_isa_semantics.specs.Endings.{Ending}
-use Rattle.scx_sched_world.specs.declared.faults.Fault.{Fault}
+use Rattle.scx_sched_world.specs.declared.eject.Cause.{Cause}
+use Rattle.scx_sched_world.specs.declared.eject.Cause.TheVariants as reason
 use Rattle.scx_sched_world.specs.World.{WorldState, with_rules, at_callback}
 use Rattle.scx_sched_world.specs.First.{first_world}
 use Rattle.scx_sched_world.specs.Tasks.{begun_periods}
@@ -41,9 +42,14 @@ init_ending s =
     call_ending (acting s callback.Init) callback.Init no_arguments s.maps
     (at_callback s.world callback.Init 0 0)
 
--- the answer with which the machine can't begin; a fault goes before an answer
-abbrev pub bad_answer : Option Fault → Option ℕ → Option ℤ
-bad_answer (Some f) a = Some fault_answer
+-- the answer that stands for a cause: the code of an exit
+abbrev pub cause_answer : Cause → ℤ
+cause_answer (reason.Fault f) = fault_answer
+cause_answer (reason.Exit n) = n
+
+-- the answer with which the machine can't begin; a fault or an exit goes before an answer
+abbrev pub bad_answer : Option Cause → Option ℕ → Option ℤ
+bad_answer (Some x) a = Some (cause_answer x)
 bad_answer None None = Some fault_answer
 bad_answer None (Some n) = if n == 0 then None else Some (cast_signed w64 n)
 
@@ -55,7 +61,7 @@ ok_unless (Some n) s = Err n
 -- after init
 unfoldable pub after_init : State → Result State ℤ
 after_init s =
-    ok_unless (bad_answer (init_ending s).outside.call.fault (init_ending s).answer)
+    ok_unless (bad_answer (init_ending s).outside.call.cause (init_ending s).answer)
     (after_callback s.policy (init_ending s))
 
 -- ---- enable of each task
@@ -66,39 +72,37 @@ enable_ending s t =
     call_ending (acting s callback.Enable) callback.Enable (one_task t) s.maps
     (at_callback s.world callback.Enable t 0)
 
--- a fault, or a callback that got stuck
-abbrev pub has_failed : Ending WorldState → Bool
-has_failed e = is_some e.outside.call.fault || is_none e.answer
+-- a callback that answers nothing can fail by a fault, by an exit, or as it gets stuck
+abbrev pub failure : Option Cause → Option ℕ → Option ℤ
+failure (Some x) a = Some (cause_answer x)
+failure None None = Some fault_answer
+failure None (Some n) = None
 
--- after enable of that task; none where it had a fault or got stuck
-unfoldable pub enable : State → ℕ → Option State
+-- after enable of that task, or the answer with which the machine can't begin
+unfoldable pub enable : State → ℕ → Result State ℤ
 enable s t =
-    if has_failed (enable_ending s t) then None
-    else Some (after_callback s.policy (enable_ending s t))
+    ok_unless (failure (enable_ending s t).outside.call.cause (enable_ending s t).answer)
+    (after_callback s.policy (enable_ending s t))
 
--- after enable of one more task; none where one before it has failed, or it does
-abbrev pub then_enable : Option State → ℕ → Option State
-then_enable None t = None
-then_enable (Some s) t = enable s t
+-- after enable of one more task; where one before it has failed, its answer
+abbrev pub then_enable : Result State ℤ → ℕ → Result State ℤ
+then_enable (Err x) t = Err x
+then_enable (Ok s) t = enable s t
 
--- after enable of the first tasks; none where one has failed
-abbrev pub after_enables : ℕ → State → Option State
-after_enables zero s = Some s
+-- after enable of the first tasks; where one has failed, its answer
+abbrev pub after_enables : ℕ → State → Result State ℤ
+after_enables zero s = Ok s
 after_enables (suc n) s = then_enable (after_enables n s) n
 
 -- ---- all of it
 
--- that state, or -22 where enable of a task has failed
-abbrev pub ok_if : Option State → Result State ℤ
-ok_if None = Err fault_answer
-ok_if (Some s) = Ok s
-
 -- after enable of each task, by number; where init has failed, its answer
 abbrev pub all_enabled : Result State ℤ → Result State ℤ
 all_enabled (Err n) = Err n
-all_enabled (Ok s) = ok_if (after_enables (length s.world.tasks) s)
+all_enabled (Ok s) = after_enables (length s.world.tasks) s
 
--- the first state of a policy's machine; where it can't begin, init's answer or -22
+-- the first state of a policy's machine; where it can't begin, init's answer, the code of an exit,
+-- or -22
 abbrev pub first_state : PolicyState → Hierarchy → ℕ → Result State ℤ
 first_state p tree cpus = all_enabled (after_init (blank p tree cpus))
 
@@ -118,9 +122,9 @@ init_calls s =
     (at_callback s.world callback.Init 0 0)
 
 -- the call of enable of that task, if the policy has one; none where something failed before
-abbrev pub enable_calls : Option State → ℕ → List CallMade
-enable_calls None t = []
-enable_calls (Some s) t =
+abbrev pub enable_calls : Result State ℤ → ℕ → List CallMade
+enable_calls (Err x) t = []
+enable_calls (Ok s) t =
     calls_of (acting s callback.Enable) callback.Enable (one_task t) s.maps
     (at_callback s.world callback.Enable t 0)
 

@@ -1,7 +1,7 @@
 ghost use Rattle.std.specs.Prelude.{◌≡◌, ◌+◌, ◌≤◌, ◌^◌, [], true, Some, option_map};
 ghost use Rattle.scx_maps.specs.Contents.{HasShapes};
 ghost use Rattle.scx_isa_semantics.specs.Arguments.{FitsCallback};
-ghost use Rattle.scx_isa_semantics.specs.declared.callbacks.Callback.TheVariants.{Enable, SelectCpu, Enqueue, Dispatch, Running, Stopping};
+ghost use Rattle.scx_isa_semantics.specs.declared.callbacks.Callback.TheVariants.{Enable, SelectCpu, Enqueue, Dispatch, Running, Stopping, Tick, Runnable, Quiescent};
 ghost use Rattle.scx_isa_semantics.specs.Endings.{run_of};
 ghost use Rattle.scx_vm.specs.Arguments.{program_arguments};
 ghost use Rattle.scx_vm.specs.Host.{answer_to, after_query};
@@ -11,17 +11,16 @@ ghost use Rattle.scx_sched_machine.specs.Budgets.{CanPush, HasRoom, callback_pus
 ghost use Rattle.scx_sched_machine.specs.Does.{Goes};
 ghost use Rattle.scx_sched_machine.specs.Hearing.{Hears};
 ghost use Rattle.scx_sched_machine.specs.Notes.{Takes};
-ghost use Rattle.scx_sched_world.specs.Helpers.{or_fault};
 ghost use Rattle.scx_sched_machine.specs.Policy.{IsAs, HasMaps, program_of};
 ghost use Rattle.scx_sched_machine.specs.Ejecting.{ejected_for};
-ghost use Rattle.scx_sched_machine.specs.Callbacks.{call_ending, call_back, end_fault, unless_ejected, answered_by, calls_of, IsAnswered, AreAnswered, is_calm, one_task, task_cpu_and_0, task_and_number, task_or_0, cpu_and_task};
+ghost use Rattle.scx_sched_machine.specs.Callbacks.{call_ending, call_back, call_by_linux, end_fault, as_cause, or_cause, unless_ejected, answered_by, calls_of, IsAnswered, AreAnswered, is_calm, one_task, task_cpu_and_0, task_and_number, task_or_0, cpu_and_task};
 
 use crate::machine::Machine;
 use crate::policy::Policy;
 use crate::sink::Hearer;
 use scx_isa::Callback;
 use scx_maps::Maps;
-use scx_sched_world::{Eject, Fault, World};
+use scx_sched_world::{Cause, Fault, World};
 use scx_verify::Verified;
 use scx_vm::{Arg, Args};
 use scx_vm_run::{Core, answer_on};
@@ -142,6 +141,7 @@ pub(crate) fn one_task(task: u16) -> Args
     ensures task { result ≡ one_task task }
     ensures enable { FitsCallback Enable (program_arguments result) }
     ensures running { FitsCallback Running (program_arguments result) }
+    ensures tick { FitsCallback Tick (program_arguments result) }
 {
     Args {
         first: World::pointer(task),
@@ -150,7 +150,7 @@ pub(crate) fn one_task(task: u16) -> Args
     }
 }
 
-/// A task, the processor on which it ran last, and 0.
+/// A task, the CPU on which it ran last, and 0.
 pub(crate) fn task_cpu_and_0(task: u16, cpu: u32) -> Args
     ensures all { result ≡ task_cpu_and_0 task cpu }
     ensures select_cpu { FitsCallback SelectCpu (program_arguments result) }
@@ -167,6 +167,8 @@ pub(crate) fn task_and_number(task: u16, number: u64) -> Args
     ensures both { result ≡ task_and_number task number }
     ensures enqueue { FitsCallback Enqueue (program_arguments result) }
     ensures stopping { FitsCallback Stopping (program_arguments result) }
+    ensures runnable { FitsCallback Runnable (program_arguments result) }
+    ensures quiescent { FitsCallback Quiescent (program_arguments result) }
 {
     Args {
         first: World::pointer(task),
@@ -184,7 +186,7 @@ fn task_or_0(task: Option<u16>) -> Arg
     }
 }
 
-/// A processor, and the task before or 0.
+/// A CPU, and the task before or 0.
 pub(crate) fn cpu_and_task(cpu: u32, before: Option<u16>) -> Args
     ensures both { result ≡ cpu_and_task cpu before }
     ensures dispatch { FitsCallback Dispatch (program_arguments result) }
@@ -197,35 +199,35 @@ pub(crate) fn cpu_and_task(cpu: u32, before: Option<u16>) -> Args
 }
 
 impl Machine {
-    /// The fault of the callback that has just ended with that answer, if it has one.
-    fn fault(&self, callback: Callback, answer: u64) -> Option<Fault>
-        ensures { result
-            ≡ or_fault self.now.world.call.fault (end_fault callback self.now.world (Some answer)) }
+    /// The reason for which the policy is ejected as a callback ends with that answer, if there is one.
+    fn cause(&self, callback: Callback, answer: u64) -> Option<Cause>
+        ensures { result ≡ or_cause self.now.world.call.cause
+            (as_cause (end_fault callback self.now.world (Some answer))) }
     {
-        if let Some(fault) = self.world.first_fault() {
-            return Some(fault);
+        if let Some(cause) = self.world.cause() {
+            return Some(cause);
         }
         if callback == Callback::SelectCpu && answer >= u64::from(self.world.cpus()) {
-            return Some(Fault::NoSuchCpu);
+            return Some(Cause::Fault(Fault::NoSuchCpu));
         }
         None
     }
 
-    /// Ejects the policy where there was a fault.
+    /// Ejects the policy if there is a cause.
     #[tactic(auto, using(crate::proofs::Taking::takings))]
-    fn eject_for<H: Hearer>(&mut self, fault: Option<Fault>, hearer: &mut H)
+    fn eject_for<H: Hearer>(&mut self, cause: Option<Cause>, hearer: &mut H)
         requires { HasRoom eject_pushes self.old }
-        ensures { Goes H.noted H.takes H.told H.hears eject_pushes (ejected_for fault self.old)
+        ensures { Goes H.noted H.takes H.told H.hears eject_pushes (ejected_for cause self.old)
             self.old hearer.old self.new hearer.new }
     {
-        if let Some(fault) = fault {
+        if let Some(cause) = cause {
             let clock = self.world.clock();
-            self.eject(Eject::Fault(fault, clock), hearer);
+            self.eject(cause.at(clock), hearer);
         }
     }
 
-    /// Runs a callback of the policy, with that task and processor at hand, and answers what its program
-    /// does. Where it has a fault the policy is ejected. Once it is ejected, none runs, and the answer is 0.
+    /// Runs a callback of the policy, with that task and CPU at hand, and answers what its program
+    /// does. If it has a cause the policy is ejected. Once it is ejected, none runs, and the answer is 0.
     #[inline(always)]
     #[tactic(auto, unfolding(crate::specs::Callbacks::call_back, crate::specs::Callbacks::answered_by), using(crate::proofs::Taking::takings))]
     pub(crate) fn call_back<H: Hearer>(
@@ -255,8 +257,49 @@ impl Machine {
             hearer,
         );
         flush_any(&mut self.world, hearer);
-        let fault = self.fault(callback, answer);
-        self.eject_for(fault, hearer);
+        let cause = self.cause(callback, answer);
+        self.eject_for(cause, hearer);
         answer
+    }
+
+    /// Runs a callback as a call of its own, for callbacks that few policies have.
+    #[inline(never)]
+    fn call_apart<H: Hearer>(
+        &mut self,
+        callback: Callback,
+        arguments: Args,
+        task: u16,
+        cpu: u32,
+        hearer: &mut H,
+    )
+        requires arguments { FitsCallback callback (program_arguments arguments) }
+        requires room { HasRoom callback_pushes self.old }
+        ensures { Goes H.noted H.takes H.told H.hears callback_pushes
+            (call_back self.old callback arguments task cpu)
+            self.old hearer.old self.new hearer.new }
+    {
+        self.call_back(callback, arguments, task, cpu, hearer);
+    }
+
+    /// Runs a callback that Linux rules call more, if the policy has it.
+    #[inline(always)]
+    #[tactic(auto, unfolding(crate::specs::Callbacks::call_by_linux), using(crate::proofs::Taking::takings))]
+    pub(crate) fn call_by_linux<H: Hearer>(
+        &mut self,
+        callback: Callback,
+        arguments: Args,
+        task: u16,
+        cpu: u32,
+        hearer: &mut H,
+    )
+        requires arguments { FitsCallback callback (program_arguments arguments) }
+        requires room { HasRoom callback_pushes self.old }
+        ensures { Goes H.noted H.takes H.told H.hears callback_pushes
+            (call_by_linux self.old callback arguments task cpu)
+            self.old hearer.old self.new hearer.new }
+    {
+        if self.is_by_linux() && self.policy.has_program(callback) {
+            self.call_apart(callback, arguments, task, cpu, hearer);
+        }
     }
 }

@@ -2,8 +2,9 @@ ghost use Rattle.std.specs.Prelude.{◌≡◌, ◌*◌, true, false, None};
 ghost use Rattle.scx_sched_world.specs.Ids.{global};
 ghost use Rattle.scx_sched_machine.specs.Budgets.{HasRoom, ask_pushes, builtin_ask_pushes, builtin_cycle_pushes, builtin_dispatch_pushes, callback_pushes, cycle_pushes, dispatch_pushes, fill_pushes, leave_pushes, pick_pushes, put_pushes, supply_pushes, swap_pushes};
 ghost use Rattle.scx_sched_machine.specs.Does.{Goes};
+ghost use Rattle.scx_sched_machine.specs.Steps.{is_by_linux};
 ghost use Rattle.scx_sched_machine.specs.Filling.{fill};
-ghost use Rattle.scx_sched_machine.specs.Cycle.{supply_unless_kept, after_dispatch, tries, after_stopping, after_running, put_back, leave, switched, start, rest, swap, swap_or_rest, builtin_dispatch, builtin_fill, builtin_ask, builtin_cycle, start_or_cycle, picked, start_picked, start_picked_or_cycle, pick, pick_or_rest, keep_or_pick, conclude, give_up, ask, seek, look, stays_idle, idles, cycle};
+ghost use Rattle.scx_sched_machine.specs.Cycle.{supply_unless_kept, after_dispatch, tries, after_stopping, after_running, put_back, leave, switched, start, rest, swap, swap_or_rest, builtin_dispatch, builtin_fill, builtin_ask, builtin_cycle, start_or_cycle, start_picked, start_picked_or_cycle, pick, pick_or_rest, keep_or_pick, conclude, give_up, ask, seek, look, stays_idle, idles, cycle};
 
 use crate::callbacks::{cpu_and_task, one_task, task_and_number};
 use crate::machine::Machine;
@@ -25,7 +26,7 @@ impl Machine {
         }
     }
 
-    /// Where the local queue is empty, the front of that of all processors comes to it.
+    /// Where the local queue is empty, the front of that of all CPUs comes to it.
     #[inline(always)]
     #[tactic(auto, unfolding(crate::specs::Filling::fill), using(crate::proofs::Taking::takings))]
     pub(crate) fn fill_global<H: Hearer>(&mut self, cpu: u32, hearer: &mut H)
@@ -85,7 +86,45 @@ impl Machine {
         }
     }
 
-    /// A task has left its processor. The number says whether it stays runnable.
+    /// Asks dispatch once by plain rules, and then supplies the local queue.
+    #[inline(always)]
+    #[tactic(auto, using(crate::proofs::Taking::takings, crate::proofs::Plainly::dispatches))]
+    fn dispatch_plainly<H: Hearer>(&mut self, cpu: u32, before: Option<u16>, hearer: &mut H)
+        requires plain { is_by_linux self.old ≡ false }
+        requires room { HasRoom dispatch_pushes self.old }
+        ensures does { Goes H.noted H.takes H.told H.hears dispatch_pushes
+            (after_dispatch self.old cpu before) self.old hearer.old self.new hearer.new }
+        ensures plain { is_by_linux self.new ≡ false }
+    {
+        self.call_back(
+            Callback::Dispatch,
+            cpu_and_task(cpu, self.told_of(before)),
+            0,
+            cpu,
+            hearer,
+        );
+        self.supply(cpu, hearer);
+    }
+
+    /// Calls dispatch by plain rules, at most that many times.
+    #[tactic(auto, using(crate::proofs::Taking::takings, crate::proofs::Plainly::tries_plainly))]
+    fn tries_plainly<H: Hearer>(&mut self, left: u32, cpu: u32, before: Option<u16>, hearer: &mut H)
+        requires plain { is_by_linux self.old ≡ false }
+        requires room { HasRoom (dispatch_pushes * left) self.old }
+        ensures does { Goes H.noted H.takes H.told H.hears (dispatch_pushes * left)
+            (tries left self.old cpu before) self.old hearer.old self.new hearer.new }
+        ensures plain { is_by_linux self.new ≡ false }
+    {
+        if left == 0 {
+            return;
+        }
+        self.dispatch_plainly(cpu, before, hearer);
+        if self.moved_in_vain(cpu) {
+            self.tries_plainly(left - 1, cpu, before, hearer);
+        }
+    }
+
+    /// A task has left its CPU. The number says whether it stays runnable.
     #[inline(always)]
     #[tactic(auto, unfolding(crate::specs::Cycle::after_stopping), using(crate::proofs::Taking::takings))]
     pub(crate) fn call_stopping<H: Hearer>(
@@ -107,7 +146,7 @@ impl Machine {
         }
     }
 
-    /// A task has come to its processor.
+    /// A task has come to its CPU.
     #[inline(always)]
     #[tactic(auto, unfolding(crate::specs::Cycle::after_running), using(crate::proofs::Taking::takings))]
     fn call_running<H: Hearer>(&mut self, cpu: u32, task: u16, hearer: &mut H)
@@ -138,7 +177,7 @@ impl Machine {
         }
     }
 
-    /// The task before leaves the processor, and is put.
+    /// The task before leaves the CPU, and is put.
     #[inline(always)]
     #[tactic(auto, unfolding(crate::specs::Cycle::leave), using(crate::proofs::Taking::takings))]
     fn leave<H: Hearer>(&mut self, cpu: u32, before: Option<u16>, hearer: &mut H)
@@ -151,6 +190,23 @@ impl Machine {
             self.world.stop(cpu, task);
             self.call_stopping(cpu, task, 1, hearer);
             self.put_back(cpu, task, hearer);
+        }
+    }
+
+    /// By plain rules the task before leaves the CPU, and is put.
+    #[inline(always)]
+    #[tactic(auto, using(crate::proofs::Taking::takings, crate::proofs::Plainly::leaves))]
+    fn leave_plainly<H: Hearer>(&mut self, cpu: u32, before: Option<u16>, hearer: &mut H)
+        requires plain { is_by_linux self.old ≡ false }
+        requires room { HasRoom leave_pushes self.old }
+        ensures { Goes H.noted H.takes H.told H.hears leave_pushes (leave self.old cpu before)
+            self.old hearer.old self.new hearer.new }
+    {
+        if let Some(task) = before {
+            hearer.note(self.world.note(What::Stop(task, cpu)));
+            self.world.stop(cpu, task);
+            self.call_stopping(cpu, task, 1, hearer);
+            self.put(task, cpu, 0, hearer);
         }
     }
 
@@ -181,7 +237,7 @@ impl Machine {
         }
     }
 
-    /// Nobody comes: the task before stays, or the processor is idle.
+    /// No task comes: the one before stays, or the CPU is idle.
     #[inline(always)]
     #[tactic(auto, unfolding(crate::specs::Cycle::rest), using(crate::proofs::Taking::takings))]
     fn rest<H: Hearer>(&mut self, cpu: u32, before: Option<u16>, ran: bool, hearer: &mut H)
@@ -282,19 +338,6 @@ impl Machine {
         }
     }
 
-    /// The task that is picked before the one before leaves: under Linux rules alone.
-    #[inline(always)]
-    #[tactic(auto, unfolding(crate::specs::Cycle::picked))]
-    fn picked(&self, cpu: u32) -> Option<u16>
-        ensures { result ≡ picked self.now cpu }
-    {
-        if self.is_by_linux() {
-            self.world.front(LOCAL_ON + u64::from(cpu))
-        } else {
-            None
-        }
-    }
-
     /// The task that was picked runs, from wherever it waits in the local queue.
     #[inline(never)]
     #[tactic(auto, unfolding(crate::specs::Cycle::start_picked), using(crate::proofs::Taking::takings))]
@@ -337,21 +380,51 @@ impl Machine {
         }
     }
 
-    /// The front of the local queue runs in the place of the task before.
+    /// By Linux rules the front of the local queue is picked, and then the task before leaves.
     #[inline(never)]
-    #[tactic(auto, unfolding(crate::specs::Cycle::pick), using(crate::proofs::Taking::takings))]
-    fn pick<H: Hearer>(&mut self, cpu: u32, before: Option<u16>, ran: bool, hearer: &mut H)
-        requires { HasRoom pick_pushes self.old }
+    #[tactic(auto, unfolding(crate::specs::Cycle::pick, crate::specs::Cycle::picked), using(crate::proofs::Taking::takings))]
+    fn pick_by_linux<H: Hearer>(&mut self, cpu: u32, before: Option<u16>, ran: bool, hearer: &mut H)
+        requires linux { is_by_linux self.old ≡ true }
+        requires room { HasRoom pick_pushes self.old }
         ensures { Goes H.noted H.takes H.told H.hears pick_pushes (pick self.old cpu before ran)
             self.old hearer.old self.new hearer.new }
     {
-        let picked = self.picked(cpu);
+        let picked = self.world.front(LOCAL_ON + u64::from(cpu));
         self.world.keep(picked);
         self.leave(cpu, before, hearer);
         self.start_picked_or_cycle(picked, cpu, ran, hearer);
     }
 
+    /// By plain rules the task before leaves, and then the front of the local queue runs.
+    #[inline(always)]
+    #[tactic(auto, using(crate::proofs::Taking::takings, crate::proofs::Plainly::picks))]
+    fn pick_plainly<H: Hearer>(&mut self, cpu: u32, before: Option<u16>, ran: bool, hearer: &mut H)
+        requires plain { is_by_linux self.old ≡ false }
+        requires room { HasRoom pick_pushes self.old }
+        ensures { Goes H.noted H.takes H.told H.hears pick_pushes (pick self.old cpu before ran)
+            self.old hearer.old self.new hearer.new }
+    {
+        self.leave_plainly(cpu, before, hearer);
+        self.start_or_cycle(cpu, ran, hearer);
+    }
+
+    /// The front of the local queue runs in the place of the task before.
+    #[inline(never)]
+    #[tactic(auto, using(crate::proofs::Taking::takings))]
+    fn pick<H: Hearer>(&mut self, cpu: u32, before: Option<u16>, ran: bool, hearer: &mut H)
+        requires { HasRoom pick_pushes self.old }
+        ensures { Goes H.noted H.takes H.told H.hears pick_pushes (pick self.old cpu before ran)
+            self.old hearer.old self.new hearer.new }
+    {
+        if self.is_by_linux() {
+            self.pick_by_linux(cpu, before, ran, hearer);
+        } else {
+            self.pick_plainly(cpu, before, ran, hearer);
+        }
+    }
+
     /// Runs the front of the local queue, if there is one.
+    #[inline(always)]
     #[tactic(auto, unfolding(crate::specs::Cycle::pick_or_rest), using(crate::proofs::Taking::takings))]
     fn pick_or_rest<H: Hearer>(&mut self, cpu: u32, before: Option<u16>, ran: bool, hearer: &mut H)
         requires { HasRoom pick_pushes self.old }
@@ -404,9 +477,59 @@ impl Machine {
         }
     }
 
-    /// Asks dispatch for a task.
+    /// Dispatch was asked by plain rules. If it ejected the policy, the cycle begins anew.
+    #[tactic(auto, using(crate::proofs::Taking::takings, crate::proofs::Plainly::concludes))]
+    fn conclude_plainly<H: Hearer>(
+        &mut self,
+        cpu: u32,
+        before: Option<u16>,
+        ran: bool,
+        hearer: &mut H,
+    )
+        requires plain { is_by_linux self.old ≡ false }
+        requires room { HasRoom pick_pushes self.old }
+        ensures { Goes H.noted H.takes H.told H.hears pick_pushes
+            (conclude (give_up self.old cpu before) cpu before ran)
+            self.old hearer.old self.new hearer.new }
+    {
+        if self.is_ejected() {
+            self.builtin_cycle(cpu, before, ran, hearer);
+        } else {
+            self.pick_or_rest(cpu, before, ran, hearer);
+        }
+    }
+
+    /// Asks dispatch for a task by plain rules.
+    #[inline(always)]
     #[tactic(auto, unfolding(crate::specs::Cycle::ask), using(crate::proofs::Taking::takings))]
+    fn ask_plainly<H: Hearer>(&mut self, cpu: u32, before: Option<u16>, ran: bool, hearer: &mut H)
+        requires plain { is_by_linux self.old ≡ false }
+        requires room { HasRoom ask_pushes self.old }
+        ensures { Goes H.noted H.takes H.told H.hears ask_pushes (ask self.old cpu before ran)
+            self.old hearer.old self.new hearer.new }
+    {
+        self.tries_plainly(32, cpu, before, hearer);
+        self.conclude_plainly(cpu, before, ran, hearer);
+    }
+
+    /// Asks dispatch for a task.
+    #[tactic(auto, using(crate::proofs::Taking::takings))]
     fn ask<H: Hearer>(&mut self, cpu: u32, before: Option<u16>, ran: bool, hearer: &mut H)
+        requires { HasRoom ask_pushes self.old }
+        ensures { Goes H.noted H.takes H.told H.hears ask_pushes (ask self.old cpu before ran)
+            self.old hearer.old self.new hearer.new }
+    {
+        if self.is_by_linux() {
+            self.ask_by_linux(cpu, before, ran, hearer);
+        } else {
+            self.ask_plainly(cpu, before, ran, hearer);
+        }
+    }
+
+    /// Asks dispatch for a task, as Linux rules do.
+    #[inline(never)]
+    #[tactic(auto, unfolding(crate::specs::Cycle::ask), using(crate::proofs::Taking::takings))]
+    fn ask_by_linux<H: Hearer>(&mut self, cpu: u32, before: Option<u16>, ran: bool, hearer: &mut H)
         requires { HasRoom ask_pushes self.old }
         ensures { Goes H.noted H.takes H.told H.hears ask_pushes (ask self.old cpu before ran)
             self.old hearer.old self.new hearer.new }
@@ -416,7 +539,7 @@ impl Machine {
         self.conclude(cpu, before, ran, hearer);
     }
 
-    /// A processor on which that task ran and may stay, or none, seeks the one that it runs next.
+    /// A CPU on which that task ran and may stay, or none, seeks the one that it runs next.
     #[tactic(auto, unfolding(crate::specs::Cycle::seek), using(crate::proofs::Taking::takings))]
     fn seek<H: Hearer>(&mut self, cpu: u32, before: Option<u16>, ran: bool, hearer: &mut H)
         requires { HasRoom cycle_pushes self.old }
@@ -470,7 +593,7 @@ impl Machine {
         self.world.set_cycling(None);
     }
 
-    /// The cycle of a processor on which nobody runs.
+    /// The cycle of a CPU on which no task runs.
     #[inline(always)]
     #[tactic(auto, using(crate::proofs::Taking::takings, crate::proofs::Idling::idle_cycle))]
     pub(crate) fn idle_cycle<H: Hearer>(&mut self, cpu: u32, hearer: &mut H)

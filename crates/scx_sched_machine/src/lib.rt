@@ -1,4 +1,4 @@
-//! The machine: events, and what callbacks, queues and processors make of them.
+//! The machine: events, and what callbacks, queues and CPUs make of them.
 //!
 //! An event is one step. In it tasks wake, wait, move, run and stop, callbacks of the policy run, and
 //! each change is a note, which goes to a sink. A step is a function of the machine before it, and

@@ -1,7 +1,7 @@
 ghost use Rattle.std.specs.Prelude.{◌≡◌, IfOk};
 ghost use Rattle.scx_sched_world.specs.World.{IsLike};
 ghost use Rattle.scx_sched_machine.specs.Steps.{is_by_linux, kicked, kicked_if_idle};
-ghost use Rattle.scx_sched_machine.specs.Cycle.{has_local, keeps_slice, told_of, asks_again};
+ghost use Rattle.scx_sched_machine.specs.Cycle.{has_local, keeps_slice, told_of, moved_in_vain, asks_again};
 
 use crate::policy::Policy;
 use scx_maps::Maps;
@@ -88,7 +88,7 @@ impl Machine {
     pub(crate) fn has_local(&self, cpu: u32) -> bool
         ensures { result ≡ has_local self.now cpu }
     {
-        self.world.local_len(cpu) != 0
+        self.world.has_local(cpu)
     }
 
     /// True if the machine goes by Linux rules: the policy does, and is in force.
@@ -121,13 +121,21 @@ impl Machine {
         }
     }
 
+    /// True if dispatch moved a task, and the local queue is still empty.
+    #[inline(always)]
+    pub(crate) fn moved_in_vain(&self, cpu: u32) -> bool
+        ensures { result ≡ moved_in_vain self.now cpu }
+    {
+        self.world.local_len(cpu) == 0 && self.world.has_moved()
+    }
+
     /// True if dispatch is called again: it moved a task, the local queue is still empty, and no task keeps the
     /// CPU.
     #[inline(always)]
     pub(crate) fn asks_again(&self, cpu: u32, before: Option<u16>) -> bool
         ensures { result ≡ asks_again self.now cpu before }
     {
-        !self.keeps_slice(before) && (self.world.local_len(cpu) == 0 && self.world.has_moved())
+        !self.keeps_slice(before) && self.moved_in_vain(cpu)
     }
 
     /// The CPU looks for work as the event ends.

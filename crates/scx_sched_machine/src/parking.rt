@@ -59,7 +59,7 @@ impl Machine {
         }
     }
 
-    /// Wherever the local queue is empty it is filled from that of all processors, and as long as its front may
+    /// Wherever the local queue is empty it is filled from that of all CPUs, and as long as its front may
     /// not run, that is parked, at most so often.
     #[tactic(auto, using(crate::proofs::Taking::takings, crate::proofs::Parked::clear_steps))]
     fn clear<H: Hearer>(&mut self, left: usize, cpu: u32, hearer: &mut H)
@@ -90,7 +90,7 @@ impl Machine {
         self.clear(left, cpu, hearer);
     }
 
-    /// The local queue comes to have a front that may run, if it has such a task, or that of all processors.
+    /// The local queue comes to have a front that may run, if it has such a task, or that of all CPUs.
     #[inline(always)]
     #[tactic(auto, using(crate::proofs::Taking::takings, crate::proofs::Free::supply_free))]
     pub(crate) fn supply<H: Hearer>(&mut self, cpu: u32, hearer: &mut H)
@@ -105,7 +105,7 @@ impl Machine {
         }
     }
 
-    /// The task is parked no more, and is put as for the processor on which it ran last. Under Linux rules that
+    /// The task is parked no more, and is put as for the CPU on which it ran last. Under Linux rules that
     /// one looks for work as the event ends, if it is idle.
     #[tactic(auto, unfolding(crate::specs::Parking::let_go_one, crate::specs::Budgets::eject_left), using(crate::proofs::Taking::takings))]
     fn let_go<H: Hearer>(&mut self, task: u16, hearer: &mut H)

@@ -1,4 +1,4 @@
-ghost use Rattle.std.specs.Prelude.{◌≡◌, ◌↔◌, option_map, IsTrue, IfOk, OnOk, IfErr, None, IfSome};
+ghost use Rattle.std.specs.Prelude.{◌≡◌, ◌↔◌, option_map, is_some, IsTrue, IfOk, OnOk, IfErr, None, IfSome};
 ghost use Rattle.scx_sched_machine.specs.Policy.{IsTimeout, IsAs, HasMaps, AreAs, HaveMaps, AreBy, IsFault, program_of, policy_of, policy_by, with_ticks};
 ghost use Rattle.scx_isa_semantics.specs.declared.rules.Rules.TheVariants.{Plain};
 
@@ -12,7 +12,7 @@ use thiserror::Error;
 /// The programs of a policy. Each may be absent.
 pub type Callbacks = PerCallback<Option<Verified>>;
 
-/// Why programs don't make a policy. Of several causes the least number is answered.
+/// The reason why programs don't make a policy: the first one, if there are several.
 #[derive(Clone, Copy, Debug, PartialEq, Eq, Error)]
 pub enum BadPolicy {
     /// A task might wait for no time at all, or for longer than half a minute.
@@ -167,6 +167,14 @@ impl Policy {
     {
         self.callbacks.get(callback)
     }
+
+    /// True if the callback has a program.
+    #[inline(always)]
+    pub(crate) fn has_program(&self, callback: Callback) -> bool
+        ensures { result ≡ is_some (program_of self.now callback) }
+    {
+        self.program(callback).is_some()
+    }
 }
 
 /// A copy of the programs, in memory of its own.
@@ -181,6 +189,9 @@ fn duplicates_of(callbacks: &Callbacks, alloc: Global) -> Result<Callbacks, Allo
         dispatch: duplicate_of(&callbacks.dispatch, alloc)?,
         running: duplicate_of(&callbacks.running, alloc)?,
         stopping: duplicate_of(&callbacks.stopping, alloc)?,
+        tick: duplicate_of(&callbacks.tick, alloc)?,
+        runnable: duplicate_of(&callbacks.runnable, alloc)?,
+        quiescent: duplicate_of(&callbacks.quiescent, alloc)?,
     })
 }
 

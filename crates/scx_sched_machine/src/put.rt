@@ -22,7 +22,7 @@ impl Machine {
         self.world.enter(task, insert);
     }
 
-    /// Where enqueue wanted the task at hand to wait, for that processor.
+    /// Where enqueue wanted the task at hand to wait, for that CPU.
     #[inline(always)]
     fn enqueue_choice(&self, cpu: u32) -> Insert
         ensures { result

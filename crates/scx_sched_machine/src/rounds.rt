@@ -1,8 +1,8 @@
 //! Under Linux rules a CPU that was kicked, or given work, looks for it as the event ends.
 ghost use Rattle.std.specs.Prelude.{◌≡◌, ◌*◌};
-ghost use Rattle.scx_sched_machine.specs.Budgets.{HasRoom, cycle_pushes};
+ghost use Rattle.scx_sched_machine.specs.Budgets.{HasRoom, cycle_pushes, rounds_pushes};
 ghost use Rattle.scx_sched_machine.specs.Does.{Goes};
-ghost use Rattle.scx_sched_machine.specs.Rounds.{is_pending, pending_below, next_to_look, cut_off_if, look_past, look_from, round, rounds};
+ghost use Rattle.scx_sched_machine.specs.Rounds.{next_to_look, cut_off_if, look_past, look_from, round, most_rounds, rounds};
 
 use crate::machine::Machine;
 use crate::sink::Hearer;
@@ -11,39 +11,15 @@ use crate::sink::Hearer;
 pub(crate) const MOST_ROUNDS: u32 = 256;
 
 impl Machine {
-    /// True if the CPU is to look for work: it was kicked, or is idle with a task in its local queue.
-    #[inline(always)]
-    fn is_pending(&self, cpu: u32) -> bool
-        ensures { result ≡ is_pending self.now cpu }
-    {
-        self.world.is_kicked(cpu) || (self.world.is_idle(cpu) && self.has_local(cpu))
-    }
-
-    /// The lowest of the first `below` CPUs that is to look for work.
-    #[tactic(auto, using(crate::proofs::Looking::pending_steps))]
-    fn pending_below(&self, below: u32) -> Option<u32>
-        ensures { result ≡ pending_below below self.now }
-    {
-        if below == 0 {
-            return None;
-        }
-        if let Some(lower) = self.pending_below(below - 1) {
-            return Some(lower);
-        }
-        if self.is_pending(below - 1) {
-            Some(below - 1)
-        } else {
-            None
-        }
-    }
-
     /// The CPU that looks next, while the policy is in force.
+    #[inline(always)]
     #[tactic(auto, unfolding(crate::specs::Rounds::next_to_look))]
-    fn next_to_look(&self) -> Option<u32>
-        ensures { result ≡ next_to_look self.now }
+    fn next_to_look(&mut self) -> Option<u32>
+        ensures answer { result ≡ next_to_look self.old }
+        ensures same { self.new ≡ self.old }
     {
         if self.is_by_linux() {
-            self.pending_below(self.world.cpus())
+            self.world.first_pending()
         } else {
             None
         }
@@ -103,7 +79,7 @@ impl Machine {
     /// CPUs look for work, the lowest first, at most that many times.
     #[inline(never)]
     #[tactic(auto, using(crate::proofs::Taking::takings, crate::proofs::Looking::rounds_steps))]
-    pub(crate) fn rounds<H: Hearer>(&mut self, left: u32, hearer: &mut H)
+    fn rounds<H: Hearer>(&mut self, left: u32, hearer: &mut H)
         requires { HasRoom (cycle_pushes * left) self.old }
         ensures { Goes H.noted H.takes H.told H.hears (cycle_pushes * left) (rounds left self.old)
             self.old hearer.old self.new hearer.new }
@@ -114,6 +90,19 @@ impl Machine {
         if let Some(cpu) = self.next_to_look() {
             self.round(cpu, hearer);
             self.rounds(left - 1, hearer);
+        }
+    }
+
+    /// CPUs look for work as an event ends, if one of them is to.
+    #[inline(always)]
+    #[tactic(auto, using(crate::proofs::Looking::rounds_last))]
+    pub(crate) fn look_for_work<H: Hearer>(&mut self, hearer: &mut H)
+        requires { HasRoom rounds_pushes self.old }
+        ensures { Goes H.noted H.takes H.told H.hears rounds_pushes (rounds most_rounds self.old)
+            self.old hearer.old self.new hearer.new }
+    {
+        if let Some(_next) = self.next_to_look() {
+            self.rounds(MOST_ROUNDS, hearer);
         }
     }
 }

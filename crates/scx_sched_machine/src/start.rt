@@ -1,4 +1,4 @@
-ghost use Rattle.std.specs.Prelude.{◌≡◌, ◌+◌, ◌≤◌, ◌<◌, ◌^◌, ◌++◌, true, false, Some, None, Ok, Err, length, IfOk, IfErr, OnOk, OnErr};
+ghost use Rattle.std.specs.Prelude.{◌≡◌, ◌+◌, ◌≤◌, ◌<◌, ◌^◌, ◌++◌, true, false, Some, None, Ok, Err, length, IfOk, IfErr, OnOk};
 ghost use Rattle.scx_weights.specs.Counting.{any_below};
 ghost use Rattle.scx_weights.specs.Hierarchy.{is_active_task};
 ghost use Rattle.scx_sched_machine.specs.declared.start.NewError.TheVariants.{OutOfMemory};
@@ -6,7 +6,7 @@ ghost use Rattle.scx_sched_machine.specs.Policy.{IsTimeout, AreAs};
 ghost use Rattle.scx_sched_machine.specs.Budgets.{HasRoom, enable_pushes, program_pushes, start_pushes};
 ghost use Rattle.scx_sched_machine.specs.Callbacks.{AreAnswered};
 ghost use Rattle.scx_sched_machine.specs.Hearing.{Hears};
-ghost use Rattle.scx_sched_machine.specs.Start.{is_bad_shape, blank, fault_answer, after_init, enable, after_enables, all_enabled, first_state, IsRefusal, init_calls, enable_calls, calls_below, calls_after_init, start_calls, calls_before, AreAnsweredBefore};
+ghost use Rattle.scx_sched_machine.specs.Start.{is_bad_shape, blank, cause_answer, after_init, enable, after_enables, all_enabled, first_state, IsRefusal, init_calls, enable_calls, calls_below, calls_after_init, start_calls, calls_before, AreAnsweredBefore};
 
 use crate::callbacks::{one_task, run_callback};
 use crate::machine::Machine;
@@ -14,20 +14,20 @@ use crate::policy::Policy;
 use crate::sink::Hearer;
 use scx_isa::Callback;
 use scx_maps::Maps;
-use scx_sched_world::World;
+use scx_sched_world::{Cause, World};
 use scx_vm::Args;
 use scx_vm_run::Core;
 use scx_weights::Tree;
 use std::alloc::{AllocError, Global};
 use thiserror::Error;
 
-/// Why a machine isn't made.
+/// The reason why a machine isn't made.
 #[derive(Clone, Copy, Debug, PartialEq, Eq, Error)]
 pub enum NewError {
-    /// init answered that number, or init or enable had a fault: -22.
+    /// init answered that number, or init or enable called `exit` with it; -22 if one of them had a fault.
     #[error("init answered {0}")]
     InitFailed(i64),
-    /// The number of processors is out of range, or a task is active before anything has happened.
+    /// The number of CPUs is out of range, or a task is active before anything has happened.
     #[error("there must be 1 to 64 processors, and no task may be active")]
     BadShape,
     /// Memory ran out, after the shape was looked at and before any callback ran.
@@ -158,8 +158,8 @@ impl Machine {
             &mut self.world,
             hearer,
         );
-        if self.world.first_fault().is_some() {
-            return Err(FAULT_ANSWER);
+        if let Some(cause) = self.world.cause() {
+            return Err(cause_answer(cause));
         }
         if answer != 0 {
             return Err(answer.cast_signed());
@@ -168,15 +168,14 @@ impl Machine {
         Ok(())
     }
 
-    /// Runs enable of each task, by number.
+    /// Runs enable of each task, by number, up to the first that fails: its number is the error.
     #[tactic(auto, using(crate::proofs::Enabling::answered_next, crate::proofs::Enabling::heard_next))]
     fn enable_all<H: Hearer>(&mut self, hearer: &mut H) -> Result<(), i64>
         requires { HasRoom enable_pushes self.old }
         ensures done { OnOk result
-            (after_enables (length self.old.world.tasks) self.old ≡ Some self.new) }
-        ensures failed { OnErr result
-            (after_enables (length self.old.world.tasks) self.old ≡ None) }
-        ensures answer { IfErr result (λ answer. answer ≡ fault_answer) }
+            (after_enables (length self.old.world.tasks) self.old ≡ Ok self.new) }
+        ensures failed { IfErr result
+            (λ answer. after_enables (length self.old.world.tasks) self.old ≡ Err answer) }
         ensures few { self.new.world.queues.pushes ≤ self.old.world.queues.pushes + enable_pushes }
         ensures answered { AreAnswered (calls_below (length self.old.world.tasks) self.old) }
         ensures calls { Hears H.hears (H.told hearer.old)
@@ -191,16 +190,15 @@ impl Machine {
         Ok(())
     }
 
-    /// Runs enable of a task.
+    /// Runs enable of a task. If it fails, the number is the error.
     #[tactic(auto, unfolding(crate::specs::Start::enable))]
     fn enable<H: Hearer>(&mut self, task: u16, hearer: &mut H) -> Result<(), i64>
         requires { HasRoom program_pushes self.old }
-        ensures done { OnOk result (enable self.old task ≡ Some self.new) }
-        ensures failed { OnErr result (enable self.old task ≡ None) }
-        ensures answer { IfErr result (λ answer. answer ≡ fault_answer) }
+        ensures done { OnOk result (enable self.old task ≡ Ok self.new) }
+        ensures failed { IfErr result (λ answer. enable self.old task ≡ Err answer) }
         ensures few { self.new.world.queues.pushes ≤ self.old.world.queues.pushes + program_pushes }
-        ensures answered { AreAnswered (enable_calls (Some self.old) task) }
-        ensures calls { Hears H.hears (H.told hearer.old) (enable_calls (Some self.old) task)
+        ensures answered { AreAnswered (enable_calls (Ok self.old) task) }
+        ensures calls { Hears H.hears (H.told hearer.old) (enable_calls (Ok self.old) task)
             (H.told hearer.new) }
         ensures notes { H.noted hearer.new ≡ H.noted hearer.old }
     {
@@ -214,11 +212,23 @@ impl Machine {
             &mut self.world,
             hearer,
         );
-        if self.world.first_fault().is_some() {
-            return Err(FAULT_ANSWER);
+        match self.world.cause() {
+            Some(cause) => Err(cause_answer(cause)),
+            None => {
+                self.world.quiet();
+                Ok(())
+            }
         }
-        self.world.quiet();
-        Ok(())
+    }
+}
+
+/// The answer for a cause: the code of an exit, or that of a fault.
+fn cause_answer(cause: Cause) -> i64
+    ensures { result ≡ cause_answer cause }
+{
+    match cause {
+        Cause::Fault(_) => FAULT_ANSWER,
+        Cause::Exit(code) => code,
     }
 }
 
