@@ -1,9 +1,10 @@
--- What a step does to the policy: it stays the one that it is, and is put out of force for a fault of a callback,
--- which is then the last that was called, and for nothing else; once it is out of force none is called, and it stays
--- so for that cause. Nor does a step change the clock, and of the tree only what its event decides.
+-- What a step does to the policy: it stays the one that it is, and is put out of force for a fault or an exit of a
+-- callback, which is then the last that was called, and for nothing else; once it is out of force none is called, and
+-- it stays so for that cause. Nor does a step change the clock, and of the tree only what its event decides. And what
+-- Linux rules keep until an event ends is forgotten as the policy is put out of force.
 use Rattle.std.proofs.Common.{◌≡◌, ℕ, zero, suc, ◌<◌, Bool, true, false, ◌==◌, nat_lt, if◌then◌else◌, List, [], ◌∷◌, ◌++◌, length, Option, Some, None, is_none, refl, sym, ap, ◌∙◌, subst, append_assoc, arith, ◌&&◌, not, is_some}
 use Rattle.std.proofs.lemmas.Bool.Decides.{nat_tests}
-use Rattle.std.proofs.lemmas.List.{append-nil, length-set}
+use Rattle.std.proofs.lemmas.List.{append-nil}
 use Rattle.scx_dsq.specs.Queues.{len_of, front_of, behind_of}
 use Rattle.scx_isa_semantics.specs.declared.callbacks.Callback.{Callback}
 use Rattle.scx_isa_semantics.specs.declared.callbacks.Callback.TheVariants as callback
@@ -15,54 +16,53 @@ use Rattle.scx_weights.specs.Limits.{with_use}
 use Rattle.scx_weights.specs.declared.error.TreeError.{TreeError}
 use Rattle.scx_weights.specs.Refusals.{weight_fault}
 use Rattle.scx_sched_world.specs.declared.call.Insert.{Insert}
+use Rattle.scx_sched_world.specs.declared.eject.Cause.{Cause}
 use Rattle.scx_sched_world.specs.declared.eject.Eject.{Eject}
-use Rattle.scx_sched_world.specs.declared.eject.Eject.TheVariants as cause
 use Rattle.scx_sched_world.specs.declared.faults.Fault.{Fault}
 use Rattle.scx_sched_world.specs.declared.notes.Note.{Note}
 use Rattle.scx_sched_world.specs.declared.notes.What.TheVariants as note
 use Rattle.scx_sched_world.specs.Ids.{global, builtin_queue, parked_queue, local_on}
 use Rattle.scx_sched_world.specs.CpuSets.{is_in_set}
 use Rattle.scx_sched_world.specs.World as world
-use Rattle.scx_sched_world.specs.World.{WorldState, are_linux, with_kick, without_kick, with_slept, choice, after_claim, with_tree, with_task as set_task, task_at, is_throttled, running, cpu_of, is_idle, at_callback, quiet, note_now}
-use Rattle.scx_sched_world.specs.Tasks.{to_front, to_local, homed, after_run, after_switch, after_cut_off, with_since, after_wake, after_sleep, after_leave, after_enter, for_cpu, fill_front, after_fill, after_stop, started_at, after_keep, put_parked, after_take, let_go, ran_a_tick, after_tick, used_ms, after_reweigh}
-use Rattle.scx_sched_world.specs.Helpers.{with_insert}
-use Rattle.scx_sched_world.specs.Ejecting.{put_builtin, after_charge, after_catch_up}
+use Rattle.scx_sched_world.specs.World.{WorldState, are_linux, with_kick, without_kick, with_cycling, with_switch, with_slept, with_waker, choice, after_claim, with_tree, with_task as set_task, task_at, is_throttled, running, cpu_of, is_idle, at_callback, quiet, note_now}
+use Rattle.scx_sched_world.specs.Tasks.{to_front, homed, after_run, after_switch, after_cut_off, with_since, after_wake, after_sleep, after_leave, after_enter, for_cpu, fill_front, after_fill, after_stop, started_at, after_keep, put_parked, after_take, let_go, after_tick, used_ms, after_reweigh}
+use Rattle.scx_sched_world.specs.Ejecting.{eject_of, put_builtin, after_charge, after_catch_up}
 use Rattle.scx_sched_machine.specs.Policy.{program_of}
 use Rattle.scx_sched_machine.specs.Steps.{State, CallMade, Stepped, with_world, stays, after, one_after_other, is_ejected, is_by_linux, kicked, kicked_if_idle}
 use Rattle.scx_sched_machine.specs.Ejecting.{moves_over, eject, ejected_for}
-use Rattle.scx_sched_machine.specs.Callbacks.{call_ending, after_callback, answer_fault, fault_of, unless_ejected, acting, call_back, answered_by, one_task, task_cpu_and_0, task_and_number, cpu_and_task}
+use Rattle.scx_sched_machine.specs.Callbacks.{call_ending, after_callback, answer_fault, as_cause, cause_of, unless_ejected, acting, call_back, call_by_linux, answered_by, one_task, task_cpu_and_0, task_and_number, cpu_and_task}
 use Rattle.scx_sched_machine.specs.Put.{enters, enqueue_choice, enters_builtin, comes_in, put}
 use Rattle.scx_sched_machine.specs.Filling.{fill}
 use Rattle.scx_sched_machine.specs.Parking.{park, park_front, throttled_front, park_fronts, clear, in_reach, supply, let_go_one, let_go_from, let_all_go}
 use Rattle.scx_sched_machine.specs.Cycle.{has_local, keeps_slice, supply_unless_kept, told_of, after_dispatch, asks_again, tries, stopping_called, after_stopping, switched, after_running, put_back, leave, started_if, start, rest, swap, swap_or_rest, builtin_dispatch, builtin_fill, builtin_ask, builtin_cycle, start_or_cycle, picked, refilled, is_local, start_picked, start_picked_or_cycle, give_up, pick, pick_or_rest, keep_or_pick, conclude, ask, seek, look, cycling, cycle}
-use Rattle.scx_sched_machine.specs.Events.{target, insert_or_put, wake_target, settle, inserted_by_choice, chosen_by_default, chosen, ask_target, asks_target, select, wake, told_of_sleep, sleep_from_cpu, sleep_from, sleep, throttle, ends_slices, expire, count_down, tick_idle, tick_of, tick}
+use Rattle.scx_sched_machine.specs.Events.{target, insert_or_put, woken, wake_target, comes_to, while_in_force, told_runnable, settle, inserted_by_choice, chosen_by_default, chosen, ask_target, asks_target, select, from_waker, wake, told_of_sleep, falls_asleep, looks_after_sleep, leaves_cpu, sleep_from_cpu, sleep_from, sleep, throttle, ends_slices, expire, use_up, hears_tick, tick_heard, count_down, tick_idle, tick_of, tick}
 use Rattle.scx_sched_machine.specs.Rounds.{most_rounds, next_to_look, cut_off_if, look_past, look_from, round, round_then, rounds, with_rounds}
 use Rattle.scx_sched_machine.proofs.Choices.{keeps_if}
 use Rattle.scx_sched.specs.Causes.{IsLast}
 use Rattle.scx_sched.specs.Decided.{used_at_tick}
 use Rattle.scx_sched.proofs.Marks.{Anywhere, kept_homed, kept_claim}
-use Rattle.scx_sched.proofs.Unchanged.{IsAsBefore, same_marks, same_entered, same_put_builtin, same_put_parked, same_called, eject_sets, same_brought, same_kept}
+use Rattle.scx_sched.proofs.Unchanged.{IsAsBefore, same_marks, same_entered, same_put_builtin, same_put_parked, same_called, eject_sets, same_brought, same_kept, IsAsRuled, ruled_switch, ruled_cycling, IsTidy, tidy_linux, tidy_same, tidy_switch, tidy_cycling}
 use Rattle.scx_sched.proofs.Supplying.{park_fronts_from, clear_from}
 use Rattle.scx_sched.proofs.Leaving.{run_back}
 
--- of these calls the last one had a fault, for which the policy was ejected at that time
+-- of these calls the last one had that reason, for which the policy was ejected at that time
 pub record IsBlamed (now : ℕ) (calls : List CallMade) (x : Eject) : Type 0 where
   pub call : CallMade
-  pub fault : Fault
+  pub why : Cause
   pub last : IsLast call calls
-  pub fresh : call.world.call.fault ≡ None
-  pub wrong : fault_of call.callback (call_ending (Some call.program) call.callback call.arguments call.maps call.world) ≡ Some fault
-  pub named : x ≡ cause.Fault fault now
+  pub fresh : call.world.call.cause ≡ None
+  pub wrong : cause_of call.callback (call_ending (Some call.program) call.callback call.arguments call.maps call.world) ≡ Some why
+  pub named : x ≡ eject_of why now
 
--- a call without a fault
+-- a call without a fault or an exit
 abbrev pub IsFaultless : CallMade → Type 0
-IsFaultless m = fault_of m.callback (call_ending (Some m.program) m.callback m.arguments m.maps m.world) ≡ None
+IsFaultless m = cause_of m.callback (call_ending (Some m.program) m.callback m.arguments m.maps m.world) ≡ None
 
 abbrev pub AreFaultless : List CallMade → Type 0
 AreFaultless [] = Unit {0}
 AreFaultless (m ∷ ms) = IsFaultless m × AreFaultless ms
 
--- calls without a fault are so one list behind the other
+-- calls without a fault or an exit are so one list behind the other
 pub faultless_append : (xs ys : List CallMade) → AreFaultless xs → AreFaultless ys → AreFaultless (xs ++ ys)
 faultless_append [] ys h k = k
 faultless_append (m ∷ ms) ys h k = (h.0, faultless_append ms ys h.1 k)
@@ -77,6 +77,7 @@ pub record IsHonest (s : State) (r : Stepped) : Type 0 where
   pub stays : (x : Eject) → s.world.ejected ≡ Some x → r.state.world.ejected ≡ Some x
   pub blamed : (x : Eject) → s.world.ejected ≡ None → r.state.world.ejected ≡ Some x → IsBlamed s.world.clock r.calls x
   pub heard : r.state.world.ejected ≡ None → AreFaultless r.calls
+  pub tidy : IsTidy s.world → IsTidy r.state.world
 
 -- a policy is in force or out of it
 pub apart : (o : Option Eject) (x : Eject) → o ≡ None → o ≡ Some x → ⊥
@@ -88,10 +89,12 @@ same_eject o x y a b = cc
 
 -- ---- one step after another
 
-last_of : (xs ys : List CallMade) (m : CallMade) → IsLast m ys → IsLast m (xs ++ ys)
+-- the last of the calls after others is the last of all
+pub last_of : (xs ys : List CallMade) (m : CallMade) → IsLast m ys → IsLast m (xs ++ ys)
 last_of xs ys m (before, e) = (xs ++ before, ap (λ zs. xs ++ zs) e ∙ sym (append_assoc xs before (m ∷ [])))
 
-last_alone : (xs ys : List CallMade) (m : CallMade) → ys ≡ [] → IsLast m xs → IsLast m (xs ++ ys)
+-- and where none come after others, the last of these
+pub last_alone : (xs ys : List CallMade) (m : CallMade) → ys ≡ [] → IsLast m xs → IsLast m (xs ++ ys)
 last_alone xs ys m none (before, e) = (before, ap (λ zs. xs ++ zs) none ∙ (append-nil xs ∙ e))
 
 -- two lists without calls have none one behind the other
@@ -100,7 +103,7 @@ none_of xs ys e f = rw e f
 
 -- with other calls
 blamed_as : (now : ℕ) (xs ys : List CallMade) (x : Eject) → ((m : CallMade) → IsLast m xs → IsLast m ys) → IsBlamed now xs x → IsBlamed now ys x
-blamed_as now xs ys x f b = record { call = b.call; fault = b.fault; last = f b.call b.last; fresh = b.fresh; wrong = b.wrong; named = b.named }
+blamed_as now xs ys x f b = record { call = b.call; why = b.why; last = f b.call b.last; fresh = b.fresh; wrong = b.wrong; named = b.named }
 
 pub honest_joined : (s : State) (a r : Stepped) → IsHonest s a → IsHonest a.state r → IsHonest s (one_after_other a r)
 honest_joined s a r h k = record {
@@ -112,6 +115,7 @@ honest_joined s a r h k = record {
   stays = λ x out. k.stays x (h.stays x out);
   blamed = λ x force out. go x force out a.state.world.ejected refl;
   heard = λ force. hears force a.state.world.ejected refl;
+  tidy = λ x. k.tidy (h.tidy x);
 }
   where
     hears : r.state.world.ejected ≡ None → (o : Option Eject) → a.state.world.ejected ≡ o → AreFaultless (a.calls ++ r.calls)
@@ -127,27 +131,46 @@ honest_joined s a r h k = record {
         subst (λ (z : Eject). IsBlamed s.world.clock (a.calls ++ r.calls) z) (same_eject r.state.world.ejected y x (k.stays y e) out) b
 
 honest_after : (s : State) (ns : List Note) (r : Stepped) → IsHonest s r → IsHonest s (after ns r)
-honest_after s ns r h = record { policy = h.policy; clock = h.clock; tree = h.tree; rules = h.rules; silent = h.silent; stays = h.stays; blamed = h.blamed; heard = h.heard }
+honest_after s ns r h = record { policy = h.policy; clock = h.clock; tree = h.tree; rules = h.rules; silent = h.silent; stays = h.stays; blamed = h.blamed; heard = h.heard; tidy = h.tidy }
 
 pub honest_stays : (s : State) → IsHonest s (stays s)
-honest_stays s = record { policy = refl; clock = refl; tree = refl; rules = refl; silent = λ x out. refl; stays = λ x out. out; blamed = λ x force out. absurd (apart s.world.ejected x force out); heard = λ force. tt }
+honest_stays s = record { policy = refl; clock = refl; tree = refl; rules = refl; silent = λ x out. refl; stays = λ x out. out; blamed = λ x force out. absurd (apart s.world.ejected x force out); heard = λ force. tt; tidy = λ x. x }
 
 -- a change of the world in which no callback is called
 honest_plain : (s : State) (w : WorldState) (ns : List Note) → IsAsBefore s.world w → IsHonest s (record { state = with_world s w; notes = ns; calls = [] })
-honest_plain s w ns same = record { policy = refl; clock = same.0; tree = same.3; rules = same.4; silent = λ x out. refl; stays = λ x out. same.1 ∙ out; blamed = λ x force out. absurd (apart w.ejected x (same.1 ∙ force) out); heard = λ force. tt }
+honest_plain s w ns same = record { policy = refl; clock = same.0; tree = same.3; rules = same.4; silent = λ x out. refl; stays = λ x out. same.1 ∙ out; blamed = λ x force out. absurd (apart w.ejected x (same.1 ∙ force) out); heard = λ force. tt; tidy = λ x. tidy_same s.world w same.4 same.1 same.5 x }
 
--- a step from such a change
-honest_from : (s : State) (w : WorldState) (r : Stepped) → IsAsBefore s.world w → IsHonest (with_world s w) r → IsHonest s r
-honest_from s w r same h = record {
+-- a step from another world, of the same clock, policy, tree and rules
+honest_begun : (s : State) (w : WorldState) (r : Stepped) → IsAsRuled s.world w → (IsTidy s.world → IsTidy w) → IsHonest (with_world s w) r → IsHonest s r
+honest_begun s w r same tidy h = record {
   policy = h.policy;
   clock = h.clock ∙ same.0;
-  tree = h.tree ∙ same.3;
-  rules = h.rules ∙ same.4;
+  tree = h.tree ∙ same.2;
+  rules = h.rules ∙ same.3;
   silent = λ x out. h.silent x (same.1 ∙ out);
   stays = λ x out. h.stays x (same.1 ∙ out);
   blamed = λ x force out. subst (λ (now : ℕ). IsBlamed now r.calls x) same.0 (h.blamed x (same.1 ∙ force) out);
   heard = h.heard;
+  tidy = λ x. h.tidy (tidy x);
 }
+
+-- a step that ends with such a world
+honest_ended : (s : State) (r : Stepped) (w : WorldState) → IsAsRuled r.state.world w → (IsTidy r.state.world → IsTidy w) → IsHonest s r → IsHonest s (record r { state = with_world r.state w })
+honest_ended s r w same tidy h = record {
+  policy = h.policy;
+  clock = same.0 ∙ h.clock;
+  tree = same.2 ∙ h.tree;
+  rules = same.3 ∙ h.rules;
+  silent = h.silent;
+  stays = λ x out. same.1 ∙ h.stays x out;
+  blamed = λ x force out. h.blamed x force (sym same.1 ∙ out);
+  heard = λ force. h.heard (sym same.1 ∙ force);
+  tidy = λ x. tidy (h.tidy x);
+}
+
+-- a step from a change in which no callback is called
+honest_from : (s : State) (w : WorldState) (r : Stepped) → IsAsBefore s.world w → IsHonest (with_world s w) r → IsHonest s r
+honest_from s w r same h = honest_begun s w r (same.0, same.1, same.3, same.4) (λ x. tidy_same s.world w same.4 same.1 same.5 x) h
 
 -- a step from such a change, if it was made
 honest_if : (s : State) (b : Bool) (w : WorldState) (r : Stepped) → IsAsBefore s.world w → IsHonest (if b then with_world s w else s) r → IsHonest s r
@@ -158,7 +181,7 @@ honest_if s false w r same h = h
 honest_kicked : (s : State) (r : Stepped) (c : ℕ) → IsHonest s r → IsHonest s (record r { state = kicked_if_idle r.state c })
 honest_kicked s r c h =
     keeps_if (λ (v : State). IsHonest s (record r { state = v })) (is_by_linux r.state && is_idle r.state.world c) (kicked r.state c) r.state
-    (record { policy = h.policy; clock = h.clock; tree = h.tree; rules = h.rules; silent = h.silent; stays = h.stays; blamed = h.blamed; heard = h.heard }) h
+    (record { policy = h.policy; clock = h.clock; tree = h.tree; rules = h.rules; silent = h.silent; stays = h.stays; blamed = h.blamed; heard = h.heard; tidy = h.tidy }) h
 
 -- once the machine doesn't go by Linux rules, it doesn't any more
 pub plain_on : (s : State) (r : Stepped) → IsHonest s r → is_by_linux s ≡ false → is_by_linux r.state ≡ false
@@ -185,11 +208,11 @@ step_with_tree r tree = record { state = state_with_tree r.state tree; notes = r
 
 -- from that tree to it
 honest_with_tree : (s : State) (r : Stepped) (tree : Hierarchy) → IsHonest s r → IsHonest (state_with_tree s tree) (step_with_tree r tree)
-honest_with_tree s r tree h = record { policy = h.policy; clock = h.clock; tree = refl; rules = h.rules; silent = h.silent; stays = h.stays; blamed = h.blamed; heard = h.heard }
+honest_with_tree s r tree h = record { policy = h.policy; clock = h.clock; tree = refl; rules = h.rules; silent = h.silent; stays = h.stays; blamed = h.blamed; heard = h.heard; tidy = h.tidy }
 
 -- a step that leaves the tree
 honest_same_tree : (s : State) (r : Stepped) → IsHonest s r → IsHonest (state_with_tree s s.world.tree) r
-honest_same_tree s r h = record { policy = h.policy; clock = h.clock; tree = h.tree; rules = h.rules; silent = h.silent; stays = h.stays; blamed = h.blamed; heard = h.heard }
+honest_same_tree s r h = record { policy = h.policy; clock = h.clock; tree = h.tree; rules = h.rules; silent = h.silent; stays = h.stays; blamed = h.blamed; heard = h.heard; tidy = h.tidy }
 
 -- ---- a callback
 
@@ -228,12 +251,12 @@ module _ (s : State) (b : Callback) (a : Args) (t c : ℕ) where
   honest_absent some = go (answer_fault b w 0) (no_answer b w some)
     where
       go : (o : Option Fault) → o ≡ None
-          → IsHonest s (one_after_other (record { state = record { policy = s.policy; maps = s.maps; world = quiet w }; notes = []; calls = [] }) (ejected_for o (record { policy = s.policy; maps = s.maps; world = quiet w })))
-      go None e = record { policy = refl; clock = refl; tree = refl; rules = refl; silent = λ x out. refl; stays = λ x out. out; blamed = λ x force out. absurd (apart s.world.ejected x force out); heard = λ force. tt }
+          → IsHonest s (one_after_other (record { state = record { policy = s.policy; maps = s.maps; world = quiet w }; notes = []; calls = [] }) (ejected_for (as_cause o) (record { policy = s.policy; maps = s.maps; world = quiet w })))
+      go None e = record { policy = refl; clock = refl; tree = refl; rules = refl; silent = λ x out. refl; stays = λ x out. out; blamed = λ x force out. absurd (apart s.world.ejected x force out); heard = λ force. tt; tidy = λ x. x }
       go (Some f) e = absurd (cc)
 
   honest_run : (p : VerifiedProgram) → s.world.ejected ≡ None → IsHonest s (run_back (Some p) s b a t c)
-  honest_run p acts = go (fault_of b e) refl
+  honest_run p acts = go (cause_of b e) refl
     where
       e : Ending WorldState
       e = call_ending (Some p) b a s.maps w
@@ -247,7 +270,7 @@ module _ (s : State) (b : Callback) (a : Args) (t c : ℕ) where
       same : IsAsBefore w e.outside
       same = same_called (Some p) b a s.maps w
 
-      go : (o : Option Fault) → fault_of b e ≡ o → IsHonest s (one_after_other (record { state = v; notes = e.outside.notes; calls = m ∷ [] }) (ejected_for o v))
+      go : (o : Option Cause) → cause_of b e ≡ o → IsHonest s (one_after_other (record { state = v; notes = e.outside.notes; calls = m ∷ [] }) (ejected_for o v))
       go None x = record {
         policy = refl;
         clock = same.0;
@@ -257,9 +280,10 @@ module _ (s : State) (b : Callback) (a : Args) (t c : ℕ) where
         stays = λ y out. same.1 ∙ out;
         blamed = λ y force out. absurd (apart e.outside.ejected y (same.1 ∙ force) out);
         heard = λ force. (x, tt);
+        tidy = λ y. tidy_same w e.outside same.4 same.1 same.5 y;
       }
       go (Some f) x =
-          let y = cause.Fault f e.outside.clock in
+          let y = eject_of f e.outside.clock in
           let sets = eject_sets v y in
           record {
             policy = eject_policy v y;
@@ -269,13 +293,14 @@ module _ (s : State) (b : Callback) (a : Args) (t c : ℕ) where
             silent = λ z out. absurd (apart s.world.ejected z acts out);
             stays = λ z out. absurd (apart s.world.ejected z acts out);
             heard = λ force. absurd (apart (eject v y).state.world.ejected y force sets.1);
+            tidy = λ k plain. sets.5;
             blamed = λ z force out. record {
               call = m;
-              fault = f;
+              why = f;
               last = ([], ap (λ (cs : List CallMade). m ∷ cs) (eject_calls v y));
               fresh = refl;
               wrong = x;
-              named = same_eject (eject v y).state.world.ejected z y out sets.1 ∙ ap (λ (k : ℕ). cause.Fault f k) same.0;
+              named = same_eject (eject v y).state.world.ejected z y out sets.1 ∙ ap (λ (k : ℕ). eject_of f k) same.0;
             };
           }
 
@@ -287,6 +312,11 @@ honest_call_back s b a t c some = go (acting s b) refl
     go : (p : Option VerifiedProgram) → acting s b ≡ p → IsHonest s (run_back p s b a t c)
     go None e = honest_absent s b a t c some
     go (Some p) e = honest_run s b a t c p (in_force s b p e)
+
+-- Linux rules call some callbacks more
+honest_call_by_linux : (s : State) (b : Callback) (a : Args) (t c : ℕ) → (b ≡ callback.SelectCpu → 0 < length s.world.cpus) → IsHonest s (call_by_linux s b a t c)
+unfolding call_by_linux
+honest_call_by_linux s b a t c some = keeps_if (IsHonest s) (is_by_linux s && is_some (program_of s.policy b)) (call_back s b a t c) (stays s) (honest_call_back s b a t c some) (honest_stays s)
 
 -- ---- a task that is put
 
@@ -504,7 +534,8 @@ honest_seek s c p ran =
     let r = if has_local f.state c then pick f.state c p ran else ask f.state c p ran in
     honest_joined s f r (honest_supply s c) (keeps_if (IsHonest f.state) (has_local f.state c) (pick f.state c p ran) (ask f.state c p ran) (honest_pick f.state c p ran) (honest_ask f.state c p ran))
 
-honest_look : (s : State) (c : ℕ) (p : Option ℕ) (ran : Bool) → IsHonest s (look s c p ran)
+-- looking for a task does no more to the policy than a step may
+pub honest_look : (s : State) (c : ℕ) (p : Option ℕ) (ran : Bool) → IsHonest s (look s c p ran)
 unfolding look
 honest_look s c p ran = keeps_if (IsHonest s) (is_ejected s) (builtin_cycle s c p ran) (seek s c p ran) (honest_builtin_cycle s c p ran) (honest_seek s c p ran)
 
@@ -512,8 +543,9 @@ honest_cycle : (s : State) (c : ℕ) (p : Option ℕ) (ran : Bool) → IsHonest 
 unfolding cycle
 honest_cycle s c p ran =
     let v = cycling s (Some c) in
-    let h = honest_look v c p ran in
-    record { policy = h.policy; clock = h.clock; tree = h.tree; rules = h.rules; silent = h.silent; stays = h.stays; blamed = h.blamed; heard = h.heard }
+    let r = look v c p ran in
+    honest_begun s v.world (record r { state = cycling r.state None }) (ruled_cycling s.world (Some c)) (λ x. tidy_cycling s.world (Some c) x)
+    (honest_ended v r (with_cycling r.state.world None) (ruled_cycling r.state.world None) (λ x. tidy_cycling r.state.world None x) (honest_look v c p ran))
 
 -- ---- rounds
 
@@ -569,19 +601,31 @@ honest_settled (Some i) s t c = honest_enters s t (for_cpu c i)
 
 honest_wake_target : (s : State) (c : ℕ) → IsHonest s (wake_target s c)
 unfolding wake_target
-honest_wake_target s c =
-    let r = if is_idle s.world c then cycle s c None false else stays s in
-    keeps_if (IsHonest s) (is_by_linux s) (stays (kicked_if_idle s c)) r (honest_kicked s (stays s) c (honest_stays s))
-    (keeps_if (IsHonest s) (is_idle s.world c) (cycle s c None false) (stays s) (honest_cycle s c None false) (honest_stays s))
+honest_wake_target s c = go (is_by_linux s) refl
+  where
+    go : (b : Bool) → is_by_linux s ≡ b → IsHonest s (if b then stays (kicked_if_idle (woken s) c) else (if is_idle s.world c then cycle s c None false else stays s))
+    go true e = honest_kicked s (stays (woken s)) c (honest_ended s (stays s) (with_waker s.world None) (refl, refl, refl, refl) (λ x. tidy_linux (with_waker s.world None) e) (honest_stays s))
+    go false e = keeps_if (IsHonest s) (is_idle s.world c) (cycle s c None false) (stays s) (honest_cycle s c None false) (honest_stays s)
+
+honest_comes_to : (i : Option Insert) (s : State) (t c : ℕ) → IsHonest s (comes_to i s t c)
+unfolding comes_to
+honest_comes_to i s t c = let r = insert_or_put i s t c in honest_joined s r (wake_target r.state c) (honest_settled i s t c) (honest_wake_target r.state c)
+
+honest_told_runnable : (i : Option Insert) (s : State) (t c : ℕ) → IsHonest s (told_runnable i s t c)
+unfolding told_runnable
+honest_told_runnable i s t c =
+    let r = call_by_linux s callback.Runnable (task_and_number t 1) t c in
+    let j = while_in_force r.state i in
+    honest_joined s r (comes_to j r.state t c) (honest_call_by_linux s callback.Runnable (task_and_number t 1) t c (λ e. absurd (cc))) (honest_comes_to j r.state t c)
 
 honest_settle : (s : State) (t c : ℕ) → IsHonest s (settle s t c)
 unfolding settle
 honest_settle s t c =
     let w = homed s.world t c in
     let v = with_world s w in
-    let r = insert_or_put v.world.call.insert v t c in
-    honest_from s w (one_after_other r (wake_target r.state c)) (kept_homed Anywhere (IsAsBefore s.world) (same_marks s.world) s.world t c tt (refl, refl, refl, refl, refl, refl))
-    (honest_joined v r (wake_target r.state c) (honest_settled v.world.call.insert v t c) (honest_wake_target r.state c))
+    let i = v.world.call.insert in
+    honest_from s w (if is_by_linux v then told_runnable i v t c else comes_to i v t c) (kept_homed Anywhere (IsAsBefore s.world) (same_marks s.world) s.world t c tt (refl, refl, refl, refl, refl, refl))
+    (keeps_if (IsHonest v) (is_by_linux v) (told_runnable i v t c) (comes_to i v t c) (honest_told_runnable i v t c) (honest_comes_to i v t c))
 
 -- a processor that is chosen by default changes none of these
 pub same_chosen : (w : WorldState) (t : ℕ) → IsAsBefore w (chosen_by_default w t)
@@ -613,13 +657,28 @@ honest_select s t some =
     let r = settle (with_world s w) t 0 in
     keeps_if (IsHonest s) (asks_target s) (ask_target s t) r (honest_ask_target s t some) (honest_from s w r (refl, refl, refl, refl, refl, refl) (honest_settle (with_world s w) t 0))
 
+-- what is honest once the task is woken from a processor
+honest_from_waker : (s : State) (t : ℕ) (r : Stepped) → IsHonest (from_waker s t) r → IsHonest s r
+unfolding from_waker
+honest_from_waker s t r h = go (is_by_linux s) refl h
+  where
+    w : WorldState
+    w = with_waker s.world (Some (task_at s.world t).prev_cpu)
+
+    go : (b : Bool) → is_by_linux s ≡ b → IsHonest (if b then with_world s w else s) r → IsHonest s r
+    go true e k = honest_begun s w r (refl, refl, refl, refl) (λ x. tidy_linux w e) k
+    go false e k = k
+
 -- a task that wakes
 pub honest_wake : (s : State) (t : ℕ) → 0 < length s.world.cpus → IsHonest (state_with_tree s (with_task s.world.tree t true)) (wake s t)
-unfolding wake
+unfolding wake from_waker
 honest_wake s t some =
     let w = after_wake s.world t in
+    let v = with_world s w in
     let ns = note_now s.world (note.Wake t) ∷ [] in
-    honest_from (state_with_tree s (with_task s.world.tree t true)) w (after ns (select (with_world s w) t)) (refl, refl, refl, refl, refl, refl) (honest_after (with_world s w) ns (select (with_world s w) t) (honest_select (with_world s w) t some))
+    let still = keeps_if (λ (x : State). 0 < length x.world.cpus) (is_by_linux v) (with_world v (with_waker w (Some (task_at w t).prev_cpu))) v some some in
+    let r = select (from_waker v t) t in
+    honest_from (state_with_tree s (with_task s.world.tree t true)) w (after ns r) (refl, refl, refl, refl, refl, refl) (honest_after v ns r (honest_from_waker v t r (honest_select (from_waker v t) t still)))
 
 -- a task that there is goes to sleep
 now_asleep : (w : WorldState) (t : ℕ) → t < length w.tasks → IsAsBefore (with_tree w (with_task w.tree t false)) (after_sleep w t)
@@ -632,51 +691,60 @@ now_asleep w t known = go (nat_lt t (length w.tasks)) refl
 -- what is honest once dispatch is to be told of the task
 honest_told : (s : State) (t : ℕ) (r : Stepped) → IsHonest (told_of_sleep s t) r → IsHonest s r
 unfolding told_of_sleep
-honest_told s t r h = go (is_by_linux s) h
+honest_told s t r h = go (is_by_linux s) refl h
   where
-    go : (b : Bool) → IsHonest (if b then with_world s (with_slept s.world t) else s) r → IsHonest s r
-    go true k = record { policy = k.policy; clock = k.clock; tree = k.tree; rules = k.rules; silent = k.silent; stays = k.stays; blamed = k.blamed; heard = k.heard }
-    go false k = k
+    go : (b : Bool) → is_by_linux s ≡ b → IsHonest (if b then with_world s (with_slept s.world t) else s) r → IsHonest s r
+    go true e k = honest_begun s (with_slept s.world t) r (refl, refl, refl, refl) (λ x. tidy_linux (with_slept s.world t) e) k
+    go false e k = k
 
--- once it has left its processor
-abbrev pub stopped_for_sleep : State → ℕ → ℕ → Stepped
-stopped_for_sleep s t c = after_stopping (with_world s (after_stop s.world c t)) c t 0
+honest_falls_asleep : (s : State) (t c : ℕ) → t < length s.world.tasks → IsHonest (state_with_tree s (with_task s.world.tree t false)) (falls_asleep s t c)
+unfolding falls_asleep
+honest_falls_asleep s t c known =
+    let w = after_sleep s.world t in
+    let v = with_world s w in
+    honest_from (state_with_tree s (with_task s.world.tree t false)) w (call_by_linux v callback.Quiescent (task_and_number t 1) t c) (now_asleep s.world t known) (honest_call_by_linux v callback.Quiescent (task_and_number t 1) t c (λ e. absurd (cc)))
 
-honest_sleep_from_cpu : (s : State) (t c : ℕ) → t < length (stopped_for_sleep s t c).state.world.tasks → IsHonest (state_with_tree s (with_task s.world.tree t false)) (sleep_from_cpu s t c)
+honest_looks_after_sleep : (s : State) (t c : ℕ) → IsHonest s (looks_after_sleep s t c)
+unfolding looks_after_sleep
+honest_looks_after_sleep s t c = honest_told s t (cycle (told_of_sleep s t) c None true) (honest_cycle (told_of_sleep s t) c None true)
+
+-- a task that leaves its processor, and the policy hears of it
+pub honest_leaves_cpu : (s : State) (c t n : ℕ) → IsHonest s (leaves_cpu s c t n)
+unfolding leaves_cpu
+honest_leaves_cpu s c t n =
+    let w = with_switch s.world c in
+    let off = with_world s (after_stop w c t) in
+    let ns = note_now s.world (note.Stop t c) ∷ [] in
+    let r = after_stopping off c t n in
+    honest_begun s w (after ns r) (ruled_switch s.world c) (λ x. tidy_switch s.world c x)
+    (honest_from (with_world s w) off.world (after ns r) (refl, refl, refl, refl, refl, refl) (honest_after off ns r (honest_stopping off c t n)))
+
+honest_sleep_from_cpu : (s : State) (t c : ℕ) → t < length (leaves_cpu s c t 0).state.world.tasks → IsHonest (state_with_tree s (with_task s.world.tree t false)) (sleep_from_cpu s t c)
 unfolding sleep_from_cpu
 honest_sleep_from_cpu s t c known =
-    honest_from (state_with_tree s tree) (with_tree off.world tree) (after ns (one_after_other r y)) (refl, refl, refl, refl, refl, refl)
-    (honest_after (state_with_tree off tree) ns (one_after_other r y) (honest_joined (state_with_tree off tree) (step_with_tree r tree) y (honest_with_tree off r tree left) (honest_from (state_with_tree r.state tree) u y same (honest_told v t y (honest_cycle (told_of_sleep v t) c None true)))))
+    honest_joined (state_with_tree s tree) (step_with_tree r tree) (one_after_other q y) (honest_with_tree s r tree left)
+    (honest_joined (state_with_tree r.state tree) q y falls (honest_looks_after_sleep q.state t c))
   where
     tree : Hierarchy
     tree = with_task s.world.tree t false
 
-    off : State
-    off = with_world s (after_stop s.world c t)
-
     r : Stepped
-    r = after_stopping off c t 0
+    r = leaves_cpu s c t 0
 
-    u : WorldState
-    u = after_sleep r.state.world t
-
-    v : State
-    v = with_world r.state u
+    q : Stepped
+    q = falls_asleep r.state t c
 
     y : Stepped
-    y = cycle (told_of_sleep v t) c None true
+    y = looks_after_sleep q.state t c
 
-    ns : List Note
-    ns = note_now s.world (note.Stop t c) ∷ []
+    left : IsHonest s r
+    left = honest_leaves_cpu s c t 0
 
-    left : IsHonest off r
-    left = honest_stopping off c t 0
-
-    same : IsAsBefore (with_tree r.state.world tree) u
-    same = let x = now_asleep r.state.world t known in (x.0, x.1, x.2, x.3 ∙ ap (λ (h : Hierarchy). with_task h t false) left.tree, x.4, x.5)
+    falls : IsHonest (state_with_tree r.state tree) q
+    falls = subst (λ (h : Hierarchy). IsHonest (state_with_tree r.state (with_task h t false)) q) left.tree (honest_falls_asleep r.state t c known)
 
 -- one that goes to sleep
-pub honest_sleep : (s : State) (t : ℕ) → t < length s.world.tasks → ((c : ℕ) → cpu_of s.world t ≡ Some c → t < length (stopped_for_sleep s t c).state.world.tasks) → IsHonest (state_with_tree s (with_task s.world.tree t false)) (sleep s t)
+pub honest_sleep : (s : State) (t : ℕ) → t < length s.world.tasks → ((c : ℕ) → cpu_of s.world t ≡ Some c → t < length (leaves_cpu s c t 0).state.world.tasks) → IsHonest (state_with_tree s (with_task s.world.tree t false)) (sleep s t)
 unfolding sleep
 honest_sleep s t known still = honest_after (state_with_tree s tree) (note_now s.world (note.Sleep t) ∷ []) (sleep_from (cpu_of s.world t) s t) (go (cpu_of s.world t) refl)
   where
@@ -684,55 +752,67 @@ honest_sleep s t known still = honest_after (state_with_tree s tree) (note_now s
     tree = with_task s.world.tree t false
 
     go : (o : Option ℕ) → cpu_of s.world t ≡ o → IsHonest (state_with_tree s tree) (sleep_from o s t)
-    go None e = let x = now_asleep (after_leave s.world t) t known in honest_plain (state_with_tree s tree) (after_sleep (after_leave s.world t) t) [] (x.0, x.1, x.2, x.3, x.4, x.5)
+    go None e =
+        let w = after_leave s.world t in
+        let c = (task_at s.world t).prev_cpu in
+        honest_from (state_with_tree s tree) (with_tree w tree) (falls_asleep (with_world s w) t c) (refl, refl, refl, refl, refl, refl) (honest_falls_asleep (with_world s w) t c known)
     go (Some c) e = honest_sleep_from_cpu s t c (still c e)
 
 honest_throttle : (s : State) (c t : ℕ) → IsHonest s (throttle s c t)
 unfolding throttle
 honest_throttle s c t =
-    let w = after_stop s.world c t in
-    let off = with_world s w in
-    let r = after_stopping off c t 1 in
+    let r = leaves_cpu s c t 1 in
     let p = park r.state t in
     let y = cycle p.state c None true in
-    let ns = note_now s.world (note.Stop t c) ∷ [] in
-    honest_from s w (after ns (one_after_other r (one_after_other p y))) (refl, refl, refl, refl, refl, refl)
-    (honest_after off ns (one_after_other r (one_after_other p y)) (honest_joined off r (one_after_other p y) (honest_stopping off c t 1) (honest_joined r.state p y (honest_park r.state t) (honest_cycle p.state c None true))))
+    honest_joined s r (one_after_other p y) (honest_leaves_cpu s c t 1) (honest_joined r.state p y (honest_park r.state t) (honest_cycle p.state c None true))
 
 honest_expire : (s : State) (c t : ℕ) → IsHonest s (expire s c t)
 unfolding expire
 honest_expire s c t = keeps_if (IsHonest s) (((task_at s.world t).slice == 0) && ends_slices s) (cycle s c (Some t) true) (stays s) (honest_cycle s c (Some t) true) (honest_stays s)
 
--- a task that there is has run for a millisecond
-now_used : (w : WorldState) (t : ℕ) → t < length w.tasks → IsAsBefore (with_tree w (with_use w.tree t)) (used_ms (after_tick w t) t)
-now_used w t known = go (nat_lt t (length x.tasks)) refl
+-- the groups of a task that there is have used a millisecond
+now_used : (w : WorldState) (t : ℕ) → t < length w.tasks → IsAsBefore (with_tree w (with_use w.tree t)) (used_ms w t)
+now_used w t known = go (nat_lt t (length w.tasks)) refl
   where
-    x : WorldState
-    x = after_tick w t
-
-    there : t < length x.tasks
-    there = rw (length-set w.tasks t (ran_a_tick (task_at w t))) known
-
-    go : (b : Bool) → nat_lt t (length x.tasks) ≡ b → IsAsBefore (with_tree w (with_use w.tree t)) (if b then with_tree x (with_use x.tree t) else x)
+    go : (b : Bool) → nat_lt t (length w.tasks) ≡ b → IsAsBefore (with_tree w (with_use w.tree t)) (if b then with_tree w (with_use w.tree t) else w)
     go true e = (refl, refl, refl, refl, refl, refl)
-    go false e = absurd (grind (arith, nat_tests, e, there))
+    go false e = absurd (grind (arith, nat_tests, e, known))
+
+honest_use_up : (s : State) (c t : ℕ) → t < length s.world.tasks → IsHonest (state_with_tree s (with_use s.world.tree t)) (use_up s c t)
+unfolding use_up
+honest_use_up s c t known =
+    let w = used_ms s.world t in
+    let v = with_world s w in
+    let r = if is_throttled v.world t then throttle v c t else expire v c t in
+    honest_from (state_with_tree s (with_use s.world.tree t)) w r (now_used s.world t known) (keeps_if (IsHonest v) (is_throttled v.world t) (throttle v c t) (expire v c t) (honest_throttle v c t) (honest_expire v c t))
+
+-- the policy hears of a tick, if it does
+pub honest_heard : (s : State) (c t : ℕ) → IsHonest s (tick_heard s c t)
+unfolding tick_heard
+honest_heard s c t = keeps_if (IsHonest s) (hears_tick s) (call_back s callback.Tick (one_task t) t c) (stays s) (honest_call_back s callback.Tick (one_task t) t c (λ e. absurd (cc))) (honest_stays s)
+
+-- a task has run for a millisecond, and the policy has heard of the tick
+abbrev pub ticked : State → ℕ → ℕ → Stepped
+ticked s c t = tick_heard (with_world s (after_tick s.world t)) c t
 
 honest_tick_idle : (s : State) (c : ℕ) → IsHonest s (tick_idle s c)
 unfolding tick_idle
 honest_tick_idle s c = keeps_if (IsHonest s) (is_by_linux s) (stays s) (cycle s c None false) (honest_stays s) (honest_cycle s c None false)
 
 -- a processor that ran, on which a task that there is used a millisecond
-pub honest_tick : (s : State) (c : ℕ) → ((t : ℕ) → running s.world c ≡ Some t → t < length s.world.tasks) → IsHonest (state_with_tree s (used_at_tick (running s.world c) s.world.tree)) (tick s c)
+pub honest_tick : (s : State) (c : ℕ) → ((t : ℕ) → running s.world c ≡ Some t → t < length (ticked s c t).state.world.tasks) → IsHonest (state_with_tree s (used_at_tick (running s.world c) s.world.tree)) (tick s c)
 unfolding tick count_down
 honest_tick s c known = go (running s.world c) refl
   where
     go : (o : Option ℕ) → running s.world c ≡ o → IsHonest (state_with_tree s (used_at_tick o s.world.tree)) (tick_of o s c)
     go None e = honest_same_tree s (tick_idle s c) (honest_tick_idle s c)
     go (Some t) e =
-        let w = used_ms (after_tick s.world t) t in
-        let v = with_world s w in
-        let r = if is_throttled v.world t then throttle v c t else expire v c t in
-        honest_from (state_with_tree s (with_use s.world.tree t)) w r (now_used s.world t (known t e)) (keeps_if (IsHonest v) (is_throttled v.world t) (throttle v c t) (expire v c t) (honest_throttle v c t) (honest_expire v c t))
+        let v = with_world s (after_tick s.world t) in
+        let r = tick_heard v c t in
+        let tree = with_use s.world.tree t in
+        let left = honest_from s v.world r (refl, refl, refl, refl, refl, refl) (honest_heard v c t) in
+        honest_joined (state_with_tree s tree) (step_with_tree r tree) (use_up r.state c t) (honest_with_tree s r tree left)
+        (subst (λ (h : Hierarchy). IsHonest (state_with_tree r.state (with_use h t)) (use_up r.state c t)) left.tree (honest_use_up r.state c t (known t e)))
 
 -- who may run again is let go
 honest_let_go_one : (s : State) (t : ℕ) → IsHonest s (let_go_one s t)

@@ -1,5 +1,6 @@
 -- A callback that isn't dispatch moves nobody: it changes no entry and pushes nothing, and leaves the tree as it is.
 use Rattle.std.proofs.Common.{◌∙◌, sym, ◌≡◌, ℕ, Bool, true, false, cond, List, map, Option, Some, None, is_none}
+use Rattle.std.specs.Int.{w64, cast_signed}
 use Rattle.scx_dsq.specs.Queues.{QueueState}
 use Rattle.scx_dsq.specs.Calls.{create_refusal, with_queue, after_create}
 use Rattle.scx_isa_semantics.specs.declared.host_tables.Helper.{Helper}
@@ -8,10 +9,12 @@ use Rattle.scx_vm.specs.Arguments.{argument_of}
 use Rattle.scx_vm.specs.Host.{after_query}
 use Rattle.scx_vm.specs.declared.arguments.Arg.{Arg}
 use Rattle.scx_sched_world.specs.declared.call.Insert.{Insert}
+use Rattle.scx_sched_world.specs.declared.eject.Cause.{Cause}
+use Rattle.scx_sched_world.specs.declared.eject.Cause.TheVariants as reason
 use Rattle.scx_sched_world.specs.declared.faults.Fault.{Fault}
 use Rattle.scx_sched_world.specs.World.{WorldState, with_queues}
 use Rattle.scx_sched_world.specs.Tasks.{for_cpu}
-use Rattle.scx_sched_world.specs.Helpers.{with_fault, is_dispatch, with_insert, after_release, insert_or_fault, helper_after, world_functions}
+use Rattle.scx_sched_world.specs.Helpers.{with_cause, is_dispatch, with_insert, after_release, insert_or_fault, helper_after, world_functions}
 use Rattle.scx_sched_machine.proofs.Choices.{keeps_if}
 use Rattle.scx_sched_machine.proofs.HelperCalls.{by_helper}
 use Rattle.scx_sched.proofs.Marks.{KeepsMarks, Anywhere, kept_kicked_so, kept_claim}
@@ -31,8 +34,8 @@ module _ (v : WorldState) where
   calm_created : (w : WorldState) (q : ℕ) → IsCalm v w → IsCalm v (with_queues w (after_create w.queues q))
   calm_created w q h = keeps_if (λ (s : QueueState). IsCalm v (with_queues w s)) (is_none (create_refusal w.queues q)) (with_queue w.queues q) w.queues (record { entries = h.entries; pushes = h.pushes; tree = h.tree; ejected = h.ejected; callback = h.callback }) (record { entries = h.entries; pushes = h.pushes; tree = h.tree; ejected = h.ejected; callback = h.callback })
 
-  calm_faulted : (w : WorldState) (f : Fault) → IsCalm v w → IsCalm v (with_fault w f)
-  calm_faulted w f h = record { entries = h.entries; pushes = h.pushes; tree = h.tree; ejected = h.ejected; callback = h.callback }
+  calm_caused : (w : WorldState) (x : Cause) → IsCalm v w → IsCalm v (with_cause w x)
+  calm_caused w x h = record { entries = h.entries; pushes = h.pushes; tree = h.tree; ejected = h.ejected; callback = h.callback }
 
   calm_inserted : (w : WorldState) (o : Option Fault) (t : Option ℕ) (i : Insert) → IsCalm v w → IsCalm v (insert_or_fault w o t i)
   calm_inserted w None t i h = go (is_dispatch w.call.callback) h.callback
@@ -40,12 +43,13 @@ module _ (v : WorldState) where
       go : (b : Bool) → b ≡ false → IsCalm v (cond b (after_release w t (for_cpu w.call.cpu i)) (with_insert w i))
       go true e = absurd (cc)
       go false e = record { entries = h.entries; pushes = h.pushes; tree = h.tree; ejected = h.ejected; callback = h.callback }
-  calm_inserted w (Some f) t i h = calm_faulted w f h
+  calm_inserted w (Some f) t i h = calm_caused w (reason.Fault f) h
 
   calm_helper : (w : WorldState) (f : Helper) (a : List Arg) → IsCalm v w → IsCalm v (helper_after w f a)
   calm_helper w f a h = by_helper (IsCalm v) w (record {
     same = h;
-    faulty = λ f other. calm_faulted w f h;
+    faulty = λ f other. calm_caused w (reason.Fault f) h;
+    ended = λ n. calm_caused w (reason.Exit (cast_signed w64 n)) h;
     created = λ q. calm_created w q h;
     inserted = λ t i flags back none. calm_inserted w None t i h;
     late = λ linux here. absurd (is_not here);

@@ -24,7 +24,7 @@ use Rattle.scx_sched_world.specs.Tasks.{local_len, with_home, with_builtin, with
 use Rattle.scx_sched_world.specs.Ejecting.{builtin_vtime, put_builtin}
 use Rattle.scx_sched_machine.proofs.Choices.{keeps_if}
 use Rattle.scx_sched.specs.Once.{IsSound, IsBehind, GoesBehind, sort_of, fits_queue, fits_sort}
-use Rattle.scx_sched.specs.Kept.{IsWanted, ForAny, Nowhere, Inserted, InFront}
+use Rattle.scx_sched.specs.Kept.{IsWanted, ForAny, Nowhere, Inserted, InFront, Before}
 use Rattle.scx_sched.specs.Over.{GoesOver}
 use Rattle.scx_sched.proofs.Marks.{KeepsMarks, Anywhere, kept_put, kept_entered}
 use Rattle.scx_sched.proofs.Entering.{nowhere, low_or, open_by}
@@ -189,6 +189,7 @@ module _ (c : ℕ) where
       asked (Nowhere e) x = let bad : Fifo ≡ Front = sym (ap (λ (j : Insert). j.rank) e) ∙ x in absurd (cc)
       asked (Inserted d said l y e) x = subst GoesBehind y (h plain) (sym (ap (λ (j : Insert). j.rank) e) ∙ x)
       asked (InFront d l linux e) x = both (is_by_linux w) linux plain
+      asked (Before d said l linux none goes e) x = both (is_by_linux w) linux plain
 
   pub ready_entered : (hand : Option ℕ) (on : List (Option ℕ)) (n : ℕ) (w : WorldState) (t : ℕ) (i : Insert) → IsWanted (length on) w i → is_by_linux w ≡ false → IsSound hand on n w → w.ejected ≡ None → IsReady c w → IsReady c (after_enter w t i)
   ready_entered hand on n w t i wanted plain sound force h = kept_entered Anywhere (IsReady c) ready_marks w t i (go (front_of w.queues (local_on c)) refl) h

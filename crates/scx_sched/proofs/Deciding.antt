@@ -9,14 +9,14 @@ use Rattle.scx_weights.specs.Refusals.{max_weight, is_outside, weight_fault}
 use Rattle.scx_sched_world.specs.declared.eject.Eject.{Eject}
 use Rattle.scx_sched_world.specs.declared.eject.Eject.TheVariants as cause
 use Rattle.scx_sched_world.specs.World.{is_this, cpu_of}
-use Rattle.scx_sched_world.specs.Tasks.{after_stop, later, begun_periods}
+use Rattle.scx_sched_world.specs.Tasks.{after_stop, after_tick, later, begun_periods}
 use Rattle.scx_sched_machine.specs.declared.events.Event.{Event}
 use Rattle.scx_sched_machine.specs.declared.events.Event.TheVariants.{Wake, Sleep, Tick, Clock, SetWeight}
 use Rattle.scx_sched_machine.specs.declared.events.Refused.TheVariants.{UnknownGroup, BadWeight, RunOver}
 use Rattle.scx_sched_machine.specs.Steps.{State, Stepped, with_world, stays, one_after_other, is_by_linux}
 use Rattle.scx_sched_machine.specs.Ejecting.{eject}
 use Rattle.scx_sched_machine.specs.Parking.{let_all_go}
-use Rattle.scx_sched_machine.specs.Events.{wake, sleep, tick, overdue, eject_if_stalled, clock, own_step, event_step}
+use Rattle.scx_sched_machine.specs.Events.{wake, leaves_cpu, sleep, tick, overdue, eject_if_stalled, clock, own_step, event_step}
 use Rattle.scx_sched_machine.specs.Rounds.{with_rounds}
 use Rattle.scx_sched_machine.specs.Events as machine
 use Rattle.scx_sched.specs.Sim.{SimState, max_events, refusal, calls_if, IsValid}
@@ -24,10 +24,9 @@ use Rattle.scx_sched.specs.Ranges.{IsFine}
 use Rattle.scx_sched.specs.Decided.{clock_after, tree_after, EventsDecide}
 use Rattle.scx_sched.proofs.Unchanged.{eject_sets}
 use Rattle.scx_sched.proofs.Fine.{fine_steps}
-use Rattle.scx_sched.proofs.Skeleton.{keeps_stopping}
-use Rattle.scx_sched.proofs.Events.{IsFineNow, IsTaken, Wakes, Sleeps, Ticks, Clocks, Weighs, is_task, is_taken, known_running}
+use Rattle.scx_sched.proofs.Events.{IsFineNow, IsTaken, Wakes, Sleeps, Ticks, Clocks, Weighs, is_task, is_taken, known_running, fine_events, fine_ticked, keeps_leaves_cpu, keeps_heard}
 use Rattle.scx_sched.proofs.Tallies.{run_times}
-use Rattle.scx_sched.proofs.Blaming.{IsHonest, state_with_tree, stopped_for_sleep, none_of, eject_policy, eject_calls, honest_wake, honest_sleep, honest_tick, honest_weight, honest_let_all_go, honest_joined, honest_stays, honest_with_rounds, no_rounds, plain_on}
+use Rattle.scx_sched.proofs.Blaming.{IsHonest, state_with_tree, ticked, none_of, eject_policy, eject_calls, honest_wake, honest_sleep, honest_tick, honest_weight, honest_let_all_go, honest_joined, honest_stays, honest_with_rounds, no_rounds, plain_on}
 
 pub record IsAccepted (s : SimState) (v : Event) : Type 0 where
   pub not_over : (s.events == max_events) ≡ false
@@ -59,14 +58,20 @@ module _ (s : State) (n : ℕ) (fine : IsFineNow (length s.world.tasks) n n s.wo
   many = length s.world.tasks
 
   -- who stops to sleep is still there
-  still_known : (t c : ℕ) → t < many → cpu_of s.world t ≡ Some c → t < length (stopped_for_sleep s t c).state.world.tasks
+  still_known : (t c : ℕ) → t < many → cpu_of s.world t ≡ Some c → t < length (leaves_cpu s c t 0).state.world.tasks
   still_known t c within at =
       let x = position-Some (is_this t) s.world.cpus c None at in
       let on : List (Option ℕ) = set s.world.cpus c None in
       let gone : IsFine many n n (Some t) on (after_stop s.world c t) = (fine_steps many n).stopped n s.world.cpus s.world c t x.0 within (is_task t (get_or s.world.cpus c None) x.1) fine in
-      let off : IsFine many n (n + 1) (Some t) on (stopped_for_sleep s t c).state.world =
-      keeps_stopping many (IsFine many n) (fine_steps many n) n (Some t) on (with_world s (after_stop s.world c t)) c t 0 (rw (length-set s.world.cpus c None) x.0) gone in
+      let off : IsFine many n (n + 1) (Some t) on (leaves_cpu s c t 0).state.world = keeps_leaves_cpu many (IsFine many n) (fine_events many n) n on s c t 0 (rw (length-set s.world.cpus c None) x.0) gone in
       subst (λ k. t < k) (sym off.sound.tasks) within
+
+  -- nor is one gone that ran, once the policy has heard of the tick
+  ticked_known : (c t : ℕ) → c < length s.world.cpus → get_or s.world.cpus c None ≡ Some t → t < length (ticked s c t).state.world.tasks
+  ticked_known c t l at =
+      let x = fine_ticked many n n s.world c t l at fine in
+      let off : IsFine many (n + 1) n None s.world.cpus (ticked s c t).state.world = keeps_heard many (IsFine many (n + 1)) (fine_events many (n + 1)) n s.world.cpus (with_world s (after_tick s.world t)) c t l x.ran in
+      subst (λ k. t < k) (sym off.sound.tasks) (known_running many n n s.world c t l at fine)
 
   pub wake_is_honest : (t : ℕ) → IsHonestEvent s (Wake t)
   wake_is_honest t = honest_with_rounds _ (wake s t) (honest_wake s t (omega (arith, fine.sound.here)))
@@ -76,10 +81,10 @@ module _ (s : State) (n : ℕ) (fine : IsFineNow (length s.world.tasks) n n s.wo
 
   -- a tick leaves plain rules
   pub tick_plain : (c : ℕ) → c < length s.world.cpus → is_by_linux s ≡ false → is_by_linux (tick s c).state ≡ false
-  tick_plain c l plain = plain_on (state_with_tree s (tree_after (Tick c) s.world)) (tick s c) (honest_tick s c (λ t at. known_running many n n s.world c t l at fine)) plain
+  tick_plain c l plain = plain_on (state_with_tree s (tree_after (Tick c) s.world)) (tick s c) (honest_tick s c (λ t at. ticked_known c t l at)) plain
 
   pub tick_is_honest : (c : ℕ) → c < length s.world.cpus → IsHonestEvent s (Tick c)
-  tick_is_honest c l = honest_with_rounds _ (tick s c) (honest_tick s c (λ t at. known_running many n n s.world c t l at fine))
+  tick_is_honest c l = honest_with_rounds _ (tick s c) (honest_tick s c (λ t at. ticked_known c t l at))
 
   pub weight_is_honest : (g x : ℕ) → machine.refusal s (SetWeight g x) ≡ None → IsHonestEvent s (SetWeight g x)
   weight_is_honest g x ok = honest_with_rounds _ (own_step s (SetWeight g x)) (honest_weight s g x _ (can_set s.world.tree g x ok))

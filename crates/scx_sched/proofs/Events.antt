@@ -1,5 +1,5 @@
 -- Each event keeps what holds between two events.
-use Rattle.std.proofs.Common.{unwrap_or, ◌≡◌, ℕ, zero, suc, not, ◌+◌, ◌<◌, ◌≤◌, Bool, true, false, ◌&&◌, ◌==◌, nat_lt, ◌⊎◌, inl, inr, if◌then◌else◌, cond, List, length, set, get_or, Option, Some, None, is_none, refl, sym, ap, ◌∙◌, subst, arith}
+use Rattle.std.proofs.Common.{unwrap_or, ◌≡◌, ℕ, zero, suc, not, ◌+◌, ◌<◌, ◌≤◌, Bool, true, false, ◌&&◌, ◌==◌, nat_lt, ◌⊎◌, inl, inr, if◌then◌else◌, cond, List, length, set, get_or, Option, Some, None, is_some, is_none, refl, sym, ap, ◌∙◌, subst, arith}
 use Rattle.std.proofs.lemmas.Bool.{cases_lt, eq-eqb, lt-ltb}
 use Rattle.std.proofs.lemmas.Bool.Decides.{nat_tests}
 use Rattle.std.proofs.lemmas.List.{length-set, get_or-set_same, get_or_past}
@@ -8,35 +8,41 @@ use Rattle.std.proofs.lemmas.List.Sums.{sum_by-set}
 use Rattle.scx_dsq.specs.Laws.{one_if}
 use Rattle.scx_isa_semantics.specs.declared.callbacks.Callback.TheVariants as callback
 use Rattle.scx_weights.specs.Hierarchy.{with_weight}
-use Rattle.scx_weights.specs.Limits.{with_use}
+use Rattle.scx_weights.specs.Limits.{with_use, usage_of}
 use Rattle.scx_weights.specs.Limits as limits
 use Rattle.scx_weights.specs.Refusals.{weight_fault}
 use Rattle.scx_vm.specs.Programs.{VerifiedProgram}
 use Rattle.scx_sched_world.specs.CpuSets.{is_in_set, and_cpu, but_cpu}
 use Rattle.scx_sched_world.specs.World as world
-use Rattle.scx_sched_world.specs.World.{WorldState, with_tree, task_at, is_this, is_runnable, is_throttled, running, cpu_of, without_kick, with_slept, is_idle, is_free, this_if, or_this, free_below, first_free, choice, default_choice, after_claim, at_callback}
-use Rattle.scx_sched_world.specs.Helpers.{is_dispatch, with_insert}
-use Rattle.scx_sched_world.specs.Tasks.{homed, to_local, after_cut_off, after_wake, after_sleep, after_leave, after_stop, let_go, ran_a_tick, after_tick, used_ms, later, begun_periods, after_reweigh}
+use Rattle.scx_sched_world.specs.World.{WorldState, with_tree, switch_at, with_switch, task_at, is_this, is_runnable, is_throttled, running, cpu_of, without_kick, with_slept, with_waker, is_idle, is_free, this_if, or_this, free_below, first_free, choice, default_choice, after_claim, at_callback}
+use Rattle.scx_sched_world.specs.declared.call.Insert.{Insert}
+use Rattle.scx_sched_world.specs.Pending.{is_pending, pending_below, first_pending}
+use Rattle.scx_sched_world.specs.Helpers.{is_dispatch}
+use Rattle.scx_sched_world.specs.Tasks.{homed, for_cpu, after_cut_off, after_wake, after_sleep, after_leave, after_stop, let_go, ran_a_tick, after_tick, used_ms, later, begun_periods, after_reweigh}
 use Rattle.scx_sched_machine.specs.declared.events.Event.{Event}
 use Rattle.scx_sched_machine.specs.declared.events.Event.TheVariants.{Wake, Sleep, Tick, Clock, SetWeight}
 use Rattle.scx_sched_machine.specs.declared.events.Refused.TheVariants.{AlreadyRunnable, NotRunnable, UnknownTask, UnknownCpu}
-use Rattle.scx_sched_machine.specs.Steps.{State, Stepped, with_world, stays, one_after_other, is_by_linux, kicked, kicked_if_idle}
-use Rattle.scx_sched_machine.specs.Callbacks.{acting, call_back, answered_by, task_cpu_and_0}
+use Rattle.scx_sched_machine.specs.Steps.{State, Stepped, with_world, stays, one_after_other, is_ejected, is_by_linux, kicked_if_idle}
+use Rattle.scx_sched_machine.specs.Callbacks.{acting, call_back, call_by_linux, answered_by, one_task, task_cpu_and_0, task_and_number}
 use Rattle.scx_sched_machine.specs.Parking.{park, let_all_go}
-use Rattle.scx_sched_machine.specs.Cycle.{after_stopping, cycle}
-use Rattle.scx_sched_machine.specs.Events.{refusal, target, insert_or_put, wake_target, settle, inserted_by_choice, chosen_by_default, chosen, ask_target, asks_target, select, wake, told_of_sleep, sleep_from_cpu, sleep_from, sleep, throttle, ends_slices, expire, count_down, tick_idle, tick_of, tick, overdue, eject_if_stalled, clock, own_step, event_step}
-use Rattle.scx_sched_machine.specs.Rounds.{most_rounds, is_pending, pending_below, next_to_look, cut_off_if, look_past, look_from, round, round_then, rounds, with_rounds}
+use Rattle.scx_sched_machine.specs.Policy.{program_of}
+use Rattle.scx_sched_machine.specs.Cycle.{cycle}
+use Rattle.scx_sched_machine.specs.Events.{refusal, target, insert_or_put, woken, wake_target, comes_to, while_in_force, told_runnable, settle, inserted_by_choice, chosen, ask_target, asks_target, select, from_waker, wake, told_of_sleep, falls_asleep, looks_after_sleep, leaves_cpu, sleep_from_cpu, sleep_from, sleep, throttle, ends_slices, expire, use_up, hears_tick, tick_heard, count_down, tick_idle, tick_of, tick, overdue, eject_if_stalled, clock, own_step, event_step}
+use Rattle.scx_sched_machine.specs.Rounds.{most_rounds, next_to_look, cut_off_if, look_past, look_from, round, round_then, rounds, with_rounds}
 use Rattle.scx_sched_machine.proofs.Choices.{keeps_if}
-use Rattle.scx_sched.specs.Once.{runs, IsSound}
+use Rattle.scx_sched.specs.Once.{runs, GoesSomewhere, IsSound}
 use Rattle.scx_sched.specs.Ranges.{IsFine}
 use Rattle.scx_sched.specs.Usages.{AreWithin}
-use Rattle.scx_sched.specs.Kept.{IsKeptBySteps}
+use Rattle.scx_sched.specs.Kept.{IsKeptBySteps, IsWanted, Inserted, Before}
 use Rattle.scx_sched.proofs.Sound.{sound_woken, sound_left, sound_stopped, sound_ticked, sound_later, sound_with_weight}
 use Rattle.scx_sched.proofs.Parking.{sound_let_go, sound_used_ms, sound_begun_periods}
 use Rattle.scx_sched.proofs.Bounded.{within_used, within_used_up, within_turned, within_reweighed, most_used, most_turned}
-use Rattle.scx_sched.proofs.Skeleton.{keeps_eject, keeps_call_back, keeps_stopping, keeps_settled, keeps_homed, keeps_kicked_if_idle}
+use Rattle.scx_sched.proofs.Skeleton.{keeps_eject, keeps_call_back, keeps_call_by_linux, keeps_waker, keeps_stopping, keeps_settled, keeps_homed, keeps_kicked_if_idle}
 use Rattle.scx_sched.proofs.Clear.{tree_free, tree_used_up}
-use Rattle.scx_sched.proofs.Ready.{tree_stopping, calm_call_back, linux_in_force}
+use Rattle.scx_sched.proofs.Ready.{calm_call_back, linux_in_force, not_out}
+use Rattle.scx_sched.proofs.Remembering.{remembers}
+use Rattle.scx_sched.proofs.Unchanged.{same_linux}
+use Rattle.scx_sched.proofs.Blaming.{honest_call_back, honest_leaves_cpu, honest_heard}
 use Rattle.scx_sched.proofs.Cycles.{IsKeptInside, keeps_park, keeps_cycle}
 use Rattle.scx_sched.proofs.Letting.{LetsGo, keeps_let_all_go}
 use Rattle.scx_sched.proofs.Fine.{IsRange, range_of, range_task, range_same, fine_of, fine_steps}
@@ -114,10 +120,10 @@ idle_is_free w c e = go (nat_lt c (length w.cpus)) (get_or w.cpus c None) (not (
 
 -- ---- who looks for work
 
-pending_there : (n c : ℕ) (s : State) → pending_below n s ≡ Some c → c < n
+pending_there : (n c : ℕ) (w : WorldState) → pending_below n w ≡ Some c → c < n
 unfolding pending_below
-pending_there zero c s e = absurd (cc)
-pending_there (suc n) c s e = go (pending_below n s) (λ x. pending_there n c s x) (is_pending s n) e
+pending_there zero c w e = absurd (cc)
+pending_there (suc n) c w e = go (pending_below n w) (λ x. pending_there n c w x) (is_pending w n) e
   where
     go : (o : Option ℕ) → (o ≡ Some c → c < n) → (b : Bool) → or_this o (this_if b n) ≡ Some c → c < suc n
     go (Some d) f b x = omega (arith, f x)
@@ -133,8 +139,8 @@ looks_there : (s : State) (c : ℕ) → next_to_look s ≡ Some c → LooksForWo
 unfolding next_to_look
 looks_there s c e = go (is_by_linux s) refl e
   where
-    go : (b : Bool) → is_by_linux s ≡ b → (if b then pending_below (length s.world.cpus) s else None) ≡ Some c → LooksForWork s c
-    go true x y = record { linux = x; there = pending_there (length s.world.cpus) c s y }
+    go : (b : Bool) → is_by_linux s ≡ b → (if b then first_pending s.world else None) ≡ Some c → LooksForWork s c
+    go true x y = record { linux = x; there = pending_there (length s.world.cpus) c s.world y }
     go false x y = absurd (cc)
 
 -- the task that is the given one is given
@@ -165,8 +171,8 @@ module _ (n : ℕ) (I : ℕ → Option ℕ → List (Option ℕ) → WorldState 
   keeps_wake_target : (m : ℕ) (on : List (Option ℕ)) (s : State) (c : ℕ) → c < length on → I m None on s.world → I m None (wake_target s c).state.world.cpus (wake_target s c).state.world
   unfolding wake_target
   keeps_wake_target m on s c l h =
-      keeps_if Kept (is_by_linux s) (stays (kicked_if_idle s c)) (if is_idle s.world c then cycle s c None false else stays s)
-      (keeps_now m (kicked_if_idle s c).world (on, keeps_kicked_if_idle n I k.steps m None on s c h)) (go (is_idle s.world c) refl)
+      keeps_if Kept (is_by_linux s) (stays (kicked_if_idle (woken s) c)) (if is_idle s.world c then cycle s c None false else stays s)
+      (keeps_now m (kicked_if_idle (woken s) c).world (on, keeps_kicked_if_idle n I k.steps m None on (woken s) c (keeps_waker n I k.steps m None on s.world None h))) (go (is_idle s.world c) refl)
     where
       Kept : Stepped → Type 0
       Kept r = I m None r.state.world.cpus r.state.world
@@ -178,12 +184,53 @@ module _ (n : ℕ) (I : ℕ → Option ℕ → List (Option ℕ) → WorldState 
       go true idle = keeps_now m _ (keeps_cycle n I (inside_of n I k) m on s c None false l tt (free idle) h)
       go false idle = keeps_now m s.world (on, h)
 
+  keeps_comes_to : (m : ℕ) (on : List (Option ℕ)) (o : Option Insert) (s : State) (t c : ℕ) → ((i : Insert) → o ≡ Some i → IsWanted (length on) s.world (for_cpu c i)) → t < n → c < length on → I m (Some t) on s.world → I m None (comes_to o s t c).state.world.cpus (comes_to o s t c).state.world
+  unfolding comes_to
+  keeps_comes_to m on o s t c may within l h = keeps_wake_target m on (insert_or_put o s t c).state c l (keeps_settled n I k.steps m on o s t c may within l h)
+
+  -- what select_cpu inserted may still be done once the policy has heard that the task is runnable
+  may_still : (m : ℕ) (on : List (Option ℕ)) (s : State) (t c : ℕ) (i : Insert) → c < length on → s.world.call.insert ≡ Some i → I m (Some t) on s.world → is_ejected (call_by_linux s callback.Runnable (task_and_number t 1) t c).state ≡ false → IsWanted (length on) (call_by_linux s callback.Runnable (task_and_number t 1) t c).state.world (for_cpu c i)
+  unfolding call_by_linux
+  may_still m on s t c i l said h force = go (is_by_linux s) (is_some (program_of s.policy callback.Runnable)) refl force
+    where
+      r : Stepped
+      r = call_back s callback.Runnable (task_and_number t 1) t c
+
+      goes : GoesSomewhere s.world.queues (length on) (Some i)
+      goes = subst (λ (o : Option Insert). GoesSomewhere s.world.queues (length on) o) said (k.sound m (Some t) on s.world h).goes
+
+      go : (a b : Bool) → is_by_linux s ≡ a → is_ejected (if a && b then r else stays s).state ≡ false → IsWanted (length on) (if a && b then r else stays s).state.world (for_cpu c i)
+      go true true linux force =
+          let x = remembers (length on) (Some i) s (task_and_number t 1) t c goes force in
+          Before c i l (same_linux s.world r.state.world (honest_call_back s callback.Runnable (task_and_number t 1) t c (λ e. absurd (cc))).rules (not_out r.state force ∙ sym (linux_in_force s linux)) ∙ linux) x.1 x.2 refl
+      go true false linux force = Inserted c i l said refl
+      go false b linux force = Inserted c i l said refl
+
+  keeps_told_runnable : (m : ℕ) (on : List (Option ℕ)) (s : State) (t c : ℕ) → t < n → c < length on → I m (Some t) on s.world → I m None (told_runnable s.world.call.insert s t c).state.world.cpus (told_runnable s.world.call.insert s t c).state.world
+  unfolding told_runnable
+  keeps_told_runnable m on s t c within l h = keeps_comes_to m on (while_in_force r i) r t c may within l (keeps_call_by_linux n I k.steps m (Some t) on s callback.Runnable (task_and_number t 1) t c l h)
+    where
+      r : State
+      r = (call_by_linux s callback.Runnable (task_and_number t 1) t c).state
+
+      i : Option Insert
+      i = s.world.call.insert
+
+      may : (j : Insert) → while_in_force r i ≡ Some j → IsWanted (length on) r.world (for_cpu c j)
+      may j e = go (is_ejected r) refl e
+        where
+          go : (b : Bool) → is_ejected r ≡ b → (if b then None else i) ≡ Some j → IsWanted (length on) r.world (for_cpu c j)
+          go true out x = absurd (cc)
+          go false force x = may_still m on s t c j l x h force
+
   keeps_settle : (m : ℕ) (on : List (Option ℕ)) (s : State) (t c : ℕ) → t < n → c < length on → I m (Some t) on s.world → I m None (settle s t c).state.world.cpus (settle s t c).state.world
   unfolding settle
   keeps_settle m on s t c within l h =
       let v = with_world s (homed s.world t c) in
-      let r = insert_or_put v.world.call.insert v t c in
-      keeps_wake_target m on r.state c l (keeps_settled n I k.steps m on v.world.call.insert v t c refl within l (keeps_homed n I k.steps m (Some t) on s.world t c l h))
+      let i = v.world.call.insert in
+      let x = keeps_homed n I k.steps m (Some t) on s.world t c l h in
+      keeps_if (λ (r : Stepped). I m None r.state.world.cpus r.state.world) (is_by_linux v) (told_runnable i v t c) (comes_to i v t c) (keeps_told_runnable m on v t c within l x)
+      (keeps_comes_to m on i v t c (λ j e. Inserted c j l e refl) within l x)
 
   -- a processor that is chosen by default
   keeps_chosen : (m : ℕ) (on : List (Option ℕ)) (p : Option VerifiedProgram) (s : State) (t : ℕ) → is_dispatch s.world.call.callback ≡ false → I m (Some t) on s.world → I m (Some t) on (chosen p s t).world
@@ -197,7 +244,7 @@ module _ (n : ℕ) (I : ℕ → Option ℕ → List (Option ℕ) → WorldState 
       sound = k.sound m (Some t) on w h
 
       claimed : (c : ℕ) → I m (Some t) on (after_claim w (Some c))
-      claimed c = keeps_if (I m (Some t) on) (world.is_by_linux w) _ w (k.steps.sets m (Some t) on w (and_cpu w.claimed c) w.kicked w.preempted (and_cpu w.call.claims c) w.slept h) h
+      claimed c = keeps_if (I m (Some t) on) (world.is_by_linux w) _ w (k.steps.sets m (Some t) on w (and_cpu w.claimed c) w.kicked w.preempted (and_cpu w.call.claims c) w.passing h) h
 
       still : (c : ℕ) → is_dispatch (after_claim w (Some c)).call.callback ≡ false
       still c = keeps_if (λ (v : WorldState). is_dispatch v.call.callback ≡ false) (world.is_by_linux w) _ w calm calm
@@ -245,21 +292,45 @@ module _ (n : ℕ) (I : ℕ → Option ℕ → List (Option ℕ) → WorldState 
       l : 0 < length on
       l = omega (arith, home)
 
+  -- a task that is woken from a processor
+  keeps_from_waker : (m : ℕ) (on : List (Option ℕ)) (s : State) (t : ℕ) → I m (Some t) on s.world → I m (Some t) on (from_waker s t).world
+  unfolding from_waker
+  keeps_from_waker m on s t h =
+      let o = Some (task_at s.world t).prev_cpu in
+      keeps_if (λ (r : State). I m (Some t) on r.world) (is_by_linux s) (with_world s (with_waker s.world o)) s (keeps_waker n I k.steps m (Some t) on s.world o h) h
+
   -- a task that wakes
   pub keeps_wake : (m : ℕ) (s : State) (t : ℕ) → t < n → is_runnable s.world t ≡ false → I m None s.world.cpus s.world → I m None (wake s t).state.world.cpus (wake s t).state.world
   unfolding wake
-  keeps_wake m s t within resting h = keeps_select m s.world.cpus (with_world s (after_wake s.world t)) t within (k.woken m s.world.cpus s.world t within resting h)
+  keeps_wake m s t within resting h =
+      let v = with_world s (after_wake s.world t) in
+      keeps_select m s.world.cpus (from_waker v t) t within (keeps_from_waker m s.world.cpus v t (k.woken m s.world.cpus s.world t within resting h))
 
   -- ---- sleep
 
   -- dispatch is to be told of the task
   keeps_told : (m : ℕ) (on : List (Option ℕ)) (s : State) (t : ℕ) → I m None on s.world → I m None on (told_of_sleep s t).world
   unfolding told_of_sleep
-  keeps_told m on s t h = keeps_if (λ (r : State). I m None on r.world) (is_by_linux s) (with_world s (with_slept s.world t)) s (k.steps.sets m None on s.world s.world.claimed s.world.kicked s.world.preempted s.world.call.claims (Some t) h) h
+  keeps_told m on s t h = keeps_if (λ (r : State). I m None on r.world) (is_by_linux s) (with_world s (with_slept s.world t)) s (k.steps.sets m None on s.world s.world.claimed s.world.kicked s.world.preempted s.world.call.claims (record s.world.passing { slept = Some t }) h) h
+
+  -- a task that leaves its processor has been the current one there
+  pub keeps_stop_switch : (m : ℕ) (on : List (Option ℕ)) (w : WorldState) (c t : ℕ) → I m (Some t) on (after_stop w c t) → I m (Some t) on (after_stop (with_switch w c) c t)
+  keeps_stop_switch m on w c t h =
+      let x = record w.passing { switching = switch_at w c } in
+      keeps_if (λ (v : WorldState). I m (Some t) on (after_stop v c t)) (world.is_by_linux w) (record w { passing = x }) w (k.steps.sets m (Some t) on (after_stop w c t) w.claimed w.kicked w.preempted w.call.claims x h) h
+
+  pub keeps_leaves_cpu : (m : ℕ) (on : List (Option ℕ)) (s : State) (c t x : ℕ) → c < length on → I m (Some t) on (after_stop s.world c t) → I (m + 1) (Some t) on (leaves_cpu s c t x).state.world
+  unfolding leaves_cpu
+  keeps_leaves_cpu m on s c t x l h = keeps_stopping n I k.steps m (Some t) on (with_world s (after_stop (with_switch s.world c) c t)) c t x l (keeps_stop_switch m on s.world c t h)
+
+  -- a task sleeps, and the policy hears of it
+  keeps_falls_asleep : (m : ℕ) (on : List (Option ℕ)) (s : State) (t c : ℕ) → c < length on → I m None on (after_sleep s.world t) → I m None on (falls_asleep s t c).state.world
+  unfolding falls_asleep
+  keeps_falls_asleep m on s t c l h = keeps_call_by_linux n I k.steps m None on (with_world s (after_sleep s.world t)) callback.Quiescent (task_and_number t 1) t c l h
 
   keeps_sleep_from_cpu : (m : ℕ) (s : State) (t c : ℕ) → t < n → c < length s.world.cpus → get_or s.world.cpus c None ≡ Some t → I m None s.world.cpus s.world → I (m + 1) None (sleep_from_cpu s t c).state.world.cpus (sleep_from_cpu s t c).state.world
-  unfolding sleep_from_cpu
-  keeps_sleep_from_cpu m s t c within l runs h = keeps_now (m + 1) _ (keeps_cycle n I (inside_of n I k) (m + 1) on d c None true l' tt (get_or-set_same s.world.cpus c None None l) down)
+  unfolding sleep_from_cpu looks_after_sleep
+  keeps_sleep_from_cpu m s t c within l runs h = keeps_now (m + 1) _ (keeps_cycle n I (inside_of n I k) (m + 1) on (told_of_sleep q t) c None true l' tt (get_or-set_same s.world.cpus c None None l) (keeps_told (m + 1) on q t down))
     where
       on : List (Option ℕ)
       on = set s.world.cpus c None
@@ -267,20 +338,17 @@ module _ (n : ℕ) (I : ℕ → Option ℕ → List (Option ℕ) → WorldState 
       l' : c < length on
       l' = rw (length-set s.world.cpus c None) l
 
-      r : Stepped
-      r = after_stopping (with_world s (after_stop s.world c t)) c t 0
+      r : State
+      r = (leaves_cpu s c t 0).state
 
-      u : State
-      u = with_world r.state (after_sleep r.state.world t)
+      q : State
+      q = (falls_asleep r t c).state
 
-      d : State
-      d = told_of_sleep u t
+      off : I (m + 1) (Some t) on r.world
+      off = keeps_leaves_cpu m on s c t 0 l' (k.steps.stopped m s.world.cpus s.world c t l within runs h)
 
-      off : I (m + 1) (Some t) on r.state.world
-      off = keeps_stopping n I k.steps m (Some t) on (with_world s (after_stop s.world c t)) c t 0 l' (k.steps.stopped m s.world.cpus s.world c t l within runs h)
-
-      down : I (m + 1) None on d.world
-      down = keeps_told (m + 1) on u t (k.steps.asleep (m + 1) on r.state.world t within off)
+      down : I (m + 1) None on q.world
+      down = keeps_falls_asleep (m + 1) on r t c l' (k.steps.asleep (m + 1) on r.world t within off)
 
   -- a task that goes to sleep
   pub keeps_sleep : (m : ℕ) (s : State) (t : ℕ) → t < n → is_runnable s.world t ≡ true → I m None s.world.cpus s.world → I (m + 1) None (sleep s t).state.world.cpus (sleep s t).state.world
@@ -288,7 +356,9 @@ module _ (n : ℕ) (I : ℕ → Option ℕ → List (Option ℕ) → WorldState 
   keeps_sleep m s t within runnable h = go (cpu_of s.world t) refl
     where
       go : (o : Option ℕ) → cpu_of s.world t ≡ o → I (m + 1) None (sleep_from o s t).state.world.cpus (sleep_from o s t).state.world
-      go None off = keeps_now (m + 1) _ (s.world.cpus, k.steps.more m None s.world.cpus _ (k.left m s.world.cpus s.world t within runnable off h))
+      go None off =
+          let home : (task_at s.world t).prev_cpu < length s.world.cpus = (k.sound m None s.world.cpus s.world h).homes t in
+          keeps_now (m + 1) _ (s.world.cpus, k.steps.more m None s.world.cpus _ (keeps_falls_asleep m s.world.cpus (with_world s (after_leave s.world t)) t (task_at s.world t).prev_cpu home (k.left m s.world.cpus s.world t within runnable off h)))
       go (Some c) at =
           let x = position-Some (is_this t) s.world.cpus c None at in
           keeps_sleep_from_cpu m s t c within x.0 (is_task t (get_or s.world.cpus c None) x.1) h
@@ -324,7 +394,7 @@ module _ (n : ℕ) (I : ℕ → Option ℕ → List (Option ℕ) → WorldState 
       v = with_world s (without_kick s.world c)
 
       kept : Charged m v
-      kept = k.steps.sets (m + 1) None s.world.cpus s.world s.world.claimed (but_cpu s.world.kicked c) (but_cpu s.world.preempted c) s.world.call.claims s.world.slept h
+      kept = k.steps.sets (m + 1) None s.world.cpus s.world s.world.claimed (but_cpu s.world.kicked c) (but_cpu s.world.preempted c) s.world.call.claims s.world.passing h
 
       cut : (b : Bool) (t : ℕ) → running s.world c ≡ Some t → Charged m (look_past (cut_off_if b v t) c t).state
       cut false t at = keeps_look_past m v c t force l at kept
@@ -359,37 +429,36 @@ module _ (n : ℕ) (I : ℕ → Option ℕ → List (Option ℕ) → WorldState 
       l' : c < length on
       l' = rw (length-set s.world.cpus c None) l
 
-      off : State
-      off = with_world s (after_stop s.world c t)
-
       r : State
-      r = (after_stopping off c t 1).state
-
-      down : I (m + 1) (Some t) on r.world
-      down = keeps_stopping n I k.steps m (Some t) on off c t 1 l' h
+      r = (leaves_cpu s c t 1).state
 
       there : I (m + 1) None on (park r t).state.world
-      there = keeps_park n I (inside_of n I k) (m + 1) on r t within (ap (λ x. limits.is_throttled x t) (tree_stopping n I k.steps k.sound c m (Some t) on off c t 1 l' h) ∙ throttled) down
+      there = keeps_park n I (inside_of n I k) (m + 1) on r t within (ap (λ x. limits.is_throttled x t) (honest_leaves_cpu s c t 1).tree ∙ throttled) (keeps_leaves_cpu m on s c t 1 l' h)
 
   keeps_expire : (m : ℕ) (s : State) (c t : ℕ) → c < length s.world.cpus → get_or s.world.cpus c None ≡ Some t → I m None s.world.cpus s.world → I (m + 1) None (expire s c t).state.world.cpus (expire s c t).state.world
   unfolding expire
   keeps_expire m s c t l at h =
       keeps_if (λ (r : Stepped). I (m + 1) None r.state.world.cpus r.state.world) (((task_at s.world t).slice == 0) && ends_slices s) (cycle s c (Some t) true) (stays s) (keeps_cycle_now m s c (Some t) true l at h) (k.steps.more m None s.world.cpus s.world h)
 
-  -- what is kept as the task of a processor has run for a millisecond: it goes on, or leaves
-  pub record IsKeptByTick (m : ℕ) (w : WorldState) (c t : ℕ) : Type 0 where
-    pub goes_on : is_throttled (used_ms (after_tick w t) t) t ≡ false → I m None w.cpus (used_ms (after_tick w t) t)
-    pub leaves : is_throttled (used_ms (after_tick w t) t) t ≡ true → I m (Some t) (set w.cpus c None) (after_stop (used_ms (after_tick w t) t) c t)
+  -- what is kept as the groups of a processor's task use a millisecond: it goes on, or leaves
+  pub record IsKeptByUse (m : ℕ) (w : WorldState) (c t : ℕ) : Type 0 where
+    pub goes_on : is_throttled (used_ms w t) t ≡ false → I m None w.cpus (used_ms w t)
+    pub leaves : is_throttled (used_ms w t) t ≡ true → I m (Some t) (set w.cpus c None) (after_stop (used_ms w t) c t)
 
-  pub keeps_count_down : (m : ℕ) (s : State) (c t : ℕ) → t < n → c < length s.world.cpus → get_or s.world.cpus c None ≡ Some t → IsKeptByTick m s.world c t → I (m + 1) None (count_down s c t).state.world.cpus (count_down s c t).state.world
-  unfolding count_down
-  keeps_count_down m s c t within l at h = go (is_throttled v.world t) refl
+  -- and as it has run for one: the policy hears of the tick in between
+  pub record IsKeptByTick (m : ℕ) (w : WorldState) (c t : ℕ) : Type 0 where
+    pub ran : I m None w.cpus (after_tick w t)
+    pub uses : (v : WorldState) → v.cpus ≡ w.cpus → v.tree ≡ w.tree → I m None w.cpus v → IsKeptByUse m v c t
+
+  keeps_use_up : (m : ℕ) (s : State) (c t : ℕ) → t < n → c < length s.world.cpus → get_or s.world.cpus c None ≡ Some t → IsKeptByUse m s.world c t → I (m + 1) None (use_up s c t).state.world.cpus (use_up s c t).state.world
+  unfolding use_up
+  keeps_use_up m s c t within l at h = go (is_throttled v.world t) refl
     where
       v : State
-      v = with_world s (used_ms (after_tick s.world t) t)
+      v = with_world s (used_ms s.world t)
 
       same : v.world.cpus ≡ s.world.cpus
-      same = cpus_used (after_tick s.world t) t
+      same = cpus_used s.world t
 
       l' : c < length v.world.cpus
       l' = subst (λ (xs : List (Option ℕ)). c < length xs) (sym same) l
@@ -400,6 +469,28 @@ module _ (n : ℕ) (I : ℕ → Option ℕ → List (Option ℕ) → WorldState 
       go : (b : Bool) → is_throttled v.world t ≡ b → I (m + 1) None (if b then throttle v c t else expire v c t).state.world.cpus (if b then throttle v c t else expire v c t).state.world
       go true e = keeps_throttle m v c t within l' (tree_used_up v.world t e) (subst (λ xs. I m (Some t) (set xs c None) (after_stop v.world c t)) (sym same) (h.leaves e))
       go false e = keeps_expire m v c t l' at' (subst (λ xs. I m None xs v.world) (sym same) (h.goes_on e))
+
+  -- the policy hears of a tick
+  pub keeps_heard : (m : ℕ) (on : List (Option ℕ)) (s : State) (c t : ℕ) → c < length on → I m None on s.world → I m None on (tick_heard s c t).state.world
+  unfolding tick_heard
+  keeps_heard m on s c t l h = keeps_if (λ (r : Stepped). I m None on r.state.world) (hears_tick s) (call_back s callback.Tick (one_task t) t c) (stays s) (keeps_call_back n I k.steps m None on s callback.Tick (one_task t) t c l h) h
+
+  pub keeps_count_down : (m : ℕ) (s : State) (c t : ℕ) → t < n → c < length s.world.cpus → get_or s.world.cpus c None ≡ Some t → IsKeptByTick m s.world c t → I (m + 1) None (count_down s c t).state.world.cpus (count_down s c t).state.world
+  unfolding count_down
+  keeps_count_down m s c t within l at h =
+      keeps_use_up m r c t within (subst (λ (xs : List (Option ℕ)). c < length xs) (sym same) l) (ap (λ (xs : List (Option ℕ)). get_or xs c None) same ∙ at) (h.uses r.world same (honest_heard v c t).tree x)
+    where
+      v : State
+      v = with_world s (after_tick s.world t)
+
+      r : State
+      r = (tick_heard v c t).state
+
+      x : I m None s.world.cpus r.world
+      x = keeps_heard m s.world.cpus v c t l h.ran
+
+      same : r.world.cpus ≡ s.world.cpus
+      same = (k.sound m None s.world.cpus r.world x).cpus
 
   -- a processor that ran no task
   pub keeps_tick_idle : (m : ℕ) (s : State) (c : ℕ) → c < length s.world.cpus → get_or s.world.cpus c None ≡ None → I m None s.world.cpus s.world → I (m + 1) None (tick_idle s c).state.world.cpus (tick_idle s c).state.world
@@ -499,38 +590,45 @@ one_more n e m w h = record { sound = h.sound; clock = omega (arith, h.clock); r
 used_is : (w : WorldState) (t : ℕ) → t < length w.tasks → used_ms w t ≡ with_tree w (with_use w.tree t)
 used_is w t l = ap (λ b. cond b (with_tree w (with_use w.tree t)) w) (lt-ltb t (length w.tasks) l)
 
-ran_there : (w : WorldState) (t : ℕ) → t < length w.tasks → t < length (after_tick w t).tasks
-ran_there w t l = rw (length-set w.tasks t (ran_a_tick (task_at w t))) l
-
--- a task has run for a millisecond, which its groups have used
-range_ran : (e m : ℕ) (on on' : List (Option ℕ)) (w : WorldState) (t : ℕ) → t < length w.tasks → AreWithin (with_use w.tree t) on' → IsRange e m on w → IsRange (e + 1) m on' (used_ms (after_tick w t) t)
-range_ran e m on on' w t there within r =
-    let x : IsRange (e + 1) m on (after_tick w t) = range_task (e + 1) m on w t (ran_a_tick (task_at w t)) (omega (arith, r.1 t)) refl (omega (arith, r.0), (λ u. omega (arith, r.1 u)), r.2, r.3, r.4, (λ g. omega (arith, r.5 g)), r.6) in
-    subst (IsRange (e + 1) m on') (sym (used_is (after_tick w t) t (ran_there w t there))) (x.0, x.1, x.2, x.3, x.4, most_used w.tree t e r.5, within)
+-- the groups of a task that there is have used a millisecond
+range_used : (e m : ℕ) (on on' : List (Option ℕ)) (w : WorldState) (t : ℕ) → t < length w.tasks → ((g : ℕ) → usage_of w.tree g ≤ e) → AreWithin (with_use w.tree t) on' → IsRange (e + 1) m on w → IsRange (e + 1) m on' (used_ms w t)
+range_used e m on on' w t there used within x = subst (IsRange (e + 1) m on') (sym (used_is w t there)) (x.0, x.1, x.2, x.3, x.4, most_used w.tree t e used, within)
 
 -- it goes on, or leaves
-pub fine_ticked : (n e m : ℕ) (w : WorldState) (c t : ℕ) → c < length w.cpus → get_or w.cpus c None ≡ Some t → IsFineNow n e m w → IsKeptByTick n (IsFine n (e + 1)) (fine_events n (e + 1)) m w c t
-fine_ticked n e m w c t l at h = record {
-  goes_on = λ free. fine_of n (e + 1) m None w.cpus v sound (range_ran e m w.cpus w.cpus w t there (within_used w.tree w.cpus c t at (ap (λ x. limits.is_throttled x t) (sym counted) ∙ tree_free v t v-there free) h.within) (range_of n e m None w.cpus w h));
+fine_used : (n e m : ℕ) (w : WorldState) (c t : ℕ) → c < length w.cpus → get_or w.cpus c None ≡ Some t → ((g : ℕ) → usage_of w.tree g ≤ e) → IsFineNow n (e + 1) m w → IsKeptByUse n (IsFine n (e + 1)) (fine_events n (e + 1)) m w c t
+fine_used n e m w c t l at used h = record {
+  goes_on = λ free. fine_of n (e + 1) m None w.cpus v sound (range_used e m w.cpus w.cpus w t there used (within_used w.tree w.cpus c t at (ap (λ x. limits.is_throttled x t) (sym counted) ∙ tree_free v t v-there free) h.within) (range_of n (e + 1) m None w.cpus w h));
   leaves = λ up.
       fine_of n (e + 1) m (Some t) (set w.cpus c None) (after_stop v c t) (sound_stopped w.cpus n v c t l (running_is_there n w c t l at h.sound) at sound)
-      (range_same (e + 1) m (set w.cpus c None) v t _ refl refl (range_ran e m w.cpus (set w.cpus c None) w t there (within_used_up w.tree w.cpus c t at (ap (λ x. limits.is_throttled x t) (sym counted) ∙ tree_used_up v t up) h.within) (range_of n e m None w.cpus w h)));
+      (range_same (e + 1) m (set w.cpus c None) v t _ refl refl (range_used e m w.cpus (set w.cpus c None) w t there used (within_used_up w.tree w.cpus c t at (ap (λ x. limits.is_throttled x t) (sym counted) ∙ tree_used_up v t up) h.within) (range_of n (e + 1) m None w.cpus w h)));
 }
   where
     v : WorldState
-    v = used_ms (after_tick w t) t
+    v = used_ms w t
 
     there : t < length w.tasks
     there = omega (arith, running_is_there n w c t l at h.sound, h.sound.tasks)
 
     counted : v.tree ≡ with_use w.tree t
-    counted = ap (λ (x : WorldState). x.tree) (used_is (after_tick w t) t (ran_there w t there))
+    counted = ap (λ (x : WorldState). x.tree) (used_is w t there)
 
     v-there : t < length v.tasks
-    v-there = subst (λ (x : WorldState). t < length x.tasks) (sym (used_is (after_tick w t) t (ran_there w t there))) (ran_there w t there)
+    v-there = subst (λ (x : WorldState). t < length x.tasks) (sym (used_is w t there)) there
 
     sound : IsSound None w.cpus n v
-    sound = sound_used_ms None w.cpus n (after_tick w t) t (sound_ticked w.cpus n w t h.sound)
+    sound = sound_used_ms None w.cpus n w t h.sound
+
+-- a task has run for a millisecond, and then its groups have used it
+pub fine_ticked : (n e m : ℕ) (w : WorldState) (c t : ℕ) → c < length w.cpus → get_or w.cpus c None ≡ Some t → IsFineNow n e m w → IsKeptByTick n (IsFine n (e + 1)) (fine_events n (e + 1)) m w c t
+fine_ticked n e m w c t l at h = record {
+  ran = fine_of n (e + 1) m None w.cpus (after_tick w t) (sound_ticked w.cpus n w t h.sound) (range_task (e + 1) m w.cpus w t (ran_a_tick (task_at w t)) (omega (arith, r.1 t)) refl (omega (arith, r.0), (λ u. omega (arith, r.1 u)), r.2, r.3, r.4, (λ g. omega (arith, r.5 g)), r.6));
+  uses = λ v same tree x.
+      fine_used n e m v c t (subst (λ (xs : List (Option ℕ)). c < length xs) (sym same) l) (ap (λ (xs : List (Option ℕ)). get_or xs c None) same ∙ at) (λ g. omega (arith, r.5 g, ap (λ y. usage_of y g) tree))
+      (subst (λ xs. IsFine n (e + 1) m None xs v) (sym same) x);
+}
+  where
+    r : IsRange e m w.cpus w
+    r = range_of n e m None w.cpus w h
 
 -- it stays fine as the clock grows and periods begin, with one event more
 pub fine_later : (n e m : ℕ) (w : WorldState) → IsFineNow n e m w → IsFineNow n (e + 1) m (begun_periods (later w))

@@ -6,7 +6,7 @@ use Rattle.scx_dsq.specs.Queues.{front_of}
 use Rattle.scx_dsq.specs.declared.entries.Rank.{Rank}
 use Rattle.scx_dsq.specs.declared.entries.Rank.TheVariants.{Fifo, Front, Vtime}
 use Rattle.scx_isa_semantics.specs.declared.host_tables.Field.{Field}
-use Rattle.scx_isa_semantics.specs.declared.host_tables.Field.TheVariants.{Pid, Weight, Slice, DsqVtime, PrevCpu, Group, RunNs}
+use Rattle.scx_isa_semantics.specs.declared.host_tables.Field.TheVariants.{Pid, Weight, Slice, DsqVtime, PrevCpu, Group, RunNs, Cpus}
 use Rattle.scx_isa_semantics.specs.declared.host_tables.Helper.{Helper}
 use Rattle.scx_isa_semantics.specs.Effects.{Query, Call, Load, Store}
 use Rattle.scx_vm.specs.Arguments.{argument_of}
@@ -17,8 +17,8 @@ use Rattle.scx_sched_tasks.specs.Tasks.{no_task}
 use Rattle.scx_weights.specs.Limits.{usage_of}
 use Rattle.scx_sched_world.specs.declared.call.Insert.{Insert}
 use Rattle.scx_sched_world.specs.declared.faults.Fault.{Fault}
-use Rattle.scx_sched_world.specs.World.{WorldState, is_by_linux, with_task, task_at, waits}
-use Rattle.scx_sched_world.specs.Tasks.{with_home, with_slice, rank_by, after_local, after_take, given_slice, given_vtime, task_after_insert, after_leave, after_enter, for_cpu, brought, fill_front, with_new_slice}
+use Rattle.scx_sched_world.specs.World.{WorldState, with_task, task_at, waits}
+use Rattle.scx_sched_world.specs.Tasks.{with_home, with_slice, after_take, given_slice, given_vtime, task_after_insert, after_leave, after_enter, for_cpu, brought, fill_front, with_new_slice}
 use Rattle.scx_sched_world.specs.Helpers.{is_dispatch, with_insert, after_release, insert_or_fault, front_moved_to_local, helper_after, stored_in, world_functions}
 use Rattle.scx_sched_machine.proofs.Choices.{keeps_if}
 use Rattle.scx_sched_machine.proofs.HelperCalls.{by_helper}
@@ -27,7 +27,7 @@ use Rattle.scx_sched_world.specs.Ejecting.{put_builtin, used_vtime, after_charge
 use Rattle.scx_sched.specs.Ranges.{IsFresh, IsFine}
 use Rattle.scx_sched.specs.Kept.{IsKeptBySteps}
 use Rattle.scx_sched.specs.Usages.{AreWithin}
-use Rattle.scx_sched.proofs.Marks.{KeepsMarks, Anywhere, kept_kicked_so, kept_claim, kept_local, kept_entered}
+use Rattle.scx_sched.proofs.Marks.{KeepsMarks, Anywhere, kept_cycling, kept_kicked_so, kept_claim, kept_local, kept_entered}
 use Rattle.scx_sched.proofs.Bounded.{within_begun, within_ended}
 use Rattle.scx_sched.proofs.Parking.{sound_put_parked, sound_taken}
 use Rattle.scx_sched.proofs.Sound.{sound_query, sound_begun, sound_quiet, sound_cycling, sound_entered, sound_filled, sound_stopped, sound_started, sound_ran, sound_marks, sound_sets, sound_wants, sound_kept, sound_asleep, sound_put_out, sound_evict, sound_cut, sound_put_builtin, sound_overtaken, sound_charged}
@@ -54,6 +54,7 @@ stored_run x DsqVtime k = refl
 stored_run x PrevCpu k = refl
 stored_run x Group k = refl
 stored_run x RunNs k = refl
+stored_run x Cpus k = refl
 
 -- an insert leaves it how long the task has run
 pub given_run : (x : Task) (i : Insert) → (task_after_insert x i).run_ns ≡ x.run_ns
@@ -125,6 +126,7 @@ module _ (e m : ℕ) (on : List (Option ℕ)) where
   stored_time x PrevCpu k = refl
   stored_time x Group k = refl
   stored_time x RunNs k = refl
+  stored_time x Cpus k = refl
 
   given_time : (x : Task) (i : Insert) → (task_after_insert x i).builtin ≡ x.builtin
   given_time x i = vtime i.rank ∙ keeps_if (λ (y : Task). y.builtin ≡ x.builtin) (i.slice == 0) _ _ (keeps_if (λ (y : Task). y.builtin ≡ x.builtin) (i.refills && (x.slice == 0)) _ x refl refl) refl
@@ -157,6 +159,7 @@ module _ (e m : ℕ) (on : List (Option ℕ)) where
   range_helper w f a r = by_helper (IsRange e m on) w (record {
     same = r;
     faulty = λ f other. r;
+    ended = λ n. r;
     created = λ q. r;
     inserted = λ t i flags back none. range_inserted w None t i r;
     late = λ linux here. r;
@@ -202,7 +205,7 @@ fine_steps n e = record {
   query = λ m hand on w q h. fine_of n e m hand on _ (sound_query hand on n w q h.sound) (range_query e m on w q (range_of n e m hand on w h));
   begun = λ m hand on w b t c l h. fine_of n e m hand on _ (sound_begun hand on n w b t c l h.sound) (range_of n e m hand on w h);
   quiet = λ m hand on w h. fine_of n e m hand on _ (sound_quiet hand on n w h.sound) (range_of n e m hand on w h);
-  cycling = λ m hand on w o h. fine_of n e m hand on _ (sound_cycling hand on n w o h.sound) (range_of n e m hand on w h);
+  cycling = λ m hand on w o h. fine_of n e m hand on _ (sound_cycling hand on n w o h.sound) (kept_cycling (IsRange e m on) (λ v p a x r. r) w o (range_of n e m hand on w h));
   sets = λ m hand on w a b c d o h. fine_of n e m hand on _ (sound_sets hand on n w a b c d o h.sound) (range_of n e m hand on w h);
   homed = λ m hand on w t c l h. fine_of n e m hand on _ ((sound_marks hand on n).homed w t c l h.sound) (range_same e m on w t _ refl refl (range_of n e m hand on w h));
   sliced = λ m hand on w t k h. fine_of n e m hand on _ ((sound_marks hand on n).sliced w t k h.sound) (range_same e m on w t _ refl refl (range_of n e m hand on w h));

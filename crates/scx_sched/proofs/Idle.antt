@@ -1,5 +1,5 @@
 -- After a tick that leaves a processor idle, no task is left behind for it.
-use Rattle.std.proofs.Common.{◌≡◌, ℕ, zero, suc, ◌+◌, ◌<◌, ◌≤◌, Bool, true, false, ◌==◌, nat_lt, if◌then◌else◌, List, length, set, get_or, Option, Some, None, is_none, is_some, refl, sym, ap, ◌∙◌, subst, arith, ◌&&◌, not}
+use Rattle.std.proofs.Common.{◌≡◌, ℕ, zero, suc, ◌+◌, ◌<◌, ◌≤◌, Bool, true, false, ◌==◌, nat_lt, if◌then◌else◌, List, length, set, get_or, Option, Some, None, is_none, is_some, refl, sym, ap, ◌∙◌, subst, arith, ◌&&◌}
 use Rattle.std.proofs.lemmas.Bool.{eq-eqb, ne_eqb}
 use Rattle.std.proofs.lemmas.Bool.Decides.{nat_tests}
 use Rattle.std.proofs.lemmas.List.{length-set, get_or-set_same}
@@ -14,17 +14,18 @@ use Rattle.scx_weights.specs.Limits as limits
 use Rattle.scx_sched_world.specs.declared.eject.Eject.{Eject}
 use Rattle.scx_sched_world.specs.Ids.{global, builtin_queue, parked_queue, local_on}
 use Rattle.scx_sched_world.specs.World as world
-use Rattle.scx_sched_world.specs.World.{WorldState, task_at, is_throttled, running}
+use Rattle.scx_sched_world.specs.World.{WorldState, with_switch, task_at, is_throttled, running}
 use Rattle.scx_sched_world.specs.Tasks.{after_local, after_take, local_len, brought, after_stop, started_at, after_tick, used_ms}
 use Rattle.scx_sched_machine.specs.Steps.{State, Stepped, with_world, stays, one_after_other, is_ejected, is_by_linux, kicked}
-use Rattle.scx_sched_machine.specs.Callbacks.{call_back, cpu_and_task}
+use Rattle.scx_sched_machine.specs.Policy.{program_of}
+use Rattle.scx_sched_machine.specs.Callbacks.{call_back, one_task, cpu_and_task}
 use Rattle.scx_sched_machine.specs.Filling.{fill}
 use Rattle.scx_sched_machine.specs.Parking.{park, park_front, throttled_front, park_fronts, clear, in_reach, supply}
 use Rattle.scx_sched_machine.specs.Cycle.{has_local, keeps_slice, supply_unless_kept, told_of, after_dispatch, asks_again, tries, after_stopping, switched, leave, started_if, start as run_front, rest, swap, swap_or_rest, builtin_dispatch, builtin_fill, builtin_ask, builtin_cycle, start_or_cycle, picked, refilled, start_picked_or_cycle, give_up, pick, pick_or_rest, keep_or_pick, conclude, ask, seek, look, cycling, cycle}
 use Rattle.scx_sched_machine.specs.declared.events.Event.{Event}
 use Rattle.scx_sched_machine.specs.declared.events.Event.TheVariants.{Wake, Sleep, Tick, Clock, SetWeight}
 use Rattle.scx_sched_machine.specs.declared.events.Refused.TheVariants.{UnknownCpu}
-use Rattle.scx_sched_machine.specs.Events.{throttle, ends_slices, expire, count_down, tick_idle, tick_of, tick, own_step, event_step}
+use Rattle.scx_sched_machine.specs.Events.{is_tick_time, leaves_cpu, throttle, ends_slices, expire, use_up, hears_tick, tick_heard, count_down, tick_idle, tick_of, tick, event_step}
 use Rattle.scx_sched_machine.specs.Rounds.{most_rounds, rounds, with_rounds}
 use Rattle.scx_sched_machine.proofs.Choices.{keeps_if}
 use Rattle.scx_sched.specs.Ranges.{IsFine}
@@ -37,11 +38,12 @@ use Rattle.scx_sched.proofs.Fronts.{front_same}
 use Rattle.scx_sched.proofs.Clear.{IsClear, MayStart, tree_used_up}
 use Rattle.scx_sched.proofs.Ready.{tree_stopping}
 use Rattle.scx_sched.proofs.Supplying.{clear_from, empty_no_front, throttled_is, IsLeft, left_park_fronts, reach_fill, reach_park_front, supply_clears, builtin_clears}
-use Rattle.scx_sched.proofs.Marks.{KeepsMarks, Anywhere, kept_local}
+use Rattle.scx_sched.proofs.Marks.{KeepsMarks, Anywhere, kept_cycling, kept_local}
+use Rattle.scx_sched.proofs.Unchanged.{ruled_switch, ruled_cycling, same_linux}
 use Rattle.scx_sched.proofs.Skeleton.{IsKnown, once_for, keeps_call_back, keeps_stopping, keeps_running_on, keeps_switched}
 use Rattle.scx_sched.proofs.Cycles.{not_kept, MayStartUnlessKept, some_local, no_local, keeps_park, keeps_park_front, keeps_park_fronts, keeps_fill, keeps_supply, keeps_dispatched, keeps_tries, tries_clear, clear_now, keeps_leave, ready_left, keeps_builtin_fill}
 use Rattle.scx_sched.proofs.Fine.{fine_steps}
-use Rattle.scx_sched.proofs.Events.{cpus_used, IsKeptByTick, fine_inside, fine_events, known_running, fine_ticked}
+use Rattle.scx_sched.proofs.Events.{cpus_used, IsKeptByUse, IsKeptByTick, fine_inside, fine_events, known_running, fine_ticked, keeps_stop_switch}
 use Rattle.scx_sched.proofs.Firsts.{no_front_is_empty}
 use Rattle.scx_sched.proofs.Lengths.{len_set}
 use Rattle.scx_sched.proofs.Leaving.{LeavesPlainly, out_is_plain, IsOut, local_leave}
@@ -352,29 +354,38 @@ module _ (n e : ℕ) (c : ℕ) where
   cycle_leaves : (m : ℕ) (on : List (Option ℕ)) (s : State) (p : Option ℕ) (ran : Bool) → is_by_linux s ≡ false → c < length on → IsKnown n p → get_or on c None ≡ p → IsFine n e m None on s.world → LeavesIfIdle c (cycle s c p ran).state.world
   unfolding cycle
   cycle_leaves m on s p ran plain l known runs h idle =
-      let x = look_leaves m on (cycling s (Some c)) p ran plain l known runs ((fine_steps n e).cycling m None on s.world (Some c) h) idle in
-      record { local = x.local; global = x.global; builtin = x.builtin }
+      let v = cycling s (Some c) in
+      let still = same_linux s.world v.world (ruled_cycling s.world (Some c)).3 (ruled_cycling s.world (Some c)).1 ∙ plain in
+      let x = look_leaves m on v p ran still l known runs ((fine_steps n e).cycling m None on s.world (Some c) h) in
+      kept_cycling (LeavesIfIdle c) (λ w o a y g free. let z = g free in record { local = z.local; global = z.global; builtin = z.builtin }) (look v c p ran).state.world None x idle
+
+-- by plain rules the policy hears of no tick
+heard_plain : (s : State) (c t : ℕ) → is_by_linux s ≡ false → tick_heard s c t ≡ stays s
+unfolding tick_heard hears_tick
+heard_plain s c t plain = ap (λ b. if (b && is_some (program_of s.policy callback.Tick)) && is_tick_time s then call_back s callback.Tick (one_task t) t c else stays s) plain
 
 -- the law, of plain rules
 pub tick_leaves : (n e : ℕ) (s : State) (c : ℕ) → is_by_linux s ≡ false → c < length s.world.cpus → IsFine n e e None s.world.cpus s.world → running (tick s c).state.world c ≡ None → LeavesNothing (tick s c).state.world c
-unfolding tick tick_idle count_down throttle expire
+unfolding tick tick_idle count_down use_up throttle leaves_cpu expire
 tick_leaves n e s c plain l h idle = go (running s.world c) refl (ap (λ o. is_none o) idle)
   where
     throttled_leaves : (v : State) (t : ℕ) → is_by_linux v ≡ false → t < n → c < length v.world.cpus → limits.is_throttled v.world.tree t ≡ true → IsFine n (e + 1) e (Some t) (set v.world.cpus c None) (after_stop v.world c t) → LeavesIfIdle c (throttle v c t).state.world
     throttled_leaves v t still within m up x =
         let on = set v.world.cpus c None in
         let l' : c < length on = rw (length-set v.world.cpus c None) m in
-        let off = with_world v (after_stop v.world c t) in
+        let off = with_world v (after_stop (with_switch v.world c) c t) in
+        let there = keeps_stop_switch n (IsFine n (e + 1)) (fine_events n (e + 1)) e on v.world c t x in
+        let begun = ruled_switch v.world c in
         let y = after_stopping off c t 1 in
         let r = y.state in
-        let put_by = plain_on r (park r t) (honest_park r t) (plain_on off y (honest_stopping off c t 1) still) in
-        let tree = tree_stopping n (IsFine n (e + 1)) (fine_steps n (e + 1)) (fine_inside n (e + 1)).sound c e (Some t) on off c t 1 l' x in
+        let put_by = plain_on r (park r t) (honest_park r t) (plain_on off y (honest_stopping off c t 1) (same_linux v.world off.world begun.3 begun.1 ∙ still)) in
+        let tree = tree_stopping n (IsFine n (e + 1)) (fine_steps n (e + 1)) (fine_inside n (e + 1)).sound c e (Some t) on off c t 1 l' there ∙ begun.2 in
         cycle_leaves n (e + 1) c (e + 1) on (park r t).state None true put_by l' tt (get_or-set_same v.world.cpus c None None m)
-        (keeps_park n (IsFine n (e + 1)) (fine_inside n (e + 1)) (e + 1) on r t within (ap (λ k. limits.is_throttled k t) tree ∙ up) (keeps_stopping n (IsFine n (e + 1)) (fine_steps n (e + 1)) e (Some t) on off c t 1 l' x))
+        (keeps_park n (IsFine n (e + 1)) (fine_inside n (e + 1)) (e + 1) on r t within (ap (λ k. limits.is_throttled k t) tree ∙ up) (keeps_stopping n (IsFine n (e + 1)) (fine_steps n (e + 1)) e (Some t) on off c t 1 l' there))
 
     go : (o : Option ℕ) → running s.world c ≡ o → LeavesIfIdle c (tick_of o s c).state.world
     go None at = subst (λ b. LeavesIfIdle c (if b then stays s else cycle s c None false).state.world) (sym plain) (cycle_leaves n e c e s.world.cpus s None false plain l tt at h)
-    go (Some t) at = by (is_throttled v.world t) refl
+    go (Some t) at = subst (λ (r : Stepped). LeavesIfIdle c (use_up r.state c t).state.world) (sym (heard_plain (with_world s (after_tick s.world t)) c t plain)) (by (is_throttled v.world t) refl)
       where
         v : State
         v = with_world s (used_ms (after_tick s.world t) t)
@@ -382,8 +393,11 @@ tick_leaves n e s c plain l h idle = go (running s.world c) refl (ap (λ o. is_n
         same : v.world.cpus ≡ s.world.cpus
         same = cpus_used (after_tick s.world t) t
 
-        x : IsKeptByTick n (IsFine n (e + 1)) (fine_events n (e + 1)) e s.world c t
-        x = fine_ticked n e e s.world c t l at h
+        ticks : IsKeptByTick n (IsFine n (e + 1)) (fine_events n (e + 1)) e s.world c t
+        ticks = fine_ticked n e e s.world c t l at h
+
+        x : IsKeptByUse n (IsFine n (e + 1)) (fine_events n (e + 1)) e (after_tick s.world t) c t
+        x = ticks.uses (after_tick s.world t) refl refl ticks.ran
 
         known : t < n
         known = known_running n e e s.world c t l at h

@@ -21,15 +21,16 @@ use Rattle.scx_sched_tasks.specs.declared.task.Task.{Task}
 use Rattle.scx_sched_tasks.specs.Tasks.{no_task}
 use Rattle.scx_sched_tasks.specs.Waits.{time_since}
 use Rattle.scx_sched_world.specs.declared.call.Insert.{Insert}
+use Rattle.scx_sched_world.specs.declared.eject.Cause.{Cause}
 use Rattle.scx_sched_world.specs.declared.eject.Eject.{Eject}
 use Rattle.scx_sched_world.specs.declared.faults.Fault.{Fault}
 use Rattle.scx_sched_world.specs.World.{WorldState, with_kick, with_task, task_at, running, waits, wait, at_callback}
-use Rattle.scx_sched_world.specs.Tasks.{with_home, with_slice, after_local, after_take, with_since, let_go, task_after_insert, after_leave, after_enter, for_cpu}
+use Rattle.scx_sched_world.specs.Tasks.{with_home, with_slice, after_take, with_since, let_go, task_after_insert, after_leave, after_enter, for_cpu}
 use Rattle.scx_sched_world.specs.Helpers.{is_dispatch, with_insert, after_release, insert_or_fault, front_moved_to_local, helper_after, stored_in, world_functions}
 use Rattle.scx_sched_world.specs.Ejecting.{put_out, put_builtin, after_evictions, after_cut, cut_task}
 use Rattle.scx_sched_machine.specs.Steps.{State, is_ejected}
 use Rattle.scx_sched_machine.specs.Ejecting.{moves_over, eject, ejected_for}
-use Rattle.scx_sched_machine.specs.Callbacks.{call_ending, acting, after_callback, fault_of, call_back, task_and_number}
+use Rattle.scx_sched_machine.specs.Callbacks.{call_ending, acting, after_callback, cause_of, call_back, task_and_number}
 use Rattle.scx_sched_machine.specs.Put.{enters, enqueue_choice, enters_builtin, comes_in, put}
 use Rattle.scx_sched_machine.proofs.Choices.{keeps_if}
 use Rattle.scx_sched_machine.proofs.HelperCalls.{by_helper}
@@ -103,6 +104,7 @@ module _ (w : WorldState) where
   long_helper v f a h = by_helper (AreAsLong w) v (record {
     same = h;
     faulty = λ f other. h;
+    ended = λ n. h;
     created = λ q. h;
     inserted = λ t i flags back none. long_inserted v None t i h;
     late = λ linux here. h;
@@ -141,9 +143,9 @@ module _ (w : WorldState) where
       let v = after_evictions (length s.world.tasks) (put_out s.world x) in
       long_cut (length v.cpus) v (long_evicted (length s.world.tasks) (put_out s.world x) h)
 
-  long_ejected_for : (o : Option Fault) (s : State) → AreAsLong w s.world → AreAsLong w (ejected_for o s).state.world
+  long_ejected_for : (o : Option Cause) (s : State) → AreAsLong w s.world → AreAsLong w (ejected_for o s).state.world
   long_ejected_for None s h = h
-  long_ejected_for (Some f) s h = long_eject s _ h
+  long_ejected_for (Some x) s h = long_eject s _ h
 
   -- ---- a task that is put
 
@@ -157,7 +159,7 @@ module _ (w : WorldState) where
   unfolding call_back
   long_call_back s b a t c h =
       let e = call_ending (acting s b) b a s.maps (at_callback s.world b t c) in
-      long_ejected_for (fault_of b e) (after_callback s.policy e) (long_called (acting s b) b a s.maps (at_callback s.world b t c) h)
+      long_ejected_for (cause_of b e) (after_callback s.policy e) (long_called (acting s b) b a s.maps (at_callback s.world b t c) h)
 
   long_comes_in : (s : State) (t c : ℕ) → AreAsLong w s.world → AreAsLong w (comes_in s t c).state.world
   unfolding comes_in enters enters_builtin

@@ -1,6 +1,6 @@
 -- Once the policy is ejected no callback of it runs, and a task that leaves its processor takes nobody out
 -- of a local queue.
-use Rattle.std.proofs.Common.{◌≡◌, ℕ, ◌<◌, Bool, true, false, nat_lt, ◌==◌, ◌&&◌, not, if◌then◌else◌, length, Option, Some, None, is_some, is_none, refl, sym, ap, subst, arith}
+use Rattle.std.proofs.Common.{◌≡◌, ℕ, ◌<◌, Bool, true, false, nat_lt, ◌&&◌, if◌then◌else◌, length, Option, Some, None, is_some, is_none, refl, sym, ap, subst, arith}
 use Rattle.scx_dsq.specs.declared.entries.Rank.TheVariants.{Vtime}
 use Rattle.scx_isa_semantics.specs.declared.callbacks.Callback.{Callback}
 use Rattle.scx_isa_semantics.specs.declared.callbacks.Callback.TheVariants as callback
@@ -8,13 +8,13 @@ use Rattle.scx_vm.specs.Programs.{VerifiedProgram}
 use Rattle.scx_vm.specs.declared.arguments.Args.{Args}
 use Rattle.scx_sched_world.specs.declared.eject.Eject.{Eject}
 use Rattle.scx_sched_world.specs.Ids.{builtin_queue, local_on}
-use Rattle.scx_sched_world.specs.World.{WorldState, are_linux, task_at, at_callback, quiet}
+use Rattle.scx_sched_world.specs.World.{WorldState, are_linux, at_callback, quiet}
 use Rattle.scx_sched_world.specs.Tasks.{local_len, to_front, after_stop}
 use Rattle.scx_sched_world.specs.Ejecting.{builtin_vtime, put_builtin, after_charge}
 use Rattle.scx_sched_machine.specs.Policy.{program_of}
 use Rattle.scx_sched_machine.specs.Steps.{State, Stepped, with_world, stays, one_after_other, is_ejected, is_by_linux}
 use Rattle.scx_sched_machine.specs.Ejecting.{ejected_for}
-use Rattle.scx_sched_machine.specs.Callbacks.{call_ending, calls_of, after_callback, fault_of, unless_ejected, acting, call_back, task_and_number}
+use Rattle.scx_sched_machine.specs.Callbacks.{call_ending, calls_of, after_callback, cause_of, unless_ejected, acting, call_back, task_and_number}
 use Rattle.scx_sched_machine.specs.Put.{enters, enqueue_choice, enters_builtin, comes_in, put}
 use Rattle.scx_sched_machine.specs.Cycle.{keeps_slice, stopping_called, after_stopping, put_back, leave}
 use Rattle.scx_sched_machine.proofs.Choices.{keeps_if}
@@ -27,7 +27,7 @@ abbrev pub run_back : Option VerifiedProgram → State → Callback → Args →
 run_back p s b a t c =
     let w = at_callback s.world b t c in
     let e = call_ending p b a s.maps w in
-    one_after_other (record { state = after_callback s.policy e; notes = e.outside.notes; calls = calls_of p b a s.maps w }) (ejected_for (fault_of b e) (after_callback s.policy e))
+    one_after_other (record { state = after_callback s.policy e; notes = e.outside.notes; calls = calls_of p b a s.maps w }) (ejected_for (cause_of b e) (after_callback s.policy e))
 
 -- an ejected policy has no programs
 pub acting_out : (s : State) (b : Callback) → is_ejected s ≡ true → acting s b ≡ None

@@ -6,6 +6,7 @@ pub mod Parking
 pub mod Bounded
 pub mod Parked
 pub mod Unchanged
+pub mod Remembering
 pub mod Begins
 pub mod Firsts
 pub mod Fronts
@@ -32,6 +33,8 @@ pub mod Watching
 pub mod Tallies
 pub mod Deciding
 pub mod Causing
+pub mod Failing
+pub mod Exiting
 pub mod Following
 pub mod Unstuck
 pub mod Valid

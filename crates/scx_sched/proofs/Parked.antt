@@ -20,13 +20,13 @@ use Rattle.scx_sched_world.specs.declared.call.Insert.{Insert}
 use Rattle.scx_sched_world.specs.declared.faults.Fault.{Fault}
 use Rattle.scx_sched_world.specs.Ids.{held_queue, builtin_queue, parked_queue, local_on}
 use Rattle.scx_sched_world.specs.World.{WorldState, with_tree, waits_in, waits}
-use Rattle.scx_sched_world.specs.Tasks.{rank_by, after_local, after_take, after_leave, after_enter, for_cpu, brought, put_parked}
+use Rattle.scx_sched_world.specs.Tasks.{rank_by, after_take, after_leave, after_enter, for_cpu, brought, put_parked}
 use Rattle.scx_sched_world.specs.Helpers.{is_dispatch, is_held, with_insert, after_release, insert_or_fault, front_moved_to_local, helper_after, world_functions}
 use Rattle.scx_sched_world.specs.Ejecting.{builtin_vtime, put_builtin, evict}
 use Rattle.scx_sched_machine.proofs.Choices.{keeps_if}
 use Rattle.scx_sched_machine.proofs.HelperCalls.{by_helper}
 use Rattle.scx_sched.specs.Once.{IsSound, GoesSomewhere}
-use Rattle.scx_sched.specs.Kept.{IsWanted, ForAny, Nowhere, Inserted, InFront}
+use Rattle.scx_sched.specs.Kept.{IsWanted, ForAny, Nowhere, Inserted, InFront, Before}
 use Rattle.scx_sched.specs.Parked.{AreThrottled}
 use Rattle.scx_sched_world.proofs.Fronts.{front_in}
 use Rattle.scx_sched.proofs.Marks.{KeepsMarks, Anywhere, kept_kicked_so, kept_claim, kept_local, kept_entered}
@@ -136,6 +136,7 @@ wanted_apart on n w i (ForAny e) g = rw e refl
 wanted_apart on n w i (Nowhere e) g = rw e refl
 wanted_apart on n w i (Inserted c said l x e) g = rw e (said_apart on n w c said l x g)
 wanted_apart on n w i (InFront c l linux e) g = rw e (local_apart c)
+wanted_apart on n w i (Before c said l linux none goes e) g = rw e (goes c l).1
 
 -- as the processor of a task, its slice and sets of processors change, the same tasks stay parked
 parked_marks : (w : WorldState) → KeepsMarks Anywhere (StayParked w)
@@ -196,6 +197,7 @@ as_helper : (w : WorldState) (f : Helper) (a : List Arg) → StayParked w (helpe
 as_helper w f a = by_helper (StayParked w) w (record {
   same = stay_here w;
   faulty = λ f other. stay_here w;
+  ended = λ n. stay_here w;
   created = as_created w.queues;
   inserted = λ t i flags back none. as_inserted w None t i (λ e. is_fit w t i flags none);
   late = λ linux here. stay_here w;

@@ -14,18 +14,17 @@ use Rattle.scx_vm.specs.Arguments.{program_arguments}
 use Rattle.scx_vm.specs.declared.arguments.Args.{Args}
 use Rattle.scx_vm.specs.Host.{answer_to, after_query}
 use Rattle.scx_sched_world.specs.declared.call.Call.{Call}
+use Rattle.scx_sched_world.specs.declared.eject.Cause.{Cause}
 use Rattle.scx_sched_world.specs.declared.eject.Eject.{Eject}
-use Rattle.scx_sched_world.specs.declared.eject.Eject.TheVariants as cause
-use Rattle.scx_sched_world.specs.declared.faults.Fault.{Fault}
 use Rattle.scx_sched_world.specs.World.{WorldState, are_linux, task_at, waits, running, at_callback, quiet}
 use Rattle.scx_sched_world.specs.Tasks.{to_front, after_leave, after_stop}
-use Rattle.scx_sched_world.specs.Ejecting.{put_out, put_builtin, after_evictions, after_cut, cut_task, after_charge}
+use Rattle.scx_sched_world.specs.Ejecting.{eject_of, put_out, put_builtin, after_evictions, after_cut, cut_task, after_charge}
 use Rattle.scx_sched_world.specs.Helpers.{is_dispatch, world_functions}
-use Rattle.scx_sched_machine.specs.Steps.{State, Stepped, with_world, stays, one_after_other, is_ejected, is_by_linux}
+use Rattle.scx_sched_machine.specs.Steps.{State, Stepped, with_world, stays, is_ejected, is_by_linux}
 use Rattle.scx_sched_machine.specs.Ejecting.{moves_over, eject, ejected_for}
-use Rattle.scx_sched_machine.specs.Callbacks.{call_ending, acting, after_callback, fault_of, call_back, task_and_number}
+use Rattle.scx_sched_machine.specs.Callbacks.{call_ending, acting, after_callback, cause_of, call_back, task_and_number}
 use Rattle.scx_sched_machine.specs.Put.{enters, enqueue_choice, enters_builtin, comes_in, put}
-use Rattle.scx_sched_machine.specs.Cycle.{keeps_slice, stopping_called, after_stopping, put_back, leave}
+use Rattle.scx_sched_machine.specs.Cycle.{stopping_called, after_stopping, put_back, leave}
 use Rattle.scx_sched_machine.proofs.Choices.{keeps_if}
 use Rattle.scx_sched.specs.Kept.{IsKeptBySteps}
 use Rattle.scx_sched.specs.Once.{IsSound}
@@ -57,8 +56,9 @@ linux_in_force s e = go (are_linux s.world.rules) s.world.ejected refl e
     go true (Some z) x y = absurd (cc)
     go false (Some z) x y = absurd (cc)
 
-in_force : (s : State) → is_ejected s ≡ false → s.world.ejected ≡ None
-in_force s e = go s.world.ejected e
+-- a policy that isn't ejected is in force
+pub not_out : (s : State) → is_ejected s ≡ false → s.world.ejected ≡ None
+not_out s e = go s.world.ejected e
   where
     go : (o : Option Eject) → is_some o ≡ false → o ≡ None
     go None x = refl
@@ -82,11 +82,11 @@ call_cut zero w = refl
 call_cut (suc j) w = call_cut_task (running (after_cut j w) j) (after_cut j w) ∙ call_cut j w
 
 -- an ejection leaves it
-callback_ejected : (o : Option Fault) (s : State) → (ejected_for o s).state.world.call.callback ≡ s.world.call.callback
+callback_ejected : (o : Option Cause) (s : State) → (ejected_for o s).state.world.call.callback ≡ s.world.call.callback
 unfolding eject moves_over
 callback_ejected None s = refl
-callback_ejected (Some f) s =
-    let w = put_out s.world (cause.Fault f s.world.clock) in
+callback_ejected (Some x) s =
+    let w = put_out s.world (eject_of x s.world.clock) in
     let v = after_evictions (length w.tasks) w in
     ap (λ (c : Call). c.callback) (call_cut (length v.cpus) v ∙ call_evicted (length w.tasks) w)
 
@@ -95,18 +95,18 @@ pub calm_call_back : (s : State) (b : Callback) (a : Args) (t c : ℕ) → is_di
 unfolding call_back
 calm_call_back s b a t c calm =
     let e = call_ending (acting s b) b a s.maps (at_callback s.world b t c) in
-    ap is_dispatch (callback_ejected (fault_of b e) (after_callback s.policy e)) ∙ (calm_called (acting s b) b a s.maps s.world t c calm).callback
+    ap is_dispatch (callback_ejected (cause_of b e) (after_callback s.policy e)) ∙ (calm_called (acting s b) b a s.maps s.world t c calm).callback
 
 module _ (n : ℕ) (I : ℕ → Option ℕ → List (Option ℕ) → WorldState → Type 0) (k : IsKeptBySteps n I) (sound : (m : ℕ) (hand : Option ℕ) (on : List (Option ℕ)) (w : WorldState) → I m hand on w → IsSound hand on n w) (c : ℕ) where
-  ready_ejected_for : (m : ℕ) (hand : Option ℕ) (on : List (Option ℕ)) (o : Option Fault) (s : State) → I m hand on s.world → IsReady c s.world → IsReady c (ejected_for o s).state.world
+  ready_ejected_for : (m : ℕ) (hand : Option ℕ) (on : List (Option ℕ)) (o : Option Cause) (s : State) → I m hand on s.world → IsReady c s.world → IsReady c (ejected_for o s).state.world
   ready_ejected_for m hand on None s h r = r
-  ready_ejected_for m hand on (Some f) s h r = ready_over c s.world (eject s _).state.world (goes_over n hand on s _ (sound m hand on s.world h)) (ap (λ o. is_some o) (eject_sets s _).1)
+  ready_ejected_for m hand on (Some x) s h r = ready_over c s.world (eject s _).state.world (goes_over n hand on s _ (sound m hand on s.world h)) (ap (λ o. is_some o) (eject_sets s _).1)
 
   pub ready_call_back : (m : ℕ) (hand : Option ℕ) (on : List (Option ℕ)) (s : State) (b : Callback) (a : Args) (t d : ℕ) → is_dispatch b ≡ false → d < length on → I m hand on s.world → IsReady c s.world → IsReady c (call_back s b a t d).state.world
   unfolding call_back
   ready_call_back m hand on s b a t d calm l h r =
       let e = call_ending (acting s b) b a s.maps (at_callback s.world b t d) in
-      ready_ejected_for m hand on (fault_of b e) (after_callback s.policy e) (k.quiet m hand on e.outside (keeps_called n I k m hand on (acting s b) b a s.maps (at_callback s.world b t d) (k.begun m hand on s.world b t d l h)))
+      ready_ejected_for m hand on (cause_of b e) (after_callback s.policy e) (k.quiet m hand on e.outside (keeps_called n I k m hand on (acting s b) b a s.maps (at_callback s.world b t d) (k.begun m hand on s.world b t d l h)))
       (ready_calm c s.world (quiet e.outside) (calm_quiet s.world e.outside (calm_called (acting s b) b a s.maps s.world t d calm)) r)
 
   ready_stopping : (m : ℕ) (hand : Option ℕ) (on : List (Option ℕ)) (s : State) (d t x : ℕ) → d < length on → I m hand on s.world → IsReady c s.world → IsReady c (after_stopping s d t x).state.world
@@ -126,7 +126,7 @@ module _ (n : ℕ) (I : ℕ → Option ℕ → List (Option ℕ) → WorldState 
       go : (b : Bool) → is_ejected s ≡ b → IsReady c (if b then enters_builtin s t else enters s t (enqueue_choice s.policy.callbacks.enqueue d s.world.call.insert)).state.world
       go true out = ready_put_builtin c s.world t r
       go false force =
-          ready_entered c (Some t) on n s.world t (enqueue_choice s.policy.callbacks.enqueue d s.world.call.insert) (is_wanted (length on) s.world s.policy.callbacks.enqueue d s.world.call.insert l refl) plain (sound m (Some t) on s.world h) (in_force s force) r
+          ready_entered c (Some t) on n s.world t (enqueue_choice s.policy.callbacks.enqueue d s.world.call.insert) (is_wanted (length on) s.world s.policy.callbacks.enqueue d s.world.call.insert l refl) plain (sound m (Some t) on s.world h) (not_out s force) r
 
   ready_put : (m : ℕ) (on : List (Option ℕ)) (s : State) (t d flags : ℕ) → is_by_linux s ≡ false → d < length on → I m (Some t) on s.world → IsReady c s.world → IsReady c (put s t d flags).state.world
   unfolding put
@@ -151,15 +151,15 @@ module _ (n : ℕ) (I : ℕ → Option ℕ → List (Option ℕ) → WorldState 
   -- ---- a task that was picked
 
   module _ (t : ℕ) where
-    picked_ejected_for : (m : ℕ) (hand : Option ℕ) (on : List (Option ℕ)) (o : Option Fault) (s : State) → I m hand on s.world → IsPicked c t s.world → IsPicked c t (ejected_for o s).state.world
+    picked_ejected_for : (m : ℕ) (hand : Option ℕ) (on : List (Option ℕ)) (o : Option Cause) (s : State) → I m hand on s.world → IsPicked c t s.world → IsPicked c t (ejected_for o s).state.world
     picked_ejected_for m hand on None s h r = r
-    picked_ejected_for m hand on (Some f) s h r = picked_over c t s.world (eject s _).state.world (goes_over n hand on s _ (sound m hand on s.world h)) (ap (λ o. is_some o) (eject_sets s _).1)
+    picked_ejected_for m hand on (Some x) s h r = picked_over c t s.world (eject s _).state.world (goes_over n hand on s _ (sound m hand on s.world h)) (ap (λ o. is_some o) (eject_sets s _).1)
 
     picked_call_back : (m : ℕ) (hand : Option ℕ) (on : List (Option ℕ)) (s : State) (b : Callback) (a : Args) (u d : ℕ) → is_dispatch b ≡ false → d < length on → I m hand on s.world → IsPicked c t s.world → IsPicked c t (call_back s b a u d).state.world
     unfolding call_back
     picked_call_back m hand on s b a u d calm l h r =
         let e = call_ending (acting s b) b a s.maps (at_callback s.world b u d) in
-        picked_ejected_for m hand on (fault_of b e) (after_callback s.policy e) (k.quiet m hand on e.outside (keeps_called n I k m hand on (acting s b) b a s.maps (at_callback s.world b u d) (k.begun m hand on s.world b u d l h)))
+        picked_ejected_for m hand on (cause_of b e) (after_callback s.policy e) (k.quiet m hand on e.outside (keeps_called n I k m hand on (acting s b) b a s.maps (at_callback s.world b u d) (k.begun m hand on s.world b u d l h)))
         (picked_calm c t s.world (quiet e.outside) (calm_quiet s.world e.outside (calm_called (acting s b) b a s.maps s.world u d calm)) r)
 
     picked_stopping : (m : ℕ) (hand : Option ℕ) (on : List (Option ℕ)) (s : State) (d u x : ℕ) → d < length on → I m hand on s.world → IsPicked c t s.world → IsPicked c t (after_stopping s d u x).state.world
@@ -176,7 +176,7 @@ module _ (n : ℕ) (I : ℕ → Option ℕ → List (Option ℕ) → WorldState 
       where
         go : (b : Bool) → is_ejected s ≡ b → IsPicked c t (if b then enters_builtin s u else enters s u (enqueue_choice s.policy.callbacks.enqueue d s.world.call.insert)).state.world
         go true out = picked_put_builtin c t s.world u out r
-        go false force = picked_entered c t on n s.world u (enqueue_choice s.policy.callbacks.enqueue d s.world.call.insert) within (sound m (Some u) on s.world h) (in_force s force) r
+        go false force = picked_entered c t on n s.world u (enqueue_choice s.policy.callbacks.enqueue d s.world.call.insert) within (sound m (Some u) on s.world h) (not_out s force) r
 
     picked_put : (m : ℕ) (on : List (Option ℕ)) (s : State) (u d flags : ℕ) → u < n → d < length on → I m (Some u) on s.world → IsPicked c t s.world → IsPicked c t (put s u d flags).state.world
     unfolding put
@@ -210,16 +210,16 @@ module _ (n : ℕ) (I : ℕ → Option ℕ → List (Option ℕ) → WorldState 
 
   -- ---- the tree
 
-  tree_ejected_for : (m : ℕ) (hand : Option ℕ) (on : List (Option ℕ)) (o : Option Fault) (s : State) → I m hand on s.world → (ejected_for o s).state.world.tree ≡ s.world.tree
+  tree_ejected_for : (m : ℕ) (hand : Option ℕ) (on : List (Option ℕ)) (o : Option Cause) (s : State) → I m hand on s.world → (ejected_for o s).state.world.tree ≡ s.world.tree
   tree_ejected_for m hand on None s h = refl
-  tree_ejected_for m hand on (Some f) s h = (goes_over n hand on s _ (sound m hand on s.world h)).tree
+  tree_ejected_for m hand on (Some x) s h = (goes_over n hand on s _ (sound m hand on s.world h)).tree
 
   -- stays as a callback runs that isn't dispatch
   tree_call_back : (m : ℕ) (hand : Option ℕ) (on : List (Option ℕ)) (s : State) (b : Callback) (a : Args) (t d : ℕ) → is_dispatch b ≡ false → d < length on → I m hand on s.world → (call_back s b a t d).state.world.tree ≡ s.world.tree
   unfolding call_back
   tree_call_back m hand on s b a t d calm l h =
       let e = call_ending (acting s b) b a s.maps (at_callback s.world b t d) in
-      tree_ejected_for m hand on (fault_of b e) (after_callback s.policy e) (k.quiet m hand on e.outside (keeps_called n I k m hand on (acting s b) b a s.maps (at_callback s.world b t d) (k.begun m hand on s.world b t d l h)))
+      tree_ejected_for m hand on (cause_of b e) (after_callback s.policy e) (k.quiet m hand on e.outside (keeps_called n I k m hand on (acting s b) b a s.maps (at_callback s.world b t d) (k.begun m hand on s.world b t d l h)))
       ∙ (calm_called (acting s b) b a s.maps s.world t d calm).tree
 
   pub tree_stopping : (m : ℕ) (hand : Option ℕ) (on : List (Option ℕ)) (s : State) (d t x : ℕ) → d < length on → I m hand on s.world → (after_stopping s d t x).state.world.tree ≡ s.world.tree

@@ -1,5 +1,5 @@
 -- What each small step of a world keeps, callbacks and ejections keep, and a task that is put.
-use Rattle.std.proofs.Common.{◌≡◌, ℕ, zero, suc, ◌+◌, ◌<◌, ◌≤◌, Bool, true, false, ◌==◌, ◌&&◌, not, if◌then◌else◌, List, length, Option, Some, None, refl, arith}
+use Rattle.std.proofs.Common.{◌≡◌, ℕ, zero, suc, ◌+◌, ◌<◌, ◌≤◌, Bool, true, false, ◌==◌, ◌&&◌, not, is_some, if◌then◌else◌, List, length, Option, Some, None, refl, arith}
 use Rattle.scx_isa_semantics.specs.declared.callbacks.Callback.{Callback}
 use Rattle.scx_isa_semantics.specs.declared.callbacks.Callback.TheVariants as callback
 use Rattle.scx_isa_semantics.specs.Code.{instruction_count}
@@ -11,18 +11,19 @@ use Rattle.scx_vm.specs.Programs.{VerifiedProgram}
 use Rattle.scx_vm.specs.Arguments.{program_arguments}
 use Rattle.scx_vm.specs.declared.arguments.Args.{Args}
 use Rattle.scx_vm.specs.Host.{answer_to, after_query}
+use Rattle.scx_sched_world.specs.declared.eject.Cause.{Cause}
 use Rattle.scx_sched_world.specs.declared.eject.Eject.{Eject}
-use Rattle.scx_sched_world.specs.declared.faults.Fault.{Fault}
 use Rattle.scx_sched_world.specs.CpuSets.{and_cpu}
 use Rattle.scx_sched_world.specs.World as world
-use Rattle.scx_sched_world.specs.World.{WorldState, with_task, task_at, is_idle, running, at_callback}
+use Rattle.scx_sched_world.specs.World.{WorldState, with_task, switch_at, with_switch, with_waker, task_at, is_idle, running, at_callback}
 use Rattle.scx_sched_world.specs.Tasks.{with_home, homed, after_switch, for_cpu}
 use Rattle.scx_sched_world.specs.Ejecting.{put_out, after_evictions, after_cut, cut_task, after_charge, after_catch_up}
 use Rattle.scx_sched_world.specs.Helpers.{world_functions}
 use Rattle.scx_sched_machine.specs.Steps.{State, Stepped, stays, with_world, is_ejected, is_by_linux, kicked, kicked_if_idle}
 use Rattle.scx_sched_machine.specs.Ejecting.{moves_over, eject, ejected_for}
-use Rattle.scx_sched_machine.specs.Callbacks.{call_ending, acting, after_callback, fault_of, call_back, one_task, task_and_number}
+use Rattle.scx_sched_machine.specs.Callbacks.{call_ending, acting, after_callback, cause_of, call_back, call_by_linux, one_task, task_and_number}
 use Rattle.scx_sched_world.specs.declared.call.Insert.{Insert}
+use Rattle.scx_sched_machine.specs.Policy.{program_of}
 use Rattle.scx_sched_machine.specs.Put.{enters, enqueue_choice, enters_builtin, comes_in, put}
 use Rattle.scx_sched_machine.specs.Cycle.{stopping_called, after_stopping, switched, after_running}
 use Rattle.scx_sched_machine.specs.Events.{insert_or_put}
@@ -75,16 +76,16 @@ module _ (n : ℕ) (I : ℕ → Option ℕ → List (Option ℕ) → WorldState 
         let v = after_evictions (length w.tasks) w in
         keeps_cut (length v.cpus) v (keeps_evicted (length w.tasks) w (omega (arith, k.known m hand on w out)) out)
 
-    keeps_ejected_for : (o : Option Fault) (s : State) → I m hand on s.world → I m hand on (ejected_for o s).state.world
+    keeps_ejected_for : (o : Option Cause) (s : State) → I m hand on s.world → I m hand on (ejected_for o s).state.world
     keeps_ejected_for None s h = h
-    keeps_ejected_for (Some f) s h = keeps_eject s _ h
+    keeps_ejected_for (Some x) s h = keeps_eject s _ h
 
     -- a callback
     pub keeps_call_back : (s : State) (b : Callback) (a : Args) (t c : ℕ) → c < length on → I m hand on s.world → I m hand on (call_back s b a t c).state.world
     unfolding call_back
     keeps_call_back s b a t c l h =
         let e = call_ending (acting s b) b a s.maps (at_callback s.world b t c) in
-        keeps_ejected_for (fault_of b e) (after_callback s.policy e) (k.quiet m hand on e.outside (keeps_called (acting s b) b a s.maps (at_callback s.world b t c) (k.begun m hand on s.world b t c l h)))
+        keeps_ejected_for (cause_of b e) (after_callback s.policy e) (k.quiet m hand on e.outside (keeps_called (acting s b) b a s.maps (at_callback s.world b t c) (k.begun m hand on s.world b t c l h)))
 
     pub keeps_stopping : (s : State) (c t x : ℕ) → c < length on → I m hand on s.world → I (m + 1) hand on (after_stopping s c t x).state.world
     unfolding after_stopping
@@ -104,9 +105,22 @@ module _ (n : ℕ) (I : ℕ → Option ℕ → List (Option ℕ) → WorldState 
 
     -- ---- Linux rules
 
+    -- a callback that Linux rules call more
+    pub keeps_call_by_linux : (s : State) (b : Callback) (a : Args) (t c : ℕ) → c < length on → I m hand on s.world → I m hand on (call_by_linux s b a t c).state.world
+    unfolding call_by_linux
+    keeps_call_by_linux s b a t c l h = keeps_if (λ (r : Stepped). I m hand on r.state.world) (is_by_linux s && is_some (program_of s.policy b)) (call_back s b a t c) (stays s) (keeps_call_back s b a t c l h) h
+
+    -- a processor that begins to switch
+    pub keeps_switch : (w : WorldState) (c : ℕ) → I m hand on w → I m hand on (with_switch w c)
+    keeps_switch w c h = keeps_if (I m hand on) (world.is_by_linux w) (record w { passing = record w.passing { switching = switch_at w c } }) w (k.sets m hand on w w.claimed w.kicked w.preempted w.call.claims (record w.passing { switching = switch_at w c }) h) h
+
+    -- a processor from which a task is woken, or none
+    pub keeps_waker : (w : WorldState) (o : Option ℕ) → I m hand on w → I m hand on (with_waker w o)
+    keeps_waker w o h = k.sets m hand on w w.claimed w.kicked w.preempted w.call.claims (record w.passing { waker = o }) h
+
     -- a processor that is to look for work
     pub keeps_kicked : (s : State) (c : ℕ) → I m hand on s.world → I m hand on (kicked s c).world
-    keeps_kicked s c h = k.sets m hand on s.world s.world.claimed (and_cpu s.world.kicked c) s.world.preempted s.world.call.claims s.world.slept h
+    keeps_kicked s c h = k.sets m hand on s.world s.world.claimed (and_cpu s.world.kicked c) s.world.preempted s.world.call.claims s.world.passing h
 
     pub keeps_kicked_if_idle : (s : State) (c : ℕ) → I m hand on s.world → I m hand on (kicked_if_idle s c).world
     keeps_kicked_if_idle s c h = keeps_if (λ (r : State). I m hand on r.world) (is_by_linux s && is_idle s.world c) (kicked s c) s (keeps_kicked s c h) h
@@ -135,8 +149,8 @@ module _ (n : ℕ) (I : ℕ → Option ℕ → List (Option ℕ) → WorldState 
         let r = call_back s callback.Enqueue (task_and_number t flags) t c in
         keeps_comes_in r.state t c within l (keeps_call_back m (Some t) on s callback.Enqueue (task_and_number t flags) t c l h)
 
-    -- an insert of select_cpu
-    pub keeps_settled : (o : Option Insert) (s : State) (t c : ℕ) → s.world.call.insert ≡ o → t < n → c < length on → I m (Some t) on s.world → I m None on (insert_or_put o s t c).state.world
+    -- an insert of select_cpu that may still be done
+    pub keeps_settled : (o : Option Insert) (s : State) (t c : ℕ) → ((i : Insert) → o ≡ Some i → IsWanted (length on) s.world (for_cpu c i)) → t < n → c < length on → I m (Some t) on s.world → I m None on (insert_or_put o s t c).state.world
     unfolding enters
-    keeps_settled None s t c e within l h = keeps_put s t c 1 within l h
-    keeps_settled (Some i) s t c e within l h = k.entered m on s.world t (for_cpu c i) within (Inserted c i l e refl) h
+    keeps_settled None s t c may within l h = keeps_put s t c 1 within l h
+    keeps_settled (Some i) s t c may within l h = k.entered m on s.world t (for_cpu c i) within (may i refl) h

@@ -6,6 +6,7 @@ use Rattle.std.proofs.lemmas.List.{length-set, get_or-set_same, get_or-set_other
 use Rattle.std.specs.List.{list_any, position_or_len}
 use Rattle.std.proofs.lemmas.List.Sums.{sum_by-cons}
 use Rattle.std.proofs.lemmas.List.Sums.{sum_by-set, fails_before_first}
+use Rattle.std.specs.Int.{w64, cast_signed}
 use Rattle.scx_dsq.specs.Queues.{QueueState, exists, task_count, entry_of, queue_of, is_in, front_of}
 use Rattle.scx_dsq.specs.Calls.{clashes, push_refusal, after_push, after_pop, after_remove, with_queue, after_create, create_refusal}
 use Rattle.scx_dsq.specs.Entries.{same_sort}
@@ -18,7 +19,7 @@ use Rattle.scx_weights.specs.Hierarchy as tree
 use Rattle.scx_isa_semantics.specs.declared.callbacks.Callback.{Callback}
 use Rattle.scx_isa_semantics.specs.declared.callbacks.Callback.TheVariants as callback
 use Rattle.scx_isa_semantics.specs.declared.host_tables.Field.{Field}
-use Rattle.scx_isa_semantics.specs.declared.host_tables.Field.TheVariants.{Pid, Weight, Slice, DsqVtime, PrevCpu, Group, RunNs}
+use Rattle.scx_isa_semantics.specs.declared.host_tables.Field.TheVariants.{Pid, Weight, Slice, DsqVtime, PrevCpu, Group, RunNs, Cpus}
 use Rattle.scx_isa_semantics.specs.declared.host_tables.Helper.{Helper}
 use Rattle.scx_isa_semantics.specs.Effects.{Query, Call, Load, Store}
 use Rattle.scx_vm.specs.Arguments.{argument_of}
@@ -30,18 +31,21 @@ use Rattle.scx_sched_world.specs.declared.call.Insert.{Insert}
 use Rattle.scx_sched_world.specs.declared.cpu_set.CpuSet.{CpuSet}
 use Rattle.scx_sched_world.specs.declared.notes.What.{What}
 use Rattle.scx_sched_world.specs.declared.faults.Fault.{Fault}
-use Rattle.scx_sched_world.specs.declared.faults.Fault.TheVariants.{NoSuchQueue, CannotInsert, NoSuchCpu, UnknownFlag, BuiltinVtime, Mixed}
+use Rattle.scx_sched_world.specs.declared.faults.Fault.TheVariants.{NoSuchQueue, CannotInsert, NoSuchCpu, BuiltinVtime, Mixed}
+use Rattle.scx_sched_world.specs.declared.eject.Cause.{Cause}
+use Rattle.scx_sched_world.specs.declared.eject.Cause.TheVariants as reason
 use Rattle.scx_sched_world.specs.declared.eject.Eject.{Eject}
+use Rattle.scx_sched_world.specs.declared.passing.Passing.{Passing}
 use Rattle.scx_sched_world.specs.Ids.{global, local, held_queue, builtin_queue, parked_queue, local_on, policy_end}
 use Rattle.scx_sched_world.specs.Ejecting.{put_out, builtin_vtime, put_builtin, evict, cut_task, after_catch_up, after_charge}
 use Rattle.scx_sched_world.specs.World.{WorldState, is_by_linux, with_queues, with_tree, with_cycling, with_task, task_at, waits_in, waits, is_this, is_runnable, cpu_of, quiet, at_callback, with_note}
-use Rattle.scx_sched_world.specs.Tasks.{with_slice, with_home, rank_by, to_local, to_front, after_local, after_take, after_run, on_cpu, after_wake, after_sleep, after_leave, given_slice, given_vtime, task_after_insert, after_enter, queue_for, for_cpu, to_held, to_global, brought, fill_front, after_fill, local_len, after_stop, started_at, with_new_slice, after_keep, ran_a_tick, after_tick, later}
-use Rattle.scx_sched_world.specs.Helpers.{with_fault, flags_fault, moved_here, is_dispatch, is_held, may_insert_in, may_insert, queue_fault, is_vtime, rank_fault, or_fault, insert_fault, with_insert, with_move, after_release, insert_or_fault, front_moved_to_local, helper_after, stored_in, world_functions}
+use Rattle.scx_sched_world.specs.Tasks.{with_slice, with_home, rank_by, to_local, to_front, after_local, after_take, after_run, after_wake, after_sleep, after_leave, given_slice, given_vtime, task_after_insert, after_enter, queue_for, for_cpu, to_held, to_global, brought, fill_front, after_fill, local_len, after_stop, started_at, with_new_slice, after_keep, ran_a_tick, after_tick, later}
+use Rattle.scx_sched_world.specs.Helpers.{with_cause, flags_fault, is_dispatch, is_held, may_insert_in, may_insert, queue_fault, is_vtime, rank_fault, or_fault, insert_fault, with_insert, with_move, after_release, insert_or_fault, front_moved_to_local, helper_after, stored_in, world_functions}
 use Rattle.scx_sched_machine.proofs.Choices.{keeps_if}
 use Rattle.scx_sched_machine.proofs.HelperCalls.{by_helper}
 use Rattle.scx_sched.specs.Once.{runs, appearances, IsOnce, HasQueues, sort_of, IsSorted, IsAlike, IsOpen, IsBehind, IsSound, GoesSomewhere}
-use Rattle.scx_sched.specs.Kept.{with_sets, IsWanted, ForAny, Nowhere, Inserted, InFront}
-use Rattle.scx_sched.proofs.Marks.{KeepsMarks, kept_kicked_so, kept_claim, kept_local, kept_put}
+use Rattle.scx_sched.specs.Kept.{with_sets, IsWanted, ForAny, Nowhere, Inserted, InFront, Before}
+use Rattle.scx_sched.proofs.Marks.{KeepsMarks, KeepsCycles, kept_cycling, kept_kicked_so, kept_claim, kept_local, kept_put}
 use Rattle.scx_sched.proofs.Waiting.{waiting, waits_there, without_other, removed_other, same_waiting, waiting_pushed, waiting_left, front_waits_here, set_since, one_same, waits_sum, waits_by_sum, since_set, stored_since, given_since, renewed_since, waits_at_hand, waits_asleep, waits_on_cpu}
 use Rattle.scx_sched.proofs.Entering.{nowhere, sorted_pushed, sorted_popped, sorted_removed, stamped_pushed, stamped_popped, stamped_removed, stamped_created, own_open, alike_from, is_accepted, Stay, stay_pushed, stay_without, stay_removed, stay_created, queues_stay, open_without, open_removed, open_created, open_own, open_same, same_itself, same_key, open_by, goes_on, local_fits, local_sort, low_fits}
 
@@ -64,6 +68,7 @@ stored_home x DsqVtime n = refl
 stored_home x PrevCpu n = refl
 stored_home x Group n = refl
 stored_home x RunNs n = refl
+stored_home x Cpus n = refl
 
 module _ (hand : Option ℕ) (on : List (Option ℕ)) (n : ℕ) where
   -- other queues, in which each task stands as often
@@ -89,8 +94,8 @@ module _ (hand : Option ℕ) (on : List (Option ℕ)) (n : ℕ) where
   sound_task : (w : WorldState) (t : ℕ) (x : Task) → x.prev_cpu ≡ (task_at w t).prev_cpu → x.since ≡ (task_at w t).since → IsSound hand on n w → IsSound hand on n (with_task w t x)
   sound_task w t x home since h = record { cpus = h.cpus; tasks = length-set w.tasks t x ∙ h.tasks; even = h.even; flags = h.flags; homes = homes_set w.tasks t x (length on) (rw home (h.homes t)) h.homes; queues = h.queues; sorted = h.sorted; stamped = h.stamped; once = h.once; here = h.here; goes = h.goes; behind = h.behind; waiting = λ u. ap is_some (since_set w.tasks t x since u) ∙ h.waiting u; at_once = h.at_once }
 
-  -- nor is any task moved by sets of processors, or by who went to sleep
-  pub sound_sets : (w : WorldState) (claimed kicked preempted claims : CpuSet) (slept : Option ℕ) → IsSound hand on n w → IsSound hand on n (with_sets w claimed kicked preempted claims slept)
+  -- nor is any task moved by sets of processors, or by what is kept until an event ends
+  pub sound_sets : (w : WorldState) (claimed kicked preempted claims : CpuSet) (passing : Passing) → IsSound hand on n w → IsSound hand on n (with_sets w claimed kicked preempted claims passing)
   sound_sets w a b c d o h = record { cpus = h.cpus; tasks = h.tasks; even = h.even; flags = h.flags; homes = h.homes; queues = h.queues; sorted = h.sorted; stamped = h.stamped; once = h.once; here = h.here; goes = h.goes; behind = h.behind; waiting = h.waiting; at_once = h.at_once }
 
   -- as the processor of a task, its slice and sets of processors change, tasks stay where they are
@@ -99,7 +104,7 @@ module _ (hand : Option ℕ) (on : List (Option ℕ)) (n : ℕ) where
     there = λ w c h l. rw (← h.cpus) l;
     homed = λ w t c l h. record { cpus = h.cpus; tasks = length-set w.tasks t (with_home (task_at w t) c) ∙ h.tasks; even = h.even; flags = h.flags; homes = homes_set w.tasks t (with_home (task_at w t) c) (length on) l h.homes; queues = h.queues; sorted = h.sorted; stamped = h.stamped; once = h.once; here = h.here; goes = h.goes; behind = h.behind; waiting = λ u. ap is_some (since_set w.tasks t (with_home (task_at w t) c) refl u) ∙ h.waiting u; at_once = h.at_once };
     sliced = λ w t k h. sound_task w t (with_slice (task_at w t) k) refl refl h;
-    sets = λ w a b c d h. sound_sets w a b c d w.slept h;
+    sets = λ w a b c d h. sound_sets w a b c d w.passing h;
   }
 
   -- notes that are handed on
@@ -108,7 +113,10 @@ module _ (hand : Option ℕ) (on : List (Option ℕ)) (n : ℕ) where
 
   -- a cycle that begins or ends
   pub sound_cycling : (w : WorldState) (o : Option ℕ) → IsSound hand on n w → IsSound hand on n (with_cycling w o)
-  sound_cycling w o h = record { cpus = h.cpus; tasks = h.tasks; even = h.even; flags = h.flags; homes = h.homes; queues = h.queues; sorted = h.sorted; stamped = h.stamped; once = h.once; here = h.here; goes = h.goes; behind = h.behind; waiting = h.waiting; at_once = h.at_once }
+  sound_cycling w o h = kept_cycling (IsSound hand on n) (λ v p a x h. kept_so v p a x h) w o h
+    where
+      kept_so : KeepsCycles (IsSound hand on n)
+      kept_so v p a x h = record { cpus = h.cpus; tasks = h.tasks; even = h.even; flags = h.flags; homes = h.homes; queues = h.queues; sorted = h.sorted; stamped = h.stamped; once = h.once; here = h.here; goes = h.goes; behind = h.behind; waiting = h.waiting; at_once = h.at_once }
 
   entry_created : (s : QueueState) (q u : ℕ) → entry_of (after_create s q) u ≡ entry_of s u
   entry_created s q u = keeps_if (λ (x : QueueState). entry_of x u ≡ entry_of s u) (is_none (create_refusal s q)) (with_queue s q) s refl refl
@@ -266,8 +274,8 @@ pub inside : (n : ℕ) (w : WorldState) (t : ℕ) → t < n → length w.tasks �
 inside n w t within e = let l : t < length w.tasks = rw e within in grind (arith, nat_tests, l)
 
 module _ (hand : Option ℕ) (on : List (Option ℕ)) (n : ℕ) where
-  sound_faulted : (w : WorldState) (f : Fault) → IsSound hand on n w → IsSound hand on n (with_fault w f)
-  sound_faulted w f h = record { cpus = h.cpus; tasks = h.tasks; even = h.even; flags = h.flags; homes = h.homes; queues = h.queues; sorted = h.sorted; stamped = h.stamped; once = h.once; here = h.here; goes = h.goes; behind = h.behind; waiting = h.waiting; at_once = h.at_once }
+  sound_caused : (w : WorldState) (x : Cause) → IsSound hand on n w → IsSound hand on n (with_cause w x)
+  sound_caused w x h = record { cpus = h.cpus; tasks = h.tasks; even = h.even; flags = h.flags; homes = h.homes; queues = h.queues; sorted = h.sorted; stamped = h.stamped; once = h.once; here = h.here; goes = h.goes; behind = h.behind; waiting = h.waiting; at_once = h.at_once }
 
   -- a task goes from one queue to another
   sound_replaced : (w : WorldState) (t q : ℕ) (r : Rank) (x : Task) → x.prev_cpu ≡ (task_at w t).prev_cpu → x.since ≡ (task_at w t).since → waits_in (queue_of w.queues t) ≡ true → t < task_count w.queues → entry_of (after_remove w.queues t) t ≡ None → IsOpen w.queues q r → (q == parked_queue) ≡ false
@@ -319,7 +327,7 @@ module _ (hand : Option ℕ) (on : List (Option ℕ)) (n : ℕ) where
           sound_moving (after_enter (after_leave w u) u (for_cpu w.call.cpu i)) _
           (sound_released w u (for_cpu w.call.cpu i) (h.at_once x) (held_waits w u (held_in_dispatch w (Some u) x fit.may)) (fit_open on hand n w (Some u) i w.call.cpu h.here fit h) (fit_apart w i.queue w.call.cpu fit.queue) h)
       go false x u fit = record { cpus = h.cpus; tasks = h.tasks; even = h.even; flags = h.flags; homes = h.homes; queues = h.queues; sorted = h.sorted; stamped = h.stamped; once = h.once; here = h.here; goes = λ c l. (fit_open on hand n w u i c l fit h, fit_apart w i.queue c fit.queue); behind = back; waiting = h.waiting; at_once = λ y. absurd (cc (sym x ∙ y)) }
-  sound_inserted w (Some f) t i back fine h = sound_faulted w f h
+  sound_inserted w (Some f) t i back fine h = sound_caused w (reason.Fault f) h
 
   sound_moved : (w : WorldState) (o : Option ℕ) (q : ℕ) → front_of w.queues q ≡ o → (q == parked_queue) ≡ false → IsSound hand on n w → IsSound hand on n (front_moved_to_local w o q)
   sound_moved w None q e apart h = h
@@ -329,7 +337,8 @@ module _ (hand : Option ℕ) (on : List (Option ℕ)) (n : ℕ) where
   sound_helper : (w : WorldState) (f : Helper) (a : List Arg) → IsSound hand on n w → IsSound hand on n (helper_after w f a)
   sound_helper w f a h = by_helper (IsSound hand on n) w (record {
     same = h;
-    faulty = λ f other. sound_faulted w f h;
+    faulty = λ f other. sound_caused w (reason.Fault f) h;
+    ended = λ k. sound_caused w (reason.Exit (cast_signed w64 k)) h;
     created = λ q. sound_created hand on n w q h;
     inserted = λ t i flags back none. sound_inserted w None t i back (λ e. is_fit w t i flags none) h;
     late = λ linux here. sound_late w h;
@@ -418,12 +427,15 @@ module _ (on : List (Option ℕ)) (n : ℕ) where
   wanted_open w i hand (Nowhere e) h = rw e (own_open w.queues held_queue Fifo h.queues.held (omega arith) refl h.sorted)
   wanted_open w i hand (Inserted c said l x e) h = rw e (said_open w c said l x h.goes)
   wanted_open w i hand (InFront c l linux e) h = rw e (own_open w.queues (local_on c) Front (h.queues.locals c l) (omega arith) (local_fits c Front refl) h.sorted)
+  wanted_open w i hand (Before c said l linux none goes e) h = rw e (goes c l).0
 
   -- a task that enters it
   pub sound_entered : (w : WorldState) (t : ℕ) (i : Insert) → t < n → IsWanted (length on) w i → IsSound (Some t) on n w → IsSound None on n (after_enter w t i)
   sound_entered w t i within (ForAny e) h = rw e (sound_enters_own w t to_global within h.queues.global (omega arith) refl refl h)
   sound_entered w t i within (Nowhere e) h = rw e (sound_enters_own w t to_held within h.queues.held (omega arith) refl refl h)
   sound_entered w t i within (Inserted c said l x e) h = rw e (sound_enters_said w t c said within l x h)
+  sound_entered w t i within (Before c said l linux none goes e) h =
+      rw e (sound_enters w t (for_cpu c said) within (goes c l).0 (goes c l).1 (subst (λ (o : Option Insert). GoesSomewhere (after_push w.queues (queue_for c said.queue) t (rank_by w said.rank)) (length on) o) (sym none) tt) h)
   sound_entered w t i within (InFront c l linux e) h = rw e (sound_enters_own w t (to_front c) within (h.queues.locals c l) (omega arith) (local_fits c Front refl) (ne_eqb (local_on c) parked_queue (λ x. omega (arith, x))) h)
 
   -- a local queue that is filled

@@ -12,14 +12,14 @@ use Rattle.scx_vm.specs.Programs.{VerifiedProgram}
 use Rattle.scx_vm.specs.Arguments.{program_arguments}
 use Rattle.scx_vm.specs.declared.arguments.Args.{Args}
 use Rattle.scx_vm.specs.Host.{answer_to, after_query}
+use Rattle.scx_sched_world.specs.declared.eject.Cause.{Cause}
 use Rattle.scx_sched_world.specs.declared.eject.Eject.{Eject}
-use Rattle.scx_sched_world.specs.declared.faults.Fault.{Fault}
 use Rattle.scx_sched_world.specs.World.{WorldState, running, at_callback}
 use Rattle.scx_sched_world.specs.Ejecting.{put_out, after_evictions, after_cut, cut_task}
 use Rattle.scx_sched_world.specs.Helpers.{world_functions}
 use Rattle.scx_sched_machine.specs.Steps.{State, is_ejected}
 use Rattle.scx_sched_machine.specs.Ejecting.{moves_over, eject, ejected_for}
-use Rattle.scx_sched_machine.specs.Callbacks.{call_ending, acting, after_callback, fault_of, call_back, task_and_number}
+use Rattle.scx_sched_machine.specs.Callbacks.{call_ending, acting, after_callback, cause_of, call_back, task_and_number}
 use Rattle.scx_sched_machine.specs.Put.{enters, enqueue_choice, enters_builtin, comes_in, put}
 use Rattle.scx_sched.specs.Kept.{IsKeptBySteps}
 use Rattle.scx_sched.specs.Once.{IsSound}
@@ -48,9 +48,9 @@ module _ (w : WorldState) where
       let v = after_evictions (length s.world.tasks) (put_out s.world x) in
       stay_cut (length v.cpus) v (stay_evicted (length s.world.tasks) (put_out s.world x) h)
 
-  stay_ejected_for : (o : Option Fault) (s : State) → StayParked w s.world → StayParked w (ejected_for o s).state.world
+  stay_ejected_for : (o : Option Cause) (s : State) → StayParked w s.world → StayParked w (ejected_for o s).state.world
   stay_ejected_for None s h = h
-  stay_ejected_for (Some f) s h = stay_eject s _ h
+  stay_ejected_for (Some x) s h = stay_eject s _ h
 
   stay_called : (p : Option VerifiedProgram) (b : Callback) (a : Args) (maps : Maps) (v : WorldState) → StayParked w v → StayParked w (call_ending p b a maps v).outside
   unfolding call_ending run_of
@@ -62,7 +62,7 @@ module _ (w : WorldState) where
   unfolding call_back
   stay_call_back s b a t c h =
       let e = call_ending (acting s b) b a s.maps (at_callback s.world b t c) in
-      stay_ejected_for (fault_of b e) (after_callback s.policy e) (stay_called (acting s b) b a s.maps (at_callback s.world b t c) h)
+      stay_ejected_for (cause_of b e) (after_callback s.policy e) (stay_called (acting s b) b a s.maps (at_callback s.world b t c) h)
 
 module _ (n : ℕ) (I : ℕ → Option ℕ → List (Option ℕ) → WorldState → Type 0) (k : IsKeptBySteps n I) (sound : (m : ℕ) (hand : Option ℕ) (on : List (Option ℕ)) (w : WorldState) → I m hand on w → IsSound hand on n w) where
   stay_comes_in : (m : ℕ) (on : List (Option ℕ)) (w : WorldState) (s : State) (t c : ℕ) → c < length on → I m (Some t) on s.world → StayParked w s.world → StayParked w (comes_in s t c).state.world

@@ -27,7 +27,7 @@ use Rattle.scx_sched_world.specs.declared.faults.Fault.{Fault}
 use Rattle.scx_sched_world.specs.First.{first_queues, first_world}
 use Rattle.scx_sched_world.specs.Ids.{builtin_queue, parked_queue, local_on}
 use Rattle.scx_sched_world.specs.World.{WorldState, with_queues, with_tree, with_task, task_at, waits, is_this, running}
-use Rattle.scx_sched_world.specs.Tasks.{with_home, rank_by, after_local, after_take, after_run, with_since, with_slice, with_builtin, task_after_insert, after_leave, after_enter, for_cpu, brought, fill_front, on_cpu, started_at, with_new_slice, put_parked, let_go, tick_ns, ran_a_tick, after_tick, used_ms, begun_periods}
+use Rattle.scx_sched_world.specs.Tasks.{with_home, rank_by, after_take, after_run, with_since, with_slice, with_builtin, task_after_insert, after_leave, after_enter, for_cpu, brought, fill_front, on_cpu, started_at, with_new_slice, put_parked, let_go, tick_ns, ran_a_tick, after_tick, used_ms, begun_periods}
 use Rattle.scx_sched_world.specs.Helpers.{is_dispatch, with_insert, after_release, insert_or_fault, front_moved_to_local, helper_after, stored_in, world_functions}
 use Rattle.scx_sched_world.specs.Ejecting.{builtin_vtime, put_builtin}
 use Rattle.scx_sched_machine.specs.declared.events.Event.{Event}
@@ -35,7 +35,6 @@ use Rattle.scx_sched_machine.specs.declared.events.Event.TheVariants.{Wake, Slee
 use Rattle.scx_sched_machine.specs.Policy.{PolicyState}
 use Rattle.scx_sched_machine.specs.Start.{is_bad_shape, first_state}
 use Rattle.scx_sched_machine.specs.Steps.{State}
-use Rattle.scx_sched_machine.specs.Cycle.{cycle}
 use Rattle.scx_sched_machine.specs.Events.{refusal, tick_idle, tick_of, tick, own_step, event_step}
 use Rattle.scx_sched_machine.proofs.Choices.{keeps_if}
 use Rattle.scx_sched_machine.proofs.HelperCalls.{by_helper}
@@ -45,7 +44,7 @@ use Rattle.scx_sched.specs.Ranges.{IsFine}
 use Rattle.scx_sched.specs.Decided.{ran_in}
 use Rattle.scx_sched.proofs.Entering.{each_set}
 use Rattle.scx_sched.proofs.Fine.{stored_run, given_run, renewed_run, fine_steps}
-use Rattle.scx_sched.proofs.Marks.{KeepsMarks, Anywhere, kept_kicked_so, kept_claim, kept_local, kept_entered}
+use Rattle.scx_sched.proofs.Marks.{KeepsMarks, Anywhere, kept_cycling, kept_kicked_so, kept_claim, kept_local, kept_entered}
 use Rattle.scx_sched.proofs.First.{nowhere, steps_started}
 use Rattle.scx_sched.proofs.Watching.{Both, both_steps}
 use Rattle.scx_sched.proofs.Events.{IsKeptByEvents, IsTaken, Wakes, Sleeps, Ticks, Clocks, Weighs, is_taken, IsFineNow, fine_events, one_more, fine_later, fine_ticked, known_running, keeps_wake, keeps_sleep, keeps_tick_idle, keeps_count_down, keeps_clock, keeps_with_rounds, fine_own}
@@ -167,6 +166,7 @@ module _ (n : ℕ) (ran : ℕ → ℕ) where
   tally_helper w f a h = by_helper (IsTallied n ran) w (record {
     same = h;
     faulty = λ f other. h;
+    ended = λ n. h;
     created = λ q. tally_queues w (after_create w.queues q) (home_created w.queues q h.2) h;
     inserted = λ t i flags back none. tally_inserted w None t i h;
     late = λ linux here. h;
@@ -207,7 +207,7 @@ tally_steps n ran = record {
   query = λ m hand on w q h. tally_query n ran w q h;
   begun = λ m hand on w b t c l h. h;
   quiet = λ m hand on w h. h;
-  cycling = λ m hand on w o h. h;
+  cycling = λ m hand on w o h. kept_cycling (IsTallied n ran) (λ v p a x r. r) w o h;
   sets = λ m hand on w a b c d o h. h;
   homed = λ m hand on w t c l h. tally_set n ran w t _ refl h;
   sliced = λ m hand on w t k h. tally_set n ran w t _ refl h;
@@ -271,12 +271,6 @@ module _ (n e : ℕ) (s : State) (tasks : length s.world.tasks ≡ n) (fine : Is
       go u (inl is) = rw (is, get_or-set_same s.world.tasks t x no_task within, eq-eqb t t refl) refl
       go u (inr d) = rw (get_or-set_other s.world.tasks t u x no_task d, ne_eqb u t d) (omega arith)
 
-  -- and its groups have used it
-  one_used : (t : ℕ) → t < length s.world.tasks → IsTallied n (ran_by (Some t)) (used_ms (after_tick s.world t) t)
-  one_used t within =
-      let z = after_tick s.world t in
-      keeps_if (IsTallied n (ran_by (Some t))) (nat_lt t (length z.tasks)) (with_tree z (with_use z.tree t)) z (one_ran t within) (one_ran t within)
-
   tally_tick : (c : ℕ) → c < length s.world.cpus → IsTallied n (ran_by (running s.world c)) (tick s c).state.world
   unfolding tick
   tally_tick c l = go (running s.world c) refl
@@ -290,10 +284,15 @@ module _ (n e : ℕ) (s : State) (tasks : length s.world.tasks ≡ n) (fine : Is
           let there = known_running n e e s.world c t l at fine in
           let within : t < length s.world.tasks = omega (arith, there, tasks) in
           let x = fine_ticked n e e s.world c t l at fine in
-          let z = used_ms (after_tick s.world t) t in
           (keeps_count_down n (I ran) (tallied_events n (e + 1) ran) e s c t there l at (record {
-            goes_on = λ free. record { one = x.goes_on free; two = one_used t within };
-            leaves = λ up. record { one = x.leaves up; two = tally_set n ran z t _ refl (one_used t within) };
+            ran = record { one = x.ran; two = one_ran t within };
+            uses = λ w same tree h.
+                let z = x.uses w same tree h.one in
+                let y = keeps_if (IsTallied n ran) (nat_lt t (length w.tasks)) (with_tree w (with_use w.tree t)) w h.two h.two in
+                record {
+                  goes_on = λ free. record { one = z.goes_on free; two = y };
+                  leaves = λ up. record { one = z.leaves up; two = tally_set n ran (used_ms w t) t _ refl y };
+                };
           })).two
 
   tally_own : (v : Event) → refusal s v ≡ None → IsTallied n (λ u. (task_at s.world u).run_ns + ran_in v s.world u) (own_step s v).state.world

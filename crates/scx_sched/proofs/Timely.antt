@@ -17,14 +17,14 @@ use Rattle.scx_sched_tasks.specs.declared.task.Task.{Task}
 use Rattle.scx_sched_tasks.specs.Tasks.{no_task}
 use Rattle.scx_sched_tasks.specs.Waits.{time_since, is_late, is_overdue}
 use Rattle.scx_sched_world.specs.World.{WorldState, with_task, task_at, waits, wait}
-use Rattle.scx_sched_world.specs.Tasks.{with_home, with_slice, after_local, after_take, after_wake, after_stop, let_go, ran_a_tick, after_tick, task_after_insert, after_leave, after_enter, for_cpu, brought, fill_front, with_new_slice}
+use Rattle.scx_sched_world.specs.Tasks.{with_home, with_slice, after_take, after_wake, after_stop, let_go, ran_a_tick, after_tick, task_after_insert, after_leave, after_enter, for_cpu, brought, fill_front, with_new_slice}
 use Rattle.scx_sched_world.specs.Helpers.{is_dispatch, with_insert, after_release, insert_or_fault, front_moved_to_local, helper_after, stored_in, world_functions}
 use Rattle.scx_sched_world.specs.Waits.{first_overdue}
 use Rattle.scx_sched_world.specs.Ejecting.{put_builtin}
 use Rattle.scx_sched_machine.proofs.Choices.{keeps_if}
 use Rattle.scx_sched_machine.proofs.HelperCalls.{by_helper}
 use Rattle.scx_sched.specs.Kept.{IsKeptBySteps}
-use Rattle.scx_sched.proofs.Marks.{KeepsMarks, Anywhere, kept_kicked_so, kept_claim, kept_local, kept_entered}
+use Rattle.scx_sched.proofs.Marks.{KeepsMarks, Anywhere, kept_cycling, kept_kicked_so, kept_claim, kept_local, kept_entered}
 use Rattle.scx_sched.proofs.Waiting.{stored_since, given_since, renewed_since}
 
 abbrev pub IsInTime : ℕ → WorldState → Type 0
@@ -89,6 +89,7 @@ module _ (limit n : ℕ) where
   time_helper w f a h = by_helper (AreInTime limit n) w (record {
     same = h;
     faulty = λ f other. h;
+    ended = λ n. h;
     created = λ q. h;
     inserted = λ t i flags back none. time_inserted w None t i h;
     late = λ linux here. h;
@@ -129,7 +130,7 @@ time_steps limit n = record {
   query = λ m hand on w q h. time_query limit n w q h;
   begun = λ m hand on w b t c l h. h;
   quiet = λ m hand on w h. h;
-  cycling = λ m hand on w o h. h;
+  cycling = λ m hand on w o h. kept_cycling (AreInTime limit n) (λ v p a x r. r) w o h;
   sets = λ m hand on w a b c d o h. h;
   homed = λ m hand on w t c l h. time_same limit n w t _ refl h;
   sliced = λ m hand on w t k h. time_same limit n w t _ refl h;

@@ -1,6 +1,6 @@
 -- What no query of a program changes: the clock, whether the policy is in force, the cycle under way, the tree of
--- weights with who is runnable in it, the rules, and who went to sleep.
-use Rattle.std.proofs.Common.{◌≡◌, ℕ, zero, suc, nat_lt, List, length, map, Option, Some, None, refl}
+-- weights with who is runnable in it, the rules, and what an event by Linux rules keeps until it ends.
+use Rattle.std.proofs.Common.{◌≡◌, ℕ, zero, suc, Bool, true, false, ◌&&◌, if◌then◌else◌, nat_lt, List, length, map, Option, Some, None, is_none, refl, sym, ap, ◌∙◌}
 use Rattle.scx_dsq.specs.Queues.{front_of}
 use Rattle.scx_isa_semantics.specs.declared.callbacks.Callback.{Callback}
 use Rattle.scx_isa_semantics.specs.declared.host_tables.Helper.{Helper}
@@ -18,8 +18,8 @@ use Rattle.scx_vm.specs.Host.{answer_to, after_query}
 use Rattle.scx_sched_world.specs.declared.call.Insert.{Insert}
 use Rattle.scx_sched_world.specs.declared.faults.Fault.{Fault}
 use Rattle.scx_sched_world.specs.declared.eject.Eject.{Eject}
-use Rattle.scx_sched_world.specs.World.{WorldState, waits, running}
-use Rattle.scx_sched_world.specs.Tasks.{after_local, after_take, after_leave, after_enter, for_cpu, brought, after_keep, put_parked}
+use Rattle.scx_sched_world.specs.World.{WorldState, nothing_passes, are_linux, is_by_linux, with_cycling, cycling_by_linux, switch_at, with_switch, waits, running}
+use Rattle.scx_sched_world.specs.Tasks.{after_take, after_leave, after_enter, for_cpu, brought, after_keep, put_parked}
 use Rattle.scx_sched_world.specs.Ejecting.{put_out, put_builtin, after_evictions, after_cut, cut_task}
 use Rattle.scx_sched_world.specs.Helpers.{is_dispatch, with_insert, after_release, insert_or_fault, front_moved_to_local, helper_after, world_functions}
 use Rattle.scx_sched_machine.specs.Steps.{State}
@@ -27,11 +27,11 @@ use Rattle.scx_sched_machine.specs.Callbacks.{call_ending}
 use Rattle.scx_sched_machine.specs.Ejecting.{moves_over, eject}
 use Rattle.scx_sched_machine.proofs.Choices.{keeps_if}
 use Rattle.scx_sched_machine.proofs.HelperCalls.{by_helper}
-use Rattle.scx_sched.proofs.Marks.{KeepsMarks, Anywhere, kept_kicked_so, kept_claim, kept_local, kept_entered}
+use Rattle.scx_sched.proofs.Marks.{KeepsMarks, Anywhere, kept_switch, kept_cycling, kept_kicked_so, kept_claim, kept_local, kept_entered}
 
 -- from the first world to the second
 abbrev pub IsAsBefore : WorldState → WorldState → Type 0
-IsAsBefore v w = (w.clock ≡ v.clock) × (w.ejected ≡ v.ejected) × (w.cycling ≡ v.cycling) × (w.tree ≡ v.tree) × (w.rules ≡ v.rules) × (w.slept ≡ v.slept)
+IsAsBefore v w = (w.clock ≡ v.clock) × (w.ejected ≡ v.ejected) × (w.cycling ≡ v.cycling) × (w.tree ≡ v.tree) × (w.rules ≡ v.rules) × (w.passing ≡ v.passing)
 
 module _ (v : WorldState) where
   -- nor is it changed as the processor of a task, its slice or sets of processors are
@@ -57,6 +57,7 @@ module _ (v : WorldState) where
   same_helper w f a h = by_helper (IsAsBefore v) w (record {
     same = h;
     faulty = λ f other. h;
+    ended = λ n. h;
     created = λ q. h;
     inserted = λ t i flags back none. same_inserted w None t i h;
     late = λ linux here. h;
@@ -119,3 +120,50 @@ same_brought (Some t) w q c = kept_local Anywhere (IsAsBefore w) (same_marks w) 
 pub same_kept : (w : WorldState) (o : Option ℕ) → IsAsBefore w (after_keep w o)
 same_kept w None = (refl, refl, refl, refl, refl, refl)
 same_kept w (Some t) = (refl, refl, refl, refl, refl, refl)
+
+-- ---- what begins and ends with cycles
+
+-- from the first world to the second: the clock, whether the policy is in force, the tree, and the rules
+abbrev pub IsAsRuled : WorldState → WorldState → Type 0
+IsAsRuled v w = (w.clock ≡ v.clock) × (w.ejected ≡ v.ejected) × (w.tree ≡ v.tree) × (w.rules ≡ v.rules)
+
+-- a processor that begins to switch changes none of these
+pub ruled_switch : (w : WorldState) (c : ℕ) → IsAsRuled w (with_switch w c)
+ruled_switch w c = kept_switch (IsAsRuled w) (λ v p a x h. h) w c (refl, refl, refl, refl)
+
+-- nor does a cycle that begins or ends
+pub ruled_cycling : (w : WorldState) (o : Option ℕ) → IsAsRuled w (with_cycling w o)
+ruled_cycling w o = kept_cycling (IsAsRuled w) (λ v p a x h. h) w o (refl, refl, refl, refl)
+
+-- by the same rules, with a policy that is in force or not as before
+pub same_linux : (v w : WorldState) → w.rules ≡ v.rules → w.ejected ≡ v.ejected → is_by_linux w ≡ is_by_linux v
+same_linux v w rules out = ap (λ r. are_linux r && is_none w.ejected) rules ∙ ap (λ (o : Option Eject). are_linux v.rules && is_none o) out
+
+-- ---- plain rules keep nothing until an event ends
+
+abbrev pub IsTidy : WorldState → Type 0
+IsTidy w = is_by_linux w ≡ false → w.passing ≡ nothing_passes
+
+-- by Linux rules nothing is said
+pub tidy_linux : (w : WorldState) → is_by_linux w ≡ true → IsTidy w
+tidy_linux w linux plain = let bad : true ≡ false = sym linux ∙ plain in absurd (cc)
+
+-- where none of these changes
+pub tidy_same : (v w : WorldState) → w.rules ≡ v.rules → w.ejected ≡ v.ejected → w.passing ≡ v.passing → IsTidy v → IsTidy w
+tidy_same v w rules out same h plain = same ∙ h (sym (same_linux v w rules out) ∙ plain)
+
+-- a processor that begins to switch by Linux rules alone
+pub tidy_switch : (w : WorldState) (c : ℕ) → IsTidy w → IsTidy (with_switch w c)
+tidy_switch w c h = go (is_by_linux w) refl
+  where
+    go : (b : Bool) → is_by_linux w ≡ b → IsTidy (if b then record w { passing = record w.passing { switching = switch_at w c } } else w)
+    go true linux = tidy_linux (record w { passing = record w.passing { switching = switch_at w c } }) linux
+    go false plain = h
+
+-- and a cycle that begins or ends
+pub tidy_cycling : (w : WorldState) (o : Option ℕ) → IsTidy w → IsTidy (with_cycling w o)
+tidy_cycling w o h plain = go (is_by_linux w) refl (sym (same_linux w (with_cycling w o) (ruled_cycling w o).3 (ruled_cycling w o).1) ∙ plain)
+  where
+    go : (b : Bool) → is_by_linux w ≡ b → is_by_linux w ≡ false → (if b then cycling_by_linux w o else record w { cycling = o }).passing ≡ nothing_passes
+    go true linux x = let bad : true ≡ false = sym linux ∙ x in absurd (cc)
+    go false y x = h x

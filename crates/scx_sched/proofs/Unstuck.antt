@@ -1,6 +1,6 @@
 -- No policy is put out of force for being stuck: each callback comes to an answer, and no helper call has that fault.
-use Rattle.std.proofs.Common.{◌≡◌, ℕ, suc, nat_lt, List, length, map, Option, Some, None, refl, sym, ap, ◌∙◌, subst}
-use Rattle.std.proofs.lemmas.List.{append-nil}
+use Rattle.std.proofs.Common.{◌≡◌, ℕ, suc, List, length, map, Option, Some, None, refl, sym, ap, ◌∙◌, subst}
+use Rattle.std.specs.Int.{w64, cast_signed}
 use Rattle.scx_dsq.specs.Queues.{front_of}
 use Rattle.scx_isa_semantics.specs.declared.callbacks.Callback.{Callback}
 use Rattle.scx_isa_semantics.specs.declared.host_tables.Helper.{Helper}
@@ -16,13 +16,16 @@ use Rattle.scx_vm.specs.declared.arguments.Arg.{Arg}
 use Rattle.scx_vm.specs.declared.arguments.Args.{Args}
 use Rattle.scx_vm.specs.Host.{answer_to, after_query}
 use Rattle.scx_sched_world.specs.declared.call.Insert.{Insert}
+use Rattle.scx_sched_world.specs.declared.eject.Cause.{Cause}
+use Rattle.scx_sched_world.specs.declared.eject.Cause.TheVariants as reason
 use Rattle.scx_sched_world.specs.declared.eject.Eject.{Eject}
 use Rattle.scx_sched_world.specs.declared.eject.Eject.TheVariants as cause
 use Rattle.scx_sched_world.specs.declared.faults.Fault.{Fault}
 use Rattle.scx_sched_world.specs.declared.faults.Fault.TheVariants.{Stuck}
 use Rattle.scx_sched_world.specs.World.{WorldState}
-use Rattle.scx_sched_world.specs.Tasks.{after_local, after_take, after_leave, after_enter, for_cpu, later, begun_periods}
-use Rattle.scx_sched_world.specs.Helpers.{first_fault, with_fault, is_dispatch, with_insert, after_release, insert_or_fault, front_moved_to_local, helper_after, world_functions}
+use Rattle.scx_sched_world.specs.Ejecting.{eject_of}
+use Rattle.scx_sched_world.specs.Tasks.{after_take, after_leave, after_enter, for_cpu, later, begun_periods}
+use Rattle.scx_sched_world.specs.Helpers.{first_cause, with_cause, is_dispatch, with_insert, after_release, insert_or_fault, front_moved_to_local, helper_after, world_functions}
 use Rattle.scx_sched_machine.specs.declared.events.Event.{Event}
 use Rattle.scx_sched_machine.specs.declared.events.Event.TheVariants.{Wake, Sleep, Tick, Clock, SetWeight}
 use Rattle.scx_sched_machine.specs.Steps.{State, Stepped, CallMade, with_world, stays, one_after_other}
@@ -33,26 +36,36 @@ use Rattle.scx_sched_machine.specs.Rounds.{with_rounds}
 use Rattle.scx_sched_machine.specs.Callbacks.{call_ending, AreAnswered}
 use Rattle.scx_sched_machine.proofs.Choices.{keeps_if}
 use Rattle.scx_sched_machine.proofs.HelperCalls.{by_helper, IsOther, no_fault}
-use Rattle.scx_sched.specs.Causes.{HasFault, Of_helper, Of_answer, IsNeverStuck}
+use Rattle.scx_sched.specs.Causes.{HasFault, Of_helper, Of_answer, HasReason, IsNeverStuck}
 use Rattle.scx_sched.specs.Decided.{tree_after}
 use Rattle.scx_sched.proofs.Marks.{KeepsMarks, Anywhere, kept_kicked_so, kept_claim, kept_local, kept_entered}
 use Rattle.scx_sched.proofs.Unchanged.{eject_sets}
 use Rattle.scx_sched.proofs.Events.{IsFineNow, IsTaken, Wakes, Sleeps, Ticks, Clocks, Weighs, is_taken}
 use Rattle.scx_sched.proofs.Blaming.{IsHonest, state_with_tree, same_eject, honest_let_all_go, honest_joined, honest_stays, honest_with_rounds, no_rounds}
 use Rattle.scx_sched.proofs.Deciding.{IsHonestEvent, wake_is_honest, sleep_is_honest, tick_is_honest, weight_is_honest}
-use Rattle.scx_sched.proofs.Causing.{last_answered, computes, has_fault}
+use Rattle.scx_sched.proofs.Causing.{last_answered, computes, has_reason}
 
 -- ---- the run of a program
 
-abbrev IsUnstuck : WorldState → Type 0
-IsUnstuck w = IsOther w.call.fault
+-- some cause, or none, but not that a callback was stuck
+abbrev IsOtherCause : Option Cause → Type 0
+IsOtherCause o = o ≡ Some (reason.Fault Stuck) → ⊥
 
-unstuck_faulted : (w : WorldState) (f : Fault) → IsOther (Some f) → IsUnstuck w → IsUnstuck (with_fault w f)
-unstuck_faulted w f other h = go w.call.fault h
+other_fault : (f : Fault) → IsOther (Some f) → IsOtherCause (Some (reason.Fault f))
+other_fault f other e = other (same e)
   where
-    go : (o : Option Fault) → IsOther o → IsOther (first_fault o f)
+    same : Some (reason.Fault f) ≡ Some (reason.Fault Stuck) → Some f ≡ Some Stuck
+    same x = cc
+
+abbrev IsUnstuck : WorldState → Type 0
+IsUnstuck w = IsOtherCause w.call.cause
+
+unstuck_caused : (w : WorldState) (x : Cause) → IsOtherCause (Some x) → IsUnstuck w → IsUnstuck (with_cause w x)
+unstuck_caused w x other h = go w.call.cause h
+  where
+    go : (o : Option Cause) → IsOtherCause o → IsOtherCause (first_cause o x)
     go None k = other
-    go (Some g) k = k
+    go (Some y) k = k
 
 unstuck_marks : KeepsMarks Anywhere IsUnstuck
 unstuck_marks = record { there = λ w c h l. tt; homed = λ w t c l h. h; sliced = λ w t n h. h; sets = λ w a b c d h. h }
@@ -66,7 +79,7 @@ unstuck_released w (Some t) i h = unstuck_entered (after_leave w t) t i h
 
 unstuck_inserted : (w : WorldState) (o : Option Fault) (t : Option ℕ) (i : Insert) → IsOther o → IsUnstuck w → IsUnstuck (insert_or_fault w o t i)
 unstuck_inserted w None t i other h = keeps_if IsUnstuck (is_dispatch w.call.callback) (after_release w t (for_cpu w.call.cpu i)) (with_insert w i) (unstuck_released w t (for_cpu w.call.cpu i) h) h
-unstuck_inserted w (Some f) t i other h = unstuck_faulted w f other h
+unstuck_inserted w (Some f) t i other h = unstuck_caused w (reason.Fault f) (other_fault f other) h
 
 unstuck_moved : (w : WorldState) (o : Option ℕ) (q : ℕ) → IsUnstuck w → IsUnstuck (front_moved_to_local w o q)
 unstuck_moved w None q h = h
@@ -75,7 +88,8 @@ unstuck_moved w (Some t) q h = kept_local Anywhere IsUnstuck unstuck_marks (afte
 unstuck_helper : (w : WorldState) (f : Helper) (a : List Arg) → IsUnstuck w → IsUnstuck (helper_after w f a)
 unstuck_helper w f a h = by_helper IsUnstuck w (record {
   same = h;
-  faulty = λ f other. unstuck_faulted w f other h;
+  faulty = λ f other. unstuck_caused w (reason.Fault f) (other_fault f other) h;
+  ended = λ n. unstuck_caused w (reason.Exit (cast_signed w64 n)) (λ e. absurd (cc)) h;
   created = λ q. h;
   inserted = λ t i flags back none. unstuck_inserted w None t i no_fault h;
   late = λ linux here. h;
@@ -89,17 +103,17 @@ unstuck_query w (Call f a) h = unstuck_helper w f (map argument_of a) h
 unstuck_query w (Load t f) h = h
 unstuck_query w (Store t f k) h = h
 
-unstuck_called : (p : VerifiedProgram) (b : Callback) (a : Args) (maps : Maps) (w : WorldState) → w.call.fault ≡ None → IsUnstuck (call_ending (Some p) b a maps w).outside
+unstuck_called : (p : VerifiedProgram) (b : Callback) (a : Args) (maps : Maps) (w : WorldState) → w.call.cause ≡ None → IsUnstuck (call_ending (Some p) b a maps w).outside
 unfolding call_ending run_of
 unstuck_called p b a maps w fresh =
-    run_keeps (answer_to world_functions) (after_query world_functions) IsUnstuck unstuck_query b p.code (suc (instruction_count p.code)) 0 (start.start (program_arguments a) maps) w (subst IsOther (sym fresh) no_fault)
+    run_keeps (answer_to world_functions) (after_query world_functions) IsUnstuck unstuck_query b p.code (suc (instruction_count p.code)) 0 (start.start (program_arguments a) maps) w (subst IsOtherCause (sym fresh) (λ e. absurd (cc)))
 
 -- ---- a callback that is called
 
-never_by : (m : CallMade) (f : Fault) → m.world.call.fault ≡ None → HasFault m f → f ≡ Stuck → ⊥
+never_by : (m : CallMade) (f : Fault) → m.world.call.cause ≡ None → HasFault m f → f ≡ Stuck → ⊥
 never_by m f fresh (Of_helper answer w ends e) is =
     let there : IsUnstuck w = subst IsUnstuck (sym (ap (λ (x : Ending WorldState). x.outside) (computes m answer w ends))) (unstuck_called m.program m.callback m.arguments m.maps m.world fresh) in
-    there (e ∙ ap Some is)
+    there (e ∙ ap (λ g. Some (reason.Fault g)) is)
 never_by m f fresh (Of_answer answer w ends none same over what) is = absurd (cc)
 
 -- an ejection for a fault is named by it
@@ -110,12 +124,16 @@ same_fault f g n k e = cc
 pub never_stuck : (s : State) (r : Stepped) → IsHonest s r → AreAnswered r.calls → IsNeverStuck s.world → IsNeverStuck r.state.world
 never_stuck s r h answered before n out = go s.world.ejected refl
   where
+    by_reason : (m : CallMade) (why : Cause) → m.world.call.cause ≡ None → HasReason m why → cause.Fault Stuck n ≡ eject_of why s.world.clock → ⊥
+    by_reason m (reason.Fault f) fresh has e = never_by m f fresh has (sym (same_fault Stuck f n s.world.clock e))
+    by_reason m (reason.Exit code) fresh has e = absurd (cc)
+
     go : (o : Option Eject) → s.world.ejected ≡ o → ⊥
     go (Some x) e = before n (e ∙ ap Some (same_eject r.state.world.ejected x (cause.Fault Stuck n) (h.stays x e) out))
     go None e =
         let b = h.blamed (cause.Fault Stuck n) e out in
         let i = last_answered b.last.0 b.call (subst AreAnswered b.last.1 answered) in
-        never_by b.call b.fault b.fresh (has_fault b.call b.fault i b.wrong) (sym (same_fault Stuck b.fault n s.world.clock b.named))
+        by_reason b.call b.why b.fresh (has_reason b.call b.why i b.wrong) b.named
 
 -- ---- an accepted event
 

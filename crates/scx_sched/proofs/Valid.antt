@@ -24,7 +24,7 @@ use Rattle.scx_sched.proofs.First.{fine_started, time_started, policy_started, r
 use Rattle.scx_sched.proofs.Timely.{IsInTime}
 use Rattle.scx_sched.proofs.Watching.{time_step}
 use Rattle.scx_sched.proofs.Tallies.{queues_first, queues_there}
-use Rattle.scx_sched.proofs.Still.{still_step, still_first}
+use Rattle.scx_sched.proofs.Still.{still_step, still_first, are_current}
 
 fine_with : (n e : ℕ) (w : WorldState) → IsFine n e e None w.cpus w → IsFine (length w.tasks) e e None w.cpus w
 fine_with n e w h = subst (λ k. IsFine k e e None w.cpus w) (sym h.sound.tasks) h
@@ -37,7 +37,8 @@ valid_first p tree cpus t shape flags timeout programs e few =
       over = omega arith;
       pushes = omega (arith, few);
       still = (still_first p tree cpus t e).0;
-      untold = (still_first p tree cpus t e).1;
+      settled = (still_first p tree cpus t e).1;
+      current = are_current t.world (still_first p tree cpus t e).1;
       rules = rules_started p tree cpus t e ∙ sym (ap (λ (q : PolicyState). q.rules) (policy_started p tree cpus t e));
       timeout = subst (λ (q : PolicyState). IsTimeout q.timeout_ms) (sym (policy_started p tree cpus t e)) timeout;
       programs = subst (λ (q : PolicyState). AreAs q.callbacks) (sym (policy_started p tree cpus t e)) programs;
@@ -57,8 +58,9 @@ valid_step s n v e h answered few =
     record {
       over = grind (arith, nat_tests, a.not_over, h.over);
       pushes = omega (arith, few, h.pushes);
-      still = (still_step s v (h.still, h.untold)).0;
-      untold = (still_step s v (h.still, h.untold)).1;
+      still = (still_step s v (h.still, h.settled)).0;
+      settled = (still_step s v (h.still, h.settled)).1;
+      current = are_current t.world (still_step s v (h.still, h.settled)).1;
       rules = (decides s n v a.taken h.fine).rules ∙ (h.rules ∙ sym (ap (λ (q : PolicyState). q.rules) same));
       timeout = subst (λ (q : PolicyState). IsTimeout q.timeout_ms) (sym same) h.timeout;
       programs = subst (λ (q : PolicyState). AreAs q.callbacks) (sym same) h.programs;

@@ -9,7 +9,7 @@ use Rattle.scx_dsq.specs.Laws.{one_if, standing}
 use Rattle.scx_dsq.specs.declared.entries.Rank.{Rank}
 use Rattle.scx_dsq.specs.declared.entries.Rank.TheVariants.{Fifo, Front, Vtime}
 use Rattle.scx_isa_semantics.specs.declared.host_tables.Field.{Field}
-use Rattle.scx_isa_semantics.specs.declared.host_tables.Field.TheVariants.{Pid, Weight, Slice, DsqVtime, PrevCpu, Group, RunNs}
+use Rattle.scx_isa_semantics.specs.declared.host_tables.Field.TheVariants.{Pid, Weight, Slice, DsqVtime, PrevCpu, Group, RunNs, Cpus}
 use Rattle.scx_sched_tasks.specs.declared.task.Task.{Task}
 use Rattle.scx_sched_tasks.specs.Tasks.{no_task}
 use Rattle.scx_sched_world.specs.declared.call.Insert.{Insert}
@@ -155,6 +155,7 @@ stored_since x DsqVtime k = refl
 stored_since x PrevCpu k = refl
 stored_since x Group k = refl
 stored_since x RunNs k = refl
+stored_since x Cpus k = refl
 
 -- an insert
 pub given_since : (x : Task) (i : Insert) → (task_after_insert x i).since ≡ x.since

@@ -6,7 +6,7 @@ use Rattle.scx_weights.specs.Refusals.{weight_fault}
 use Rattle.scx_sched_world.specs.declared.eject.Eject.{Eject}
 use Rattle.scx_sched_world.specs.declared.eject.Eject.TheVariants as cause
 use Rattle.scx_sched_world.specs.World.{WorldState, with_tree, wait}
-use Rattle.scx_sched_world.specs.Tasks.{after_leave, after_tick, used_ms, later, begun_periods}
+use Rattle.scx_sched_world.specs.Tasks.{after_leave, used_ms, later, begun_periods}
 use Rattle.scx_sched_world.specs.Waits.{first_overdue}
 use Rattle.scx_sched_machine.specs.declared.events.Event.{Event}
 use Rattle.scx_sched_machine.specs.Policy.{PolicyState}
@@ -119,11 +119,15 @@ time_step limit n e s v tasks ok is fine time = let x = (keeps_with_rounds n I k
     ticks : (c t : ℕ) → c < length s.world.cpus → get_or s.world.cpus c None ≡ Some t → IsKeptByTick n I k e s.world c t
     ticks c t l at =
         let x = fine_ticked n e e s.world c t l at fine in
-        let z = after_tick s.world t in
-        let y = keeps_if (AreInTime limit n) (nat_lt t (length z.tasks)) (with_tree z (with_use z.tree t)) z (time_ticked limit n s.world t old) (time_ticked limit n s.world t old) in
         record {
-          goes_on = λ free. record { one = x.goes_on free; two = y };
-          leaves = λ up. record { one = x.leaves up; two = time_stopped limit n (used_ms (after_tick s.world t) t) c t y };
+          ran = record { one = x.ran; two = time_ticked limit n s.world t old };
+          uses = λ w same tree h.
+              let z = x.uses w same tree h.one in
+              let y = keeps_if (AreInTime limit n) (nat_lt t (length w.tasks)) (with_tree w (with_use w.tree t)) w h.two h.two in
+              record {
+                goes_on = λ free. record { one = z.goes_on free; two = y };
+                leaves = λ up. record { one = z.leaves up; two = time_stopped limit n (used_ms w t) c t y };
+              };
         }
 
     go : (v : Event) → IsTaken s v → I (e + 1) None (own_step s v).state.world.cpus (own_step s v).state.world

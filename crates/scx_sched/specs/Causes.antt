@@ -1,13 +1,15 @@
 -- Ejected for a cause: a policy is put out of force because a task waited too long, or
--- because a callback that really ran had a fault; once, and for good. And wherever a callback
--- has a fault, it is.
-use Rattle.std.specs.Prelude.{◌≡◌, ℕ, ◌+◌, ◌≤◌, List, [], ◌∷◌, ◌++◌, length, Some, None}
+-- because a callback that really ran had a fault or called `exit`; once, and for good. And wherever
+-- a callback has a fault or calls `exit`, it is.
+use Rattle.std.specs.Prelude.{◌≡◌, ℕ, ℤ, ◌+◌, ◌≤◌, List, [], ◌∷◌, ◌++◌, length, Some, None}
 use Rattle.scx_isa_semantics.specs.declared.callbacks.Callback.TheVariants.{SelectCpu}
 use Rattle.scx_isa_semantics.specs.Code.{instruction_count}
 use Rattle.scx_isa_semantics.specs.Elements.{Maps}
 use Rattle.scx_isa_semantics.specs.Runs.{Runs}
 use Rattle.scx_vm.specs.Arguments.{program_arguments}
 use Rattle.scx_vm.specs.Host.{host}
+use Rattle.scx_sched_world.specs.declared.eject.Cause.{Cause}
+use Rattle.scx_sched_world.specs.declared.eject.Cause.TheVariants as reason
 use Rattle.scx_sched_world.specs.declared.eject.Eject.{Eject}
 use Rattle.scx_sched_world.specs.declared.eject.Eject.TheVariants as cause
 use Rattle.scx_sched_world.specs.declared.faults.Fault.{Fault}
@@ -32,10 +34,20 @@ pub record EndsIn (m : CallMade) (answer : ℕ) (w : WorldState) : Type 0 where
 -- a callback with that fault: of its first helper call that has one, or else of its answer
 pub data HasFault (m : CallMade) (f : Fault) : Type 0 where
   Of_helper : (answer : ℕ) (w : WorldState)
-      → EndsIn m answer w → w.call.fault ≡ Some f → HasFault m f
+      → EndsIn m answer w → w.call.cause ≡ Some (reason.Fault f) → HasFault m f
   Of_answer : (answer : ℕ) (w : WorldState)
-      → EndsIn m answer w → w.call.fault ≡ None → m.callback ≡ SelectCpu → length w.cpus ≤ answer
+      → EndsIn m answer w → w.call.cause ≡ None → m.callback ≡ SelectCpu → length w.cpus ≤ answer
       → f ≡ NoSuchCpu → HasFault m f
+
+-- a callback that called `exit` with that code, before any fault and any other call of it
+pub data HasExit (m : CallMade) (code : ℤ) : Type 0 where
+  Of_call : (answer : ℕ) (w : WorldState)
+      → EndsIn m answer w → w.call.cause ≡ Some (reason.Exit code) → HasExit m code
+
+-- a callback with that reason to put the policy out of force
+abbrev pub HasReason : CallMade → Cause → Type 0
+HasReason m (reason.Fault f) = HasFault m f
+HasReason m (reason.Exit code) = HasExit m code
 
 -- the call is the last one of these
 abbrev pub IsLast : CallMade → List CallMade → Type 0
@@ -60,6 +72,8 @@ pub data IsCause (s : SimState) (e : Event) : Eject → Type 0 where
       → IsCause s e (cause.Stall t (s.state.world.clock + 1))
   Went_wrong : (m : CallMade) (f : Fault)
       → IsLast m (calls_of s e) → HasFault m f → IsCause s e (cause.Fault f (clock_in s e))
+  Ended : (m : CallMade) (code : ℤ)
+      → IsLast m (calls_of s e) → HasExit m code → IsCause s e (cause.Exit code (clock_in s e))
 
 -- from before an event to after it
 pub record EjectsOnce (s : SimState) (e : Event) (t : SimState) : Type 0 where
@@ -69,6 +83,9 @@ pub record EjectsOnce (s : SimState) (e : Event) (t : SimState) : Type 0 where
   -- no callback has a fault after which the policy is in force
   pub heard : t.state.world.ejected ≡ None → (m : CallMade) (f : Fault) → IsAmong m (calls_of s e)
       → HasFault m f → ⊥
+  -- nor does any call `exit`
+  pub obeyed : t.state.world.ejected ≡ None → (m : CallMade) (code : ℤ) → IsAmong m (calls_of s e)
+      → HasExit m code → ⊥
 
 -- no policy is out of force for a callback that was stuck
 abbrev pub IsNeverStuck : WorldState → Type 0

@@ -9,18 +9,20 @@ use Rattle.scx_vm.specs.Host.{after_query}
 use Rattle.scx_sched_world.specs.declared.call.Insert.{Insert}
 use Rattle.scx_sched_world.specs.declared.cpu_set.CpuSet.{CpuSet}
 use Rattle.scx_sched_world.specs.declared.eject.Eject.{Eject}
+use Rattle.scx_sched_world.specs.declared.passing.Passing.{Passing}
 use Rattle.scx_sched_world.specs.Ids.{parked_queue, local_on}
 use Rattle.scx_sched_world.specs.World.{WorldState, with_cycling, is_by_linux, task_at, with_task, at_callback, quiet}
 use Rattle.scx_sched_world.specs.Tasks.{with_slice, with_home, for_cpu, to_held, to_global, to_local, to_front, after_sleep, after_enter, after_fill, after_stop, started_at, after_run, after_keep, put_parked, after_take}
 use Rattle.scx_sched_world.specs.Helpers.{is_dispatch, with_insert, world_functions}
+use Rattle.scx_sched.specs.Once.{GoesSomewhere}
 use Rattle.scx_sched_world.specs.Ejecting.{put_out, evict, cut_task, put_builtin, after_catch_up, after_charge}
 
 -- the world with these sets of processors that are claimed, kicked and preempted, of those that the
--- callback at hand claimed, and with that task gone to sleep
+-- callback at hand claimed, and with what an event by Linux rules keeps until it ends
 abbrev pub with_sets :
-    WorldState → (claimed kicked preempted claims : CpuSet) (slept : Option ℕ) → WorldState
-with_sets w claimed kicked preempted claims slept = record w {
-  slept = slept;
+    WorldState → (claimed kicked preempted claims : CpuSet) (passing : Passing) → WorldState
+with_sets w claimed kicked preempted claims passing = record w {
+  passing = passing;
   claimed = claimed;
   kicked = kicked;
   preempted = preempted;
@@ -28,13 +30,17 @@ with_sets w claimed kicked preempted claims slept = record w {
 }
 
 -- where the task at hand may come to wait: for any processor, held, where a callback inserted it,
--- or, under Linux rules, at the front of a local queue
+-- or, under Linux rules, at the front of a local queue, or where select_cpu inserted it, once the
+-- policy has heard that the task is runnable
 pub data IsWanted (cpus : ℕ) (w : WorldState) (i : Insert) : Type 0 where
   ForAny : i ≡ to_global → IsWanted cpus w i
   Nowhere : i ≡ to_held → IsWanted cpus w i
   Inserted : (c : ℕ) (said : Insert)
       → c < cpus → w.call.insert ≡ Some said → i ≡ for_cpu c said → IsWanted cpus w i
   InFront : (c : ℕ) → c < cpus → is_by_linux w ≡ true → i ≡ to_front c → IsWanted cpus w i
+  Before : (c : ℕ) (said : Insert)
+      → c < cpus → is_by_linux w ≡ true → w.call.insert ≡ None
+      → GoesSomewhere w.queues cpus (Some said) → i ≡ for_cpu c said → IsWanted cpus w i
 
 -- The fact has a number, which grows by one as a task is charged, and may be said too high: an
 -- event charges one task at most.
@@ -53,10 +59,11 @@ pub record IsKeptBySteps (n : ℕ) (I : ℕ → Option ℕ → List (Option ℕ)
       → I m hand on w → I m hand on (quiet w)
   pub cycling : (m : ℕ) (hand : Option ℕ) (on : List (Option ℕ)) (w : WorldState) (o : Option ℕ)
       → I m hand on w → I m hand on (with_cycling w o)
-  -- Linux rules: sets of processors, the processor of a task, and a slice
+  -- Linux rules: sets of processors, what is kept until the event ends, the processor of a task,
+  -- and a slice
   pub sets : (m : ℕ) (hand : Option ℕ) (on : List (Option ℕ)) (w : WorldState)
-      (claimed kicked preempted claims : CpuSet) (slept : Option ℕ)
-      → I m hand on w → I m hand on (with_sets w claimed kicked preempted claims slept)
+      (claimed kicked preempted claims : CpuSet) (passing : Passing)
+      → I m hand on w → I m hand on (with_sets w claimed kicked preempted claims passing)
   pub homed : (m : ℕ) (hand : Option ℕ) (on : List (Option ℕ)) (w : WorldState) (t c : ℕ)
       → c < length on → I m hand on w → I m hand on (with_task w t (with_home (task_at w t) c))
   pub sliced : (m : ℕ) (hand : Option ℕ) (on : List (Option ℕ)) (w : WorldState) (t slice : ℕ)

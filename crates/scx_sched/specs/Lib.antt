@@ -2,6 +2,7 @@ pub mod Waits
 pub mod Once
 pub mod Usages
 pub mod Parked
+pub mod Current
 pub mod Kept
 pub mod Ranges
 pub mod Sim
@@ -9,6 +10,8 @@ pub mod Places
 pub mod Left
 pub mod Over
 pub mod Causes
+pub mod Failures
+pub mod Exits
 pub mod Decided
 pub mod Accepted
 pub mod Laws

@@ -3,6 +3,7 @@ use Rattle.std.specs.Prelude.{◌≡◌, ℕ, ◌==◌, ◌+◌, ◌-◌, ◌*�
 use Rattle.scx_sched_world.specs.declared.eject.Eject.TheVariants as cause
 use Rattle.scx_sched_world.specs.declared.faults.Fault.TheVariants.{Stuck}
 use Rattle.scx_sched_world.specs.declared.notes.Note.{Note}
+use Rattle.scx_sched_world.specs.World.{nothing_passes}
 use Rattle.scx_sched_machine.specs.declared.events.Event.{Event}
 use Rattle.scx_sched_machine.specs.declared.events.Refused.{Refused}
 use Rattle.scx_sched_machine.specs.declared.events.Refused.TheVariants.{RunOver}
@@ -13,6 +14,7 @@ use Rattle.scx_sched_machine.specs.Start.{first_state}
 use Rattle.scx_sched_machine.specs.Budgets.{start_pushes, event_pushes}
 use Rattle.scx_sched_machine.specs.Events as machine
 use Rattle.scx_sched.specs.Once.{AreInQueues}
+use Rattle.scx_sched.specs.Current.{AreCurrent}
 use Rattle.scx_sched.specs.Waits.{IsTimely}
 use Rattle.scx_sched.specs.Ranges.{IsFine}
 
@@ -74,7 +76,8 @@ pub record IsValid (state : State) (events : ℕ) : Type 0 where
   pub over : events ≤ max_events
   pub pushes : state.world.queues.pushes ≤ start_pushes + event_pushes * events
   pub still : state.world.cycling ≡ None
-  pub untold : state.world.slept ≡ None
+  pub settled : state.world.passing ≡ nothing_passes
+  pub current : AreCurrent state.world
   pub rules : state.world.rules ≡ state.policy.rules
   pub timeout : IsTimeout state.policy.timeout_ms
   pub programs : AreAs state.policy.callbacks

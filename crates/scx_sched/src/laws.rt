@@ -1,3 +1,4 @@
+ghost use Rattle.scx_sched.specs.Exits.{ExitsAreCalls, CallsAreExits};
 ghost use Rattle.scx_sched.specs.Left.{RoundsLeaveNothing};
 ghost use Rattle.scx_sched.specs.Laws.{StepKeepsFine, TickLeavesNothing, StepsKeepFine, NoPushIsRefused, EjectionLosesNobody};
 
@@ -25,6 +26,14 @@ pub fn ejections_lose_nobody()
 pub fn no_push_is_refused()
     ensures kept { StepsKeepFine }
     ensures accepted { NoPushIsRefused }
+{}
+
+/// A policy that is ejected for an exit has called `exit`: a callback whose first cause is an exit called `exit` with
+/// that code, before which it had no fault and called no `exit`; and each such call is its cause. The function does
+/// nothing: its contract is the law.
+pub fn exits_are_called()
+    ensures called { ExitsAreCalls }
+    ensures told { CallsAreExits }
 {}
 
 /// By Linux rules no CPU is kicked any more, and no idle CPU has a task in its local queue, once the rounds of an

@@ -3,7 +3,7 @@
 //!
 //! `Sim::step` is given an event, and does all that it causes; what happened goes to a `Sink` as notes.
 //! Between two events each runnable task is in one place, on a processor or in a queue. A policy that has a
-//! fault, or lets a task wait too long, is ejected, and a scheduler of the machine's own goes on.
+//! fault, calls `exit`, or lets a task wait too long, is ejected, and a scheduler of the machine's own goes on.
 //!
 //! A machine is given one event after another, in `crates/scx_tests_machine/src/session.rt`:
 //!
@@ -20,8 +20,8 @@ mod places;
 mod sim;
 
 pub use laws::{
-    ejections_lose_nobody, events_keep_places, no_idle_processor_is_forgotten, no_push_is_refused,
-    nothing_is_left_behind,
+    ejections_lose_nobody, events_keep_places, exits_are_called, no_idle_processor_is_forgotten,
+    no_push_is_refused, nothing_is_left_behind,
 };
 pub use places::Place;
 pub use scx_sched_machine::{

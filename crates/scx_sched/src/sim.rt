@@ -1,7 +1,7 @@
 ghost use Rattle.std.specs.Prelude.{◌≡◌, ℕ, ◌<◌, ◌≤◌, ◌^◌, false, length, None, IfOk, IfErr, OnOk, OnErr};
 ghost use Rattle.scx_dsq.specs.Queues.{entry_of};
 ghost use Rattle.scx_weights.specs.Limits.{usage_of};
-ghost use Rattle.scx_sched_world.specs.World.{task_at, is_runnable, running, wait, IsLike};
+ghost use Rattle.scx_sched_world.specs.World.{nothing_passes, task_at, is_runnable, running, wait, IsLike};
 ghost use Rattle.scx_sched_machine.specs.Hearing.{Hears};
 ghost use Rattle.scx_sched_machine.specs.Notes.{Takes};
 ghost use Rattle.scx_sched_machine.specs.Callbacks.{AreAnswered};
@@ -9,7 +9,9 @@ ghost use Rattle.scx_sched_machine.specs.Policy.{IsTimeout, AreAs};
 ghost use Rattle.scx_sched_machine.specs.Steps.{is_by_linux};
 ghost use Rattle.scx_sched_machine.specs.Start.{is_bad_shape, IsRefusal, start_calls, calls_before, AreAnsweredBefore};
 ghost use Rattle.scx_sched.specs.Causes.{EjectsOnce, IsNeverStuck};
+ghost use Rattle.scx_sched.specs.Current.{AreCurrent};
 ghost use Rattle.scx_sched.specs.Decided.{EventsDecide};
+ghost use Rattle.scx_sched.specs.Failures.{HasFailed, NoneFails};
 ghost use Rattle.scx_sched.specs.Left.{LeavesNothingIdle};
 ghost use Rattle.scx_sched.specs.Ranges.{IsFresh};
 ghost use Rattle.scx_sched.specs.Usages.{AreBounded};
@@ -53,14 +55,17 @@ impl Sim {
     /// The machine of a policy, with these groups and tasks, all asleep, and that many CPUs.
     ///
     /// `BadShape` is looked at first, then all memory is taken, and then init runs, and enable of each
-    /// task.
+    /// task. If one of them fails, `InitFailed` has the code of its `exit`, -22 for a fault, or the answer of init.
     pub fn new(alloc: Global, policy: Policy, tree: Tree, cpus: u32) -> Result<Sim, NewError>
         ensures first { IfOk result (IsFirstState policy tree cpus) }
         ensures shape { OnOk result (is_bad_shape tree cpus ≡ false) }
         ensures timeout { OnOk result (IsTimeout policy.timeout_ms) }
         ensures programs { OnOk result (AreAs policy.callbacks) }
         ensures in_force { IfOk result (λ sim. sim.state.world.ejected ≡ None) }
+        ensures current { IfOk result (λ sim. AreCurrent sim.state.world) }
         ensures refused { IfErr result (IsRefusal policy tree cpus) }
+        ensures failed { IfErr result (HasFailed policy tree cpus) }
+        ensures none_failed { OnOk result (NoneFails (start_calls policy tree cpus)) }
         ensures answered { OnOk result (AreAnswered (start_calls policy tree cpus)) }
         ensures answered_before { IfErr result (AreAnsweredBefore policy tree cpus) }
     {
@@ -80,7 +85,10 @@ impl Sim {
         ensures timeout { OnOk result (IsTimeout policy.timeout_ms) }
         ensures programs { OnOk result (AreAs policy.callbacks) }
         ensures in_force { IfOk result (λ sim. sim.state.world.ejected ≡ None) }
+        ensures current { IfOk result (λ sim. AreCurrent sim.state.world) }
         ensures refused { IfErr result (IsRefusal policy tree cpus) }
+        ensures failed { IfErr result (HasFailed policy tree cpus) }
+        ensures none_failed { OnOk result (NoneFails (start_calls policy tree cpus)) }
         ensures answered { OnOk result (AreAnswered (start_calls policy tree cpus)) }
         ensures answered_before { IfErr result (AreAnsweredBefore policy tree cpus) }
         ensures calls { OnOk result
@@ -120,6 +128,7 @@ impl Sim {
         ensures answered { AreAnswered (calls_of self.old event) }
         ensures once { IsOnce None self.new.state.world }
         ensures there { AreInQueues self.new.state.world }
+        ensures current { AreCurrent self.new.state.world }
         ensures timely { IsTimely self.new.state }
         ensures bounded { AreBounded self.new.state.world }
         ensures never_stuck { IsNeverStuck self.new.state.world }
@@ -145,6 +154,7 @@ impl Sim {
         ensures answered { AreAnswered (calls_of self.old event) }
         ensures once { IsOnce None self.new.state.world }
         ensures there { AreInQueues self.new.state.world }
+        ensures current { AreCurrent self.new.state.world }
         ensures timely { IsTimely self.new.state }
         ensures bounded { AreBounded self.new.state.world }
         ensures never_stuck { IsNeverStuck self.new.state.world }
@@ -187,20 +197,21 @@ impl Sim {
     /// has a wait where it is in a queue and not parked, and no longer one than a policy in force may let it
     /// have; no group with a quota has used as much as that and one millisecond for each processor in its
     /// period; the times of the built-in scheduler are far from where they would be cut off, and 0 until it
-    /// begins; stamps of queues are far from theirs; no scheduling cycle is under way, and no task is kept as one
-    /// that went to sleep; the rules are those of the policy; and each program of the policy was verified as its
-    /// callback. The function does nothing: its contract is the law.
+    /// begins; stamps of queues are far from theirs; no scheduling cycle is under way, nothing is kept of the event
+    /// before, and the current task of each CPU is the one that runs there; the rules are those of the policy; and
+    /// each program of the policy was verified as its callback. The function does nothing: its contract is the law.
     #[tactic(auto, using(crate::proofs::Bounded::are_bounded))]
     pub fn is_sound(&self)
         ensures once { IsOnce None self.now.state.world }
         ensures there { AreInQueues self.now.state.world }
+        ensures current { AreCurrent self.now.state.world }
         ensures waits { HasWaits None self.now.state.world }
         ensures timely { IsTimely self.now.state }
         ensures never_stuck { IsNeverStuck self.now.state.world }
         ensures bounded { AreBounded self.now.state.world }
         ensures times { (t : ℕ) → (task_at self.now.state.world t).builtin < 2 ^ 63 }
         ensures still { self.now.state.world.cycling ≡ None }
-        ensures untold { self.now.state.world.slept ≡ None }
+        ensures settled { self.now.state.world.passing ≡ nothing_passes }
         ensures rules { self.now.state.world.rules ≡ self.now.state.policy.rules }
         ensures fresh { self.now.state.world.ejected ≡ None → IsFresh self.now.state.world }
         ensures stamps { self.now.state.world.queues.pushes < 2 ^ 60 }

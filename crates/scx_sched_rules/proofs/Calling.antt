@@ -12,10 +12,10 @@ use Rattle.scx_sched_world.specs.World.{WorldState, at_callback}
 use Rattle.scx_sched_world.specs.Helpers.{world_functions}
 use Rattle.scx_sched_machine.specs.Steps.{State, CallMade, Stepped, one_after_other}
 use Rattle.scx_sched_machine.specs.Ejecting.{ejected_for}
-use Rattle.scx_sched_machine.specs.Callbacks.{acting, call_ending, calls_of, after_callback, fault_of, call_back, answered_by, AreAnswered}
+use Rattle.scx_sched_machine.specs.Callbacks.{acting, call_ending, calls_of, after_callback, cause_of, call_back, answered_by, AreAnswered}
 use Rattle.scx_sched_rules.specs.Callbacks.{EndsAs, Absent, Exits, Sticks, leaving}
 use Rattle.scx_sched_rules.specs.Laws.{RulesAllowCallbacks, RulesAllowCallbacksOnly}
-use Rattle.scx_sched_rules.proofs.Ejecting.{is_fault_of, only_fault_of, judges, only_judges}
+use Rattle.scx_sched_rules.proofs.Ejecting.{is_cause_of, only_cause_of, judges, only_judges}
 
 called_is : (p : VerifiedProgram) (b : Callback) (a : Args) (maps : Maps) (w : WorldState) (o : Option VerifiedProgram) → o ≡ Some p
     → call_ending o b a maps w ≡ run_of (answer_to world_functions) (after_query world_functions) b p.code (program_arguments a) maps w
@@ -60,19 +60,19 @@ abbrev followed_by : State → Callback → Args → WorldState → Ending World
 followed_by s b a w e r = one_after_other (leaving s b a w e) r
 
 abbrev followed : State → Callback → Args → WorldState → Ending WorldState → Stepped
-followed s b a w e = followed_by s b a w e (ejected_for (fault_of b e) (after_callback s.policy e))
+followed s b a w e = followed_by s b a w e (ejected_for (cause_of b e) (after_callback s.policy e))
 
 -- what is computed is allowed
 pub calls_back : RulesAllowCallbacks
 unfolding call_back answered_by
 calls_back s b a t c all = record {
   ending = ending s b a t c;
-  ends = ends_as (acting s b) b a s.maps (at_callback s.world b t c) (answered_first (calls_of (acting s b) b a s.maps (at_callback s.world b t c)) (ejected_for (fault_of b (ending s b a t c)) (after_callback s.policy (ending s b a t c))).calls all);
+  ends = ends_as (acting s b) b a s.maps (at_callback s.world b t c) (answered_first (calls_of (acting s b) b a s.maps (at_callback s.world b t c)) (ejected_for (cause_of b (ending s b a t c)) (after_callback s.policy (ending s b a t c))).calls all);
   answers = refl;
-  fault = fault_of b (ending s b a t c);
-  wrong = is_fault_of b (ending s b a t c);
-  ejected = ejected_for (fault_of b (ending s b a t c)) (after_callback s.policy (ending s b a t c));
-  judged = judges (after_callback s.policy (ending s b a t c)) (fault_of b (ending s b a t c));
+  cause = cause_of b (ending s b a t c);
+  why = is_cause_of b (ending s b a t c);
+  ejected = ejected_for (cause_of b (ending s b a t c)) (after_callback s.policy (ending s b a t c));
+  judged = judges (after_callback s.policy (ending s b a t c)) (cause_of b (ending s b a t c));
   all = refl;
 }
 
@@ -83,7 +83,7 @@ only_calls s b a t c x r h =
     let w = at_callback s.world b t c in
     let e = only_ends (acting s b) b a s.maps w h.ending h.ends in (
       h.answers ∙ ap (λ (k : Ending WorldState). k.answer) e,
-      h.all ∙ ap (λ y. followed_by s b a w h.ending y) (only_judges (after_callback s.policy h.ending) h.fault h.ejected h.judged)
-          ∙ ap (λ f. followed_by s b a w h.ending (ejected_for f (after_callback s.policy h.ending))) (only_fault_of b h.ending h.fault h.wrong)
+      h.all ∙ ap (λ y. followed_by s b a w h.ending y) (only_judges (after_callback s.policy h.ending) h.cause h.ejected h.judged)
+          ∙ ap (λ f. followed_by s b a w h.ending (ejected_for f (after_callback s.policy h.ending))) (only_cause_of b h.ending h.cause h.why)
           ∙ ap (λ k. followed s b a w k) e,
     )

@@ -1,8 +1,8 @@
 -- A cycle as it is computed is allowed, and no other is.
-use Rattle.std.proofs.Common.{◌≡◌, ℕ, zero, suc, ◌+◌, ◌<◌, ◌≤◌, cond, Bool, true, false, not, ◌==◌, ◌&&◌, nat_lt, ◌⊎◌, inl, inr, if◌then◌else◌, [], ◌∷◌, Option, Some, None, is_some, refl, sym, ◌∙◌, ap, subst, arith}
+use Rattle.std.proofs.Common.{◌≡◌, ℕ, zero, suc, ◌<◌, ◌≤◌, cond, Bool, true, false, not, ◌==◌, nat_lt, ◌⊎◌, inl, inr, if◌then◌else◌, [], ◌∷◌, Option, Some, None, is_some, refl, sym, ◌∙◌, ap, subst, arith}
 use Rattle.std.proofs.lemmas.Bool.Decides.{nat_tests}
 use Rattle.std.proofs.lemmas.Bool.{cases_eq, cases_lt, eq-eqb, ne_eqb}
-use Rattle.scx_dsq.specs.Queues.{len_of, front_of, entry_of, is_in, queue_of}
+use Rattle.scx_dsq.specs.Queues.{len_of, front_of, entry_of}
 use Rattle.scx_dsq.specs.Calls.{after_push, after_pop}
 use Rattle.scx_dsq.specs.declared.entries.Rank.TheVariants.{Fifo}
 use Rattle.scx_vm.specs.Programs.{VerifiedProgram}
@@ -11,7 +11,7 @@ use Rattle.scx_sched_world.specs.declared.call.Insert.{Insert}
 use Rattle.scx_sched_world.specs.declared.eject.Eject.{Eject}
 use Rattle.scx_sched_world.specs.declared.notes.What.TheVariants as note
 use Rattle.scx_sched_world.specs.Ids.{global, builtin_queue, parked_queue, local_on}
-use Rattle.scx_sched_world.specs.World.{WorldState, with_queues, note_now}
+use Rattle.scx_sched_world.specs.World.{WorldState, with_queues, with_cycling, note_now}
 use Rattle.scx_sched_world.specs.Tasks.{local_len, brought, to_front, homed}
 use Rattle.scx_sched_world.specs.Ejecting.{put_builtin, after_catch_up, after_charge}
 use Rattle.scx_sched_machine.specs.Steps.{State, Stepped, with_world, stays, after, one_after_other, is_by_linux}
@@ -24,7 +24,7 @@ use Rattle.scx_sched.proofs.Firsts.{no_front_is_empty}
 use Rattle.scx_sched_machine.specs.Cycle.{keeps_slice, supply_unless_kept, after_dispatch, asks_again, tries, stopping_called, after_stopping, after_running, put_back, leave, switched, started_if, start, rest, swap, swap_or_rest, builtin_dispatch, builtin_fill, builtin_ask, builtin_cycle, start_or_cycle, picked, refilled, is_local, start_picked, start_picked_or_cycle, pick, pick_or_rest, keep_or_pick, conclude, give_up, ask, seek, look, cycling, cycle}
 use Rattle.scx_sched_rules.specs.Differences.{KeepsSlice, GivesWay, IsToAsk}
 use Rattle.scx_sched_rules.specs.Cycles.{noting, silent, entering, enqueue_called, dispatch_called, gone_off, gone_on, picked_on, HasStopped, Policy_hears, Is_charged, HasStarted, Policy_learns, Catches_up, Enters, For_builtin, Default, Held, Inserted, Puts, Fills, HasLocal, NoOther, Moves, Parks, ParksFronts, NoneLeft, OneMore, Supplies, Supplied, ParkedOne, FillsBuiltin, HasOne, Looked, Dispatches, Supplied_then, Kept_then, Asks, Enough, Came, NothingMoved, KeptOn, Again, PutsBack, Is_put, Goes_first, Leaves, Nobody, Stops, Starts, Empty, Front, Rests, Keeps, Idles, WasIdle, Swaps, SwapsOrRests, Swapped, Kept, CyclesBuiltin, StartsOrAnew, Runs_front, Emptied, StartsPicked, picking, Picks, Picks_then, Picks_before, Picks_anew, Ends, Anew, KeepsOn, Picked, Rested, Seeks, Filled, Asked, Looks, Of_policy, Of_builtin, Cycles}
-use Rattle.scx_sched_rules.proofs.Differing.{both_true, false_from, not_so, then_stays, in_is, in_of, homes, only_homes, keeps, gives, keeps_or_gives, switches, only_switches, asks_of, asks_is, gives_up, only_gives_up}
+use Rattle.scx_sched_rules.proofs.Differing.{false_from, not_so, then_stays, in_is, in_of, homes, only_homes, begins_cycle, only_begins_cycle, ends_cycle, only_ends_cycle, keeps, gives, keeps_or_gives, switches, only_switches, asks_of, asks_is, gives_up, only_gives_up}
 
 -- ---- put
 
@@ -659,9 +659,23 @@ only_looks s c p ran r (Of_builtin x e h) = only_cycles_builtin s c p ran r h �
 -- a cycle goes as it is computed
 pub cycles : (s : State) (c : ℕ) (p : Option ℕ) (ran : Bool) → Cycles s c p ran (cycle s c p ran)
 unfolding cycle
-cycles s c p ran = record { found = look (cycling s (Some c)) c p ran; looks = looks (cycling s (Some c)) c p ran; all = refl }
+cycles s c p ran = record {
+  begun = with_cycling s.world (Some c);
+  begins = begins_cycle s.world c;
+  found = look (cycling s (Some c)) c p ran;
+  looks = looks (cycling s (Some c)) c p ran;
+  ended = with_cycling (look (cycling s (Some c)) c p ran).state.world None;
+  ends = ends_cycle (look (cycling s (Some c)) c p ran).state.world;
+  all = refl;
+}
+
+abbrev over_at : Stepped → WorldState → Stepped
+over_at x w = record { state = with_world x.state w; notes = x.notes; calls = x.calls }
 
 -- and in no other way
 pub only_cycles : (s : State) (c : ℕ) (p : Option ℕ) (ran : Bool) (r : Stepped) → Cycles s c p ran r → r ≡ cycle s c p ran
 unfolding cycle
-only_cycles s c p ran r h = h.all ∙ ap (λ (x : Stepped). record { state = cycling x.state None; notes = x.notes; calls = x.calls }) (only_looks (cycling s (Some c)) c p ran h.found h.looks)
+only_cycles s c p ran r h =
+    h.all ∙ ap (λ w. over_at h.found w) (only_ends_cycle h.found.state.world h.ended h.ends)
+    ∙ ap (λ (x : Stepped). over_at x (with_cycling x.state.world None)) (only_looks (with_world s h.begun) c p ran h.found h.looks)
+    ∙ ap (λ w. let x = look (with_world s w) c p ran in over_at x (with_cycling x.state.world None)) (only_begins_cycle s.world c h.begun h.begins)

@@ -1,17 +1,26 @@
 -- Where the rules differ, what is computed is as the cases allow, and nothing else is.
-use Rattle.std.proofs.Common.{◌≡◌, ℕ, ◌+◌, ◌%◌, ◌<◌, Bool, true, false, not, ◌==◌, ◌&&◌, ◌||◌, ◌⊎◌, inl, inr, if◌then◌else◌, [], ◌++◌, Option, Some, None, unwrap_or, option_map, refl, sym, ◌∙◌, ap, arith}
+use Rattle.std.proofs.Common.{◌≡◌, ℕ, ◌+◌, ◌%◌, ◌<◌, Bool, true, false, not, ◌==◌, ◌&&◌, ◌||◌, ◌⊎◌, inl, inr, if◌then◌else◌, [], ◌++◌, Option, Some, None, is_some, slice_index_or, unwrap_or, option_map, refl, sym, ◌∙◌, ap, arith}
 use Rattle.std.proofs.lemmas.Bool.{cases_eq, eq-eqb, ne_eqb}
 use Rattle.std.proofs.lemmas.Bool.Decides.{nat_tests}
 use Rattle.std.proofs.lemmas.List.{append-nil}
 use Rattle.scx_dsq.specs.Queues.{is_in}
 use Rattle.scx_dsq.specs.declared.entries.Entry.{Entry}
+use Rattle.scx_isa_semantics.specs.declared.callbacks.Callback.{Callback}
+use Rattle.scx_isa_semantics.specs.declared.callbacks.Callback.TheVariants as callback
+use Rattle.scx_vm.specs.Programs.{VerifiedProgram}
+use Rattle.scx_vm.specs.declared.arguments.Args.{Args}
+use Rattle.scx_sched_world.specs.declared.passing.Switch.{Switch}
+use Rattle.scx_sched_world.specs.CpuSets.{but_cpu}
 use Rattle.scx_sched_world.specs.World as world
-use Rattle.scx_sched_world.specs.World.{WorldState, with_slept, task_at, is_idle}
+use Rattle.scx_sched_world.specs.World.{WorldState, nothing_passes, or_switch, with_switch, with_cycling, with_slept, with_waker, current_in, current, here, task_at, running, is_idle}
 use Rattle.scx_sched_world.specs.Tasks.{homed, local_len, after_switch}
 use Rattle.scx_sched_machine.specs.Steps.{State, Stepped, with_world, stays, one_after_other, is_by_linux, kicked, kicked_if_idle}
 use Rattle.scx_sched_machine.specs.Cycle.{keeps_slice, asks_again, switched, give_up}
-use Rattle.scx_sched_machine.specs.Events.{told_of_sleep, ends_slices}
-use Rattle.scx_sched_rules.specs.Differences.{with_home_at, Homes, StaysAtHome, MovesHome, KeepsSlice, HasLeft, GivesWay, NoTask, ByPlain, UsedUp, Switches, SwitchesByPlain, SwitchesExactly, TakesTime, EndsSlices, EndsByPlain, EndsExactly, EndsAtTick, TellsSleep, TellsNobody, Tells, IsToAsk, GivesUp, GivesUpByPlain, HasAsked, LooksAgain, LooksIfIdle, LooksByPlain, IsBusy, Looks}
+use Rattle.scx_sched_machine.specs.Policy.{program_of}
+use Rattle.scx_sched_machine.specs.Callbacks.{call_back, call_by_linux, one_task}
+use Rattle.scx_sched_machine.specs.Events.{from_waker, told_of_sleep, is_tick_time, ends_slices, hears_tick, tick_heard}
+use Rattle.scx_sched_rules.specs.Differences.{with_home_at, Homes, StaysAtHome, MovesHome, IsCurrent, NoSwitch, SwitchesHere, SwitchesElsewhere, BeginsSwitch, NoSwitchByPlain, IsSwitching, Begins, BeginsCycle, BeginsByPlain, BeginsByLinux, EndsCycle, EndsAsByPlain, EndsAsByLinux, IsHere, WokenFrom, AtHand, TellsWaker, NoWaker, HasWaker, CallsIfThere, IsPlain, IsAbsent, IsThere, IsTickTime, EachMs, AtTick, HearsTick, NoTickByPlain, HasNoTick, BetweenTicks, IsCalled, KeepsSlice, HasLeft, GivesWay, NoTask, ByPlain, UsedUp, Switches, SwitchesByPlain, SwitchesExactly, TakesTime, EndsSlices, EndsByPlain, EndsAtTick, TellsSleep, TellsNobody, Tells, IsToAsk, GivesUp, GivesUpByPlain, HasAsked, LooksAgain, LooksIfIdle, LooksByPlain, IsBusy, Looks}
+use Rattle.scx_sched_rules.specs.Laws.{CyclesEndSwitches, CyclesKeepCurrent}
 
 -- ---- Booleans
 
@@ -149,30 +158,223 @@ or_second false b e = e
 or_first : (a b : Bool) → a ≡ true → (a || b) ≡ true
 or_first a b e = rw e refl
 
+tick_time_is : (s : State) → is_tick_time s ≡ true → IsTickTime s
+tick_time_is s e = go (true_either (s.policy.tick_ms == 0) ((s.world.clock + 1) % s.policy.tick_ms == 0) e)
+  where
+    go : (s.policy.tick_ms == 0) ≡ true ⊎ ((s.world.clock + 1) % s.policy.tick_ms == 0) ≡ true → IsTickTime s
+    go (inl x) = EachMs (is_zero s.policy.tick_ms x)
+    go (inr x) = AtTick (is_zero ((s.world.clock + 1) % s.policy.tick_ms) x)
+
+tick_time_of : (s : State) → IsTickTime s → is_tick_time s ≡ true
+tick_time_of s (EachMs z) = or_first (s.policy.tick_ms == 0) ((s.world.clock + 1) % s.policy.tick_ms == 0) (eq-eqb s.policy.tick_ms 0 z)
+tick_time_of s (AtTick z) = or_second (s.policy.tick_ms == 0) ((s.world.clock + 1) % s.policy.tick_ms == 0) (eq-eqb ((s.world.clock + 1) % s.policy.tick_ms) 0 z)
+
+not_true_is : (b : Bool) → not b ≡ true → b ≡ false
+not_true_is true x = absurd (cc)
+not_true_is false x = refl
+
 pub ends_is : (s : State) → ends_slices s ≡ true → EndsSlices s
 unfolding ends_slices
-ends_is s e = go (true_either (not (is_by_linux s)) ((s.policy.tick_ms == 0) || ((s.world.clock + 1) % s.policy.tick_ms == 0)) e)
+ends_is s e = go (true_either (not (is_by_linux s)) (is_tick_time s) e)
   where
-    plain : (b : Bool) → not b ≡ true → b ≡ false
-    plain true x = absurd (cc)
-    plain false x = refl
-
-    late : (s.policy.tick_ms == 0) ≡ true ⊎ ((s.world.clock + 1) % s.policy.tick_ms == 0) ≡ true → EndsSlices s
-    late (inl x) = EndsExactly (is_zero s.policy.tick_ms x)
-    late (inr x) = EndsAtTick (is_zero ((s.world.clock + 1) % s.policy.tick_ms) x)
-
-    go : (not (is_by_linux s) ≡ true) ⊎ (((s.policy.tick_ms == 0) || ((s.world.clock + 1) % s.policy.tick_ms == 0)) ≡ true) → EndsSlices s
-    go (inl x) = EndsByPlain (plain (is_by_linux s) x)
-    go (inr x) = late (true_either (s.policy.tick_ms == 0) ((s.world.clock + 1) % s.policy.tick_ms == 0) x)
+    go : (not (is_by_linux s) ≡ true) ⊎ (is_tick_time s ≡ true) → EndsSlices s
+    go (inl x) = EndsByPlain (not_true_is (is_by_linux s) x)
+    go (inr x) = EndsAtTick (tick_time_is s x)
 
 pub ends_of : (s : State) → EndsSlices s → ends_slices s ≡ true
 unfolding ends_slices
-ends_of s (EndsByPlain e) = or_first (not (is_by_linux s)) ((s.policy.tick_ms == 0) || ((s.world.clock + 1) % s.policy.tick_ms == 0)) (ap (λ b. not b) e)
-ends_of s (EndsExactly z) =
-    or_second (not (is_by_linux s)) ((s.policy.tick_ms == 0) || ((s.world.clock + 1) % s.policy.tick_ms == 0)) (or_first (s.policy.tick_ms == 0) ((s.world.clock + 1) % s.policy.tick_ms == 0) (eq-eqb s.policy.tick_ms 0 z))
-ends_of s (EndsAtTick z) =
-    or_second (not (is_by_linux s)) ((s.policy.tick_ms == 0) || ((s.world.clock + 1) % s.policy.tick_ms == 0))
-    (or_second (s.policy.tick_ms == 0) ((s.world.clock + 1) % s.policy.tick_ms == 0) (eq-eqb ((s.world.clock + 1) % s.policy.tick_ms) 0 z))
+ends_of s (EndsByPlain e) = or_first (not (is_by_linux s)) (is_tick_time s) (ap (λ b. not b) e)
+ends_of s (EndsAtTick h) = or_second (not (is_by_linux s)) (is_tick_time s) (tick_time_of s h)
+
+-- ---- the current task
+
+abbrev current_as : WorldState → ℕ → Switch → Bool → Option ℕ
+current_as w c x b = if b then x.from else running w c
+
+pub current_is : (w : WorldState) (c : ℕ) → IsCurrent w c (current w c)
+current_is w c = go w.passing.switching refl
+  where
+    at : (x : Switch) → w.passing.switching ≡ Some x → (x.cpu ≡ c) ⊎ (x.cpu ≡ c → ⊥) → IsCurrent w c (current_as w c x (x.cpu == c))
+    at x e (inl k) = rw (eq-eqb x.cpu c k) (SwitchesHere x e k refl)
+    at x e (inr d) = rw (ne_eqb x.cpu c d) (SwitchesElsewhere x e d refl)
+
+    go : (o : Option Switch) → w.passing.switching ≡ o → IsCurrent w c (current_in o w c)
+    go None e = NoSwitch e refl
+    go (Some x) e = at x e (cases_eq x.cpu c)
+
+pub only_current : (w : WorldState) (c : ℕ) (o : Option ℕ) → IsCurrent w c o → o ≡ current w c
+only_current w c o (NoSwitch e k) = k ∙ ap (λ x. current_in x w c) (sym e)
+only_current w c o (SwitchesHere x e h k) = k ∙ ap (λ b. current_as w c x b) (sym (eq-eqb x.cpu c h)) ∙ ap (λ y. current_in y w c) (sym e)
+only_current w c o (SwitchesElsewhere x e d k) = k ∙ ap (λ b. current_as w c x b) (sym (ne_eqb x.cpu c d)) ∙ ap (λ y. current_in y w c) (sym e)
+
+abbrev switched_to : WorldState → Option Switch → WorldState
+switched_to w o = record w { passing = record w.passing { switching = o } }
+
+abbrev new_switch : WorldState → ℕ → Switch
+new_switch w c = record { cpu = c; from = running w c }
+
+abbrev switch_as : WorldState → ℕ → Bool → Option Switch → WorldState
+switch_as w c b o = if b then switched_to w (or_switch o (new_switch w c)) else w
+
+pub begins_switch : (w : WorldState) (c : ℕ) → BeginsSwitch w c (with_switch w c)
+begins_switch w c = go (world.is_by_linux w) refl w.passing.switching refl
+  where
+    go : (b : Bool) → world.is_by_linux w ≡ b → (o : Option Switch) → w.passing.switching ≡ o → BeginsSwitch w c (switch_as w c b o)
+    go false e o x = NoSwitchByPlain e refl
+    go true e None x = Begins e x refl
+    go true e (Some y) x = IsSwitching y x (ap (λ o. switched_to w o) (sym x))
+
+pub only_begins_switch : (w : WorldState) (c : ℕ) (v : WorldState) → BeginsSwitch w c v → v ≡ with_switch w c
+only_begins_switch w c v (NoSwitchByPlain e k) = k ∙ ap (λ b. switch_as w c b w.passing.switching) (sym e)
+only_begins_switch w c v (IsSwitching x e k) = k ∙ still (world.is_by_linux w)
+  where
+    still : (b : Bool) → w ≡ switch_as w c b w.passing.switching
+    still false = refl
+    still true = ap (λ o. switched_to w o) (e ∙ ap (λ o. or_switch o (new_switch w c)) (sym e))
+only_begins_switch w c v (Begins e n k) = k ∙ ap (λ o. switch_as w c true o) (sym n) ∙ ap (λ b. switch_as w c b w.passing.switching) (sym e)
+
+abbrev begun_from : WorldState → ℕ → WorldState → WorldState
+begun_from w c u = record u { cycling = Some c; claimed = but_cpu w.claimed c }
+
+abbrev begun_as : WorldState → ℕ → Bool → WorldState
+begun_as w c b = if b then begun_from w c (with_switch w c) else record w { cycling = Some c }
+
+pub begins_cycle : (w : WorldState) (c : ℕ) → BeginsCycle w c (with_cycling w (Some c))
+begins_cycle w c = go (world.is_by_linux w) refl
+  where
+    go : (b : Bool) → world.is_by_linux w ≡ b → BeginsCycle w c (begun_as w c b)
+    go false e = BeginsByPlain e refl
+    go true e = BeginsByLinux (with_switch w c) e (begins_switch w c) refl
+
+pub only_begins_cycle : (w : WorldState) (c : ℕ) (v : WorldState) → BeginsCycle w c v → v ≡ with_cycling w (Some c)
+only_begins_cycle w c v (BeginsByPlain e k) = k ∙ ap (λ b. begun_as w c b) (sym e)
+only_begins_cycle w c v (BeginsByLinux u e h k) = k ∙ ap (λ x. begun_from w c x) (only_begins_switch w c u h) ∙ ap (λ b. begun_as w c b) (sym e)
+
+abbrev over_as : WorldState → Bool → WorldState
+over_as w b = if b then record w { cycling = None; passing = nothing_passes } else record w { cycling = None }
+
+pub ends_cycle : (w : WorldState) → EndsCycle w (with_cycling w None)
+ends_cycle w = go (world.is_by_linux w) refl
+  where
+    go : (b : Bool) → world.is_by_linux w ≡ b → EndsCycle w (over_as w b)
+    go false e = EndsAsByPlain e refl
+    go true e = EndsAsByLinux e refl
+
+pub only_ends_cycle : (w v : WorldState) → EndsCycle w v → v ≡ with_cycling w None
+only_ends_cycle w v (EndsAsByPlain e k) = k ∙ ap (λ b. over_as w b) (sym e)
+only_ends_cycle w v (EndsAsByLinux e k) = k ∙ ap (λ b. over_as w b) (sym e)
+
+-- as a cycle ends, the task that runs on a processor is the current one
+pub ends_switches : CyclesEndSwitches
+ends_switches w c e = ap (λ b. current (over_as w b) c) e
+
+same_current : (o : Option Switch) (v w : WorldState) (d : ℕ) → v.cpus ≡ w.cpus → current_in o v d ≡ current_in o w d
+same_current None v w d e = ap (λ x. slice_index_or x d None) e
+same_current (Some s) v w d e = ap (λ x. if s.cpu == d then s.from else slice_index_or x d None) e
+
+switch_keeps : (w : WorldState) (c d : ℕ) → current (with_switch w c) d ≡ current w d
+switch_keeps w c d = go (world.is_by_linux w) w.passing.switching refl
+  where
+    new : w.passing.switching ≡ None → (c ≡ d) ⊎ (c ≡ d → ⊥) → current_as w d (new_switch w c) (c == d) ≡ current w d
+    new x (inl k) = ap (λ b. current_as w d (new_switch w c) b) (eq-eqb c d k) ∙ ap (λ m. running w m) k ∙ ap (λ o. current_in o w d) (sym x)
+    new x (inr n) = ap (λ b. current_as w d (new_switch w c) b) (ne_eqb c d n) ∙ ap (λ o. current_in o w d) (sym x)
+
+    go : (b : Bool) (o : Option Switch) → w.passing.switching ≡ o → current (switch_as w c b o) d ≡ current w d
+    go false o x = refl
+    go true None x = new x (cases_eq c d)
+    go true (Some y) x = ap (λ o. current_in o w d) (sym x)
+
+-- as one begins, each current task stays the current one
+pub keeps_current : CyclesKeepCurrent
+keeps_current w c d = go (world.is_by_linux w)
+  where
+    v : WorldState
+    v = with_switch w c
+
+    go : (b : Bool) → current (begun_as w c b) d ≡ current w d
+    go false = same_current w.passing.switching (begun_as w c false) w d refl
+    go true = same_current v.passing.switching (begun_from w c v) v d refl ∙ switch_keeps w c d
+
+-- ---- the processor of a callback
+
+pub is_here : (w : WorldState) → IsHere w (here w)
+is_here w = go w.passing.waker refl
+  where
+    go : (o : Option ℕ) → w.passing.waker ≡ o → IsHere w (unwrap_or o w.call.cpu)
+    go None e = AtHand e refl
+    go (Some c) e = WokenFrom c e refl
+
+pub only_here : (w : WorldState) (n : ℕ) → IsHere w n → n ≡ here w
+only_here w n (WokenFrom c e k) = k ∙ ap (λ o. unwrap_or o w.call.cpu) (sym e)
+only_here w n (AtHand e k) = k ∙ ap (λ o. unwrap_or o w.call.cpu) (sym e)
+
+abbrev waker_as : State → ℕ → Bool → State
+waker_as s t b = if b then with_world s (with_waker s.world (Some (task_at s.world t).prev_cpu)) else s
+
+pub tells_waker : (s : State) (t : ℕ) → TellsWaker s t (from_waker s t)
+unfolding from_waker
+tells_waker s t = go (is_by_linux s) refl
+  where
+    go : (b : Bool) → is_by_linux s ≡ b → TellsWaker s t (waker_as s t b)
+    go true e = HasWaker e refl
+    go false e = NoWaker e refl
+
+pub only_tells_waker : (s : State) (t : ℕ) (v : State) → TellsWaker s t v → v ≡ from_waker s t
+unfolding from_waker
+only_tells_waker s t v (NoWaker e k) = k ∙ ap (λ b. waker_as s t b) (sym e)
+only_tells_waker s t v (HasWaker e k) = k ∙ ap (λ b. waker_as s t b) (sym e)
+
+-- ---- callbacks by Linux rules
+
+abbrev called_as : State → Callback → Args → ℕ → ℕ → Bool → Stepped
+called_as s b a t c x = if x then call_back s b a t c else stays s
+
+pub calls_if_there : (s : State) (b : Callback) (a : Args) (t c : ℕ) → CallsIfThere s b a t c (call_by_linux s b a t c)
+unfolding call_by_linux
+calls_if_there s b a t c = go (is_by_linux s) refl (program_of s.policy b) refl
+  where
+    go : (x : Bool) → is_by_linux s ≡ x → (o : Option VerifiedProgram) → program_of s.policy b ≡ o → CallsIfThere s b a t c (called_as s b a t c (x && is_some o))
+    go false e o k = IsPlain e refl
+    go true e None k = IsAbsent k refl
+    go true e (Some p) k = IsThere p e k refl
+
+pub only_calls_if_there : (s : State) (b : Callback) (a : Args) (t c : ℕ) (r : Stepped) → CallsIfThere s b a t c r → r ≡ call_by_linux s b a t c
+unfolding call_by_linux
+only_calls_if_there s b a t c r (IsPlain e k) = k ∙ ap (λ x. called_as s b a t c x) (sym (false_and (is_by_linux s) (is_some (program_of s.policy b)) e))
+only_calls_if_there s b a t c r (IsAbsent e k) = k ∙ ap (λ x. called_as s b a t c x) (sym (and_false (is_by_linux s) (is_some (program_of s.policy b)) (ap (λ o. is_some o) e)))
+only_calls_if_there s b a t c r (IsThere p e h k) = k ∙ ap (λ x. called_as s b a t c x) (sym (and_true (is_by_linux s) (is_some (program_of s.policy b)) e (ap (λ o. is_some o) h)))
+
+pub hears : (s : State) (c t : ℕ) → HearsTick s c t (tick_heard s c t)
+unfolding hears_tick tick_heard
+hears s c t = go (is_by_linux s) refl s.policy.callbacks.tick refl (is_tick_time s) refl
+  where
+    go : (x : Bool) → is_by_linux s ≡ x → (o : Option VerifiedProgram) → s.policy.callbacks.tick ≡ o → (y : Bool) → is_tick_time s ≡ y → HearsTick s c t (called_as s callback.Tick (one_task t) t c ((x && is_some o) && y))
+    go false e o k y m = NoTickByPlain e refl
+    go true e None k y m = HasNoTick k refl
+    go true e (Some p) k false m = BetweenTicks (λ h. not_so (is_tick_time s) m (tick_time_of s h)) refl
+    go true e (Some p) k true m = IsCalled p e k (tick_time_is s m) refl
+
+pub only_hears : (s : State) (c t : ℕ) (r : Stepped) → HearsTick s c t r → r ≡ tick_heard s c t
+unfolding hears_tick tick_heard
+only_hears s c t r h = go h
+  where
+    x : Bool
+    x = is_by_linux s
+
+    y : Bool
+    y = is_some s.policy.callbacks.tick
+
+    z : Bool
+    z = is_tick_time s
+
+    done : Bool → Stepped
+    done b = called_as s callback.Tick (one_task t) t c b
+
+    go : HearsTick s c t r → r ≡ done ((x && y) && z)
+    go (NoTickByPlain e k) = k ∙ ap (λ b. done b) (sym (false_and (x && y) z (false_and x y e)))
+    go (HasNoTick e k) = k ∙ ap (λ b. done b) (sym (false_and (x && y) z (and_false x y (ap (λ o. is_some o) e))))
+    go (BetweenTicks n k) = k ∙ ap (λ b. done b) (sym (and_false (x && y) z (false_from z (λ m. n (tick_time_is s m)))))
+    go (IsCalled p e h m k) = k ∙ ap (λ b. done b) (sym (and_true (x && y) z (and_true x y e (ap (λ o. is_some o) h)) (tick_time_of s m)))
 
 -- ---- dispatch
 

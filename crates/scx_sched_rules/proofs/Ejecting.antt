@@ -6,23 +6,41 @@ use Rattle.std.proofs.lemmas.List.{append-nil}
 use Rattle.scx_isa_semantics.specs.declared.callbacks.Callback.{Callback}
 use Rattle.scx_isa_semantics.specs.declared.callbacks.Callback.TheVariants as callback
 use Rattle.scx_isa_semantics.specs.Endings.{Ending}
+use Rattle.scx_sched_world.specs.declared.eject.Cause.{Cause}
+use Rattle.scx_sched_world.specs.declared.eject.Cause.TheVariants as reason
 use Rattle.scx_sched_world.specs.declared.eject.Eject.{Eject}
 use Rattle.scx_sched_world.specs.declared.eject.Eject.TheVariants as cause
-use Rattle.scx_sched_world.specs.declared.faults.Fault.{Fault}
 use Rattle.scx_sched_world.specs.declared.faults.Fault.TheVariants as fault
 use Rattle.scx_sched_world.specs.declared.notes.Note.{Note}
 use Rattle.scx_sched_world.specs.declared.notes.What.TheVariants as note
 use Rattle.scx_sched_world.specs.Ids.{builtin_queue}
 use Rattle.scx_sched_world.specs.World.{WorldState, waits, running, note_now}
 use Rattle.scx_sched_world.specs.Tasks.{after_leave}
-use Rattle.scx_sched_world.specs.Helpers.{or_fault}
-use Rattle.scx_sched_world.specs.Ejecting.{put_out, put_builtin, evict, after_evictions, evict_note, evict_notes, cut_task, after_cut, eject_note}
+use Rattle.scx_sched_world.specs.Helpers.{first_cause, with_cause}
+use Rattle.scx_sched_world.specs.Ejecting.{eject_of, put_out, put_builtin, evict, after_evictions, evict_note, evict_notes, cut_task, after_cut, eject_note}
 use Rattle.scx_sched_machine.specs.Steps.{State, Stepped, with_world}
 use Rattle.scx_sched_machine.specs.Ejecting.{moves_over, eject, ejected_for}
-use Rattle.scx_sched_machine.specs.Callbacks.{answer_fault, end_fault, fault_of}
-use Rattle.scx_sched_rules.specs.Ejections.{FaultOf, Of_helper, Is_stuck, Of_answer, Of_nothing, Of_no_answer, GoOver, Begins, Waits, Passes, Ejects, Judges, Stays, Ejected}
+use Rattle.scx_sched_machine.specs.Callbacks.{answer_fault, end_fault, as_cause, or_cause, cause_of}
+use Rattle.scx_sched_rules.specs.Helpers.{Blames, IsFirst, HasOne}
+use Rattle.scx_sched_rules.specs.Ejections.{CauseOf, Of_helper, Is_stuck, Of_answer, Of_nothing, Of_no_answer, GoOver, Begins, Waits, Passes, Ejects, Judges, Stays, Ejected, Ended}
 
--- ---- faults
+-- ---- causes
+
+abbrev blamed_as : WorldState → Cause → Option Cause → WorldState
+blamed_as w x o = record w { call = record w.call { cause = first_cause o x } }
+
+-- the first of several causes counts
+pub blames : (w : WorldState) (x : Cause) → Blames w x (with_cause w x)
+blames w x = go w.call.cause refl
+  where
+    go : (o : Option Cause) → w.call.cause ≡ o → Blames w x (blamed_as w x o)
+    go None e = IsFirst e refl
+    go (Some y) e = HasOne y e (ap (λ o. record w { call = record w.call { cause = o } }) (sym e))
+
+-- and no other
+pub only_blames : (w : WorldState) (x : Cause) (v : WorldState) → Blames w x v → v ≡ with_cause w x
+only_blames w x v (IsFirst e k) = k ∙ ap (λ o. blamed_as w x o) (sym e)
+only_blames w x v (HasOne y e k) = k ∙ ap (λ o. record w { call = record w.call { cause = o } }) (e ∙ ap (λ o. first_cause o x) (sym e))
 
 below : (k n : ℕ) → k < n → nat_lt k n ≡ true
 below k n l = grind (arith, nat_tests, l)
@@ -31,19 +49,19 @@ past : (k n : ℕ) → n ≤ k → nat_lt k n ≡ false
 past k n l = grind (arith, nat_tests, l)
 
 -- an answer is judged in select_cpu alone
-of_answer : (b : Callback) (e : Ending WorldState) (n : ℕ) → e.outside.call.fault ≡ None → e.answer ≡ Some n → FaultOf b e (answer_fault b e.outside n)
+of_answer : (b : Callback) (e : Ending WorldState) (n : ℕ) → e.outside.call.cause ≡ None → e.answer ≡ Some n → CauseOf b e (as_cause (answer_fault b e.outside n))
 of_answer callback.SelectCpu e n x y = go (cases_lt n (length e.outside.cpus))
   where
-    go : (n < length e.outside.cpus) ⊎ (length e.outside.cpus ≤ n) → FaultOf callback.SelectCpu e (if nat_lt n (length e.outside.cpus) then None else Some fault.NoSuchCpu)
+    go : (n < length e.outside.cpus) ⊎ (length e.outside.cpus ≤ n) → CauseOf callback.SelectCpu e (as_cause (if nat_lt n (length e.outside.cpus) then None else Some fault.NoSuchCpu))
     go (inl l) = rw (below n (length e.outside.cpus) l) (Of_nothing n x y refl l)
     go (inr l) = rw (past n (length e.outside.cpus) l) (Of_answer n x y refl l)
 of_answer b e n x y = Of_no_answer n x y (λ z. absurd (cc))
 
--- what counts as a fault of a callback is one by the rules
-pub is_fault_of : (b : Callback) (e : Ending WorldState) → FaultOf b e (fault_of b e)
-is_fault_of b e = go e.outside.call.fault refl e.answer refl
+-- what counts as a cause of a callback is one by the rules
+pub is_cause_of : (b : Callback) (e : Ending WorldState) → CauseOf b e (cause_of b e)
+is_cause_of b e = go e.outside.call.cause refl e.answer refl
   where
-    go : (f : Option Fault) → e.outside.call.fault ≡ f → (a : Option ℕ) → e.answer ≡ a → FaultOf b e (or_fault f (end_fault b e.outside a))
+    go : (f : Option Cause) → e.outside.call.cause ≡ f → (a : Option ℕ) → e.answer ≡ a → CauseOf b e (or_cause f (as_cause (end_fault b e.outside a)))
     go (Some f) x a y = Of_helper f x
     go None x None y = Is_stuck x y
     go None x (Some n) y = of_answer b e n x y
@@ -52,25 +70,25 @@ no_answer_fault : (b : Callback) (w : WorldState) (n : ℕ) → (b ≡ callback.
 no_answer_fault callback.SelectCpu w n other = absurd (other refl)
 no_answer_fault b w n other = refl
 
-abbrev fault_as : Callback → WorldState → Option Fault → Option ℕ → Option Fault
-fault_as b w f a = or_fault f (end_fault b w a)
+abbrev cause_as : Callback → WorldState → Option Cause → Option ℕ → Option Cause
+cause_as b w f a = or_cause f (as_cause (end_fault b w a))
 
-fault_at : (b : Callback) (e : Ending WorldState) (f : Option Fault) (a : Option ℕ) → e.outside.call.fault ≡ f → e.answer ≡ a → fault_as b e.outside f a ≡ fault_of b e
-fault_at b e f a x y = ap (λ o. fault_as b e.outside f o) (sym y) ∙ ap (λ o. fault_as b e.outside o e.answer) (sym x)
+cause_at : (b : Callback) (e : Ending WorldState) (f : Option Cause) (a : Option ℕ) → e.outside.call.cause ≡ f → e.answer ≡ a → cause_as b e.outside f a ≡ cause_of b e
+cause_at b e f a x y = ap (λ o. cause_as b e.outside f o) (sym y) ∙ ap (λ o. cause_as b e.outside o e.answer) (sym x)
 
 -- and nothing else is
-pub only_fault_of : (b : Callback) (e : Ending WorldState) (f : Option Fault) → FaultOf b e f → f ≡ fault_of b e
-only_fault_of b e f (Of_helper g x) = fault_at b e (Some g) e.answer x refl
-only_fault_of b e f (Is_stuck x y) = fault_at b e None None x y
-only_fault_of b e f (Of_answer n x y z l) = seen (past n (length e.outside.cpus) l) ∙ fault_at b e None (Some n) x y
+pub only_cause_of : (b : Callback) (e : Ending WorldState) (f : Option Cause) → CauseOf b e f → f ≡ cause_of b e
+only_cause_of b e f (Of_helper g x) = cause_at b e (Some g) e.answer x refl
+only_cause_of b e f (Is_stuck x y) = cause_at b e None None x y
+only_cause_of b e f (Of_answer n x y z l) = seen (past n (length e.outside.cpus) l) ∙ cause_at b e None (Some n) x y
   where
-    seen : nat_lt n (length e.outside.cpus) ≡ false → Some fault.NoSuchCpu ≡ answer_fault b e.outside n
+    seen : nat_lt n (length e.outside.cpus) ≡ false → Some (reason.Fault fault.NoSuchCpu) ≡ as_cause (answer_fault b e.outside n)
     seen t = rw (z, t) refl
-only_fault_of b e f (Of_nothing n x y z l) = seen (below n (length e.outside.cpus) l) ∙ fault_at b e None (Some n) x y
+only_cause_of b e f (Of_nothing n x y z l) = seen (below n (length e.outside.cpus) l) ∙ cause_at b e None (Some n) x y
   where
-    seen : nat_lt n (length e.outside.cpus) ≡ true → None ≡ answer_fault b e.outside n
+    seen : nat_lt n (length e.outside.cpus) ≡ true → None ≡ as_cause (answer_fault b e.outside n)
     seen t = rw (z, t) refl
-only_fault_of b e f (Of_no_answer n x y other) = sym (no_answer_fault b e.outside n other) ∙ fault_at b e None (Some n) x y
+only_cause_of b e f (Of_no_answer n x y other) = ap (λ o. as_cause o) (sym (no_answer_fault b e.outside n other)) ∙ cause_at b e None (Some n) x y
 
 -- ---- who goes where
 
@@ -134,14 +152,16 @@ only_ejects s x r h =
     h.all ∙ ap (λ ns. left_by s x ns h.over) f.0 ∙ ap (λ v. left_by s x (evict_notes (length s.world.tasks) (put_out s.world x)) v) f.1
 
 -- after a callback
-pub judges : (s : State) (f : Option Fault) → Judges s f (ejected_for f s)
+pub judges : (s : State) (x : Option Cause) → Judges s x (ejected_for x s)
 judges s None = Stays _ refl
-judges s (Some f) = Ejected f _ (ejects s (cause.Fault f s.world.clock))
+judges s (Some (reason.Fault f)) = Ejected f _ (ejects s (cause.Fault f s.world.clock))
+judges s (Some (reason.Exit n)) = Ended n _ (ejects s (cause.Exit n s.world.clock))
 
 -- after a callback the rules allow no other step than the one that is computed
-pub only_judges : (s : State) (f : Option Fault) (r : Stepped) → Judges s f r → r ≡ ejected_for f s
+pub only_judges : (s : State) (x : Option Cause) (r : Stepped) → Judges s x r → r ≡ ejected_for x s
 only_judges s None r (Stays _ k) = k
-only_judges s (Some f) r (Ejected _ _ h) = only_ejects s (cause.Fault f s.world.clock) r h
+only_judges s (Some (reason.Fault f)) r (Ejected _ _ h) = only_ejects s (cause.Fault f s.world.clock) r h
+only_judges s (Some (reason.Exit n)) r (Ended _ _ h) = only_ejects s (cause.Exit n s.world.clock) r h
 
 -- ---- an ejected policy is out of force
 
@@ -175,28 +195,28 @@ stays_out s x =
 some_eject : (x : Eject) → Some x ≡ None → ⊥
 some_eject x e = absurd (cc)
 
--- what leaves a policy in force had no fault
-pub no_fault : (f : Option Fault) (s : State) → (ejected_for f s).state.world.ejected ≡ None → f ≡ None
-no_fault None s e = refl
-no_fault (Some f) s e = let x = cause.Fault f s.world.clock in absurd (some_eject x (sym (stays_out s x) ∙ e))
+-- what leaves a policy in force had no cause to put it out of force
+pub no_cause : (x : Option Cause) (s : State) → (ejected_for x s).state.world.ejected ≡ None → x ≡ None
+no_cause None s e = refl
+no_cause (Some x) s e = let y = eject_of x s.world.clock in absurd (some_eject y (sym (stays_out s y) ∙ e))
 
 -- it answers the number of a processor
 abbrev pub NamesCpu : ℕ → Option ℕ → Type 0
 NamesCpu cpus a = (n : ℕ) × (a ≡ Some n) × (n < cpus)
 
-some_fault : (f : Fault) → Some f ≡ None → ⊥
-some_fault f e = absurd (cc)
+some_cause : (x : Cause) → Some x ≡ None → ⊥
+some_cause x e = absurd (cc)
 
--- select_cpu does so where it has no fault
-pub names_cpu : (e : Ending WorldState) → fault_of callback.SelectCpu e ≡ None → NamesCpu (length e.outside.cpus) e.answer
-names_cpu e = go e.outside.call.fault e.answer refl
+-- select_cpu does so where it has no cause
+pub names_cpu : (e : Ending WorldState) → cause_of callback.SelectCpu e ≡ None → NamesCpu (length e.outside.cpus) e.answer
+names_cpu e = go e.outside.call.cause e.answer refl
   where
     at : (n : ℕ) → e.answer ≡ Some n → (n < length e.outside.cpus) ⊎ (length e.outside.cpus ≤ n)
-        → (if nat_lt n (length e.outside.cpus) then None else Some fault.NoSuchCpu) ≡ None → NamesCpu (length e.outside.cpus) e.answer
+        → as_cause (if nat_lt n (length e.outside.cpus) then None else Some fault.NoSuchCpu) ≡ None → NamesCpu (length e.outside.cpus) e.answer
     at n x (inl l) = λ k. (n, x, l)
-    at n x (inr l) = rw (past n (length e.outside.cpus) l) (λ k. absurd (some_fault fault.NoSuchCpu k))
+    at n x (inr l) = rw (past n (length e.outside.cpus) l) (λ k. absurd (some_cause (reason.Fault fault.NoSuchCpu) k))
 
-    go : (f : Option Fault) (a : Option ℕ) → e.answer ≡ a → fault_as callback.SelectCpu e.outside f a ≡ None → NamesCpu (length e.outside.cpus) e.answer
-    go (Some f) a x k = absurd (some_fault f k)
-    go None None x k = absurd (some_fault fault.Stuck k)
+    go : (f : Option Cause) (a : Option ℕ) → e.answer ≡ a → cause_as callback.SelectCpu e.outside f a ≡ None → NamesCpu (length e.outside.cpus) e.answer
+    go (Some f) a x k = absurd (some_cause f k)
+    go None None x k = absurd (some_cause (reason.Fault fault.Stuck) k)
     go None (Some n) x k = at n x (cases_lt n (length e.outside.cpus)) k

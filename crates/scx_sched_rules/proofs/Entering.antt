@@ -1,6 +1,6 @@
 -- A task comes into a queue as the rules allow, and in no other way; keys compare by sign, and claims end.
-use Rattle.std.proofs.Common.{◌≡◌, ◌≢◌, ℕ, ℤ, pos, negsuc, suc, ◌+◌, ◌-◌, ◌%◌, ◌^◌, ◌<◌, ◌≤◌, Bool, true, false, not, ◌==◌, ◌&&◌, nat_lt, nat_le, int_lt, ◌⊎◌, inl, inr, if◌then◌else◌, length, Option, Some, None, unwrap_or, refl, sym, ◌∙◌, ap, subst, arith}
-use Rattle.std.specs.Int.{w64, bit_at, cast_signed}
+use Rattle.std.proofs.Common.{◌≡◌, ◌≢◌, ℕ, ℤ, pos, negsuc, suc, ◌+◌, ◌-◌, ◌%◌, ◌^◌, ◌<◌, ◌≤◌, Bool, true, false, ◌==◌, ◌&&◌, nat_lt, nat_le, int_lt, ◌⊎◌, inl, inr, if◌then◌else◌, length, Option, Some, None, unwrap_or, refl, sym, ◌∙◌, ap, subst, arith}
+use Rattle.std.specs.Int.{w64, cast_signed}
 use Rattle.std.proofs.Math.Facts.{to_z-neg}
 use Rattle.std.proofs.lemmas.Int.{to_z_pos}
 use Rattle.std.proofs.lemmas.Nat.Bits.{bit_at_clear_same, bit_at_clear_other}
@@ -13,11 +13,12 @@ use Rattle.scx_sched_tasks.specs.declared.task.Task.{Task}
 use Rattle.scx_sched_world.specs.declared.call.Insert.{Insert}
 use Rattle.scx_sched_world.specs.CpuSets.{is_in_set, but_cpu}
 use Rattle.scx_sched_world.specs.Ids.{local_on}
-use Rattle.scx_sched_world.specs.World.{WorldState, with_cycling, with_queues, with_kick, is_by_linux, task_at, with_task, running, is_this}
-use Rattle.scx_sched_world.specs.Tasks.{with_slice, with_vtime, local_cpu, homed_at, given_slice, given_vtime, key_by, rank_by, after_preempt_of, after_preempt_at, after_preempt, after_enter}
+use Rattle.scx_sched_world.specs.World.{WorldState, with_switch, cycling_by_linux, with_cycling, is_claimed, with_queues, with_kick, is_by_linux, task_at, with_task, running, is_this}
+use Rattle.scx_sched_world.specs.Tasks.{with_slice, local_cpu, homed_at, given_slice, given_vtime, rank_by, after_preempt_of, after_preempt_at, after_preempt}
 use Rattle.scx_sched_rules.specs.Entries.{GetsSlice, IsGiven, HasSome, HasNone, GetsOne, GetsVtime, AsLast, AsFirst, AtTime, HasPlace, IsLast, IsFirst, ByTime, BySign, IsNotLocal, HomesThere, InLocal, InOther, PreemptsThere, HasNoFlag, IntoOther, OfNobody, InItsCycle, TakesSlice, EntersQueue}
 use Rattle.scx_sched_rules.specs.Laws.{RulesAllowEntries, RulesAllowEntriesOnly, KeysCompareBySign, CyclesEndClaims}
-use Rattle.scx_sched_rules.proofs.Differing.{both_true, and_true, and_false, false_and, false_from, not_so, homes, only_homes}
+use Rattle.scx_sched_rules.proofs.Readers.{this_is, this_of}
+use Rattle.scx_sched_rules.proofs.Differing.{and_true, and_false, false_and, false_from, not_so, homes, only_homes}
 
 -- ---- slices
 
@@ -129,13 +130,6 @@ only_homes_there w t q v (InLocal c l e h) = only_homes w t c v h ∙ ap (λ o. 
 only_homes_there w t q v (InOther n k) = k ∙ ap (λ o. homed_at w t o) (sym (local_no w q n))
 
 -- ---- PREEMPT
-
-this_is : (c : ℕ) (o : Option ℕ) → is_this c o ≡ true → o ≡ Some c
-this_is c None e = absurd (cc)
-this_is c (Some d) e = let x : d ≡ c = grind (arith, nat_tests, e) in ap (λ y. Some y) x
-
-this_of : (c : ℕ) (o : Option ℕ) → o ≡ Some c → is_this c o ≡ true
-this_of c o e = ap (λ x. is_this c x) e ∙ eq-eqb c c refl
 
 abbrev taken_as : WorldState → ℕ → ℕ → Bool → WorldState
 taken_as w c t b = if b then w else with_kick (with_task w t (with_slice (task_at w t) 0)) c
@@ -283,5 +277,31 @@ keys_compare w m n lin u v = ap (λ b. nat_lt (key_as m b) (key_as n b)) lin ∙
 
 -- ---- claims
 
+linux_if : (b : Bool) (u v : WorldState) (x : Bool) → is_by_linux u ≡ x → is_by_linux v ≡ x → is_by_linux (if b then u else v) ≡ x
+linux_if true u v x e f = e
+linux_if false u v x e f = f
+
+switching_linux : (w : WorldState) (c : ℕ) → is_by_linux (with_switch w c) ≡ is_by_linux w
+switching_linux w c = linux_if (is_by_linux w) _ w (is_by_linux w) refl refl
+
+cycling_linux : (w : WorldState) (c : ℕ) → is_by_linux (with_cycling w (Some c)) ≡ is_by_linux w
+cycling_linux w c = linux_if (is_by_linux w) (cycling_by_linux w (Some c)) (record w { cycling = Some c }) (is_by_linux w) (switching_linux w c) refl
+
+cycling_claimed : (w : WorldState) (c : ℕ) → is_by_linux w ≡ true → (with_cycling w (Some c)).claimed ≡ but_cpu w.claimed c
+cycling_claimed w c e = ap (λ b. (if b then cycling_by_linux w (Some c) else record w { cycling = Some c }).claimed) e
+
 pub claims_end : CyclesEndClaims
-claims_end w c l = (ap (λ b. b == 1) (bit_at_clear_same w64 w.claimed.0 c l), λ d m n. ap (λ b. b == 1) (bit_at_clear_other w64 w.claimed.0 c l d m n))
+claims_end w c l = (go (is_by_linux w) refl, λ d m n. other d m n (is_by_linux w) refl)
+  where
+    v : WorldState
+    v = with_cycling w (Some c)
+
+    go : (b : Bool) → is_by_linux w ≡ b → is_claimed v c ≡ false
+    go false e = false_and (is_by_linux v) (is_in_set v.claimed c) (cycling_linux w c ∙ e)
+    go true e = and_false (is_by_linux v) (is_in_set v.claimed c) (ap (λ s. is_in_set s c) (cycling_claimed w c e) ∙ ap (λ b. b == 1) (bit_at_clear_same w64 w.claimed.0 c l))
+
+    other : (d : ℕ) → d < 64 → d ≢ c → (b : Bool) → is_by_linux w ≡ b → is_claimed v d ≡ is_claimed w d
+    other d m n false e = false_and (is_by_linux v) (is_in_set v.claimed d) (cycling_linux w c ∙ e) ∙ sym (false_and (is_by_linux w) (is_in_set w.claimed d) e)
+    other d m n true e =
+        ap (λ b. b && is_in_set v.claimed d) (cycling_linux w c)
+        ∙ ap (λ b. is_by_linux w && b) (ap (λ s. is_in_set s d) (cycling_claimed w c e) ∙ ap (λ b. b == 1) (bit_at_clear_other w64 w.claimed.0 c l d m n))

@@ -8,53 +8,49 @@ use Rattle.scx_weights.specs.Refusals.{max_weight, is_outside, weight_fault}
 use Rattle.scx_isa_semantics.specs.declared.callbacks.Callback.TheVariants as callback
 use Rattle.scx_sched_world.specs.declared.eject.Eject.{Eject}
 use Rattle.scx_sched_world.specs.declared.eject.Eject.TheVariants as cause
-use Rattle.scx_sched_world.specs.declared.faults.Fault.{Fault}
+use Rattle.scx_sched_world.specs.declared.eject.Cause.{Cause}
 use Rattle.scx_sched_world.specs.declared.notes.What.TheVariants as note
 use Rattle.scx_sched_world.specs.Ids.{parked_queue}
-use Rattle.scx_isa_semantics.specs.declared.rules.Rules.{Rules}
-use Rattle.scx_sched_world.specs.World.{WorldState, are_linux, is_throttled, with_tree, task_at, running, cpu_of, is_idle, choice, after_claim, note_now, at_callback}
-use Rattle.scx_sched_world.specs.Tasks.{homed, to_local, after_sleep, let_go, after_tick, used_ms, later, begun_periods, after_reweigh}
+use Rattle.scx_sched_world.specs.World.{WorldState, are_linux, is_throttled, with_tree, with_switch, task_at, running, cpu_of, is_idle, choice, after_claim, note_now, at_callback}
+use Rattle.scx_sched_world.specs.Tasks.{homed, to_local, let_go, after_reweigh}
 use Rattle.scx_sched_world.specs.Waits.{first_overdue}
 use Rattle.scx_sched_machine.specs.declared.events.Event.TheVariants.{Wake, Sleep, Tick, Clock, SetWeight}
 use Rattle.scx_sched_world.specs.Helpers.{with_insert}
-use Rattle.scx_sched_machine.specs.Steps.{State, Stepped, with_world, stays, after, one_after_other, is_by_linux, kicked, kicked_if_idle}
+use Rattle.scx_sched_machine.specs.Steps.{State, Stepped, with_world, stays, after, one_after_other, is_by_linux, kicked_if_idle}
 use Rattle.scx_sched_machine.specs.Ejecting.{ejected_for}
-use Rattle.scx_sched_machine.specs.Callbacks.{call_ending, after_callback, fault_of, unless_ejected, acting, call_back, answered_by, task_cpu_and_0}
+use Rattle.scx_sched_machine.specs.Callbacks.{call_ending, after_callback, cause_of, unless_ejected, acting, call_back, call_by_linux, answered_by, task_cpu_and_0, task_and_number}
 use Rattle.scx_sched_machine.specs.Put.{enters, put}
 use Rattle.scx_sched_machine.specs.Parking.{park, let_go_one, let_go_from, let_all_go}
 use Rattle.scx_sched_machine.specs.Cycle.{after_stopping, cycle}
 use Rattle.scx_sched_machine.specs.declared.events.Refused.TheVariants.{UnknownGroup, BadWeight}
 use Rattle.scx_sched_machine.specs.declared.events.Event.{Event}
 use Rattle.scx_sched_machine.specs.Rounds.{with_rounds}
-use Rattle.scx_sched_machine.specs.Events.{refusal, answered_cpu, target, insert_or_put, wake_target, settle, inserted_by_choice, chosen_by_default, chosen, ask_target, asks_target, select, wake, told_of_sleep, sleep_from_cpu, sleep_from, sleep, throttle, ends_slices, expire, count_down, tick_idle, tick_of, tick, overdue, eject_if_stalled, clock, own_step, event_step}
+use Rattle.scx_sched_machine.specs.Events.{refusal, answered_cpu, target, insert_or_put, wake_target, settle, inserted_by_choice, chosen, ask_target, asks_target, select, comes_to, while_in_force, told_runnable, from_waker, wake, told_of_sleep, falls_asleep, looks_after_sleep, leaves_cpu, sleep_from_cpu, sleep_from, sleep, throttle, ends_slices, expire, use_up, tick_heard, count_down, tick_idle, tick_of, tick, overdue, eject_if_stalled, clock, own_step}
 use Rattle.scx_sched_rules.specs.Cycles.{noting, silent, gone_off, parking}
 use Rattle.scx_vm.specs.Programs.{VerifiedProgram}
 use Rattle.scx_sched_world.specs.declared.call.Insert.{Insert}
-use Rattle.scx_sched_rules.specs.Events.{after_waking, select_called, select_answered, IsTarget, Is_ejected, NoCallback, Named, InsertsByChoice, AsByPlain, HasCallback, NoneChosen, IsChosen, Selects, Asks_by_plain, Asks_of_several, Is_only_one, Settles, WasInserted, WasPut, Wakes, IdleTarget, BusyTarget, KickedTarget, Sleeps, FromQueue, FromCpu, ran_on, Ticks, NobodyRuns, SleepsOn, IsThrottled, RunsOn, RunsOut, RunsToTick, after_clock, LetsGo, Enough, NoMore, StaysParked, IsLetGo, LetsAllGo, Watches, Is_out, In_time, Too_late, Ages, Does, Happens}
-use Rattle.scx_sched_rules.specs.Differences.{Homes, EndsSlices}
+use Rattle.scx_sched_rules.specs.Events.{after_waking, select_called, select_answered, IsTarget, Is_ejected, NoCallback, Named, InsertsByChoice, AsByPlain, HasCallback, NoneChosen, IsChosen, Selects, Asks_by_plain, Asks_of_several, Is_only_one, TellsRunnable, TellsNobody, TellsPolicy, TellsLast, Settles, WasInserted, WasPut, is_woken, Rouses, IdleTarget, BusyTarget, ByLinux, Wakes, LeavesCpu, asleep, FallsAsleep, gone_out, Sleeps, FromQueue, FromCpu, ran_on, charged, UsesUp, IsThrottled, RunsOn, RunsOut, RunsToTick, Ticks, NobodyRuns, SleepsOn, Runs, after_clock, LetsGo, Enough, NoMore, StaysParked, IsLetGo, LetsAllGo, Watches, Is_out, In_time, Too_late, Ages, Does}
+use Rattle.scx_sched_rules.specs.Differences.{EndsSlices}
 use Rattle.scx_sched_rules.specs.Helpers.{IsChoice, with_claim, MakesClaim}
 use Rattle.scx_sched_rules.specs.Laws.{RulesAllowEvents, RulesAllowEventsOnly}
 use Rattle.scx_sched_rules.proofs.Choosing.{is_choice, only_choice, is_default, only_default, only_claims}
-use Rattle.scx_sched_rules.proofs.Differing.{and_false, false_from, not_so, then_stays, then_stays_in, homes, only_homes, ends_is, ends_of, tells_sleep, only_tells_sleep, looks_if_idle, only_looks_if_idle}
+use Rattle.scx_sched_rules.proofs.Differing.{and_false, false_from, not_so, homes, only_homes, begins_switch, only_begins_switch, tells_waker, only_tells_waker, calls_if_there, only_calls_if_there, hears, only_hears, ends_is, ends_of, tells_sleep, only_tells_sleep, looks_if_idle, only_looks_if_idle}
 use Rattle.scx_sched_rules.proofs.Rounding.{is_followed, only_followed}
-use Rattle.scx_sched_rules.proofs.Ejecting.{ejects, only_ejects, no_fault, NamesCpu, names_cpu}
+use Rattle.scx_sched_rules.proofs.Ejecting.{ejects, only_ejects, no_cause, NamesCpu, names_cpu}
 use Rattle.scx_sched_rules.proofs.Waiting.{is_first, nobody_late, only_first, only_nobody}
 use Rattle.scx_sched_rules.proofs.Cycling.{puts, only_puts, stops, only_stops, cycles, only_cycles}
 
 -- ---- wake
 
-settles : (s : State) (t c : ℕ) → Settles s t c (insert_or_put s.world.call.insert s t c)
+settles : (s : State) (t c : ℕ) (i : Option Insert) → Settles s t c i (insert_or_put i s t c)
 unfolding enters
-settles s t c = go s.world.call.insert refl
-  where
-    go : (o : Option Insert) → s.world.call.insert ≡ o → Settles s t c (insert_or_put o s t c)
-    go None e = WasPut e (puts s t c 1)
-    go (Some i) e = WasInserted i e refl
+settles s t c None = WasPut refl (puts s t c 1)
+settles s t c (Some x) = WasInserted x refl refl
 
-only_settles : (s : State) (t c : ℕ) (r : Stepped) → Settles s t c r → r ≡ insert_or_put s.world.call.insert s t c
+only_settles : (s : State) (t c : ℕ) (i : Option Insert) (r : Stepped) → Settles s t c i r → r ≡ insert_or_put i s t c
 unfolding enters
-only_settles s t c r (WasPut e h) = only_puts s t c 1 r h ∙ ap (λ (o : Option Insert). insert_or_put o s t c) (sym e)
-only_settles s t c r (WasInserted i e k) = k ∙ ap (λ (o : Option Insert). insert_or_put o s t c) (sym e)
+only_settles s t c i r (WasPut e h) = only_puts s t c 1 r h ∙ ap (λ (o : Option Insert). insert_or_put o s t c) (sym e)
+only_settles s t c i r (WasInserted x e k) = k ∙ ap (λ (o : Option Insert). insert_or_put o s t c) (sym e)
 
 abbrev target_of : State → ℕ → Option ℕ → ℕ
 target_of s t a = target (acting s callback.SelectCpu) s.world t a
@@ -71,9 +67,9 @@ unfolding call_back answered_by
 selects s t out =
     let d = (task_at s.world t).prev_cpu in
     let e = call_ending (acting s callback.SelectCpu) callback.SelectCpu (task_cpu_and_0 t d) s.maps (at_callback s.world callback.SelectCpu t d) in
-    let none = no_fault (fault_of callback.SelectCpu e) (after_callback s.policy e) out in
+    let none = no_cause (cause_of callback.SelectCpu e) (after_callback s.policy e) out in
     let h = names_cpu e none in
-    (h.0, h.1, subst (λ (f : Option Fault). h.0 < length (ejected_for f (after_callback s.policy e)).state.world.cpus) (sym none) h.2)
+    (h.0, h.1, subst (λ (f : Option Cause). h.0 < length (ejected_for f (after_callback s.policy e)).state.world.cpus) (sym none) h.2)
 
 is_target : (s : State) (t : ℕ) (a : Option ℕ) → (s.world.ejected ≡ None → NamesCpu (length s.world.cpus) a) → IsTarget s t a (target_of s t a)
 is_target s t a names = go s.world.ejected refl s.policy.callbacks.select_cpu refl
@@ -236,43 +232,111 @@ only_selects s t c r (Asks_of_several v d tg h k) = asked_at s t c v r tg h k �
 only_selects s t c r (Is_only_one e l z k) =
     ap (λ x. settling x t c) k ∙ ap (λ d. settling (only_cpu s t) t d) z ∙ selected_is s t false (asks_nobody s e l)
 
+-- ---- the policy hears that the task is runnable
+
+abbrev told_as : State → ℕ → ℕ → Bool → Stepped
+told_as v t c b = if b then call_by_linux v callback.Runnable (task_and_number t 1) t c else stays v
+
+abbrev kept_as : State → State → Bool → Option Insert
+kept_as v u b = if b then while_in_force u v.world.call.insert else v.world.call.insert
+
+abbrev kept_by : State → Option Eject → Option Insert
+kept_by v x = if is_some x then None else v.world.call.insert
+
+tells_runnable : (v : State) (t c : ℕ) → TellsRunnable v t c (told_as v t c (is_by_linux v)) (kept_as v (told_as v t c (is_by_linux v)).state (is_by_linux v))
+tells_runnable v t c = go (is_by_linux v) refl
+  where
+    by : is_by_linux v ≡ true → (x : Option Eject) → (told_as v t c true).state.world.ejected ≡ x → TellsRunnable v t c (told_as v t c true) (kept_by v x)
+    by e None d = TellsPolicy e (calls_if_there v callback.Runnable (task_and_number t 1) t c) d refl
+    by e (Some x) d = TellsLast x e (calls_if_there v callback.Runnable (task_and_number t 1) t c) d refl
+
+    go : (b : Bool) → is_by_linux v ≡ b → TellsRunnable v t c (told_as v t c b) (kept_as v (told_as v t c b).state b)
+    go false e = TellsNobody e refl refl
+    go true e = by e (told_as v t c true).state.world.ejected refl
+
+abbrev Told-so : State → ℕ → ℕ → Stepped → Option Insert → Type 0
+Told-so v t c told i = (told ≡ told_as v t c (is_by_linux v)) × (i ≡ kept_as v told.state (is_by_linux v))
+
+only_tells_runnable : (v : State) (t c : ℕ) (told : Stepped) (i : Option Insert) → TellsRunnable v t c told i → Told-so v t c told i
+only_tells_runnable v t c told i (TellsNobody e k m) = (k ∙ ap (λ b. told_as v t c b) (sym e), m ∙ ap (λ b. kept_as v told.state b) (sym e))
+only_tells_runnable v t c told i (TellsPolicy e h d m) = (
+  only_calls_if_there v callback.Runnable (task_and_number t 1) t c told h ∙ ap (λ b. told_as v t c b) (sym e),
+  m ∙ ap (λ x. kept_by v x) (sym d) ∙ ap (λ b. kept_as v told.state b) (sym e),
+)
+only_tells_runnable v t c told i (TellsLast x e h d m) = (
+  only_calls_if_there v callback.Runnable (task_and_number t 1) t c told h ∙ ap (λ b. told_as v t c b) (sym e),
+  m ∙ ap (λ x. kept_by v x) (sym d) ∙ ap (λ b. kept_as v told.state b) (sym e),
+)
+
+-- ---- the target looks
+
+abbrev roused_as : State → ℕ → Bool → Bool → Stepped
+roused_as s c a b = if a then stays (kicked_if_idle (is_woken s) c) else (if b then cycle s c None false else stays s)
+
+roused_is : (s : State) (c : ℕ) (a b : Bool) → is_by_linux s ≡ a → is_idle s.world c ≡ b → roused_as s c a b ≡ wake_target s c
+unfolding wake_target
+roused_is s c a b x y = ap (λ k. roused_as s c a k) (sym y) ∙ ap (λ k. roused_as s c k (is_idle s.world c)) (sym x)
+
+rouses : (s : State) (c : ℕ) → Rouses s c (wake_target s c)
+unfolding wake_target
+rouses s c = go (is_by_linux s) (is_idle s.world c) refl refl
+  where
+    go : (a b : Bool) → is_by_linux s ≡ a → is_idle s.world c ≡ b → Rouses s c (roused_as s c a b)
+    go false true x y = IdleTarget x y (cycles s c None false)
+    go false false x y = BusyTarget x y refl
+    go true b x y = ByLinux (kicked_if_idle (is_woken s) c) x (looks_if_idle (is_woken s) c) refl
+
+only_rouses : (s : State) (c : ℕ) (r : Stepped) → Rouses s c r → r ≡ wake_target s c
+only_rouses s c r (IdleTarget x y h) = only_cycles s c None false r h ∙ roused_is s c false true x y
+only_rouses s c r (BusyTarget x y k) = k ∙ roused_is s c false false x y
+only_rouses s c r (ByLinux v x h k) = k ∙ ap (λ u. stays u) (only_looks_if_idle (is_woken s) c v h) ∙ roused_is s c true (is_idle s.world c) x refl
+
 -- ---- wake
 
-abbrev ended_as : State → ℕ → Bool → Bool → Stepped
-ended_as s c a b = if a then stays (if a && b then kicked s c else s) else (if b then cycle s c None false else stays s)
-
-ended_is : (s : State) (c : ℕ) (a b : Bool) → is_by_linux s ≡ a → is_idle s.world c ≡ b → ended_as s c a b ≡ wake_target s c
-unfolding wake_target
-ended_is s c a b x y = ap (λ k. ended_as s c a k) (sym y) ∙ ap (λ k. ended_as s c k (is_idle s.world c)) (sym x)
+abbrev settled_as : State → ℕ → ℕ → Bool → Stepped
+settled_as v t c b = one_after_other (told_as v t c b) (comes_to (kept_as v (told_as v t c b).state b) (told_as v t c b).state t c)
 
 abbrev at_home : State → ℕ → ℕ → State
 at_home s t c = with_world s (homed s.world t c)
 
-abbrev put_at_home : State → ℕ → ℕ → Stepped
-put_at_home s t c = insert_or_put (at_home s t c).world.call.insert (at_home s t c) t c
+settle_by : (v : State) (t c : ℕ) (b : Bool) → settled_as v t c b ≡ (if b then told_runnable v.world.call.insert v t c else comes_to v.world.call.insert v t c)
+unfolding told_runnable
+settle_by v t c true = refl
+settle_by v t c false = refl
 
-settle_is : (s : State) (t c : ℕ) → one_after_other (put_at_home s t c) (wake_target (put_at_home s t c).state c) ≡ settle s t c
+settle_is : (s : State) (t c : ℕ) → settled_as (at_home s t c) t c (is_by_linux (at_home s t c)) ≡ settle s t c
 unfolding settle
-settle_is s t c = refl
+settle_is s t c = settle_by (at_home s t c) t c (is_by_linux (at_home s t c))
 
-abbrev woken : State → ℕ → Stepped → ℕ → Bool → Bool → Stepped
-woken s t r c a b = wake_note s t (one_after_other r (one_after_other (put_at_home r.state t c) (ended_as (put_at_home r.state t c).state c a b)))
-
-wake_is : (s : State) (t : ℕ) → wake_note s t (select (after_waking s t) t) ≡ wake s t
+wake_is : (s : State) (t : ℕ) → wake_note s t (select (from_waker (after_waking s t) t) t) ≡ wake s t
 unfolding wake
 wake_is s t = refl
 
-woken_is : (s : State) (t : ℕ) (r : Stepped) (c : ℕ) (a b : Bool) → is_by_linux (put_at_home r.state t c).state ≡ a → is_idle (put_at_home r.state t c).state.world c ≡ b
-    → woken s t r c a b ≡ wake_note s t (settling r t c)
-woken_is s t r c a b x y =
-    ap (λ e. wake_note s t (one_after_other r (one_after_other (put_at_home r.state t c) e))) (ended_is (put_at_home r.state t c).state c a b x y)
-    ∙ ap (λ e. wake_note s t (one_after_other r e)) (settle_is r.state t c)
-
 wakes : (s : State) (t : ℕ) → Wakes s t (wake s t)
-wakes s t = subst (λ r. Wakes s t r) (ap (λ r. wake_note s t r) h.is ∙ wake_is s t) (subst (λ r. Wakes s t r) (woken_is s t r c (is_by_linux x.state) (is_idle x.state.world c) refl refl) (go (is_by_linux x.state) (is_idle x.state.world c) refl refl))
+unfolding comes_to
+wakes s t = record {
+  woken = u;
+  wakes = tells_waker (after_waking s t) t;
+  cpu = c;
+  selected = r;
+  selects = h.selects;
+  home = homed r.state.world t c;
+  homes = homes r.state.world t c;
+  told = told;
+  insert = i;
+  tells = tells_runnable v t c;
+  settled = insert_or_put i told.state t c;
+  settles = settles told.state t c i;
+  roused = wake_target (insert_or_put i told.state t c).state c;
+  rouses = rouses (insert_or_put i told.state t c).state c;
+  all = sym (ap (λ x. wake_note s t (one_after_other r x)) (settle_is r.state t c) ∙ ap (λ x. wake_note s t x) h.is ∙ wake_is s t);
+}
   where
-    h : Selected (after_waking s t) t
-    h = selected (after_waking s t) t
+    u : State
+    u = from_waker (after_waking s t) t
+
+    h : Selected u t
+    h = selected u t
 
     r : Stepped
     r = h.step
@@ -280,73 +344,93 @@ wakes s t = subst (λ r. Wakes s t r) (ap (λ r. wake_note s t r) h.is ∙ wake_
     c : ℕ
     c = h.cpu
 
-    x : Stepped
-    x = put_at_home r.state t c
+    v : State
+    v = at_home r.state t c
 
-    go : (a b : Bool) → is_by_linux x.state ≡ a → is_idle x.state.world c ≡ b → Wakes s t (woken s t r c a b)
-    go false true p q = IdleTarget c r x (cycle x.state c None false) (homed r.state.world t c) h.selects (homes r.state.world t c) (settles (at_home r.state t c) t c) p q (cycles x.state c None false) refl
-    go true true p q = KickedTarget c r x (homed r.state.world t c) h.selects (homes r.state.world t c) (settles (at_home r.state t c) t c) p q (ap (λ e. wake_note s t (one_after_other r e)) (then_stays_in x (kicked x.state c)))
-    go false false p q = BusyTarget c r x (homed r.state.world t c) h.selects (homes r.state.world t c) (settles (at_home r.state t c) t c) q (ap (λ e. wake_note s t (one_after_other r e)) (then_stays x))
-    go true false p q = BusyTarget c r x (homed r.state.world t c) h.selects (homes r.state.world t c) (settles (at_home r.state t c) t c) q (ap (λ e. wake_note s t (one_after_other r e)) (then_stays x))
+    told : Stepped
+    told = told_as v t c (is_by_linux v)
 
-abbrev put_in : State → ℕ → ℕ → WorldState → Stepped
-put_in s t c v = insert_or_put (with_world s v).world.call.insert (with_world s v) t c
+    i : Option Insert
+    i = kept_as v told.state (is_by_linux v)
 
--- how a task that wakes is settled
-settled_at : (s : State) (t c : ℕ) (v : WorldState) (x : Stepped) → Homes s.world t c v → Settles (with_world s v) t c x → x ≡ put_at_home s t c
-settled_at s t c v x h st = only_settles (with_world s v) t c x st ∙ ap (λ u. put_in s t c u) (only_homes s.world t c v h)
-
-woken_at : (s : State) (t : ℕ) (r : Stepped) (c : ℕ) (v : WorldState) (x : Stepped) (a b : Bool) → Selects (after_waking s t) t c r → Homes r.state.world t c v → Settles (with_world r.state v) t c x
-    → is_by_linux x.state ≡ a → is_idle x.state.world c ≡ b → wake_note s t (one_after_other r (one_after_other x (ended_as x.state c a b))) ≡ wake s t
-woken_at s t r c v x a b sel h st p q =
-    let e = settled_at r.state t c v x h st in
-    ap (λ (y : Stepped). wake_note s t (one_after_other r (one_after_other y (ended_as y.state c a b)))) e
-    ∙ woken_is s t r c a b (ap (λ (y : Stepped). is_by_linux y.state) (sym e) ∙ p) (ap (λ (y : Stepped). is_idle y.state.world c) (sym e) ∙ q)
-    ∙ ap (λ y. wake_note s t y) (only_selects (after_waking s t) t c r sel) ∙ wake_is s t
-
-busy_is : (s : State) (c : ℕ) (a : Bool) → ended_as s c a false ≡ stays s
-busy_is s c true = refl
-busy_is s c false = refl
+abbrev settled_at : State → ℕ → ℕ → WorldState → Stepped
+settled_at s t c w = settled_as (with_world s w) t c (is_by_linux (with_world s w))
 
 only_wakes : (s : State) (t : ℕ) (r : Stepped) → Wakes s t r → r ≡ wake s t
-only_wakes s t r (IdleTarget c l x found v sel h st p q y k) =
-    k ∙ ap (λ z. wake_note s t (one_after_other l (one_after_other x z))) (only_cycles x.state c None false found y) ∙ woken_at s t l c v x false true sel h st p q
-only_wakes s t r (BusyTarget c l x v sel h st q k) =
-    k ∙ ap (λ z. wake_note s t (one_after_other l z)) (sym (then_stays x)) ∙ ap (λ z. wake_note s t (one_after_other l (one_after_other x z))) (sym (busy_is x.state c (is_by_linux x.state)))
-    ∙ woken_at s t l c v x (is_by_linux x.state) false sel h st refl q
-only_wakes s t r (KickedTarget c l x v sel h st p q k) =
-    k ∙ ap (λ z. wake_note s t (one_after_other l z)) (sym (then_stays_in x (kicked x.state c))) ∙ woken_at s t l c v x true true sel h st p q
+unfolding comes_to
+only_wakes s t r h =
+    let v = with_world h.selected.state h.home in
+    let x = only_tells_runnable v t h.cpu h.told h.insert h.tells in
+    h.all
+    ∙ ap (λ z. wake_note s t (one_after_other h.selected (one_after_other h.told (one_after_other h.settled z)))) (only_rouses h.settled.state h.cpu h.roused h.rouses)
+    ∙ ap (λ (z : Stepped). wake_note s t (one_after_other h.selected (one_after_other h.told (one_after_other z (wake_target z.state h.cpu))))) (only_settles h.told.state t h.cpu h.insert h.settled h.settles)
+    ∙ ap (λ i. wake_note s t (one_after_other h.selected (one_after_other h.told (comes_to i h.told.state t h.cpu)))) x.1
+    ∙ ap (λ (z : Stepped). wake_note s t (one_after_other h.selected (one_after_other z (comes_to (kept_as v z.state (is_by_linux v)) z.state t h.cpu)))) x.0
+    ∙ ap (λ w. wake_note s t (one_after_other h.selected (settled_at h.selected.state t h.cpu w))) (only_homes h.selected.state.world t h.cpu h.home h.homes)
+    ∙ ap (λ z. wake_note s t (one_after_other h.selected z)) (settle_is h.selected.state t h.cpu)
+    ∙ ap (λ z. wake_note s t z) (only_selects h.woken t h.cpu h.selected h.selects)
+    ∙ ap (λ z. wake_note s t (select z t)) (only_tells_waker (after_waking s t) t h.woken h.wakes)
+    ∙ wake_is s t
 
 -- ---- sleep
 
-abbrev asleep_after : Stepped → ℕ → State
-asleep_after r t = with_world r.state (after_sleep r.state.world t)
+leaves : (s : State) (c t n : ℕ) → LeavesCpu s c t n (leaves_cpu s c t n)
+unfolding leaves_cpu
+leaves s c t n = record {
+  switching = with_switch s.world c;
+  switches = begins_switch s.world c;
+  stopped = after_stopping (gone_off (with_world s (with_switch s.world c)) c t) c t n;
+  stops = stops (gone_off (with_world s (with_switch s.world c)) c t) c t n;
+  all = refl;
+}
 
-abbrev slept : State → ℕ → ℕ → Stepped → Stepped → Stepped
-slept s t c l x = after (note_now s.world (note.Sleep t) ∷ note_now s.world (note.Stop t c) ∷ []) (one_after_other l x)
+abbrev stop_note : State → ℕ → ℕ → Stepped → Stepped
+stop_note s c t r = after (note_now s.world (note.Stop t c) ∷ []) r
+
+only_leaves : (s : State) (c t n : ℕ) (r : Stepped) → LeavesCpu s c t n r → r ≡ leaves_cpu s c t n
+unfolding leaves_cpu
+only_leaves s c t n r h =
+    h.all ∙ ap (λ x. stop_note s c t x) (only_stops (gone_off (with_world s h.switching) c t) c t n h.stopped h.stops)
+    ∙ ap (λ w. stop_note s c t (after_stopping (gone_off (with_world s w) c t) c t n)) (only_begins_switch s.world c h.switching h.switches)
+
+falls : (s : State) (t c : ℕ) → FallsAsleep s t c (falls_asleep s t c)
+unfolding falls_asleep
+falls s t c = calls_if_there (asleep s t) callback.Quiescent (task_and_number t 1) t c
+
+only_falls : (s : State) (t c : ℕ) (r : Stepped) → FallsAsleep s t c r → r ≡ falls_asleep s t c
+unfolding falls_asleep
+only_falls s t c r h = only_calls_if_there (asleep s t) callback.Quiescent (task_and_number t 1) t c r h
+
+abbrev sleep_note : State → ℕ → Stepped → Stepped
+sleep_note s t r = after (note_now s.world (note.Sleep t) ∷ []) r
+
+abbrev slept : State → ℕ → Stepped → Stepped → Stepped → Stepped
+slept s t l g x = sleep_note s t (one_after_other l (one_after_other g x))
 
 sleeps : (s : State) (t : ℕ) → Sleeps s t (sleep s t)
-unfolding sleep sleep_from_cpu
+unfolding sleep sleep_from_cpu looks_after_sleep
 sleeps s t = go (cpu_of s.world t) refl
   where
-    go : (o : Option ℕ) → cpu_of s.world t ≡ o → Sleeps s t (after (note_now s.world (note.Sleep t) ∷ []) (sleep_from o s t))
-    go None e = FromQueue e refl
+    go : (o : Option ℕ) → cpu_of s.world t ≡ o → Sleeps s t (sleep_note s t (sleep_from o s t))
+    go None e = FromQueue (falls_asleep (gone_out s t) t (task_at s.world t).prev_cpu) e (falls (gone_out s t) t (task_at s.world t).prev_cpu) refl
     go (Some c) e =
-        let l = after_stopping (gone_off s c t) c t 0 in
-        let v = told_of_sleep (asleep_after l t) t in
-        FromCpu c l (cycle v c None true) v e (stops (gone_off s c t) c t 0) (tells_sleep (asleep_after l t) t) (cycles v c None true) refl
+        let l = leaves_cpu s c t 0 in
+        let g = falls_asleep l.state t c in
+        let v = told_of_sleep g.state t in
+        FromCpu c l g (cycle v c None true) v e (leaves s c t 0) (falls l.state t c) (tells_sleep g.state t) (cycles v c None true) refl
 
 only_sleeps : (s : State) (t : ℕ) (r : Stepped) → Sleeps s t r → r ≡ sleep s t
-unfolding sleep sleep_from_cpu
-only_sleeps s t r (FromQueue e k) = rw e k
-only_sleeps s t r (FromCpu c l found v e h w y k) =
-    rw e (k ∙ ap (λ z. slept s t c l z) (only_cycles v c None true found y) ∙ ap (λ (z : State). slept s t c l (cycle z c None true)) (only_tells_sleep (asleep_after l t) t v w)
-    ∙ ap (λ (z : Stepped). slept s t c z (cycle (told_of_sleep (asleep_after z t) t) c None true)) (only_stops (gone_off s c t) c t 0 l h))
+unfolding sleep sleep_from_cpu looks_after_sleep
+only_sleeps s t r (FromQueue g e h k) = rw e (k ∙ ap (λ z. sleep_note s t z) (only_falls (gone_out s t) t (task_at s.world t).prev_cpu g h))
+only_sleeps s t r (FromCpu c l g found v e h f w y k) =
+    rw e (k ∙ ap (λ z. slept s t l g z) (only_cycles v c None true found y) ∙ ap (λ (z : State). slept s t l g (cycle z c None true)) (only_tells_sleep g.state t v w)
+    ∙ ap (λ (z : Stepped). slept s t l z (cycle (told_of_sleep z.state t) c None true)) (only_falls l.state t c g f)
+    ∙ ap (λ (z : Stepped). let q = falls_asleep z.state t c in slept s t z q (cycle (told_of_sleep q.state t) c None true)) (only_leaves s c t 0 l h))
 
 -- ---- tick
 
-abbrev thrown : State → ℕ → ℕ → Stepped → Stepped → Stepped
-thrown s c t l x = after (note_now s.world (note.Stop t c) ∷ []) (one_after_other l (one_after_other (parking l.state t) x))
+abbrev thrown : ℕ → ℕ → Stepped → Stepped → Stepped
+thrown c t l x = one_after_other l (one_after_other (parking l.state t) x)
 
 abbrev counted_as : State → ℕ → ℕ → Bool → Stepped
 counted_as v c t b = if b then throttle v c t else expire v c t
@@ -367,6 +451,37 @@ expires_out v c t z h = sym (expired_is v c t true true (eq-eqb (task_at v.world
 expires_later : (v : State) (c t : ℕ) → ¬ EndsSlices v → expire v c t ≡ stays v
 expires_later v c t n = sym (expired_is v c t ((task_at v.world t).slice == 0) false refl (false_from (ends_slices v) (λ e. n (ends_is v e)))) ∙ ap (λ b. if b then cycle v c (Some t) true else stays v) (and_false ((task_at v.world t).slice == 0) false refl)
 
+uses_up : (s : State) (c t : ℕ) → UsesUp s c t (use_up s c t)
+unfolding use_up throttle park
+uses_up s c t = by (is_throttled v.world t) refl
+  where
+    v : State
+    v = charged s t
+
+    ended : is_throttled v.world t ≡ false → (task_at v.world t).slice ≡ 0 → (b : Bool) → ends_slices v ≡ b → UsesUp s c t (expire v c t)
+    ended free z true x = let h = ends_is v x in rw (expires_out v c t z h) (RunsOut free z h (cycles v c (Some t) true))
+    ended free z false x = let n : ¬ EndsSlices v = (λ h. not_so (ends_slices v) x (ends_of v h)) in rw (expires_later v c t n) (RunsToTick free n refl)
+
+    out : is_throttled v.world t ≡ false → ((task_at v.world t).slice ≡ 0) ⊎ ((task_at v.world t).slice ≡ 0 → ⊥) → UsesUp s c t (expire v c t)
+    out free (inl z) = ended free z (ends_slices v) refl
+    out free (inr x) = let l : 0 < (task_at v.world t).slice = omega (arith, x) in rw (expires_on v c t l) (RunsOn free l refl)
+
+    up : is_throttled v.world t ≡ true → UsesUp s c t (throttle v c t)
+    up over = let l = leaves_cpu v c t 1 in IsThrottled l (cycle (parking l.state t).state c None true) over (leaves v c t 1) (cycles (parking l.state t).state c None true) refl
+
+    by : (b : Bool) → is_throttled v.world t ≡ b → UsesUp s c t (counted_as v c t b)
+    by true x = up x
+    by false x = out x (cases_eq (task_at v.world t).slice 0)
+
+only_uses_up : (s : State) (c t : ℕ) (r : Stepped) → UsesUp s c t r → r ≡ use_up s c t
+unfolding use_up throttle park
+only_uses_up s c t r (RunsToTick free n k) = k ∙ sym (expires_later (charged s t) c t n) ∙ ap (λ b. counted_as (charged s t) c t b) (sym free)
+only_uses_up s c t r (IsThrottled l found over h y k) =
+    k ∙ ap (λ z. thrown c t l z) (only_cycles (parking l.state t).state c None true found y)
+    ∙ ap (λ (z : Stepped). thrown c t z (cycle (parking z.state t).state c None true)) (only_leaves (charged s t) c t 1 l h) ∙ ap (λ b. counted_as (charged s t) c t b) (sym over)
+only_uses_up s c t r (RunsOn free l k) = k ∙ sym (expires_on (charged s t) c t l) ∙ ap (λ b. counted_as (charged s t) c t b) (sym free)
+only_uses_up s c t r (RunsOut free z h y) = only_cycles (charged s t) c (Some t) true r y ∙ sym (expires_out (charged s t) c t z h) ∙ ap (λ b. counted_as (charged s t) c t b) (sym free)
+
 abbrev idle_as : State → ℕ → Bool → Stepped
 idle_as s c b = if b then stays s else cycle s c None false
 
@@ -375,44 +490,23 @@ unfolding tick_idle
 idle_is s c b e = ap (λ x. idle_as s c x) (sym e)
 
 ticks : (s : State) (c : ℕ) → Ticks s c (tick s c)
-unfolding tick count_down throttle park
+unfolding tick count_down
 ticks s c = go (running s.world c) refl
   where
-    ended : (t : ℕ) → running s.world c ≡ Some t → is_throttled (ran_on s t).world t ≡ false → (task_at (ran_on s t).world t).slice ≡ 0 → (b : Bool) → ends_slices (ran_on s t) ≡ b → Ticks s c (expire (ran_on s t) c t)
-    ended t e free z true x = let h = ends_is (ran_on s t) x in rw (expires_out (ran_on s t) c t z h) (RunsOut t e free z h (cycles (ran_on s t) c (Some t) true))
-    ended t e free z false x = let n : ¬ EndsSlices (ran_on s t) = (λ h. not_so (ends_slices (ran_on s t)) x (ends_of (ran_on s t) h)) in rw (expires_later (ran_on s t) c t n) (RunsToTick t e free n refl)
-
-    out : (t : ℕ) → running s.world c ≡ Some t → is_throttled (ran_on s t).world t ≡ false → ((task_at (ran_on s t).world t).slice ≡ 0) ⊎ ((task_at (ran_on s t).world t).slice ≡ 0 → ⊥) → Ticks s c (expire (ran_on s t) c t)
-    out t e free (inl z) = ended t e free z (ends_slices (ran_on s t)) refl
-    out t e free (inr x) = let l : 0 < (task_at (ran_on s t).world t).slice = omega (arith, x) in rw (expires_on (ran_on s t) c t l) (RunsOn t e free l refl)
-
-    up : (t : ℕ) → running s.world c ≡ Some t → is_throttled (ran_on s t).world t ≡ true → Ticks s c (throttle (ran_on s t) c t)
-    up t e over =
-        let l = after_stopping (gone_off (ran_on s t) c t) c t 1 in
-        IsThrottled t l (cycle (parking l.state t).state c None true) e over (stops (gone_off (ran_on s t) c t) c t 1) (cycles (parking l.state t).state c None true) refl
-
-    by : (t : ℕ) → running s.world c ≡ Some t → (b : Bool) → is_throttled (ran_on s t).world t ≡ b → Ticks s c (counted_as (ran_on s t) c t b)
-    by t e true x = up t e x
-    by t e false x = out t e x (cases_eq (task_at (ran_on s t).world t).slice 0)
-
     nobody : running s.world c ≡ None → (b : Bool) → is_by_linux s ≡ b → Ticks s c (idle_as s c b)
     nobody e false x = NobodyRuns x e (cycles s c None false)
     nobody e true x = SleepsOn x e refl
 
     go : (o : Option ℕ) → running s.world c ≡ o → Ticks s c (tick_of o s c)
     go None e = subst (λ r. Ticks s c r) (idle_is s c (is_by_linux s) refl) (nobody e (is_by_linux s) refl)
-    go (Some t) e = by t e (is_throttled (ran_on s t).world t) refl
+    go (Some t) e = let h = tick_heard (ran_on s t) c t in Runs t h (use_up h.state c t) e (hears (ran_on s t) c t) (uses_up h.state c t) refl
 
 only_ticks : (s : State) (c : ℕ) (r : Stepped) → Ticks s c r → r ≡ tick s c
-unfolding tick count_down throttle park
+unfolding tick count_down
 only_ticks s c r (NobodyRuns x e y) = rw e (only_cycles s c None false r y ∙ idle_is s c false x)
 only_ticks s c r (SleepsOn x e k) = rw e (k ∙ idle_is s c true x)
-only_ticks s c r (RunsToTick t e free n k) = rw e (k ∙ sym (expires_later (ran_on s t) c t n) ∙ ap (λ b. counted_as (ran_on s t) c t b) (sym free))
-only_ticks s c r (IsThrottled t l found e over h y k) =
-    rw e (k ∙ ap (λ z. thrown (ran_on s t) c t l z) (only_cycles (parking l.state t).state c None true found y)
-    ∙ ap (λ (z : Stepped). thrown (ran_on s t) c t z (cycle (parking z.state t).state c None true)) (only_stops (gone_off (ran_on s t) c t) c t 1 l h) ∙ ap (λ b. counted_as (ran_on s t) c t b) (sym over))
-only_ticks s c r (RunsOn t e free l k) = rw e (k ∙ sym (expires_on (ran_on s t) c t l) ∙ ap (λ b. counted_as (ran_on s t) c t b) (sym free))
-only_ticks s c r (RunsOut t e free z h y) = rw e (only_cycles (ran_on s t) c (Some t) true r y ∙ sym (expires_out (ran_on s t) c t z h) ∙ ap (λ b. counted_as (ran_on s t) c t b) (sym free))
+only_ticks s c r (Runs t h x e y u k) =
+    rw e (k ∙ ap (λ z. one_after_other h z) (only_uses_up h.state c t x u) ∙ ap (λ (z : Stepped). one_after_other z (use_up z.state c t)) (only_hears (ran_on s t) c t h y))
 
 -- ---- the parked
 

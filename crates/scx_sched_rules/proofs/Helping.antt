@@ -18,11 +18,12 @@ use Rattle.scx_dsq.specs.declared.errors.QueueError.TheVariants as queue_error
 use Rattle.scx_isa_semantics.specs.declared.callbacks.Callback.{Callback}
 use Rattle.scx_isa_semantics.specs.declared.callbacks.Callback.TheVariants as callback
 use Rattle.scx_isa_semantics.specs.declared.host_tables.Helper.{Helper}
-use Rattle.scx_isa_semantics.specs.declared.host_tables.Helper.TheVariants.{MapLookupElem, KtimeGetNs, CreateDsq, DsqInsert, DsqInsertVtime, DsqMoveToLocal, SelectCpuDfl, CpuIdle, TaskByPid, DsqNrQueued, KickCpu}
+use Rattle.scx_isa_semantics.specs.declared.host_tables.Helper.TheVariants.{MapLookupElem, KtimeGetNs, CreateDsq, DsqInsert, DsqInsertVtime, DsqMoveToLocal, SelectCpuDfl, CpuIdle, TaskByPid, DsqNrQueued, KickCpu, SmpProcessorId, Exit, CpuCurr, DsqPeek, TaskRunning, TaskCpu, PickIdle, ClaimIdle}
 use Rattle.scx_vm.specs.declared.arguments.Arg.{Arg}
 use Rattle.scx_vm.specs.declared.arguments.Answer.{Answer}
 use Rattle.scx_vm.specs.declared.arguments.Answer.TheVariants.{Num, Task}
 use Rattle.scx_sched_world.specs.declared.call.Insert.{Insert}
+use Rattle.scx_sched_world.specs.declared.eject.Cause.TheVariants as reason
 use Rattle.scx_sched_world.specs.declared.faults.Fault.{Fault}
 use Rattle.scx_sched_world.specs.declared.faults.Fault.TheVariants.{Stuck, NoSuchQueue, CannotInsert, NoSuchCpu, UnknownFlag, CannotCreate, BuiltinVtime, Mixed}
 use Rattle.scx_sched_world.specs.Ids.{policy_end, global, local, held_queue, local_on}
@@ -32,11 +33,13 @@ use Rattle.scx_sched_world.specs.CpuSets.{is_in_set}
 use Rattle.scx_sched_world.specs.World.{WorldState, with_queues, with_kick, is_by_linux, task_at, running, is_this, is_idle, is_claimed, choice, after_claim, with_note}
 use Rattle.scx_sched_world.specs.Tasks.{homed, for_cpu}
 use Rattle.scx_sched_world.specs.declared.notes.What.TheVariants as notes
-use Rattle.scx_sched_world.specs.Helpers.{invalid, with_fault, with_move, are_linux_flags, are_known, flags_fault, is_late, after_late, after_insert, insert_answer, after_choice, seems_idle, kick_of, kicked_so, kick_fault, kicked_or_fault, given_number, given_task, is_there, can_create, is_at_hand, is_held, is_dispatch, may_insert_in, may_insert, queue_fault, is_vtime, rank_fault, or_fault, insert_fault, insert_or_fault, invalid_if, insert_of, insert_of_vtime, choice_answer, pid_answer, can_move, front_moved_to_local, one_if_some, after_release, helper_answer, helper_after}
-use Rattle.scx_sched_rules.specs.Helpers.{IsPolicyQueue, IsDestination, Own, Global, Local, LocalOn, NamesNoCpu, CanCreate, MayInsert, InSelectCpu, InEnqueue, InDispatch, IsBuiltinVtime, IsMixed, MayMove, AreFlags, OfWake, OfLinux, IsLate, JudgesInsert, JudgesFlags, JudgesAnInsert, InTime, TooLate, JudgesKick, Judges, Inserts, Keeps, Releases, PassesOver, Moves, Front, Empty, IsFree, IsChoice, Chooses, OfTask, OfNone, OfNobody, SeemsIdle, IsUnclaimed, ClaimedHere, Tells, TellsIdle, TellsBusy, Kicks, KicksAny, KicksIdle, KicksCycling, LeavesBusy, KicksToPreempt, Finds, Found, Nobody, IsEffect, Done, FindsTask, Wrong}
+use Rattle.scx_sched_world.specs.Helpers.{invalid, with_fault, with_move, are_linux_flags, are_known, flags_fault, is_late, after_late, after_insert, insert_answer, after_choice, seems_idle, kick_of, kicked_so, kick_fault, kicked_or_fault, given_number, given_task, task_or_null, is_there, can_create, is_at_hand, is_held, is_dispatch, may_insert_in, may_insert, queue_fault, is_vtime, rank_fault, or_fault, insert_fault, insert_or_fault, invalid_if, insert_of, insert_of_vtime, choice_answer, pid_answer, can_move, front_moved_to_local, one_if_some, after_release, helper_answer, helper_after}
+use Rattle.scx_sched_rules.specs.Helpers.{IsDestination, Own, Global, Local, LocalOn, NamesNoCpu, CanCreate, MayInsert, InSelectCpu, InEnqueue, InDispatch, IsBuiltinVtime, IsMixed, MayMove, AreFlags, OfWake, OfLinux, IsLate, JudgesInsert, JudgesFlags, JudgesAnInsert, InTime, TooLate, Inserts, Keeps, Releases, PassesOver, Moves, Front, Empty, IsChoice, Chooses, OfTask, OfNone, OfNobody, SeemsIdle, IsUnclaimed, ClaimedHere, Tells, TellsIdle, TellsBusy, Kicks, KicksAny, KicksIdle, KicksCycling, LeavesBusy, KicksToPreempt, Finds, Found, Nobody, IsEffect, Done, NamesTask, Wrong, Blames}
 use Rattle.scx_sched_rules.specs.Laws.{RulesAllowHelpers, RulesAllowHelpersOnly}
-use Rattle.scx_sched_rules.proofs.Choosing.{free_is, is_choice, only_choice, claims, only_claims}
-use Rattle.scx_sched_rules.proofs.Differing.{and_true, and_false, false_and, homes, only_homes}
+use Rattle.scx_sched_rules.proofs.Choosing.{is_choice, only_choice, claims, only_claims}
+use Rattle.scx_sched_rules.proofs.Differing.{and_true, homes, only_homes}
+use Rattle.scx_sched_rules.proofs.Ejecting.{blames, only_blames}
+use Rattle.scx_sched_rules.proofs.Readers.{this_is, this_of, there_is, is_there_of, some_fault, here_allowed, only_here_so, exit_allowed, only_exit, current_allowed, only_current_so, peek_allowed, only_peek, running_allowed, only_running, home_allowed, only_home, pick_allowed, only_pick, claim_allowed, only_claim}
 
 -- ---- tests of Booleans as facts
 
@@ -58,12 +61,6 @@ dispatch_is callback.Dispatch e = refl
 dispatch_is b e = absurd (cc)
 
 -- ---- queues that a call names
-
-there_is : (w : WorldState) (q : ℕ) → is_there w q ≡ true → IsPolicyQueue w q
-there_is w q e = let x = both (nat_lt q policy_end) (exists w.queues q) e in (grind (arith, nat_tests, x.0), x.1)
-
-is_there_of : (w : WorldState) (q : ℕ) → IsPolicyQueue w q → is_there w q ≡ true
-is_there_of w q h = let l : nat_lt q policy_end ≡ true = grind (arith, nat_tests, h.0) in rw (l, h.1) refl
 
 -- what the fault of a queue says
 abbrev FaultOf : WorldState → ℕ → Option Fault → Type 0
@@ -586,21 +583,21 @@ create_allowed w a = go (can_create w q) refl
 
     go : (b : Bool) → can_create w q ≡ b → IsEffect w CreateDsq a (Num (if b then 0 else invalid)) (if b then with_queues w (after_create w.queues q) else with_fault w CannotCreate)
     go true e = let h = create_is w q e in Done 0 h (refl, ap (λ s. with_queues w s) (created_is w q h)) refl
-    go false e = Wrong CannotCreate (λ h. not_both (can_create w q) e (can_create_of w q h)) refl refl
+    go false e = Wrong CannotCreate (λ h. not_both (can_create w q) e (can_create_of w q h)) refl (blames w (reason.Fault CannotCreate))
 
 insert_allowed : (w : WorldState) (a : List Arg) → Is-effect w DsqInsert a
 insert_allowed w a = go (does_insert w (given_task a 0) (insert_of w a) (given_number a 3))
   where
     go : {n : ℕ} {v : WorldState} → DoesInsert w (given_task a 0) (insert_of w a) (given_number a 3) n v → IsEffect w DsqInsert a (Num n) v
     go {n} (DoneInsert j x h) = Done n j (x, h) refl
-    go (WrongInsert f j x k) = Wrong f j (ap Num x) k
+    go (WrongInsert f j x k) = Wrong f j (ap Num x) (subst (λ u. Blames w (reason.Fault f) u) (sym k) (blames w (reason.Fault f)))
 
 insert_vtime_allowed : (w : WorldState) (a : List Arg) → Is-effect w DsqInsertVtime a
 insert_vtime_allowed w a = go (does_insert w (given_task a 0) (insert_of_vtime w a) (given_number a 4))
   where
     go : {n : ℕ} {v : WorldState} → DoesInsert w (given_task a 0) (insert_of_vtime w a) (given_number a 4) n v → IsEffect w DsqInsertVtime a (Num n) v
     go {n} (DoneInsert j x h) = Done n j (x, h) refl
-    go (WrongInsert f j x k) = Wrong f j (ap Num x) k
+    go (WrongInsert f j x k) = Wrong f j (ap Num x) (subst (λ u. Blames w (reason.Fault f) u) (sym k) (blames w (reason.Fault f)))
 
 move_allowed : (w : WorldState) (a : List Arg) → Is-effect w DsqMoveToLocal a
 move_allowed w a = go (can_move w q) refl
@@ -610,7 +607,7 @@ move_allowed w a = go (can_move w q) refl
 
     go : (b : Bool) → can_move w q ≡ b → IsEffect w DsqMoveToLocal a (Num (if b then one_if_some (front_of w.queues q) else invalid)) (if b then front_moved_to_local w (front_of w.queues q) q else with_fault w NoSuchQueue)
     go true e = Done (one_if_some (front_of w.queues q)) (move_is w q e) (moves_is w q (front_of w.queues q) refl) refl
-    go false e = Wrong NoSuchQueue (λ h. not_both (can_move w q) e (can_move_of w q h)) refl refl
+    go false e = Wrong NoSuchQueue (λ h. not_both (can_move w q) e (can_move_of w q h)) refl (blames w (reason.Fault NoSuchQueue))
 
 queued_allowed : (w : WorldState) (a : List Arg) → Is-effect w DsqNrQueued a
 queued_allowed w a = go (is_there w q) refl
@@ -620,7 +617,7 @@ queued_allowed w a = go (is_there w q) refl
 
     go : (b : Bool) → is_there w q ≡ b → IsEffect w DsqNrQueued a (Num (if b then len_of w.queues q else invalid)) (if b then w else with_fault w NoSuchQueue)
     go true e = Done (len_of w.queues q) (there_is w q e) (refl, refl) refl
-    go false e = Wrong NoSuchQueue (λ h. not_both (is_there w q) e (is_there_of w q h)) refl refl
+    go false e = Wrong NoSuchQueue (λ h. not_both (is_there w q) e (is_there_of w q h)) refl (blames w (reason.Fault NoSuchQueue))
 
 chooses : (w : WorldState) (o : Option ℕ) → Chooses w (choice_answer w o) o (after_choice w o)
 chooses w None = OfNobody refl refl refl
@@ -661,16 +658,9 @@ idle_allowed w a = go (nat_lt c (length w.cpus)) refl
 
     go : (b : Bool) → nat_lt c (length w.cpus) ≡ b → IsEffect w CpuIdle a (Num (if b then one_if (seems_idle w c) else invalid)) (if b then w else with_fault w NoSuchCpu)
     go true e = Done (one_if (seems_idle w c)) (grind (arith, nat_tests, e)) (tells w c, refl) refl
-    go false e = Wrong NoSuchCpu (grind (arith, nat_tests, e)) refl refl
+    go false e = Wrong NoSuchCpu (grind (arith, nat_tests, e)) refl (blames w (reason.Fault NoSuchCpu))
 
 -- ---- kicks
-
-this_is : (c : ℕ) (o : Option ℕ) → is_this c o ≡ true → o ≡ Some c
-this_is c None e = absurd (cc)
-this_is c (Some d) e = let x : d ≡ c = grind (arith, nat_tests, e) in ap (λ y. Some y) x
-
-this_of : (c : ℕ) (o : Option ℕ) → o ≡ Some c → is_this c o ≡ true
-this_of c o e = ap (λ x. is_this c x) e ∙ eq-eqb c c refl
 
 kick_any : (n : ℕ) → n ≡ 0 → kick_of n ≡ Some Any
 kick_any n z = rw z refl
@@ -718,22 +708,25 @@ kick_allowed w a = go (cases_lt 2 n)
     at : (k : Kick) → n ≤ 2 → Kicks w c n (kicked_so w c k) → (b : Bool) → nat_lt c (length w.cpus) ≡ b
         → IsEffect w KickCpu a (Num (invalid_if (if b then None else Some NoSuchCpu))) (kicked_or_fault w (if b then None else Some NoSuchCpu) c (Some k))
     at k l h true e = Done 0 (l, grind (arith, nat_tests, e)) (refl, h) refl
-    at k l h false e = Wrong NoSuchCpu (l, grind (arith, nat_tests, e)) refl refl
+    at k l h false e = Wrong NoSuchCpu (l, grind (arith, nat_tests, e)) refl (blames w (reason.Fault NoSuchCpu))
 
     go : (2 < n) ⊎ (n ≤ 2) → Is-effect w KickCpu a
-    go (inl l) = subst (λ o. Kick-effect w a o) (sym (kick_none n l)) (Wrong UnknownFlag l refl refl)
+    go (inl l) = subst (λ o. Kick-effect w a o) (sym (kick_none n l)) (Wrong UnknownFlag l refl (blames w (reason.Fault UnknownFlag)))
     go (inr l) = let h = kicks_so w c n l in subst (λ o. Kick-effect w a o) (sym h.asked) (at h.kick l h.kicks (nat_lt c (length w.cpus)) refl)
 
-finds : (w : WorldState) (n : ℕ) → Finds w n (pid_answer w n)
-finds w n = go (nat_lt 0 n) (nat_le n (length w.tasks)) refl refl
+finds_allowed : (w : WorldState) (a : List Arg) → Is-effect w TaskByPid a
+finds_allowed w a = go (nat_lt 0 n) (nat_le n (length w.tasks)) refl refl
   where
-    go : (a b : Bool) → nat_lt 0 n ≡ a → nat_le n (length w.tasks) ≡ b → Finds w n (if (a && b) then Task (record { 0 = n - 1 }) else Num 0)
+    n : ℕ
+    n = given_number a 0
+
+    go : (x y : Bool) → nat_lt 0 n ≡ x → nat_le n (length w.tasks) ≡ y → IsEffect w TaskByPid a (if (x && y) then Task (record { 0 = n - 1 }) else Num 0) w
     go true true x y =
         let low : 0 < n = grind (arith, nat_tests, x) in
         let high : n ≤ length w.tasks = grind (arith, nat_tests, y) in
-        Found (n - 1) (omega (arith, low, high)) (omega (arith, low)) refl
-    go true false x y = let high : length w.tasks < n = grind (arith, nat_tests, y) in Nobody (λ t l e. omega (arith, l, e, high)) refl
-    go false b x y = let low : n ≤ 0 = grind (arith, nat_tests, x) in Nobody (λ t l e. omega (arith, e, low)) refl
+        NamesTask (Some (n - 1)) refl (Found (n - 1) (omega (arith, low, high)) (omega (arith, low)) refl) refl refl
+    go true false x y = let high : length w.tasks < n = grind (arith, nat_tests, y) in NamesTask None refl (Nobody (λ t l e. omega (arith, l, e, high)) refl) refl refl
+    go false b x y = let low : n ≤ 0 = grind (arith, nat_tests, x) in NamesTask None refl (Nobody (λ t l e. omega (arith, e, low)) refl) refl refl
 
 -- what is computed is allowed
 pub helper_allowed : RulesAllowHelpers
@@ -744,9 +737,17 @@ helper_allowed w DsqInsertVtime a own = insert_vtime_allowed w a
 helper_allowed w DsqMoveToLocal a own = move_allowed w a
 helper_allowed w SelectCpuDfl a own = Done (choice_answer w (given_task a 0)) refl (chooses w (given_task a 0)) refl
 helper_allowed w CpuIdle a own = idle_allowed w a
-helper_allowed w TaskByPid a own = FindsTask refl (finds w (given_number a 0)) refl
+helper_allowed w TaskByPid a own = finds_allowed w a
 helper_allowed w DsqNrQueued a own = queued_allowed w a
 helper_allowed w KickCpu a own = kick_allowed w a
+helper_allowed w SmpProcessorId a own = here_allowed w a
+helper_allowed w Exit a own = exit_allowed w a
+helper_allowed w CpuCurr a own = current_allowed w a
+helper_allowed w DsqPeek a own = peek_allowed w a
+helper_allowed w TaskRunning a own = running_allowed w a
+helper_allowed w TaskCpu a own = home_allowed w a
+helper_allowed w PickIdle a own = pick_allowed w a
+helper_allowed w ClaimIdle a own = claim_allowed w a
 helper_allowed w MapLookupElem a own = absurd (own refl)
 
 -- ---- and nothing else
@@ -756,8 +757,8 @@ Is-this w h a x v = (x ≡ helper_answer w h a) × (v ≡ helper_after w h a)
 
 only_create : (w : WorldState) (a : List Arg) (x : Answer) (v : WorldState) → IsEffect w CreateDsq a x v → Is-this w CreateDsq a x v
 only_create w a x v (Done n j d e) = let b = can_create_of w (given_number a 0) j in rw b (e ∙ ap Num d.0, d.1 ∙ ap (λ s. with_queues w s) (sym (created_is w (given_number a 0) j)))
-only_create w a x v (FindsTask h f e) = absurd (cc)
-only_create w a x v (Wrong CannotCreate j e k) = let b = is_false (can_create w (given_number a 0)) (λ y. j (create_is w (given_number a 0) y)) in rw b (e, k)
+only_create w a x v (NamesTask o j m e k) = absurd m
+only_create w a x v (Wrong CannotCreate j e k) = let b = is_false (can_create w (given_number a 0)) (λ y. j (create_is w (given_number a 0) y)) in rw b (e, only_blames w (reason.Fault CannotCreate) v k)
 only_create w a x v (Wrong CannotInsert j e k) = absurd j
 only_create w a x v (Wrong UnknownFlag j e k) = absurd j
 only_create w a x v (Wrong NoSuchQueue j e k) = absurd j
@@ -768,13 +769,13 @@ only_create w a x v (Wrong Stuck j e k) = absurd j
 
 only_insert : (w : WorldState) (a : List Arg) (x : Answer) (v : WorldState) → IsEffect w DsqInsert a x v → Is-this w DsqInsert a x v
 only_insert w a x v (Done n j d e) = let h = only_does_insert w (given_task a 0) (insert_of w a) (given_number a 3) n v (DoneInsert j d.0 d.1) in (e ∙ ap Num h.0, h.1)
-only_insert w a x v (FindsTask h f e) = absurd (cc)
-only_insert w a x v (Wrong f j e k) = let h = only_does_insert w (given_task a 0) (insert_of w a) (given_number a 3) invalid v (WrongInsert f j refl k) in (e ∙ ap Num h.0, h.1)
+only_insert w a x v (NamesTask o j m e k) = absurd m
+only_insert w a x v (Wrong f j e k) = let h = only_does_insert w (given_task a 0) (insert_of w a) (given_number a 3) invalid v (WrongInsert f j refl (only_blames w (reason.Fault f) v k)) in (e ∙ ap Num h.0, h.1)
 
 only_insert_vtime : (w : WorldState) (a : List Arg) (x : Answer) (v : WorldState) → IsEffect w DsqInsertVtime a x v → Is-this w DsqInsertVtime a x v
 only_insert_vtime w a x v (Done n j d e) = let h = only_does_insert w (given_task a 0) (insert_of_vtime w a) (given_number a 4) n v (DoneInsert j d.0 d.1) in (e ∙ ap Num h.0, h.1)
-only_insert_vtime w a x v (FindsTask h f e) = absurd (cc)
-only_insert_vtime w a x v (Wrong f j e k) = let h = only_does_insert w (given_task a 0) (insert_of_vtime w a) (given_number a 4) invalid v (WrongInsert f j refl k) in (e ∙ ap Num h.0, h.1)
+only_insert_vtime w a x v (NamesTask o j m e k) = absurd m
+only_insert_vtime w a x v (Wrong f j e k) = let h = only_does_insert w (given_task a 0) (insert_of_vtime w a) (given_number a 4) invalid v (WrongInsert f j refl (only_blames w (reason.Fault f) v k)) in (e ∙ ap Num h.0, h.1)
 
 abbrev Chosen-so : WorldState → ℕ → Option ℕ → WorldState → Type 0
 Chosen-so w n o v = (n ≡ choice_answer w o) × (v ≡ after_choice w o)
@@ -801,7 +802,7 @@ only_idle w a x v (Done n j d e) = go (nat_lt c (length w.cpus)) refl
     go : (b : Bool) → nat_lt c (length w.cpus) ≡ b → (x ≡ Num (if b then one_if (seems_idle w c) else invalid)) × (v ≡ (if b then w else with_fault w NoSuchCpu))
     go true y = (e ∙ ap Num (only_tells w c n d.0), d.1)
     go false y = let past : length w.cpus ≤ c = grind (arith, nat_tests, y) in absurd (omega (arith, j, past))
-only_idle w a x v (FindsTask h f e) = absurd (cc)
+only_idle w a x v (NamesTask o j m e k) = absurd m
 only_idle w a x v (Wrong NoSuchCpu j e k) = go (nat_lt c (length w.cpus)) refl
   where
     c : ℕ
@@ -809,7 +810,7 @@ only_idle w a x v (Wrong NoSuchCpu j e k) = go (nat_lt c (length w.cpus)) refl
 
     go : (b : Bool) → nat_lt c (length w.cpus) ≡ b → (x ≡ Num (if b then one_if (seems_idle w c) else invalid)) × (v ≡ (if b then w else with_fault w NoSuchCpu))
     go true y = let l : c < length w.cpus = grind (arith, nat_tests, y) in absurd (omega (arith, j, l))
-    go false y = (e, k)
+    go false y = (e, only_blames w (reason.Fault NoSuchCpu) v k)
 only_idle w a x v (Wrong NoSuchQueue j e k) = absurd j
 only_idle w a x v (Wrong CannotCreate j e k) = absurd j
 only_idle w a x v (Wrong Stuck j e k) = absurd j
@@ -818,21 +819,21 @@ only_idle w a x v (Wrong UnknownFlag j e k) = absurd j
 only_idle w a x v (Wrong BuiltinVtime j e k) = absurd j
 only_idle w a x v (Wrong Mixed j e k) = absurd j
 
-only_finds : (w : WorldState) (n : ℕ) (x : Answer) → Finds w n x → x ≡ pid_answer w n
-only_finds w n x (Found t l e k) =
+only_finds : (w : WorldState) (n : ℕ) (o : Option ℕ) → Finds w n o → task_or_null o ≡ pid_answer w n
+only_finds w n o (Found t l e k) =
     let low : nat_lt 0 n ≡ true = grind (arith, nat_tests, e) in
     let high : nat_le n (length w.tasks) ≡ true = grind (arith, nat_tests, l, e) in
     let is : t ≡ n - 1 = omega (arith, e) in
-    rw (low, high) (k ∙ ap (λ (m : ℕ). Task (record { 0 = m })) is)
-only_finds w n x (Nobody none k) = go (nat_lt 0 n) (nat_le n (length w.tasks)) refl refl
+    rw (low, high) (ap (λ y. task_or_null y) k ∙ ap (λ (m : ℕ). Task (record { 0 = m })) is)
+only_finds w n o (Nobody none k) = go (nat_lt 0 n) (nat_le n (length w.tasks)) refl refl
   where
-    go : (a b : Bool) → nat_lt 0 n ≡ a → nat_le n (length w.tasks) ≡ b → x ≡ (if (a && b) then Task (record { 0 = n - 1 }) else Num 0)
+    go : (a b : Bool) → nat_lt 0 n ≡ a → nat_le n (length w.tasks) ≡ b → task_or_null o ≡ (if (a && b) then Task (record { 0 = n - 1 }) else Num 0)
     go true true y z =
         let low : 0 < n = grind (arith, nat_tests, y) in
         let high : n ≤ length w.tasks = grind (arith, nat_tests, z) in
         absurd (none (n - 1) (omega (arith, low, high)) (omega (arith, low)))
-    go true false y z = k
-    go false b y z = k
+    go true false y z = ap (λ u. task_or_null u) k
+    go false b y z = ap (λ u. task_or_null u) k
 
 only_moves : (w : WorldState) (q n : ℕ) (v : WorldState) → Moves w q n v → (n ≡ one_if_some (front_of w.queues q)) × (v ≡ front_moved_to_local w (front_of w.queues q) q)
 only_moves w q n v (Front t moved f e h k) =
@@ -845,8 +846,8 @@ only_move w a x v (Done n j d e) =
     let b = can_move_of w (given_number a 0) j in
     let m = only_moves w (given_number a 0) n v d in
     rw b (e ∙ ap Num m.0, m.1)
-only_move w a x v (FindsTask h f e) = absurd (cc)
-only_move w a x v (Wrong NoSuchQueue j e k) = let b = is_false (can_move w (given_number a 0)) (λ y. j (move_is w (given_number a 0) y)) in rw b (e, k)
+only_move w a x v (NamesTask o j m e k) = absurd m
+only_move w a x v (Wrong NoSuchQueue j e k) = let b = is_false (can_move w (given_number a 0)) (λ y. j (move_is w (given_number a 0) y)) in rw b (e, only_blames w (reason.Fault NoSuchQueue) v k)
 only_move w a x v (Wrong CannotInsert j e k) = absurd j
 only_move w a x v (Wrong UnknownFlag j e k) = absurd j
 only_move w a x v (Wrong CannotCreate j e k) = absurd j
@@ -857,8 +858,8 @@ only_move w a x v (Wrong Mixed j e k) = absurd j
 
 only_queued : (w : WorldState) (a : List Arg) (x : Answer) (v : WorldState) → IsEffect w DsqNrQueued a x v → Is-this w DsqNrQueued a x v
 only_queued w a x v (Done n j d e) = let b = is_there_of w (given_number a 0) j in rw b (e ∙ ap Num d.0, d.1)
-only_queued w a x v (FindsTask h f e) = absurd (cc)
-only_queued w a x v (Wrong NoSuchQueue j e k) = let b = is_false (is_there w (given_number a 0)) (λ y. j (there_is w (given_number a 0) y)) in rw b (e, k)
+only_queued w a x v (NamesTask o j m e k) = absurd m
+only_queued w a x v (Wrong NoSuchQueue j e k) = let b = is_false (is_there w (given_number a 0)) (λ y. j (there_is w (given_number a 0) y)) in rw b (e, only_blames w (reason.Fault NoSuchQueue) v k)
 only_queued w a x v (Wrong CannotInsert j e k) = absurd j
 only_queued w a x v (Wrong UnknownFlag j e k) = absurd j
 only_queued w a x v (Wrong CannotCreate j e k) = absurd j
@@ -889,12 +890,12 @@ only_kick w a x v (Done n j d e) =
     let h = only_kicks w (given_number a 0) (given_number a 1) v d.1 in
     let l : nat_lt (given_number a 0) (length w.cpus) ≡ true = grind (arith, nat_tests, j.1) in
     rw (h.1, l) (e ∙ ap Num d.0, h.2)
-only_kick w a x v (FindsTask h f e) = absurd (cc)
-only_kick w a x v (Wrong UnknownFlag j e k) = rw (kick_none (given_number a 1) j) (e, k)
+only_kick w a x v (NamesTask o j m e k) = absurd m
+only_kick w a x v (Wrong UnknownFlag j e k) = rw (kick_none (given_number a 1) j) (e, only_blames w (reason.Fault UnknownFlag) v k)
 only_kick w a x v (Wrong NoSuchCpu j e k) =
     let h = kicks_so w (given_number a 0) (given_number a 1) j.0 in
     let l : nat_lt (given_number a 0) (length w.cpus) ≡ false = grind (arith, nat_tests, j.1) in
-    rw (h.asked, l) (e, k)
+    rw (h.asked, l) (e, only_blames w (reason.Fault NoSuchCpu) v k)
 only_kick w a x v (Wrong NoSuchQueue j e k) = absurd j
 only_kick w a x v (Wrong CannotCreate j e k) = absurd j
 only_kick w a x v (Wrong CannotInsert j e k) = absurd j
@@ -902,27 +903,32 @@ only_kick w a x v (Wrong BuiltinVtime j e k) = absurd j
 only_kick w a x v (Wrong Mixed j e k) = absurd j
 only_kick w a x v (Wrong Stuck j e k) = absurd j
 
-some_fault : (f : Fault) → ◌≡◌ {A = Option Fault} (Some f) None → ⊥
-some_fault f e = absurd (cc)
-
 -- and nothing else is
 pub only_helper : RulesAllowHelpersOnly
 only_helper w KtimeGetNs a x v (Done n j d e) = (e ∙ ap Num d.0, d.1)
-only_helper w KtimeGetNs a x v (FindsTask h f e) = absurd (cc)
+only_helper w KtimeGetNs a x v (NamesTask o j m e k) = absurd m
 only_helper w KtimeGetNs a x v (Wrong f j e k) = absurd (some_fault f j)
 only_helper w CreateDsq a x v e = only_create w a x v e
 only_helper w DsqInsert a x v e = only_insert w a x v e
 only_helper w DsqInsertVtime a x v e = only_insert_vtime w a x v e
 only_helper w DsqMoveToLocal a x v e = only_move w a x v e
 only_helper w SelectCpuDfl a x v (Done n j d e) = let h = only_chooses w n (given_task a 0) v d in (e ∙ ap Num h.0, h.1)
-only_helper w SelectCpuDfl a x v (FindsTask h f e) = absurd (cc)
+only_helper w SelectCpuDfl a x v (NamesTask o j m e k) = absurd m
 only_helper w SelectCpuDfl a x v (Wrong f j e k) = absurd (some_fault f j)
 only_helper w CpuIdle a x v e = only_idle w a x v e
 only_helper w TaskByPid a x v (Done n j d e) = absurd d
-only_helper w TaskByPid a x v (FindsTask h f e) = (only_finds w (given_number a 0) x f, e)
+only_helper w TaskByPid a x v (NamesTask o j m e k) = (e ∙ only_finds w (given_number a 0) o m, k)
 only_helper w TaskByPid a x v (Wrong f j e k) = absurd (some_fault f j)
 only_helper w DsqNrQueued a x v e = only_queued w a x v e
 only_helper w KickCpu a x v e = only_kick w a x v e
+only_helper w SmpProcessorId a x v e = only_here_so w a x v e
+only_helper w Exit a x v e = only_exit w a x v e
+only_helper w CpuCurr a x v e = only_current_so w a x v e
+only_helper w DsqPeek a x v e = only_peek w a x v e
+only_helper w TaskRunning a x v e = only_running w a x v e
+only_helper w TaskCpu a x v e = only_home w a x v e
+only_helper w PickIdle a x v e = only_pick w a x v e
+only_helper w ClaimIdle a x v e = only_claim w a x v e
 only_helper w MapLookupElem a x v (Done n j d e) = absurd j
-only_helper w MapLookupElem a x v (FindsTask h f e) = absurd (cc)
+only_helper w MapLookupElem a x v (NamesTask o j m e k) = absurd m
 only_helper w MapLookupElem a x v (Wrong f j e k) = absurd j

@@ -1,8 +1,9 @@
 pub mod Differing
-pub mod Entering
 pub mod Choosing
-pub mod Helping
 pub mod Ejecting
+pub mod Readers
+pub mod Entering
+pub mod Helping
 pub mod Calling
 pub mod Cycling
 pub mod Rounding

@@ -1,62 +1,63 @@
 -- The rounds of an event go as the rules allow, and in no other way.
-use Rattle.std.proofs.Common.{unwrap_or, ◌≡◌, ℕ, zero, suc, ◌<◌, ◌≤◌, Bool, true, false, not, ◌==◌, ◌&&◌, ◌||◌, ◌⊎◌, inl, inr, if◌then◌else◌, length, Option, Some, None, refl, sym, ◌∙◌, ap, subst, arith}
+use Rattle.std.proofs.Common.{unwrap_or, ◌≡◌, ℕ, zero, suc, ◌<◌, ◌≤◌, Bool, true, false, ◌==◌, ◌&&◌, ◌||◌, ◌⊎◌, inl, inr, if◌then◌else◌, length, Option, Some, None, refl, sym, ◌∙◌, ap, subst, arith}
 use Rattle.std.proofs.lemmas.Bool.{cases_eq, cases_lt, eq-eqb, ne_eqb}
 use Rattle.scx_sched_world.specs.CpuSets.{is_in_set}
-use Rattle.scx_sched_world.specs.World.{task_at, running, is_idle, this_if, or_this}
+use Rattle.scx_sched_world.specs.World.{WorldState, task_at, running, is_idle, this_if, or_this}
+use Rattle.scx_sched_world.specs.Pending.{has_local, is_pending, pending_below, first_pending}
 use Rattle.scx_sched_world.specs.Tasks.{local_len}
-use Rattle.scx_sched_machine.specs.Steps.{State, Stepped, with_world, stays, one_after_other, is_by_linux}
-use Rattle.scx_sched_machine.specs.Cycle.{has_local, cycle}
-use Rattle.scx_sched_machine.specs.Rounds.{most_rounds, is_pending, pending_below, next_to_look, cut_off_if, look_past, look_from, round, round_then, rounds, with_rounds}
+use Rattle.scx_sched_machine.specs.Steps.{State, Stepped, stays, one_after_other, is_by_linux}
+use Rattle.scx_sched_machine.specs.Cycle.{cycle}
+use Rattle.scx_sched_machine.specs.Rounds.{most_rounds, next_to_look, cut_off_if, look_past, look_from, round, round_then, rounds, with_rounds}
 use Rattle.scx_sched_rules.specs.Rounds.{IsPending, WasKicked, HasWork, IsNext, looking, Preempts, Is_cut, Is_left, LooksForWork, Wakes_up, Runs_on, Runs_out, Rounds, Enough, NoneNext, OneMore, IsFollowed, No_rounds, Has_rounds}
-use Rattle.scx_sched_rules.proofs.Differing.{both_true, and_true, false_from, not_so, not_zero, is_some_left}
+use Rattle.scx_sched_rules.proofs.Differing.{both_true, and_true, not_so, not_zero, is_some_left}
 use Rattle.scx_sched_rules.proofs.Cycling.{cycles, only_cycles}
 
 -- ---- who is pending
 
-pends_is : (s : State) (c : ℕ) → is_pending s c ≡ true → IsPending s c
+pends_is : (s : State) (c : ℕ) → is_pending s.world c ≡ true → IsPending s c
 pends_is s c e = go (is_in_set s.world.kicked c) refl e
   where
-    go : (b : Bool) → is_in_set s.world.kicked c ≡ b → (b || (is_idle s.world c && has_local s c)) ≡ true → IsPending s c
+    go : (b : Bool) → is_in_set s.world.kicked c ≡ b → (b || (is_idle s.world c && has_local s.world c)) ≡ true → IsPending s c
     go true x y = WasKicked x
-    go false x y = let h = both_true (is_idle s.world c) (has_local s c) y in HasWork h.0 (is_some_left (local_len s.world c) h.1)
+    go false x y = let h = both_true (is_idle s.world c) (has_local s.world c) y in HasWork h.0 (is_some_left (local_len s.world c) h.1)
 
-pends_of : (s : State) (c : ℕ) → IsPending s c → is_pending s c ≡ true
-pends_of s c (WasKicked e) = ap (λ b. b || (is_idle s.world c && has_local s c)) e
-pends_of s c (HasWork i l) = second (is_in_set s.world.kicked c) (is_idle s.world c && has_local s c) (and_true (is_idle s.world c) (has_local s c) i (not_zero (local_len s.world c) l))
+pends_of : (s : State) (c : ℕ) → IsPending s c → is_pending s.world c ≡ true
+pends_of s c (WasKicked e) = ap (λ b. b || (is_idle s.world c && has_local s.world c)) e
+pends_of s c (HasWork i l) = second (is_in_set s.world.kicked c) (is_idle s.world c && has_local s.world c) (and_true (is_idle s.world c) (has_local s.world c) i (not_zero (local_len s.world c) l))
   where
     second : (x : Bool) (y : Bool) → y ≡ true → (x || y) ≡ true
     second true y e = refl
     second false y e = e
 
-rests : (s : State) (c : ℕ) → is_pending s c ≡ false → ¬ IsPending s c
-rests s c e h = not_so (is_pending s c) e (pends_of s c h)
+rests : (s : State) (c : ℕ) → is_pending s.world c ≡ false → ¬ IsPending s c
+rests s c e h = not_so (is_pending s.world c) e (pends_of s c h)
 
-record IsLeast (n : ℕ) (s : State) (c : ℕ) : Type 0 where
+record IsLeast (n : ℕ) (w : WorldState) (c : ℕ) : Type 0 where
   within : c < n
-  pending : is_pending s c ≡ true
-  below : (d : ℕ) → d < c → is_pending s d ≡ false
+  pending : is_pending w c ≡ true
+  below : (d : ℕ) → d < c → is_pending w d ≡ false
 
-none_pending : (n : ℕ) (s : State) → pending_below n s ≡ None → (d : ℕ) → d < n → is_pending s d ≡ false
+none_pending : (n : ℕ) (w : WorldState) → pending_below n w ≡ None → (d : ℕ) → d < n → is_pending w d ≡ false
 unfolding pending_below
-none_pending zero s e d l = absurd (omega (arith, l))
-none_pending (suc n) s e d l = go (pending_below n s) (is_pending s n) refl refl e (λ x m. none_pending n s x d m) (cases_eq d n)
+none_pending zero w e d l = absurd (omega (arith, l))
+none_pending (suc n) w e d l = go (pending_below n w) (is_pending w n) refl refl e (λ x m. none_pending n w x d m) (cases_eq d n)
   where
-    go : (o : Option ℕ) (b : Bool) → pending_below n s ≡ o → is_pending s n ≡ b → or_this o (this_if b n) ≡ None → (pending_below n s ≡ None → d < n → is_pending s d ≡ false) → (d ≡ n) ⊎ (d ≡ n → ⊥) → is_pending s d ≡ false
+    go : (o : Option ℕ) (b : Bool) → pending_below n w ≡ o → is_pending w n ≡ b → or_this o (this_if b n) ≡ None → (pending_below n w ≡ None → d < n → is_pending w d ≡ false) → (d ≡ n) ⊎ (d ≡ n → ⊥) → is_pending w d ≡ false
     go (Some c) b x y z f h = absurd (cc)
     go None true x y z f h = absurd (cc)
-    go None false x y z f (inl k) = ap (λ m. is_pending s m) k ∙ y
+    go None false x y z f (inl k) = ap (λ m. is_pending w m) k ∙ y
     go None false x y z f (inr k) = f x (omega (arith, l, k))
 
-is_least : (n : ℕ) (s : State) (c : ℕ) → pending_below n s ≡ Some c → IsLeast n s c
+is_least : (n : ℕ) (w : WorldState) (c : ℕ) → pending_below n w ≡ Some c → IsLeast n w c
 unfolding pending_below
-is_least zero s c e = absurd (cc)
-is_least (suc n) s c e = go (pending_below n s) (is_pending s n) refl refl e (λ x. is_least n s c x)
+is_least zero w c e = absurd (cc)
+is_least (suc n) w c e = go (pending_below n w) (is_pending w n) refl refl e (λ x. is_least n w c x)
   where
-    go : (o : Option ℕ) (b : Bool) → pending_below n s ≡ o → is_pending s n ≡ b → or_this o (this_if b n) ≡ Some c → (pending_below n s ≡ Some c → IsLeast n s c) → IsLeast (suc n) s c
+    go : (o : Option ℕ) (b : Bool) → pending_below n w ≡ o → is_pending w n ≡ b → or_this o (this_if b n) ≡ Some c → (pending_below n w ≡ Some c → IsLeast n w c) → IsLeast (suc n) w c
     go (Some d) b x y z f = let h = f (x ∙ z) in record { within = omega (arith, h.within); pending = h.pending; below = h.below }
     go None true x y z f =
         let is : n ≡ c = ap (λ o. unwrap_or o n) z in
-        record { within = omega (arith, is); pending = ap (λ m. is_pending s m) (sym is) ∙ y; below = λ d l. none_pending n s x d (omega (arith, l, is)) }
+        record { within = omega (arith, is); pending = ap (λ m. is_pending w m) (sym is) ∙ y; below = λ d l. none_pending n w x d (omega (arith, l, is)) }
     go None false x y z f = absurd (cc)
 
 -- ---- who looks next
@@ -68,13 +69,13 @@ next_is : (s : State) (c : ℕ) → next_to_look s ≡ Some c → IsNext s c
 unfolding next_to_look
 next_is s c e = go (is_by_linux s) refl e
   where
-    go : (b : Bool) → is_by_linux s ≡ b → next_as s b (pending_below (length s.world.cpus) s) ≡ Some c → IsNext s c
-    go true x y = let h = is_least (length s.world.cpus) s c y in record { by_linux = x; within = h.within; pending = pends_is s c h.pending; lowest = λ d l. rests s d (h.below d l) }
+    go : (b : Bool) → is_by_linux s ≡ b → next_as s b (first_pending s.world) ≡ Some c → IsNext s c
+    go true x y = let h = is_least (length s.world.cpus) s.world c y in record { by_linux = x; within = h.within; pending = pends_is s c h.pending; lowest = λ d l. rests s d (h.below d l) }
     go false x y = absurd (cc)
 
 next_none : (s : State) → next_to_look s ≡ None → (c : ℕ) → ¬ IsNext s c
 unfolding next_to_look
-next_none s e c h = rests s c (none_pending (length s.world.cpus) s (sym (ap (λ b. next_as s b (pending_below (length s.world.cpus) s)) h.by_linux) ∙ e) c h.within) h.pending
+next_none s e c h = rests s c (none_pending (length s.world.cpus) s.world (sym (ap (λ b. next_as s b (first_pending s.world)) h.by_linux) ∙ e) c h.within) h.pending
 
 only_next : (s : State) (c : ℕ) → IsNext s c → next_to_look s ≡ Some c
 only_next s c h = go (next_to_look s) refl

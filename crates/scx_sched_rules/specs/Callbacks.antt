@@ -12,10 +12,10 @@ use Rattle.scx_vm.specs.Arguments.{program_arguments}
 use Rattle.scx_vm.specs.Host.{host}
 use Rattle.scx_sched_world.specs.World.{WorldState, at_callback}
 use Rattle.scx_sched_world.specs.Helpers.{world_functions}
-use Rattle.scx_sched_world.specs.declared.faults.Fault.{Fault}
+use Rattle.scx_sched_world.specs.declared.eject.Cause.{Cause}
 use Rattle.scx_sched_machine.specs.Steps.{State, Stepped, one_after_other}
 use Rattle.scx_sched_machine.specs.Callbacks.{acting, calls_of, after_callback}
-use Rattle.scx_sched_rules.specs.Ejections.{FaultOf, Judges}
+use Rattle.scx_sched_rules.specs.Ejections.{CauseOf, Judges}
 
 -- the world as that which answers a program
 abbrev pub answering : Outside WorldState
@@ -46,14 +46,14 @@ leaving s b a w e = record {
 }
 
 -- with that task and processor at hand, it answers so, if it comes to an answer, and ejects the
--- policy where it has a fault; none is called once the policy is ejected
+-- policy where it has a cause; none is called once the policy is ejected
 pub record CallsBack (s : State) (b : Callback) (a : Args) (t c : ℕ) (answer : Option ℕ)
     (r : Stepped) : Type 0 where
   pub ending : Ending WorldState
   pub ends : EndsAs (acting s b) b a s.maps (at_callback s.world b t c) ending
   pub answers : answer ≡ ending.answer
-  pub fault : Option Fault
-  pub wrong : FaultOf b ending fault
+  pub cause : Option Cause
+  pub why : CauseOf b ending cause
   pub ejected : Stepped
-  pub judged : Judges (after_callback s.policy ending) fault ejected
+  pub judged : Judges (after_callback s.policy ending) cause ejected
   pub all : r ≡ one_after_other (leaving s b a (at_callback s.world b t c) ending) ejected

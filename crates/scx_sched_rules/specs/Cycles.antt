@@ -18,9 +18,9 @@ use Rattle.scx_sched_world.specs.Tasks.{local_len, after_enter, for_cpu, to_held
 use Rattle.scx_sched_world.specs.Ejecting.{put_builtin, after_catch_up, after_charge}
 use Rattle.scx_sched_machine.specs.Steps.{State, Stepped, with_world, stays, after, one_after_other, is_by_linux}
 use Rattle.scx_sched_machine.specs.Callbacks.{call_back, one_task, task_and_number, cpu_and_task}
-use Rattle.scx_sched_machine.specs.Cycle.{told_of, stopping_called, cycling}
+use Rattle.scx_sched_machine.specs.Cycle.{told_of, stopping_called}
 use Rattle.scx_sched_machine.specs.Parking.{FrontMayRun}
-use Rattle.scx_sched_rules.specs.Differences.{Homes, KeepsSlice, GivesWay, Switches, IsToAsk, GivesUp}
+use Rattle.scx_sched_rules.specs.Differences.{Homes, BeginsCycle, EndsCycle, KeepsSlice, GivesWay, Switches, IsToAsk, GivesUp}
 
 -- to that world, with one note of it
 abbrev pub noting : State → WorldState → What → Stepped
@@ -296,9 +296,12 @@ pub data Looks (s : State) (c : ℕ) (p : Option ℕ) (ran : Bool) (r : Stepped)
   Of_builtin : (x : Eject)
       → s.world.ejected ≡ Some x → CyclesBuiltin s c p ran r → Looks s c p ran r
 
--- a cycle is under way from the first step to the last; as it begins, the claim on its processor
--- ends
+-- a cycle is under way from the first step to the last
 pub record Cycles (s : State) (c : ℕ) (p : Option ℕ) (ran : Bool) (r : Stepped) : Type 0 where
+  pub begun : WorldState
+  pub begins : BeginsCycle s.world c begun
   pub found : Stepped
-  pub looks : Looks (cycling s (Some c)) c p ran found
-  pub all : r ≡ record found { state = cycling found.state None }
+  pub looks : Looks (with_world s begun) c p ran found
+  pub ended : WorldState
+  pub ends : EndsCycle found.state.world ended
+  pub all : r ≡ record found { state = with_world found.state ended }

@@ -1,10 +1,18 @@
 -- The places at which Linux rules differ from plain ones, each by cases, in the order of a cycle.
 -- Under Linux rules the machine does there what a kernel does, while the policy is in force.
 use Rattle.std.specs.Prelude.{◌≡◌, ℕ, ◌+◌, ◌%◌, ◌<◌, true, false, Option, Some, None}
+use Rattle.scx_isa_semantics.specs.declared.callbacks.Callback.{Callback}
+use Rattle.scx_isa_semantics.specs.declared.callbacks.Callback.TheVariants as callback
+use Rattle.scx_vm.specs.Programs.{VerifiedProgram}
+use Rattle.scx_vm.specs.declared.arguments.Args.{Args}
+use Rattle.scx_sched_world.specs.declared.passing.Switch.{Switch}
+use Rattle.scx_sched_world.specs.CpuSets.{but_cpu}
 use Rattle.scx_sched_world.specs.World as world
-use Rattle.scx_sched_world.specs.World.{WorldState, with_slept, with_task, task_at, is_idle}
+use Rattle.scx_sched_world.specs.World.{WorldState, nothing_passes, with_slept, with_waker, with_task, task_at, running, is_idle}
 use Rattle.scx_sched_world.specs.Tasks.{with_home, local_len, after_switch}
-use Rattle.scx_sched_machine.specs.Steps.{State, with_world, is_by_linux, kicked}
+use Rattle.scx_sched_machine.specs.Policy.{program_of}
+use Rattle.scx_sched_machine.specs.Steps.{State, Stepped, with_world, stays, is_by_linux, kicked}
+use Rattle.scx_sched_machine.specs.Callbacks.{call_back, one_task}
 
 -- ---- the processor of a task
 
@@ -17,6 +25,87 @@ with_home_at w t c = with_task w t (with_home (task_at w t) c)
 pub data Homes (w : WorldState) (t c : ℕ) (v : WorldState) : Type 0 where
   StaysAtHome : world.is_by_linux w ≡ false → v ≡ w → Homes w t c v
   MovesHome : world.is_by_linux w ≡ true → v ≡ with_home_at w t c → Homes w t c v
+
+-- ---- the current task
+
+-- the task that helpers are told is current on a processor: the one that runs there, but, while the
+-- processor switches, the one that it switches from
+pub data IsCurrent (w : WorldState) (c : ℕ) (o : Option ℕ) : Type 0 where
+  NoSwitch : w.passing.switching ≡ None → o ≡ running w c → IsCurrent w c o
+  SwitchesHere : (x : Switch)
+      → w.passing.switching ≡ Some x → x.cpu ≡ c → o ≡ x.from → IsCurrent w c o
+  SwitchesElsewhere : (x : Switch)
+      → w.passing.switching ≡ Some x → ¬ (x.cpu ≡ c) → o ≡ running w c → IsCurrent w c o
+
+-- the world in which that processor switches from the task that runs there
+abbrev pub switching_at : WorldState → ℕ → WorldState
+switching_at w c = record w {
+  passing = record w.passing { switching = Some (record { cpu = c; from = running w c }) };
+}
+
+-- under Linux rules a processor switches from its current task as that task leaves, or as a cycle
+-- begins there, whichever comes first (core.c, `__schedule`)
+pub data BeginsSwitch (w : WorldState) (c : ℕ) (v : WorldState) : Type 0 where
+  NoSwitchByPlain : world.is_by_linux w ≡ false → v ≡ w → BeginsSwitch w c v
+  IsSwitching : (x : Switch) → w.passing.switching ≡ Some x → v ≡ w → BeginsSwitch w c v
+  Begins : world.is_by_linux w ≡ true → w.passing.switching ≡ None → v ≡ switching_at w c
+      → BeginsSwitch w c v
+
+-- a cycle begins on a processor; under Linux rules the claim on it ends, and it switches
+pub data BeginsCycle (w : WorldState) (c : ℕ) (v : WorldState) : Type 0 where
+  BeginsByPlain : world.is_by_linux w ≡ false → v ≡ record w { cycling = Some c }
+      → BeginsCycle w c v
+  BeginsByLinux : (u : WorldState)
+      → world.is_by_linux w ≡ true → BeginsSwitch w c u
+      → v ≡ record u { cycling = Some c; claimed = but_cpu w.claimed c } → BeginsCycle w c v
+
+-- a cycle ends; under Linux rules the task that runs is the current one from then on, and no task
+-- went to sleep or wakes any more
+pub data EndsCycle (w v : WorldState) : Type 0 where
+  EndsAsByPlain : world.is_by_linux w ≡ false → v ≡ record w { cycling = None } → EndsCycle w v
+  EndsAsByLinux : world.is_by_linux w ≡ true
+      → v ≡ record w { cycling = None; passing = nothing_passes } → EndsCycle w v
+
+-- ---- the processor of a callback
+
+-- the processor on which a callback runs: of a wake the one from which the task is woken, else the
+-- one at hand
+pub data IsHere (w : WorldState) (n : ℕ) : Type 0 where
+  WokenFrom : (c : ℕ) → w.passing.waker ≡ Some c → n ≡ c → IsHere w n
+  AtHand : w.passing.waker ≡ None → n ≡ w.call.cpu → IsHere w n
+
+-- callbacks of a wake run on the processor on which the task was last
+pub data TellsWaker (s : State) (t : ℕ) (v : State) : Type 0 where
+  NoWaker : is_by_linux s ≡ false → v ≡ s → TellsWaker s t v
+  HasWaker : is_by_linux s ≡ true
+      → v ≡ with_world s (with_waker s.world (Some (task_at s.world t).prev_cpu))
+      → TellsWaker s t v
+
+-- ---- callbacks by Linux rules
+
+-- a policy may have `runnable` and `quiescent`, which are called under Linux rules alone
+pub data CallsIfThere (s : State) (b : Callback) (a : Args) (t c : ℕ) (r : Stepped)
+    : Type 0 where
+  IsPlain : is_by_linux s ≡ false → r ≡ stays s → CallsIfThere s b a t c r
+  IsAbsent : program_of s.policy b ≡ None → r ≡ stays s → CallsIfThere s b a t c r
+  IsThere : (p : VerifiedProgram)
+      → is_by_linux s ≡ true → program_of s.policy b ≡ Some p → r ≡ call_back s b a t c
+      → CallsIfThere s b a t c r
+
+-- a millisecond ends with a tick: each one where slices end exactly, else one in `tick_ms`
+pub data IsTickTime (s : State) : Type 0 where
+  EachMs : s.policy.tick_ms ≡ 0 → IsTickTime s
+  AtTick : (s.world.clock + 1) % s.policy.tick_ms ≡ 0 → IsTickTime s
+
+-- at a tick a policy may have `tick`, which is called for the task that runs (ext.c,
+-- `task_tick_scx`)
+pub data HearsTick (s : State) (c t : ℕ) (r : Stepped) : Type 0 where
+  NoTickByPlain : is_by_linux s ≡ false → r ≡ stays s → HearsTick s c t r
+  HasNoTick : s.policy.callbacks.tick ≡ None → r ≡ stays s → HearsTick s c t r
+  BetweenTicks : ¬ IsTickTime s → r ≡ stays s → HearsTick s c t r
+  IsCalled : (p : VerifiedProgram)
+      → is_by_linux s ≡ true → s.policy.callbacks.tick ≡ Some p → IsTickTime s
+      → r ≡ call_back s callback.Tick (one_task t) t c → HearsTick s c t r
 
 -- ---- slices
 
@@ -38,11 +127,11 @@ pub data Switches (s : State) (t : ℕ) (v : State) : Type 0 where
   TakesTime : is_by_linux s ≡ true → 0 < s.policy.tick_ms → v ≡ with_world s (after_switch s.world t)
       → Switches s t v
 
--- a slice that is used up ends at once, or, with ticks, at the next one (ext.c, `task_tick_scx`)
+-- a slice that is used up ends at once, or, under Linux rules, at the next tick (ext.c,
+-- `task_tick_scx`)
 pub data EndsSlices (s : State) : Type 0 where
   EndsByPlain : is_by_linux s ≡ false → EndsSlices s
-  EndsExactly : s.policy.tick_ms ≡ 0 → EndsSlices s
-  EndsAtTick : (s.world.clock + 1) % s.policy.tick_ms ≡ 0 → EndsSlices s
+  EndsAtTick : IsTickTime s → EndsSlices s
 
 -- ---- dispatch
 

@@ -1,8 +1,10 @@
--- A policy is put out of force, by cases: what of a callback counts as a fault, and who goes where.
-use Rattle.std.specs.Prelude.{◌≡◌, ℕ, suc, ◌<◌, ◌≤◌, true, false, List, [], ◌∷◌, ◌++◌, length, Option, Some, None}
+-- A policy is put out of force, by cases: why a callback does that, and who goes where.
+use Rattle.std.specs.Prelude.{◌≡◌, ℕ, suc, ℤ, ◌<◌, ◌≤◌, true, false, List, [], ◌∷◌, ◌++◌, length, Option, Some, None}
 use Rattle.scx_isa_semantics.specs.declared.callbacks.Callback.{Callback}
 use Rattle.scx_isa_semantics.specs.declared.callbacks.Callback.TheVariants.{SelectCpu}
 use Rattle.scx_isa_semantics.specs.Endings.{Ending}
+use Rattle.scx_sched_world.specs.declared.eject.Cause.{Cause}
+use Rattle.scx_sched_world.specs.declared.eject.Cause.TheVariants as reason
 use Rattle.scx_sched_world.specs.declared.eject.Eject.{Eject}
 use Rattle.scx_sched_world.specs.declared.eject.Eject.TheVariants as cause
 use Rattle.scx_sched_world.specs.declared.faults.Fault.{Fault}
@@ -15,21 +17,23 @@ use Rattle.scx_sched_world.specs.Tasks.{after_leave}
 use Rattle.scx_sched_world.specs.Ejecting.{put_out, put_builtin, after_cut, eject_note}
 use Rattle.scx_sched_machine.specs.Steps.{State, Stepped, with_world, stays}
 
--- ---- faults
+-- ---- causes
 
--- what is wrong with a callback that ended so: its first call of a helper with a fault; else that
--- it is stuck, or that select_cpu answers no processor
-pub data FaultOf (b : Callback) (e : Ending WorldState) : Option Fault → Type 0 where
-  Of_helper : (f : Fault) → e.outside.call.fault ≡ Some f → FaultOf b e (Some f)
-  Is_stuck : e.outside.call.fault ≡ None → e.answer ≡ None → FaultOf b e (Some Stuck)
+-- why a callback that ended so puts the policy out of force: its first call of a helper with a
+-- fault, or of `exit`, whichever comes first; else that it is stuck, or that select_cpu answers no
+-- processor
+pub data CauseOf (b : Callback) (e : Ending WorldState) : Option Cause → Type 0 where
+  Of_helper : (x : Cause) → e.outside.call.cause ≡ Some x → CauseOf b e (Some x)
+  Is_stuck : e.outside.call.cause ≡ None → e.answer ≡ None
+      → CauseOf b e (Some (reason.Fault Stuck))
   Of_answer : (n : ℕ)
-      → e.outside.call.fault ≡ None → e.answer ≡ Some n → b ≡ SelectCpu → length e.outside.cpus ≤ n
-      → FaultOf b e (Some NoSuchCpu)
+      → e.outside.call.cause ≡ None → e.answer ≡ Some n → b ≡ SelectCpu → length e.outside.cpus ≤ n
+      → CauseOf b e (Some (reason.Fault NoSuchCpu))
   Of_nothing : (n : ℕ)
-      → e.outside.call.fault ≡ None → e.answer ≡ Some n → b ≡ SelectCpu → n < length e.outside.cpus
-      → FaultOf b e None
+      → e.outside.call.cause ≡ None → e.answer ≡ Some n → b ≡ SelectCpu → n < length e.outside.cpus
+      → CauseOf b e None
   Of_no_answer : (n : ℕ)
-      → e.outside.call.fault ≡ None → e.answer ≡ Some n → ¬ (b ≡ SelectCpu) → FaultOf b e None
+      → e.outside.call.cause ≡ None → e.answer ≡ Some n → ¬ (b ≡ SelectCpu) → CauseOf b e None
 
 -- ---- who goes where
 
@@ -56,7 +60,9 @@ pub record Ejects (s : State) (x : Eject) (r : Stepped) : Type 0 where
   }
 
 -- after a callback
-pub data Judges (s : State) : Option Fault → Stepped → Type 0 where
+pub data Judges (s : State) : Option Cause → Stepped → Type 0 where
   Stays : (r : Stepped) → r ≡ stays s → Judges s None r
   Ejected : (f : Fault) (r : Stepped)
-      → Ejects s (cause.Fault f s.world.clock) r → Judges s (Some f) r
+      → Ejects s (cause.Fault f s.world.clock) r → Judges s (Some (reason.Fault f)) r
+  Ended : (n : ℤ) (r : Stepped)
+      → Ejects s (cause.Exit n s.world.clock) r → Judges s (Some (reason.Exit n)) r

@@ -1,6 +1,6 @@
 -- A task comes into a queue as an insert wants it to, by cases: its slice, its virtual time, its
 -- place, its processor, and what becomes of the task that runs on the processor of a local queue.
-use Rattle.std.specs.Prelude.{◌≡◌, ℕ, ◌+◌, ◌%◌, ◌^◌, ◌<◌, true, false, length, Option, Some, None}
+use Rattle.std.specs.Prelude.{◌≡◌, ℕ, ◌+◌, ◌%◌, ◌^◌, ◌<◌, true, false, length, Some, None}
 use Rattle.scx_dsq.specs.Calls.{after_push}
 use Rattle.scx_dsq.specs.declared.entries.Rank.{Rank}
 use Rattle.scx_dsq.specs.declared.entries.Rank.TheVariants.{Fifo, Front, Vtime}

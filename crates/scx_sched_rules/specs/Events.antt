@@ -7,7 +7,7 @@ use Rattle.scx_vm.specs.Programs.{VerifiedProgram}
 use Rattle.scx_sched_world.specs.declared.call.Insert.{Insert}
 use Rattle.scx_sched_world.specs.declared.notes.What.TheVariants as note
 use Rattle.scx_sched_world.specs.Ids.{parked_queue}
-use Rattle.scx_sched_world.specs.World.{WorldState, is_throttled, with_tree, task_at, wait, running, cpu_of, is_idle, at_callback, note_now}
+use Rattle.scx_sched_world.specs.World.{WorldState, is_throttled, with_tree, with_waker, task_at, wait, running, cpu_of, is_idle, at_callback, note_now}
 use Rattle.scx_sched_world.specs.declared.eject.Eject.{Eject}
 use Rattle.scx_sched_world.specs.declared.eject.Eject.TheVariants as cause
 use Rattle.scx_sched_world.specs.Tasks.{for_cpu, to_local, after_wake, after_sleep, after_leave, let_go, after_tick, used_ms, later, begun_periods}
@@ -15,9 +15,9 @@ use Rattle.scx_sched_world.specs.Helpers.{with_insert}
 use Rattle.scx_sched_world.specs.Waits.{IsFirstOverdue}
 use Rattle.scx_sched_machine.specs.declared.events.Event.{Event}
 use Rattle.scx_sched_machine.specs.declared.events.Event.TheVariants.{Wake, Sleep, Tick, Clock, SetWeight}
-use Rattle.scx_sched_machine.specs.Steps.{State, Stepped, with_world, stays, after, one_after_other, is_by_linux, kicked}
-use Rattle.scx_sched_machine.specs.Callbacks.{call_back, answered_by, task_cpu_and_0}
-use Rattle.scx_sched_rules.specs.Differences.{Homes, EndsSlices, TellsSleep, LooksIfIdle}
+use Rattle.scx_sched_machine.specs.Steps.{State, Stepped, with_world, stays, after, one_after_other, is_by_linux}
+use Rattle.scx_sched_machine.specs.Callbacks.{call_back, answered_by, task_cpu_and_0, task_and_number}
+use Rattle.scx_sched_rules.specs.Differences.{Homes, BeginsSwitch, TellsWaker, CallsIfThere, HearsTick, EndsSlices, TellsSleep, LooksIfIdle}
 use Rattle.scx_sched_rules.specs.Helpers.{IsChoice, IsDefault, with_claim}
 use Rattle.scx_sched_rules.specs.Ejections.{Ejects}
 use Rattle.scx_sched_rules.specs.Cycles.{noting, silent, entering, gone_off, HasStopped, Puts, parking, Cycles}
@@ -75,80 +75,128 @@ pub data Selects (s : State) (t c : ℕ) (r : Stepped) : Type 0 where
   Is_only_one : is_by_linux s ≡ true → length s.world.cpus ≡ 1 → c ≡ 0
       → r ≡ silent s (at_callback s.world callback.SelectCpu t 0) → Selects s t c r
 
--- what select_cpu inserted is applied, LOCAL being of the target; else the task is put. An ejection
--- has dropped what was inserted
-pub data Settles (s : State) (t c : ℕ) (r : Stepped) : Type 0 where
-  WasInserted : (i : Insert)
-      → s.world.call.insert ≡ Some i → r ≡ entering s t (for_cpu c i) → Settles s t c r
-  WasPut : s.world.call.insert ≡ None → Puts s t c 1 r → Settles s t c r
+-- under Linux rules the policy hears that the task is runnable, before what select_cpu inserted is
+-- applied; where that puts the policy out of force, nothing is (ext.c, `enqueue_task_scx`)
+pub data TellsRunnable (s : State) (t c : ℕ) (told : Stepped) (i : Option Insert) : Type 0 where
+  TellsNobody : is_by_linux s ≡ false → told ≡ stays s → i ≡ s.world.call.insert
+      → TellsRunnable s t c told i
+  TellsPolicy : is_by_linux s ≡ true
+      → CallsIfThere s callback.Runnable (task_and_number t 1) t c told
+      → told.state.world.ejected ≡ None → i ≡ s.world.call.insert → TellsRunnable s t c told i
+  TellsLast : (x : Eject)
+      → is_by_linux s ≡ true → CallsIfThere s callback.Runnable (task_and_number t 1) t c told
+      → told.state.world.ejected ≡ Some x → i ≡ None → TellsRunnable s t c told i
 
--- the task is runnable, and comes to wait for its target, which looks for a task if it is idle: at
--- once, or, under Linux rules, as the event ends
-pub data Wakes (s : State) (t : ℕ) (r : Stepped) : Type 0 where
-  IdleTarget : (c : ℕ) (selected settled found : Stepped) (v : WorldState)
-      → Selects (after_waking s t) t c selected → Homes selected.state.world t c v
-      → Settles (with_world selected.state v) t c settled
-      → is_by_linux settled.state ≡ false → is_idle settled.state.world c ≡ true
-      → Cycles settled.state c None false found
-      → r ≡ after (note_now s.world (note.Wake t) ∷ [])
-      (one_after_other selected (one_after_other settled found))
-      → Wakes s t r
-  BusyTarget : (c : ℕ) (selected settled : Stepped) (v : WorldState)
-      → Selects (after_waking s t) t c selected → Homes selected.state.world t c v
-      → Settles (with_world selected.state v) t c settled
-      → is_idle settled.state.world c ≡ false
-      → r ≡ after (note_now s.world (note.Wake t) ∷ []) (one_after_other selected settled)
-      → Wakes s t r
-  KickedTarget : (c : ℕ) (selected settled : Stepped) (v : WorldState)
-      → Selects (after_waking s t) t c selected → Homes selected.state.world t c v
-      → Settles (with_world selected.state v) t c settled
-      → is_by_linux settled.state ≡ true → is_idle settled.state.world c ≡ true
-      → r ≡ after (note_now s.world (note.Wake t) ∷ [])
-      (one_after_other selected (record settled { state = kicked settled.state c }))
-      → Wakes s t r
+-- what select_cpu inserted is applied, LOCAL being of the target; else the task is put
+pub data Settles (s : State) (t c : ℕ) (i : Option Insert) (r : Stepped) : Type 0 where
+  WasInserted : (x : Insert) → i ≡ Some x → r ≡ entering s t (for_cpu c x) → Settles s t c i r
+  WasPut : i ≡ None → Puts s t c 1 r → Settles s t c i r
+
+-- the state in which no task is being woken
+abbrev pub is_woken : State → State
+is_woken s = with_world s (with_waker s.world None)
+
+-- a target that is idle looks for a task: at once, or, under Linux rules, as the event ends
+pub data Rouses (s : State) (c : ℕ) (r : Stepped) : Type 0 where
+  IdleTarget : is_by_linux s ≡ false → is_idle s.world c ≡ true → Cycles s c None false r
+      → Rouses s c r
+  BusyTarget : is_by_linux s ≡ false → is_idle s.world c ≡ false → r ≡ stays s → Rouses s c r
+  ByLinux : (v : State)
+      → is_by_linux s ≡ true → LooksIfIdle (is_woken s) c v → r ≡ stays v → Rouses s c r
+
+-- the task is runnable, its target is found, the task comes to wait for it, and the target looks
+pub record Wakes (s : State) (t : ℕ) (r : Stepped) : Type 0 where
+  pub woken : State
+  pub wakes : TellsWaker (after_waking s t) t woken
+  pub cpu : ℕ
+  pub selected : Stepped
+  pub selects : Selects woken t cpu selected
+  pub home : WorldState
+  pub homes : Homes selected.state.world t cpu home
+  pub told : Stepped
+  pub insert : Option Insert
+  pub tells : TellsRunnable (with_world selected.state home) t cpu told insert
+  pub settled : Stepped
+  pub settles : Settles told.state t cpu insert settled
+  pub roused : Stepped
+  pub rouses : Rouses settled.state cpu roused
+  pub all : r ≡ after (note_now s.world (note.Wake t) ∷ [])
+      (one_after_other selected (one_after_other told (one_after_other settled roused)))
+
+-- ---- sleep
+
+-- a task that runs leaves its processor; the number says whether it stays runnable
+pub record LeavesCpu (s : State) (c t runnable : ℕ) (r : Stepped) : Type 0 where
+  pub switching : WorldState
+  pub switches : BeginsSwitch s.world c switching
+  pub stopped : Stepped
+  pub stops : HasStopped (gone_off (with_world s switching) c t) c t runnable stopped
+  pub all : r ≡ after (note_now s.world (note.Stop t c) ∷ []) stopped
+
+-- the state in which a task sleeps
+abbrev pub asleep : State → ℕ → State
+asleep s t = with_world s (after_sleep s.world t)
+
+-- a task sleeps, and under Linux rules the policy hears that it isn't runnable any more (ext.c,
+-- `dequeue_task_scx`)
+abbrev pub FallsAsleep : State → ℕ → ℕ → Stepped → Type 0
+FallsAsleep s t c r =
+    CallsIfThere (asleep s t) callback.Quiescent (task_and_number t 1) t c r
+
+-- the state in which a task that waited has left its queue
+abbrev pub gone_out : State → ℕ → State
+gone_out s t = with_world s (after_leave s.world t)
 
 -- the task leaves its queue, or its processor, which looks for another task
 pub data Sleeps (s : State) (t : ℕ) (r : Stepped) : Type 0 where
-  FromQueue : cpu_of s.world t ≡ None
+  FromQueue : (gone : Stepped)
+      → cpu_of s.world t ≡ None → FallsAsleep (gone_out s t) t (task_at s.world t).prev_cpu gone
+      → r ≡ after (note_now s.world (note.Sleep t) ∷ []) gone → Sleeps s t r
+  FromCpu : (c : ℕ) (left gone found : Stepped) (told : State)
+      → cpu_of s.world t ≡ Some c → LeavesCpu s c t 0 left → FallsAsleep left.state t c gone
+      → TellsSleep gone.state t told → Cycles told c None true found
       → r ≡ after (note_now s.world (note.Sleep t) ∷ [])
-      (silent s (after_sleep (after_leave s.world t) t))
-      → Sleeps s t r
-  FromCpu : (c : ℕ) (left found : Stepped) (told : State)
-      → cpu_of s.world t ≡ Some c → HasStopped (gone_off s c t) c t 0 left
-      → TellsSleep (with_world left.state (after_sleep left.state.world t)) t told
-      → Cycles told c None true found
-      → r ≡ after (note_now s.world (note.Sleep t) ∷ note_now s.world (note.Stop t c) ∷ [])
-      (one_after_other left found)
+      (one_after_other left (one_after_other gone found))
       → Sleeps s t r
 
--- the task has run for a millisecond, which its groups have used
+-- ---- ticks
+
+-- the task has run for a millisecond
 abbrev pub ran_on : State → ℕ → State
-ran_on s t = with_world s (used_ms (after_tick s.world t) t)
+ran_on s t = with_world s (after_tick s.world t)
+
+-- its groups have used that millisecond
+abbrev pub charged : State → ℕ → State
+charged s t = with_world s (used_ms s.world t)
 
 -- a task that may not run any more leaves its processor and is parked, and the processor looks for
--- another; else it runs on while its slice lasts, and then the processor looks for a task. A
--- processor that runs no task looks for one; under Linux rules it sleeps until it is given work
+-- another; else it runs on while its slice lasts, and then the processor looks for a task
+pub data UsesUp (s : State) (c t : ℕ) (r : Stepped) : Type 0 where
+  IsThrottled : (left found : Stepped)
+      → is_throttled (charged s t).world t ≡ true → LeavesCpu (charged s t) c t 1 left
+      → Cycles (parking left.state t).state c None true found
+      → r ≡ one_after_other left (one_after_other (parking left.state t) found)
+      → UsesUp s c t r
+  RunsOn : is_throttled (charged s t).world t ≡ false
+      → 0 < (task_at (charged s t).world t).slice → r ≡ stays (charged s t) → UsesUp s c t r
+  RunsOut : is_throttled (charged s t).world t ≡ false
+      → (task_at (charged s t).world t).slice ≡ 0 → EndsSlices (charged s t)
+      → Cycles (charged s t) c (Some t) true r → UsesUp s c t r
+  RunsToTick : is_throttled (charged s t).world t ≡ false
+      → ¬ EndsSlices (charged s t) → r ≡ stays (charged s t) → UsesUp s c t r
+
+-- under Linux rules a policy may hear of the tick of a task that runs; the slice that it leaves is
+-- the one that counts. A processor that runs no task looks for one; under Linux rules it sleeps
+-- until it is given work
 pub data Ticks (s : State) (c : ℕ) (r : Stepped) : Type 0 where
   NobodyRuns : is_by_linux s ≡ false → running s.world c ≡ None → Cycles s c None false r
       → Ticks s c r
   SleepsOn : is_by_linux s ≡ true → running s.world c ≡ None → r ≡ stays s → Ticks s c r
-  IsThrottled : (t : ℕ) (left found : Stepped)
-      → running s.world c ≡ Some t → is_throttled (ran_on s t).world t ≡ true
-      → HasStopped (gone_off (ran_on s t) c t) c t 1 left
-      → Cycles (parking left.state t).state c None true found
-      → r ≡ after (note_now (ran_on s t).world (note.Stop t c) ∷ [])
-      (one_after_other left (one_after_other (parking left.state t) found))
-      → Ticks s c r
-  RunsOn : (t : ℕ)
-      → running s.world c ≡ Some t → is_throttled (ran_on s t).world t ≡ false
-      → 0 < (task_at (ran_on s t).world t).slice → r ≡ stays (ran_on s t) → Ticks s c r
-  RunsOut : (t : ℕ)
-      → running s.world c ≡ Some t → is_throttled (ran_on s t).world t ≡ false
-      → (task_at (ran_on s t).world t).slice ≡ 0 → EndsSlices (ran_on s t)
-      → Cycles (ran_on s t) c (Some t) true r → Ticks s c r
-  RunsToTick : (t : ℕ)
-      → running s.world c ≡ Some t → is_throttled (ran_on s t).world t ≡ false
-      → ¬ EndsSlices (ran_on s t) → r ≡ stays (ran_on s t) → Ticks s c r
+  Runs : (t : ℕ) (heard used : Stepped)
+      → running s.world c ≡ Some t → HearsTick (ran_on s t) c t heard
+      → UsesUp heard.state c t used → r ≡ one_after_other heard used → Ticks s c r
+
+-- ---- the clock
 
 -- of the parked, from that one on in their order, so many are looked at: who may run again is
 -- parked no more, waits from now on, and is put as for its processor, which looks for it if it is

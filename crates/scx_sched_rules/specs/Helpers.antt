@@ -1,7 +1,8 @@
 -- What a helper call may do, by cases: what is wrong with it, and what it does where nothing is
 -- wrong. The definitions that compute answers and worlds stand in `scx_sched_world`; a law says
 -- that they are allowed here, and that nothing else is.
-use Rattle.std.specs.Prelude.{◌≡◌, ℕ, ◌+◌, ◌<◌, ◌≤◌, ◌^◌, ◌*◌, true, false, List, length, Option, Some, None}
+use Rattle.std.specs.Prelude.{◌≡◌, ℕ, ◌+◌, ◌-◌, ◌<◌, ◌≤◌, ◌^◌, ◌*◌, true, false, List, length, Option, Some, None}
+use Rattle.std.specs.Int.{w64, bit_at, cast_signed}
 use Rattle.scx_dsq.specs.Queues.{exists, queue_of, front_of, len_of, Waits}
 use Rattle.scx_dsq.specs.Calls.{with_queue, after_push, after_pop}
 use Rattle.scx_dsq.specs.Entries.{same_sort}
@@ -10,11 +11,13 @@ use Rattle.scx_dsq.specs.declared.entries.Rank.{Rank}
 use Rattle.scx_dsq.specs.declared.entries.Rank.TheVariants.{Fifo, Vtime}
 use Rattle.scx_isa_semantics.specs.declared.callbacks.Callback.TheVariants.{SelectCpu, Enqueue, Dispatch}
 use Rattle.scx_isa_semantics.specs.declared.host_tables.Helper.{Helper}
-use Rattle.scx_isa_semantics.specs.declared.host_tables.Helper.TheVariants.{MapLookupElem, KtimeGetNs, CreateDsq, DsqInsert, DsqInsertVtime, DsqMoveToLocal, SelectCpuDfl, CpuIdle, TaskByPid, DsqNrQueued, KickCpu}
+use Rattle.scx_isa_semantics.specs.declared.host_tables.Helper.TheVariants.{MapLookupElem, KtimeGetNs, CreateDsq, DsqInsert, DsqInsertVtime, DsqMoveToLocal, SelectCpuDfl, CpuIdle, TaskByPid, DsqNrQueued, KickCpu, SmpProcessorId, Exit, CpuCurr, DsqPeek, TaskRunning, TaskCpu, PickIdle, ClaimIdle}
 use Rattle.scx_vm.specs.declared.arguments.Arg.{Arg}
 use Rattle.scx_vm.specs.declared.arguments.Answer.{Answer}
-use Rattle.scx_vm.specs.declared.arguments.Answer.TheVariants.{Num, Task}
+use Rattle.scx_vm.specs.declared.arguments.Answer.TheVariants.{Num}
 use Rattle.scx_sched_world.specs.declared.call.Insert.{Insert}
+use Rattle.scx_sched_world.specs.declared.eject.Cause.{Cause}
+use Rattle.scx_sched_world.specs.declared.eject.Cause.TheVariants as reason
 use Rattle.scx_sched_world.specs.declared.faults.Fault.{Fault}
 use Rattle.scx_sched_world.specs.declared.faults.Fault.TheVariants.{Stuck, NoSuchQueue, CannotInsert, NoSuchCpu, UnknownFlag, CannotCreate, BuiltinVtime, Mixed}
 use Rattle.scx_sched_world.specs.declared.notes.What.TheVariants as notes
@@ -22,8 +25,8 @@ use Rattle.scx_sched_world.specs.Ids.{policy_end, global, local, held_queue, loc
 use Rattle.scx_sched_world.specs.CpuSets.{is_in_set, and_cpu}
 use Rattle.scx_sched_world.specs.World.{WorldState, with_queues, with_kick, with_preemption, is_by_linux, task_at, running, is_idle, is_claimed, with_note}
 use Rattle.scx_sched_world.specs.Tasks.{after_leave, after_enter, queue_for, for_cpu}
-use Rattle.scx_sched_world.specs.Helpers.{invalid, with_fault, with_insert, with_move, given_number, given_task, insert_of, insert_of_vtime}
-use Rattle.scx_sched_rules.specs.Differences.{Homes}
+use Rattle.scx_sched_world.specs.Helpers.{invalid, with_insert, with_move, given_number, given_task, task_or_null, insert_of, insert_of_vtime}
+use Rattle.scx_sched_rules.specs.Differences.{Homes, IsCurrent, IsHere}
 
 -- ---- queues that a call names
 
@@ -180,6 +183,18 @@ JudgesKick w c flags (Some BuiltinVtime) = ⊥
 JudgesKick w c flags (Some Mixed) = ⊥
 JudgesKick w c flags (Some Stuck) = ⊥
 
+-- a choice from a mask: the flags 0 and 1, which asks for a whole core, are known
+abbrev pub JudgesPick : ℕ → Option Fault → Type 0
+JudgesPick flags None = flags ≤ 1
+JudgesPick flags (Some UnknownFlag) = 1 < flags
+JudgesPick flags (Some NoSuchCpu) = ⊥
+JudgesPick flags (Some NoSuchQueue) = ⊥
+JudgesPick flags (Some CannotCreate) = ⊥
+JudgesPick flags (Some CannotInsert) = ⊥
+JudgesPick flags (Some BuiltinVtime) = ⊥
+JudgesPick flags (Some Mixed) = ⊥
+JudgesPick flags (Some Stuck) = ⊥
+
 -- the fault of a call, or that it has none; of the look-up of an element, which a run does
 -- itself, nothing is allowed
 abbrev pub Judges : WorldState → Helper → List Arg → Option Fault → Type 0
@@ -194,6 +209,14 @@ Judges w CpuIdle a o = JudgesCpu w (given_number a 0) o
 Judges w TaskByPid a o = o ≡ None
 Judges w DsqNrQueued a o = JudgesQueue (IsPolicyQueue w (given_number a 0)) o
 Judges w KickCpu a o = JudgesKick w (given_number a 0) (given_number a 1) o
+Judges w SmpProcessorId a o = o ≡ None
+Judges w Exit a o = o ≡ None
+Judges w CpuCurr a o = JudgesCpu w (given_number a 0) o
+Judges w DsqPeek a o = JudgesQueue (IsPolicyQueue w (given_number a 0)) o
+Judges w TaskRunning a o = o ≡ None
+Judges w TaskCpu a o = o ≡ None
+Judges w PickIdle a o = JudgesPick (given_number a 1) o
+Judges w ClaimIdle a o = JudgesCpu w (given_number a 0) o
 Judges w MapLookupElem a o = ⊥
 
 -- ---- what a call does where nothing is wrong: its answer, and the world that it leaves
@@ -280,9 +303,48 @@ pub data Kicks (w : WorldState) (c flags : ℕ) (v : WorldState) : Type 0 where
   KicksToPreempt : flags ≡ 2 → v ≡ with_preemption w c → Kicks w c flags v
 
 -- the task of that pid, which is its number and 1
-pub data Finds (w : WorldState) (n : ℕ) (x : Answer) : Type 0 where
-  Found : (t : ℕ) → t < length w.tasks → n ≡ t + 1 → x ≡ Task (record { 0 = t }) → Finds w n x
-  Nobody : ((t : ℕ) → t < length w.tasks → n ≡ t + 1 → ⊥) → x ≡ Num 0 → Finds w n x
+pub data Finds (w : WorldState) (n : ℕ) (o : Option ℕ) : Type 0 where
+  Found : (t : ℕ) → t < length w.tasks → n ≡ t + 1 → o ≡ Some t → Finds w n o
+  Nobody : ((t : ℕ) → t < length w.tasks → n ≡ t + 1 → ⊥) → o ≡ None → Finds w n o
+
+-- 1 for a task that is current on a processor, else 0
+pub data TellsCurrent (w : WorldState) (o : Option ℕ) (n : ℕ) : Type 0 where
+  IsOn : (t c : ℕ) → o ≡ Some t → c < length w.cpus → IsCurrent w c (Some t) → n ≡ 1
+      → TellsCurrent w o n
+  IsOnNone : (t : ℕ)
+      → o ≡ Some t → ((c : ℕ) → c < length w.cpus → ¬ IsCurrent w c (Some t)) → n ≡ 0
+      → TellsCurrent w o n
+  GivenNone : o ≡ None → n ≡ 0 → TellsCurrent w o n
+
+-- the processor of a task, for which it was put last, or on which it runs
+pub data TellsHome (w : WorldState) (o : Option ℕ) (n : ℕ) : Type 0 where
+  OfTheTask : (t : ℕ) → o ≡ Some t → n ≡ (task_at w t).prev_cpu → TellsHome w o n
+  OfNoTask : o ≡ None → n ≡ 0 → TellsHome w o n
+
+-- a processor of a mask, a bit for each, that may be chosen
+pub record IsFreeIn (w : WorldState) (mask c : ℕ) : Type 0 where
+  pub wanted : bit_at mask c ≡ 1
+  pub free : IsFree w c
+
+-- the lowest one is chosen, and claimed; -16 where there is none (ext/idle.c,
+-- `scx_bpf_pick_idle_cpu`)
+pub data PicksFrom (w : WorldState) (mask n : ℕ) (v : WorldState) : Type 0 where
+  PicksLowest : IsFreeIn w mask n → ((d : ℕ) → d < n → ¬ IsFreeIn w mask d) → Claims w n v
+      → PicksFrom w mask n v
+  PicksNone : ((d : ℕ) → ¬ IsFreeIn w mask d) → n ≡ 2 ^ 64 - 16 → v ≡ w → PicksFrom w mask n v
+
+-- 1 for a processor that may be chosen, which is claimed, else 0 (ext/idle.c,
+-- `scx_bpf_test_and_clear_cpu_idle`)
+pub data ClaimsThis (w : WorldState) (c n : ℕ) (v : WorldState) : Type 0 where
+  WasFree : IsFree w c → n ≡ 1 → Claims w c v → ClaimsThis w c n v
+  WasTaken : ¬ IsFree w c → n ≡ 0 → v ≡ w → ClaimsThis w c n v
+
+-- the callback at hand blames the policy for a fault or an exit: the first of both counts (ext.c,
+-- `scx_claim_exit`)
+pub data Blames (w : WorldState) (x : Cause) (v : WorldState) : Type 0 where
+  IsFirst : w.call.cause ≡ None → v ≡ record w { call = record w.call { cause = Some x } }
+      → Blames w x v
+  HasOne : (y : Cause) → w.call.cause ≡ Some y → v ≡ w → Blames w x v
 
 -- what a call that answers a number does without a fault: the answer, and the world after it
 abbrev pub Does : WorldState → Helper → List Arg → ℕ → WorldState → Type 0
@@ -295,13 +357,51 @@ Does w SelectCpuDfl a n v = Chooses w n (given_task a 0) v
 Does w CpuIdle a n v = Tells w (given_number a 0) n × (v ≡ w)
 Does w DsqNrQueued a n v = (n ≡ len_of w.queues (given_number a 0)) × (v ≡ w)
 Does w KickCpu a n v = (n ≡ 0) × Kicks w (given_number a 0) (given_number a 1) v
+Does w SmpProcessorId a n v = IsHere w n × (v ≡ w)
+Does w Exit a n v = (n ≡ 0) × Blames w (reason.Exit (cast_signed w64 (given_number a 0))) v
+Does w TaskRunning a n v = TellsCurrent w (given_task a 0) n × (v ≡ w)
+Does w TaskCpu a n v = TellsHome w (given_task a 0) n × (v ≡ w)
+Does w PickIdle a n v = PicksFrom w (given_number a 0) n v
+Does w ClaimIdle a n v = ClaimsThis w (given_number a 0) n v
+Does w CpuCurr a n v = ⊥
+Does w DsqPeek a n v = ⊥
 Does w TaskByPid a n v = ⊥
 Does w MapLookupElem a n v = ⊥
 
--- ---- both together: a call with a fault is invalid, and leaves the fault alone
+-- the task that a call answers without a fault, or none; most answer a number
+abbrev pub Names : WorldState → Helper → List Arg → Option ℕ → Type 0
+Names w TaskByPid a o = Finds w (given_number a 0) o
+Names w CpuCurr a o = IsCurrent w (given_number a 0) o
+Names w DsqPeek a o = o ≡ front_of w.queues (given_number a 0)
+Names w KtimeGetNs a o = ⊥
+Names w CreateDsq a o = ⊥
+Names w DsqInsert a o = ⊥
+Names w DsqInsertVtime a o = ⊥
+Names w DsqMoveToLocal a o = ⊥
+Names w SelectCpuDfl a o = ⊥
+Names w CpuIdle a o = ⊥
+Names w DsqNrQueued a o = ⊥
+Names w KickCpu a o = ⊥
+Names w SmpProcessorId a o = ⊥
+Names w Exit a o = ⊥
+Names w TaskRunning a o = ⊥
+Names w TaskCpu a o = ⊥
+Names w PickIdle a o = ⊥
+Names w ClaimIdle a o = ⊥
+Names w MapLookupElem a o = ⊥
+
+-- the answer of a call with a fault: that it is invalid, but 0 of a call that answers a task
+abbrev pub wrong_answer : Helper → ℕ
+wrong_answer CpuCurr = 0
+wrong_answer DsqPeek = 0
+wrong_answer h = invalid
+
+-- ---- both together: a call with a fault leaves the blame for it alone
 pub data IsEffect (w : WorldState) (h : Helper) (a : List Arg) (x : Answer) (v : WorldState)
     : Type 0 where
   Done : (n : ℕ) → Judges w h a None → Does w h a n v → x ≡ Num n → IsEffect w h a x v
-  FindsTask : h ≡ TaskByPid → Finds w (given_number a 0) x → v ≡ w → IsEffect w h a x v
+  NamesTask : (o : Option ℕ)
+      → Judges w h a None → Names w h a o → x ≡ task_or_null o → v ≡ w → IsEffect w h a x v
   Wrong : (f : Fault)
-      → Judges w h a (Some f) → x ≡ Num invalid → v ≡ with_fault w f → IsEffect w h a x v
+      → Judges w h a (Some f) → x ≡ Num (wrong_answer h) → Blames w (reason.Fault f) v
+      → IsEffect w h a x v

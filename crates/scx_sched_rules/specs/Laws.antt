@@ -9,8 +9,7 @@ use Rattle.scx_vm.specs.declared.arguments.Answer.{Answer}
 use Rattle.scx_vm.specs.declared.arguments.Args.{Args}
 use Rattle.scx_weights.specs.Hierarchy.{Hierarchy}
 use Rattle.scx_sched_world.specs.declared.call.Insert.{Insert}
-use Rattle.scx_sched_world.specs.CpuSets.{is_in_set}
-use Rattle.scx_sched_world.specs.World.{WorldState, with_cycling, is_by_linux}
+use Rattle.scx_sched_world.specs.World.{WorldState, with_cycling, running, is_by_linux, is_claimed, current}
 use Rattle.scx_sched_world.specs.Tasks.{key_by, after_enter}
 use Rattle.scx_sched_world.specs.Helpers.{helper_answer, helper_after}
 use Rattle.scx_sched_machine.specs.declared.events.Event.{Event}
@@ -65,9 +64,19 @@ abbrev pub CyclesEndClaims : Type 0
 CyclesEndClaims =
     (w : WorldState) (c : ℕ)
     → c < 64
-    → (is_in_set (with_cycling w (Some c)).claimed c ≡ false)
-    × ((d : ℕ)
-    → d < 64 → d ≢ c → is_in_set (with_cycling w (Some c)).claimed d ≡ is_in_set w.claimed d)
+    → (is_claimed (with_cycling w (Some c)) c ≡ false)
+    × ((d : ℕ) → d < 64 → d ≢ c → is_claimed (with_cycling w (Some c)) d ≡ is_claimed w d)
+
+-- as a cycle ends, the current task of each processor is the one that runs there
+abbrev pub CyclesEndSwitches : Type 0
+CyclesEndSwitches =
+    (w : WorldState) (c : ℕ)
+    → is_by_linux w ≡ true → current (with_cycling w None) c ≡ running w c
+
+-- as a cycle begins, the task that was current on a processor stays the current one there
+abbrev pub CyclesKeepCurrent : Type 0
+CyclesKeepCurrent =
+    (w : WorldState) (c d : ℕ) → current (with_cycling w (Some c)) d ≡ current w d
 
 -- a callback that comes to an answer, as each does that an event calls
 abbrev pub RulesAllowCallbacks : Type 0

@@ -1,7 +1,7 @@
 -- Under Linux rules processors look for work as an event ends: those that were kicked, and idle
 -- ones whose local queue has a task, the lowest first (ext.c, `kick_cpus_irq_workfn`,
 -- `rq_owned_post_enq`).
-use Rattle.std.specs.Prelude.{◌≡◌, ℕ, suc, ◌<◌, true, false, length, Option, Some, None}
+use Rattle.std.specs.Prelude.{◌≡◌, ℕ, suc, ◌<◌, true, false, length, Some, None}
 use Rattle.scx_sched_world.specs.CpuSets.{is_in_set}
 use Rattle.scx_sched_world.specs.World.{without_kick, task_at, running, is_idle}
 use Rattle.scx_sched_world.specs.Tasks.{local_len, after_cut_off}

@@ -1,4 +1,4 @@
-ghost use Rattle.scx_sched_rules.specs.Laws.{RulesAllowHelpers, RulesAllowHelpersOnly, RulesAllowEntries, RulesAllowEntriesOnly, KeysCompareBySign, CyclesEndClaims, RulesAllowCallbacks, RulesAllowCallbacksOnly, RulesAllowCycles, RulesAllowCyclesOnly, RulesAllowEvents, RulesAllowEventsOnly, RulesRefuseEvents, RulesRefuseEventsOnly, RulesAllowStarts, RulesAllowStartsOnly, RulesRefuseShapes, RulesRefuseShapesOnly};
+ghost use Rattle.scx_sched_rules.specs.Laws.{RulesAllowHelpers, RulesAllowHelpersOnly, RulesAllowEntries, RulesAllowEntriesOnly, KeysCompareBySign, CyclesEndClaims, CyclesEndSwitches, CyclesKeepCurrent, RulesAllowCallbacks, RulesAllowCallbacksOnly, RulesAllowCycles, RulesAllowCyclesOnly, RulesAllowEvents, RulesAllowEventsOnly, RulesRefuseEvents, RulesRefuseEventsOnly, RulesAllowStarts, RulesAllowStartsOnly, RulesRefuseShapes, RulesRefuseShapesOnly};
 
 /// The rules of helpers allow each helper's answer and its change of the world, and nothing else.
 pub fn rules_allow_helpers()
@@ -21,11 +21,13 @@ pub fn rules_allow_callbacks()
 {}
 
 /// A scheduling cycle is what the rules of cycles allow, and the only thing that they allow. It ends the claim
-/// on its CPU.
+/// on its CPU. The current task of a CPU, as helpers tell it, changes as a cycle ends, and not as one begins.
 pub fn rules_allow_cycles()
     ensures allowed { RulesAllowCycles }
     ensures only { RulesAllowCyclesOnly }
     ensures claims { CyclesEndClaims }
+    ensures switches { CyclesEndSwitches }
+    ensures keeps { CyclesKeepCurrent }
 {}
 
 /// The rules of events allow an event's change of the machine and its notes, and nothing else.

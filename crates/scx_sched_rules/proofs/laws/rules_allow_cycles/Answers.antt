@@ -1,4 +1,5 @@
 use Rattle.scx_sched_rules.proofs.Cycling.{cycles, only_cycles}
+use Rattle.scx_sched_rules.proofs.Differing.{ends_switches, keeps_current}
 use Rattle.scx_sched_rules.proofs.Entering.{claims_end}
 use Rattle.scx_sched_rules.proofs.laws.rules_allow_cycles.Goals as goal
 
@@ -10,3 +11,9 @@ returns-clause-only c = only_cycles
 
 pub returns-clause-claims : goal.returns-clause-claims
 returns-clause-claims c = claims_end
+
+pub returns-clause-switches : goal.returns-clause-switches
+returns-clause-switches c = ends_switches
+
+pub returns-clause-keeps : goal.returns-clause-keeps
+returns-clause-keeps c = keeps_current

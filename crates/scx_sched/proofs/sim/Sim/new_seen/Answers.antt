@@ -1,5 +1,8 @@
 use Rattle.std.proofs.Common.{arith}
+use Rattle.std.proofs.lemmas.Result.{err_from_is_err_and}
+use Rattle.scx_sched.proofs.Failing.{has_failed, started_right}
 use Rattle.scx_sched.proofs.First.{force_started}
+use Rattle.scx_sched.proofs.Still.{still_first, are_current}
 use Rattle.scx_sched.proofs.Valid.{valid_first}
 use Rattle.scx_sched.proofs.sim.Sim.new_seen.Goals as goal
 
@@ -13,3 +16,17 @@ invariant_of-result g c =
 
 pub returns-clause-in_force : goal.returns-clause-in_force
 returns-clause-in_force g c = force_started _ _ _ _ c.in_ok-machine.ensures.made
+
+pub returns-clause-current : goal.returns-clause-current
+returns-clause-current g c = are_current _ (still_first _ _ _ _ c.in_ok-machine.ensures.made).1
+
+-- where the machine begins, no callback has failed
+pub returns-clause-none_failed : goal.returns-clause-none_failed
+returns-clause-none_failed g c = started_right _ _ _ _ c.in_ok-machine.ensures.made
+
+-- where it doesn't, the last one has
+pub returns-in_err-machine-clause-failed : goal.returns-in_err-machine-clause-failed
+returns-in_err-machine-clause-failed g c =
+    let p = err_from_is_err_and c.from_residual.result c.from_residual.ensures.1 in
+    let m = c.in_err-machine.ensures in
+    rw (p.1, p.2) (has_failed c.args.policy c.args.tree c.args.cpus c.in_err-machine.field-0.0 m.refused m.answered_before)

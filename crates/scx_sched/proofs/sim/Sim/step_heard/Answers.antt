@@ -82,6 +82,13 @@ returns-clause-there g c =
     let valid : IsValid c.event_heard.new.self ((accepted c.self.inside.left) + 1) = subst (λ (x : State). IsValid x ((accepted c.self.inside.left) + 1)) (sym c.event_heard.ensures.state) (valid_step c.self.inside.machine (accepted c.self.inside.left) c.args.event ok c.self.invariant.valid (are_answered _ _ _ _ c.event_heard.ensures.calls) few) in
     valid.there
 
+pub returns-clause-current : goal.returns-clause-current
+returns-clause-current g c =
+    let ok : refusal (record { state = c.self.inside.machine; events = accepted c.self.inside.left }) c.args.event ≡ None = ap (λ x. refusal x c.args.event) c.self.view_is ∙ (sym c.refusal.ensures.cause ∙ c.in_default.is) in
+    let few = subst (λ (x : State). x.world.queues.pushes ≤ c.self.inside.machine.world.queues.pushes + 2 ^ 27) c.event_heard.ensures.state c.event_heard.ensures.few in
+    let valid : IsValid c.event_heard.new.self ((accepted c.self.inside.left) + 1) = subst (λ (x : State). IsValid x ((accepted c.self.inside.left) + 1)) (sym c.event_heard.ensures.state) (valid_step c.self.inside.machine (accepted c.self.inside.left) c.args.event ok c.self.invariant.valid (are_answered _ _ _ _ c.event_heard.ensures.calls) few) in
+    valid.current
+
 pub returns-clause-timely : goal.returns-clause-timely
 returns-clause-timely g c =
     let ok : refusal (record { state = c.self.inside.machine; events = accepted c.self.inside.left }) c.args.event ≡ None = ap (λ x. refusal x c.args.event) c.self.view_is ∙ (sym c.refusal.ensures.cause ∙ c.in_default.is) in

@@ -1,0 +1,366 @@
+-- Helpers of Linux rules that read, choose or end a policy: what they answer and leave is allowed, and nothing else is.
+use Rattle.std.proofs.Common.{unwrap_or, ◌≡◌, ℕ, zero, suc, ◌<◌, ◌≤◌, Bool, true, false, ◌==◌, ◌||◌, nat_lt, nat_le, ◌⊎◌, inl, inr, if◌then◌else◌, List, length, Option, Some, None, refl, sym, ◌∙◌, ap, subst, arith}
+use Rattle.std.specs.Int.{w64, bit_at, cast_signed}
+use Rattle.std.proofs.lemmas.Bool.Decides.{nat_tests}
+use Rattle.std.proofs.lemmas.Bool.{cases_eq, cases_lt, eq-eqb}
+use Rattle.scx_weights.specs.Counting.{any_below}
+use Rattle.scx_dsq.specs.Queues.{exists, front_of}
+use Rattle.scx_dsq.specs.Laws.{one_if}
+use Rattle.scx_isa_semantics.specs.declared.host_tables.Helper.{Helper}
+use Rattle.scx_isa_semantics.specs.declared.host_tables.Helper.TheVariants.{SmpProcessorId, Exit, CpuCurr, DsqPeek, TaskRunning, TaskCpu, PickIdle, ClaimIdle}
+use Rattle.scx_vm.specs.declared.arguments.Arg.{Arg}
+use Rattle.scx_vm.specs.declared.arguments.Answer.{Answer}
+use Rattle.scx_vm.specs.declared.arguments.Answer.TheVariants.{Num}
+use Rattle.scx_sched_world.specs.declared.eject.Cause.TheVariants as reason
+use Rattle.scx_sched_world.specs.declared.faults.Fault.{Fault}
+use Rattle.scx_sched_world.specs.declared.faults.Fault.TheVariants.{Stuck, NoSuchQueue, CannotInsert, NoSuchCpu, UnknownFlag, CannotCreate, BuiltinVtime, Mixed}
+use Rattle.scx_sched_world.specs.Ids.{policy_end}
+use Rattle.scx_sched_world.specs.World.{WorldState, is_this, is_free, is_current, current, here, this_if, or_this, after_claim}
+use Rattle.scx_sched_world.specs.Helpers.{invalid, with_fault, given_number, given_task, is_there, task_or_null, is_current_one, cpu_of_task, is_free_in, free_in_below, first_free_in, pick_answer_by, after_pick_by, helper_answer, helper_after}
+use Rattle.scx_sched_rules.specs.Differences.{IsCurrent}
+use Rattle.scx_sched_rules.specs.Helpers.{IsPolicyQueue, TellsCurrent, IsOn, IsOnNone, GivenNone, TellsHome, OfTheTask, OfNoTask, IsFreeIn, PicksFrom, PicksLowest, PicksNone, ClaimsThis, WasFree, WasTaken, IsEffect, Done, NamesTask, Wrong}
+use Rattle.scx_sched_rules.proofs.Choosing.{free_is, free_of, claims, only_claims}
+use Rattle.scx_sched_rules.proofs.Differing.{both_true, and_true, and_false, false_from, not_so, current_is, only_current, is_here, only_here}
+use Rattle.scx_sched_rules.proofs.Ejecting.{blames, only_blames}
+
+-- ---- tests as facts
+
+true_or : (a b : Bool) → (a || b) ≡ true → (a ≡ true) ⊎ (b ≡ true)
+true_or true b e = inl refl
+true_or false b e = inr e
+
+or_true : (b : Bool) → (b || true) ≡ true
+or_true true = refl
+or_true false = refl
+
+-- a test that passes for one of the first numbers
+pub some_below : (n : ℕ) (test : ℕ → Bool) → any_below n test ≡ true → (t : ℕ) × (t < n) × (test t ≡ true)
+some_below zero test e = absurd (cc)
+some_below (suc n) test e = go (λ x. some_below n test x) (true_or (any_below n test) (test n) e)
+  where
+    go : (any_below n test ≡ true → (t : ℕ) × (t < n) × (test t ≡ true)) → (any_below n test ≡ true) ⊎ (test n ≡ true) → (t : ℕ) × (t < suc n) × (test t ≡ true)
+    go f (inl x) = let h = f x in (h.0, omega (arith, h.1), h.2)
+    go f (inr x) = (n, omega (arith), x)
+
+-- of the first numbers, one that passes is found
+pub is_below : (n t : ℕ) (test : ℕ → Bool) → t < n → test t ≡ true → any_below n test ≡ true
+is_below zero t test l e = absurd (omega (arith, l))
+is_below (suc n) t test l e = go (cases_eq t n) (λ d. is_below n t test (omega (arith, l, d)) e)
+  where
+    go : (t ≡ n) ⊎ (t ≡ n → ⊥) → ((t ≡ n → ⊥) → any_below n test ≡ true) → (any_below n test || test n) ≡ true
+    go (inl is) f = rw (← is, e) (or_true (any_below t test))
+    go (inr d) f = rw (f d) refl
+
+-- a number that is the given one
+pub this_is : (c : ℕ) (o : Option ℕ) → is_this c o ≡ true → o ≡ Some c
+this_is c None e = absurd (cc)
+this_is c (Some d) e = let x : d ≡ c = grind (arith, nat_tests, e) in ap (λ y. Some y) x
+
+-- the given one passes
+pub this_of : (c : ℕ) (o : Option ℕ) → o ≡ Some c → is_this c o ≡ true
+this_of c o e = ap (λ x. is_this c x) e ∙ eq-eqb c c refl
+
+-- a queue that is found is one of the policy
+pub there_is : (w : WorldState) (q : ℕ) → is_there w q ≡ true → IsPolicyQueue w q
+there_is w q e = let x = both_true (nat_lt q policy_end) (exists w.queues q) e in (grind (arith, nat_tests, x.0), x.1)
+
+-- one of the policy is found
+pub is_there_of : (w : WorldState) (q : ℕ) → IsPolicyQueue w q → is_there w q ≡ true
+is_there_of w q h = let l : nat_lt q policy_end ≡ true = grind (arith, nat_tests, h.0) in rw (l, h.1) refl
+
+-- a fault is no absence of one
+pub some_fault : (f : Fault) → ◌≡◌ {A = Option Fault} (Some f) None → ⊥
+some_fault f e = absurd (cc)
+
+abbrev Is-effect : WorldState → Helper → List Arg → Type 0
+Is-effect w h a = IsEffect w h a (helper_answer w h a) (helper_after w h a)
+
+abbrev Is-this : WorldState → Helper → List Arg → Answer → WorldState → Type 0
+Is-this w h a x v = (x ≡ helper_answer w h a) × (v ≡ helper_after w h a)
+
+-- ---- the processor at hand, and an end of the policy's own
+
+pub here_allowed : (w : WorldState) (a : List Arg) → Is-effect w SmpProcessorId a
+here_allowed w a = Done (here w) refl (is_here w, refl) refl
+
+pub only_here_so : (w : WorldState) (a : List Arg) (x : Answer) (v : WorldState) → IsEffect w SmpProcessorId a x v → Is-this w SmpProcessorId a x v
+only_here_so w a x v (Done n j d e) = (e ∙ ap Num (only_here w n d.0), d.1)
+only_here_so w a x v (NamesTask o j m e k) = absurd m
+only_here_so w a x v (Wrong f j e k) = absurd (some_fault f j)
+
+pub exit_allowed : (w : WorldState) (a : List Arg) → Is-effect w Exit a
+exit_allowed w a = Done 0 refl (refl, blames w (reason.Exit (cast_signed w64 (given_number a 0)))) refl
+
+pub only_exit : (w : WorldState) (a : List Arg) (x : Answer) (v : WorldState) → IsEffect w Exit a x v → Is-this w Exit a x v
+only_exit w a x v (Done n j d e) = (e ∙ ap Num d.0, only_blames w (reason.Exit (cast_signed w64 (given_number a 0))) v d.1)
+only_exit w a x v (NamesTask o j m e k) = absurd m
+only_exit w a x v (Wrong f j e k) = absurd (some_fault f j)
+
+-- ---- who is where
+
+pub current_allowed : (w : WorldState) (a : List Arg) → Is-effect w CpuCurr a
+current_allowed w a = go (nat_lt c (length w.cpus)) refl
+  where
+    c : ℕ
+    c = given_number a 0
+
+    go : (b : Bool) → nat_lt c (length w.cpus) ≡ b → IsEffect w CpuCurr a (if b then task_or_null (current w c) else Num 0) (if b then w else with_fault w NoSuchCpu)
+    go true e = NamesTask (current w c) (grind (arith, nat_tests, e)) (current_is w c) refl refl
+    go false e = Wrong NoSuchCpu (grind (arith, nat_tests, e)) refl (blames w (reason.Fault NoSuchCpu))
+
+pub only_current_so : (w : WorldState) (a : List Arg) (x : Answer) (v : WorldState) → IsEffect w CpuCurr a x v → Is-this w CpuCurr a x v
+only_current_so w a x v (Done n j d e) = absurd d
+only_current_so w a x v (NamesTask o j m e k) =
+    let l : nat_lt (given_number a 0) (length w.cpus) ≡ true = grind (arith, nat_tests, j) in
+    rw l (e ∙ ap (λ y. task_or_null y) (only_current w (given_number a 0) o m), k)
+only_current_so w a x v (Wrong NoSuchCpu j e k) =
+    let l : nat_lt (given_number a 0) (length w.cpus) ≡ false = grind (arith, nat_tests, j) in
+    rw l (e, only_blames w (reason.Fault NoSuchCpu) v k)
+only_current_so w a x v (Wrong NoSuchQueue j e k) = absurd j
+only_current_so w a x v (Wrong CannotInsert j e k) = absurd j
+only_current_so w a x v (Wrong UnknownFlag j e k) = absurd j
+only_current_so w a x v (Wrong CannotCreate j e k) = absurd j
+only_current_so w a x v (Wrong BuiltinVtime j e k) = absurd j
+only_current_so w a x v (Wrong Mixed j e k) = absurd j
+only_current_so w a x v (Wrong Stuck j e k) = absurd j
+
+pub peek_allowed : (w : WorldState) (a : List Arg) → Is-effect w DsqPeek a
+peek_allowed w a = go (is_there w q) refl
+  where
+    q : ℕ
+    q = given_number a 0
+
+    go : (b : Bool) → is_there w q ≡ b → IsEffect w DsqPeek a (if b then task_or_null (front_of w.queues q) else Num 0) (if b then w else with_fault w NoSuchQueue)
+    go true e = NamesTask (front_of w.queues q) (there_is w q e) refl refl refl
+    go false e = Wrong NoSuchQueue (λ h. not_so (is_there w q) e (is_there_of w q h)) refl (blames w (reason.Fault NoSuchQueue))
+
+pub only_peek : (w : WorldState) (a : List Arg) (x : Answer) (v : WorldState) → IsEffect w DsqPeek a x v → Is-this w DsqPeek a x v
+only_peek w a x v (Done n j d e) = absurd d
+only_peek w a x v (NamesTask o j m e k) = rw (is_there_of w (given_number a 0) j) (e ∙ ap (λ y. task_or_null y) m, k)
+only_peek w a x v (Wrong NoSuchQueue j e k) =
+    let b = false_from (is_there w (given_number a 0)) (λ y. j (there_is w (given_number a 0) y)) in
+    rw b (e, only_blames w (reason.Fault NoSuchQueue) v k)
+only_peek w a x v (Wrong NoSuchCpu j e k) = absurd j
+only_peek w a x v (Wrong CannotInsert j e k) = absurd j
+only_peek w a x v (Wrong UnknownFlag j e k) = absurd j
+only_peek w a x v (Wrong CannotCreate j e k) = absurd j
+only_peek w a x v (Wrong BuiltinVtime j e k) = absurd j
+only_peek w a x v (Wrong Mixed j e k) = absurd j
+only_peek w a x v (Wrong Stuck j e k) = absurd j
+
+on_is : (w : WorldState) (t c : ℕ) → is_this t (current w c) ≡ true → IsCurrent w c (Some t)
+on_is w t c e = subst (λ o. IsCurrent w c o) (this_is t (current w c) e) (current_is w c)
+
+tells_current : (w : WorldState) (o : Option ℕ) → TellsCurrent w o (one_if (is_current_one w o))
+tells_current w None = GivenNone refl refl
+tells_current w (Some t) = go (is_current w t) refl
+  where
+    test : ℕ → Bool
+    test c = is_this t (current w c)
+
+    go : (b : Bool) → is_current w t ≡ b → TellsCurrent w (Some t) (one_if b)
+    go true e = let h = some_below (length w.cpus) (λ c. is_this t (current w c)) e in IsOn t h.0 refl h.1 (on_is w t h.0 h.2) refl
+    go false e =
+        IsOnNone t refl (λ c l h. not_so (is_current w t) e (is_below (length w.cpus) c (λ d. is_this t (current w d)) l (this_of t (current w c) (sym (only_current w c (Some t) h))))) refl
+
+only_tells_current : (w : WorldState) (o : Option ℕ) (n : ℕ) → TellsCurrent w o n → n ≡ one_if (is_current_one w o)
+only_tells_current w o n (IsOn t c e l h k) =
+    k ∙ ap one_if (sym (is_below (length w.cpus) c (λ d. is_this t (current w d)) l (this_of t (current w c) (sym (only_current w c (Some t) h))))) ∙ ap (λ y. one_if (is_current_one w y)) (sym e)
+only_tells_current w o n (IsOnNone t e none k) = k ∙ ap one_if (sym (false_from (is_current w t) nowhere)) ∙ ap (λ y. one_if (is_current_one w y)) (sym e)
+  where
+    nowhere : is_current w t ≡ true → ⊥
+    nowhere x = let h = some_below (length w.cpus) (λ c. is_this t (current w c)) x in none h.0 h.1 (on_is w t h.0 h.2)
+only_tells_current w o n (GivenNone e k) = k ∙ ap (λ y. one_if (is_current_one w y)) (sym e)
+
+pub running_allowed : (w : WorldState) (a : List Arg) → Is-effect w TaskRunning a
+running_allowed w a = Done (one_if (is_current_one w (given_task a 0))) refl (tells_current w (given_task a 0), refl) refl
+
+pub only_running : (w : WorldState) (a : List Arg) (x : Answer) (v : WorldState) → IsEffect w TaskRunning a x v → Is-this w TaskRunning a x v
+only_running w a x v (Done n j d e) = (e ∙ ap Num (only_tells_current w (given_task a 0) n d.0), d.1)
+only_running w a x v (NamesTask o j m e k) = absurd m
+only_running w a x v (Wrong f j e k) = absurd (some_fault f j)
+
+tells_home : (w : WorldState) (o : Option ℕ) → TellsHome w o (cpu_of_task w o)
+tells_home w None = OfNoTask refl refl
+tells_home w (Some t) = OfTheTask t refl refl
+
+only_tells_home : (w : WorldState) (o : Option ℕ) (n : ℕ) → TellsHome w o n → n ≡ cpu_of_task w o
+only_tells_home w o n (OfTheTask t e k) = k ∙ ap (λ y. cpu_of_task w y) (sym e)
+only_tells_home w o n (OfNoTask e k) = k ∙ ap (λ y. cpu_of_task w y) (sym e)
+
+pub home_allowed : (w : WorldState) (a : List Arg) → Is-effect w TaskCpu a
+home_allowed w a = Done (cpu_of_task w (given_task a 0)) refl (tells_home w (given_task a 0), refl) refl
+
+pub only_home : (w : WorldState) (a : List Arg) (x : Answer) (v : WorldState) → IsEffect w TaskCpu a x v → Is-this w TaskCpu a x v
+only_home w a x v (Done n j d e) = (e ∙ ap Num (only_tells_home w (given_task a 0) n d.0), d.1)
+only_home w a x v (NamesTask o j m e k) = absurd m
+only_home w a x v (Wrong f j e k) = absurd (some_fault f j)
+
+-- ---- a choice from a mask
+
+wanted_is : (w : WorldState) (mask c : ℕ) → is_free_in mask w c ≡ true → IsFreeIn w mask c
+wanted_is w mask c e = let x = both_true (bit_at mask c == 1) (is_free w c) e in record { wanted = grind (arith, nat_tests, x.0); free = free_is w c x.1 }
+
+wanted_of : (w : WorldState) (mask c : ℕ) → IsFreeIn w mask c → is_free_in mask w c ≡ true
+wanted_of w mask c h = and_true (bit_at mask c == 1) (is_free w c) (eq-eqb (bit_at mask c) 1 h.wanted) (free_of w c h.free)
+
+unwanted : (w : WorldState) (mask c : ℕ) → is_free_in mask w c ≡ false → ¬ IsFreeIn w mask c
+unwanted w mask c e h = not_so (is_free_in mask w c) e (wanted_of w mask c h)
+
+record IsLowestIn (n mask : ℕ) (w : WorldState) (c : ℕ) : Type 0 where
+  within : c < n
+  free : is_free_in mask w c ≡ true
+  below : (d : ℕ) → d < c → is_free_in mask w d ≡ false
+
+none_in : (n mask : ℕ) (w : WorldState) → free_in_below n mask w ≡ None → (d : ℕ) → d < n → is_free_in mask w d ≡ false
+none_in zero mask w e d l = absurd (omega (arith, l))
+none_in (suc n) mask w e d l = go (free_in_below n mask w) (is_free_in mask w n) refl refl e (λ x m. none_in n mask w x d m) (cases_eq d n)
+  where
+    go : (o : Option ℕ) (b : Bool) → free_in_below n mask w ≡ o → is_free_in mask w n ≡ b → or_this o (this_if b n) ≡ None → (free_in_below n mask w ≡ None → d < n → is_free_in mask w d ≡ false) → (d ≡ n) ⊎ (d ≡ n → ⊥) → is_free_in mask w d ≡ false
+    go (Some c) b x y z f h = absurd (cc)
+    go None true x y z f h = absurd (cc)
+    go None false x y z f (inl k) = ap (λ m. is_free_in mask w m) k ∙ y
+    go None false x y z f (inr k) = f x (omega (arith, l, k))
+
+lowest_in : (n mask : ℕ) (w : WorldState) (c : ℕ) → free_in_below n mask w ≡ Some c → IsLowestIn n mask w c
+lowest_in zero mask w c e = absurd (cc)
+lowest_in (suc n) mask w c e = go (free_in_below n mask w) (is_free_in mask w n) refl refl e (λ x. lowest_in n mask w c x)
+  where
+    go : (o : Option ℕ) (b : Bool) → free_in_below n mask w ≡ o → is_free_in mask w n ≡ b → or_this o (this_if b n) ≡ Some c → (free_in_below n mask w ≡ Some c → IsLowestIn n mask w c) → IsLowestIn (suc n) mask w c
+    go (Some d) b x y z f = let h = f (x ∙ z) in record { within = omega (arith, h.within); free = h.free; below = h.below }
+    go None true x y z f =
+        let is : n ≡ c = ap (λ o. unwrap_or o n) z in
+        record { within = omega (arith, is); free = ap (λ m. is_free_in mask w m) (sym is) ∙ y; below = λ d l. none_in n mask w x d (omega (arith, l, is)) }
+    go None false x y z f = absurd (cc)
+
+-- one that isn't there isn't free
+past_end : (w : WorldState) (c : ℕ) → length w.cpus ≤ c → is_free w c ≡ false
+past_end w c past = let x : nat_lt c (length w.cpus) ≡ false = grind (arith, nat_tests, past) in rw x refl
+
+none_wanted : (w : WorldState) (mask : ℕ) → first_free_in mask w ≡ None → (c : ℕ) → is_free_in mask w c ≡ false
+none_wanted w mask e c = go (cases_lt c (length w.cpus))
+  where
+    go : (c < length w.cpus) ⊎ (length w.cpus ≤ c) → is_free_in mask w c ≡ false
+    go (inl l) = none_in (length w.cpus) mask w e c l
+    go (inr past) = and_false (bit_at mask c == 1) (is_free w c) (past_end w c past)
+
+picks : (w : WorldState) (mask : ℕ) → PicksFrom w mask (pick_answer_by None (first_free_in mask w)) (after_claim w (first_free_in mask w))
+picks w mask = go (first_free_in mask w) refl
+  where
+    go : (o : Option ℕ) → first_free_in mask w ≡ o → PicksFrom w mask (pick_answer_by None o) (after_claim w o)
+    go (Some c) x = let h = lowest_in (length w.cpus) mask w c x in PicksLowest (wanted_is w mask c h.free) (λ d l. unwanted w mask d (h.below d l)) (claims w c)
+    go None x = PicksNone (λ d. unwanted w mask d (none_wanted w mask x d)) refl refl
+
+first_is : (w : WorldState) (mask c : ℕ) → IsFreeIn w mask c → ((d : ℕ) → d < c → ¬ IsFreeIn w mask d) → first_free_in mask w ≡ Some c
+first_is w mask c f below = go (first_free_in mask w) refl
+  where
+    one : (d : ℕ) → is_free_in mask w d ≡ true → ((k : ℕ) → k < d → is_free_in mask w k ≡ false) → (c < d) ⊎ (d ≤ c) → (d < c) ⊎ (c ≤ d) → d ≡ c
+    one d j above (inl l) m = absurd (unwanted w mask c (above c l) f)
+    one d j above (inr l) (inl m) = absurd (below d m (wanted_is w mask d j))
+    one d j above (inr l) (inr m) = omega (arith, l, m)
+
+    go : (o : Option ℕ) → first_free_in mask w ≡ o → first_free_in mask w ≡ Some c
+    go (Some d) x = let h = lowest_in (length w.cpus) mask w d x in x ∙ ap (λ y. Some y) (one d h.free h.below (cases_lt c d) (cases_lt d c))
+    go None x = absurd (unwanted w mask c (none_wanted w mask x c) f)
+
+first_none : (w : WorldState) (mask : ℕ) → ((d : ℕ) → ¬ IsFreeIn w mask d) → first_free_in mask w ≡ None
+first_none w mask all = go (first_free_in mask w) refl
+  where
+    go : (o : Option ℕ) → first_free_in mask w ≡ o → first_free_in mask w ≡ None
+    go (Some d) x = let h = lowest_in (length w.cpus) mask w d x in absurd (all d (wanted_is w mask d h.free))
+    go None x = x
+
+abbrev Picked-so : WorldState → ℕ → ℕ → WorldState → Type 0
+Picked-so w mask n v = (n ≡ pick_answer_by None (first_free_in mask w)) × (v ≡ after_claim w (first_free_in mask w))
+
+only_picks : (w : WorldState) (mask n : ℕ) (v : WorldState) → PicksFrom w mask n v → Picked-so w mask n v
+only_picks w mask n v (PicksLowest f below c) =
+    let x = first_is w mask n f below in
+    (ap (λ o. pick_answer_by None o) (sym x), only_claims w n v c ∙ ap (λ o. after_claim w o) (sym x))
+only_picks w mask n v (PicksNone all k z) =
+    let x = first_none w mask all in
+    (k ∙ ap (λ o. pick_answer_by None o) (sym x), z ∙ ap (λ o. after_claim w o) (sym x))
+
+pub pick_allowed : (w : WorldState) (a : List Arg) → Is-effect w PickIdle a
+pick_allowed w a = go (nat_le flags 1) refl
+  where
+    flags : ℕ
+    flags = given_number a 1
+
+    first : Option ℕ
+    first = first_free_in (given_number a 0) w
+
+    go : (b : Bool) → nat_le flags 1 ≡ b → IsEffect w PickIdle a (Num (pick_answer_by (if b then None else Some UnknownFlag) first)) (after_pick_by (if b then None else Some UnknownFlag) w first)
+    go true e = Done (pick_answer_by None first) (grind (arith, nat_tests, e)) (picks w (given_number a 0)) refl
+    go false e = Wrong UnknownFlag (grind (arith, nat_tests, e)) refl (blames w (reason.Fault UnknownFlag))
+
+pub only_pick : (w : WorldState) (a : List Arg) (x : Answer) (v : WorldState) → IsEffect w PickIdle a x v → Is-this w PickIdle a x v
+only_pick w a x v (Done n j d e) =
+    let l : nat_le (given_number a 1) 1 ≡ true = grind (arith, nat_tests, j) in
+    let h = only_picks w (given_number a 0) n v d in
+    rw l (e ∙ ap Num h.0, h.1)
+only_pick w a x v (NamesTask o j m e k) = absurd m
+only_pick w a x v (Wrong UnknownFlag j e k) =
+    let l : nat_le (given_number a 1) 1 ≡ false = grind (arith, nat_tests, j) in
+    rw l (e, only_blames w (reason.Fault UnknownFlag) v k)
+only_pick w a x v (Wrong NoSuchQueue j e k) = absurd j
+only_pick w a x v (Wrong NoSuchCpu j e k) = absurd j
+only_pick w a x v (Wrong CannotInsert j e k) = absurd j
+only_pick w a x v (Wrong CannotCreate j e k) = absurd j
+only_pick w a x v (Wrong BuiltinVtime j e k) = absurd j
+only_pick w a x v (Wrong Mixed j e k) = absurd j
+only_pick w a x v (Wrong Stuck j e k) = absurd j
+
+-- ---- a claim
+
+claims_this : (w : WorldState) (c : ℕ) → ClaimsThis w c (one_if (is_free w c)) (after_claim w (this_if (is_free w c) c))
+claims_this w c = go (is_free w c) refl
+  where
+    go : (b : Bool) → is_free w c ≡ b → ClaimsThis w c (one_if b) (after_claim w (this_if b c))
+    go true e = WasFree (free_is w c e) refl (claims w c)
+    go false e = WasTaken (λ h. not_so (is_free w c) e (free_of w c h)) refl refl
+
+abbrev Claimed-so : WorldState → ℕ → ℕ → WorldState → Type 0
+Claimed-so w c n v = (n ≡ one_if (is_free w c)) × (v ≡ after_claim w (this_if (is_free w c) c))
+
+only_claims_this : (w : WorldState) (c n : ℕ) (v : WorldState) → ClaimsThis w c n v → Claimed-so w c n v
+only_claims_this w c n v (WasFree h k z) =
+    let x = free_of w c h in
+    (k ∙ ap one_if (sym x), only_claims w c v z ∙ ap (λ b. after_claim w (this_if b c)) (sym x))
+only_claims_this w c n v (WasTaken h k z) =
+    let x = false_from (is_free w c) (λ e. h (free_is w c e)) in
+    (k ∙ ap one_if (sym x), z ∙ ap (λ b. after_claim w (this_if b c)) (sym x))
+
+abbrev answered_so : WorldState → ℕ → Bool → Answer
+answered_so w c b = Num (if b then one_if (is_free w c) else invalid)
+
+abbrev claimed_so : WorldState → ℕ → Bool → WorldState
+claimed_so w c b = if b then after_claim w (this_if (is_free w c) c) else with_fault w NoSuchCpu
+
+pub claim_allowed : (w : WorldState) (a : List Arg) → Is-effect w ClaimIdle a
+claim_allowed w a = go (nat_lt c (length w.cpus)) refl
+  where
+    c : ℕ
+    c = given_number a 0
+
+    go : (b : Bool) → nat_lt c (length w.cpus) ≡ b
+        → IsEffect w ClaimIdle a (Num (if b then one_if (is_free w c) else invalid)) (if b then after_claim w (this_if (is_free w c) c) else with_fault w NoSuchCpu)
+    go true e = Done (one_if (is_free w c)) (grind (arith, nat_tests, e)) (claims_this w c) refl
+    go false e = Wrong NoSuchCpu (grind (arith, nat_tests, e)) refl (blames w (reason.Fault NoSuchCpu))
+
+pub only_claim : (w : WorldState) (a : List Arg) (x : Answer) (v : WorldState) → IsEffect w ClaimIdle a x v → Is-this w ClaimIdle a x v
+only_claim w a x v (Done n j d e) =
+    let l : nat_lt (given_number a 0) (length w.cpus) ≡ true = grind (arith, nat_tests, j) in
+    let h = only_claims_this w (given_number a 0) n v d in
+    (e ∙ ap Num h.0 ∙ ap (λ b. answered_so w (given_number a 0) b) (sym l), h.1 ∙ ap (λ b. claimed_so w (given_number a 0) b) (sym l))
+only_claim w a x v (NamesTask o j m e k) = absurd m
+only_claim w a x v (Wrong NoSuchCpu j e k) =
+    let l : nat_lt (given_number a 0) (length w.cpus) ≡ false = grind (arith, nat_tests, j) in
+    (e ∙ ap (λ b. answered_so w (given_number a 0) b) (sym l), only_blames w (reason.Fault NoSuchCpu) v k ∙ ap (λ b. claimed_so w (given_number a 0) b) (sym l))
+only_claim w a x v (Wrong NoSuchQueue j e k) = absurd j
+only_claim w a x v (Wrong CannotInsert j e k) = absurd j
+only_claim w a x v (Wrong UnknownFlag j e k) = absurd j
+only_claim w a x v (Wrong CannotCreate j e k) = absurd j
+only_claim w a x v (Wrong BuiltinVtime j e k) = absurd j
+only_claim w a x v (Wrong Mixed j e k) = absurd j
+only_claim w a x v (Wrong Stuck j e k) = absurd j
