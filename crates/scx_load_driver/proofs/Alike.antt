@@ -1,6 +1,6 @@
 -- A scheduling cycle leaves the groups and tasks, who is active, how many tasks and processors there are, and how long
 -- each task has run.
-use Rattle.std.proofs.Common.{◌≡◌, ℕ, zero, suc, ◌<◌, ◌≤◌, ◌⊎◌, inl, inr, Bool, true, false, ◌&&◌, ◌==◌, not, nat_lt, cond, List, length, set, get_or, map, Option, Some, None, Result, Ok, Err, ℤ, refl, ◌∙◌, subst, arith}
+use Rattle.std.proofs.Common.{◌≡◌, ℕ, zero, suc, ◌<◌, ◌≤◌, ◌⊎◌, inl, inr, Bool, true, false, ◌&&◌, ◌==◌, not, nat_lt, cond, List, length, set, get_or, map, Option, Some, None, is_some, Result, Ok, Err, ℤ, refl, ◌∙◌, subst, arith}
 use Rattle.std.proofs.lemmas.Bool.{cases_eq, cases_lt}
 use Rattle.std.proofs.lemmas.List.{length-set, length-replicate, get_or-set_same, get_or-set_other, set_past}
 use Rattle.scx_dsq.specs.Queues.{len_of, front_of, behind_of}
@@ -22,33 +22,34 @@ use Rattle.scx_weights.specs.Hierarchy.{Hierarchy}
 use Rattle.scx_sched_world.specs.declared.call.Insert.{Insert}
 use Rattle.scx_sched_tasks.specs.declared.task.Task.{Task}
 use Rattle.scx_sched_tasks.specs.Tasks.{no_task}
+use Rattle.scx_sched_world.specs.declared.eject.Cause.{Cause}
 use Rattle.scx_sched_world.specs.declared.faults.Fault.{Fault}
 use Rattle.scx_sched_world.specs.CpuSets.{is_in_set}
 use Rattle.scx_sched_world.specs.Ids.{global, builtin_queue, parked_queue, local_on}
-use Rattle.scx_sched_world.specs.World.{WorldState, with_task, without_kick, task_at, is_throttled, is_idle, waits, running, at_callback}
+use Rattle.scx_sched_world.specs.World.{WorldState, with_switch, with_task, without_kick, task_at, is_throttled, is_idle, waits, running, at_callback}
 use Rattle.scx_sched_world.specs.Tasks.{with_home, with_slice, to_front, after_leave, after_enter, for_cpu, brought, fill_front, after_stop, started_at, after_run, after_switch, after_cut_off, put_parked, after_take, let_go}
 use Rattle.scx_sched_world.specs.Helpers.{is_dispatch, with_insert, after_release, insert_or_fault, front_moved_to_local, helper_after, stored_in, world_functions}
-use Rattle.scx_sched_machine.specs.Policy.{PolicyState}
+use Rattle.scx_sched_machine.specs.Policy.{PolicyState, program_of}
 use Rattle.scx_sched_world.specs.declared.eject.Eject.{Eject}
 use Rattle.scx_sched_world.specs.Ejecting.{put_out, put_builtin, after_evictions, after_cut, cut_task, after_charge, after_catch_up}
 use Rattle.scx_sched_machine.specs.Steps.{State, Stepped, one_after_other, stays, with_world, is_ejected, is_by_linux, kicked, kicked_if_idle}
 use Rattle.scx_sched_machine.specs.Ejecting.{moves_over, eject, ejected_for}
-use Rattle.scx_sched_machine.specs.Callbacks.{call_ending, acting, fault_of, call_back, after_callback, no_arguments, one_task, task_and_number, cpu_and_task}
+use Rattle.scx_sched_machine.specs.Callbacks.{call_ending, acting, cause_of, call_back, call_by_linux, after_callback, no_arguments, one_task, task_and_number, cpu_and_task}
 use Rattle.scx_sched_machine.specs.Put.{enters, enqueue_choice, enters_builtin, comes_in, put}
 use Rattle.scx_sched_machine.specs.Events.{insert_or_put}
 use Rattle.scx_sched_machine.specs.Filling.{fill}
 use Rattle.scx_sched_machine.specs.Parking.{park, park_front, throttled_front, park_then, park_fronts, clear, in_reach, supply, let_go_one, let_go_from, let_all_go}
 use Rattle.scx_sched_machine.specs.Cycle.{has_local, keeps_slice, supply_unless_kept, told_of, after_dispatch, asks_again, tries, stopping_called, after_stopping, after_running, put_back, leave, switched, started_if, start as run_front, rest, swap, swap_or_rest, builtin_dispatch, builtin_fill, builtin_ask, builtin_cycle, start_or_cycle, picked, refilled, is_local, start_picked, start_picked_or_cycle, pick, pick_or_rest, keep_or_pick, conclude, give_up, ask, seek, look, cycling, cycle}
 use Rattle.scx_sched_machine.specs.Rounds.{most_rounds, next_to_look, cut_off_if, look_past, look_from, round, round_then, rounds, with_rounds}
-use Rattle.scx_sched_machine.specs.Start.{blank, init_ending, bad_answer, ok_unless, after_init, enable_ending, has_failed, enable, then_enable, after_enables, ok_if, all_enabled, first_state}
+use Rattle.scx_sched_machine.specs.Start.{blank, init_ending, bad_answer, ok_unless, after_init, enable_ending, failure, enable, then_enable, after_enables, all_enabled, first_state}
 use Rattle.scx_sched_machine.proofs.Choices.{keeps_if}
 use Rattle.scx_sched_machine.proofs.HelperCalls.{by_helper}
-use Rattle.scx_sched.proofs.Marks.{KeepsMarks, Anywhere, kept_kicked_so, kept_claim, kept_local, kept_entered}
+use Rattle.scx_sched.proofs.Marks.{KeepsMarks, KeepsCycles, Anywhere, kept_switch, kept_cycling, kept_kicked_so, kept_claim, kept_local, kept_entered}
 use Rattle.scx_sched.proofs.Fine.{stored_run, given_run, renewed_run}
 
--- the same groups and tasks, of which the same are active
+-- the same groups and tasks, each with the same weight of its own, of which the same are active
 abbrev pub IsTreeLike : Hierarchy → Hierarchy → Type 0
-IsTreeLike h t = (t.groups ≡ h.groups) × (t.homes ≡ h.homes) × (t.active ≡ h.active)
+IsTreeLike h t = (t.groups ≡ h.groups) × (t.homes ≡ h.homes) × (t.active ≡ h.active) × (t.own_weights ≡ h.own_weights)
 
 -- how many tasks there are, and how long each has run at most
 pub record Times : Type 0 where
@@ -79,6 +80,10 @@ timed_set n xs t x same h = (length-set xs t x ∙ h.0, λ u. go u (cases_eq u t
 -- a world like a tree has its groups
 pub like_groups : (h : Hierarchy) (n : Times) (c : ℕ) (w : WorldState) → IsLike h n c w → w.tree.groups ≡ h.groups
 like_groups h n c w i = let t : IsTreeLike h w.tree = i.0 in t.0
+
+-- in a world like a tree tasks have the same weights of their own
+pub like_own_weights : (h : Hierarchy) (n : Times) (c : ℕ) (w : WorldState) → IsLike h n c w → w.tree.own_weights ≡ h.own_weights
+like_own_weights h n c w i = let t : IsTreeLike h w.tree = i.0 in t.3
 
 -- in a world like a tree the same tasks are active
 pub like_active : (h : Hierarchy) (n : Times) (c : ℕ) (w : WorldState) → IsLike h n c w → w.tree.active ≡ h.active
@@ -122,6 +127,7 @@ module _ (h : Hierarchy) (n : Times) (c : ℕ) where
   like_helper w f a i = by_helper (IsLike h n c) w (record {
     same = i;
     faulty = λ f other. i;
+    ended = λ k. i;
     created = λ q. i;
     inserted = λ t k flags back none. like_inserted w None t k i;
     late = λ linux here. i;
@@ -175,9 +181,9 @@ module _ (h : Hierarchy) (n : Times) (c : ℕ) where
       let v = after_evictions (length w.tasks) w in
       like_cut (length v.cpus) v (like_evicted (length w.tasks) w (i.0, i.1, i.2))
 
-  like_ejected_for : (o : Option Fault) (s : State) → IsLike h n c s.world → IsLike h n c (ejected_for o s).state.world
+  like_ejected_for : (o : Option Cause) (s : State) → IsLike h n c s.world → IsLike h n c (ejected_for o s).state.world
   like_ejected_for None s i = i
-  like_ejected_for (Some f) s i = like_eject s _ i
+  like_ejected_for (Some x) s i = like_eject s _ i
 
   -- ---- callbacks
 
@@ -192,7 +198,19 @@ module _ (h : Hierarchy) (n : Times) (c : ℕ) where
   unfolding call_back
   like_call_back s b a t d i =
       let e = call_ending (acting s b) b a s.maps (at_callback s.world b t d) in
-      like_ejected_for (fault_of b e) (after_callback s.policy e) (like_called (acting s b) b a s.maps (at_callback s.world b t d) i)
+      like_ejected_for (cause_of b e) (after_callback s.policy e) (like_called (acting s b) b a s.maps (at_callback s.world b t d) i)
+
+  -- a callback that Linux rules call more
+  pub like_call_by_linux : (s : State) (b : Callback) (a : Args) (t d : ℕ) → IsLike h n c s.world → IsLike h n c (call_by_linux s b a t d).state.world
+  unfolding call_by_linux
+  like_call_by_linux s b a t d i = keeps_if (λ (r : Stepped). IsLike h n c r.state.world) (is_by_linux s && is_some (program_of s.policy b)) (call_back s b a t d) (stays s) (like_call_back s b a t d i) i
+
+  -- what an event by Linux rules keeps until it ends is no part of it
+  like_cycles : KeepsCycles (IsLike h n c)
+  like_cycles w o claimed x i = i
+
+  pub like_switch : (w : WorldState) (d : ℕ) → IsLike h n c w → IsLike h n c (with_switch w d)
+  like_switch w d i = kept_switch (IsLike h n c) like_cycles w d i
 
   -- ---- a cycle
 
@@ -416,7 +434,9 @@ module _ (h : Hierarchy) (n : Times) (c : ℕ) where
   -- a whole cycle
   pub like_cycle : (s : State) (d : ℕ) (p : Option ℕ) (ran : Bool) → IsLike h n c s.world → IsLike h n c (cycle s d p ran).state.world
   unfolding cycle
-  like_cycle s d p ran i = let x = like_look (cycling s (Some d)) d p ran (i.0, i.1, i.2) in (x.0, x.1, x.2)
+  like_cycle s d p ran i =
+      let v = cycling s (Some d) in
+      kept_cycling (IsLike h n c) like_cycles (look v d p ran).state.world None (like_look v d p ran (kept_cycling (IsLike h n c) like_cycles s.world (Some d) i))
 
   -- ---- rounds
 
@@ -458,12 +478,9 @@ module _ (h : Hierarchy) (n : Times) (c : ℕ) where
   same_ok : (a b : State) → ◌≡◌ {A = Result State ℤ} (Ok a) (Ok b) → a ≡ b
   same_ok a b e = cc
 
-  same_some : (a b : State) → Some a ≡ Some b → a ≡ b
-  same_some a b e = cc
-
   like_initialized : (s t : State) → after_init s ≡ Ok t → IsLike h n c s.world → IsLike h n c t.world
   unfolding after_init
-  like_initialized s t e i = go (bad_answer (init_ending s).outside.call.fault (init_ending s).answer) e
+  like_initialized s t e i = go (bad_answer (init_ending s).outside.call.cause (init_ending s).answer) e
     where
       after : IsLike h n c (after_callback s.policy (init_ending s)).world
       after = like_called (acting s callback.Init) callback.Init no_arguments s.maps (at_callback s.world callback.Init 0 0) i
@@ -472,36 +489,32 @@ module _ (h : Hierarchy) (n : Times) (c : ℕ) where
       go None e = subst (λ (x : State). IsLike h n c x.world) (same_ok _ _ e) after
       go (Some k) e = absurd (cc)
 
-  like_enabled_one : (s t : State) (k : ℕ) → enable s k ≡ Some t → IsLike h n c s.world → IsLike h n c t.world
+  like_enabled_one : (s t : State) (k : ℕ) → enable s k ≡ Ok t → IsLike h n c s.world → IsLike h n c t.world
   unfolding enable
-  like_enabled_one s t k e i = go (has_failed (enable_ending s k)) e
+  like_enabled_one s t k e i = go (failure (enable_ending s k).outside.call.cause (enable_ending s k).answer) e
     where
       after : IsLike h n c (after_callback s.policy (enable_ending s k)).world
       after = like_called (acting s callback.Enable) callback.Enable (one_task k) s.maps (at_callback s.world callback.Enable k 0) i
 
-      go : (b : Bool) → cond b None (Some (after_callback s.policy (enable_ending s k))) ≡ Some t → IsLike h n c t.world
-      go true e = absurd (cc)
-      go false e = subst (λ (x : State). IsLike h n c x.world) (same_some _ _ e) after
+      go : (o : Option ℤ) → ok_unless o (after_callback s.policy (enable_ending s k)) ≡ Ok t → IsLike h n c t.world
+      go None e = subst (λ (x : State). IsLike h n c x.world) (same_ok _ _ e) after
+      go (Some k) e = absurd (cc)
 
-  like_enabled : (m : ℕ) (s t : State) → after_enables m s ≡ Some t → IsLike h n c s.world → IsLike h n c t.world
-  like_enabled zero s t e i = subst (λ (x : State). IsLike h n c x.world) (same_some _ _ e) i
+  like_enabled : (m : ℕ) (s t : State) → after_enables m s ≡ Ok t → IsLike h n c s.world → IsLike h n c t.world
+  like_enabled zero s t e i = subst (λ (x : State). IsLike h n c x.world) (same_ok _ _ e) i
   like_enabled (suc m) s t e i = go (after_enables m s) (λ u x. like_enabled m s u x i) e
     where
-      go : (o : Option State) → ((u : State) → o ≡ Some u → IsLike h n c u.world) → then_enable o m ≡ Some t → IsLike h n c t.world
-      go None f e = absurd (cc)
-      go (Some u) f e = like_enabled_one u t m e (f u refl)
+      go : (r : Result State ℤ) → ((u : State) → r ≡ Ok u → IsLike h n c u.world) → then_enable r m ≡ Ok t → IsLike h n c t.world
+      go (Err k) f e = absurd (cc)
+      go (Ok u) f e = like_enabled_one u t m e (f u refl)
 
   like_all : (r : Result State ℤ) (t : State) → all_enabled r ≡ Ok t → ((s : State) → r ≡ Ok s → IsLike h n c s.world) → IsLike h n c t.world
   like_all (Err k) t e f = absurd (cc)
-  like_all (Ok s) t e f = go (after_enables (length s.world.tasks) s) refl e
-    where
-      go : (o : Option State) → after_enables (length s.world.tasks) s ≡ o → ok_if o ≡ Ok t → IsLike h n c t.world
-      go None x e = absurd (cc)
-      go (Some u) x e = subst (λ (y : State). IsLike h n c y.world) (same_ok _ _ e) (like_enabled (length s.world.tasks) s u x (f s refl))
+  like_all (Ok s) t e f = like_enabled (length s.world.tasks) s t e (f s refl)
 
 -- the first world has such a tree, and a task and a processor for each
 pub like_first : (p : PolicyState) (h : Hierarchy) (cpus : ℕ) (t : State) → first_state p h cpus ≡ Ok t → IsLike h (times_of (length h.homes) (blank p h cpus).world) cpus t.world
 like_first p h cpus t e =
     let n = times_of (length h.homes) (blank p h cpus).world in
     like_all h n cpus (after_init (blank p h cpus)) t e
-    (λ s x. like_initialized h n cpus (blank p h cpus) s x ((refl, refl, refl), (length-replicate (length h.homes) _, λ u. omega arith), length-replicate {A = Option ℕ} cpus None))
+    (λ s x. like_initialized h n cpus (blank p h cpus) s x ((refl, refl, refl, refl), (length-replicate (length h.homes) _, λ u. omega arith), length-replicate {A = Option ℕ} cpus None))

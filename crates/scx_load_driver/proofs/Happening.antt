@@ -9,22 +9,23 @@ use Rattle.scx_weights.specs.Limits.{with_use}
 use Rattle.scx_sched_tasks.specs.declared.task.Task.{Task}
 use Rattle.scx_sched_tasks.specs.Tasks.{no_task}
 use Rattle.scx_vm.specs.Programs.{VerifiedProgram}
+use Rattle.scx_sched_world.specs.declared.call.Insert.{Insert}
 use Rattle.scx_sched_world.specs.World as world
-use Rattle.scx_sched_world.specs.World.{WorldState, with_tree, with_slept, running, cpu_of, is_idle, is_throttled, is_this, task_at, choice, after_claim, at_callback}
+use Rattle.scx_sched_world.specs.World.{WorldState, with_switch, with_tree, with_slept, with_waker, running, cpu_of, is_idle, is_throttled, is_this, task_at, choice, after_claim, at_callback}
 use Rattle.scx_sched_world.specs.Tasks.{homed, after_wake, after_sleep, after_leave, after_stop, tick_ns, ran_a_tick, after_tick, used_ms, later, begun_periods}
 use Rattle.scx_sched_machine.specs.Steps.{State, Stepped, with_world, stays, one_after_other, is_by_linux, kicked_if_idle}
-use Rattle.scx_sched_machine.specs.Callbacks.{acting, call_back, answered_by, task_cpu_and_0}
+use Rattle.scx_sched_machine.specs.Callbacks.{acting, call_back, call_by_linux, answered_by, one_task, task_cpu_and_0, task_and_number}
 use Rattle.scx_sched_machine.specs.Parking.{park, let_all_go}
 use Rattle.scx_sched_machine.specs.Cycle.{after_stopping, cycle}
 use Rattle.scx_sched_machine.specs.declared.events.Event.TheVariants.{Wake, Sleep, Tick, Clock}
-use Rattle.scx_sched_machine.specs.Events.{target, insert_or_put, wake_target, settle, inserted_by_choice, chosen, ask_target, asks_target, select, wake, told_of_sleep, sleep_from_cpu, sleep_from, sleep, throttle, ends_slices, expire, count_down, tick_idle, tick_of, tick, overdue, eject_if_stalled, clock, event_step}
+use Rattle.scx_sched_machine.specs.Events.{target, insert_or_put, woken, wake_target, comes_to, while_in_force, told_runnable, settle, inserted_by_choice, chosen, ask_target, asks_target, select, from_waker, wake, told_of_sleep, falls_asleep, looks_after_sleep, leaves_cpu, sleep_from_cpu, sleep_from, sleep, throttle, ends_slices, expire, use_up, hears_tick, tick_heard, count_down, tick_idle, tick_of, tick, overdue, eject_if_stalled, clock, event_step}
 use Rattle.scx_sched_machine.proofs.Choices.{keeps_if}
 use Rattle.scx_sched.proofs.Marks.{Anywhere, kept_homed, kept_claim}
-use Rattle.scx_load_driver.proofs.Alike.{IsTreeLike, Times, AreTimed, IsLike, timed_set, like_marks, like_kicked_if_idle, like_stopped, like_eject, like_call_back, like_stopping, like_settled, like_park, like_let_all_go, like_cycle, like_rounds}
+use Rattle.scx_load_driver.proofs.Alike.{IsTreeLike, Times, AreTimed, IsLike, timed_set, like_marks, like_kicked_if_idle, like_stopped, like_eject, like_call_back, like_call_by_linux, like_switch, like_stopping, like_settled, like_park, like_let_all_go, like_cycle, like_rounds}
 
 -- a task is active, or not, in both
 tree_set : (h t : Hierarchy) (k : ℕ) (on : Bool) → IsTreeLike h t → IsTreeLike (tree.with_task h k on) (tree.with_task t k on)
-tree_set h t k on i = (i.0, i.1, ap (λ xs. set xs k on) i.2)
+tree_set h t k on i = (i.0, i.1, ap (λ xs. set xs k on) i.2, i.3)
 
 -- ---- a task that wakes
 
@@ -32,18 +33,32 @@ module _ (h : Hierarchy) (n : Times) (c : ℕ) where
   like_homed : (w : WorldState) (t d : ℕ) → IsLike h n c w → IsLike h n c (homed w t d)
   like_homed w t d i = kept_homed Anywhere (IsLike h n c) (like_marks h n c) w t d tt i
 
+  like_woken_no_more : (s : State) → IsLike h n c s.world → IsLike h n c (woken s).world
+  like_woken_no_more s i = i
+
   like_wake_target : (s : State) (d : ℕ) → IsLike h n c s.world → IsLike h n c (wake_target s d).state.world
   unfolding wake_target
   like_wake_target s d i =
-      keeps_if (λ (r : Stepped). IsLike h n c r.state.world) (is_by_linux s) (stays (kicked_if_idle s d)) (if is_idle s.world d then cycle s d None false else stays s) (like_kicked_if_idle h n c s d i)
+      keeps_if (λ (r : Stepped). IsLike h n c r.state.world) (is_by_linux s) (stays (kicked_if_idle (woken s) d)) (if is_idle s.world d then cycle s d None false else stays s) (like_kicked_if_idle h n c (woken s) d (like_woken_no_more s i))
       (keeps_if (λ (r : Stepped). IsLike h n c r.state.world) (is_idle s.world d) (cycle s d None false) (stays s) (like_cycle h n c s d None false i) i)
+
+  like_comes_to : (o : Option Insert) (s : State) (t d : ℕ) → IsLike h n c s.world → IsLike h n c (comes_to o s t d).state.world
+  unfolding comes_to
+  like_comes_to o s t d i = like_wake_target (insert_or_put o s t d).state d (like_settled h n c o s t d i)
+
+  like_told_runnable : (o : Option Insert) (s : State) (t d : ℕ) → IsLike h n c s.world → IsLike h n c (told_runnable o s t d).state.world
+  unfolding told_runnable
+  like_told_runnable o s t d i =
+      let r = call_by_linux s callback.Runnable (task_and_number t 1) t d in
+      like_comes_to (while_in_force r.state o) r.state t d (like_call_by_linux h n c s callback.Runnable (task_and_number t 1) t d i)
 
   like_settle : (s : State) (t d : ℕ) → IsLike h n c s.world → IsLike h n c (settle s t d).state.world
   unfolding settle
   like_settle s t d i =
       let v = with_world s (homed s.world t d) in
-      let r = insert_or_put v.world.call.insert v t d in
-      like_wake_target r.state d (like_settled h n c v.world.call.insert v t d (like_homed s.world t d i))
+      let o = v.world.call.insert in
+      let x : IsLike h n c v.world = like_homed s.world t d i in
+      keeps_if (λ (r : Stepped). IsLike h n c r.state.world) (is_by_linux v) (told_runnable o v t d) (comes_to o v t d) (like_told_runnable o v t d x) (like_comes_to o v t d x)
 
   like_by_choice : (w : WorldState) (o : Option ℕ) → IsLike h n c w → IsLike h n c (inserted_by_choice w o)
   like_by_choice w None i = i
@@ -69,16 +84,26 @@ module _ (h : Hierarchy) (n : Times) (c : ℕ) where
       let v = with_world s (at_callback s.world callback.SelectCpu t 0) in
       keeps_if (λ (r : Stepped). IsLike h n c r.state.world) (asks_target s) (ask_target s t) (settle v t 0) (like_ask_target s t i) (like_settle v t 0 i)
 
+  -- from which processor a task is woken is no part of it
+  like_from_waker : (s : State) (t : ℕ) → IsLike h n c s.world → IsLike h n c (from_waker s t).world
+  unfolding from_waker
+  like_from_waker s t i = keeps_if (λ (r : State). IsLike h n c r.world) (is_by_linux s) (with_world s (with_waker s.world (Some (task_at s.world t).prev_cpu))) s i i
+
 -- ---- events
 
 module _ (h : Hierarchy) (n : Times) (c : ℕ) where
+  -- who leaves its processor, on which it was the current one
+  like_leaves_cpu : (s : State) (d t x : ℕ) → IsLike h n c s.world → IsLike h n c (leaves_cpu s d t x).state.world
+  unfolding leaves_cpu
+  like_leaves_cpu s d t x i =
+      let w = with_switch s.world d in
+      like_stopping h n c (with_world s (after_stop w d t)) d t x (like_stopped h n c w d t (like_switch h n c s.world d i))
+
   like_throttle : (s : State) (d t : ℕ) → IsLike h n c s.world → IsLike h n c (throttle s d t).state.world
   unfolding throttle
   like_throttle s d t i =
-      let off = with_world s (after_stop s.world d t) in
-      let r = (after_stopping off d t 1).state in
-      let away : IsLike h n c off.world = like_stopped h n c s.world d t i in
-      like_cycle h n c (park r t).state d None true (like_park h n c r t (like_stopping h n c off d t 1 away))
+      let r = (leaves_cpu s d t 1).state in
+      like_cycle h n c (park r t).state d None true (like_park h n c r t (like_leaves_cpu s d t 1 i))
 
   like_expire : (s : State) (d t : ℕ) → IsLike h n c s.world → IsLike h n c (expire s d t).state.world
   unfolding expire
@@ -88,20 +113,31 @@ module _ (h : Hierarchy) (n : Times) (c : ℕ) where
   like_used_ms : (w : WorldState) (t : ℕ) → IsLike h n c w → IsLike h n c (used_ms w t)
   like_used_ms w t i = keeps_if (IsLike h n c) (nat_lt t (length w.tasks)) (with_tree w (with_use w.tree t)) w i i
 
+  like_use_up : (s : State) (d t : ℕ) → IsLike h n c s.world → IsLike h n c (use_up s d t).state.world
+  unfolding use_up
+  like_use_up s d t i =
+      let v = with_world s (used_ms s.world t) in
+      let x : IsLike h n c v.world = like_used_ms s.world t i in
+      keeps_if (λ (r : Stepped). IsLike h n c r.state.world) (is_throttled v.world t) (throttle v d t) (expire v d t) (like_throttle v d t x) (like_expire v d t x)
+
+  like_tick_heard : (s : State) (d t : ℕ) → IsLike h n c s.world → IsLike h n c (tick_heard s d t).state.world
+  unfolding tick_heard
+  like_tick_heard s d t i = keeps_if (λ (r : Stepped). IsLike h n c r.state.world) (hears_tick s) (call_back s callback.Tick (one_task t) t d) (stays s) (like_call_back h n c s callback.Tick (one_task t) t d i) i
+
   -- who runs has run for a millisecond more
   like_count_down : (s : State) (d t : ℕ) → IsLike h n c (after_tick s.world t) → IsLike h n c (count_down s d t).state.world
   unfolding count_down
   like_count_down s d t i =
-      let v = with_world s (used_ms (after_tick s.world t) t) in
-      let x : IsLike h n c v.world = like_used_ms (after_tick s.world t) t i in
-      keeps_if (λ (r : Stepped). IsLike h n c r.state.world) (is_throttled v.world t) (throttle v d t) (expire v d t) (like_throttle v d t x) (like_expire v d t x)
+      let v = with_world s (after_tick s.world t) in
+      like_use_up (tick_heard v d t).state d t (like_tick_heard v d t i)
 
   -- a task that wakes is active
   like_woken : (s : State) (t : ℕ) → IsLike h n c s.world → IsLike (tree.with_task h t true) n c (wake s t).state.world
   unfolding wake
   like_woken s t i =
       let w = with_world s (after_wake s.world t) in
-      like_select (tree.with_task h t true) n c w t (tree_set h s.world.tree t true i.0, timed_set n s.world.tasks t _ refl i.1, i.2)
+      like_select (tree.with_task h t true) n c (from_waker w t) t
+      (like_from_waker (tree.with_task h t true) n c w t (tree_set h s.world.tree t true i.0, timed_set n s.world.tasks t _ refl i.1, i.2))
 
   pub like_wake : (s : State) (t : ℕ) → IsLike h n c s.world → IsLike (tree.with_task h t true) n c (event_step s (Wake t)).state.world
   like_wake s t i = like_rounds (tree.with_task h t true) n c (wake s t) (like_woken s t i)
@@ -115,14 +151,24 @@ module _ (h : Hierarchy) (n : Times) (c : ℕ) where
   like_told_of_sleep s t i = keeps_if (λ (r : State). IsLike h n c r.world) (is_by_linux s) (with_world s (with_slept s.world t)) s i i
 
 module _ (h : Hierarchy) (n : Times) (c : ℕ) where
+  -- and the policy hears of it
+  like_falls_asleep : (s : State) (t d : ℕ) → t < n.many → IsLike h n c s.world → IsLike (tree.with_task h t false) n c (falls_asleep s t d).state.world
+  unfolding falls_asleep
+  like_falls_asleep s t d l i =
+      let v = with_world s (after_sleep s.world t) in
+      like_call_by_linux (tree.with_task h t false) n c v callback.Quiescent (task_and_number t 1) t d (like_asleep h n c s.world t l i)
+
+  like_looks_after_sleep : (s : State) (t d : ℕ) → IsLike h n c s.world → IsLike h n c (looks_after_sleep s t d).state.world
+  unfolding looks_after_sleep
+  like_looks_after_sleep s t d i = like_cycle h n c (told_of_sleep s t) d None true (like_told_of_sleep h n c s t i)
+
+module _ (h : Hierarchy) (n : Times) (c : ℕ) where
   like_sleep_from_cpu : (s : State) (t d : ℕ) → t < n.many → IsLike h n c s.world → IsLike (tree.with_task h t false) n c (sleep_from_cpu s t d).state.world
   unfolding sleep_from_cpu
   like_sleep_from_cpu s t d l i =
-      let off = with_world s (after_stop s.world d t) in
-      let r = after_stopping off d t 0 in
-      let x : IsLike h n c r.state.world = like_stopping h n c off d t 0 (like_stopped h n c s.world d t i) in
-      let v = with_world r.state (after_sleep r.state.world t) in
-      like_cycle (tree.with_task h t false) n c (told_of_sleep v t) d None true (like_told_of_sleep (tree.with_task h t false) n c v t (like_asleep h n c r.state.world t l x))
+      let r = leaves_cpu s d t 0 in
+      let q = falls_asleep r.state t d in
+      like_looks_after_sleep (tree.with_task h t false) n c q.state t d (like_falls_asleep h n c r.state t d l (like_leaves_cpu h n c s d t 0 i))
 
   -- a task that sleeps is no longer active
   like_slept : (s : State) (t : ℕ) → t < n.many → IsLike h n c s.world → IsLike (tree.with_task h t false) n c (sleep s t).state.world
@@ -130,7 +176,7 @@ module _ (h : Hierarchy) (n : Times) (c : ℕ) where
   like_slept s t l i = go (cpu_of s.world t)
     where
       go : (o : Option ℕ) → IsLike (tree.with_task h t false) n c (sleep_from o s t).state.world
-      go None = like_asleep h n c (after_leave s.world t) t l i
+      go None = like_falls_asleep h n c (with_world s (after_leave s.world t)) t (task_at s.world t).prev_cpu l i
       go (Some d) = like_sleep_from_cpu s t d l i
 
   pub like_sleep : (s : State) (t : ℕ) → t < n.many → IsLike h n c s.world → IsLike (tree.with_task h t false) n c (event_step s (Sleep t)).state.world

@@ -64,8 +64,8 @@ IsFirstRefused text errors.NoMemory = IsStarved text
 abbrev pub code_of : Option VerifiedProgram → Option Code
 code_of v = option_map (λ p. p.code) v
 
--- the policy of these programs, which has them all, each verified as its callback, for these maps and
--- by these rules, with this timeout and these ticks
+-- the policy of these programs, which has them all, each verified as its callback, for these maps
+-- and by these rules, with this timeout and these ticks
 pub record IsBuilt (text : PolicyFile) (policy : PolicyState) : Type 0 where
   pub shapes : policy.shapes ≡ text.shapes
   pub timeout : policy.timeout_ms ≡ text.timeout_ms

@@ -1,13 +1,13 @@
--- The content of a policy file: its name, the shapes of its maps, the time a task may wait, the rules
--- of the machine and its ticks, and its programs.
-use Rattle.std.specs.Prelude.{ℕ, ◌≡◌, ◌≤◌, List, map, Option, None}
+-- The content of a policy file: its name, the shapes of its maps, the time a task may wait, the
+-- rules of the machine and its ticks, and its programs.
+use Rattle.std.specs.Prelude.{ℕ, ◌≡◌, ◌≤◌, List, map, filter, Option, None}
 use Rattle.scx_maps.specs.declared.shape.Shape.{Shape}
 use Rattle.scx_isa_semantics.specs.Code.{Code}
 use Rattle.scx_isa_semantics.specs.declared.callbacks.Callback.{Callback}
 use Rattle.scx_isa_semantics.specs.declared.rules.Rules.{Rules}
 use Rattle.scx_isa_semantics.specs.declared.rules.Rules.TheVariants.{Plain, Linux}
 use Rattle.scx_isa_semantics.specs.declared.per_callback.PerCallback.{PerCallback}
-use Rattle.scx_isa_semantics.specs.Callbacks.{callback_name, callbacks, at, with_at}
+use Rattle.scx_isa_semantics.specs.Callbacks.{callback_name, callbacks, is_known_callback, at, with_at}
 
 -- the programs of a policy file, one for each callback or none
 abbrev pub Programs : Type 0
@@ -18,8 +18,8 @@ abbrev pub IsTick : Rules → ℕ → Type 0
 IsTick Plain n = n ≡ 0
 IsTick Linux n = n ≤ 100
 
--- what a policy file says: its name, maps, the milliseconds of its timeout, by whose rules the machine
--- goes, the milliseconds from tick to tick, and programs
+-- what a policy file says: its name, maps, the milliseconds of its timeout, by whose rules the
+-- machine goes, the milliseconds from tick to tick, and programs
 pub record PolicyFile : Type 0 where
   pub name : List ℕ  -- empty where the file gives none
   pub shapes : List Shape
@@ -36,6 +36,10 @@ program_of p b = at p.programs b
 abbrev pub without : PolicyFile → Callback → PolicyFile
 without p b = record p { programs = with_at p.programs b None }
 
--- the keys of all callbacks, which are their names
-abbrev pub callback_keys : List (List ℕ)
-callback_keys = map callback_name callbacks
+-- the callbacks that a policy by those rules may have, in the order of callbacks
+abbrev pub callbacks_by : Rules → List Callback
+callbacks_by rules = filter (λ b. is_known_callback b rules) callbacks
+
+-- the keys of those callbacks, which are their names
+abbrev pub callback_keys : Rules → List (List ℕ)
+callback_keys rules = map callback_name (callbacks_by rules)

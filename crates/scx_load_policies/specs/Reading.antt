@@ -1,6 +1,6 @@
 -- The reading of a policy file: unknown keys first, wherever they are; then the name, the timeout,
 -- the rules, the ticks, the maps, the programs in `code` and those in `slots`.
-use Rattle.std.specs.Prelude.{ℕ, List, [], ◌∷◌, ◌++◌, codes, Ok, if◌then◌else◌}
+use Rattle.std.specs.Prelude.{ℕ, List, [], ◌∷◌, ◌++◌, codes, Ok, Err, if◌then◌else◌}
 use Rattle.std.specs.Str.{bytes_eq}
 use Rattle.toml.specs.Data.{Data, Members, no_members}
 use Rattle.scx_load_files.specs.declared.fault.Cause.TheVariants as cause
@@ -26,25 +26,7 @@ file_keys =
 abbrev pub map_keys : List (List ℕ)
 map_keys = codes "entries" ∷ codes "value_size" ∷ []
 
--- the paths of all unknown keys of a file
-abbrev pub unknown_keys : Members → List (List ℕ)
-unknown_keys ms =
-    unknown file_keys [] ms
-    ++ unknown_in_each map_keys [] (codes "map") ms
-    ++ unknown_in callback_keys [] (codes "code") ms
-    ++ unknown_in callback_keys [] (codes "slots") ms
-
--- how many milliseconds a task may wait at most, 1 to 30000
-abbrev pub timeout_limits : Limits
-timeout_limits = record { least = 1; most = 30000 }
-
--- how many milliseconds there may be from tick to tick, 0 to 100
-abbrev pub tick_limits : Limits
-tick_limits = record { least = 0; most = 100 }
-
--- the name; where it is absent, an empty one
-abbrev pub policy_name : Members → Reading (List ℕ)
-policy_name ms = optional name_of [] [] (codes "name") ms
+-- ---- the rules
 
 -- the rules that a text names; any other text is refused
 abbrev pub rules_named : List ℕ → List ℕ → Reading Rules
@@ -60,6 +42,43 @@ rules_of path d = text_of path d >>= rules_named path
 -- the rules of the machine; where the key is absent, the plain ones
 abbrev pub rules_in : Members → Reading Rules
 rules_in ms = optional rules_of Plain [] (codes "rules") ms
+
+-- these rules, or the plain ones where the key is refused
+abbrev pub or_plain : Reading Rules → Rules
+or_plain (Ok rules) = rules
+or_plain (Err fault) = Plain
+
+-- the rules that decide which callbacks a file may have: those that it names, else the plain ones
+abbrev pub rules_meant : Members → Rules
+rules_meant ms = or_plain (rules_in ms)
+
+-- ---- unknown keys
+
+-- the paths of all unknown keys of a file whose programs may have these keys
+abbrev pub unknown_beside : List (List ℕ) → Members → List (List ℕ)
+unknown_beside callbacks ms =
+    unknown file_keys [] ms
+    ++ unknown_in_each map_keys [] (codes "map") ms
+    ++ unknown_in callbacks [] (codes "code") ms
+    ++ unknown_in callbacks [] (codes "slots") ms
+
+-- the paths of all unknown keys of a file; which callbacks are known its rules say
+abbrev pub unknown_keys : Members → List (List ℕ)
+unknown_keys ms = unknown_beside (callback_keys (rules_meant ms)) ms
+
+-- ---- the values
+
+-- how many milliseconds a task may wait at most, 1 to 30000
+abbrev pub timeout_limits : Limits
+timeout_limits = record { least = 1; most = 30000 }
+
+-- how many milliseconds there may be from tick to tick, 0 to 100
+abbrev pub tick_limits : Limits
+tick_limits = record { least = 0; most = 100 }
+
+-- the name; where it is absent, an empty one
+abbrev pub policy_name : Members → Reading (List ℕ)
+policy_name ms = optional name_of [] [] (codes "name") ms
 
 -- the milliseconds from tick to tick where a file says none: those of a kernel with HZ=250
 abbrev pub default_tick : Rules → ℕ

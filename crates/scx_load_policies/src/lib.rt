@@ -11,5 +11,5 @@ mod programs;
 mod reading;
 
 pub use building::{BuildError, build};
-pub use policy_text::{PolicyText, Programs};
+pub use policy_text::{PLAIN_CALLBACKS, PolicyText, Programs};
 pub use reading::read_policy;

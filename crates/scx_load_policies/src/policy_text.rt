@@ -1,8 +1,9 @@
 ghost use Rattle.std.specs.Prelude.{◌≡◌, map, string_bytes};
+ghost use Rattle.scx_isa_semantics.specs.declared.rules.Rules.TheVariants.{Plain, Linux};
 ghost use Rattle.scx_sched_machine.specs.Policy.{IsTimeout};
 ghost use Rattle.scx_load_policies.specs.Policies.{IsTick, callback_keys, program_of, without};
 
-use scx_isa::{CALLBACKS, Callback, PerCallback, Program, Rules};
+use scx_isa::{Callback, PerCallback, Program, Rules};
 use scx_maps::MapDefs;
 use std::marker::Model;
 
@@ -94,9 +95,38 @@ impl PolicyText {
     }
 }
 
-/// The keys of all callbacks, which are their names.
-pub(crate) fn callback_keys() -> [&'static str; 7]
-    ensures { map (λ key. key.now) result ≡ callback_keys }
+/// The callbacks that plain rules know.
+pub const PLAIN_CALLBACKS: [Callback; 7] = [
+    Callback::Init,
+    Callback::Enable,
+    Callback::SelectCpu,
+    Callback::Enqueue,
+    Callback::Dispatch,
+    Callback::Running,
+    Callback::Stopping,
+];
+
+/// The keys of the callbacks that plain rules know, which are their names.
+pub(crate) fn plain_keys() -> [&'static str; 7]
+    ensures { map (λ key. key.now) result ≡ callback_keys Plain }
 {
-    CALLBACKS.map(Callback::name)
+    PLAIN_CALLBACKS.map(Callback::name)
+}
+
+/// The keys of the callbacks that Linux rules know, all of them.
+pub(crate) fn linux_keys() -> [&'static str; 10]
+    ensures { map (λ key. key.now) result ≡ callback_keys Linux }
+{
+    [
+        Callback::Init.name(),
+        Callback::Enable.name(),
+        Callback::SelectCpu.name(),
+        Callback::Enqueue.name(),
+        Callback::Dispatch.name(),
+        Callback::Running.name(),
+        Callback::Stopping.name(),
+        Callback::Tick.name(),
+        Callback::Runnable.name(),
+        Callback::Quiescent.name(),
+    ]
 }

@@ -3,12 +3,12 @@ ghost use Rattle.toml.specs.Data.{no_members};
 ghost use Rattle.toml.specs.View.{view, table_view};
 ghost use Rattle.scx_isa_semantics.specs.declared.rules.Rules.TheVariants.{Plain, Linux};
 ghost use Rattle.scx_load_files.specs.Faults.{Gives};
-ghost use Rattle.scx_load_files.specs.Unknown.{known_alone};
+ghost use Rattle.scx_load_files.specs.Unknown.{known_alone, words};
 ghost use Rattle.scx_load_policies.specs.Policies.{IsTick};
-ghost use Rattle.scx_load_policies.specs.Reading.{unknown_keys, policy_name, rules_in, rules_of, rules_named, tick_in, table_in, programs_in, programs_with, policy_in, policy_file, policy_text};
+ghost use Rattle.scx_load_policies.specs.Reading.{rules_meant, or_plain, unknown_beside, unknown_keys, policy_name, rules_in, rules_of, rules_named, tick_in, table_in, programs_in, programs_with, policy_in, policy_file, policy_text};
 
 use crate::maps::read_maps;
-use crate::policy_text::{PolicyText, Programs, callback_keys};
+use crate::policy_text::{PolicyText, Programs, linux_keys, plain_keys};
 use crate::programs::{put_code, put_slots};
 use scx_isa::Rules;
 use scx_load_files::{Cause, Limits, LoadError, Section, Unknown, read_document, refused};
@@ -34,7 +34,8 @@ const USUAL_TICK: u32 = 4;
 
 /// Reads a policy file, or names its first fault.
 ///
-/// Unknown keys are faults before all others, the least path by bytes first. Then the order is the
+/// Unknown keys are faults before all others, the least path by bytes first; some callbacks are known by Linux
+/// rules alone. Then the order is the
 /// name, the timeout, the rules, the ticks, each map, the programs in `code` and those in `slots`, both in the order of
 /// callbacks.
 pub fn read_policy(alloc: Global, text: &str) -> Result<PolicyText, LoadError>
@@ -55,12 +56,48 @@ fn read_table(alloc: Global, file: Section<'_>) -> Result<PolicyText, LoadError>
     read_file(alloc, file)
 }
 
-/// Refuses the unknown key of the least path.
+/// Refuses the unknown key of the least path. The rules say which callbacks are known.
 fn check_keys(alloc: Global, file: Section<'_>) -> Result<(), LoadError>
     requires { file.path.now ≡ [] }
     ensures { Gives (λ t. t) result (known_alone (unknown_keys (table_view file.entry.table.now))) }
 {
-    let callbacks = callback_keys();
+    match rules_meant(file) {
+        Rules::Plain => check_beside(alloc, file, &plain_keys()),
+        Rules::Linux => check_beside(alloc, file, &linux_keys()),
+    }
+}
+
+/// The rules that decide which callbacks are known: plain ones unless the file names Linux rules.
+fn rules_meant(file: Section<'_>) -> Rules
+    requires { file.path.now ≡ [] }
+    ensures { result ≡ rules_meant (table_view file.entry.table.now) }
+{
+    match file.value("rules") {
+        Some(value) => rules_if_named(value),
+        None => Rules::Plain,
+    }
+}
+
+/// The rules that the value of the key names, or plain ones.
+fn rules_if_named(value: &Value) -> Rules
+    ensures { result ≡ or_plain (rules_of (codes "rules") (view value.now)) }
+{
+    let Some(text) = value.as_str() else {
+        return Rules::Plain;
+    };
+    match text {
+        "plain" => Rules::Plain,
+        "linux" => Rules::Linux,
+        _ => Rules::Plain,
+    }
+}
+
+/// Refuses the unknown key of the least path, where these are the keys of callbacks.
+fn check_beside(alloc: Global, file: Section<'_>, callbacks: &[&str]) -> Result<(), LoadError>
+    requires { file.path.now ≡ [] }
+    ensures { Gives (λ t. t) result
+        (known_alone (unknown_beside (words callbacks.now) (table_view file.entry.table.now))) }
+{
     let unknown = Unknown::none()
         .in_section(
             alloc,
@@ -76,8 +113,8 @@ fn check_keys(alloc: Global, file: Section<'_>) -> Result<(), LoadError>
             ],
         )?
         .below_each(alloc, file, "map", &["entries", "value_size"])?
-        .below(alloc, file, "code", &callbacks)?
-        .below(alloc, file, "slots", &callbacks)?;
+        .below(alloc, file, "code", callbacks)?
+        .below(alloc, file, "slots", callbacks)?;
     unknown.refuse()
 }
 
