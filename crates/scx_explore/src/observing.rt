@@ -2,7 +2,7 @@ use crate::finds::{MOST_LIST, WAIT_LIST};
 use crate::progress::Found;
 use crate::search::Search;
 use scx_explore_bounds::Mode;
-use scx_explore_findings::{Finding, fault_of, idle_in, stall_of};
+use scx_explore_findings::{Finding, exit_of, fault_of, idle_in, stall_of};
 use scx_explore_machines::Way;
 use scx_isa::{CALLBACKS, Callback};
 use scx_sched::{Event, Sim};
@@ -56,10 +56,13 @@ impl Search {
         }
     }
 
-    /// Looks for the fault or the stall that ended the list.
+    /// Looks for the fault, the exit or the stall that ended the list.
     fn look_at_end(&mut self, machine: usize, way: Way, part: usize) {
         if let Some(fault) = fault_of(self.machines.sim(machine)) {
             self.find(Finding::Fault(fault), way, part);
+        }
+        if let Some(code) = exit_of(self.machines.sim(machine)) {
+            self.find(Finding::Exit(code), way, part);
         }
         if self.bounds.mode == Mode::Events {
             return;

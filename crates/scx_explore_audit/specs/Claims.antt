@@ -3,7 +3,7 @@ use Rattle.std.specs.Prelude.{◌≡◌, ℕ, zero, suc, ◌<◌, Bool, ⊤, Lis
 use Rattle.scx_sched_machine.specs.declared.events.Event.{Event}
 use Rattle.scx_sched_machine.specs.declared.events.Event.TheVariants.{Wake, Sleep, Tick, Clock, SetWeight}
 use Rattle.scx_sched.specs.Sim.{SimState, refusal, after_event}
-use Rattle.scx_explore_findings.specs.Findings.{fault_in, stall_in, IsIdleBehind}
+use Rattle.scx_explore_findings.specs.Findings.{fault_in, stall_in, exit_in, IsIdleBehind}
 use Rattle.scx_explore_findings.specs.declared.finding.Sort.{Sort}
 use Rattle.scx_explore_findings.specs.declared.finding.Sort.TheVariants as sort
 use Rattle.scx_explore_audit.specs.declared.table.Moves.{Moves}
@@ -61,13 +61,14 @@ list_of (es ∷ moves) = es ++ list_of moves
 -- ---- what is shown
 
 -- the event, which has led to that state, shows nothing of the sort: no ejection for that fault,
--- none because a task waited too long, and no processor that its tick leaves idle while a task
--- waits; of tasks that are overtaken nothing is said
+-- none because a task waited too long, none by a callback that ended the policy, and no processor
+-- that its tick leaves idle while a task waits; of tasks that are overtaken nothing is said
 abbrev pub IsFree : Sort → SimState → Event → Type 0
 IsFree (sort.Fault f) s e = fault_in s.state.world.ejected ≡ Some f → ⊥
 IsFree sort.Stall s e = stall_in s.state.world.ejected ≡ None
 IsFree sort.Idle s e = s.state.world.ejected ≡ None → IsIdleBehind s e None
 IsFree sort.Overtaken s e = ⊥
+IsFree sort.Exit s e = exit_in s.state.world.ejected ≡ None
 
 -- the same of some sorts
 abbrev pub AreFree : List Sort → SimState → Event → Type 0

@@ -1,8 +1,8 @@
 ghost use Rattle.std.specs.Prelude.{◌≡◌, true, None, Some};
-ghost use Rattle.scx_explore_findings.specs.Findings.{IsIdleBehind, fault_in, stall_in};
+ghost use Rattle.scx_explore_findings.specs.Findings.{IsIdleBehind, exit_in, fault_in, stall_in};
 ghost use Rattle.scx_explore_audit.specs.Claims.{AreFree, IsFree};
 
-use scx_explore_findings::{Sort, fault_of, idle_in, stall_of};
+use scx_explore_findings::{Sort, exit_of, fault_of, idle_in, stall_of};
 use scx_sched::{Event, Fault, Sim};
 
 /// True if the event, which has led to the state of that machine, shows nothing of these sorts.
@@ -25,6 +25,7 @@ fn is_free(sort: Sort, sim: &Sim, event: Event) -> bool
         Sort::Stall => is_no_stall(sim),
         Sort::Idle => sim.ejected().is_some() || is_not_idle(sim, event),
         Sort::Overtaken => false,
+        Sort::Exit => is_no_exit(sim),
     }
 }
 
@@ -43,6 +44,13 @@ fn is_no_stall(sim: &Sim) -> bool
     ensures { result ≡ true → stall_in sim.now.state.world.ejected ≡ None }
 {
     stall_of(sim).is_none()
+}
+
+/// True if no callback ended the policy.
+fn is_no_exit(sim: &Sim) -> bool
+    ensures { result ≡ true → exit_in sim.now.state.world.ejected ≡ None }
+{
+    exit_of(sim).is_none()
 }
 
 /// True if the event is no tick that has left its CPU idle while a task waits.

@@ -2,7 +2,7 @@
 use Rattle.std.proofs.Common.{◌≡◌, ℕ, List, [], ◌∷◌, Some, refl, sym, ap, ◌∙◌}
 use Rattle.std.proofs.lemmas.Option.{same_Some}
 use Rattle.scx_isa_semantics.specs.declared.host_tables.Field.{Field}
-use Rattle.scx_isa_semantics.specs.declared.host_tables.Field.TheVariants.{Pid, Weight, Slice, DsqVtime, PrevCpu, Group, RunNs}
+use Rattle.scx_isa_semantics.specs.declared.host_tables.Field.TheVariants.{Pid, Weight, Slice, DsqVtime, PrevCpu, Group, RunNs, Cpus}
 use Rattle.scx_isa_semantics.specs.declared.host_tables.Helper.{Helper}
 use Rattle.scx_isa_semantics.specs.declared.host_tables.Helper.TheVariants.{MapLookupElem}
 use Rattle.scx_isa_semantics.specs.HostTables.{field_offset, helpers, helper_number}
@@ -23,7 +23,7 @@ same_helper g h e = told_apart helper_number helpers helper_of g h e
 
 -- all fields
 abbrev fields : List Field
-fields = Pid ∷ Weight ∷ Slice ∷ DsqVtime ∷ PrevCpu ∷ Group ∷ RunNs ∷ []
+fields = Pid ∷ Weight ∷ Slice ∷ DsqVtime ∷ PrevCpu ∷ Group ∷ RunNs ∷ Cpus ∷ []
 
 -- each field is found by its offset
 field_of : (f : Field) → first_with_code field_offset fields (field_offset f) ≡ Some f

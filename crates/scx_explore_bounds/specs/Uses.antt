@@ -1,4 +1,8 @@
--- Uses: the helpers that programs call, and the fields of tasks that they load.
+-- Uses: the helpers that programs call, and the fields of tasks that they load. Helpers that answer
+-- the current task of a CPU, the front of a queue, the processor of a task or one that is idle, and
+-- masks of processors, tell nothing but what every state keeps: who runs where, who waits in which
+-- queue and at which place, on which processor a task ran last, and which processors are claimed. A
+-- load from a task that such a helper answers counts as any load.
 use Rattle.std.specs.Prelude.{◌≡◌, ℕ, zero, suc, ◌==◌, Bool, true, false, ◌&&◌, ◌||◌, length, Option, Some, None}
 use Rattle.scx_isa_semantics.specs.declared.callbacks.Callback.{Callback}
 use Rattle.scx_isa_semantics.specs.declared.callbacks.Callback.TheVariants as callback
@@ -94,10 +98,11 @@ abbrev pub either : Bool → Bool → Bool
 either a b = a || b
 
 -- there is a load where a task may not have been inserted since it slept: in each callback but
--- running and stopping
+-- running, stopping and tick, which are given a task that runs
 abbrev pub is_early : Callback → Bool → Bool
 is_early callback.Running b = false
 is_early callback.Stopping b = false
+is_early callback.Tick b = false
 is_early c b = b
 
 -- there is a load of a weight that is the task's own, as Linux rules tell it; plain rules tell that

@@ -9,6 +9,9 @@ use scx_vm::Context;
 use std::alloc::{AllocError, Global};
 
 /// The helper calls and loads of a policy's programs that decide what they can tell of a state.
+///
+/// The current task of a CPU, the front of a queue, the CPU of a task and idle CPUs are in every state, so asking
+/// for them decides nothing. If a program loads a field of a task that it was answered, that counts as any load.
 #[derive(Clone, Copy)]
 pub struct Uses {
     /// One asks for the clock.
@@ -29,7 +32,7 @@ pub struct Uses {
     pub run_ns: bool,
     /// One loads what is left of a slice.
     pub slice: bool,
-    /// One but `running` and `stopping` loads what is left of a slice.
+    /// One but `running`, `stopping` and `tick` loads what is left of a slice.
     pub early_slice: bool,
     /// One may insert with a slice of 0, which keeps the one that there is.
     pub empty_slice: bool,
@@ -125,7 +128,7 @@ fn is_early(callback: Callback, load: bool) -> bool
     ensures { result ≡ is_early callback load }
 {
     match callback {
-        Callback::Running | Callback::Stopping => false,
+        Callback::Running | Callback::Stopping | Callback::Tick => false,
         _ => load,
     }
 }

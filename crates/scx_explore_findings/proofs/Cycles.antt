@@ -5,8 +5,9 @@ use Rattle.scx_isa_semantics.specs.declared.callbacks.Callback.{Callback}
 use Rattle.scx_isa_semantics.specs.declared.callbacks.Callback.TheVariants as callback
 use Rattle.scx_sched_world.specs.declared.notes.What.TheVariants.{Stop, Run}
 use Rattle.scx_sched_world.specs.Ids.{builtin_queue, local_on}
-use Rattle.scx_sched_world.specs.World.{WorldState, with_kick, without_kick, task_at, running, or_this, this_if, note_now}
+use Rattle.scx_sched_world.specs.World.{WorldState, with_cycling, with_kick, without_kick, task_at, running, or_this, this_if, note_now}
 use Rattle.scx_sched_world.specs.CpuSets.{is_in_set}
+use Rattle.scx_sched_world.specs.Pending.{is_pending, pending_below}
 use Rattle.scx_sched_world.specs.Tasks.{local_len, after_stop, started_at, after_run, after_switch, after_keep, to_front}
 use Rattle.scx_sched_world.specs.Ejecting.{after_catch_up, after_charge}
 use Rattle.scx_sched_machine.specs.Policy.{PolicyState, program_of}
@@ -16,12 +17,12 @@ use Rattle.scx_sched_machine.specs.Put.{enters, put}
 use Rattle.scx_sched_machine.specs.Filling.{fill}
 use Rattle.scx_sched_machine.specs.Parking.{park_fronts, supply}
 use Rattle.scx_sched_machine.specs.Cycle.{has_local, keeps_slice, supply_unless_kept, told_of, after_dispatch, asks_again, tries, stopping_called, after_stopping, after_running, put_back, leave, switched, started_if, start, idle_note, rest, swap, swap_or_rest, builtin_dispatch, builtin_fill, builtin_ask, builtin_cycle, start_or_cycle, refilled, is_local, start_picked, start_picked_or_cycle, picked, pick, pick_or_rest, keep_or_pick, conclude, give_up, ask, seek, look, cycling, cycle}
-use Rattle.scx_sched_machine.specs.Rounds.{most_rounds, is_pending, pending_below, next_to_look, cut_off_if, look_past, look_from, round, round_then, rounds, with_rounds}
+use Rattle.scx_sched_machine.specs.Rounds.{most_rounds, next_to_look, cut_off_if, look_past, look_from, round, round_then, rounds, with_rounds}
 use Rattle.scx_explore_findings.specs.Hidden.{Hidden, hide}
 use Rattle.scx_explore_findings.specs.HiddenStates.{hide_state, hide_step}
 use Rattle.scx_explore_findings.specs.Unread.{IsUnread}
-use Rattle.scx_explore_findings.proofs.Worlds.{plain, read, hides_stop, hides_started, hides_run, hides_switch, hides_cut_off, hides_keep, hides_charge, hides_catch_up}
-use Rattle.scx_explore_findings.proofs.Steps.{Passes, On, in_world, Turns, after_turn, turns_if, chain, noted, choose, single, rests, passes_call_back, passes_enters, passes_put, passes_fill, passes_park_fronts, passes_supply}
+use Rattle.scx_explore_findings.proofs.Worlds.{plain, read, hides_stop, hides_started, hides_run, hides_switch, hides_cycling, hides_cut_off, hides_keep, hides_charge, hides_catch_up}
+use Rattle.scx_explore_findings.proofs.Steps.{Passes, On, in_world, Turns, after_turn, turns_world, turned, turns_if, chain, noted, choose, single, rests, passes_call_back, passes_enters, passes_put, passes_fill, passes_park_fronts, passes_supply}
 
 module _ (h : Hidden) (p : PolicyState) (unread : (b : Callback) → IsUnread h (program_of p b)) where
   -- a part of a step that is the same as another is read alike
@@ -77,7 +78,7 @@ module _ (h : Hidden) (p : PolicyState) (unread : (b : Callback) → IsUnread h 
       (single h p s (after_catch_up s.world t) (after_catch_up (hide h s.world) t) [] [] (hides_catch_up h t s.world) refl is) (passes_call_back h p unread callback.Running (one_task t) t c s is)
 
   -- a task leaves its processor, and the policy hears of it
-  pub passes_off : (c t n : ℕ) → On h p (λ s. after_stopping (with_world s (after_stop s.world c t)) c t n)
+  passes_off : (c t n : ℕ) → On h p (λ s. after_stopping (with_world s (after_stop s.world c t)) c t n)
   passes_off c t n s is = in_world h p (λ r. after_stopping r c t n) (passes_stopping c t n) s (after_stop s.world c t) (after_stop (hide h s.world) c t) (hides_stop h c t s.world) is
 
   -- a task that was stopped comes to wait
@@ -215,23 +216,27 @@ module _ (h : Hidden) (p : PolicyState) (unread : (b : Callback) → IsUnread h 
   passes_look c o ran s is =
       choose h p (is_ejected s) (is_ejected s) (builtin_cycle s c o ran) (builtin_cycle (hide_state h s) c o ran) (seek s c o ran) (seek (hide_state h s) c o ran) refl (passes_builtin_cycle c o ran s is) (passes_seek c o ran s is)
 
+  turns_cycling : (o : Option ℕ) → Turns h p (λ s. cycling s o)
+  turns_cycling o = turns_world h p (λ w. with_cycling w o) (hides_cycling h o)
+
   -- what a cycle comes to doesn't depend on what is hidden
   pub passes_cycle : (c : ℕ) (o : Option ℕ) (ran : Bool) → On h p (λ s. cycle s c o ran)
   unfolding cycle
   passes_cycle c o ran s is =
-      let x = passes_look c o ran (cycling s (Some c)) is in
-      (ap (λ (r : Stepped). record r { state = cycling r.state None }) x.0, x.1)
+      let r = look (cycling s (Some c)) c o ran in
+      let q = look (cycling (hide_state h s) (Some c)) c o ran in
+      turned h p (λ x. cycling x None) (turns_cycling None) r q (after_turn h p (λ x. cycling x (Some c)) (λ x. look x c o ran) (turns_cycling (Some c)) (passes_look c o ran) s is)
 
   -- ---- rounds
 
-  pending_same : (n : ℕ) (s : State) → pending_below n s ≡ pending_below n (hide_state h s)
+  pending_same : (n : ℕ) (w : WorldState) → pending_below n w ≡ pending_below n (hide h w)
   unfolding pending_below
-  pending_same zero s = refl
-  pending_same (suc n) s = ap (λ (o : Option ℕ). or_this o (this_if (is_pending s n) n)) (pending_same n s)
+  pending_same zero w = refl
+  pending_same (suc n) w = ap (λ (o : Option ℕ). or_this o (this_if (is_pending w n) n)) (pending_same n w)
 
   next_same : (s : State) → next_to_look s ≡ next_to_look (hide_state h s)
   unfolding next_to_look
-  next_same s = ap (λ (o : Option ℕ). if is_by_linux s then o else None) (pending_same (length s.world.cpus) s)
+  next_same s = ap (λ (o : Option ℕ). if is_by_linux s then o else None) (pending_same (length s.world.cpus) s.world)
 
   turns_cut_off : (cut : Bool) (t : ℕ) → Turns h p (λ s. cut_off_if cut s t)
   turns_cut_off false t s = (ap (λ (u : WorldState). with_world s u) (plain h s.world), refl)

@@ -1,8 +1,7 @@
 -- What a list of events ends in.
-use Rattle.std.proofs.Common.{◌≡◌, ℕ, zero, suc, ◌+◌, ◌-◌, ◌<◌, arith, slice_index_or, List, [], ◌∷◌, ◌++◌, true, length, take, Option, Some, None, ap, sym, ◌∙◌, subst, refl}
+use Rattle.std.proofs.Common.{◌≡◌, ℕ, ℤ, zero, suc, ◌+◌, ◌-◌, ◌<◌, arith, slice_index_or, List, [], ◌∷◌, ◌++◌, true, length, take, Option, Some, None, ap, sym, ◌∙◌, subst, refl}
 use Rattle.std.specs.Prelude.{is_none}
 use Rattle.scx_isa_semantics.specs.declared.callbacks.Callback.{Callback}
-use Rattle.scx_dsq.specs.Queues.{queue_of}
 use Rattle.scx_sched_world.specs.World.{running, waits, wait}
 use Rattle.scx_sched_world.specs.declared.eject.Eject.TheVariants as cause
 use Rattle.scx_sched_world.specs.declared.faults.Fault as faults
@@ -20,7 +19,7 @@ use Rattle.scx_explore_findings.specs.declared.finding.Pair.{Pair}
 use Rattle.scx_explore_findings.specs.declared.count.Count.{Count}
 use Rattle.scx_explore_findings.specs.Counting.{Counts}
 use Rattle.scx_explore_findings.specs.Running.{IsRunAmong}
-use Rattle.scx_explore_findings.specs.Findings.{IsFaultAtEnd, IsStallAtEnd, EndsInFault, EndsInStall, EndsIdle, EndsWaiting, EndsTaking, EndsOvertaken, AreTogether, IsTwice, IsLast, is_left, begun_over}
+use Rattle.scx_explore_findings.specs.Findings.{IsFaultAtEnd, IsStallAtEnd, IsExitAtEnd, EndsInFault, EndsInStall, EndsInExit, EndsIdle, EndsWaiting, EndsTaking, EndsOvertaken, AreTogether, IsTwice, IsLast, waits_left, begun_over}
 
 -- a list is its first so many elements as it has
 take_all : {A : Type 0} (xs : List A) → take (length xs) xs ≡ xs
@@ -36,6 +35,7 @@ fault_at_end s events f (outcome.Ejected at (cause.Fault g clock)) h x = record 
   last = x.1;
 }
 fault_at_end s events f (outcome.Ejected at (cause.Stall t clock)) h x = absurd x
+fault_at_end s events f (outcome.Ejected at (cause.Exit n clock)) h x = absurd x
 fault_at_end s events f outcome.InForce h x = absurd x
 fault_at_end s events f (outcome.Refused at r) h x = absurd x
 
@@ -48,8 +48,22 @@ stall_at_end s events t (outcome.Ejected at (cause.Stall u clock)) h x = record 
   last = x.1;
 }
 stall_at_end s events t (outcome.Ejected at (cause.Fault f clock)) h x = absurd x
+stall_at_end s events t (outcome.Ejected at (cause.Exit n clock)) h x = absurd x
 stall_at_end s events t outcome.InForce h x = absurd x
 stall_at_end s events t (outcome.Refused at r) h x = absurd x
+
+-- an ejection by the last event, in which a callback ended the policy with that code
+pub exit_at_end : (s : SimState) (events : List Event) (n : ℤ) (o : Outcome) → Happens s events o → IsExitAtEnd o (length events) n → EndsInExit s events n
+exit_at_end s events n (outcome.Ejected at (cause.Exit m clock)) h x = record {
+  at = at;
+  clock = clock;
+  ejected = subst (λ (k : ℤ). IsEjectedAt s events at (cause.Exit k clock)) x.0 h;
+  last = x.1;
+}
+exit_at_end s events n (outcome.Ejected at (cause.Fault f clock)) h x = absurd x
+exit_at_end s events n (outcome.Ejected at (cause.Stall t clock)) h x = absurd x
+exit_at_end s events n outcome.InForce h x = absurd x
+exit_at_end s events n (outcome.Refused at r) h x = absurd x
 
 in_force : (s : SimState) (events : List Event) (o : Outcome) → Happens s events o → o ≡ outcome.InForce → IsInForceFor s events (length events)
 in_force s events o h e = subst (λ (x : Outcome). Happens s events x) e h
@@ -72,6 +86,7 @@ done_at_end s t events at here last =
 pub fault_there : (s t : SimState) (events : List Event) (f : faults.Fault) (o : Outcome) → t ≡ after_first s events (done_of o events) → IsFaultAtEnd o (length events) f → t ≡ stepped_all s events
 fault_there s t events f (outcome.Ejected at (cause.Fault g clock)) here x = done_at_end s t events at here x.1
 fault_there s t events f (outcome.Ejected at (cause.Stall u clock)) here x = absurd x
+fault_there s t events f (outcome.Ejected at (cause.Exit n clock)) here x = absurd x
 fault_there s t events f outcome.InForce here x = absurd x
 fault_there s t events f (outcome.Refused at r) here x = absurd x
 
@@ -79,8 +94,17 @@ fault_there s t events f (outcome.Refused at r) here x = absurd x
 pub stall_there : (s t : SimState) (events : List Event) (u : ℕ) (o : Outcome) → t ≡ after_first s events (done_of o events) → IsStallAtEnd o (length events) u → t ≡ stepped_all s events
 stall_there s t events u (outcome.Ejected at (cause.Stall v clock)) here x = done_at_end s t events at here x.1
 stall_there s t events u (outcome.Ejected at (cause.Fault f clock)) here x = absurd x
+stall_there s t events u (outcome.Ejected at (cause.Exit n clock)) here x = absurd x
 stall_there s t events u outcome.InForce here x = absurd x
 stall_there s t events u (outcome.Refused at r) here x = absurd x
+
+-- or by a callback
+pub exit_there : (s t : SimState) (events : List Event) (n : ℤ) (o : Outcome) → t ≡ after_first s events (done_of o events) → IsExitAtEnd o (length events) n → t ≡ stepped_all s events
+exit_there s t events n (outcome.Ejected at (cause.Exit m clock)) here x = done_at_end s t events at here x.1
+exit_there s t events n (outcome.Ejected at (cause.Fault f clock)) here x = absurd x
+exit_there s t events n (outcome.Ejected at (cause.Stall u clock)) here x = absurd x
+exit_there s t events n outcome.InForce here x = absurd x
+exit_there s t events n (outcome.Refused at r) here x = absurd x
 
 -- and behind one more event
 pub taken_there : (s t u : SimState) (before : List Event) (e : Event) (o : Outcome) → o ≡ outcome.InForce → t ≡ after_first s before (done_of o before) → u ≡ after_event t e → u ≡ stepped_all s (before ++ e ∷ [])
@@ -88,14 +112,14 @@ taken_there s t u before e o force here next =
     next ∙ (ap (λ (x : SimState). after_event x e) (all_done s t before o force here) ∙ sym (stepped_push s before e))
 
 -- a tick that leaves its processor idle
-pub idle_at_end : (s t : SimState) (events : List Event) (c task : ℕ) (o : Outcome) → Happens s events o → o ≡ outcome.InForce → t ≡ after_first s events (done_of o events) → IsLast events (Tick c) → is_none (running t.state.world c) ≡ true → is_left (queue_of t.state.world.queues task) ≡ true → EndsIdle s events c task
+pub idle_at_end : (s t : SimState) (events : List Event) (c task : ℕ) (o : Outcome) → Happens s events o → o ≡ outcome.InForce → t ≡ after_first s events (done_of o events) → IsLast events (Tick c) → is_none (running t.state.world c) ≡ true → waits_left t.state.world task ≡ true → EndsIdle s events c task
 idle_at_end s t events c task o h e at last idle left =
     let here : t ≡ stepped_all s events = all_done s t events o e at in
     record {
       force = in_force s events o h e;
       last = last;
       idle = subst (λ (x : SimState). running x.state.world c ≡ None) here (none_is (running t.state.world c) idle);
-      left = subst (λ (x : SimState). is_left (queue_of x.state.world.queues task) ≡ true) here left;
+      left = subst (λ (x : SimState). waits_left x.state.world task ≡ true) here left;
     }
 
 -- a task that waits, and has waited so long

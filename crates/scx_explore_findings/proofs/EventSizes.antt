@@ -13,8 +13,8 @@ use Rattle.scx_vm.specs.Arguments.{program_arguments}
 use Rattle.scx_vm.specs.declared.arguments.Args.{Args}
 use Rattle.scx_vm.specs.Host.{answer_to, after_query}
 use Rattle.scx_sched_world.specs.declared.call.Insert.{Insert}
+use Rattle.scx_sched_world.specs.declared.eject.Cause.{Cause}
 use Rattle.scx_sched_world.specs.declared.eject.Eject.{Eject}
-use Rattle.scx_sched_world.specs.declared.faults.Fault.{Fault}
 use Rattle.scx_sched_world.specs.World.{WorldState, task_at, with_task, at_callback}
 use Rattle.scx_sched_world.specs.Tasks.{with_since, for_cpu, to_front}
 use Rattle.scx_sched_world.specs.Ejecting.{put_out, after_evictions}
@@ -23,7 +23,7 @@ use Rattle.scx_sched_machine.specs.declared.events.Event.{Event}
 use Rattle.scx_sched_machine.specs.Policy.{PolicyState}
 use Rattle.scx_sched_machine.specs.Steps.{State, Stepped, is_ejected}
 use Rattle.scx_sched_machine.specs.Ejecting.{moves_over, eject, ejected_for}
-use Rattle.scx_sched_machine.specs.Callbacks.{call_ending, after_callback, fault_of, acting, call_back, task_and_number}
+use Rattle.scx_sched_machine.specs.Callbacks.{call_ending, after_callback, cause_of, acting, call_back, task_and_number}
 use Rattle.scx_sched_machine.specs.Put.{enters, enqueue_choice, enters_builtin, comes_in, put}
 use Rattle.scx_sched_machine.specs.Events.{insert_or_put}
 use Rattle.scx_sched_machine.proofs.Choices.{keeps_if}
@@ -50,9 +50,9 @@ module _ (v : WorldState) where
       let u = after_evictions (length w.tasks) w in
       sized_cut v (length u.cpus) u (sized_evicted v (length w.tasks) w h)
 
-  sized_ejected_for : (o : Option Fault) (s : State) → HasSize v s.world → HasSize v (ejected_for o s).state.world
+  sized_ejected_for : (o : Option Cause) (s : State) → HasSize v s.world → HasSize v (ejected_for o s).state.world
   sized_ejected_for None s h = h
-  sized_ejected_for (Some f) s h = sized_eject s _ h
+  sized_ejected_for (Some x) s h = sized_eject s _ h
 
   -- ---- what steps are made of
 
@@ -64,7 +64,7 @@ module _ (v : WorldState) where
   unfolding call_back
   sized_call_back s b a t c barred h =
       let e = call_ending (acting s b) b a s.maps (at_callback s.world b t c) in
-      sized_ejected_for (fault_of b e) (after_callback s.policy e) (sized_called (acting s b) b barred a s.maps (at_callback s.world b t c) h)
+      sized_ejected_for (cause_of b e) (after_callback s.policy e) (sized_called (acting s b) b barred a s.maps (at_callback s.world b t c) h)
 
   sized_enters : (s : State) (t : ℕ) (i : Insert) → HasSize v s.world → Ends (enters s t i)
   unfolding enters
@@ -93,7 +93,7 @@ module _ (v : WorldState) where
     called_back = λ s b a t c barred h. (call_back_policy s b a t c ∙ h.0, sized_call_back s b a t c barred h.1);
     ejected = λ s x h. (eject_policy s x ∙ h.0, sized_eject s x h.1);
     puts = λ s t c flags h. (put_policy s t c flags ∙ h.0, sized_puts s t c flags h.1);
-    settled = λ s t c h. (settled_policy s.world.call.insert s t c ∙ h.0, sized_settled s.world.call.insert s t c h.1);
+    settled = λ u s t c force wanted h. (settled_policy u.call.insert s t c ∙ h.0, sized_settled u.call.insert s t c h.1);
     left = sized_left v;
     brings = sized_brought v;
     parked = sized_put_parked v;
@@ -103,7 +103,7 @@ module _ (v : WorldState) where
     stopped = sized_stopped v;
     charged = λ w t h. sized_task v w t _ h;
     caught_up = λ w t h. h;
-    cycled = λ w o h. h;
+    cycles = λ w o claimed x h. h;
     woken = λ w t h. sized_task v w t _ h;
     asleep = sized_asleep v;
     ticked = λ w t h. sized_task v w t _ h;
@@ -118,7 +118,6 @@ module _ (v : WorldState) where
     homed = sized_homed v;
     chosen = sized_chosen v;
     at_hand = λ w t h. h;
-    told = λ w t h. h;
     kicks = λ w c h. h;
     unkicked = λ w c h. h;
   }

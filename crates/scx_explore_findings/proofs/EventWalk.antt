@@ -1,6 +1,7 @@
 -- One walk over the events of the machine: what has to be shown of a property of worlds at each small step, so that each
 -- event keeps it, under a policy that stays.
-use Rattle.std.proofs.Common.{◌≡◌, ℕ, zero, suc, Bool, true, false, ◌==◌, ◌&&◌, not, List, [], ◌∷◌, Option, Some, None, refl, ◌∙◌, if◌then◌else◌}
+use Rattle.std.proofs.Common.{◌≡◌, ℕ, zero, suc, Bool, true, false, ◌==◌, ◌&&◌, not, List, [], ◌∷◌, Option, Some, None, is_some, is_none, refl, ◌∙◌, if◌then◌else◌}
+use Rattle.std.proofs.lemmas.Bool.{and_parts}
 use Rattle.scx_dsq.specs.Queues.{len_of, front_of, behind_of}
 use Rattle.scx_isa_semantics.specs.declared.callbacks.Callback.{Callback}
 use Rattle.scx_isa_semantics.specs.declared.callbacks.Callback.TheVariants as callback
@@ -8,28 +9,30 @@ use Rattle.scx_isa_semantics.specs.declared.host_tables.Helper.TheVariants.{Crea
 use Rattle.scx_isa_semantics.specs.HostTables.{is_allowed}
 use Rattle.scx_vm.specs.declared.arguments.Args.{Args}
 use Rattle.scx_sched_world.specs.declared.call.Insert.{Insert}
+use Rattle.scx_sched_world.specs.declared.eject.Cause.{Cause}
 use Rattle.scx_sched_world.specs.declared.eject.Eject.{Eject}
-use Rattle.scx_sched_world.specs.declared.faults.Fault.{Fault}
 use Rattle.scx_sched_world.specs.Ids.{global, builtin_queue, parked_queue, local_on}
 use Rattle.scx_sched_world.specs.CpuSets.{is_in_set}
-use Rattle.scx_sched_world.specs.World.{WorldState, with_cycling, with_slept, with_kick, without_kick, task_at, is_throttled, running, cpu_of, is_idle, at_callback}
+use Rattle.scx_sched_world.specs.World as world
+use Rattle.scx_sched_world.specs.World.{WorldState, are_linux, with_switch, with_slept, with_waker, with_kick, without_kick, task_at, is_throttled, running, cpu_of, is_idle, at_callback}
 use Rattle.scx_sched_world.specs.Tasks.{after_wake, after_sleep, after_leave, homed, after_enter, to_front, brought, fill_front, after_stop, started_at, after_run, after_keep, after_switch, after_cut_off, put_parked, after_take, let_go, after_tick, used_ms, later, begun_periods, after_reweigh}
 use Rattle.scx_sched_world.specs.Ejecting.{after_charge, after_catch_up}
 use Rattle.scx_sched_machine.specs.declared.events.Event.{Event}
 use Rattle.scx_sched_machine.specs.declared.events.Event.TheVariants.{Wake, Sleep, Tick, Clock, SetWeight}
 use Rattle.scx_sched_machine.specs.declared.events.Refused.{Refused}
-use Rattle.scx_sched_machine.specs.Policy.{PolicyState}
+use Rattle.scx_sched_machine.specs.Policy.{PolicyState, program_of}
 use Rattle.scx_sched_machine.specs.Steps.{State, Stepped, with_world, stays, is_ejected, is_by_linux, kicked, kicked_if_idle, one_after_other}
 use Rattle.scx_sched_machine.specs.Ejecting.{moves_over, eject, ejected_for}
-use Rattle.scx_sched_machine.specs.Callbacks.{call_ending, after_callback, fault_of, acting, call_back, answered_by, one_task, task_cpu_and_0, task_and_number, cpu_and_task}
+use Rattle.scx_sched_machine.specs.Callbacks.{call_ending, after_callback, cause_of, acting, call_back, call_by_linux, answered_by, one_task, task_cpu_and_0, task_and_number, cpu_and_task}
 use Rattle.scx_sched_machine.specs.Put.{enters, enqueue_choice, enters_builtin, comes_in, put}
 use Rattle.scx_sched_machine.specs.Filling.{fill}
 use Rattle.scx_sched_machine.specs.Parking.{park, park_front, throttled_front, park_then, park_fronts, clear, in_reach, supply, let_go_one, let_go_from, let_all_go}
 use Rattle.scx_sched_machine.specs.Cycle.{has_local, keeps_slice, supply_unless_kept, told_of, after_dispatch, asks_again, tries, stopping_called, after_stopping, after_running, put_back, leave, switched, started_if, start as begin, rest, swap, swap_or_rest, builtin_dispatch, builtin_fill, builtin_ask, builtin_cycle, start_or_cycle, picked, refilled, is_local, start_picked, start_picked_or_cycle, pick, pick_or_rest, keep_or_pick, conclude, give_up, ask, seek, look, cycling, cycle}
 use Rattle.scx_sched_machine.specs.Rounds.{most_rounds, next_to_look, cut_off_if, look_past, look_from, round, round_then, rounds, with_rounds}
 use Rattle.scx_vm.specs.Programs.{VerifiedProgram}
-use Rattle.scx_sched_machine.specs.Events.{target, insert_or_put, wake_target, settle, chosen_by_default, chosen, ask_target, asks_target, select, wake, told_of_sleep, sleep_from_cpu, sleep_from, sleep, throttle, ends_slices, expire, count_down, tick_idle, tick_of, tick, overdue, eject_if_stalled, clock, own_step, event_step}
+use Rattle.scx_sched_machine.specs.Events.{target, insert_or_put, woken, wake_target, comes_to, told_runnable, settle, chosen_by_default, chosen, ask_target, asks_target, select, from_waker, wake, told_of_sleep, falls_asleep, looks_after_sleep, leaves_cpu, sleep_from_cpu, sleep_from, sleep, throttle, ends_slices, expire, use_up, hears_tick, tick_heard, count_down, tick_idle, tick_of, tick, overdue, eject_if_stalled, clock, own_step, event_step}
 use Rattle.scx_sched_machine.proofs.Choices.{keeps_if}
+use Rattle.scx_sched.proofs.Marks.{KeepsCycles, kept_switch, kept_cycling}
 use Rattle.scx_sched.specs.Sim.{SimState, stepped_if, refusal, after_event}
 use Rattle.scx_load_driver.specs.Runs.{stepped_all}
 
@@ -40,16 +43,16 @@ pub eject_policy : (s : State) (x : Eject) → (eject s x).state.policy ≡ s.po
 unfolding eject moves_over
 eject_policy s x = refl
 
-ejected_policy : (o : Option Fault) (s : State) → (ejected_for o s).state.policy ≡ s.policy
+ejected_policy : (o : Option Cause) (s : State) → (ejected_for o s).state.policy ≡ s.policy
 ejected_policy None s = refl
-ejected_policy (Some f) s = eject_policy s _
+ejected_policy (Some x) s = eject_policy s _
 
 -- as a callback is called
 pub call_back_policy : (s : State) (b : Callback) (a : Args) (t c : ℕ) → (call_back s b a t c).state.policy ≡ s.policy
 unfolding call_back
 call_back_policy s b a t c =
     let e = call_ending (acting s b) b a s.maps (at_callback s.world b t c) in
-    ejected_policy (fault_of b e) (after_callback s.policy e)
+    ejected_policy (cause_of b e) (after_callback s.policy e)
 
 comes_in_policy : (s : State) (t c : ℕ) → (comes_in s t c).state.policy ≡ s.policy
 unfolding comes_in enters enters_builtin
@@ -68,19 +71,28 @@ unfolding enters
 settled_policy None s t c = put_policy s t c 1
 settled_policy (Some i) s t c = refl
 
+-- where the machine goes by Linux rules its policy is in force
+linux_in_force : (w : WorldState) → world.is_by_linux w ≡ true → w.ejected ≡ None
+linux_in_force w e = go w.ejected (and_parts (are_linux w.rules) (is_none w.ejected) e).1
+  where
+    go : (o : Option Eject) → is_none o ≡ true → o ≡ None
+    go None e = refl
+    go (Some x) e = absurd (cc)
+
 -- ---- the walk
 
 -- the state is under that policy, and its world has the property
 abbrev pub IsKeptIn : PolicyState → (WorldState → Type 0) → State → Type 0
 IsKeptIn p I s = (s.policy ≡ p) × I s.world
 
--- each small step keeps that: a callback that may create no queue, an ejection, a task that is put or inserted; and of
--- worlds what the machine does to its queues, tasks, groups and processors, by both rules
+-- each small step keeps that: a callback that may create no queue, an ejection, a task that is put, or inserted as was
+-- wanted in an earlier world, while the policy was in force; and of worlds what the machine does to its queues, tasks,
+-- groups and processors, by both rules
 pub record IsKeptBySmallSteps (p : PolicyState) (I : WorldState → Type 0) : Type 0 where
   pub called_back : (s : State) (b : Callback) (a : Args) (t c : ℕ) → is_allowed CreateDsq b ≡ false → IsKeptIn p I s → IsKeptIn p I (call_back s b a t c).state
   pub ejected : (s : State) (x : Eject) → IsKeptIn p I s → IsKeptIn p I (eject s x).state
   pub puts : (s : State) (t c flags : ℕ) → IsKeptIn p I s → IsKeptIn p I (put s t c flags).state
-  pub settled : (s : State) (t c : ℕ) → IsKeptIn p I s → IsKeptIn p I (insert_or_put s.world.call.insert s t c).state
+  pub settled : (v : WorldState) (s : State) (t c : ℕ) → (s.world.ejected ≡ None → v.ejected ≡ None) → I v → IsKeptIn p I s → IsKeptIn p I (insert_or_put v.call.insert s t c).state
   pub left : (w : WorldState) (t : ℕ) → I w → I (after_leave w t)
   pub brings : (o : Option ℕ) (w : WorldState) (q c : ℕ) → I w → I (brought o w q c)
   pub parked : (w : WorldState) (t : ℕ) → I w → I (put_parked w t)
@@ -90,7 +102,7 @@ pub record IsKeptBySmallSteps (p : PolicyState) (I : WorldState → Type 0) : Ty
   pub stopped : (w : WorldState) (c t : ℕ) → I w → I (after_stop w c t)
   pub charged : (w : WorldState) (t : ℕ) → I w → I (after_charge w t)
   pub caught_up : (w : WorldState) (t : ℕ) → I w → I (after_catch_up w t)
-  pub cycled : (w : WorldState) (o : Option ℕ) → I w → I (with_cycling w o)
+  pub cycles : KeepsCycles I
   pub woken : (w : WorldState) (t : ℕ) → I w → I (after_wake w t)
   pub asleep : (w : WorldState) (t : ℕ) → I w → I (after_sleep w t)
   pub ticked : (w : WorldState) (t : ℕ) → I w → I (after_tick w t)
@@ -105,7 +117,6 @@ pub record IsKeptBySmallSteps (p : PolicyState) (I : WorldState → Type 0) : Ty
   pub homed : (w : WorldState) (t c : ℕ) → I w → I (homed w t c)
   pub chosen : (w : WorldState) (t : ℕ) → I w → I (chosen_by_default w t)
   pub at_hand : (w : WorldState) (t : ℕ) → I w → I (at_callback w callback.SelectCpu t 0)
-  pub told : (w : WorldState) (t : ℕ) → I w → I (with_slept w t)
   pub kicks : (w : WorldState) (c : ℕ) → I w → I (with_kick w c)
   pub unkicked : (w : WorldState) (c : ℕ) → I w → I (without_kick w c)
 
@@ -291,26 +302,73 @@ module _ (old : PolicyState) (I : WorldState → Type 0) (k : IsKeptBySmallSteps
   walk_cycle : (s : State) (c : ℕ) (p : Option ℕ) (ran : Bool) → Kept s → Leaves (cycle s c p ran)
   unfolding cycle
   walk_cycle s c p ran h =
-      let x = walk_look (cycling s (Some c)) c p ran (h.0, k.cycled s.world (Some c) h.1) in
-      (x.0, k.cycled (look (cycling s (Some c)) c p ran).state.world None x.1)
+      let x = walk_look (cycling s (Some c)) c p ran (h.0, kept_cycling I k.cycles s.world (Some c) h.1) in
+      (x.0, kept_cycling I k.cycles (look (cycling s (Some c)) c p ran).state.world None x.1)
 
   -- ---- events
 
   walk_kicked_if_idle : (s : State) (c : ℕ) → Kept s → Kept (kicked_if_idle s c)
   walk_kicked_if_idle s c h = keeps_if Kept (is_by_linux s && is_idle s.world c) (kicked s c) s (h.0, k.kicks s.world c h.1) h
 
+  -- a callback that Linux rules call more
+  walk_called : (s : State) (b : Callback) (a : Args) (t c : ℕ) → is_allowed CreateDsq b ≡ false → Kept s → Leaves (call_by_linux s b a t c)
+  unfolding call_by_linux
+  walk_called s b a t c barred h = keeps_if Leaves (is_by_linux s && is_some (program_of s.policy b)) (call_back s b a t c) (stays s) (k.called_back s b a t c barred h) h
+
+  -- from which processor a task is woken
+  walk_waker : (s : State) (o : Option ℕ) → Kept s → Kept (with_world s (with_waker s.world o))
+  walk_waker s o h = (h.0, k.cycles s.world s.world.cycling s.world.claimed (record s.world.passing { waker = o }) h.1)
+
   walk_target : (s : State) (c : ℕ) → Kept s → Leaves (wake_target s c)
   unfolding wake_target
   walk_target s c h =
-      keeps_if Leaves (is_by_linux s) (stays (kicked_if_idle s c)) (if is_idle s.world c then cycle s c None false else stays s) (walk_kicked_if_idle s c h)
+      keeps_if Leaves (is_by_linux s) (stays (kicked_if_idle (woken s) c)) (if is_idle s.world c then cycle s c None false else stays s) (walk_kicked_if_idle (woken s) c (walk_waker s None h))
       (keeps_if Leaves (is_idle s.world c) (cycle s c None false) (stays s) (walk_cycle s c None false h) h)
+
+  -- as was wanted in that world
+  walk_comes_to : (v : WorldState) (s : State) (t c : ℕ) → (s.world.ejected ≡ None → v.ejected ≡ None) → I v → Kept s → Leaves (comes_to v.call.insert s t c)
+  unfolding comes_to
+  walk_comes_to v s t c force wanted h = walk_target (insert_or_put v.call.insert s t c).state c (k.settled v s t c force wanted h)
+
+  -- as nothing was
+  walk_just_put : (s : State) (t c : ℕ) → Kept s → Leaves (comes_to None s t c)
+  unfolding comes_to
+  walk_just_put s t c h = walk_target (put s t c 1).state c (k.puts s t c 1 h)
+
+  -- once the policy has heard that it woke
+  walk_told_runnable : (s : State) (t c : ℕ) → s.world.ejected ≡ None → Kept s → Leaves (told_runnable s.world.call.insert s t c)
+  unfolding told_runnable
+  walk_told_runnable s t c force h = go (is_ejected r.state)
+    where
+      i : Option Insert
+      i = s.world.call.insert
+
+      r : Stepped
+      r = call_by_linux s callback.Runnable (task_and_number t 1) t c
+
+      there : Kept r.state
+      there = walk_called s callback.Runnable (task_and_number t 1) t c refl h
+
+      go : (b : Bool) → Leaves (comes_to (if b then None else i) r.state t c)
+      go true = walk_just_put r.state t c there
+      go false = walk_comes_to s.world r.state t c (λ x. force) h.1 there
 
   walk_settle : (s : State) (t c : ℕ) → Kept s → Leaves (settle s t c)
   unfolding settle
-  walk_settle s t c h =
-      let v = with_world s (homed s.world t c) in
-      let r = insert_or_put v.world.call.insert v t c in
-      walk_target r.state c (k.settled v t c (h.0, k.homed s.world t c h.1))
+  walk_settle s t c h = go (is_by_linux v) refl
+    where
+      v : State
+      v = with_world s (homed s.world t c)
+
+      i : Option Insert
+      i = v.world.call.insert
+
+      there : Kept v
+      there = (h.0, k.homed s.world t c h.1)
+
+      go : (b : Bool) → is_by_linux v ≡ b → Leaves (if b then told_runnable i v t c else comes_to i v t c)
+      go true e = walk_told_runnable v t c (linux_in_force v.world e) there
+      go false e = walk_comes_to v.world v t c (λ x. x) there.1 there
 
   walk_chosen : (p : Option VerifiedProgram) (s : State) (t : ℕ) → Kept s → Kept (chosen p s t)
   walk_chosen None s t h = (h.0, k.chosen s.world t h.1)
@@ -330,25 +388,43 @@ module _ (old : PolicyState) (I : WorldState → Type 0) (k : IsKeptBySmallSteps
       let u = with_world s (at_callback s.world callback.SelectCpu t 0) in
       keeps_if Leaves (asks_target s) (ask_target s t) (settle u t 0) (walk_ask_target s t h) (walk_settle u t 0 (h.0, k.at_hand s.world t h.1))
 
+  walk_from_waker : (s : State) (t : ℕ) → Kept s → Kept (from_waker s t)
+  unfolding from_waker
+  walk_from_waker s t h = keeps_if Kept (is_by_linux s) (with_world s (with_waker s.world (Some (task_at s.world t).prev_cpu))) s (walk_waker s (Some (task_at s.world t).prev_cpu) h) h
+
   walk_wake : (s : State) (t : ℕ) → Kept s → Leaves (wake s t)
   unfolding wake
-  walk_wake s t h = walk_select (with_world s (after_wake s.world t)) t (h.0, k.woken s.world t h.1)
+  walk_wake s t h =
+      let u = with_world s (after_wake s.world t) in
+      walk_select (from_waker u t) t (walk_from_waker u t (h.0, k.woken s.world t h.1))
 
   walk_told : (s : State) (t : ℕ) → Kept s → Kept (told_of_sleep s t)
   unfolding told_of_sleep
-  walk_told s t h = keeps_if Kept (is_by_linux s) (with_world s (with_slept s.world t)) s (h.0, k.told s.world t h.1) h
+  walk_told s t h = keeps_if Kept (is_by_linux s) (with_world s (with_slept s.world t)) s (h.0, k.cycles s.world s.world.cycling s.world.claimed (record s.world.passing { slept = Some t }) h.1) h
+
+  walk_falls_asleep : (s : State) (t c : ℕ) → Kept s → Leaves (falls_asleep s t c)
+  unfolding falls_asleep
+  walk_falls_asleep s t c h = walk_called (with_world s (after_sleep s.world t)) callback.Quiescent (task_and_number t 1) t c refl (h.0, k.asleep s.world t h.1)
+
+  walk_looks_after_sleep : (s : State) (t c : ℕ) → Kept s → Leaves (looks_after_sleep s t c)
+  unfolding looks_after_sleep
+  walk_looks_after_sleep s t c h = walk_cycle (told_of_sleep s t) c None true (walk_told s t h)
+
+  walk_leaves_cpu : (s : State) (c t n : ℕ) → Kept s → Leaves (leaves_cpu s c t n)
+  unfolding leaves_cpu
+  walk_leaves_cpu s c t n h =
+      let w = with_switch s.world c in
+      walk_stopping (with_world s (after_stop w c t)) c t n (h.0, k.stopped w c t (kept_switch I k.cycles s.world c h.1))
 
   walk_sleep_from_cpu : (s : State) (t c : ℕ) → Kept s → Leaves (sleep_from_cpu s t c)
   unfolding sleep_from_cpu
   walk_sleep_from_cpu s t c h =
-      let off = with_world s (after_stop s.world c t) in
-      let r = after_stopping off c t 0 in
-      let x = walk_stopping off c t 0 (h.0, k.stopped s.world c t h.1) in
-      let u = with_world r.state (after_sleep r.state.world t) in
-      walk_cycle (told_of_sleep u t) c None true (walk_told u t (x.0, k.asleep r.state.world t x.1))
+      let r = leaves_cpu s c t 0 in
+      let q = falls_asleep r.state t c in
+      walk_looks_after_sleep q.state t c (walk_falls_asleep r.state t c (walk_leaves_cpu s c t 0 h))
 
   walk_sleep_from : (o : Option ℕ) (s : State) (t : ℕ) → Kept s → Leaves (sleep_from o s t)
-  walk_sleep_from None s t h = (h.0, k.asleep (after_leave s.world t) t (k.left s.world t h.1))
+  walk_sleep_from None s t h = walk_falls_asleep (with_world s (after_leave s.world t)) t (task_at s.world t).prev_cpu (h.0, k.left s.world t h.1)
   walk_sleep_from (Some c) s t h = walk_sleep_from_cpu s t c h
 
   walk_sleep : (s : State) (t : ℕ) → Kept s → Leaves (sleep s t)
@@ -358,21 +434,30 @@ module _ (old : PolicyState) (I : WorldState → Type 0) (k : IsKeptBySmallSteps
   walk_throttle : (s : State) (c t : ℕ) → Kept s → Leaves (throttle s c t)
   unfolding throttle
   walk_throttle s c t h =
-      let off = with_world s (after_stop s.world c t) in
-      let r = after_stopping off c t 1 in
-      walk_cycle (park r.state t).state c None true (walk_park r.state t (walk_stopping off c t 1 (h.0, k.stopped s.world c t h.1)))
+      let r = leaves_cpu s c t 1 in
+      walk_cycle (park r.state t).state c None true (walk_park r.state t (walk_leaves_cpu s c t 1 h))
 
   walk_expire : (s : State) (c t : ℕ) → Kept s → Leaves (expire s c t)
   unfolding expire
   walk_expire s c t h = keeps_if Leaves (((task_at s.world t).slice == 0) && ends_slices s) (cycle s c (Some t) true) (stays s) (walk_cycle s c (Some t) true h) h
 
+  walk_use_up : (s : State) (c t : ℕ) → Kept s → Leaves (use_up s c t)
+  unfolding use_up
+  walk_use_up s c t h =
+      let w = used_ms s.world t in
+      let u = with_world s w in
+      let x : Kept u = (h.0, k.used s.world t h.1) in
+      keeps_if Leaves (is_throttled w t) (throttle u c t) (expire u c t) (walk_throttle u c t x) (walk_expire u c t x)
+
+  walk_tick_heard : (s : State) (c t : ℕ) → Kept s → Leaves (tick_heard s c t)
+  unfolding tick_heard
+  walk_tick_heard s c t h = keeps_if Leaves (hears_tick s) (call_back s callback.Tick (one_task t) t c) (stays s) (k.called_back s callback.Tick (one_task t) t c refl h) h
+
   walk_count_down : (s : State) (c t : ℕ) → Kept s → Leaves (count_down s c t)
   unfolding count_down
   walk_count_down s c t h =
-      let w = used_ms (after_tick s.world t) t in
-      let u = with_world s w in
-      let x : Kept u = (h.0, k.used (after_tick s.world t) t (k.ticked s.world t h.1)) in
-      keeps_if Leaves (is_throttled w t) (throttle u c t) (expire u c t) (walk_throttle u c t x) (walk_expire u c t x)
+      let u = with_world s (after_tick s.world t) in
+      walk_use_up (tick_heard u c t).state c t (walk_tick_heard u c t (h.0, k.ticked s.world t h.1))
 
   walk_tick_idle : (s : State) (c : ℕ) → Kept s → Leaves (tick_idle s c)
   unfolding tick_idle

@@ -8,7 +8,7 @@ use Rattle.scx_sched_world.specs.declared.call.Insert.{Insert}
 use Rattle.scx_sched_world.specs.declared.eject.Eject.TheVariants as cause
 use Rattle.scx_sched_world.specs.declared.notes.What.TheVariants as note
 use Rattle.scx_sched_world.specs.Ids.{parked_queue}
-use Rattle.scx_sched_world.specs.World.{WorldState, with_kick, with_slept, task_at, is_runnable, is_throttled, running, cpu_of, is_idle, choice, after_claim, at_callback, note_now}
+use Rattle.scx_sched_world.specs.World.{WorldState, with_switch, with_kick, with_slept, with_waker, task_at, is_runnable, is_throttled, running, cpu_of, is_idle, choice, after_claim, at_callback, note_now}
 use Rattle.scx_sched_world.specs.Tasks.{for_cpu, to_local, homed, after_wake, after_sleep, after_leave, after_stop, let_go, after_tick, used_ms, later, begun_periods, after_reweigh}
 use Rattle.scx_sched_world.specs.Helpers.{with_insert}
 use Rattle.scx_sched_machine.specs.declared.events.Event.{Event}
@@ -16,17 +16,17 @@ use Rattle.scx_sched_machine.specs.declared.events.Event.TheVariants.{Wake, Slee
 use Rattle.scx_sched_machine.specs.declared.events.Refused.TheVariants.{AlreadyRunnable, NotRunnable, UnknownTask}
 use Rattle.scx_sched_machine.specs.Policy.{PolicyState, program_of}
 use Rattle.scx_sched_machine.specs.Steps.{State, Stepped, with_world, is_ejected, is_by_linux, kicked_if_idle, stays, one_after_other}
-use Rattle.scx_sched_machine.specs.Callbacks.{acting, call_back, answered_by, task_cpu_and_0}
+use Rattle.scx_sched_machine.specs.Callbacks.{acting, call_back, call_by_linux, answered_by, one_task, task_cpu_and_0, task_and_number}
 use Rattle.scx_sched_machine.specs.Put.{put}
 use Rattle.scx_sched_machine.specs.Parking.{park, let_go_one, let_go_from, let_all_go}
 use Rattle.scx_sched_machine.specs.Cycle.{after_stopping, cycle}
-use Rattle.scx_sched_machine.specs.Events.{refusal, answered_cpu, target, insert_or_put, wake_target, settle, inserted_by_choice, chosen_by_default, chosen, ask_target, asks_target, select, wake, told_of_sleep, sleep_from_cpu, sleep_from, sleep, throttle, ends_slices, expire, count_down, tick_idle, tick_of, tick, overdue, eject_if_stalled, clock, own_step, event_step}
+use Rattle.scx_sched_machine.specs.Events.{refusal, answered_cpu, target, insert_or_put, woken, wake_target, comes_to, while_in_force, told_runnable, settle, inserted_by_choice, chosen_by_default, chosen, ask_target, asks_target, select, from_waker, wake, told_of_sleep, falls_asleep, looks_after_sleep, leaves_cpu, sleep_from_cpu, sleep_from, sleep, throttle, ends_slices, expire, use_up, hears_tick, tick_heard, count_down, tick_idle, tick_of, tick, overdue, eject_if_stalled, clock, own_step, event_step}
 use Rattle.scx_explore_findings.specs.Hidden.{Hidden, hide}
 use Rattle.scx_explore_findings.specs.HiddenStates.{hide_state, hide_step, once_later, late_in}
 use Rattle.scx_explore_findings.specs.Unread.{IsUnread}
-use Rattle.scx_explore_findings.proofs.Worlds.{Hides, plain, both, by_linux, read, known, throttled_same, chosen_same, choice_same, hides_homed, hides_claim, overdue_same, hides_wake, hides_sleep, hides_let_go, hides_tick, hides_used, hides_reweigh}
-use Rattle.scx_explore_findings.proofs.Steps.{Passes, On, from, in_world, Turns, after_turn, turns_if, chain, noted, choose, single, rests, passes_eject, answered_same, passes_call_back, passes_enters, passes_put, passes_park}
-use Rattle.scx_explore_findings.proofs.Cycles.{passes_off, passes_cycle, passes_with_rounds}
+use Rattle.scx_explore_findings.proofs.Worlds.{Hides, plain, both, by_linux, read, known, throttled_same, chosen_same, choice_same, hides_homed, hides_stop, hides_begin_switch, hides_waker, hides_claim, overdue_same, hides_wake, hides_sleep, hides_let_go, hides_tick, hides_used, hides_reweigh}
+use Rattle.scx_explore_findings.proofs.Steps.{Passes, On, from, in_world, Turns, after_turn, turns_world, turned, turns_if, chain, noted, choose, single, rests, passes_eject, answered_same, passes_call_back, passes_call_by_linux, passes_enters, passes_put, passes_park}
+use Rattle.scx_explore_findings.proofs.Cycles.{passes_stopping, passes_cycle, passes_with_rounds}
 
 -- an event of one of two such states is refused for the same cause in the other one
 pub refusal_same : (h : Hidden) (s : State) (e : Event) → refusal s e ≡ refusal (hide_state h s) e
@@ -47,24 +47,46 @@ module _ (h : Hidden) (p : PolicyState) (unread : (b : Callback) → IsUnread h 
   turns_kicked : (c : ℕ) → Turns h p (λ s. kicked_if_idle s c)
   turns_kicked c = turns_if h p (λ s. is_by_linux s && is_idle s.world c) (λ s. refl) (λ w. with_kick w c) (λ w. plain h (with_kick w c))
 
+  turns_woken : Turns h p woken
+  turns_woken = turns_world h p (λ w. with_waker w None) (λ w. plain h (with_waker w None))
+
+  -- by Linux rules as the event ends
+  passes_kicked : (c : ℕ) → On h p (λ s. stays (kicked_if_idle s c))
+  passes_kicked c = after_turn h p (λ r. kicked_if_idle r c) stays (turns_kicked c) (rests h p)
+
   passes_wake_target : (c : ℕ) → On h p (λ s. wake_target s c)
   unfolding wake_target
   passes_wake_target c s is =
       let one : State → Stepped = λ r. cond (is_idle r.world c) (cycle r c None false) (stays r) in
-      choose h p (is_by_linux s) (is_by_linux s) (stays (kicked_if_idle s c)) (stays (kicked_if_idle (hide_state h s) c)) (one s) (one (hide_state h s)) refl
-      (after_turn h p (λ r. kicked_if_idle r c) stays (turns_kicked c) (rests h p) s is)
+      choose h p (is_by_linux s) (is_by_linux s) (stays (kicked_if_idle (woken s) c)) (stays (kicked_if_idle (woken (hide_state h s)) c)) (one s) (one (hide_state h s)) refl
+      (after_turn h p woken (λ r. stays (kicked_if_idle r c)) turns_woken (passes_kicked c) s is)
       (choose h p (is_idle s.world c) (is_idle s.world c) (cycle s c None false) (cycle (hide_state h s) c None false) (stays s) (stays (hide_state h s)) refl (passes_cycle h p unread c None false s is) (rests h p s is))
 
+  -- as it was inserted, or put
+  passes_comes_to : (o : Option Insert) (t c : ℕ) → On h p (λ s. comes_to o s t c)
+  unfolding comes_to
+  passes_comes_to o t c s is = chain h p (insert_or_put o s t c) (insert_or_put o (hide_state h s) t c) (λ y. wake_target y c) (passes_settled o t c s is) (passes_wake_target c)
+
+  -- once the policy has heard that it woke
+  passes_told_runnable : (o : Option Insert) (t c : ℕ) → On h p (λ s. told_runnable o s t c)
+  unfolding told_runnable
+  passes_told_runnable o t c s is =
+      let a = task_and_number t 1 in
+      chain h p (call_by_linux s callback.Runnable a t c) (call_by_linux (hide_state h s) callback.Runnable a t c) (λ y. comes_to (while_in_force y o) y t c)
+      (passes_call_by_linux h p unread callback.Runnable a t c s is) (λ y there. passes_comes_to (while_in_force y o) t c y there)
+
   -- once the task's processor is known
-  passes_homed : (t c : ℕ) → On h p (λ s. one_after_other (insert_or_put s.world.call.insert s t c) (wake_target (insert_or_put s.world.call.insert s t c).state c))
+  abbrev homed_comes : ℕ → ℕ → State → Stepped
+  homed_comes t c s = let o = s.world.call.insert in cond (is_by_linux s) (told_runnable o s t c) (comes_to o s t c)
+
+  passes_homed : (t c : ℕ) → On h p (homed_comes t c)
   passes_homed t c s is =
       let o = s.world.call.insert in
-      chain h p (insert_or_put o s t c) (insert_or_put o (hide_state h s) t c) (λ y. wake_target y c) (passes_settled o t c s is) (passes_wake_target c)
+      choose h p (is_by_linux s) (is_by_linux s) (told_runnable o s t c) (told_runnable o (hide_state h s) t c) (comes_to o s t c) (comes_to o (hide_state h s) t c) refl (passes_told_runnable o t c s is) (passes_comes_to o t c s is)
 
   passes_settle : (t c : ℕ) → On h p (λ s. settle s t c)
   unfolding settle
-  passes_settle t c s is =
-      in_world h p (λ v. one_after_other (insert_or_put v.world.call.insert v t c) (wake_target (insert_or_put v.world.call.insert v t c).state c)) (passes_homed t c) s (homed s.world t c) (homed (hide h s.world) t c) (hides_homed h t c s.world) is
+  passes_settle t c s is = in_world h p (homed_comes t c) (passes_homed t c) s (homed s.world t c) (homed (hide h s.world) t c) (hides_homed h t c s.world) is
 
   answered_cpu_same : (w : WorldState) (t : ℕ) (a : Option ℕ) → answered_cpu w t a ≡ answered_cpu (hide h w) t a
   answered_cpu_same w t None = choice_same h w t
@@ -127,11 +149,16 @@ module _ (h : Hidden) (p : PolicyState) (unread : (b : Callback) → IsUnread h 
       choose h p (asks_target s) (asks_target s) (ask_target s t) (ask_target (hide_state h s) t) (settle (with_world s (only s)) t 0) (settle (with_world (hide_state h s) (only (hide_state h s))) t 0) refl (passes_ask_target t s is)
       (in_world h p (λ r. settle r t 0) (passes_settle t 0) s (only s) (only (hide_state h s)) (plain h (only s)) is)
 
+  -- from the processor on which it was last
+  turns_from_waker : (t : ℕ) → Turns h p (λ s. from_waker s t)
+  unfolding from_waker
+  turns_from_waker t = turns_if h p (λ s. is_by_linux s) (λ s. refl) (λ w. with_waker w (Some (task_at w t).prev_cpu)) (hides_waker h t)
+
   passes_wake : (t : ℕ) → On h p (λ s. wake s t)
   unfolding wake
   passes_wake t s is =
-      noted h p (note_now s.world (note.Wake t) ∷ []) (select (with_world s (after_wake s.world t)) t) (select (with_world (hide_state h s) (after_wake (hide h s.world) t)) t)
-      (in_world h p (λ r. select r t) (passes_select t) s (after_wake s.world t) (after_wake (hide h s.world) t) (hides_wake h t s.world) is)
+      noted h p (note_now s.world (note.Wake t) ∷ []) (select (from_waker (with_world s (after_wake s.world t)) t) t) (select (from_waker (with_world (hide_state h s) (after_wake (hide h s.world) t)) t) t)
+      (in_world h p (λ r. select (from_waker r t) t) (after_turn h p (λ r. from_waker r t) (λ r. select r t) (turns_from_waker t) (passes_select t)) s (after_wake s.world t) (after_wake (hide h s.world) t) (hides_wake h t s.world) is)
 
   -- ---- a task goes to sleep
 
@@ -140,21 +167,41 @@ module _ (h : Hidden) (p : PolicyState) (unread : (b : Callback) → IsUnread h 
   turns_told t = turns_if h p (λ s. is_by_linux s) (λ s. refl) (λ w. with_slept w t) (λ w. plain h (with_slept w t))
 
   -- the processor looks for another once the task sleeps
-  passes_asleep : (t c : ℕ) → On h p (λ s. cycle (told_of_sleep (with_world s (after_sleep s.world t)) t) c None true)
-  passes_asleep t c s is =
-      in_world h p (λ r. cycle (told_of_sleep r t) c None true) (after_turn h p (λ r. told_of_sleep r t) (λ r. cycle r c None true) (turns_told t) (passes_cycle h p unread c None true)) s (after_sleep s.world t) (after_sleep (hide h s.world) t) (hides_sleep h t s.world) is
+  passes_looks_after_sleep : (t c : ℕ) → On h p (λ s. looks_after_sleep s t c)
+  unfolding looks_after_sleep
+  passes_looks_after_sleep t c = after_turn h p (λ r. told_of_sleep r t) (λ r. cycle r c None true) (turns_told t) (passes_cycle h p unread c None true)
+
+  -- the task sleeps, and the policy hears of it
+  passes_falls_asleep : (t c : ℕ) → On h p (λ s. falls_asleep s t c)
+  unfolding falls_asleep
+  passes_falls_asleep t c s is =
+      let a = task_and_number t 1 in
+      in_world h p (λ r. call_by_linux r callback.Quiescent a t c) (passes_call_by_linux h p unread callback.Quiescent a t c) s (after_sleep s.world t) (after_sleep (hide h s.world) t) (hides_sleep h t s.world) is
+
+  -- the task leaves its processor, on which it was the current one
+  passes_leaves_cpu : (c t n : ℕ) → On h p (λ s. leaves_cpu s c t n)
+  unfolding leaves_cpu
+  passes_leaves_cpu c t n s is =
+      let off : WorldState → WorldState = λ w. after_stop (with_switch w c) c t in
+      noted h p (note_now s.world (note.Stop t c) ∷ []) (after_stopping (with_world s (off s.world)) c t n) (after_stopping (with_world (hide_state h s) (off (hide h s.world))) c t n)
+      (in_world h p (λ r. after_stopping r c t n) (passes_stopping h p unread c t n) s (off s.world) (off (hide h s.world)) (both h (λ w. with_switch w c) (λ w. after_stop w c t) (hides_begin_switch h c) (hides_stop h c t) s.world) is)
 
   passes_sleep_from_cpu : (t c : ℕ) → On h p (λ s. sleep_from_cpu s t c)
   unfolding sleep_from_cpu
   passes_sleep_from_cpu t c s is =
-      let r = after_stopping (with_world s (after_stop s.world c t)) c t 0 in
-      let q = after_stopping (with_world (hide_state h s) (after_stop (hide h s.world) c t)) c t 0 in
-      let f : State → Stepped = λ x. cycle (told_of_sleep (with_world x (after_sleep x.world t)) t) c None true in
-      noted h p (note_now s.world (note.Stop t c) ∷ []) (one_after_other r (f r.state)) (one_after_other q (f q.state))
-      (chain h p r q f (passes_off h p unread c t 0 s is) (passes_asleep t c))
+      let f : State → Stepped = λ x. let q = falls_asleep x t c in one_after_other q (looks_after_sleep q.state t c) in
+      chain h p (leaves_cpu s c t 0) (leaves_cpu (hide_state h s) c t 0) f (passes_leaves_cpu c t 0 s is)
+      (λ x there. chain h p (falls_asleep x t c) (falls_asleep (hide_state h x) t c) (λ y. looks_after_sleep y t c) (passes_falls_asleep t c x there) (passes_looks_after_sleep t c))
+
+  -- from its queue
+  abbrev off_queue : ℕ → State → ℕ → Stepped
+  off_queue t s c = falls_asleep (with_world s (after_leave s.world t)) t c
 
   passes_sleep_from : (o : Option ℕ) (t : ℕ) → On h p (λ s. sleep_from o s t)
-  passes_sleep_from None t s is = single h p s (after_sleep (after_leave s.world t) t) (after_sleep (after_leave (hide h s.world) t) t) [] [] (hides_sleep h t (after_leave s.world t)) refl is
+  passes_sleep_from None t s is =
+      let c = (task_at s.world t).prev_cpu in
+      subst (λ (d : ℕ). Passes h p (off_queue t s c) (off_queue t (hide_state h s) d)) (read h (λ x. x.prev_cpu) (λ x. refl) s.world t)
+      (in_world h p (λ r. falls_asleep r t c) (passes_falls_asleep t c) s (after_leave s.world t) (after_leave (hide h s.world) t) (plain h (after_leave s.world t)) is)
   passes_sleep_from (Some c) t s is = passes_sleep_from_cpu t c s is
 
   passes_sleep : (t : ℕ) → On h p (λ s. sleep s t)
@@ -166,11 +213,9 @@ module _ (h : Hidden) (p : PolicyState) (unread : (b : Callback) → IsUnread h 
   passes_throttle : (c t : ℕ) → On h p (λ s. throttle s c t)
   unfolding throttle
   passes_throttle c t s is =
-      let r = after_stopping (with_world s (after_stop s.world c t)) c t 1 in
-      let q = after_stopping (with_world (hide_state h s) (after_stop (hide h s.world) c t)) c t 1 in
       let f : State → Stepped = λ x. one_after_other (park x t) (cycle (park x t).state c None true) in
-      noted h p (note_now s.world (note.Stop t c) ∷ []) (one_after_other r (f r.state)) (one_after_other q (f q.state))
-      (chain h p r q f (passes_off h p unread c t 1 s is) (λ x there. chain h p (park x t) (park (hide_state h x) t) (λ y. cycle y c None true) (passes_park h p t x there) (passes_cycle h p unread c None true)))
+      chain h p (leaves_cpu s c t 1) (leaves_cpu (hide_state h s) c t 1) f (passes_leaves_cpu c t 1 s is)
+      (λ x there. chain h p (park x t) (park (hide_state h x) t) (λ y. cycle y c None true) (passes_park h p t x there) (passes_cycle h p unread c None true))
 
   passes_expire : (c t : ℕ) → On h p (λ s. expire s c t)
   unfolding expire ends_slices
@@ -187,11 +232,27 @@ module _ (h : Hidden) (p : PolicyState) (unread : (b : Callback) → IsUnread h 
       choose h p (is_throttled s.world t) (is_throttled (hide h s.world) t) (throttle s c t) (throttle (hide_state h s) c t) (expire s c t) (expire (hide_state h s) c t)
       (throttled_same h s.world t) (passes_throttle c t s is) (passes_expire c t s is)
 
+  -- its groups have used that
+  passes_use_up : (c t : ℕ) → On h p (λ s. use_up s c t)
+  unfolding use_up
+  passes_use_up c t s is = in_world h p (counted c t) (passes_counted c t) s (used_ms s.world t) (used_ms (hide h s.world) t) (hides_used h t s.world) is
+
+  passes_tick_heard : (c t : ℕ) → On h p (λ s. tick_heard s c t)
+  unfolding tick_heard hears_tick
+  passes_tick_heard c t s is =
+      choose h p (hears_tick s) (hears_tick s) (call_back s callback.Tick (one_task t) t c) (call_back (hide_state h s) callback.Tick (one_task t) t c) (stays s) (stays (hide_state h s)) refl
+      (passes_call_back h p unread callback.Tick (one_task t) t c s is) (rests h p s is)
+
+  -- the policy hears of the tick first
+  abbrev heard : ℕ → ℕ → State → Stepped
+  heard c t s = let r = tick_heard s c t in one_after_other r (use_up r.state c t)
+
+  passes_heard : (c t : ℕ) → On h p (heard c t)
+  passes_heard c t s is = chain h p (tick_heard s c t) (tick_heard (hide_state h s) c t) (λ y. use_up y c t) (passes_tick_heard c t s is) (passes_use_up c t)
+
   passes_count_down : (c t : ℕ) → On h p (λ s. count_down s c t)
   unfolding count_down
-  passes_count_down c t s is =
-      in_world h p (counted c t) (passes_counted c t) s (used_ms (after_tick s.world t) t) (used_ms (after_tick (hide h s.world) t) t)
-      (both h (λ w. after_tick w t) (λ w. used_ms w t) (hides_tick h t) (hides_used h t) s.world) is
+  passes_count_down c t s is = in_world h p (heard c t) (passes_heard c t) s (after_tick s.world t) (after_tick (hide h s.world) t) (hides_tick h t s.world) is
 
   passes_tick_idle : (c : ℕ) → On h p (λ s. tick_idle s c)
   unfolding tick_idle
@@ -214,16 +275,7 @@ module _ (h : Hidden) (p : PolicyState) (unread : (b : Callback) → IsUnread h 
 
   passes_put_and_kick : (t c : ℕ) → On h p (λ s. put_and_kick t s c)
   passes_put_and_kick t c s is =
-      let x = passes_put h p unread t c 0 s is in
-      let r = put s t c 0 in
-      let q = put (hide_state h s) t c 0 in
-      let k : State → State = λ y. kicked_if_idle y c in
-      let turn = turns_kicked c in (
-        ap (λ (u : State). record r { state = u; calls = (hide_step h r).calls }) (turn r.state).0
-            ∙ ap (λ (u : Stepped). record u { state = hide_state h (k u.state) }) x.0
-            ∙ sym (ap (λ (u : State). record q { state = u; calls = (hide_step h q).calls }) (turn q.state).0),
-        (turn r.state).1 ∙ x.1,
-      )
+      turned h p (λ y. kicked_if_idle y c) (turns_kicked c) (put s t c 0) (put (hide_state h s) t c 0) (passes_put h p unread t c 0 s is)
 
   abbrev put_anew : ℕ → State → ℕ → Stepped
   put_anew t s c = put_and_kick t (with_world s (let_go s.world t)) c

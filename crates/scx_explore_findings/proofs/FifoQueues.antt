@@ -26,6 +26,7 @@ use Rattle.scx_vm.specs.declared.arguments.Arg.{Arg}
 use Rattle.scx_vm.specs.declared.arguments.Args.{Args}
 use Rattle.scx_vm.specs.Host.{answer_to, after_query}
 use Rattle.scx_sched_world.specs.declared.call.Insert.{Insert}
+use Rattle.scx_sched_world.specs.declared.eject.Cause.{Cause}
 use Rattle.scx_sched_world.specs.declared.eject.Eject.{Eject}
 use Rattle.scx_sched_world.specs.declared.faults.Fault.{Fault}
 use Rattle.scx_sched_world.specs.Ids.{parked_queue, local_on}
@@ -35,7 +36,7 @@ use Rattle.scx_sched_world.specs.Helpers.{is_dispatch, with_insert, after_releas
 use Rattle.scx_sched_machine.specs.Policy.{PolicyState, program_of}
 use Rattle.scx_sched_machine.specs.Steps.{State, Stepped}
 use Rattle.scx_sched_machine.specs.Ejecting.{eject, ejected_for}
-use Rattle.scx_sched_machine.specs.Callbacks.{call_ending, after_callback, fault_of, unless_ejected, acting, call_back, task_and_number}
+use Rattle.scx_sched_machine.specs.Callbacks.{call_ending, after_callback, cause_of, unless_ejected, acting, call_back, task_and_number}
 use Rattle.scx_sched_machine.specs.Put.{enters, enqueue_choice, enters_builtin, comes_in, put}
 use Rattle.scx_sched_machine.specs.Events.{insert_or_put, inserted_by_choice, chosen_by_default}
 use Rattle.scx_sched_machine.proofs.Choices.{keeps_if}
@@ -198,6 +199,7 @@ helped : (w : WorldState) (f : Helper) (a : List Arg) → is_by_vtime (Some f) �
 helped w f a fine h = by_helper (λ (g : Helper). is_by_vtime (Some g) ≡ false) IsInOrder w (record {
   same = h;
   faulty = λ x. h;
+  ended = λ n. h;
   created = λ may q none. (created w.queues q (h none).0, (h none).1);
   inserted = λ t i fifo. inserted w None t i fifo h;
   by_vtime = λ may t i. absurd (apart may);
@@ -251,9 +253,9 @@ module _ (p : PolicyState) (may : InsertInOrder p) where
   pub order_eject : (s : State) (x : Eject) → Kept s → Leaves (eject s x)
   order_eject s x h = (eject_policy s x ∙ h.0, λ none. absurd (no_cause x (sym ((eject_sets s x).1) ∙ none)))
 
-  order_ejected_for : (o : Option Fault) (s : State) → Kept s → Leaves (ejected_for o s)
+  order_ejected_for : (o : Option Cause) (s : State) → Kept s → Leaves (ejected_for o s)
   order_ejected_for None s h = h
-  order_ejected_for (Some f) s h = order_eject s _ h
+  order_ejected_for (Some x) s h = order_eject s _ h
 
   -- nor does the program of a callback insert anybody so
   pub order_acting : (s : State) (b : Callback) → s.policy ≡ p → InsertsInOrder (acting s b)
@@ -269,7 +271,7 @@ module _ (p : PolicyState) (may : InsertInOrder p) where
   order_call_back s b a t c h =
       let w = at_callback s.world b t c in
       let e = call_ending (acting s b) b a s.maps w in
-      order_ejected_for (fault_of b e) (after_callback s.policy e) (h.0, called_order (acting s b) (order_acting s b h.0) b a s.maps w (λ none. ((h.1 none).0, tt)))
+      order_ejected_for (cause_of b e) (after_callback s.policy e) (h.0, called_order (acting s b) (order_acting s b h.0) b a s.maps w (λ none. ((h.1 none).0, tt)))
 
   -- a task comes to wait where an insert wants it, in order of arrival
   pub order_enters : (s : State) (t : ℕ) (i : Insert) → (s.world.ejected ≡ None → IsFifo i.rank) → Kept s → Leaves (enters s t i)
@@ -306,7 +308,7 @@ module _ (p : PolicyState) (may : InsertInOrder p) where
     called_back = λ s b a t c barred h. order_call_back s b a t c h;
     ejected = λ s x h. order_eject s x h;
     puts = λ s t c flags h. order_puts s t c flags h;
-    settled = λ s t c h. order_settled s.world.call.insert s t c (λ none. (h.1 none).1) h;
+    settled = λ v s t c force wanted h. order_settled v.call.insert s t c (λ none. (wanted (force none)).1) h;
     left = order_left;
     brings = order_brought;
     parked = order_parked;
@@ -316,7 +318,7 @@ module _ (p : PolicyState) (may : InsertInOrder p) where
     stopped = λ w c t h. h;
     charged = λ w t h. h;
     caught_up = λ w t h. h;
-    cycled = λ w o h. h;
+    cycles = λ w o claimed x h. h;
     woken = λ w t h. h;
     asleep = order_asleep;
     ticked = λ w t h. h;
@@ -331,7 +333,6 @@ module _ (p : PolicyState) (may : InsertInOrder p) where
     homed = order_homed;
     chosen = order_chosen;
     at_hand = λ w t h none. ((h none).0, tt);
-    told = λ w t h. h;
     kicks = λ w c h. h;
     unkicked = λ w c h. h;
   }

@@ -10,7 +10,7 @@ use Rattle.scx_sched_world.specs.World.{at_callback}
 use Rattle.scx_sched_machine.specs.Policy.{PolicyState}
 use Rattle.scx_sched_machine.specs.Steps.{State}
 use Rattle.scx_sched_machine.specs.Callbacks.{acting, after_callback, no_arguments, one_task}
-use Rattle.scx_sched_machine.specs.Start.{blank, init_ending, bad_answer, ok_unless, after_init, enable_ending, has_failed, enable, then_enable, after_enables, ok_if, all_enabled}
+use Rattle.scx_sched_machine.specs.Start.{blank, init_ending, bad_answer, ok_unless, after_init, enable_ending, failure, enable, then_enable, after_enables, all_enabled}
 use Rattle.scx_explore_findings.specs.FifoOnly.{InsertInOrder, AreInOrder, FirstStatesAreInOrder}
 use Rattle.scx_explore_findings.proofs.FifoQueues.{Kept, created, called_order, order_acting}
 
@@ -41,12 +41,6 @@ same_ok s t e = cc
 no_ok : (n : ℤ) (t : State) → ◌≡◌ {A = Result State ℤ} (Err n) (Ok t) → ⊥
 no_ok n t e = absurd (cc)
 
-same_some : (s t : State) → Some s ≡ Some t → s ≡ t
-same_some s t e = cc
-
-no_some : (t : State) → ◌≡◌ {A = Option State} None (Some t) → ⊥
-no_some t e = absurd (cc)
-
 module _ (p : PolicyState) (may : InsertInOrder p) where
   blank_kept : (tree : Hierarchy) (cpus : ℕ) → Kept p may (blank p tree cpus)
   blank_kept tree cpus = (refl, λ none. (locals_order cpus (own_queues cpus (length tree.homes)) (own_order cpus (length tree.homes)), tt))
@@ -55,7 +49,7 @@ module _ (p : PolicyState) (may : InsertInOrder p) where
 
   init_kept : (s t : State) → Kept p may s → after_init s ≡ Ok t → Kept p may t
   unfolding after_init
-  init_kept s t h e = go (bad_answer (init_ending s).outside.call.fault (init_ending s).answer) e
+  init_kept s t h e = go (bad_answer (init_ending s).outside.call.cause (init_ending s).answer) e
     where
       behind : Kept p may (after_callback s.policy (init_ending s))
       behind = (h.0, called_order (acting s callback.Init) (order_acting p may s callback.Init h.0) callback.Init no_arguments s.maps (at_callback s.world callback.Init 0 0) (λ none. ((h.1 none).0, tt)))
@@ -66,34 +60,30 @@ module _ (p : PolicyState) (may : InsertInOrder p) where
 
   -- ---- enable
 
-  enable_kept : (s t : State) (u : ℕ) → Kept p may s → enable s u ≡ Some t → Kept p may t
+  enable_kept : (s t : State) (u : ℕ) → Kept p may s → enable s u ≡ Ok t → Kept p may t
   unfolding enable
-  enable_kept s t u h e = go (has_failed (enable_ending s u)) e
+  enable_kept s t u h e = go (failure (enable_ending s u).outside.call.cause (enable_ending s u).answer) e
     where
       behind : Kept p may (after_callback s.policy (enable_ending s u))
       behind = (h.0, called_order (acting s callback.Enable) (order_acting p may s callback.Enable h.0) callback.Enable (one_task u) s.maps (at_callback s.world callback.Enable u 0) (λ none. ((h.1 none).0, tt)))
 
-      go : (b : Bool) → (if b then None else Some (after_callback s.policy (enable_ending s u))) ≡ Some t → Kept p may t
-      go true x = absurd (no_some t x)
-      go false x = subst (Kept p may) (same_some (after_callback s.policy (enable_ending s u)) t x) behind
+      go : (o : Option ℤ) → ok_unless o (after_callback s.policy (enable_ending s u)) ≡ Ok t → Kept p may t
+      go None x = subst (Kept p may) (same_ok (after_callback s.policy (enable_ending s u)) t x) behind
+      go (Some n) x = absurd (no_ok n t x)
 
-  then_kept : (o : Option State) (t : State) (u : ℕ) → ((v : State) → o ≡ Some v → Kept p may v) → then_enable o u ≡ Some t → Kept p may t
-  then_kept None t u h e = absurd (no_some t e)
-  then_kept (Some v) t u h e = enable_kept v t u (h v refl) e
+  then_kept : (r : Result State ℤ) (t : State) (u : ℕ) → ((v : State) → r ≡ Ok v → Kept p may v) → then_enable r u ≡ Ok t → Kept p may t
+  then_kept (Err n) t u h e = absurd (no_ok n t e)
+  then_kept (Ok v) t u h e = enable_kept v t u (h v refl) e
 
-  enables_kept : (n : ℕ) (s t : State) → Kept p may s → after_enables n s ≡ Some t → Kept p may t
-  enables_kept zero s t h e = subst (Kept p may) (same_some s t e) h
+  enables_kept : (n : ℕ) (s t : State) → Kept p may s → after_enables n s ≡ Ok t → Kept p may t
+  enables_kept zero s t h e = subst (Kept p may) (same_ok s t e) h
   enables_kept (suc n) s t h e = then_kept (after_enables n s) t n (λ v is. enables_kept n s v h is) e
 
   -- ---- all of it
 
-  found : (o : Option State) (t : State) → ((v : State) → o ≡ Some v → Kept p may v) → ok_if o ≡ Ok t → Kept p may t
-  found None t h e = absurd (no_ok _ t e)
-  found (Some v) t h e = subst (Kept p may) (same_ok v t e) (h v refl)
-
   all_kept : (r : Result State ℤ) (t : State) → ((v : State) → r ≡ Ok v → Kept p may v) → all_enabled r ≡ Ok t → Kept p may t
   all_kept (Err n) t h e = absurd (no_ok n t e)
-  all_kept (Ok v) t h e = found (after_enables (length v.world.tasks) v) t (λ u is. enables_kept (length v.world.tasks) v u (h v refl) is) e
+  all_kept (Ok v) t h e = enables_kept (length v.world.tasks) v t (h v refl) e
 
 -- in a first state nobody waits by a virtual time
 pub first_states_are_in_order : FirstStatesAreInOrder

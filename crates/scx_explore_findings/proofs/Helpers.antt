@@ -1,15 +1,16 @@
 -- One walk over the helpers, for what holds of each world that an allowed call may leave. And what a helper answers and
 -- makes of a world doesn't depend on what is hidden, nor does what is loaded of a field that isn't hidden, or stored to
 -- any.
-use Rattle.std.proofs.Common.{◌≡◌, ℕ, ◌-◌, ◌&&◌, ◌||◌, is_none, Bool, false, cond, nat_lt, nat_le, List, length, map, Option, Some, None, refl, sym, ap, ◌∙◌}
+use Rattle.std.proofs.Common.{◌≡◌, ℕ, zero, suc, ◌-◌, ◌&&◌, ◌||◌, is_none, Bool, false, cond, nat_lt, nat_le, List, length, map, Option, Some, None, refl, sym, ap, ◌∙◌}
+use Rattle.scx_dsq.specs.Laws.{one_if}
 use Rattle.scx_dsq.specs.Queues.{front_of}
 use Rattle.scx_dsq.specs.Calls.{after_create, after_pop}
 use Rattle.scx_isa_semantics.specs.declared.callbacks.Callback.{Callback}
 use Rattle.scx_isa_semantics.specs.declared.callbacks.Callback.TheVariants as callback
 use Rattle.scx_isa_semantics.specs.declared.host_tables.Field.{Field}
-use Rattle.scx_isa_semantics.specs.declared.host_tables.Field.TheVariants.{Pid, Weight, Slice, DsqVtime, PrevCpu, Group, RunNs}
+use Rattle.scx_isa_semantics.specs.declared.host_tables.Field.TheVariants.{Pid, Weight, Slice, DsqVtime, PrevCpu, Group, RunNs, Cpus}
 use Rattle.scx_isa_semantics.specs.declared.host_tables.Helper.{Helper}
-use Rattle.scx_isa_semantics.specs.declared.host_tables.Helper.TheVariants.{CreateDsq, DsqInsert, DsqInsertVtime, DsqMoveToLocal, SelectCpuDfl, CpuIdle, TaskByPid, DsqNrQueued, KickCpu}
+use Rattle.scx_isa_semantics.specs.declared.host_tables.Helper.TheVariants.{CreateDsq, DsqInsert, DsqInsertVtime, DsqMoveToLocal, SelectCpuDfl, CpuIdle, TaskByPid, DsqNrQueued, KickCpu, Exit, CpuCurr, DsqPeek, TaskRunning, TaskCpu, PickIdle, ClaimIdle}
 use Rattle.scx_isa_semantics.specs.declared.values.Value.TheVariants.{Number}
 use Rattle.scx_isa_semantics.specs.Effects.{Query, Call, Load, Store}
 use Rattle.scx_vm.specs.declared.arguments.Arg.{Arg}
@@ -23,10 +24,12 @@ use Rattle.scx_sched_world.specs.declared.kicks.Kick.{Kick}
 use Rattle.scx_sched_world.specs.declared.kicks.Kick.TheVariants.{Any, IfIdle, Preempt}
 use Rattle.scx_dsq.specs.declared.entries.Rank.TheVariants.{Fifo, Front}
 use Rattle.scx_sched_world.specs.declared.notes.What.TheVariants as notes
-use Rattle.scx_sched_world.specs.World.{WorldState, with_queues, with_kick, with_preemption, is_by_linux, running, is_this, choice, after_claim, with_note}
+use Rattle.scx_sched_world.specs.World.{WorldState, with_queues, with_kick, with_preemption, is_by_linux, running, is_this, current_in, current, this_if, or_this, is_free, choice, after_claim, with_note}
+use Rattle.scx_sched_world.specs.declared.passing.Switch.{Switch}
+use Rattle.scx_weights.specs.Counting.{any_below}
 use Rattle.scx_weights.specs.Hierarchy.{own_weight}
 use Rattle.scx_sched_world.specs.Tasks.{after_leave, for_cpu}
-use Rattle.scx_sched_world.specs.Helpers.{with_fault, invalid_if, is_there, can_create, is_dispatch, may_insert_in, queue_fault, rank_fault, or_fault, has_preempt, has_head, arrival_rank, flags_fault, insert_fault, is_late, after_late, with_insert, with_move, after_release, insert_or_fault, after_insert, insert_answer, insert_of, insert_of_vtime, can_move, front_moved_to_local, choice_answer, after_choice, kick_of, kick_fault, kicked_or_fault, after_kick, given_number, given_task, helper_answer, helper_after, field_of, stored_in, world_functions}
+use Rattle.scx_sched_world.specs.Helpers.{with_fault, invalid_if, is_there, can_create, is_dispatch, may_insert_in, queue_fault, rank_fault, or_fault, has_preempt, has_head, arrival_rank, flags_fault, insert_fault, is_late, after_late, with_insert, with_move, after_release, insert_or_fault, after_insert, insert_answer, insert_of, insert_of_vtime, can_move, front_moved_to_local, choice_answer, after_choice, kick_of, kick_fault, kicked_or_fault, after_kick, after_exit, task_or_null, is_current_one, cpu_of_task, is_free_in, free_in_below, first_free_in, pick_fault, pick_answer_by, after_pick_by, after_pick, given_number, given_task, helper_answer, helper_after, field_of, stored_in, world_functions}
 use Rattle.scx_sched_machine.proofs.Choices.{keeps_if}
 use Rattle.scx_explore_findings.specs.Hidden.{Hidden, hide}
 use Rattle.scx_explore_findings.specs.Unread.{is_hidden}
@@ -36,11 +39,12 @@ use Rattle.scx_explore_findings.proofs.Worlds.{Hides, plain, read, weight_same, 
 
 -- ---- what a call may leave
 
--- of what a helper leaves that may be called, the property holds: the world as it is, one with a fault, with a queue
--- created, with an insert kept, done at once or passed over, with a task moved, a processor claimed or kicked
+-- of what a helper leaves that may be called, the property holds: the world as it is, one with a fault or an exit, with a
+-- queue created, with an insert kept, done at once or passed over, with a task moved, a processor claimed or kicked
 pub record HoldsAfter (may : Helper → Type 0) (P : WorldState → Type 0) (w : WorldState) : Type 0 where
   pub same : P w
   pub faulty : (f : Fault) → P (with_fault w f)
+  pub ended : (n : ℕ) → P (after_exit w n)
   pub created : may CreateDsq → (q : ℕ) → P (with_queues w (after_create w.queues q))
   pub inserted : (t : Option ℕ) (i : Insert) → IsFifo i.rank → P (insert_or_fault w None t i)
   pub by_vtime : may DsqInsertVtime → (t : Option ℕ) (i : Insert) → P (insert_or_fault w None t i)
@@ -77,6 +81,10 @@ module _ (may : Helper → Type 0) (P : WorldState → Type 0) (w : WorldState) 
   kicks None c (Some IfIdle) = keeps_if P (is_none (running w c) || is_this c w.cycling) (with_kick w c) w (h.kicked c) h.same
   kicks None c (Some Preempt) = h.preempted c
 
+  picks : (o : Option Fault) (c : Option ℕ) → P (after_pick_by o w c)
+  picks None c = h.claimed c
+  picks (Some f) c = h.faulty f
+
   -- whichever helper is called that may be, and whatever it is given
   pub by_helper : (f : Helper) → may f → (a : List Arg) → P (helper_after w f a)
   by_helper CreateDsq m a = keeps_if P (can_create w (given_number a 0)) (with_queues w (after_create w.queues (given_number a 0))) (with_fault w CannotCreate) (h.created m (given_number a 0)) (h.faulty CannotCreate)
@@ -87,6 +95,11 @@ module _ (may : Helper → Type 0) (P : WorldState → Type 0) (w : WorldState) 
   by_helper DsqNrQueued m a = keeps_if P (is_there w (given_number a 0)) w (with_fault w NoSuchQueue) h.same (h.faulty NoSuchQueue)
   by_helper SelectCpuDfl m a = chooses (given_task a 0)
   by_helper KickCpu m a = let k = kick_of (given_number a 1) in kicks (kick_fault w (given_number a 0) k) (given_number a 0) k
+  by_helper Exit m a = h.ended (given_number a 0)
+  by_helper CpuCurr m a = keeps_if P (nat_lt (given_number a 0) (length w.cpus)) w (with_fault w NoSuchCpu) h.same (h.faulty NoSuchCpu)
+  by_helper DsqPeek m a = keeps_if P (is_there w (given_number a 0)) w (with_fault w NoSuchQueue) h.same (h.faulty NoSuchQueue)
+  by_helper PickIdle m a = picks (pick_fault (given_number a 1)) (first_free_in (given_number a 0) w)
+  by_helper ClaimIdle m a = let c = given_number a 0 in keeps_if P (nat_lt c (length w.cpus)) (after_claim w (this_if (is_free w c) c)) (with_fault w NoSuchCpu) (h.claimed (this_if (is_free w c) c)) (h.faulty NoSuchCpu)
   by_helper f m a = h.same
 
 -- ---- what is hidden
@@ -166,6 +179,44 @@ module _ (h : Hidden) where
       let k = kick_of flags in
       hides_kicked (kick_fault w c k) c k w ∙ ap (λ (o : Option Fault). hide h (kicked_or_fault (hide h w) o c k)) (kick_same w c k)
 
+  -- the processor that a mask leaves
+  free_same : (n mask : ℕ) (w : WorldState) → free_in_below n mask w ≡ free_in_below n mask (hide h w)
+  free_same zero mask w = refl
+  free_same (suc n) mask w = ap (λ (o : Option ℕ). or_this o (this_if (is_free_in mask w n) n)) (free_same n mask w)
+
+  picked_same : (mask : ℕ) (w : WorldState) → first_free_in mask w ≡ first_free_in mask (hide h w)
+  picked_same mask w = free_same (length w.cpus) mask w
+
+  hides_picked : (o : Option Fault) (c : Option ℕ) → Hides h (λ w. after_pick_by o w c)
+  hides_picked None c w = hides_claim h c w
+  hides_picked (Some f) c w = plain h (with_fault w f)
+
+  hides_pick : (mask flags : ℕ) → Hides h (λ w. after_pick w mask flags)
+  hides_pick mask flags w =
+      hides_picked (pick_fault flags) (first_free_in mask w) w ∙ ap (λ (o : Option ℕ). hide h (after_pick_by (pick_fault flags) (hide h w) o)) (picked_same mask w)
+
+  -- the current task of each processor, and the processor of a task
+  current_in_same : (o : Option Switch) (w : WorldState) (c : ℕ) → current_in o w c ≡ current_in o (hide h w) c
+  current_in_same None w c = refl
+  current_in_same (Some s) w c = refl
+
+  current_at : (w : WorldState) (c : ℕ) → current w c ≡ current (hide h w) c
+  current_at w c = current_in_same w.passing.switching w c
+
+  any_current_same : (n t : ℕ) (w : WorldState) → any_below n (λ c. is_this t (current w c)) ≡ any_below n (λ c. is_this t (current (hide h w) c))
+  any_current_same zero t w = refl
+  any_current_same (suc n) t w =
+      ap (λ (b : Bool). b || is_this t (current w n)) (any_current_same n t w)
+      ∙ ap (λ (o : Option ℕ). any_below n (λ c. is_this t (current (hide h w) c)) || is_this t o) (current_at w n)
+
+  current_same : (o : Option ℕ) (w : WorldState) → is_current_one w o ≡ is_current_one (hide h w) o
+  current_same None w = refl
+  current_same (Some t) w = any_current_same (length w.cpus) t w
+
+  cpu_same : (o : Option ℕ) (w : WorldState) → cpu_of_task w o ≡ cpu_of_task (hide h w) o
+  cpu_same None w = refl
+  cpu_same (Some t) w = read h (λ x. x.prev_cpu) (λ x. refl) w t
+
   -- what it answers
   helper_same : (f : Helper) (a : List Arg) (w : WorldState) → helper_answer w f a ≡ helper_answer (hide h w) f a
   helper_same DsqInsert a w = ap answer.Num (answers_insert w (given_task a 0) (insert_of w a) (given_number a 3))
@@ -174,6 +225,12 @@ module _ (h : Hidden) where
   helper_same SelectCpuDfl a w = ap answer.Num (chosen (given_task a 0) w)
   helper_same TaskByPid a w =
       ap (λ (n : ℕ). cond (nat_lt 0 (given_number a 0) && nat_le (given_number a 0) n) (answer.Task (record { 0 = given_number a 0 - 1 })) (answer.Num 0)) (length_same h w.tasks)
+  helper_same CpuCurr a w =
+      let c = given_number a 0 in
+      ap (λ (o : Option ℕ). cond (nat_lt c (length w.cpus)) (task_or_null o) (answer.Num 0)) (current_at w c)
+  helper_same TaskRunning a w = ap (λ (b : Bool). answer.Num (one_if b)) (current_same (given_task a 0) w)
+  helper_same TaskCpu a w = ap answer.Num (cpu_same (given_task a 0) w)
+  helper_same PickIdle a w = ap (λ (o : Option ℕ). answer.Num (pick_answer_by (pick_fault (given_number a 1)) o)) (picked_same (given_number a 0) w)
   helper_same f a w = refl
 
   -- what it makes of the world
@@ -188,6 +245,14 @@ module _ (h : Hidden) where
   hides_helper DsqNrQueued a w = alike_if (hide h) (is_there w (given_number a 0)) (is_there w (given_number a 0)) w (hide h w) _ _ refl (plain h w) (plain h (with_fault w NoSuchQueue))
   hides_helper SelectCpuDfl a w = hides_choice (given_task a 0) w
   hides_helper KickCpu a w = hides_kick (given_number a 0) (given_number a 1) w
+  hides_helper Exit a w = plain h (after_exit w (given_number a 0))
+  hides_helper CpuCurr a w = alike_if (hide h) (nat_lt (given_number a 0) (length w.cpus)) (nat_lt (given_number a 0) (length w.cpus)) w (hide h w) _ _ refl (plain h w) (plain h (with_fault w NoSuchCpu))
+  hides_helper DsqPeek a w = alike_if (hide h) (is_there w (given_number a 0)) (is_there w (given_number a 0)) w (hide h w) _ _ refl (plain h w) (plain h (with_fault w NoSuchQueue))
+  hides_helper PickIdle a w = hides_pick (given_number a 0) (given_number a 1) w
+  hides_helper ClaimIdle a w =
+      let c = given_number a 0 in
+      let b = nat_lt c (length w.cpus) in
+      alike_if (hide h) b b _ _ _ _ refl (hides_claim h (this_if (is_free w c) c) w) (plain h (with_fault w NoSuchCpu))
   hides_helper f a w = plain h w
 
   -- ---- queries
@@ -207,6 +272,7 @@ module _ (h : Hidden) where
   field_same DsqVtime t w e = read h (λ x. x.vtime) (λ x. shown h.vtime x.vtime e) w t
   field_same PrevCpu t w e = read h (λ x. x.prev_cpu) (λ x. refl) w t
   field_same Group t w e = group_same h w t
+  field_same Cpus t w e = refl
   field_same RunNs t w e = read h (λ x. x.run_ns) (λ x. shown h.run_ns x.run_ns e) w t
 
   -- what a query is answered that reads nothing hidden

@@ -2,7 +2,7 @@
 use Rattle.std.proofs.Common.{◌≡◌, inl, inr, ℕ, ◌+◌, ◌-◌, ◌&&◌, ℤ, pos, negsuc, suc, Bool, true, false, cond, nat_eq, List, [], ◌∷◌, Option, Some, None, refl, ap, ◌∙◌, subst, arith}
 use Rattle.std.proofs.lemmas.Bool.{eqb-true, le-ltb}
 use Rattle.scx_isa_semantics.specs.declared.host_tables.Field.{Field}
-use Rattle.scx_isa_semantics.specs.declared.host_tables.Field.TheVariants.{Pid, Weight, Slice, DsqVtime, PrevCpu, Group, RunNs}
+use Rattle.scx_isa_semantics.specs.declared.host_tables.Field.TheVariants.{Pid, Weight, Slice, DsqVtime, PrevCpu, Group, RunNs, Cpus}
 use Rattle.scx_isa_semantics.specs.declared.instructions.Insn.TheVariants as insn
 use Rattle.scx_isa_semantics.specs.declared.operations.Access.{Access}
 use Rattle.scx_isa_semantics.specs.declared.operations.Access.TheVariants as access
@@ -64,10 +64,10 @@ module _ (h : Hidden) (a : Access) (d b : Register) (offset : ℤ) where
       none_is : ◌≡◌ {A = Option Field} None (Some g) → ⊥
       none_is z = absurd (cc)
   told (Some at) e (Some RunNs) f hidden =
-      let x = found_is (size_bytes (access_size a)) at (Pid ∷ Weight ∷ Slice ∷ DsqVtime ∷ PrevCpu ∷ Group ∷ RunNs ∷ []) RunNs f in
+      let x = found_is (size_bytes (access_size a)) at (Pid ∷ Weight ∷ Slice ∷ DsqVtime ∷ PrevCpu ∷ Group ∷ RunNs ∷ Cpus ∷ []) RunNs f in
       inl (hidden, load_is (field_offset RunNs) (e ∙ ap Some x.0) x.1)
   told (Some at) e (Some DsqVtime) f hidden =
-      let x = found_is (size_bytes (access_size a)) at (Pid ∷ Weight ∷ Slice ∷ DsqVtime ∷ PrevCpu ∷ Group ∷ RunNs ∷ []) DsqVtime f in
+      let x = found_is (size_bytes (access_size a)) at (Pid ∷ Weight ∷ Slice ∷ DsqVtime ∷ PrevCpu ∷ Group ∷ RunNs ∷ Cpus ∷ []) DsqVtime f in
       inr (hidden, load_is (field_offset DsqVtime) (e ∙ ap Some x.0) x.1)
   told (Some at) e (Some g) f hidden = absurd (not_both false hidden refl)
 

@@ -38,6 +38,7 @@ module _ (h : Hidden) (s t : SimState) (same : AreSame h s t) where
   idle_there e (Some (finding.Idle c u)) k = (k.0, idle_same c ∙ k.1, first_left (Some u) k.2)
   idle_there e (Some (finding.Fault f)) k = k
   idle_there e (Some (finding.Stall u)) k = k
+  idle_there e (Some (finding.Exit n)) k = k
   idle_there e (Some (finding.Overtaken p)) k = k
   idle_there e (Some (finding.Waits u ms)) k = k
   idle_there e (Some (finding.Takes b n)) k = k

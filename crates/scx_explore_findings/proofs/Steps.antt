@@ -1,5 +1,5 @@
 -- What steps of a machine come to doesn't depend on what is hidden: callbacks, ejections, and a task that is put.
-use Rattle.std.proofs.Common.{◌≡◌, ℕ, zero, suc, Bool, true, false, cond, List, [], ◌∷◌, ◌++◌, length, map, Option, Some, None, refl, sym, ap, ◌∙◌, subst}
+use Rattle.std.proofs.Common.{◌≡◌, ℕ, zero, suc, Bool, true, false, cond, List, [], ◌∷◌, ◌++◌, length, map, ◌&&◌, Option, Some, None, is_some, refl, sym, ap, ◌∙◌, subst}
 use mathlib.Core.List.{map-append}
 use Rattle.scx_dsq.specs.Queues.{front_of}
 use Rattle.scx_isa_semantics.specs.declared.callbacks.Callback.{Callback}
@@ -10,19 +10,18 @@ use Rattle.scx_vm.specs.Programs.{VerifiedProgram}
 use Rattle.scx_vm.specs.Arguments.{program_arguments}
 use Rattle.scx_vm.specs.declared.arguments.Args.{Args}
 use Rattle.scx_sched_world.specs.declared.call.Insert.{Insert}
+use Rattle.scx_sched_world.specs.declared.eject.Cause.{Cause}
 use Rattle.scx_sched_world.specs.declared.eject.Eject.{Eject}
-use Rattle.scx_sched_world.specs.declared.eject.Eject.TheVariants as cause
 use Rattle.scx_sched_world.specs.declared.faults.Fault.{Fault}
 use Rattle.scx_sched_world.specs.declared.notes.Note.{Note}
 use Rattle.scx_sched_world.specs.Ids.{global, local_on}
 use Rattle.scx_sched_world.specs.World.{WorldState, at_callback, note_now}
 use Rattle.scx_sched_world.specs.Tasks.{after_enter, fill_front, after_fill, put_parked, after_take}
-use Rattle.scx_sched_world.specs.Helpers.{or_fault}
-use Rattle.scx_sched_world.specs.Ejecting.{put_builtin, put_out, after_evictions, evict_notes, after_cut, eject_note}
+use Rattle.scx_sched_world.specs.Ejecting.{eject_of, put_builtin, put_out, after_evictions, evict_notes, after_cut, eject_note}
 use Rattle.scx_sched_machine.specs.Policy.{PolicyState, program_of}
-use Rattle.scx_sched_machine.specs.Steps.{State, CallMade, Stepped, with_world, is_ejected, stays, after, one_after_other}
+use Rattle.scx_sched_machine.specs.Steps.{State, CallMade, Stepped, with_world, is_ejected, is_by_linux, stays, after, one_after_other}
 use Rattle.scx_sched_machine.specs.Ejecting.{moves_over, eject, ejected_for}
-use Rattle.scx_sched_machine.specs.Callbacks.{call_ending, after_callback, calls_of, answer_fault, end_fault, fault_of, unless_ejected, acting, call_back, answered_by, task_and_number}
+use Rattle.scx_sched_machine.specs.Callbacks.{call_ending, after_callback, calls_of, answer_fault, end_fault, as_cause, or_cause, cause_of, unless_ejected, acting, call_back, call_by_linux, answered_by, task_and_number}
 use Rattle.scx_sched_machine.specs.Put.{enters, enqueue_choice, enters_builtin, comes_in, put}
 use Rattle.scx_sched_machine.specs.Filling.{move_note, fill}
 use Rattle.scx_sched_machine.specs.Parking.{park, park_front, if_throttled, throttled_front, park_then, park_fronts, clear, in_reach, supply}
@@ -62,6 +61,19 @@ module _ (h : Hidden) (p : PolicyState) where
   -- a step after such a change
   pub after_turn : (f : State → State) (g : State → Stepped) → Turns f → On g → On (λ s. g (f s))
   after_turn f g turn on s is = from g on (f s) (f (hide_state h s)) (turn s).0 ((turn s).1 ∙ is)
+
+  -- the world is changed
+  pub turns_world : (f : WorldState → WorldState) → Hides h f → Turns (λ s. with_world s (f s.world))
+  turns_world f k s = (ap (λ (u : WorldState). with_world s u) (k s.world), refl)
+
+  -- a step, and then such a change
+  pub turned : (k : State → State) → Turns k → (r q : Stepped) → Passes r q → Passes (record r { state = k r.state }) (record q { state = k q.state })
+  turned k turn r q x = (
+    ap (λ (u : State). record r { state = u; calls = (hide_step h r).calls }) (turn r.state).0
+        ∙ ap (λ (u : Stepped). record u { state = hide_state h (k u.state) }) x.0
+        ∙ sym (ap (λ (u : State). record q { state = u; calls = (hide_step h q).calls }) (turn q.state).0),
+    (turn r.state).1 ∙ x.1,
+  )
 
   -- the world is changed where a test says so
   pub turns_if : (b : State → Bool) → ((s : State) → b s ≡ b (hide_state h s)) → (f : WorldState → WorldState) → Hides h f → Turns (λ s. cond (b s) (with_world s (f s.world)) s)
@@ -124,10 +136,10 @@ module _ (h : Hidden) (p : PolicyState) where
       single s (behind x w) (behind x (hide h w)) (note_now w (eject_note x) ∷ evict_notes (length w.tasks) (put_out w x)) (note_now w (eject_note x) ∷ evict_notes (length (hide h w).tasks) (put_out (hide h w) x))
       (hides_behind x w) (ap (λ (ns : List Note). note_now w (eject_note x) ∷ ns) (move_notes_same h (put_out w x))) is
 
-  -- it is ejected if there was a fault
-  pub passes_ejected_for : (o : Option Fault) → On (ejected_for o)
+  -- it is ejected if there was a cause
+  pub passes_ejected_for : (o : Option Cause) → On (ejected_for o)
   passes_ejected_for None s is = rests s is
-  passes_ejected_for (Some f) s is = passes_eject (cause.Fault f s.world.clock) s is
+  passes_ejected_for (Some x) s is = passes_eject (eject_of x s.world.clock) s is
 
   -- ---- callbacks
 
@@ -168,13 +180,13 @@ module _ (h : Hidden) (p : PolicyState) where
     end_fault_same b w None = refl
     end_fault_same b w (Some n) = answer_fault_same b w n
 
-    fault_shown : (b : Callback) (e : Ending WorldState) → fault_of b e ≡ fault_of b (hide_ending h e)
-    fault_shown b e = ap (λ (o : Option Fault). or_fault e.outside.call.fault o) (end_fault_same b e.outside e.answer)
+    cause_shown : (b : Callback) (e : Ending WorldState) → cause_of b e ≡ cause_of b (hide_ending h e)
+    cause_shown b e = ap (λ (o : Option Fault). or_cause e.outside.call.cause (as_cause o)) (end_fault_same b e.outside e.answer)
 
-    fault_same : (b : Callback) (e f : Ending WorldState) → hide_ending h e ≡ hide_ending h f → fault_of b e ≡ fault_of b f
-    fault_same b e f x = fault_shown b e ∙ ap (fault_of b) x ∙ sym (fault_shown b f)
+    cause_same : (b : Callback) (e f : Ending WorldState) → hide_ending h e ≡ hide_ending h f → cause_of b e ≡ cause_of b f
+    cause_same b e f x = cause_shown b e ∙ ap (cause_of b) x ∙ sym (cause_shown b f)
 
-    -- what a callback leaves, before its fault is looked at
+    -- what a callback leaves, before its cause is looked at
     abbrev ended : PolicyState → List CallMade → Ending WorldState → Stepped
     ended q cs e = record { state = after_callback q e; notes = e.outside.notes; calls = cs }
 
@@ -192,8 +204,15 @@ module _ (h : Hidden) (p : PolicyState) where
         let cs = calls_of (acting s b) b a s.maps w in
         let ds = calls_of (acting s b) b a s.maps (at_callback (hide h s.world) b t c) in
         let first = ended_same s.policy cs ds e f is (calls_same (acting s b) b a s.maps w) (end_same s b a t c is) in
-        subst (λ (o : Option Fault). Passes (one_after_other (ended s.policy cs e) (ejected_for (fault_of b e) (after_callback s.policy e))) (one_after_other (ended s.policy ds f) (ejected_for o (after_callback s.policy f))))
-        (fault_same b e f (end_same s b a t c is)) (chain (ended s.policy cs e) (ended s.policy ds f) (ejected_for (fault_of b e)) first (passes_ejected_for (fault_of b e)))
+        subst (λ (o : Option Cause). Passes (one_after_other (ended s.policy cs e) (ejected_for (cause_of b e) (after_callback s.policy e))) (one_after_other (ended s.policy ds f) (ejected_for o (after_callback s.policy f))))
+        (cause_same b e f (end_same s b a t c is)) (chain (ended s.policy cs e) (ended s.policy ds f) (ejected_for (cause_of b e)) first (passes_ejected_for (cause_of b e)))
+
+    -- a callback that Linux rules call more
+    pub passes_call_by_linux : (b : Callback) (a : Args) (t c : ℕ) → On (λ s. call_by_linux s b a t c)
+    unfolding call_by_linux
+    passes_call_by_linux b a t c s is =
+        let is_called = is_by_linux s && is_some (program_of s.policy b) in
+        choose is_called is_called (call_back s b a t c) (call_back (hide_state h s) b a t c) (stays s) (stays (hide_state h s)) refl (passes_call_back b a t c s is) (rests s is)
 
     -- ---- a task that is put
 

@@ -209,6 +209,7 @@ module _ (v : WorldState) where
   sized_helper b barred w f a free h = by_helper (λ (g : Helper). is_allowed g b ≡ true) (HasSize v) w (record {
     same = h;
     faulty = λ x. h;
+    ended = λ n. h;
     created = λ may q. absurd (apart (is_allowed CreateDsq b) may barred);
     inserted = λ t i fifo. sized_inserted w None t i h;
     by_vtime = λ may t i. sized_inserted w None t i h;

@@ -12,8 +12,9 @@ use Rattle.scx_sched_tasks.specs.Tasks.{default_slice}
 use Rattle.scx_sched_tasks.specs.Waits.{is_late, is_overdue}
 use Rattle.scx_sched_world.specs.declared.call.Insert.{Insert}
 use Rattle.scx_sched_world.specs.declared.notes.Note.{Note}
+use Rattle.scx_sched_world.specs.CpuSets.{but_cpu}
 use Rattle.scx_sched_world.specs.Ids.{builtin_queue, parked_queue, local_on}
-use Rattle.scx_sched_world.specs.World.{WorldState, with_queues, with_tree, task_at, with_task, is_throttled, waits, running, with_cpu, with_kick, is_by_linux, is_this, or_this, this_if, is_free, free_below, first_free, choice, default_choice, after_claim}
+use Rattle.scx_sched_world.specs.World.{WorldState, nothing_passes, with_switch, switch_at, cycling_by_linux, with_cycling, with_waker, with_queues, with_tree, task_at, with_task, is_throttled, waits, running, with_cpu, with_kick, is_by_linux, is_this, or_this, this_if, is_free, free_below, first_free, choice, default_choice, after_claim}
 use Rattle.scx_sched_world.specs.Tasks.{with_since, with_slice, with_home, with_builtin, task_after_insert, after_wake, after_sleep, after_leave, homed, local_cpu, homed_at, after_local, rank_by, after_preempt_of, after_preempt_at, after_preempt, after_enter, brought, fill_front, after_fill, after_stop, on_cpu, started_at, after_run, longer, after_switch, after_cut_off, with_new_slice, after_keep, put_parked, let_go, ran_a_tick, after_tick, used_ms, after_reweigh}
 use Rattle.scx_sched_world.specs.Waits.{first_overdue}
 use Rattle.scx_sched_world.specs.Helpers.{weight_at, group_at}
@@ -179,6 +180,27 @@ module _ (h : Hidden) where
   -- a task has no slice left
   pub hides_cut_off : (t : ℕ) → Hides (λ w. after_cut_off w t)
   hides_cut_off t w = set_task (λ x. with_slice x 0) (keeps_slice h 0) w t
+
+  -- a processor begins to switch
+  pub hides_begin_switch : (c : ℕ) → Hides (λ w. with_switch w c)
+  hides_begin_switch c = by_linux (λ w. record w { passing = record w.passing { switching = switch_at w c } }) (λ w. plain (record w { passing = record w.passing { switching = switch_at w c } }))
+
+  hides_by_linux : (o : Option ℕ) → Hides (λ w. cycling_by_linux w o)
+  hides_by_linux None w = plain (record w { cycling = None; passing = nothing_passes })
+  hides_by_linux (Some c) w =
+      across (λ v. record v { cycling = Some c; claimed = but_cpu w.claimed c }) (λ v. plain (record v { cycling = Some c; claimed = but_cpu w.claimed c })) (with_switch w c) (with_switch (hide h w) c) (hides_begin_switch c w)
+
+  -- a cycle begins or ends
+  pub hides_cycling : (o : Option ℕ) → Hides (λ w. with_cycling w o)
+  hides_cycling o w =
+      alike_if (hide h) (is_by_linux w) (is_by_linux w) (cycling_by_linux w o) (cycling_by_linux (hide h w) o) (record w { cycling = o }) (record (hide h w) { cycling = o }) refl
+      (hides_by_linux o w) (plain (record w { cycling = o }))
+
+  -- a task is woken from the processor on which it was last
+  pub hides_waker : (t : ℕ) → Hides (λ w. with_waker w (Some (task_at w t).prev_cpu))
+  hides_waker t w =
+      plain (with_waker w (Some (task_at w t).prev_cpu))
+      ∙ ap (λ (c : ℕ). hide h (with_waker (hide h w) (Some c))) (read (λ x. x.prev_cpu) (λ x. refl) w t)
 
   -- a processor is claimed
   pub hides_claim : (o : Option ℕ) → Hides (λ w. after_claim w o)

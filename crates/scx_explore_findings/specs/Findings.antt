@@ -1,16 +1,16 @@
 -- Findings: the ends of a list of events that a search looks for.
-use Rattle.std.specs.Prelude.{◌≡◌, ℕ, ◌+◌, ◌-◌, ◌≤◌, ◌==◌, ◌||◌, Bool, true, false, List, [], ◌∷◌, ◌++◌, length, nat_lt, ◌<◌, slice_index, slice_index_or, Option, Some, None, option_map, unwrap_or, if◌then◌else◌}
+use Rattle.std.specs.Prelude.{◌≡◌, ℕ, ℤ, ◌+◌, ◌-◌, ◌≤◌, ◌==◌, ◌||◌, ◌&&◌, Bool, true, false, List, [], ◌∷◌, ◌++◌, length, nat_lt, ◌<◌, slice_index, slice_index_or, Option, Some, None, option_map, unwrap_or, if◌then◌else◌}
 use Rattle.scx_isa_semantics.specs.declared.callbacks.Callback.{Callback}
 use Rattle.scx_dsq.specs.Queues.{queue_of}
 use Rattle.scx_sched_world.specs.Faults.{fault_number}
-use Rattle.scx_sched_world.specs.Ids.{policy_end, held_queue, parked_queue}
-use Rattle.scx_sched_world.specs.World.{WorldState, running, waits, wait}
+use Rattle.scx_sched_world.specs.Ids.{policy_end, global, held_queue, parked_queue}
+use Rattle.scx_sched_world.specs.World.{WorldState, is_by_linux, running, waits, wait}
 use Rattle.scx_sched_world.specs.declared.eject.Eject.{Eject}
 use Rattle.scx_sched_world.specs.declared.eject.Eject.TheVariants as cause
 use Rattle.scx_sched_world.specs.declared.faults.Fault as faults
 use Rattle.scx_sched_world.specs.declared.notes.Note.{Note}
 use Rattle.scx_sched_world.specs.declared.notes.What.{What}
-use Rattle.scx_sched_world.specs.declared.notes.What.TheVariants.{Wake, Sleep, Insert, Move, Run, Stop, Idle, Weight, Stall, Fault}
+use Rattle.scx_sched_world.specs.declared.notes.What.TheVariants.{Wake, Sleep, Insert, Move, Run, Stop, Idle, Weight, Stall, Fault, Exit}
 use Rattle.scx_sched_machine.specs.declared.events.Event.{Event}
 use Rattle.scx_sched_machine.specs.declared.events.Event.TheVariants.{Tick}
 use Rattle.scx_sched.specs.Sim.{SimState, refusal, calls_of}
@@ -25,12 +25,13 @@ use Rattle.scx_explore_findings.specs.declared.finding.Sort.TheVariants as sort
 use Rattle.scx_explore_findings.specs.declared.finding.Finding.{Finding}
 use Rattle.scx_explore_findings.specs.declared.finding.Finding.TheVariants as finding
 
--- the place of a sort among those that are told: faults by their numbers, and three after them
+-- the place of a sort among those that are told: faults by their numbers, and four after them
 abbrev pub sort_number : Sort → ℕ
 sort_number (sort.Fault f) = fault_number f
 sort_number sort.Stall = 8
 sort_number sort.Idle = 9
 sort_number sort.Overtaken = 10
+sort_number sort.Exit = 11
 
 -- of which sort a finding is, if it is of one
 abbrev pub sort_of : Finding → Option Sort
@@ -39,6 +40,7 @@ sort_of (finding.Stall t) = Some sort.Stall
 sort_of (finding.Idle c t) = Some sort.Idle
 sort_of (finding.Overtaken p) = Some sort.Overtaken
 sort_of (finding.Waits t ms) = None
+sort_of (finding.Exit n) = Some sort.Exit
 sort_of (finding.Takes b n) = None
 
 -- the fault for which a policy is ejected
@@ -46,33 +48,47 @@ abbrev pub fault_in : Option Eject → Option faults.Fault
 fault_in None = None
 fault_in (Some (cause.Fault f clock)) = Some f
 fault_in (Some (cause.Stall t clock)) = None
+fault_in (Some (cause.Exit n clock)) = None
 
 -- the task that waited too long for a policy that is ejected for that
 abbrev pub stall_in : Option Eject → Option ℕ
 stall_in None = None
 stall_in (Some (cause.Fault f clock)) = None
 stall_in (Some (cause.Stall t clock)) = Some t
+stall_in (Some (cause.Exit n clock)) = None
+
+-- the code with which a callback ended the policy
+abbrev pub exit_in : Option Eject → Option ℤ
+exit_in None = None
+exit_in (Some (cause.Fault f clock)) = None
+exit_in (Some (cause.Stall t clock)) = None
+exit_in (Some (cause.Exit n clock)) = Some n
 
 -- the list ends with that event
 abbrev pub IsLast : List Event → Event → Type 0
 IsLast events e = (d : Event) → slice_index_or events (length events - 1) d ≡ e
 
--- in a queue of the policy, or in none that the policy chose
-abbrev pub is_left : Option ℕ → Bool
-is_left None = false
-is_left (Some q) = nat_lt q policy_end || q == held_queue
+-- an idle processor leaves tasks in GLOBAL: under Linux rules, where it sleeps until it is given
+-- work; under plain rules it takes them
+abbrev pub leaves_global : WorldState → Bool
+leaves_global w = is_by_linux w
 
--- the task waits for the policy
+-- in a queue of the policy, in none that the policy chose, or in GLOBAL, where tasks are left there
+abbrev pub is_left : Bool → Option ℕ → Bool
+is_left leaves None = false
+is_left leaves (Some q) = nat_lt q policy_end || (q == held_queue || (leaves && q == global))
+
+-- the task waits while an idle processor leaves it
 abbrev pub waits_left : WorldState → ℕ → Bool
-waits_left w t = is_left (queue_of w.queues t)
+waits_left w t = is_left (leaves_global w) (queue_of w.queues t)
 
--- the first task that waits for the policy, or none does
+-- the first task that is left so, or none is
 abbrev pub IsFirstLeft : WorldState → Option ℕ → Type 0
 IsFirstLeft w None = (u : ℕ) → u < length w.tasks → waits_left w u ≡ false
 IsFirstLeft w (Some t) = (t < length w.tasks) × (waits_left w t ≡ true)
     × ((u : ℕ) → u < t → waits_left w u ≡ false)
 
--- after a tick that leaves its CPU idle the first task that waits for the policy is told;
+-- after a tick that leaves its CPU idle the first task that is left waiting is told;
 -- after any other event, or where no task waits so, nothing is
 abbrev pub IsIdleBehind : SimState → Event → Option Finding → Type 0
 IsIdleBehind s e None =
@@ -82,6 +98,7 @@ IsIdleBehind s e (Some (finding.Idle c t)) = (e ≡ Tick c) × (running s.state.
 IsIdleBehind s e (Some (finding.Fault f)) = ⊥
 IsIdleBehind s e (Some (finding.Stall t)) = ⊥
 IsIdleBehind s e (Some (finding.Overtaken p)) = ⊥
+IsIdleBehind s e (Some (finding.Exit n)) = ⊥
 IsIdleBehind s e (Some (finding.Waits t ms)) = ⊥
 IsIdleBehind s e (Some (finding.Takes b n)) = ⊥
 
@@ -116,6 +133,7 @@ begun_after p b (Idle c) = b
 begun_after p b (Weight g x) = b
 begun_after p b (Stall t) = b
 begun_after p b (Fault f) = b
+begun_after p b (Exit n) = b
 
 -- that count after notes
 abbrev pub begun_over : Pair → Option ℕ → List Note → Option ℕ
@@ -137,18 +155,27 @@ pub record EndsInStall (s : SimState) (events : List Event) (t : ℕ) : Type 0 w
   pub ejected : IsEjectedAt s events at (cause.Stall t clock)
   pub last : at + 1 ≡ length events
 
--- the last event is a tick that leaves its processor idle, while the task waits for the policy; the
+-- a callback ends the policy with that code in the last event of the list, and the policy is in
+-- force before it
+pub record EndsInExit (s : SimState) (events : List Event) (n : ℤ) : Type 0 where
+  pub at : ℕ
+  pub clock : ℕ
+  pub ejected : IsEjectedAt s events at (cause.Exit n clock)
+  pub last : at + 1 ≡ length events
+
+-- the last event is a tick that leaves its processor idle, while the task is left waiting; the
 -- policy is in force
 pub record EndsIdle (s : SimState) (events : List Event) (c t : ℕ) : Type 0 where
   pub force : IsInForceFor s events (length events)
   pub last : IsLast events (Tick c)
   pub idle : running (stepped_all s events).state.world c ≡ None
-  pub left : is_left (queue_of (stepped_all s events).state.world.queues t) ≡ true
+  pub left : waits_left (stepped_all s events).state.world t ≡ true
 
 -- what comes of the list is an ejection for that fault by its last event, of `count`
 abbrev pub IsFaultAtEnd : Outcome → ℕ → faults.Fault → Type 0
 IsFaultAtEnd (outcome.Ejected at (cause.Fault g clock)) count f = (g ≡ f) × (at + 1 ≡ count)
 IsFaultAtEnd (outcome.Ejected at (cause.Stall t clock)) count f = ⊥
+IsFaultAtEnd (outcome.Ejected at (cause.Exit n clock)) count f = ⊥
 IsFaultAtEnd outcome.InForce count f = ⊥
 IsFaultAtEnd (outcome.Refused at r) count f = ⊥
 
@@ -156,8 +183,17 @@ IsFaultAtEnd (outcome.Refused at r) count f = ⊥
 abbrev pub IsStallAtEnd : Outcome → ℕ → ℕ → Type 0
 IsStallAtEnd (outcome.Ejected at (cause.Stall u clock)) count t = (u ≡ t) × (at + 1 ≡ count)
 IsStallAtEnd (outcome.Ejected at (cause.Fault f clock)) count t = ⊥
+IsStallAtEnd (outcome.Ejected at (cause.Exit n clock)) count t = ⊥
 IsStallAtEnd outcome.InForce count t = ⊥
 IsStallAtEnd (outcome.Refused at r) count t = ⊥
+
+-- the same of an ejection by a callback that ended the policy with that code
+abbrev pub IsExitAtEnd : Outcome → ℕ → ℤ → Type 0
+IsExitAtEnd (outcome.Ejected at (cause.Exit m clock)) count n = (m ≡ n) × (at + 1 ≡ count)
+IsExitAtEnd (outcome.Ejected at (cause.Fault f clock)) count n = ⊥
+IsExitAtEnd (outcome.Ejected at (cause.Stall t clock)) count n = ⊥
+IsExitAtEnd outcome.InForce count n = ⊥
+IsExitAtEnd (outcome.Refused at r) count n = ⊥
 
 -- the list is accepted and the policy in force, and in its notes the second task of the pair began
 -- to run twice since the first one waits
@@ -198,6 +234,7 @@ pub record EndsTaking (s : SimState) (events : List Event) (b : Callback) (n : �
 abbrev pub Shows : List ℕ → SimState → List Event → Finding → Type 0
 Shows homes s events (finding.Fault f) = EndsInFault s events f
 Shows homes s events (finding.Stall t) = EndsInStall s events t
+Shows homes s events (finding.Exit n) = EndsInExit s events n
 Shows homes s events (finding.Idle c t) = EndsIdle s events c t
 Shows homes s events (finding.Overtaken p) = EndsOvertaken homes s events p
 Shows homes s events (finding.Waits t ms) = EndsWaiting s events t ms

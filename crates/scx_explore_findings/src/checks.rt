@@ -1,10 +1,9 @@
 ghost use Rattle.std.specs.Prelude.{◌≡◌};
-ghost use Rattle.scx_dsq.specs.Queues.{queue_of};
-ghost use Rattle.scx_explore_findings.specs.Findings.{is_left, fault_in, stall_in, IsFirstLeft, IsIdleBehind};
+ghost use Rattle.scx_explore_findings.specs.Findings.{is_left, leaves_global, waits_left, fault_in, stall_in, exit_in, IsFirstLeft, IsIdleBehind};
 
 use crate::finding::Finding;
 use scx_sched::{Eject, Event, Fault, Sim};
-use scx_sched_world::{HELD, POLICY_END};
+use scx_sched_world::{GLOBAL, HELD, POLICY_END};
 
 /// The fault for which the policy was ejected, if it was for one.
 pub fn fault_of(sim: &Sim) -> Option<Fault>
@@ -12,7 +11,7 @@ pub fn fault_of(sim: &Sim) -> Option<Fault>
 {
     match sim.ejected() {
         Some(Eject::Fault(fault, _)) => Some(fault),
-        Some(Eject::Stall(_, _)) | None => None,
+        Some(Eject::Stall(_, _) | Eject::Exit(_, _)) | None => None,
     }
 }
 
@@ -22,11 +21,21 @@ pub fn stall_of(sim: &Sim) -> Option<u16>
 {
     match sim.ejected() {
         Some(Eject::Stall(task, _)) => Some(task),
-        Some(Eject::Fault(_, _)) | None => None,
+        Some(Eject::Fault(_, _) | Eject::Exit(_, _)) | None => None,
     }
 }
 
-/// A task that waits for the policy while that event, a tick, has left its processor idle, if there is one.
+/// The code with which a callback ended the policy, if one did.
+pub fn exit_of(sim: &Sim) -> Option<i64>
+    ensures { result ≡ exit_in sim.now.state.world.ejected }
+{
+    match sim.ejected() {
+        Some(Eject::Exit(code, _)) => Some(code),
+        Some(Eject::Fault(_, _) | Eject::Stall(_, _)) | None => None,
+    }
+}
+
+/// A task that is left waiting while that event, a tick, has left its processor idle, if there is one.
 #[tactic(auto, using(crate::proofs::IdleCpus::busy, crate::proofs::IdleCpus::nobody, crate::proofs::IdleCpus::somebody))]
 pub fn idle_in(sim: &Sim, event: Event) -> Option<Finding>
     ensures { IsIdleBehind sim.now event result }
@@ -53,12 +62,25 @@ fn first_left(sim: &Sim) -> Option<u16>
     None
 }
 
-/// True if the task waits in a queue of the policy, or is held.
+/// True if the task waits in a queue of the policy, is held, or is in GLOBAL where an idle CPU leaves it.
 pub(crate) fn is_left(sim: &Sim, task: u16) -> bool
-    ensures { result ≡ is_left (queue_of sim.now.state.world.queues task) }
+    ensures { result ≡ waits_left sim.now.state.world task }
 {
-    match sim.world().queue_of(task) {
-        Some(queue) => queue < POLICY_END || queue == HELD,
+    is_left_in(leaves_global(sim), sim.world().queue_of(task))
+}
+
+fn is_left_in(leaves_global: bool, queue: Option<u64>) -> bool
+    ensures { result ≡ is_left leaves_global queue }
+{
+    match queue {
+        Some(queue) => queue < POLICY_END || (queue == HELD || (leaves_global && queue == GLOBAL)),
         None => false,
     }
+}
+
+/// True if an idle CPU leaves tasks in GLOBAL: under Linux rules it sleeps until it is given work.
+fn leaves_global(sim: &Sim) -> bool
+    ensures { result ≡ leaves_global sim.now.state.world }
+{
+    sim.world().is_by_linux()
 }

@@ -48,7 +48,8 @@ fn begun_after(pair: Pair, begun: Option<u64>, what: What) -> Option<u64>
         | What::Idle(_)
         | What::Weight(_, _)
         | What::Stall(_)
-        | What::Fault(_) => begun,
+        | What::Fault(_)
+        | What::Exit(_) => begun,
     }
 }
 

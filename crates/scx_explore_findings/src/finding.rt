@@ -18,14 +18,17 @@ pub enum Sort {
     Fault(Fault),
     /// The policy is ejected because a task waited too long.
     Stall,
-    /// A processor is idle after its own tick, while a task waits in a queue of the policy or is held.
+    /// A processor is idle after its own tick, while a task waits in a queue of the policy or is held, or, under Linux
+    /// rules, is in GLOBAL.
     Idle,
     /// A task waits while another of its group began to run twice.
     Overtaken,
+    /// A callback ended the policy.
+    Exit,
 }
 
 /// All sorts, in the order in which they are told.
-pub const SORTS: [Sort; 11] = [
+pub const SORTS: [Sort; 12] = [
     Sort::Fault(Fault::Stuck),
     Sort::Fault(Fault::NoSuchQueue),
     Sort::Fault(Fault::CannotInsert),
@@ -37,6 +40,7 @@ pub const SORTS: [Sort; 11] = [
     Sort::Stall,
     Sort::Idle,
     Sort::Overtaken,
+    Sort::Exit,
 ];
 
 /// A finding, at the last event of a list.
@@ -53,6 +57,8 @@ pub enum Finding {
     },
     /// A task waits while another one, of the same group, began to run twice.
     Overtaken(Pair),
+    /// A callback ended the policy, with that code.
+    Exit(i64),
     /// After the list the task waits and has waited for `ms` milliseconds, with the policy in force.
     Waits {
         task: u16,
@@ -75,6 +81,7 @@ impl Sort {
             Sort::Stall => 8,
             Sort::Idle => 9,
             Sort::Overtaken => 10,
+            Sort::Exit => 11,
         }
     }
 }
@@ -89,6 +96,7 @@ impl Finding {
             Finding::Stall(_) => Some(Sort::Stall),
             Finding::Idle { .. } => Some(Sort::Idle),
             Finding::Overtaken(_) => Some(Sort::Overtaken),
+            Finding::Exit(_) => Some(Sort::Exit),
             Finding::Waits { .. } | Finding::Takes { .. } => None,
         }
     }

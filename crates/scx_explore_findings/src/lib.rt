@@ -1,6 +1,6 @@
 //! Lists of events, and what a machine shows at the end of one.
 //!
-//! `shows` runs a list from a machine on, and says whether it ends in a `Finding`. `fault_of`, `stall_of` and `idle_in`
+//! `shows` runs a list from a machine on, and says whether it ends in a `Finding`. `fault_of`, `stall_of`, `exit_of` and `idle_in`
 //! tell what a machine shows after an event. `Watch` follows which tasks begin to run while another waits.
 //!
 //! A `Path` keeps the machine after each event of a list, so lists with a common beginning share that much of their
@@ -25,7 +25,7 @@ mod showing;
 mod tally;
 mod watch;
 
-pub use checks::{fault_of, idle_in, stall_of};
+pub use checks::{exit_of, fault_of, idle_in, stall_of};
 pub use copies::copies_of;
 pub use counted::run_counted;
 pub use finding::{Finding, Pair, SORTS, Sort};

@@ -4,7 +4,7 @@ ghost use Rattle.scx_load_driver.specs.Runs.{stepped_all};
 ghost use Rattle.scx_explore_findings.specs.Path.{IsAs};
 ghost use Rattle.scx_explore_findings.specs.declared.outcome.Outcome.TheVariants.{InForce};
 ghost use Rattle.scx_explore_findings.specs.Running.{IsRunAmong};
-ghost use Rattle.scx_explore_findings.specs.Findings.{Shows, EndsInFault, EndsInStall, EndsIdle, IsTwice, EndsWaiting, EndsTaking, IsFaultAtEnd, IsStallAtEnd, AreTogether, IsLast};
+ghost use Rattle.scx_explore_findings.specs.Findings.{Shows, EndsInFault, EndsInStall, EndsInExit, EndsIdle, IsTwice, EndsWaiting, EndsTaking, IsFaultAtEnd, IsStallAtEnd, IsExitAtEnd, AreTogether, IsLast};
 
 use crate::checks::is_left;
 use crate::count::Count;
@@ -26,6 +26,7 @@ pub fn shows(sim: &mut Sim, homes: &[u32], events: &[Event], finding: Finding) -
     match finding {
         Finding::Fault(fault) => ends_in_fault(sim, events, fault),
         Finding::Stall(task) => ends_in_stall(sim, events, task),
+        Finding::Exit(code) => ends_in_exit(sim, events, code),
         Finding::Idle { cpu, task } => ends_idle(sim, events, cpu, task),
         Finding::Overtaken(pair) => {
             are_together(homes, pair) && ends_overtaken(sim, events, pair)
@@ -58,6 +59,17 @@ fn ends_in_stall(sim: &mut Sim, events: &[Event], task: u16) -> bool
 {
     let outcome = replay(sim, events, &mut Unseen);
     is_stall_at_end(outcome, events.len(), task)
+}
+
+#[tactic(auto, using(crate::proofs::Ending::exit_at_end, crate::proofs::Ending::exit_there))]
+fn ends_in_exit(sim: &mut Sim, events: &[Event], code: i64) -> bool
+    requires { sim.old.state.world.ejected ≡ None }
+    ensures shown { result ≡ true → EndsInExit sim.old events.now code }
+    ensures there { result ≡ true → sim.new ≡ stepped_all sim.old events.now }
+    ensures alike { IsAs sim.old sim.new }
+{
+    let outcome = replay(sim, events, &mut Unseen);
+    is_exit_at_end(outcome, events.len(), code)
 }
 
 #[tactic(auto, using(crate::proofs::Ending::idle_at_end, crate::proofs::Ending::all_done))]
@@ -163,6 +175,7 @@ fn is_fault_at_end(outcome: Outcome, count: usize, fault: Fault) -> bool
             && at < count
             && at + 1 == count,
         Outcome::Ejected(_, Eject::Stall(_, _)) => false,
+        Outcome::Ejected(_, Eject::Exit(_, _)) => false,
         Outcome::InForce | Outcome::Refused(_, _) => false,
     }
 }
@@ -176,6 +189,21 @@ fn is_stall_at_end(outcome: Outcome, count: usize, task: u16) -> bool
             && at < count
             && at + 1 == count,
         Outcome::Ejected(_, Eject::Fault(_, _)) => false,
+        Outcome::Ejected(_, Eject::Exit(_, _)) => false,
+        Outcome::InForce | Outcome::Refused(_, _) => false,
+    }
+}
+
+/// True if it is an ejection by the last of `count` events, in which a callback ended the policy with that code.
+fn is_exit_at_end(outcome: Outcome, count: usize, code: i64) -> bool
+    ensures { result ≡ true → IsExitAtEnd outcome count code }
+{
+    match outcome {
+        Outcome::Ejected(at, Eject::Exit(other, _)) => other == code
+            && at < count
+            && at + 1 == count,
+        Outcome::Ejected(_, Eject::Fault(_, _)) => false,
+        Outcome::Ejected(_, Eject::Stall(_, _)) => false,
         Outcome::InForce | Outcome::Refused(_, _) => false,
     }
 }

@@ -193,7 +193,8 @@ impl Sink for Watch {
             | What::Idle(_)
             | What::Weight(_, _)
             | What::Stall(_)
-            | What::Fault(_) => {}
+            | What::Fault(_)
+            | What::Exit(_) => {}
         }
     }
 

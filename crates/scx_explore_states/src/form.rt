@@ -8,7 +8,7 @@ use scx_sched::Sim;
 pub const MOST_TASKS: usize = 8;
 
 /// The parts of a state that are kept, beside places of tasks, slices of tasks that run or wait, usages of groups with
-/// quotas, and maps.
+/// quotas, maps and, under Linux rules, the claims and kicks of CPUs and the time since the last tick.
 #[derive(Clone, Copy)]
 pub struct Form {
     /// The clock.

@@ -7,7 +7,9 @@ ghost use Rattle.scxsim_explore.specs.Unfound.{misfit_of, reach_of};
 use crate::auditing::look_again;
 use crate::beginning::Begun;
 use scx_explore::{Course, End, Form, Mode, SORTS, Search, Sort};
+use scx_isa::Rules;
 use scx_load_workloads::Workload;
+use scx_sched::Sim;
 use scxsim_explore_lines::{Reached, Unfound, write_summary};
 use scxsim_output::{Failed, Out};
 
@@ -28,7 +30,11 @@ pub(crate) fn write_end<W: Out>(
     ensures failures { Counts result (W.failure_count out.old) (W.failure_count out.new) }
 {
     let mut places = SORTS;
-    let count = gather_unfound(&begun.search, course.bounds.mode, &mut places);
+    let asked = Asked {
+        mode: course.bounds.mode,
+        may_exit: may_exit(begun.machines.first()),
+    };
+    let count = gather_unfound(&begun.search, asked, &mut places);
     let unfound = Unfound {
         bounds: course.bounds,
         reach: reach_of(end),
@@ -57,13 +63,29 @@ fn reach_of(end: End) -> Option<usize>
     }
 }
 
+/// The lists that are asked for sorts.
+#[derive(Clone, Copy)]
+struct Asked {
+    mode: Mode,
+    /// True if a callback may end the policy.
+    may_exit: bool,
+}
+
+/// True if a callback may end the policy: Linux rules alone know that helper.
+fn may_exit(sim: &Sim) -> bool {
+    match sim.world().rules() {
+        Rules::Plain => false,
+        Rules::Linux => true,
+    }
+}
+
 /// Gathers the sorts that weren't found, without overtaken tasks, and returns their number.
-fn gather_unfound(search: &Search, mode: Mode, places: &mut [Sort]) -> usize
+fn gather_unfound(search: &Search, asked: Asked, places: &mut [Sort]) -> usize
     ensures { result ≤ length places.new }
 {
     let mut count = 0;
     for sort in SORTS {
-        if is_sought(sort, mode) && !search.has_found(sort) {
+        if is_sought(sort, asked) && !search.has_found(sort) {
             count = put(places, count, sort);
         }
     }
@@ -81,12 +103,13 @@ fn put(places: &mut [Sort], count: usize, sort: Sort) -> usize {
     }
 }
 
-/// True if lists of the mode are asked about that sort. If clocks are free, each policy has stalls.
-fn is_sought(sort: Sort, mode: Mode) -> bool {
+/// True if the lists are asked about that sort. If clocks are free, each policy has stalls.
+fn is_sought(sort: Sort, asked: Asked) -> bool {
     match sort {
         Sort::Fault(_) | Sort::Idle => true,
-        Sort::Stall => mode != Mode::Events,
+        Sort::Stall => asked.mode != Mode::Events,
         Sort::Overtaken => false,
+        Sort::Exit => asked.may_exit,
     }
 }
 

@@ -1,6 +1,7 @@
 -- The text of a list of events in which something was found: what it is, the events, their trace,
 -- and the workload file that begins with them.
 use Rattle.std.specs.Prelude.{ℕ, ◌+◌, List, [], ◌∷◌, ◌++◌, length, Bool, true, false, Option, Some, None, codes, decimal, flat_map}
+use Rattle.std.specs.Fmt.{signed_decimal}
 use Rattle.scx_isa_semantics.specs.declared.callbacks.Callback.{Callback}
 use Rattle.scx_isa_semantics.specs.Callbacks.{callback_name}
 use Rattle.scx_sched_world.specs.Faults.{fault_number}
@@ -10,7 +11,7 @@ use Rattle.scx_sched.specs.Sim.{SimState}
 use Rattle.scx_load_driver.specs.Runs.{notes_of_all}
 use Rattle.scxsim_trace.specs.Lines.{NameLists, task_name, group_name, note_lines}
 use Rattle.scx_explore_findings.specs.declared.finding.Finding.{Finding}
-use Rattle.scx_explore_findings.specs.declared.finding.Finding.TheVariants.{Fault, Stall, Idle, Overtaken, Waits, Takes}
+use Rattle.scx_explore_findings.specs.declared.finding.Finding.TheVariants.{Fault, Stall, Exit, Idle, Overtaken, Waits, Takes}
 use Rattle.scx_explore_bounds.specs.declared.bounds.Mode.{Mode}
 use Rattle.scx_explore_bounds.specs.declared.bounds.Mode.TheVariants as mode
 
@@ -43,6 +44,7 @@ most_words b n =
 abbrev pub finding_words : NameLists → Finding → List ℕ
 finding_words x (Fault f) = codes "found fault " ++ decimal (fault_number f) ++ codes ""
 finding_words x (Stall t) = codes "found stall of " ++ task_name x t ++ codes ""
+finding_words x (Exit n) = codes "found exit " ++ signed_decimal n ++ codes ""
 finding_words x (Idle c t) = idle_words x c t
 finding_words x (Overtaken p) = overtaken_words x p.waits p.runs
 finding_words x (Waits t ms) = wait_words x t ms

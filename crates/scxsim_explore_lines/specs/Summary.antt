@@ -104,6 +104,7 @@ sort_words (sort.Fault f) = codes "fault " ++ decimal (fault_number f) ++ codes 
 sort_words sort.Stall = codes "stall"
 sort_words sort.Idle = codes "idle"
 sort_words sort.Overtaken = codes "overtaken"
+sort_words sort.Exit = codes "exit"
 
 -- the words before a depth up to which there is none
 abbrev pub up_to : Mode → List ℕ

@@ -7,7 +7,7 @@ ghost use Rattle.scxsim_explore_lines.specs.Found.{event_line, event_lines, file
 
 use crate::lengths::length_in;
 use crate::listed::Listed;
-use crate::pieces::{write_number, write_task, write_text};
+use crate::pieces::{write_number, write_signed, write_task, write_text};
 use scx_explore::{Finding, Mode};
 use scx_isa::Callback;
 use scx_load_workloads::Workload;
@@ -96,6 +96,7 @@ fn write_finding<W: Out>(about: &Workload, finding: Finding, out: &mut W) -> Res
     match finding {
         Finding::Fault(fault) => write_number(out, "found fault ", u64::from(fault.number()), ""),
         Finding::Stall(task) => write_task(about, "found stall of ", task, "", out),
+        Finding::Exit(code) => write_signed(out, "found exit ", code),
         Finding::Idle { cpu, task } => write_idle(about, cpu, task, out),
         Finding::Overtaken(pair) => write_overtaken(about, pair.waits, pair.runs, out),
         Finding::Waits { task, ms } => write_wait(about, task, ms, out),

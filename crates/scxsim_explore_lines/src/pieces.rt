@@ -1,4 +1,5 @@
-ghost use Rattle.std.specs.Prelude.{◌++◌, OnOk, decimal};
+ghost use Rattle.std.specs.Prelude.{◌++◌, OnOk, codes, decimal};
+ghost use Rattle.std.specs.Fmt.{signed_decimal};
 ghost use Rattle.std.specs.Io.KnownBytes.{Appends};
 ghost use Rattle.scxsim_output.specs.Output.{Counts};
 ghost use Rattle.scxsim_trace.specs.Lines.{task_name, names_of};
@@ -36,6 +37,16 @@ pub(crate) fn write_number<W: Out>(
 {
     let mut digits = Buffer::new();
     write_named(out, start, digits.format(number), end)
+}
+
+/// Writes a number that may be below 0 after a text.
+pub(crate) fn write_signed<W: Out>(out: &mut W, start: &str, number: i64) -> Result<(), Failed>
+    ensures ok { OnOk result (Appends (W.contents out.old) (W.contents out.new)
+        (start.now ++ signed_decimal number ++ codes "")) }
+    ensures failures { Counts result (W.failure_count out.old) (W.failure_count out.new) }
+{
+    let mut digits = Buffer::new();
+    write_named(out, start, digits.format(number), "")
 }
 
 /// Writes a text.

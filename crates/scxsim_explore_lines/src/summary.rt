@@ -291,6 +291,7 @@ fn write_sort<W: Out>(sort: Sort, out: &mut W) -> Result<(), Failed>
         Sort::Stall => write_text(out, "stall"),
         Sort::Idle => write_text(out, "idle"),
         Sort::Overtaken => write_text(out, "overtaken"),
+        Sort::Exit => write_text(out, "exit"),
     }
 }
 
