@@ -11,8 +11,8 @@ pub(crate) fn named<'a>(path: &'a str, bytes: &'a [u8]) -> Option<NamedText<'a>>
     Some(NamedText { path, text })
 }
 
-/// Where the files of a run are wrong, if they were refused, or where the fault came for which the policy was
-/// ejected.
+/// Where the files of a run are wrong, if they were refused, or where the fault or exit came for which the policy
+/// was ejected.
 pub(crate) fn remark_of_run(
     alloc: Global,
     outcome: &Result<bool, Fault>,
@@ -22,7 +22,7 @@ pub(crate) fn remark_of_run(
 ) -> Option<String> {
     match (outcome, ejected) {
         (Err(Fault::Refused(refusal)), _) => remark_on_run(alloc, refusal, policy?, workload?),
-        (Ok(_), Some(Eject::Fault(_, clock))) => {
+        (Ok(_), Some(Eject::Fault(_, clock) | Eject::Exit(_, clock))) => {
             remark_on_fault(alloc, policy?, workload?, clock)
         }
         _ => None,

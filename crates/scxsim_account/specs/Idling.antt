@@ -2,7 +2,7 @@
 -- the events and notes of a run come.
 use Rattle.std.specs.Prelude.{ℕ, zero, suc, ◌≡◌, ◌+◌, ◌-◌, ◌^◌, min, ◌==◌, ◌&&◌, ◌||◌, if◌then◌else◌, not, Bool, true, false, List, length, replicate, Option, Some, None, is_some, slice_index_or, slice_set}
 use Rattle.scx_sched_world.specs.declared.notes.What.{What}
-use Rattle.scx_sched_world.specs.declared.notes.What.TheVariants.{Wake, Sleep, Insert, Move, Run, Stop, Weight, Stall, Fault}
+use Rattle.scx_sched_world.specs.declared.notes.What.TheVariants.{Wake, Sleep, Insert, Move, Run, Stop, Weight, Stall, Fault, Exit}
 use Rattle.scx_sched_world.specs.declared.notes.What.TheVariants as note
 use Rattle.scx_sched_world.specs.World.{running}
 use Rattle.scx_sched_machine.specs.declared.events.Event.{Event}
@@ -53,6 +53,7 @@ begun_after (note.Idle c) bs = bs
 begun_after (Weight g x) bs = bs
 begun_after (Stall t) bs = bs
 begun_after (Fault f) bs = bs
+begun_after (Exit n) bs = bs
 
 -- each task's state, the first task that waited as the ticks of the current millisecond began,
 -- whether there was one in some millisecond, whether each task has begun to run, the clock since

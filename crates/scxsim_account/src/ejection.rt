@@ -8,6 +8,8 @@ pub enum Cause {
     Stall(u16),
     /// A callback had a fault as this event came.
     Fault(Fault, Event),
+    /// A callback ended the policy, with that code, as this event came.
+    Exit(i64, Event),
 }
 
 /// The ejection of a policy.
@@ -59,6 +61,12 @@ pub(crate) fn ejection_of(moment: Moment, clock: u64, what: What) -> Option<Ejec
         What::Fault(fault) => Some(Ejection {
             clock,
             cause: Cause::Fault(fault, moment.event),
+            task: moment.task(),
+            cpu: moment.cpu(),
+        }),
+        What::Exit(code) => Some(Ejection {
+            clock,
+            cause: Cause::Exit(code, moment.event),
             task: moment.task(),
             cpu: moment.cpu(),
         }),

@@ -154,7 +154,7 @@ pub(crate) fn task_of(what: What) -> Option<u16> {
         | What::Run(task, _)
         | What::Stop(task, _)
         | What::Stall(task) => Some(task),
-        What::Idle(_) | What::Weight(_, _) | What::Fault(_) => None,
+        What::Idle(_) | What::Weight(_, _) | What::Fault(_) | What::Exit(_) => None,
     }
 }
 

@@ -71,6 +71,11 @@ fn write_end(chart: &Chart, page: &mut Text) {
             page.number(" ms, fault ", u64::from(number));
             page.push("\n");
         }
+        Some(Ejection::Exit { moment, code }) => {
+            page.number("ejected at ", moment);
+            page.show(" ms, exit ", &code);
+            page.push("\n");
+        }
     }
 }
 

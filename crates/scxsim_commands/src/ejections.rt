@@ -5,6 +5,7 @@ use scx_sched::What;
 pub enum Ejection {
     Stall { moment: u64, task: u16 },
     Fault { moment: u64, number: u8 },
+    Exit { moment: u64, code: i64 },
 }
 
 impl Ejection {
@@ -16,6 +17,7 @@ impl Ejection {
                 let number = fault.number();
                 Some(Ejection::Fault { moment, number })
             }
+            What::Exit(code) => Some(Ejection::Exit { moment, code }),
             What::Wake(_)
             | What::Sleep(_)
             | What::Insert(_, _)
@@ -32,6 +34,7 @@ impl Ejection {
         match self {
             Ejection::Stall { moment, .. } => moment,
             Ejection::Fault { moment, .. } => moment,
+            Ejection::Exit { moment, .. } => moment,
         }
     }
 }

@@ -1,6 +1,6 @@
-use crate::words::field_name;
 use scx_abs::Kind;
-use scx_isa::{CALLBACKS, Field, Helper, Size};
+use scx_asm_text::field_name;
+use scx_isa::{CALLBACKS, Field, Helper, Rules, Size};
 use scx_verify_explain::{BadAccess, BadCall, BadField, BadFlow, BadValue, Origin, Reason};
 use scxsim_output::Text;
 
@@ -13,6 +13,7 @@ pub(crate) struct Advice {
     pub(crate) reason: Reason,
     pub(crate) origin: Option<Origin>,
     pub(crate) is_copied: bool,
+    pub(crate) rules: Rules,
 }
 
 impl Advice {
@@ -22,7 +23,7 @@ impl Advice {
             Reason::Flow(flow) => line.push(advice_on_flow(flow)),
             Reason::Value(value) => line.push(self.on_value(value)),
             Reason::Access(access) => line.push(self.on_access(access)),
-            Reason::Field(field) => push_advice_on_field(line, field),
+            Reason::Field(field) => push_advice_on_field(line, self.rules, field),
             Reason::Call(call) => push_advice_on_call(line, call),
             Reason::UnknownMap { .. } => line.push("count maps from 0, or define the map"),
         }
@@ -99,9 +100,9 @@ fn advice_on_address(kind: Kind, origin: Option<Origin>) -> &'static str {
     }
 }
 
-fn push_advice_on_field(line: &mut Text, field: BadField) {
+fn push_advice_on_field(line: &mut Text, rules: Rules, field: BadField) {
     match field {
-        BadField::Missing { offset, .. } => push_field_at(line, offset),
+        BadField::Missing { offset, .. } => push_field_at(line, rules, offset),
         BadField::Signed(_) => line.push("load it without one"),
         BadField::ReadOnly(_) => line.push("store to slice and dsq_vtime alone"),
     }
@@ -131,11 +132,11 @@ fn push_callbacks(line: &mut Text, number: i32) {
     }
 }
 
-/// Appends which field is at an offset of a task's record.
-fn push_field_at(line: &mut Text, offset: i16) {
+/// Appends which field that these rules know is at an offset of a task's record.
+fn push_field_at(line: &mut Text, rules: Rules, offset: i16) {
     let (field, bytes) = match (
-        Field::at(offset, Size::Word),
-        Field::at(offset, Size::DoubleWord),
+        Field::known(offset, Size::Word, rules),
+        Field::known(offset, Size::DoubleWord, rules),
     ) {
         (Some(field), _) => (field, " is there, of 4 bytes"),
         (None, Some(field)) => (field, " is there, of 8 bytes"),

@@ -1,9 +1,8 @@
 use crate::explained::Explained;
 use crate::known::push_known;
 use crate::sentences::push_explanation;
-use crate::words::helper_name;
 use arrayvec::ArrayString;
-use scx_asm_text::Canonical;
+use scx_asm_text::{Canonical, helper_name};
 use scx_isa::{Helper, Insn, Rules};
 use scx_verify_explain::{Listing, Way, target_of};
 use scxsim_output::Text;
@@ -23,7 +22,11 @@ pub(crate) fn push_slot(line: &mut Text, explained: &Explained, slot: usize, wid
     };
     push_line(line, explained, slot, insn, width);
     match &explained.explanation {
-        Some(explanation) if explanation.slot == slot => push_explanation(line, explanation),
+        Some(explanation) if explanation.slot == slot => push_explanation(
+            line,
+            explained.listing.context().rules,
+            explanation,
+        ),
         _ => {}
     }
 }

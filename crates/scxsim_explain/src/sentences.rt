@@ -1,7 +1,8 @@
 use crate::advice::Advice;
-use crate::words::{Members, field_name, from_top, push_register, push_spoken, step_of, wanted};
+use crate::words::{Members, from_top, push_register, push_spoken, step_of, wanted};
 use scx_abs::Kind;
-use scx_isa::{Parameter, Register, STACK_SIZE};
+use scx_asm_text::field_name;
+use scx_isa::{Parameter, Register, Rules, STACK_SIZE};
 use scx_verify_explain::{
     BadAccess, BadCall, BadField, BadFlow, BadValue, Brought, Explanation, Leg, Memory, Origin,
     Place, Reach, Reason,
@@ -11,8 +12,8 @@ use scxsim_output::Text;
 /// The beginning of each line of an explanation.
 const MARGIN: &str = "      = ";
 
-/// Appends why a program is refused, and how control came there.
-pub(crate) fn push_explanation(line: &mut Text, explanation: &Explanation) {
+/// Appends why a program is refused by those rules, and how control came there.
+pub(crate) fn push_explanation(line: &mut Text, rules: Rules, explanation: &Explanation) {
     let (origin, is_copied) = match &explanation.trail {
         Some(trail) => (trail.origin, trail.is_copied),
         None => (None, false),
@@ -21,6 +22,7 @@ pub(crate) fn push_explanation(line: &mut Text, explanation: &Explanation) {
         reason: explanation.reason,
         origin,
         is_copied,
+        rules,
     };
     push_sentence(line, &advice);
     if let Some(trail) = &explanation.trail {

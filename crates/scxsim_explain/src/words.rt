@@ -1,6 +1,6 @@
 use scx_abs::Kind;
 use scx_abs_ranges::{Numbers, Offsets, Range};
-use scx_isa::{Field, Helper, Parameter, Register, STACK_SIZE};
+use scx_isa::{Parameter, Register, STACK_SIZE};
 use scx_verify_explain::Place;
 use scxsim_output::Text;
 
@@ -127,35 +127,5 @@ pub(crate) fn wanted(parameter: Parameter) -> &'static str {
         Parameter::Key => "a pointer to a key",
         Parameter::Task => "a task",
         Parameter::Number => "a number",
-    }
-}
-
-/// The name of a field of a task.
-pub(crate) fn field_name(field: Field) -> &'static str {
-    match field {
-        Field::Pid => "pid",
-        Field::Weight => "weight",
-        Field::Slice => "slice",
-        Field::DsqVtime => "dsq_vtime",
-        Field::PrevCpu => "prev_cpu",
-        Field::Group => "group",
-        Field::RunNs => "run_ns",
-    }
-}
-
-/// The name that the table of helpers has.
-pub(crate) fn helper_name(helper: Helper) -> &'static str {
-    match helper {
-        Helper::MapLookupElem => "map_lookup_elem",
-        Helper::KtimeGetNs => "ktime_get_ns",
-        Helper::CreateDsq => "create_dsq",
-        Helper::DsqInsert => "dsq_insert",
-        Helper::DsqInsertVtime => "dsq_insert_vtime",
-        Helper::DsqMoveToLocal => "dsq_move_to_local",
-        Helper::SelectCpuDfl => "select_cpu_dfl",
-        Helper::CpuIdle => "cpu_idle",
-        Helper::TaskByPid => "task_by_pid",
-        Helper::DsqNrQueued => "dsq_nr_queued",
-        Helper::KickCpu => "kick_cpu",
     }
 }

@@ -3,12 +3,14 @@ use Rattle.std.proofs.Common.{◌≡◌, ℕ, ℤ, false, List, [], ◌∷◌, O
 use Rattle.std.specs.Prelude.{IfSome, IfOk, OnOk, OnErr}
 use Rattle.scx_sched_world.specs.declared.eject.Eject.{Eject}
 use Rattle.scx_sched_world.specs.declared.eject.Eject.TheVariants as cause
-use Rattle.scx_sched_world.specs.declared.faults.Fault.{Fault}
+use Rattle.scx_sched_world.specs.declared.eject.Cause.{Cause}
+use Rattle.scx_sched_world.specs.declared.eject.Cause.TheVariants as reason
+use Rattle.scx_sched_world.specs.Ejecting.{eject_of}
 use Rattle.scx_sched_machine.specs.declared.events.Event.{Event}
 use Rattle.scx_sched_machine.specs.Hearing.{Hears}
 use Rattle.scx_sched_machine.specs.Steps.{CallMade}
 use Rattle.scx_sched_machine.specs.Policy.{PolicyState}
-use Rattle.scx_sched.specs.Causes.{IsLast, IsCause, Waited, Went_wrong, EjectsOnce}
+use Rattle.scx_sched.specs.Causes.{IsLast, IsCause, Waited, Went_wrong, Ended, EjectsOnce}
 use Rattle.scx_sched_machine.specs.Start.{first_state, IsRefusal, start_calls, calls_before}
 use Rattle.scx_sched_machine.specs.declared.start.NewError.{NewError}
 use Rattle.scx_sched_machine.specs.declared.start.NewError.TheVariants as start
@@ -20,22 +22,28 @@ use Rattle.scx_load_workloads.specs.Workload.{WorkloadState, first_tree}
 use Rattle.scxsim_faults.specs.declared.finder.Finder.{Finder}
 use Rattle.scxsim_faults.specs.declared.place.FaultPlace.{FaultPlace}
 use Rattle.scxsim_faults.specs.Places.{IsPlaceOf, IsPlaceAt, IsPlaceIn, IsPlaceAtStart, IsPlaceUnder, In_event, At_start, IsPolicyOf, IsPlaceFound}
-use Rattle.scxsim_faults.specs.Finding.{Finds, IsForFault, is_init_failed, IsUnderAny}
+use Rattle.scxsim_faults.specs.Finding.{Finds, IsForCause, is_init_failed, IsUnderAny}
 use Rattle.scxsim_faults.proofs.Telling.{at_some}
 use Rattle.scxsim_faults.proofs.Heard.{last_heard, last_found}
 
--- an ejection for a fault is that of the last call
-last_of : (s : SimState) (e : Event) (x : Eject) (f : Fault) (n : ℕ) → IsCause s e x → x ≡ cause.Fault f n → (m : CallMade) × IsLast m (calls_of s e)
-last_of s e _ f n (Waited t at over) same = absurd (cc)
-last_of s e _ f n (Went_wrong m g last has) same = (m, last)
+-- a stall is no fault or exit of a callback
+not_stall : (t k n : ℕ) (x : Cause) → cause.Stall t k ≡ eject_of x n → ⊥
+not_stall t k n (reason.Fault f) e = absurd (cc)
+not_stall t k n (reason.Exit code) e = absurd (cc)
 
--- the place that is kept of an event in which the policy was ejected for that fault
-pub place_at : (s t : SimState) (e : Event) (f g : Finder) (fault : Fault) (n : ℕ) (p : FaultPlace)
-    → s.state.world.ejected ≡ None → t ≡ after_event s e → EjectsOnce s e t → t.state.world.ejected ≡ Some (cause.Fault fault n)
-    → Hears Finds f (calls_of s e) g → g.found ≡ Some p → p.fault ≡ fault → IsPlaceAt s e p
-place_at s t e f g fault n p in_force to once ejected hears found same =
-    let last = last_of s e (cause.Fault fault n) fault n (once.cause (cause.Fault fault n) in_force ejected) refl in
-    let Out : SimState → Type 0 = λ x. x.state.world.ejected ≡ Some (cause.Fault p.fault n) in
+-- an ejection for a fault or exit is that of the last call
+last_of : (s : SimState) (e : Event) (why : Eject) (x : Cause) (n : ℕ) → IsCause s e why → why ≡ eject_of x n → (m : CallMade) × IsLast m (calls_of s e)
+last_of s e _ x n (Waited t at over) same = absurd (not_stall t _ n x same)
+last_of s e _ x n (Went_wrong m f last has) same = (m, last)
+last_of s e _ x n (Ended m code last has) same = (m, last)
+
+-- the place that is kept of an event in which the policy was ejected for that fault or exit
+pub place_at : (s t : SimState) (e : Event) (f g : Finder) (x : Cause) (n : ℕ) (p : FaultPlace)
+    → s.state.world.ejected ≡ None → t ≡ after_event s e → EjectsOnce s e t → t.state.world.ejected ≡ Some (eject_of x n)
+    → Hears Finds f (calls_of s e) g → g.found ≡ Some p → p.cause ≡ x → IsPlaceAt s e p
+place_at s t e f g x n p in_force to once ejected hears found same =
+    let last = last_of s e (eject_of x n) x n (once.cause (eject_of x n) in_force ejected) refl in
+    let Out : SimState → Type 0 = λ u. u.state.world.ejected ≡ Some (eject_of p.cause n) in
     record {
       in_force = in_force;
       clock = n;
@@ -46,23 +54,25 @@ place_at s t e f g fault n p in_force to once ejected hears found same =
     }
 
 -- and what is found of it, whether it was accepted or not
-pub places_at : {A E : Type 0} (r : Result A E) (s t : SimState) (e : Event) (f g : Finder) (fault : Fault) (n : ℕ) (o : Option FaultPlace)
-    → s.state.world.ejected ≡ None → t ≡ after_event s e → OnOk r (EjectsOnce s e t) → OnErr r (t ≡ s) → t.state.world.ejected ≡ Some (cause.Fault fault n)
-    → Hears Finds f (calls_of s e) g → IfSome o (λ p. g.found ≡ Some p) → IfSome o (λ p. p.fault ≡ fault) → IfSome o (IsPlaceAt s e)
-places_at r s t e f g fault n None in_force to once stays ejected hears found same = tt
-places_at (Ok x) s t e f g fault n (Some p) in_force to once stays ejected hears found same = place_at s t e f g fault n p in_force to once ejected hears found same
-places_at (Err x) s t e f g fault n (Some p) in_force to once stays ejected hears found same =
-    let Out : SimState → Type 0 = λ x. x.state.world.ejected ≡ Some (cause.Fault fault n) in
-    let bad : None ≡ Some (cause.Fault fault n) = sym in_force ∙ subst Out stays ejected in
+pub places_at : {A E : Type 0} (r : Result A E) (s t : SimState) (e : Event) (f g : Finder) (x : Cause) (n : ℕ) (o : Option FaultPlace)
+    → s.state.world.ejected ≡ None → t ≡ after_event s e → OnOk r (EjectsOnce s e t) → OnErr r (t ≡ s) → t.state.world.ejected ≡ Some (eject_of x n)
+    → Hears Finds f (calls_of s e) g → IfSome o (λ p. g.found ≡ Some p) → IfSome o (λ p. p.cause ≡ x) → IfSome o (IsPlaceAt s e)
+places_at r s t e f g x n None in_force to once stays ejected hears found same = tt
+places_at (Ok y) s t e f g x n (Some p) in_force to once stays ejected hears found same = place_at s t e f g x n p in_force to once ejected hears found same
+places_at (Err y) s t e f g x n (Some p) in_force to once stays ejected hears found same =
+    let Out : SimState → Type 0 = λ u. u.state.world.ejected ≡ Some (eject_of x n) in
+    let bad : None ≡ Some (eject_of x n) = sym in_force ∙ subst Out stays ejected in
     absurd (cc)
 
 -- and of any ejection
 pub places_for : {A E : Type 0} (r : Result A E) (s t : SimState) (e : Event) (f g : Finder) (why : Eject) (o : Option FaultPlace)
     → s.state.world.ejected ≡ None → t ≡ after_event s e → OnOk r (EjectsOnce s e t) → OnErr r (t ≡ s) → t.state.world.ejected ≡ Some why
-    → Hears Finds f (calls_of s e) g → IfSome o (λ p. g.found ≡ Some p) → IfSome o (λ p. IsForFault p.fault why) → IfSome o (IsPlaceAt s e)
+    → Hears Finds f (calls_of s e) g → IfSome o (λ p. g.found ≡ Some p) → IfSome o (λ p. IsForCause p.cause why) → IfSome o (IsPlaceAt s e)
 places_for r s t e f g why None in_force to once stays ejected hears found same = tt
 places_for r s t e f g (cause.Fault fault n) (Some p) in_force to once stays ejected hears found same =
-    places_at r s t e f g fault n (Some p) in_force to once stays ejected hears found same
+    places_at r s t e f g (reason.Fault fault) n (Some p) in_force to once stays ejected hears found same
+places_for r s t e f g (cause.Exit code n) (Some p) in_force to once stays ejected hears found same =
+    places_at r s t e f g (reason.Exit code) n (Some p) in_force to once stays ejected hears found same
 places_for r s t e f g (cause.Stall u n) (Some p) in_force to once stays ejected hears found same = absurd same
 
 -- in the first event

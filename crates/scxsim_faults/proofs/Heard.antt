@@ -13,7 +13,7 @@ use Rattle.scxsim_faults.specs.Places.{HasQueues, IsPlaceOf}
 use Rattle.scxsim_faults.specs.Finding.{IsTold, Finds}
 use Rattle.scxsim_faults.proofs.Telling.{at_some, HasCome, Exits, told_is}
 
--- what is told of a callback that ran to that end is the place of its fault
+-- what is told of a callback that ran to that end is the place of its fault or exit
 pub finds : (o : Option FaultPlace) (m : CallMade) (ran : Answered) (w : WorldState) (queues : PolicyQueues) → m.callback ≡ m.program.context.callback
     → EndsIn m ran.answer w → IfSome ran.came (HasCome m ran w) → Exits m ran w → HasQueues m w queues → IfSome o (IsTold m.program m.arguments ran w queues) → IfSome o (IsPlaceOf m)
 finds None m ran w queues same ends came exits has told = tt

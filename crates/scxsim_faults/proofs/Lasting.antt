@@ -1,5 +1,6 @@
--- The first fault of a callback stays its first fault, and a run can go one way only.
+-- The first fault or exit of a callback stays its first one, and a run can go one way only.
 use Rattle.std.proofs.Common.{◌≡◌, ℕ, zero, suc, ◌+◌, ◌-◌, ◌≤◌, ◌||◌, nat_lt, List, length, map, Option, Some, None, is_none, refl, sym, ap, ◌∙◌, subst, arith}
+use Rattle.std.specs.Int.{w64, cast_signed}
 use Rattle.scx_dsq.specs.Queues.{front_of}
 use Rattle.scx_dsq.specs.Calls.{after_push}
 use Rattle.scx_isa_semantics.specs.declared.callbacks.Callback.{Callback}
@@ -13,21 +14,22 @@ use Rattle.scx_vm.specs.Arguments.{argument_of}
 use Rattle.scx_vm.specs.declared.arguments.Arg.{Arg}
 use Rattle.scx_vm.specs.Host.{host, after_query}
 use Rattle.scx_sched_world.specs.declared.call.Insert.{Insert}
-use Rattle.scx_sched_world.specs.declared.faults.Fault.{Fault}
+use Rattle.scx_sched_world.specs.declared.eject.Cause.{Cause}
+use Rattle.scx_sched_world.specs.declared.eject.Cause.TheVariants as reason
 use Rattle.scx_sched_world.specs.declared.kicks.Kick.{Kick}
 use Rattle.scx_sched_world.specs.declared.kicks.Kick.TheVariants.{Any, IfIdle, Preempt}
 use Rattle.scx_sched_world.specs.World.{WorldState, with_queues, with_kick, is_by_linux, task_at, with_task, running, is_this, after_claim}
 use Rattle.scx_sched_world.specs.Tasks.{after_leave, homed, homed_at, local_cpu, task_after_insert, rank_by, after_preempt_of, after_preempt_at, after_preempt, after_enter, for_cpu}
-use Rattle.scx_sched_world.specs.Helpers.{with_fault, is_dispatch, with_insert, after_release, insert_or_fault, front_moved_to_local, kicked_so, helper_after, world_functions}
+use Rattle.scx_sched_world.specs.Helpers.{with_cause, is_dispatch, with_insert, after_release, insert_or_fault, front_moved_to_local, kicked_so, helper_after, world_functions}
 use Rattle.scx_sched_machine.proofs.Choices.{keeps_if}
 use Rattle.scx_sched_machine.proofs.HelperCalls.{by_helper}
 
-module _ (f : Fault) where
+module _ (x : Cause) where
   abbrev Has : WorldState → Type 0
-  Has w = w.call.fault ≡ Some f
+  Has w = w.call.cause ≡ Some x
 
-  has_faulted : (w : WorldState) (g : Fault) → Has w → Has (with_fault w g)
-  has_faulted w g h = rw h refl
+  has_more : (w : WorldState) (y : Cause) → Has w → Has (with_cause w y)
+  has_more w y h = rw h refl
 
   has_home : (w : WorldState) (t c : ℕ) → Has w → Has (homed w t c)
   has_home w t c h = keeps_if Has (is_by_linux w) _ w h h
@@ -79,7 +81,8 @@ module _ (f : Fault) where
   has_helper : (w : WorldState) (x : Helper) (a : List Arg) → Has w → Has (helper_after w x a)
   has_helper w x a h = by_helper Has w (record {
     same = h;
-    faulty = λ g other. has_faulted w g h;
+    faulty = λ g other. has_more w (reason.Fault g) h;
+    ended = λ n. has_more w (reason.Exit (cast_signed w64 n)) h;
     created = λ q. h;
     inserted = λ t i flags behind none. has_inserted w t i h;
     late = λ linux here. h;
@@ -130,14 +133,14 @@ module _ (c : Callback) (code : Code) where
       let only = only_step (step c code s m) w t x v t' x' v' first first' in
       rest_of n k i t x v s₁ m₁ w₁ s₂ m₂ w₂ (omega (arith, e)) more (rw (← only.0, ← only.1, ← only.2) more')
 
-  -- while the callback has no fault it had none before
+  -- while the callback has no fault and didn't end the policy, that was so before
   pub none_up_to : (n j s : ℕ) (m : Machine) (w : WorldState) (s₁ : ℕ) (m₁ : Machine) (w₁ : WorldState) (s₂ : ℕ) (m₂ : Machine) (w₂ : WorldState)
-      → w₂.call.fault ≡ None → To j s m w s₂ m₂ w₂ → n ≤ j → To n s m w s₁ m₁ w₁ → w₁.call.fault ≡ None
-  none_up_to n j s m w s₁ m₁ w₁ s₂ m₂ w₂ none long few short = go w₁.call.fault refl
+      → w₂.call.cause ≡ None → To j s m w s₂ m₂ w₂ → n ≤ j → To n s m w s₁ m₁ w₁ → w₁.call.cause ≡ None
+  none_up_to n j s m w s₁ m₁ w₁ s₂ m₂ w₂ none long few short = go w₁.call.cause refl
     where
       rest : To (j - n) s₁ m₁ w₁ s₂ m₂ w₂
       rest = rest_of n (j - n) j s m w s₁ m₁ w₁ s₂ m₂ w₂ (omega (arith, few)) short long
 
-      go : (o : Option Fault) → w₁.call.fault ≡ o → w₁.call.fault ≡ None
+      go : (o : Option Cause) → w₁.call.cause ≡ o → w₁.call.cause ≡ None
       go None e = e
-      go (Some f) e = let bad : None ≡ Some f = sym none ∙ has_run f c code (j - n) s₁ m₁ w₁ s₂ m₂ w₂ rest e in absurd (cc)
+      go (Some x) e = let bad : None ≡ Some x = sym none ∙ has_run x c code (j - n) s₁ m₁ w₁ s₂ m₂ w₂ rest e in absurd (cc)

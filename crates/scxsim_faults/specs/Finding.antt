@@ -7,8 +7,9 @@ use Rattle.scx_isa_semantics.specs.Code.{at}
 use Rattle.scx_isa_semantics.specs.HostTables.{helper_at}
 use Rattle.scx_vm.specs.Programs.{VerifiedProgram}
 use Rattle.scx_vm.specs.declared.arguments.Args.{Args}
-use Rattle.scx_sched_world.specs.declared.faults.Fault.{Fault}
 use Rattle.scx_sched_world.specs.declared.faults.Fault.TheVariants.{NoSuchCpu}
+use Rattle.scx_sched_world.specs.declared.eject.Cause.{Cause}
+use Rattle.scx_sched_world.specs.declared.eject.Cause.TheVariants as reason
 use Rattle.scx_sched_world.specs.declared.eject.Eject.{Eject}
 use Rattle.scx_sched_world.specs.declared.eject.Eject.TheVariants as cause
 use Rattle.scx_sched_world.specs.World.{WorldState}
@@ -32,21 +33,22 @@ pub record IsCallAt (program : VerifiedProgram) (ran : Answered) (slot : ℕ) (c
   pub calls : at program.code slot ≡ Some (insn.Call call.number)
   pub helper : helper_at call.number ≡ Some call.helper
 
--- select_cpu answered no CPU, and had no fault before; the slot is that of its exit
-pub record IsAnswerAt (program : VerifiedProgram) (ran : Answered) (w : WorldState) (fault : Fault)
+-- select_cpu answered no CPU, and before it had no fault and didn't end the policy; the slot is that
+-- of its exit
+pub record IsAnswerAt (program : VerifiedProgram) (ran : Answered) (w : WorldState) (cause : Cause)
     (slot : ℕ) : Type 0 where
-  pub none : w.call.fault ≡ None
-  pub fault_is : fault ≡ NoSuchCpu
+  pub none : w.call.cause ≡ None
+  pub cause_is : cause ≡ reason.Fault NoSuchCpu
   pub slot_is : slot ≡ ran.last
   pub select_cpu : program.context.callback ≡ SelectCpu
   pub past : length w.cpus ≤ ran.answer
 
--- that slot, that fault and that call are told of a run that ended in that world
+-- that slot, that fault or exit and that call are told of a run that ended in that world
 abbrev pub IsToldAt :
-    VerifiedProgram → Answered → WorldState → Fault → ℕ → Option HelperCall → Type 0
-IsToldAt program ran w fault slot None = IsAnswerAt program ran w fault slot
-IsToldAt program ran w fault slot (Some call) =
-    (w.call.fault ≡ Some fault) × IsCallAt program ran slot call
+    VerifiedProgram → Answered → WorldState → Cause → ℕ → Option HelperCall → Type 0
+IsToldAt program ran w x slot None = IsAnswerAt program ran w x slot
+IsToldAt program ran w x slot (Some call) =
+    (w.call.cause ≡ Some x) × IsCallAt program ran slot call
 
 -- all that is told of a run
 pub record IsTold (program : VerifiedProgram) (a : Args) (ran : Answered) (w : WorldState)
@@ -56,16 +58,17 @@ pub record IsTold (program : VerifiedProgram) (a : Args) (ran : Answered) (w : W
   pub answer : p.answer ≡ ran.answer
   pub cpus : p.cpus ≡ length w.cpus
   pub queues_are : p.queues ≡ queues
-  pub told_at : IsToldAt program ran w p.fault p.slot p.call
+  pub told_at : IsToldAt program ran w p.cause p.slot p.call
 
--- told of the call, the finder keeps the place of its first fault if it had one
+-- told of the call, the finder keeps the place of its first fault or exit if it had one
 abbrev pub Finds : Finder → CallMade → Finder → Type 0
 Finds f m g = IfSome g.found (IsPlaceOf m)
 
--- the ejection is for that fault
-abbrev pub IsForFault : Fault → Eject → Type 0
-IsForFault f (cause.Fault g clock) = f ≡ g
-IsForFault f (cause.Stall t clock) = ⊥
+-- the ejection is for that fault or exit of a callback
+abbrev pub IsForCause : Cause → Eject → Type 0
+IsForCause x (cause.Fault f clock) = x ≡ reason.Fault f
+IsForCause x (cause.Exit n clock) = x ≡ reason.Exit n
+IsForCause x (cause.Stall t clock) = ⊥
 
 -- whether a machine can't begin because init or enable fails
 abbrev pub is_init_failed : NewError → Bool

@@ -1,4 +1,4 @@
--- The place of a policy's fault: the call of a helper, and the event of the run.
+-- The place of a policy's fault or exit: the call of a helper, and the event of the run.
 use Rattle.std.specs.Prelude.{◌≡◌, ℕ, ℤ, ◌≤◌, List, ◌∷◌, ◌++◌, length, take, Option, Some, None, Ok, Err}
 use Rattle.scx_isa_semantics.specs.declared.callbacks.Callback.TheVariants.{SelectCpu}
 use Rattle.scx_isa_semantics.specs.declared.instructions.Insn.TheVariants as insn
@@ -13,9 +13,10 @@ use Rattle.scx_vm.specs.declared.arguments.Args.{Args}
 use Rattle.scx_vm.specs.Arguments.{program_arguments}
 use Rattle.scx_vm.specs.Host.{host}
 use Rattle.scx_vm_tagged.specs.Watched.{held, EndsAt}
-use Rattle.scx_sched_world.specs.declared.eject.Eject.TheVariants as cause
-use Rattle.scx_sched_world.specs.declared.faults.Fault.{Fault}
+use Rattle.scx_sched_world.specs.declared.eject.Cause.{Cause}
+use Rattle.scx_sched_world.specs.declared.eject.Cause.TheVariants as reason
 use Rattle.scx_sched_world.specs.declared.faults.Fault.TheVariants.{NoSuchCpu}
+use Rattle.scx_sched_world.specs.Ejecting.{eject_of}
 use Rattle.scx_sched_world.specs.World.{WorldState}
 use Rattle.scx_sched_world.specs.Helpers.{world_functions}
 use Rattle.scx_sched_machine.specs.declared.events.Event.{Event}
@@ -48,9 +49,9 @@ call_of p a maps w = record {
 }
 
 -- The run of the callback's program, from its start, comes to a call of this helper at this slot,
--- with these values in r1 to r5. Up to this call the callback has no fault. After it, it has that
--- one.
-pub record IsFirstFault (m : CallMade) (fault : Fault) (slot : ℕ) (call : HelperCall)
+-- with these values in r1 to r5. Up to this call the callback has no fault, and it didn't end the
+-- policy. After it, it has that fault, or has ended the policy so.
+pub record IsFirstCause (m : CallMade) (cause : Cause) (slot : ℕ) (call : HelperCall)
     : Type 0 where
   pub steps : ℕ
   pub state : Machine
@@ -63,31 +64,32 @@ pub record IsFirstFault (m : CallMade) (fault : Fault) (slot : ℕ) (call : Help
   pub none_before : (n s : ℕ) (k : Machine) (w : WorldState) → n ≤ steps
       → Leads (host world_functions) m.callback m.program.code n 0
       (start (program_arguments m.arguments) m.maps) m.world s k w
-      → w.call.fault ≡ None
+      → w.call.cause ≡ None
   pub next_slot : ℕ
   pub next_state : Machine
   pub after : WorldState
   pub does : LeadsTo (host world_functions) (step m.callback m.program.code slot state) before
       next_slot next_state after
-  pub faults : after.call.fault ≡ Some fault
+  pub has : after.call.cause ≡ Some cause
 
--- No helper call of the run has a fault, and select_cpu ends at this slot with an answer that is no
--- CPU.
-pub record IsWrongAnswer (m : CallMade) (fault : Fault) (slot answer : ℕ) : Type 0 where
+-- No helper call of the run has a fault or ends the policy, and select_cpu ends at this slot with
+-- an answer that is no CPU.
+pub record IsWrongAnswer (m : CallMade) (cause : Cause) (slot answer : ℕ) : Type 0 where
   pub world : WorldState
   pub ends : EndsAt (host world_functions) m.callback m.program.code (program_arguments m.arguments)
       m.maps m.world answer world slot
-  pub none_before : world.call.fault ≡ None
+  pub none_before : world.call.cause ≡ None
   pub select_cpu : m.callback ≡ SelectCpu
   pub past : length world.cpus ≤ answer
-  pub fault_is : fault ≡ NoSuchCpu
+  pub cause_is : cause ≡ reason.Fault NoSuchCpu
 
--- a place with a helper's call is the first that has a fault; one without is that of a wrong answer
-abbrev pub IsFaultAt : CallMade → FaultPlace → Option HelperCall → Type 0
-IsFaultAt m p None = IsWrongAnswer m p.fault p.slot p.answer
-IsFaultAt m p (Some call) = IsFirstFault m p.fault p.slot call
+-- a place with a helper's call is the first that has a fault or ends the policy; one without is
+-- that of a wrong answer
+abbrev pub IsCauseAt : CallMade → FaultPlace → Option HelperCall → Type 0
+IsCauseAt m p None = IsWrongAnswer m p.cause p.slot p.answer
+IsCauseAt m p (Some call) = IsFirstCause m p.cause p.slot call
 
--- the policy's queues before the fault: at least those that were there as the callback began, and
+-- the policy's queues before that: at least those that were there as the callback began, and
 -- of those that are there as it ends the first ones
 pub record HasQueues (m : CallMade) (w : WorldState) (queues : PolicyQueues) : Type 0 where
   pub count : ℕ
@@ -101,21 +103,21 @@ pub record HasAnswered (m : CallMade) (answer cpus : ℕ) (queues : PolicyQueues
   pub count : cpus ≡ length world.cpus
   pub has_queues : HasQueues m world queues
 
--- the place is where the first fault of that callback came
+-- the place is where the first fault or exit of that callback came
 pub record IsPlaceOf (m : CallMade) (p : FaultPlace) : Type 0 where
   pub callback : p.callback ≡ m.callback
   pub given : p.given ≡ m.arguments.first
   pub answered : HasAnswered m p.answer p.cpus p.queues
-  pub fault_at : IsFaultAt m p p.call
+  pub cause_at : IsCauseAt m p p.call
 
 -- ---- in a run of the machine
 
--- In this event the policy is ejected for that fault. The callback that ejects it is the last one
--- of the event, and the place is its.
+-- In this event the policy is ejected for that fault or exit. The callback that ejects it is the
+-- last one of the event, and the place is its.
 pub record IsPlaceAt (s : SimState) (event : Event) (p : FaultPlace) : Type 0 where
   pub in_force : s.state.world.ejected ≡ None
   pub clock : ℕ
-  pub ejected : (after_event s event).state.world.ejected ≡ Some (cause.Fault p.fault clock)
+  pub ejected : (after_event s event).state.world.ejected ≡ Some (eject_of p.cause clock)
   pub ejecting : CallMade
   pub last : IsLast ejecting (calls_of s event)
   pub place : IsPlaceOf ejecting p

@@ -3,8 +3,9 @@ ghost use Rattle.scx_isa_semantics.specs.declared.callbacks.Callback.TheVariants
 ghost use Rattle.scx_isa_semantics.specs.declared.instructions.Insn.TheVariants.{Call};
 ghost use Rattle.scx_isa_semantics.specs.Code.{at};
 ghost use Rattle.scx_isa_semantics.specs.HostTables.{helper_at};
+ghost use Rattle.scx_sched_world.specs.declared.eject.Cause.TheVariants as reason;
 ghost use Rattle.scx_sched_world.specs.declared.faults.Fault.TheVariants.{NoSuchCpu};
-ghost use Rattle.scxsim_faults.specs.Finding.{IsCallAt, IsToldAt, IsTold, Finds, IsForFault};
+ghost use Rattle.scxsim_faults.specs.Finding.{IsCallAt, IsToldAt, IsTold, Finds, IsForCause};
 ghost use Rattle.scxsim_faults.specs.declared.finder.Finder.{Finder};
 
 use crate::look::Look;
@@ -14,13 +15,13 @@ use crate::running::{Answered, run_seen};
 use scx_isa::{Callback, Helper, Insn, Program};
 use scx_maps::Maps;
 use scx_sched::{Eject, Fault, Hearer, Note};
-use scx_sched_world::World;
+use scx_sched_world::{Cause, World};
 use scx_verify::Verified;
 use scx_vm::Args;
 use scx_vm_run::Core;
 use scx_vm_tagged::Site;
 
-/// Runs callbacks instruction by instruction, and keeps the place of the first fault of the last one.
+/// Runs callbacks instruction by instruction, and keeps the place of the first fault or exit of the last one.
 #[derive(Drop)]
 pub(crate) struct Finder {
     found: Option<FaultPlace>,
@@ -34,47 +35,48 @@ impl Finder {
         Finder { found: None }
     }
 
-    /// The place of the last callback's first fault, if it had one.
+    /// The place of the last callback's first fault or exit, if it had one.
     pub(crate) fn found(&self) -> Option<FaultPlace>
         ensures { result ≡ self.now.found }
     {
         self.found
     }
 
-    /// The place of that fault, if the last callback had it.
-    fn found_of(&self, fault: Fault) -> Option<FaultPlace>
+    /// The place of that fault or exit, if the last callback had it.
+    fn found_of(&self, cause: Cause) -> Option<FaultPlace>
         ensures kept { IfSome result (λ p. self.now.found ≡ Some p) }
-        ensures fault { IfSome result (λ p. p.fault ≡ fault) }
+        ensures cause { IfSome result (λ p. p.cause ≡ cause) }
     {
         let found = self.found?;
-        if found.fault == fault {
+        if found.cause == cause {
             Some(found)
         } else {
             None
         }
     }
 
-    /// The place of the fault of that ejection, if the last callback had it.
+    /// The place of the fault or exit of that ejection, if the last callback had it.
     pub(crate) fn found_for(&self, why: Eject) -> Option<FaultPlace>
         ensures kept { IfSome result (λ p. self.now.found ≡ Some p) }
-        ensures fault { IfSome result (λ p. IsForFault p.fault why) }
+        ensures cause { IfSome result (λ p. IsForCause p.cause why) }
     {
         match why {
-            Eject::Fault(fault, _) => self.found_of(fault),
+            Eject::Fault(fault, _) => self.found_of(Cause::Fault(fault)),
+            Eject::Exit(code, _) => self.found_of(Cause::Exit(code)),
             Eject::Stall(_, _) => None,
         }
     }
 }
 
-/// The slot, the fault and the helper's call of the first fault of a callback.
+/// The first fault or exit of a callback, with its slot and the helper's call.
 #[derive(Clone, Copy)]
 struct Told {
     slot: usize,
-    fault: Fault,
+    cause: Cause,
     call: Option<HelperCall>,
 }
 
-/// The place of the first fault of a callback that ran to that end, if it had one.
+/// The place of the first fault or exit of a callback that ran to that end, if it had one.
 fn place_of(
     program: &Verified,
     arguments: Args,
@@ -88,7 +90,7 @@ fn place_of(
     Some(FaultPlace {
         callback: program.callback(),
         slot: told.slot,
-        fault: told.fault,
+        cause: told.cause,
         call: told.call,
         answer: ran.answer,
         given: arguments.first,
@@ -97,20 +99,20 @@ fn place_of(
     })
 }
 
-/// The first fault of a callback that ran to that end.
+/// The first fault or exit of a callback that ran to that end.
 fn told_of(program: &Verified, ran: Answered, world: &World) -> Option<Told>
     ensures { IfSome result
-        (λ told. IsToldAt program.now ran world.now told.fault told.slot told.call) }
+        (λ told. IsToldAt program.now ran world.now told.cause told.slot told.call) }
 {
-    match world.first_fault() {
-        Some(fault) => told_of_call(program, ran, fault),
+    match world.cause() {
+        Some(cause) => told_of_call(program, ran, cause),
         None => told_of_answer(program.callback(), ran, world.cpus()),
     }
 }
 
-/// The fault, with the call that had it.
-fn told_of_call(program: &Verified, ran: Answered, fault: Fault) -> Option<Told>
-    ensures fault { IfSome result (λ told. told.fault ≡ fault) }
+/// The fault or exit, with the call that had it.
+fn told_of_call(program: &Verified, ran: Answered, cause: Cause) -> Option<Told>
+    ensures cause { IfSome result (λ told. told.cause ≡ cause) }
     ensures call { IfSome result (λ told. IfSome told.call (IsCallAt program.now ran told.slot)) }
     ensures some { IfSome result (λ told. is_some told.call ≡ true) }
 {
@@ -118,7 +120,7 @@ fn told_of_call(program: &Verified, ran: Answered, fault: Fault) -> Option<Told>
     let call = call_at(program.program(), site)?;
     Some(Told {
         slot: site.slot,
-        fault,
+        cause,
         call: Some(call),
     })
 }
@@ -126,7 +128,7 @@ fn told_of_call(program: &Verified, ran: Answered, fault: Fault) -> Option<Told>
 /// The fault of an answer that is no CPU, with the slot of the exit.
 fn told_of_answer(callback: Callback, ran: Answered, cpus: u32) -> Option<Told>
     ensures none { IfSome result (λ told. told.call ≡ None) }
-    ensures fault { IfSome result (λ told. told.fault ≡ NoSuchCpu) }
+    ensures cause { IfSome result (λ told. told.cause ≡ reason.Fault NoSuchCpu) }
     ensures slot { IfSome result (λ told. told.slot ≡ ran.last) }
     ensures callback { IfSome result (λ told. callback ≡ SelectCpu) }
     ensures past { IfSome result (λ told. cpus ≤ ran.answer) }
@@ -134,7 +136,7 @@ fn told_of_answer(callback: Callback, ran: Answered, cpus: u32) -> Option<Told>
     if callback == Callback::SelectCpu && ran.answer >= u64::from(cpus) {
         Some(Told {
             slot: ran.last,
-            fault: Fault::NoSuchCpu,
+            cause: Cause::Fault(Fault::NoSuchCpu),
             call: None,
         })
     } else {

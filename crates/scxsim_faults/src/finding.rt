@@ -17,8 +17,8 @@ use scx_sched::{Event, MAX_EVENTS, NewError, Policy, Sim, Unseen};
 use scx_weights::Tree;
 use std::alloc::{AllocError, Global};
 
-/// Finds the first fault of the callback for which a policy was ejected at that clock, in the run of a workload, or
-/// the first fault in init or enable. None if there was no such fault, or the policy's text is refused.
+/// Finds the first fault or exit of the callback for which a policy was ejected at that clock, in the run of a
+/// workload, or the first one in init or enable. None if there was none, or the policy's text is refused.
 ///
 /// # Errors
 ///
@@ -35,7 +35,7 @@ pub fn find_fault(
     find_under_any(alloc, policy, workload, clock)
 }
 
-/// The place of the fault in the run under that policy, if there is one.
+/// The place of the fault or exit in the run under that policy, if there is one.
 fn find_under_any(
     alloc: Global,
     policy: Option<Policy>,
@@ -76,7 +76,7 @@ fn built(alloc: Global, text: PolicyText) -> Result<Option<Policy>, AllocError>
     }
 }
 
-/// The place of the fault in the run under that policy.
+/// The place of the fault or exit in the run under that policy.
 fn find_under(
     alloc: Global,
     policy: Policy,
@@ -94,7 +94,7 @@ fn find_under(
     }
 }
 
-/// The place of the fault in the run of these groups and tasks.
+/// The place of the fault or exit in the run of these groups and tasks.
 fn find_with(
     alloc: Global,
     policy: Policy,
@@ -116,7 +116,7 @@ fn find_with(
     }
 }
 
-/// The place of the fault in init or enable, if one of them failed: what was found.
+/// The place of the fault or exit in init or enable, if one of them failed: what was found.
 fn not_begun(error: NewError, found: Option<FaultPlace>) -> Result<Option<FaultPlace>, AllocError>
     ensures none { is_init_failed error ≡ false → IfOk result (λ place. place ≡ None) }
     ensures kept { IfOk result (λ place. IfSome place (λ p. found ≡ Some p)) }
@@ -168,8 +168,8 @@ fn go_through(driver: &mut Driver, sim: &mut Sim, clock: u64) -> Option<FaultPla
     None
 }
 
-/// Gives the machine one event, and returns the place of the fault if it ejects the policy. An event of the clock
-/// ends at the next millisecond, so callbacks are heard from a millisecond before that clock on.
+/// Gives the machine one event, and returns the place of the fault or exit if it ejects the policy. An event of the
+/// clock ends at the next millisecond, so callbacks are heard from a millisecond before that clock on.
 fn step(sim: &mut Sim, event: Event, clock: u64) -> Option<FaultPlace>
     requires { sim.old.state.world.ejected ≡ None }
     ensures state { sim.new ≡ after_event sim.old event }

@@ -1,4 +1,4 @@
-//! The place of a policy's fault: the callback, the slot, and the call of a helper with its arguments.
+//! The place of a policy's fault or exit: the callback, the slot, and the call of a helper with its arguments.
 //!
 //! `find_fault` repeats a run up to the ejection. From a millisecond before it on, the policy's programs are run
 //! instruction by instruction, by the machine of the definitions; each comes to the same end as before, as the

@@ -4,7 +4,7 @@ use crate::policy_queues::own_queues;
 use scx_sched_world::World;
 use scx_vm_tagged::{Core, Watch};
 
-/// Awaits the first fault of a callback, and counts the policy's queues that were created before it.
+/// Awaits the first fault or exit of a callback, and counts the policy's queues that were created before it.
 #[derive(Drop)]
 pub(crate) struct Look {
     /// The number of the machine's own queues, which come before the policy's.
@@ -19,7 +19,7 @@ impl Look {
         Look { own, count }
     }
 
-    /// The number of the policy's queues before the fault.
+    /// The number of the policy's queues before the fault or exit.
     pub(crate) fn count(&self) -> usize {
         let count = self.count;
         count
@@ -27,16 +27,16 @@ impl Look {
 }
 
 impl Watch<World> for Look {
-    ghost awaited = { λ w. is_some w.call.fault };
+    ghost awaited = { λ w. is_some w.call.cause };
 
     fn has_come(&self, env: &World) -> bool {
-        env.first_fault().is_some()
+        env.cause().is_some()
     }
 
     /// An instruction creates at most one queue, which has the next place.
     fn see(&mut self, _slot: usize, _core: &Core, env: &World) {
         let next = self.own.saturating_add(self.count);
-        if env.first_fault().is_none() && env.queue_at(next).is_some() {
+        if env.cause().is_none() && env.queue_at(next).is_some() {
             self.count = self.count.saturating_add(1);
         }
     }

@@ -1,6 +1,6 @@
 use crate::policy_queues::PolicyQueues;
 use scx_isa::{Callback, Helper, Pointer, Value};
-use scx_sched::Fault;
+use scx_sched_world::Cause;
 use scx_vm::Arg;
 
 /// A helper's call, with what r1 to r5 held.
@@ -30,14 +30,14 @@ impl HelperCall {
     }
 }
 
-/// Where a callback's first fault came.
+/// Where a callback's first fault or exit came.
 #[derive(Clone, Copy)]
 pub struct FaultPlace {
     pub callback: Callback,
     /// The slot of the instruction, counted from 0.
     pub slot: usize,
-    pub fault: Fault,
-    /// The call that had the fault. None where the callback's answer has it.
+    pub cause: Cause,
+    /// The call that had the fault or was the exit. None where the callback's answer has the fault.
     pub call: Option<HelperCall>,
     /// The callback's answer.
     pub answer: u64,
@@ -45,7 +45,7 @@ pub struct FaultPlace {
     pub given: Arg,
     /// The number of CPUs.
     pub cpus: u32,
-    /// The policy's queues before the fault.
+    /// The policy's queues before that.
     pub(crate) queues: PolicyQueues,
 }
 

@@ -1,7 +1,9 @@
 use crate::place::{FaultPlace, HelperCall};
-use scx_isa::{Callback, Helper};
+use scx_asm_text::helper_name;
+use scx_isa::{Callback, Helper, Parameter};
+use scx_isa_semantics::MAX_ARGUMENTS;
 use scx_sched::Fault;
-use scx_sched_world::{GLOBAL, LOCAL, LOCAL_ON, POLICY_END};
+use scx_sched_world::{Cause, GLOBAL, LOCAL, LOCAL_ON, POLICY_END};
 use scxsim_output::Text;
 use scxsim_trace::Names;
 
@@ -11,46 +13,29 @@ enum Meaning {
     Task,
     Queue,
     Slice,
+    /// The code of an exit, which has a sign.
+    Code,
     Number,
 }
 
-/// The meanings of a helper's arguments, in their order.
-fn meanings(helper: Helper) -> &'static [Meaning] {
-    match helper {
-        Helper::DsqInsert => &[
-            Meaning::Task,
-            Meaning::Queue,
-            Meaning::Slice,
-            Meaning::Number,
-        ],
-        Helper::DsqInsertVtime => &[
-            Meaning::Task,
-            Meaning::Queue,
-            Meaning::Slice,
-            Meaning::Number,
-            Meaning::Number,
-        ],
-        Helper::CreateDsq | Helper::DsqMoveToLocal | Helper::DsqNrQueued => &[Meaning::Queue],
-        Helper::CpuIdle | Helper::TaskByPid => &[Meaning::Number],
-        Helper::KickCpu => &[Meaning::Number, Meaning::Number],
-        Helper::SelectCpuDfl => &[Meaning::Task],
-        Helper::KtimeGetNs | Helper::MapLookupElem => &[],
+/// The meaning of a helper's argument at that index, from 0. None past the last one, and where a map is given.
+fn meaning_at(helper: Helper, index: usize) -> Option<Meaning> {
+    match helper.parameter(index)? {
+        Parameter::Task => Some(Meaning::Task),
+        Parameter::Number => Some(meaning_of_number(helper, index)),
+        Parameter::Map | Parameter::Key => None,
     }
 }
 
-fn name_of(helper: Helper) -> &'static str {
-    match helper {
-        Helper::MapLookupElem => "map_lookup_elem",
-        Helper::KtimeGetNs => "ktime_get_ns",
-        Helper::CreateDsq => "create_dsq",
-        Helper::DsqInsert => "dsq_insert",
-        Helper::DsqInsertVtime => "dsq_insert_vtime",
-        Helper::DsqMoveToLocal => "dsq_move_to_local",
-        Helper::SelectCpuDfl => "select_cpu_dfl",
-        Helper::CpuIdle => "cpu_idle",
-        Helper::TaskByPid => "task_by_pid",
-        Helper::DsqNrQueued => "dsq_nr_queued",
-        Helper::KickCpu => "kick_cpu",
+/// The meaning of a number that a helper takes.
+fn meaning_of_number(helper: Helper, index: usize) -> Meaning {
+    match (helper, index) {
+        (Helper::CreateDsq | Helper::DsqMoveToLocal | Helper::DsqNrQueued | Helper::DsqPeek, 0) =>
+            Meaning::Queue,
+        (Helper::DsqInsert | Helper::DsqInsertVtime, 1) => Meaning::Queue,
+        (Helper::DsqInsert | Helper::DsqInsertVtime, 2) => Meaning::Slice,
+        (Helper::Exit, 0) => Meaning::Code,
+        _ => Meaning::Number,
     }
 }
 
@@ -93,7 +78,7 @@ pub fn write_place(place: &FaultPlace, said: &mut Text) {
         Some(call) => {
             said.show(": call ", &call.number);
             said.push(" ");
-            said.push(name_of(call.helper));
+            said.push(helper_name(call.helper));
         }
         None => said.push(": exit"),
     }
@@ -109,7 +94,7 @@ pub fn write_call<N: Names>(place: &FaultPlace, names: &N, said: &mut Text) {
 
 /// Writes a helper's call with its arguments: `dsq_insert(a, queue 9, 2 ms, 0)`.
 pub fn write_helper_call<N: Names>(call: &HelperCall, names: &N, said: &mut Text) {
-    said.push(name_of(call.helper));
+    said.push(helper_name(call.helper));
     said.push("(");
     write_arguments(call, names, said);
     said.push(")");
@@ -117,12 +102,12 @@ pub fn write_helper_call<N: Names>(call: &HelperCall, names: &N, said: &mut Text
 
 fn write_arguments<N: Names>(call: &HelperCall, names: &N, said: &mut Text) {
     let mut before = "";
-    let mut index = 0usize;
-    for meaning in meanings(call.helper) {
-        said.push(before);
-        write_argument(*meaning, call, index, names, said);
-        before = ", ";
-        index = index.saturating_add(1);
+    for index in 0..MAX_ARGUMENTS {
+        if let Some(meaning) = meaning_at(call.helper, index) {
+            said.push(before);
+            write_argument(meaning, call, index, names, said);
+            before = ", ";
+        }
     }
 }
 
@@ -138,6 +123,7 @@ fn write_argument<N: Names>(
         Meaning::Task => write_task(call.task_at(index), names, said),
         Meaning::Queue => write_queue(number, said),
         Meaning::Slice => write_slice(number, said),
+        Meaning::Code => said.show("", &number.cast_signed()),
         Meaning::Number => said.number("", number),
     }
 }
@@ -149,18 +135,26 @@ fn write_task<N: Names>(task: Option<u16>, names: &N, said: &mut Text) {
     }
 }
 
-/// Writes the reason of the fault: `no queue 9`.
+/// Writes the reason of the fault, `no queue 9`, or the number of the text that goes with an exit, `message 2`.
 pub fn write_reason<N: Names>(place: &FaultPlace, names: &N, said: &mut Text) {
-    match place.call {
-        Some(call) => write_reason_of(place, &call, names, said),
-        None => write_no_cpu(place.answer, place.cpus, said),
+    let cause = place.cause;
+    match (place.call, cause) {
+        (Some(call), Cause::Fault(fault)) => write_reason_of(place, &call, fault, names, said),
+        (Some(call), Cause::Exit(_)) => said.number("message ", call.number_at(1)),
+        (None, _) => write_no_cpu(place.answer, place.cpus, said),
     }
 }
 
 /// Writes the reason of a call's fault.
-fn write_reason_of<N: Names>(place: &FaultPlace, call: &HelperCall, names: &N, said: &mut Text) {
+fn write_reason_of<N: Names>(
+    place: &FaultPlace,
+    call: &HelperCall,
+    fault: Fault,
+    names: &N,
+    said: &mut Text,
+) {
     let queue = queue_of(call);
-    match place.fault {
+    match fault {
         Fault::Stuck => said.push("it can't go on"),
         Fault::NoSuchQueue => write_no_queue(queue, said),
         Fault::CannotInsert => write_no_insert(place, call, names, said),
@@ -258,7 +252,7 @@ fn write_no_room(place: &FaultPlace, queue: u64, said: &mut Text) {
 
 /// Writes the queues that the policy has, if one is missing: `; the policy's queues are 0, 1`.
 pub fn write_policy_queues(place: &FaultPlace, said: &mut Text) {
-    if place.fault == Fault::NoSuchQueue {
+    if place.cause == Cause::Fault(Fault::NoSuchQueue) {
         write_queues(place.queues.ids(), said);
     }
 }

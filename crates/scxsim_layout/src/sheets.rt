@@ -41,6 +41,13 @@ impl Sheet {
         self.number(number);
     }
 
+    /// Adds words, and a number in digits, with its sign.
+    pub fn put_signed(&mut self, words: &str, number: i64) {
+        let mut digits = Buffer::new();
+        self.put(words);
+        self.put(digits.format(number));
+    }
+
     /// Adds words, and a number that is given in hundredths.
     pub fn put_hundredths(&mut self, words: &str, hundredths: u64) {
         self.put_number(words, hundredths / 100);

@@ -4,7 +4,7 @@ ghost use Rattle.scxsim_pictures.specs.Sketching.{Grows};
 
 use crate::heads::{Paths, head};
 use crate::recording::Recording;
-use crate::tails::ids_text;
+use crate::tails::{end_text, ids_text};
 use scx_load_workloads::Workload;
 use scx_sched::What;
 use scxsim_commands::Window;
@@ -44,7 +44,7 @@ impl Draft {
     {
         let ids = self.recording.queue_ids();
         write_all(out, self.recording.lines.letters())?;
-        write_all(out, self.recording.ended.text().as_bytes())?;
+        write_all(out, end_text(self.recording.ejection).as_bytes())?;
         write_all(out, ids_text(ids, true).as_bytes())?;
         write_all(out, ids_text(ids, false).as_bytes())
     }

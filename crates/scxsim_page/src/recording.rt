@@ -1,11 +1,10 @@
 use crate::base64_lines::Base64Lines;
 use crate::queue_numbers::{QueueNumbers, local_number};
 use crate::stretches::{End, NOWHERE, Stretch};
-use crate::tails::Ended;
 use crate::task_states::TaskStates;
 use scx_sched::What;
 use scx_sched_world::PARKED;
-use scxsim_commands::Window;
+use scxsim_commands::{Ejection, Window};
 use std::alloc::{AllocError, Global};
 
 /// The stretches of a part of a run while it goes on: those that haven't ended yet, and the lines of those that have.
@@ -17,7 +16,7 @@ pub(crate) struct Recording {
     /// The task that left a processor with the last note, if it ended the last stretch. It may have been parked.
     stopped: Option<u16>,
     /// The ejection, if the policy was ejected.
-    pub(crate) ended: Ended,
+    pub(crate) ejection: Option<Ejection>,
     pub(crate) lines: Base64Lines,
 }
 
@@ -33,7 +32,7 @@ impl Recording {
             tasks: TaskStates::new(alloc, tasks)?,
             queues: QueueNumbers::new(),
             stopped: None,
-            ended: Ended::InForce,
+            ejection: None,
             lines: Base64Lines::new(),
         })
     }
@@ -60,13 +59,8 @@ impl Recording {
             What::Move(task, cpu) => self.tasks.enter(now, task, local_number(cpu)),
             What::Run(task, cpu) => self.tasks.run(now, task, place_of(cpu)),
             What::Stop(task, _) => self.tasks.stop(now, task),
-            What::Stall(task) => {
-                self.ended = Ended::Stall { moment, task };
-                None
-            }
-            What::Fault(fault) => {
-                let number = fault.number();
-                self.ended = Ended::Fault { moment, number };
+            What::Stall(_) | What::Fault(_) | What::Exit(_) => {
+                self.ejection = Ejection::of(moment, what);
                 None
             }
             What::Idle(_) | What::Weight(_, _) => None,

@@ -1,36 +1,31 @@
+use scxsim_commands::Ejection;
 use scxsim_pictures::Part;
 use std::fmt::Write;
 
 /// The number of ids that are written at once.
 const IDS: usize = 8;
 
-/// The end of the policy: in force to the end, or ejected.
-#[derive(Clone, Copy)]
-pub(crate) enum Ended {
-    InForce,
-    Stall { moment: u64, task: u16 },
-    Fault { moment: u64, number: u8 },
-}
-
-impl Ended {
-    /// The ejection as JSON, with the text between the stretches and it.
-    pub(crate) fn text(self) -> Part {
-        let mut text = Part::new();
-        let _ = text.try_push_str(
-            "</script>\n<script id=\"tail\" type=\"application/json\">{\"ended\":{",
-        );
-        let _ = match self {
-            Ended::InForce => write!(text, "\"how\":\"force\""),
-            Ended::Stall { moment, task } => {
-                write!(text, "\"how\":\"stall\",\"at\":{moment},\"task\":{task}")
-            }
-            Ended::Fault { moment, number } => {
-                write!(text, "\"how\":\"fault\",\"at\":{moment},\"code\":{number}")
-            }
-        };
-        let _ = text.try_push_str("},\"queues\":[");
-        text
-    }
+/// The policy's ejection, if there is one, as JSON, with the text between the stretches and it. The code of an exit
+/// is a text, since a number of JavaScript holds 53 bits.
+pub(crate) fn end_text(ejection: Option<Ejection>) -> Part {
+    let mut text = Part::new();
+    let _ = text.try_push_str(
+        "</script>\n<script id=\"tail\" type=\"application/json\">{\"ended\":{",
+    );
+    let _ = match ejection {
+        None => write!(text, "\"how\":\"force\""),
+        Some(Ejection::Stall { moment, task }) => {
+            write!(text, "\"how\":\"stall\",\"at\":{moment},\"task\":{task}")
+        }
+        Some(Ejection::Fault { moment, number }) => {
+            write!(text, "\"how\":\"fault\",\"at\":{moment},\"code\":{number}")
+        }
+        Some(Ejection::Exit { moment, code }) => {
+            write!(text, "\"how\":\"exit\",\"at\":{moment},\"code\":\"{code}\"")
+        }
+    };
+    let _ = text.try_push_str("},\"queues\":[");
+    text
 }
 
 /// The first ids of queues, or those after them.

@@ -9,6 +9,7 @@ use crate::arrows::Arrow;
 use crate::note_lines::{Line, Part, push_number};
 use crate::queue_lengths::Length;
 use crate::tracks::{CPUS, EJECTIONS, QUEUES, TASKS, WAITS, WAKES};
+use itoa::Buffer;
 use scx_sched_world::{BUILTIN, GLOBAL, HELD, PARKED, POLICY_END};
 
 /// A millisecond in microseconds.
@@ -97,6 +98,16 @@ pub(crate) fn stall(moment: u64, task: u16) -> Line {
 pub(crate) fn fault(moment: u64, number: u8) -> Line {
     let mut text = instant(moment, EJECTIONS, "g");
     push_number(&mut text, "eject fault ", u64::from(number));
+    text.push_str("\"}");
+    Line::nameless(text)
+}
+
+/// The policy is ejected because a callback ended it, with that code.
+pub(crate) fn exit(moment: u64, code: i64) -> Line {
+    let mut digits = Buffer::new();
+    let mut text = instant(moment, EJECTIONS, "g");
+    text.push_str("eject exit ");
+    text.push_str(digits.format(code));
     text.push_str("\"}");
     Line::nameless(text)
 }

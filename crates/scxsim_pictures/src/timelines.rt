@@ -8,7 +8,7 @@ ghost use Rattle.scxsim_pictures.specs.Documents.{document};
 use crate::arrows::Arrows;
 use crate::documents::write_document;
 use crate::note_lines::{Line, NoteLines, write_note_lines};
-use crate::objects::{arrow_end, arrow_start, count, entry, fault, slice, stall, wait, wake};
+use crate::objects::{arrow_end, arrow_start, count, entry, exit, fault, slice, stall, wait, wake};
 use crate::queue_lengths::{Lengths, Stay};
 use crate::runners::{Runners, Running};
 use crate::sketches::Sketch;
@@ -97,6 +97,7 @@ impl TimelineSketch {
             What::Idle(_) | What::Weight(_, _) => {}
             What::Stall(task) => self.lines.second = Some(stall(moment, task)),
             What::Fault(reason) => self.lines.second = Some(fault(moment, reason.number())),
+            What::Exit(code) => self.lines.second = Some(exit(moment, code)),
         }
     }
 

@@ -5,7 +5,7 @@ use scxsim_faults::{FaultPlace, find_fault, write_place, write_reason};
 use scxsim_output::Text;
 use std::alloc::Global;
 
-/// A remark on the fault for which the policy was ejected at that clock, or failed before the
+/// A remark on the fault or exit for which the policy was ejected at that clock, or failed before the
 /// start: the instruction that had it. None where there is none, or memory ran out.
 pub fn remark_on_fault(
     alloc: Global,

@@ -5,7 +5,8 @@ use strsim::levenshtein;
 /// The format of a file, which decides the keys that its tables take.
 #[derive(Clone, Copy)]
 pub(crate) enum Format {
-    Policy,
+    /// By those rules.
+    Policy(Rules),
     /// For a policy by those rules.
     Workload(Rules),
     /// For a policy by those rules.
@@ -51,9 +52,11 @@ pub(crate) fn nearest_key(alloc: Global, format: Format, path: &str) -> Option<&
     for known in keys_of(format, key.table) {
         nearest = nearer(alloc, nearest, key.word, known).ok()?;
     }
-    if let (Format::Policy, Table::Programs) = (format, key.table) {
+    if let (Format::Policy(rules), Table::Programs) = (format, key.table) {
         for callback in CALLBACKS {
-            nearest = nearer(alloc, nearest, key.word, callback.name()).ok()?;
+            if callback.is_known(rules) {
+                nearest = nearer(alloc, nearest, key.word, callback.name()).ok()?;
+            }
         }
     }
     nearest.known
@@ -62,7 +65,7 @@ pub(crate) fn nearest_key(alloc: Global, format: Format, path: &str) -> Option<&
 /// The keys that the table takes, but for callbacks. None if the format has no such table.
 fn keys_of(format: Format, table: Table) -> &'static [&'static str] {
     match format {
-        Format::Policy => policy_keys(table),
+        Format::Policy(_) => policy_keys(table),
         Format::Workload(rules) => workload_keys(rules, table),
         Format::Events(rules) => events_keys(rules, table),
     }
@@ -77,8 +80,24 @@ pub(crate) fn is_known_by_linux(format: Format, path: &str) -> bool {
             workload_keys(Rules::Linux, key.table),
         ),
         Format::Events(Rules::Plain) => is_among(key.word, events_keys(Rules::Linux, key.table)),
-        _ => false,
+        Format::Policy(Rules::Plain) => is_linux_callback(key),
+        Format::Policy(Rules::Linux)
+        | Format::Workload(Rules::Linux)
+        | Format::Events(Rules::Linux) => { false }
     }
+}
+
+/// True if the key names a callback that Linux rules alone know.
+fn is_linux_callback(key: Key<'_>) -> bool {
+    let Table::Programs = key.table else {
+        return false;
+    };
+    for callback in CALLBACKS {
+        if callback.name() == key.word {
+            return !callback.is_known(Rules::Plain);
+        }
+    }
+    false
 }
 
 fn is_among(word: &str, keys: &[&str]) -> bool {

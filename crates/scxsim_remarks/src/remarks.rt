@@ -4,7 +4,7 @@ use crate::named_text::NamedText;
 use scx_asm::AsmFault;
 use scx_isa::{Callback, Rules};
 use scx_load_files::Cause;
-use scx_load_places::{Place, first_toml_fault, place_of_key, place_of_line};
+use scx_load_places::{Place, first_toml_fault, line_at, place_of_key, place_of_line};
 use scx_load_policies::read_policy;
 use scx_load_workloads::read_workload_by;
 use scx_verify::Fault;
@@ -52,6 +52,19 @@ pub(crate) fn rules_of(alloc: Global, policy: &str) -> Rules {
     }
 }
 
+/// The rules that a refused policy's text names, as far as its line for them says so.
+fn rules_named(alloc: Global, policy: &str) -> Rules {
+    match line_of_rules(alloc, policy) {
+        Some(line) if line.starts_with("rules") && line.contains("linux") => Rules::Linux,
+        _ => Rules::Plain,
+    }
+}
+
+fn line_of_rules(alloc: Global, policy: &str) -> Option<&str> {
+    let place = place_of_key(alloc, policy, "rules")?;
+    line_at(policy, place.line)
+}
+
 /// A remark on a refusal of a policy's file alone, or of a text for the assembler; as
 /// `remark_on_run`.
 pub fn remark_on_file(alloc: Global, refusal: &Refusal, file: NamedText<'_>) -> Option<String> {
@@ -88,7 +101,10 @@ fn remark_on_policy(
             drop(workload);
             hint_at_workload(alloc, policy.path).ok()
         }
-        Err(_) => remark_on_key(alloc, policy, Format::Policy, path, cause),
+        Err(_) => {
+            let format = Format::Policy(rules_named(alloc, policy.text));
+            remark_on_key(alloc, policy, format, path, cause)
+        }
     }
 }
 

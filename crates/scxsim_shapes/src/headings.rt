@@ -165,6 +165,11 @@ impl Picture {
                 put_time(sheet, moment);
                 sheet.put_number(": fault ", u64::from(number));
             }
+            Some(Ejection::Exit { moment, code }) => {
+                sheet.put(" class=\"wrong\">ejected at ");
+                put_time(sheet, moment);
+                sheet.put_signed(": exit ", code);
+            }
         }
     }
 

@@ -39,7 +39,7 @@ abbrev times : State → Times
 times s = times_of (length s.world.tasks) s.world
 
 like_now : (s : State) → IsLike s.world.tree (times s) (length s.world.cpus) s.world
-like_now s = ((refl, refl, refl), (refl, λ u. omega arith), refl)
+like_now s = ((refl, refl, refl, refl), (refl, λ u. omega arith), refl)
 
 -- a task that isn't there can't sleep
 not_there : (s : State) (t : ℕ) → length s.world.tasks ≤ t → machine.refusal s (event.Sleep t) ≡ Some UnknownTask
@@ -68,7 +68,7 @@ stays_as_large (event.SetWeight g x) s accepted =
     let own = machine.own_step s (event.SetWeight g x) in
     let b = is_none (weight_fault s.world.tree g x) in
     let v = with_tree s.world (with_weight s.world.tree g x) in
-    let alike : IsLike own.state.world.tree (times s) (length s.world.cpus) own.state.world = keeps_if (λ (w : WorldState). IsLike w.tree (times s) (length s.world.cpus) w) b v s.world ((refl, refl, refl), (refl, λ u. omega arith), refl) ((refl, refl, refl), (refl, λ u. omega arith), refl) in
+    let alike : IsLike own.state.world.tree (times s) (length s.world.cpus) own.state.world = keeps_if (λ (w : WorldState). IsLike w.tree (times s) (length s.world.cpus) w) b v s.world ((refl, refl, refl, refl), (refl, λ u. omega arith), refl) ((refl, refl, refl, refl), (refl, λ u. omega arith), refl) in
     let y = like_rounds own.state.world.tree (times s) (length s.world.cpus) own alike in
     (y.1.0, y.2)
 
@@ -130,6 +130,19 @@ module _ (groups : List Group) (homes : List ℕ) where
   has_groups_after event.Clock w h = has_groups_still w.tree _ refl refl h
   has_groups_after (event.SetWeight g x) w h = has_groups_reweighed w.tree _ g x refl refl h
 
+-- a tick leaves tasks their own weights
+used_weights : (o : Option ℕ) (t : Hierarchy) → (used_at_tick o t).own_weights ≡ t.own_weights
+used_weights None t = refl
+used_weights (Some k) t = refl
+
+-- an event leaves tasks their own weights
+weights_after : (e : Event) (w : WorldState) → (tree_after e w).own_weights ≡ w.tree.own_weights
+weights_after (event.Wake t) w = refl
+weights_after (event.Sleep t) w = refl
+weights_after (event.Tick c) w = used_weights (running w c) w.tree
+weights_after event.Clock w = refl
+weights_after (event.SetWeight g x) w = refl
+
 -- ---- a run
 
 module _ (p : PolicyFile) (w : WorkloadState) where
@@ -143,6 +156,7 @@ module _ (p : PolicyFile) (w : WorkloadState) where
         cpus = x.2;
         tasks = x.1.0;
         tree = has_groups_still w.groups w.homes tree s.state.world.tree x.0.0 x.0.1 (record { count = refl; parents = λ g. refl; quotas = λ g. refl; periods = λ g. refl; tasks = refl });
+        weights = x.0.3;
       }
 
   -- after an event
@@ -154,6 +168,7 @@ module _ (p : PolicyFile) (w : WorkloadState) where
         cpus = size.1 ∙ m.cpus;
         tasks = size.0 ∙ m.tasks;
         tree = subst (HasGroups w.groups w.homes) (sym h.0.tree) (has_groups_after w.groups w.homes e s.state.world m.tree);
+        weights = ap (λ (t : Hierarchy). t.own_weights) h.0.tree ∙ weights_after e s.state.world ∙ m.weights;
       }
   goes_on_as (Some r) s e t large h m = subst (IsMachineOf p w) (sym h) m
 

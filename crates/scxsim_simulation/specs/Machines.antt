@@ -18,9 +18,10 @@ pub record HasGroups (groups : List Group) (homes : List ℕ) (tree : Hierarchy)
   pub tasks : tree.homes ≡ homes
 
 -- the machine has the policy that `build` makes of that file, with its limit and all of its
--- programs, and the processors, tasks and groups of that workload
+-- programs, and the processors, tasks and groups of that workload, each task with its own weight
 pub record IsMachineOf (p : PolicyFile) (w : WorkloadState) (s : SimState) : Type 0 where
   pub policy : IsBuilt p s.state.policy
   pub cpus : length s.state.world.cpus ≡ w.cpus
   pub tasks : length s.state.world.tasks ≡ length w.homes
   pub tree : HasGroups w.groups w.homes s.state.world.tree
+  pub weights : s.state.world.tree.own_weights ≡ w.own_weights

@@ -5,7 +5,7 @@ use Rattle.std.proofs.lemmas.List.{length-set}
 use Rattle.std.proofs.lemmas.List.Sums.{sum_by-cons}
 use Rattle.scx_sched_world.specs.declared.notes.Note.{Note}
 use Rattle.scx_sched_world.specs.declared.notes.What.{What}
-use Rattle.scx_sched_world.specs.declared.notes.What.TheVariants.{Wake, Sleep, Insert, Move, Run, Stop, Idle, Weight, Stall, Fault}
+use Rattle.scx_sched_world.specs.declared.notes.What.TheVariants.{Wake, Sleep, Insert, Move, Run, Stop, Idle, Weight, Stall, Fault, Exit}
 use Rattle.scx_sched_world.specs.World.{task_at}
 use Rattle.scx_sched_machine.specs.declared.events.Event.{Event}
 use Rattle.scx_sched_machine.specs.declared.events.Event.TheVariants as event
@@ -71,6 +71,7 @@ note_one (Idle c) clock xs t within = refl
 note_one (Weight g x) clock xs t within = refl
 note_one (Stall u) clock xs t within = refl
 note_one (Fault f) clock xs t within = refl
+note_one (Exit n) clock xs t within = refl
 
 note_keeps_ran : (what : What) (clock : ℕ) (xs : List BurstFigures) (t : ℕ) → t < length xs → (bursts_at (bursts_noted clock what xs) t).ran ≡ (bursts_at xs t).ran
 note_keeps_ran (Wake u) clock xs t within = part_stays (λ (x : BurstFigures). x.ran) (with_woke clock) xs u t no_bursts (λ x. refl) within
@@ -83,6 +84,7 @@ note_keeps_ran (Idle c) clock xs t within = refl
 note_keeps_ran (Weight g x) clock xs t within = refl
 note_keeps_ran (Stall u) clock xs t within = refl
 note_keeps_ran (Fault f) clock xs t within = refl
+note_keeps_ran (Exit n) clock xs t within = refl
 
 length_noted : (what : What) (clock : ℕ) (xs : List BurstFigures) → length (bursts_noted clock what xs) ≡ length xs
 length_noted (Wake u) clock xs = length-set xs u (with_woke clock (bursts_at xs u))
@@ -95,6 +97,7 @@ length_noted (Idle c) clock xs = refl
 length_noted (Weight g x) clock xs = refl
 length_noted (Stall u) clock xs = refl
 length_noted (Fault f) clock xs = refl
+length_noted (Exit n) clock xs = refl
 
 -- several notes
 

@@ -4,7 +4,7 @@ use Rattle.std.specs.Option.{is_some}
 use Rattle.std.proofs.lemmas.List.{length-set}
 use Rattle.scx_sched_world.specs.declared.notes.Note.{Note}
 use Rattle.scx_sched_world.specs.declared.notes.What.{What}
-use Rattle.scx_sched_world.specs.declared.notes.What.TheVariants.{Wake, Sleep, Insert, Move, Run, Stop, Idle, Weight, Stall, Fault}
+use Rattle.scx_sched_world.specs.declared.notes.What.TheVariants.{Wake, Sleep, Insert, Move, Run, Stop, Idle, Weight, Stall, Fault, Exit}
 use Rattle.scx_sched_world.specs.World.{running}
 use Rattle.scx_sched_machine.specs.declared.events.Event.{Event}
 use Rattle.scx_sched_machine.specs.declared.events.Event.TheVariants as event
@@ -34,6 +34,7 @@ note_keeps (Idle b) cpus c within = (refl, refl)
 note_keeps (Weight g x) cpus c within = (refl, refl)
 note_keeps (Stall t) cpus c within = (refl, refl)
 note_keeps (Fault f) cpus c within = (refl, refl)
+note_keeps (Exit n) cpus c within = (refl, refl)
 
 length_noted : (what : What) (cpus : List CpuFigures) → length (cpus_counted what cpus) ≡ length cpus
 length_noted (Run t b) cpus = length-set cpus b (with_begin t (cpu_at cpus b))
@@ -46,6 +47,7 @@ length_noted (Idle b) cpus = refl
 length_noted (Weight g x) cpus = refl
 length_noted (Stall t) cpus = refl
 length_noted (Fault f) cpus = refl
+length_noted (Exit n) cpus = refl
 
 -- the same of a processor that is there
 pub record IsSame (c : ℕ) (k j : RunCounts) : Type 0 where

@@ -5,7 +5,7 @@ use Rattle.std.proofs.lemmas.List.{length-set, get_or-set_same, get_or-set_other
 use Rattle.scx_sched_world.specs.Ids.{parked_queue}
 use Rattle.scx_sched_world.specs.declared.notes.Note.{Note}
 use Rattle.scx_sched_world.specs.declared.notes.What.{What}
-use Rattle.scx_sched_world.specs.declared.notes.What.TheVariants.{Wake, Sleep, Insert, Move, Run, Stop, Idle, Weight, Stall, Fault}
+use Rattle.scx_sched_world.specs.declared.notes.What.TheVariants.{Wake, Sleep, Insert, Move, Run, Stop, Idle, Weight, Stall, Fault, Exit}
 use Rattle.scx_sched_machine.specs.declared.events.Event.{Event}
 use Rattle.scx_sched_machine.specs.declared.events.Event.TheVariants as event
 use Rattle.scx_sched.specs.Sim.{SimState, after_event, notes_of}
@@ -61,6 +61,7 @@ of_ended now u (Idle c) d = tt
 of_ended now u (Weight g x) d = tt
 of_ended now u (Stall t) d = tt
 of_ended now u (Fault f) d = tt
+of_ended now u (Exit n) d = tt
 
 -- a pause of a task that is there changes its figures as the pause says
 pub pause_here : (q : Option Pause) (tasks : List TaskFigures) (u : ℕ) → IsPauseOfTask u q → u < length tasks → figures_at (after_pause q tasks) u ≡ with_option q (figures_at tasks u)
@@ -124,6 +125,7 @@ count_one (Idle c) ds tasks t within = refl
 count_one (Weight g x) ds tasks t within = refl
 count_one (Stall u) ds tasks t within = refl
 count_one (Fault f) ds tasks t within = refl
+count_one (Exit n) ds tasks t within = refl
 
 -- ---- lengths
 
@@ -146,6 +148,7 @@ length_counted (Idle c) ds tasks = refl
 length_counted (Weight g x) ds tasks = refl
 length_counted (Stall u) ds tasks = refl
 length_counted (Fault f) ds tasks = refl
+length_counted (Exit n) ds tasks = refl
 
 length_doing : (o : Option ℕ) (now : ℕ) (what : What) (ds : List Doing) → length (doing_with o now what ds) ≡ length ds
 length_doing None now what ds = refl

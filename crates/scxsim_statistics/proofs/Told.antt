@@ -3,7 +3,7 @@ use Rattle.std.proofs.Common.{◌≡◌, ℕ, ◌+◌, ◌-◌, ◌^◌, min, ma
 use Rattle.std.specs.List.{filter}
 use Rattle.scx_sched_world.specs.declared.notes.Note.{Note}
 use Rattle.scx_sched_world.specs.declared.notes.What.{What}
-use Rattle.scx_sched_world.specs.declared.notes.What.TheVariants.{Wake, Sleep, Insert, Move, Run, Stop, Idle, Weight, Stall, Fault}
+use Rattle.scx_sched_world.specs.declared.notes.What.TheVariants.{Wake, Sleep, Insert, Move, Run, Stop, Idle, Weight, Stall, Fault, Exit}
 use Rattle.scxsim_views.specs.declared.pauses.Doing.{Doing}
 use Rattle.scxsim_views.specs.declared.pauses.Doing.TheVariants.{Sleeps, Waits, Runs, IsParked}
 use Rattle.scxsim_views.specs.declared.pauses.Pause.{Pause}
@@ -76,6 +76,7 @@ wakes_one now t (Idle c) d x = refl
 wakes_one now t (Weight g v) d x = refl
 wakes_one now t (Stall u) d x = refl
 wakes_one now t (Fault f) d x = refl
+wakes_one now t (Exit n) d x = refl
 
 none : (a : ℕ) → a ≡ a + 0
 none a = omega arith
@@ -112,6 +113,7 @@ stops_one now t (Idle c) d x = refl
 stops_one now t (Weight g v) d x = refl
 stops_one now t (Stall u) d x = refl
 stops_one now t (Fault f) d x = refl
+stops_one now t (Exit n) d x = refl
 
 -- a task's stops in notes, but for those asleep, are added to those that were counted before
 pub stops_told : (t : ℕ) (ns : List Note) (r : Row) (a : ℕ) → r.figures.stopped ≡ at_most_64_bits a → (row_all t ns r).figures.stopped ≡ at_most_64_bits (a + stops_in t r.doing ns)
@@ -166,6 +168,7 @@ count_keeps_waits (Idle c) d x = refl
 count_keeps_waits (Weight g v) d x = refl
 count_keeps_waits (Stall u) d x = refl
 count_keeps_waits (Fault f) d x = refl
+count_keeps_waits (Exit n) d x = refl
 
 waits_one : (b : Bool) (now t : ℕ) (what : What) (d : Doing) (x : TaskFigures)
     → (figures_noted b now t what d x).waits ≡ waited_all (to_list (cond b (ending_pause now t what d) None)) x.waits

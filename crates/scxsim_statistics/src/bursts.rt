@@ -89,7 +89,8 @@ pub(crate) fn note_burst(
         | What::Idle(_)
         | What::Weight(_, _)
         | What::Stall(_)
-        | What::Fault(_) => Ok(()),
+        | What::Fault(_)
+        | What::Exit(_) => Ok(()),
     }
 }
 

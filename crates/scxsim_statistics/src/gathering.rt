@@ -219,7 +219,8 @@ impl<'a> Gathering<'a> {
             | What::Stop(_, _)
             | What::Idle(_)
             | What::Stall(_)
-            | What::Fault(_) => {}
+            | What::Fault(_)
+            | What::Exit(_) => {}
         }
     }
 

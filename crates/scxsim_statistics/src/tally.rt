@@ -210,7 +210,8 @@ impl RunTally {
             | What::Idle(_)
             | What::Weight(_, _)
             | What::Stall(_)
-            | What::Fault(_) => {}
+            | What::Fault(_)
+            | What::Exit(_) => {}
         }
     }
 

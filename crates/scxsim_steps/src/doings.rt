@@ -3,7 +3,7 @@ use crate::words::{push_number, push_value};
 use scx_isa::{Helper, Insn, Operand, Pointer, Register, Value, Width};
 use scx_isa_semantics::immediate;
 use scx_sched::What;
-use scx_sched_world::World;
+use scx_sched_world::{Cause, World};
 use scx_vm_tagged::Core;
 use scxsim_faults::{HelperCall, write_helper_call};
 use scxsim_output::Text;
@@ -19,8 +19,8 @@ pub(crate) struct Before {
     source: Option<Place>,
     /// The number of notes that the callback has made.
     notes: usize,
-    /// True if it has had a fault.
-    is_faulty: bool,
+    /// True if it has had a fault, or has ended the policy.
+    has_cause: bool,
 }
 
 impl Before {
@@ -30,7 +30,7 @@ impl Before {
             insn,
             source: source_of(insn, core),
             notes: world.notes().len(),
-            is_faulty: world.first_fault().is_some(),
+            has_cause: world.cause().is_some(),
         }
     }
 }
@@ -165,21 +165,31 @@ fn push_way(before: Before, slot: usize, words: &mut Text) {
     }
 }
 
-/// Appends what a helper did: tasks that it moved, and a fault.
+/// Appends what a helper did: tasks that it moved, and a fault or an end of the policy.
 fn push_effects<N: Names>(before: Before, world: &World, names: &N, words: &mut Text) {
     if let Some(notes) = world.notes().get(before.notes..) {
         for note in notes {
             push_effect(note.what, names, words);
         }
     }
-    match world.first_fault() {
-        Some(fault) if !before.is_faulty => {
+    match world.cause() {
+        Some(cause) if !before.has_cause => {
             separate(words);
+            push_cause(cause, words);
+        }
+        _ => {}
+    }
+}
+
+/// Appends a fault, or the code with which the policy ends.
+fn push_cause(cause: Cause, words: &mut Text) {
+    match cause {
+        Cause::Fault(fault) => {
             words.number("fault ", u64::from(fault.number()));
             words.push(": ");
             words.push(fault_words(fault));
         }
-        _ => {}
+        Cause::Exit(code) => words.show("exit ", &code),
     }
 }
 

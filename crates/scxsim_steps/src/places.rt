@@ -1,4 +1,5 @@
-use crate::words::{field_name, push_element, push_stack};
+use crate::words::{push_element, push_stack};
+use scx_asm_text::field_name;
 use scx_isa::{Field, Pointer, Register, Size, TaskId, Value};
 use scx_vm_tagged::Core;
 use scxsim_output::Text;

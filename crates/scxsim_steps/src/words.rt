@@ -1,4 +1,4 @@
-use scx_isa::{Field, Pointer, STACK_SIZE, Value};
+use scx_isa::{Pointer, STACK_SIZE, Value};
 use scx_sched_world::{GLOBAL, LOCAL};
 use scxsim_faults::is_local;
 use scxsim_output::Text;
@@ -72,18 +72,5 @@ pub(crate) fn push_element(map: u8, index: u32, offset: u16, text: &mut Text) {
     text.number(" of map ", u64::from(map));
     if offset != 0 {
         text.number(" + ", u64::from(offset));
-    }
-}
-
-/// A field of a task, by its name in policies.
-pub(crate) fn field_name(field: Field) -> &'static str {
-    match field {
-        Field::Pid => "pid",
-        Field::Weight => "weight",
-        Field::Slice => "slice",
-        Field::DsqVtime => "dsq_vtime",
-        Field::PrevCpu => "prev_cpu",
-        Field::Group => "group",
-        Field::RunNs => "run_ns",
     }
 }

@@ -3,7 +3,7 @@ use Rattle.std.specs.Prelude.{◌≡◌, ℕ, ◌==◌, Bool, true, false, List,
 use Rattle.std.specs.List.{filter}
 use Rattle.scx_sched_world.specs.declared.notes.Note.{Note}
 use Rattle.scx_sched_world.specs.declared.notes.What.{What}
-use Rattle.scx_sched_world.specs.declared.notes.What.TheVariants.{Wake, Sleep, Insert, Move, Run, Stop, Idle, Weight, Stall, Fault}
+use Rattle.scx_sched_world.specs.declared.notes.What.TheVariants.{Wake, Sleep, Insert, Move, Run, Stop, Idle, Weight, Stall, Fault, Exit}
 use Rattle.scxsim_story.specs.declared.subject.Subject.{Subject}
 
 -- true for a note of the task, of its group's weight, or of the policy's ejection
@@ -18,6 +18,7 @@ concerns x (Idle c) = false
 concerns x (Weight g weight) = g == x.group
 concerns x (Stall t) = true
 concerns x (Fault f) = true
+concerns x (Exit n) = true
 
 -- the occurrences of a task among notes, in their order
 abbrev pub occurrences : Subject → List Note → List Note

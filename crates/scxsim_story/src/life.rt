@@ -84,7 +84,8 @@ impl Life {
                 is_leaving: false,
                 ..self
             },
-            What::Idle(_) | What::Weight(_, _) | What::Stall(_) | What::Fault(_) => self,
+            What::Idle(_) | What::Weight(_, _) | What::Stall(_) | What::Fault(_) | What::Exit(_) =>
+                self,
         }
     }
     /// The state after the task comes into that queue. A task that was parked waits from then on.

@@ -120,7 +120,7 @@ impl<'w> Storyteller<'w> {
             | What::Run(of, _)
             | What::Stop(of, _) => of == task,
             What::Weight(of, _) => of == group,
-            What::Stall(_) | What::Fault(_) => true,
+            What::Stall(_) | What::Fault(_) | What::Exit(_) => true,
             What::Idle(_) => false,
         }
     }

@@ -34,6 +34,7 @@ pub(crate) fn write_words(workload: &Workload, of: Occurrence<'_>, words: &mut T
         What::Weight(group, weight) => write_weight(workload, group, weight, words),
         What::Stall(task) => write_stall(workload, of.task, task, words),
         What::Fault(fault) => write_fault(fault, words),
+        What::Exit(code) => words.show("the policy is ejected: exit ", &code),
         What::Idle(cpu) => {
             words.number("cpu ", u64::from(cpu));
             words.push(" is idle");

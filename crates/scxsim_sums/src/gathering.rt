@@ -124,9 +124,8 @@ impl Gathering {
                 self.idles.stop(cpu);
                 self.gathered.shares.stop();
             }
-            What::Idle(_) | What::Weight(_, _) | What::Stall(_) | What::Fault(_) => {
-                self.gathered.note(self.now.mark.moment, what);
-            }
+            What::Idle(_) | What::Weight(_, _) | What::Stall(_) | What::Fault(_) | What::Exit(_) =>
+                self.gathered.note(self.now.mark.moment, what),
         }
     }
 

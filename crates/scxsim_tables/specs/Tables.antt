@@ -1,5 +1,6 @@
 -- The figures of a run as tables for people, with a line of heads above each.
-use Rattle.std.specs.Prelude.{ℕ, Bool, true, false, if◌then◌else◌, List, [], ◌∷◌, ◌++◌, codes, decimal, length, Option, Some, None}
+use Rattle.std.specs.Prelude.{ℕ, ℤ, Bool, true, false, if◌then◌else◌, List, [], ◌∷◌, ◌++◌, codes, decimal, length, Option, Some, None}
+use Rattle.std.specs.Fmt.{signed_decimal}
 use Rattle.scx_sched_world.specs.Faults.{fault_number}
 use Rattle.scx_sched_world.specs.declared.eject.Eject.{Eject}
 use Rattle.scx_sched_world.specs.declared.eject.Eject.TheVariants as cause
@@ -121,12 +122,17 @@ stall_end name clock = when_ejected clock ++ codes "stall " ++ name ++ codes "\n
 unfoldable pub fault_end : ℕ → ℕ → List ℕ → List ℕ
 fault_end number clock words = when_ejected clock ++ codes "fault " ++ decimal number ++ words
 
--- the policy is in force at the end, or when and why it was ejected; of a fault with these words to
--- it
+-- when the policy was ejected, with which code it ended itself, and words to that
+unfoldable pub exit_end : ℤ → ℕ → List ℕ → List ℕ
+exit_end code clock words = when_ejected clock ++ codes "exit " ++ signed_decimal code ++ words
+
+-- the policy is in force at the end, or when and why it was ejected; of a fault or an exit with
+-- these words to it
 abbrev pub policy_end : Figures → Option Eject → List ℕ → List ℕ
 policy_end f None words = codes "in force\n"
 policy_end f (Some (cause.Stall t clock)) words = stall_end (task_name f t) clock
 policy_end f (Some (cause.Fault k clock)) words = fault_end (fault_number k) clock words
+policy_end f (Some (cause.Exit n clock)) words = exit_end n clock words
 
 -- the line of the policy
 unfoldable pub policy_row : Figures → List ℕ → List ℕ
@@ -134,7 +140,7 @@ policy_row f words = codes "policy  " ++ policy_end f f.ejected words
 
 -- ---- all of them
 
--- the tables of groups and quotas, and the line of the policy, with these words to a fault
+-- the tables of groups and quotas, and the line of the policy, with these words to a fault or exit
 unfoldable pub lower_rows : Figures → List ℕ → List ℕ
 lower_rows f words = group_table f ++ quota_table f ++ codes "\n" ++ policy_row f words
 
@@ -151,8 +157,9 @@ tables f words =
     "task                  run    waits        mean      99%  longest    since    wakes  stopped"
     ++ table_rows f words
 
--- the policy was ejected for a fault of a callback
-abbrev pub is_for_fault : Option Eject → Bool
-is_for_fault None = false
-is_for_fault (Some (cause.Stall t clock)) = false
-is_for_fault (Some (cause.Fault f clock)) = true
+-- the policy was ejected for a fault or an exit of a callback
+abbrev pub is_for_callback : Option Eject → Bool
+is_for_callback None = false
+is_for_callback (Some (cause.Stall t clock)) = false
+is_for_callback (Some (cause.Fault f clock)) = true
+is_for_callback (Some (cause.Exit n clock)) = true

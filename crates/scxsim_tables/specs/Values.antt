@@ -1,6 +1,7 @@
 -- The figures of a run as comma-separated values, a line each: a kind, a name, which figure it is,
 -- and its value.
 use Rattle.std.specs.Prelude.{ℕ, ◌==◌, if◌then◌else◌, List, [], ◌++◌, codes, decimal, length, Option, Some, None, string_bytes}
+use Rattle.std.specs.Fmt.{signed_decimal}
 use Rattle.scx_sched_world.specs.Faults.{fault_number}
 use Rattle.scx_sched_world.specs.declared.eject.Eject.{Eject}
 use Rattle.scx_sched_world.specs.declared.eject.Eject.TheVariants as cause
@@ -160,11 +161,12 @@ limit_values f =
 
 -- ---- the policy
 
--- the policy is in force at the end, or for which task or fault it was ejected
+-- the policy is in force at the end, or for which task, fault or exit it was ejected
 abbrev pub ending : Figures → Option Eject → List ℕ
 ending f None = codes "in force"
 ending f (Some (cause.Stall t clock)) = codes "stall " ++ task_name f t
 ending f (Some (cause.Fault k clock)) = codes "fault " ++ decimal (fault_number k)
+ending f (Some (cause.Exit n clock)) = codes "exit " ++ signed_decimal n
 
 -- when it was ejected, if it was
 unfoldable pub ejected_line : List ℕ → Option Eject → List ℕ
@@ -172,6 +174,8 @@ ejected_line name None = []
 ejected_line name (Some (cause.Stall t clock)) =
     line (codes "policy") name (codes "ejected_at_ms") (decimal clock)
 ejected_line name (Some (cause.Fault k clock)) =
+    line (codes "policy") name (codes "ejected_at_ms") (decimal clock)
+ejected_line name (Some (cause.Exit n clock)) =
     line (codes "policy") name (codes "ejected_at_ms") (decimal clock)
 
 -- for how long some CPU was idle while a task waited, and how the policy ended

@@ -1,13 +1,14 @@
 ghost use Rattle.std.specs.Prelude.{◌<◌, length, Bool};
 ghost use Rattle.scxsim_output.specs.Texts.{Puts};
 ghost use Rattle.scxsim_tables.specs.Cells.{all_below};
-ghost use Rattle.scxsim_tables.specs.Tables.{wait_cells, task_cells, parked_cell, task_row, task_heads, task_table, cpu_line, cpu_row, cpu_table, group_line, group_row, group_table, quota_cells, quota_row, quota_rows, quota_table, when_ejected, stall_end, fault_end, policy_end, policy_row, lower_rows, table_rows};
+ghost use Rattle.scxsim_tables.specs.Tables.{wait_cells, task_cells, parked_cell, task_row, task_heads, task_table, cpu_line, cpu_row, cpu_table, group_line, group_row, group_table, quota_cells, quota_row, quota_rows, quota_table, when_ejected, stall_end, fault_end, exit_end, policy_end, policy_row, lower_rows, table_rows};
 
 use crate::names::{group_name, has_quota, limit_of, task_name};
 use crate::numbers::{
     write_hundredths_right, write_left, write_number_left, write_number_right, write_numbers,
 };
 use scx_sched::{Eject, Fault};
+use scx_sched_world::Cause;
 use scxsim_faults::{FaultPlace, write_call, write_reason};
 use scxsim_output::Text;
 use scxsim_statistics::{
@@ -29,8 +30,8 @@ const GROUPS: &str = "group               share      due\n";
 const QUOTAS: &str =
     "\ngroup               quota   period     most  periods   throttled      for\n";
 
-/// Writes the figures as tables for people, from the end of the first line on, with these words to the fault for which
-/// the policy was ejected, if it was for one.
+/// Writes the figures as tables for people, from the end of the first line on, with these words to the fault or exit
+/// for which the policy was ejected, if it was for one.
 #[tactic(auto, unfolding(crate::specs::Tables::table_rows))]
 pub(crate) fn write_tables(figures: &Figures, words: &str, page: &mut Text)
     ensures { Puts page.old (table_rows figures.now words.now) page.new }
@@ -71,6 +72,7 @@ fn write_end(figures: &Figures, ejected: Option<Eject>, words: &str, page: &mut 
             write_stall(task_name(figures, task as usize), clock, page);
         }
         Some(Eject::Fault(fault, clock)) => write_fault_end(fault.number(), clock, words, page),
+        Some(Eject::Exit(code, clock)) => write_exit_end(code, clock, words, page),
     }
 }
 
@@ -93,6 +95,15 @@ fn write_fault_end(number: u8, clock: u64, words: &str, page: &mut Text)
     page.push(words);
 }
 
+#[tactic(auto, unfolding(crate::specs::Tables::exit_end))]
+fn write_exit_end(code: i64, clock: u64, words: &str, page: &mut Text)
+    ensures { Puts page.old (exit_end code clock words.now) page.new }
+{
+    write_when(clock, page);
+    page.show("exit ", &code);
+    page.push(words);
+}
+
 #[tactic(auto, unfolding(crate::specs::Tables::when_ejected))]
 fn write_when(clock: u64, page: &mut Text)
     ensures { Puts page.old (when_ejected clock) page.new }
@@ -101,8 +112,9 @@ fn write_when(clock: u64, page: &mut Text)
     page.push(" ms: ");
 }
 
-/// Writes the words to the fault for which the policy was ejected: its place, if that is known, and its meaning.
-pub(crate) fn write_fault(figures: &Figures, place: Option<FaultPlace>, words: &mut Text) {
+/// Writes the words to the fault or exit for which the policy was ejected: its place, if that is known, and its
+/// meaning.
+pub(crate) fn write_cause(figures: &Figures, place: Option<FaultPlace>, words: &mut Text) {
     let ejected = figures.ejected;
     match ejected {
         None | Some(Eject::Stall(_, _)) => {}
@@ -110,17 +122,32 @@ pub(crate) fn write_fault(figures: &Figures, place: Option<FaultPlace>, words: &
             Some(place) => write_place(figures, place, words),
             None => write_words(fault, words),
         },
+        Some(Eject::Exit(_, _)) => match place {
+            Some(place) => write_place(figures, place, words),
+            None => words.push("\n"),
+        },
     }
 }
 
-/// Writes the callback and the slot of a fault, and its meaning: in a few words if it is of a call, or else the answer.
+/// Writes the callback and the slot of a fault or exit, and its meaning: of a fault of a call in a few words, else the
+/// answer, or the number of the text that goes with an exit.
 fn write_place(figures: &Figures, place: FaultPlace, page: &mut Text) {
     page.push(" in ");
     page.push(place.callback.name());
     page.number(" at slot ", place.slot as u64);
-    if place.call.is_some() {
-        return write_words(place.fault, page);
+    match place.cause {
+        Cause::Fault(fault) if place.call.is_some() => write_words(fault, page),
+        Cause::Fault(_) => write_answer(figures, place, page),
+        Cause::Exit(_) => {
+            page.push(" (");
+            write_reason(&place, &figures.workload, page);
+            page.push(")\n");
+        }
     }
+}
+
+/// Writes an answer that is no CPU.
+fn write_answer(figures: &Figures, place: FaultPlace, page: &mut Text) {
     page.push(" (");
     write_call(&place, &figures.workload, page);
     page.push(": ");

@@ -7,10 +7,10 @@ ghost use Rattle.scxsim_simulation.specs.Runs.{IsCause};
 ghost use Rattle.scxsim_simulation.specs.Replays.{IsReplayCause};
 ghost use Rattle.scxsim_statistics.specs.Figures.{AreOfTexts, AreOfEvents};
 ghost use Rattle.scxsim_statistics.specs.declared.gathering.Figures.{Figures as AllFigures};
-ghost use Rattle.scxsim_tables.specs.Tables.{table_rows, tables, is_for_fault};
+ghost use Rattle.scxsim_tables.specs.Tables.{table_rows, tables, is_for_callback};
 ghost use Rattle.scxsim_tables.specs.Values.{value_rows, values};
 
-use crate::tables::{TASKS, write_fault, write_tables};
+use crate::tables::{TASKS, write_cause, write_tables};
 use crate::values::{COLUMNS, write_list};
 use scx_sched::{Eject, Sim};
 use scxsim_commands::{Fault, Refusal};
@@ -32,7 +32,7 @@ pub fn stats<L: Listener, W: Out>(
     listener: &mut L,
     out: &mut W,
 ) -> Result<bool, Fault>
-    // The tables are those of the run's figures, with some words to a fault.
+    // The tables are those of the run's figures, with some words to a fault or exit.
     ensures done { IfOk result (λ answer. (answer ≡ true)
         × (f : AllFigures) × AreOfTexts policy.now workload.now f × (words : List ℕ)
         × Appends (W.contents out.old) (W.contents out.new) (tables f words)) }
@@ -183,33 +183,35 @@ fn table_rows(alloc: Global, figures: &Figures, start: Sim) -> Result<String, Al
     ensures { IfOk result (λ rows. (words : List ℕ)
         × (string_bytes rows ≡ table_rows figures.now words)) }
 {
-    let words = words_of_fault(alloc, figures, start)?;
+    let words = words_of_cause(alloc, figures, start)?;
     let mut rows = Text::new(alloc);
     write_tables(figures, words.as_str(), &mut rows);
     drop(words);
     rows.finish()
 }
 
-/// The words to the fault for which the policy was ejected, if it was ejected for one.
-fn words_of_fault(alloc: Global, figures: &Figures, start: Sim) -> Result<String, AllocError> {
-    let place = place_of_fault(alloc, figures, start)?;
+/// The words to the fault or exit for which the policy was ejected, if it was ejected for one.
+fn words_of_cause(alloc: Global, figures: &Figures, start: Sim) -> Result<String, AllocError> {
+    let place = place_of_cause(alloc, figures, start)?;
     let mut words = Text::new(alloc);
-    write_fault(figures, place, &mut words);
+    write_cause(figures, place, &mut words);
     words.finish()
 }
 
-/// The place of the fault for which the policy was ejected, if it was ejected for one.
-fn place_of_fault(
+/// The place of the fault or exit for which the policy was ejected, if it was ejected for one.
+fn place_of_cause(
     alloc: Global,
     figures: &Figures,
     mut start: Sim,
 ) -> Result<Option<FaultPlace>, AllocError>
     ensures { IfOk result (λ place. is_some place ≡ true
-        → is_for_fault figures.now.ejected ≡ true) }
+        → is_for_callback figures.now.ejected ≡ true) }
 {
     let ejected = figures.ejected;
     let place = match ejected {
-        Some(Eject::Fault(_, clock)) => find_fault_in(alloc, &figures.workload, &mut start, clock),
+        Some(Eject::Fault(_, clock) | Eject::Exit(_, clock)) => {
+            find_fault_in(alloc, &figures.workload, &mut start, clock)
+        }
         Some(Eject::Stall(_, _)) | None => Ok(None),
     };
     drop(start);

@@ -291,7 +291,7 @@ fn list_policy(figures: &Figures, page: &mut Text)
     list_ejected(name, figures.ejected, page);
 }
 
-/// Writes that the policy is in force at the end, or the task or fault for which it was ejected.
+/// Writes that the policy is in force at the end, or the task, fault or exit for which it was ejected.
 #[tactic(auto, unfolding(crate::specs::Values::line))]
 fn list_ending(figures: &Figures, name: &str, page: &mut Text)
     ensures { Puts page.old (line (codes "policy") name.now (codes "ended")
@@ -312,6 +312,7 @@ fn write_ending(figures: &Figures, ejected: Option<Eject>, page: &mut Text)
             page.push(task_name(figures, task as usize));
         }
         Some(Eject::Fault(fault, _)) => page.number("fault ", u64::from(fault.number())),
+        Some(Eject::Exit(code, _)) => page.show("exit ", &code),
     }
 }
 
@@ -324,6 +325,7 @@ fn list_ejected(name: &str, ejected: Option<Eject>, page: &mut Text)
         None => {}
         Some(Eject::Stall(_, clock)) => list(page, "policy", name, "ejected_at_ms", clock),
         Some(Eject::Fault(_, clock)) => list(page, "policy", name, "ejected_at_ms", clock),
+        Some(Eject::Exit(_, clock)) => list(page, "policy", name, "ejected_at_ms", clock),
     }
 }
 

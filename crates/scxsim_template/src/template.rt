@@ -771,7 +771,8 @@ write(\"Time\", 6, AXIS - 12, ink, 11, 600);\n\
 function endedWords() {\n\
 const { how, at, task, code } = run.ended;\n\
 if (at === undefined) return \"in force to the end\";\n\
-return \"ejected at \" + momentText(at) + \": \" + (how === \"stall\" ? \"stall of \" + run.tasks[task].name : \"fault \" + code + \" (\" + FAULTS[code] + \")\");\n\
+const why = { stall: () => \"stall of \" + run.tasks[task].name, fault: () => \"fault \" + code + \" (\" + FAULTS[code] + \")\", exit: () => \"exit \" + code };\n\
+return \"ejected at \" + momentText(at) + \": \" + why[how]();\n\
 }\n\
 \n\
 const ejectionAt = (offset) => Math.round(offset + toPixel(run.ended.at ?? -1) / ratio);\n\

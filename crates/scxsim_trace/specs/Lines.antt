@@ -1,11 +1,12 @@
 -- The text of notes: a line each, with the names of tasks and groups. Names are in lists, by the
 -- numbers of tasks and groups.
 use Rattle.std.specs.Prelude.{ℕ, ◌==◌, ◌%◌, ◌^◌, nat_lt, if◌then◌else◌, List, [], ◌∷◌, ◌++◌, codes, decimal, slice_index_or}
+use Rattle.std.specs.Fmt.{signed_decimal}
 use Rattle.scx_sched_world.specs.Faults.{fault_number}
 use Rattle.scx_sched_world.specs.Ids.{policy_end, global, held_queue, builtin_queue, parked_queue}
 use Rattle.scx_sched_world.specs.declared.notes.Note.{Note}
 use Rattle.scx_sched_world.specs.declared.notes.What.{What}
-use Rattle.scx_sched_world.specs.declared.notes.What.TheVariants.{Wake, Sleep, Insert, Move, Run, Stop, Idle, Weight, Stall, Fault}
+use Rattle.scx_sched_world.specs.declared.notes.What.TheVariants.{Wake, Sleep, Insert, Move, Run, Stop, Idle, Weight, Stall, Fault, Exit}
 use Rattle.scx_load_workloads.specs.Workload.{WorkloadState}
 
 -- the names of all tasks and of all groups
@@ -50,6 +51,7 @@ verb (Idle c) = codes "idle cpu "
 verb (Weight g w) = codes "weight "
 verb (Stall t) = codes "eject stall "
 verb (Fault f) = codes "eject fault "
+verb (Exit n) = codes "eject exit "
 
 -- the task or the group of a note
 abbrev pub subject : NameLists → What → List ℕ
@@ -63,6 +65,7 @@ subject x (Idle c) = []
 subject x (Weight g w) = group_name x g
 subject x (Stall t) = task_name x t
 subject x (Fault f) = []
+subject x (Exit n) = []
 
 -- the queue, the CPU or the number of a note
 abbrev pub object : What → List ℕ
@@ -76,6 +79,7 @@ object (Idle c) = decimal c
 object (Weight g w) = codes " " ++ decimal w
 object (Stall t) = []
 object (Fault f) = decimal (fault_number f)
+object (Exit n) = signed_decimal n
 
 -- the clock, one space, and the verb
 abbrev pub start : Note → List ℕ

@@ -1,9 +1,10 @@
 -- The text of a report: the run time of each task, its part of all run time, and whether the policy
 -- is in force.
 use Rattle.std.specs.Prelude.{ℕ, ◌==◌, ◌+◌, ◌*◌, ◌/◌, if◌then◌else◌, List, [], ◌∷◌, ◌++◌, codes, decimal, map, sum, Option, Some, None}
+use Rattle.std.specs.Fmt.{signed_decimal}
 use Rattle.scx_sched_tasks.specs.declared.task.Task.{Task}
 use Rattle.scx_sched_world.specs.declared.eject.Eject.{Eject}
-use Rattle.scx_sched_world.specs.declared.eject.Eject.TheVariants.{Stall, Fault}
+use Rattle.scx_sched_world.specs.declared.eject.Eject.TheVariants.{Stall, Fault, Exit}
 use Rattle.scx_sched_world.specs.Faults.{fault_number}
 use Rattle.scx_sched_world.specs.World.{WorldState}
 use Rattle.scxsim_trace.specs.Lines.{NameLists, task_name}
@@ -43,18 +44,21 @@ abbrev pub policy_start : Option Eject → List ℕ
 policy_start None = codes "policy in force"
 policy_start (Some (Stall t clock)) = codes "policy ejected stall "
 policy_start (Some (Fault f clock)) = codes "policy ejected fault " ++ decimal (fault_number f)
+policy_start (Some (Exit n clock)) = codes "policy ejected exit " ++ signed_decimal n
 
 -- the name of the task that waited too long; empty where there was no stall
 abbrev pub policy_name : NameLists → Option Eject → List ℕ
 policy_name x None = []
 policy_name x (Some (Stall t clock)) = task_name x t
 policy_name x (Some (Fault f clock)) = []
+policy_name x (Some (Exit n clock)) = []
 
 -- the clock at which the policy was ejected, if it was, and the end of the line
 abbrev pub policy_end : Option Eject → List ℕ
 policy_end None = codes "\n"
 policy_end (Some (Stall t clock)) = codes " at " ++ decimal clock ++ codes "\n"
 policy_end (Some (Fault f clock)) = codes " at " ++ decimal clock ++ codes "\n"
+policy_end (Some (Exit n clock)) = codes " at " ++ decimal clock ++ codes "\n"
 
 -- the line that says whether the policy is in force, or why and when it was ejected
 abbrev pub policy_line : NameLists → Option Eject → List ℕ

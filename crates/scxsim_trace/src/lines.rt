@@ -1,4 +1,5 @@
 ghost use Rattle.std.specs.Prelude.{◌≡◌, ◌+◌, ◌≤◌, ◌<◌, ◌++◌, length, take, codes, decimal, OnOk, OnErr};
+ghost use Rattle.std.specs.Fmt.{signed_decimal};
 ghost use Rattle.std.specs.Io.KnownBytes.{Appends};
 ghost use Rattle.scxsim_output.specs.Output.{AppendsBeginning, Counts};
 ghost use Rattle.scxsim_trace.specs.Lines as lines;
@@ -6,6 +7,7 @@ ghost use Rattle.scxsim_trace.specs.Lines.{note_line as line_of};
 
 use crate::clock_text::{ClockText, put_digits};
 use crate::names::Names;
+use itoa::Buffer;
 use scx_sched_world::{BUILTIN, GLOBAL, HELD, Note, PARKED, POLICY_END, What};
 use scxsim_output::{Failed, Out, SHORT, put_byte, put_bytes, put_name, write_parts};
 
@@ -117,6 +119,7 @@ fn name<N: Names>(names: &N, what: What) -> &str
         What::Weight(group, _) => names.group(group),
         What::Stall(task) => names.task(task),
         What::Fault(_) => "",
+        What::Exit(_) => "",
     }
 }
 
@@ -138,6 +141,7 @@ fn put_verb(line: &mut [u8; SHORT], at: usize, what: What) -> usize
         What::Weight(_, _) => put_bytes(line, at, b"weight "),
         What::Stall(_) => put_bytes(line, at, b"eject stall "),
         What::Fault(_) => put_bytes(line, at, b"eject fault "),
+        What::Exit(_) => put_bytes(line, at, b"eject exit "),
     }
 }
 
@@ -170,6 +174,7 @@ fn put_object(line: &mut [u8; SHORT], at: usize, what: What) -> usize
         What::Weight(_, weight) => put_numbered(line, at, b" ", u64::from(weight)),
         What::Stall(_) => at,
         What::Fault(fault) => put_number(line, at, u64::from(fault.number())),
+        What::Exit(code) => put_signed(line, at, code),
     }
 }
 
@@ -205,6 +210,17 @@ fn put_numbered(line: &mut [u8; SHORT], at: usize, word: &[u8], number: u64) -> 
 {
     let at = put_bytes(line, at, word);
     put_number(line, at, number)
+}
+
+/// Puts a number with its sign at `at`, and answers where it ends.
+#[inline(never)]
+fn put_signed(line: &mut [u8; SHORT], at: usize, number: i64) -> usize
+    requires { at ≤ 49 }
+    ensures text { take result line.new ≡ take at line.old ++ signed_decimal number }
+    ensures room { result ≤ at + 27 }
+{
+    let mut digits = Buffer::new();
+    put_bytes(line, at, digits.format(number).as_bytes())
 }
 
 /// Puts a number at `at`, and answers where it ends. Most have one digit or two.

@@ -130,6 +130,11 @@ fn policy_start(ejected: Option<Eject>) -> Line
             start.push_str("policy ejected fault ");
             start.push_str(digits.format(fault.number()));
         }
+        Some(Eject::Exit(code, _)) => {
+            let mut digits = Buffer::new();
+            start.push_str("policy ejected exit ");
+            start.push_str(digits.format(code));
+        }
     }
     start
 }
@@ -140,7 +145,7 @@ fn policy_name<N: Names>(names: &N, ejected: Option<Eject>) -> &str
 {
     match ejected {
         Some(Eject::Stall(task, _)) => names.task(task),
-        Some(Eject::Fault(_, _)) | None => "",
+        Some(Eject::Fault(_, _) | Eject::Exit(_, _)) | None => "",
     }
 }
 
@@ -148,7 +153,7 @@ fn policy_end(ejected: Option<Eject>) -> Line
     ensures { result.bytes ≡ end_of ejected }
 {
     let mut end = Line::new();
-    if let Some(Eject::Stall(_, clock) | Eject::Fault(_, clock)) = ejected {
+    if let Some(Eject::Stall(_, clock) | Eject::Fault(_, clock) | Eject::Exit(_, clock)) = ejected {
         let mut digits = Buffer::new();
         end.push_str(" at ");
         end.push_str(digits.format(clock));

@@ -3,7 +3,7 @@
 use Rattle.std.specs.Prelude.{ℕ, ◌==◌, if◌then◌else◌, Bool, true, false, List, Option, Some, None, slice_index_or, slice_set}
 use Rattle.scx_sched_world.specs.Ids.{parked_queue}
 use Rattle.scx_sched_world.specs.declared.notes.What.{What}
-use Rattle.scx_sched_world.specs.declared.notes.What.TheVariants.{Wake, Sleep, Insert, Move, Run, Stop, Idle, Weight, Stall, Fault}
+use Rattle.scx_sched_world.specs.declared.notes.What.TheVariants.{Wake, Sleep, Insert, Move, Run, Stop, Idle, Weight, Stall, Fault, Exit}
 use Rattle.scxsim_views.specs.declared.pauses.Doing.{Doing}
 use Rattle.scxsim_views.specs.declared.pauses.Doing.TheVariants.{Sleeps, Waits, Runs, IsParked}
 use Rattle.scxsim_views.specs.declared.pauses.Pause.{Pause}
@@ -55,6 +55,7 @@ of_task (Idle c) = None
 of_task (Weight g x) = None
 of_task (Stall t) = None
 of_task (Fault f) = None
+of_task (Exit n) = None
 
 -- one that runs waits from now on; one that sleeps, which is noted first, goes on sleeping
 abbrev pub doing_after_stop : ℕ → Doing → Doing
@@ -78,6 +79,7 @@ does now (Idle c) d = d
 does now (Weight g x) d = d
 does now (Stall t) d = d
 does now (Fault f) d = d
+does now (Exit n) d = d
 
 -- the pause of a task in this state, if it waits or is parked
 abbrev pub pause_of : ℕ → ℕ → Doing → Option Pause
@@ -114,6 +116,7 @@ ending_pause now t (Idle c) d = None
 ending_pause now t (Weight g x) d = None
 ending_pause now t (Stall u) d = None
 ending_pause now t (Fault f) d = None
+ending_pause now t (Exit n) d = None
 
 -- ---- all tasks
 

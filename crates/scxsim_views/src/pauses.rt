@@ -128,7 +128,8 @@ impl Pauses {
             | What::Idle(_)
             | What::Weight(_, _)
             | What::Stall(_)
-            | What::Fault(_) => None,
+            | What::Fault(_)
+            | What::Exit(_) => None,
         }
     }
 

@@ -70,7 +70,8 @@ impl QueueTraffic {
             | What::Idle(_)
             | What::Weight(_, _)
             | What::Stall(_)
-            | What::Fault(_) => {}
+            | What::Fault(_)
+            | What::Exit(_) => {}
         }
     }
 

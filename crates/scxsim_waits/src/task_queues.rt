@@ -61,7 +61,8 @@ impl TaskQueues {
             | What::Idle(_)
             | What::Weight(_, _)
             | What::Stall(_)
-            | What::Fault(_) => {}
+            | What::Fault(_)
+            | What::Exit(_) => {}
         }
     }
 
@@ -86,7 +87,8 @@ impl TaskQueues {
             | What::Idle(_)
             | What::Weight(_, _)
             | What::Stall(_)
-            | What::Fault(_) => None,
+            | What::Fault(_)
+            | What::Exit(_) => None,
         }
     }
 

@@ -160,7 +160,8 @@ impl WatchedWait {
             | What::Idle(_)
             | What::Weight(_, _)
             | What::Stall(_)
-            | What::Fault(_) => Ok(()),
+            | What::Fault(_)
+            | What::Exit(_) => Ok(()),
         }
     }
 

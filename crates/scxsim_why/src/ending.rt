@@ -28,6 +28,13 @@ pub fn write_unplaced(workload: &Workload, fault: Fault, event: Event, page: &mu
     page.push("\n");
 }
 
+/// Writes the end of a line on an exit whose place isn't known.
+pub fn write_unplaced_exit(workload: &Workload, event: Event, page: &mut Text) {
+    page.push(", ");
+    write_event(workload, event, page);
+    page.push("\n");
+}
+
 /// Writes the event at which a policy was ejected.
 pub fn write_event(workload: &Workload, event: Event, page: &mut Text) {
     match event {

@@ -27,8 +27,8 @@ pub struct Findings {
     pub figures: Figures,
     pub idle: IdleFigures,
     pub(crate) account: Account,
-    /// The place of the fault for which the policy was ejected.
-    pub(crate) fault: Option<FaultPlace>,
+    /// The place of the fault or exit for which the policy was ejected.
+    pub(crate) place: Option<FaultPlace>,
     /// The programs of the policy.
     pub(crate) programs: Programs,
 }
@@ -52,7 +52,7 @@ pub fn examine<L: Listener>(
     let Watched {
         figures,
         account,
-        fault,
+        place,
     } = watch_waits(alloc, figures, start, listener)?;
     let idle = account.idling.figures();
     let programs = programs_of(alloc, policy)?;
@@ -60,17 +60,17 @@ pub fn examine<L: Listener>(
         figures,
         idle,
         account,
-        fault,
+        place,
         programs,
     })
 }
 
-/// The figures of a run, the account of its longest waits, and the place of the fault that ejected the policy.
+/// The figures of a run, the account of its longest waits, and the place of the fault or exit that ejected the policy.
 #[derive(Drop)]
 struct Watched {
     figures: Figures,
     account: Account,
-    fault: Option<FaultPlace>,
+    place: Option<FaultPlace>,
 }
 
 /// Goes through the run the first time, for its figures.
@@ -92,7 +92,7 @@ fn first_time<L: Listener>(
     figures_and_start(alloc, policy, workload, &mut half)
 }
 
-/// Finds the fault in a copy of the machine, and watches the longest waits of these figures in the machine itself.
+/// Finds the fault or exit in a copy of the machine, and watches the longest waits of these figures in the machine itself.
 fn watch_waits<L: Listener>(
     alloc: Global,
     figures: Figures,
@@ -103,13 +103,13 @@ fn watch_waits<L: Listener>(
     ensures idle { IfOk result (λ both.
         both.account.idling ≡ idle_of start (workload_events figures.workload start)) }
 {
-    let fault = fault_of(alloc, &figures, &start);
+    let place = place_of(alloc, &figures, &start);
     let account = second_time(alloc, &figures, start, listener);
-    match (account, fault) {
-        (Ok(account), Ok(fault)) => Ok(Watched {
+    match (account, place) {
+        (Ok(account), Ok(place)) => Ok(Watched {
             figures,
             account,
-            fault,
+            place,
         }),
         (account, _) => {
             drop(account);
@@ -186,21 +186,23 @@ fn programs_of(alloc: Global, policy: &str) -> Result<Programs, AllocError> {
     }
 }
 
-/// The place of the fault for which the policy was ejected, if it was, in a copy of the machine at its start.
-fn fault_of(
+/// The place of the fault or exit for which the policy was ejected, if it was, in a copy of the machine at its start.
+fn place_of(
     alloc: Global,
     figures: &Figures,
     start: &Sim,
 ) -> Result<Option<FaultPlace>, AllocError> {
     let ejected = figures.ejected;
     match ejected {
-        Some(Eject::Fault(_, clock)) => place_of_fault(alloc, &figures.workload, start, clock),
+        Some(Eject::Fault(_, clock) | Eject::Exit(_, clock)) => {
+            place_at(alloc, &figures.workload, start, clock)
+        }
         Some(Eject::Stall(_, _)) | None => Ok(None),
     }
 }
 
-/// The place of the fault at that clock, in a copy of the machine at its start.
-fn place_of_fault(
+/// The place of the fault or exit at that clock, in a copy of the machine at its start.
+fn place_at(
     alloc: Global,
     workload: &Workload,
     start: &Sim,

@@ -22,6 +22,7 @@ mod worst;
 pub use calls::write_calls;
 pub use ending::{
     Ejected, write_event, write_last_lines, write_never, write_stall, write_unplaced,
+    write_unplaced_exit,
 };
 pub use finding::{Findings, examine};
 pub use idle::{write_idle, write_stretches};

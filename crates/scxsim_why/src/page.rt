@@ -1,7 +1,8 @@
 use crate::finding::Findings;
 use crate::{
     Ejected, write_calls, write_event, write_idle, write_last_lines, write_never, write_queues,
-    write_stall, write_stretches, write_undrained, write_unplaced, write_waits, write_worst,
+    write_stall, write_stretches, write_undrained, write_unplaced, write_unplaced_exit,
+    write_waits, write_worst,
 };
 use scx_isa::Callback;
 use scx_load_workloads::Workload;
@@ -16,7 +17,7 @@ pub(crate) fn write_page(alloc: Global, found: &Findings, page: &mut Text) {
     let account = &found.account;
     let workload = &found.figures.workload;
     let has_dispatch = found.programs.get(Callback::Dispatch).is_some();
-    write_ending(workload, account.ejection, found.fault, page);
+    write_ending(workload, account.ejection, found.place, page);
     write_worst(alloc, workload, &account.waits, found.idle.has_waited, page);
     let rules = account.waits.rules;
     write_idle(workload, found.idle.lost, rules, &account.stretches, page);
@@ -54,15 +55,22 @@ fn write_ending(
         Cause::Fault(fault, event) => {
             page.number("fault ", u64::from(fault.number()));
             match place {
-                Some(place) => write_fault(workload, place, event, page),
+                Some(place) => write_place(workload, place, event, page),
                 None => write_unplaced(workload, fault, event, page),
+            }
+        }
+        Cause::Exit(code, event) => {
+            page.show("exit ", &code);
+            match place {
+                Some(place) => write_place(workload, place, event, page),
+                None => write_unplaced_exit(workload, event, page),
             }
         }
     }
 }
 
-/// Writes the callback, the slot and the call of a fault.
-fn write_fault(workload: &Workload, place: FaultPlace, event: Event, page: &mut Text) {
+/// Writes the callback, the slot and the call of a fault or an exit.
+fn write_place(workload: &Workload, place: FaultPlace, event: Event, page: &mut Text) {
     page.push(" in ");
     page.push(place.callback.name());
     page.number(" at slot ", place.slot as u64);
