@@ -8,5 +8,6 @@ mod memory;
 mod pauses;
 mod progress;
 mod runs;
+mod telling;
 mod texts;
 mod writers;

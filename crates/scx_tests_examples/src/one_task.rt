@@ -1,5 +1,5 @@
 ghost use Rattle.std.specs.Prelude.{◌^◌, Some};
-ghost use Rattle.scx_isa_semantics.specs.declared.host_tables.Field.TheVariants.{Pid, Weight, Slice, DsqVtime, PrevCpu, Group, RunNs};
+ghost use Rattle.scx_isa_semantics.specs.declared.host_tables.Field.TheVariants.{Pid, Weight, Slice, DsqVtime, PrevCpu, Group, RunNs, Cpus};
 ghost use Rattle.scx_vm.specs.declared.arguments.Answer.TheVariants.{Num};
 
 use scx_isa::{Field, Helper, TaskId};
@@ -35,8 +35,8 @@ impl Env for OneTask {
     ghost functions = { record {
       answer = λ w h a. Num 0;
       after_call = λ w h a. record w { called = Some h; given = a };
-      number = λ w t f. elim f [ Pid ↦ 7 | Weight ↦ w.weight | Slice ↦ w.slice | DsqVtime ↦ w.vtime | PrevCpu ↦ 0 | Group ↦ 0 | RunNs ↦ 0 ];
-      after_store = λ w t f n. elim f [ Pid ↦ w | Weight ↦ w | Slice ↦ record w { slice = n } | DsqVtime ↦ record w { vtime = n } | PrevCpu ↦ w | Group ↦ w | RunNs ↦ w ];
+      number = λ w t f. elim f [ Pid ↦ 7 | Weight ↦ w.weight | Slice ↦ w.slice | DsqVtime ↦ w.vtime | PrevCpu ↦ 0 | Group ↦ 0 | RunNs ↦ 0 | Cpus ↦ 0 ];
+      after_store = λ w t f n. elim f [ Pid ↦ w | Weight ↦ w | Slice ↦ record w { slice = n } | DsqVtime ↦ record w { vtime = n } | PrevCpu ↦ w | Group ↦ w | RunNs ↦ w | Cpus ↦ w ];
     } };
 
     ghost room = { λ w. 2 ^ 64 };
@@ -60,6 +60,7 @@ impl Env for OneTask {
             Field::PrevCpu => 0,
             Field::Group => 0,
             Field::RunNs => 0,
+            Field::Cpus => 0,
         }
     }
 
@@ -72,6 +73,7 @@ impl Env for OneTask {
             Field::PrevCpu => {}
             Field::Group => {}
             Field::RunNs => {}
+            Field::Cpus => {}
         }
     }
 }

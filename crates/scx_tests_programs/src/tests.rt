@@ -3,4 +3,3 @@ mod both_machines;
 mod both_passes;
 mod explanations;
 mod runs;
-mod telling;

@@ -19,7 +19,7 @@ fn expect<R: AllocGlobal + Abort>(rt: &R, names: &Workload, note: Note, line: &s
 }
 
 /// A clock, what is noted then, and its line.
-const LINES: [(u64, What, &str); 18] = [
+const LINES: [(u64, What, &str); 21] = [
     (0, What::Wake(0), "0 wake a\n"),
     (1, What::Sleep(1), "1 sleep b\n"),
     (0, What::Insert(0, 0), "0 insert a queue 0\n"),
@@ -58,6 +58,13 @@ const LINES: [(u64, What, &str); 18] = [
         u64::MAX,
         What::Stall(0),
         "18446744073709551615 eject stall a\n",
+    ),
+    (7, What::Exit(0), "7 eject exit 0\n"),
+    (7, What::Exit(-1), "7 eject exit -1\n"),
+    (
+        u64::MAX,
+        What::Exit(i64::MIN),
+        "18446744073709551615 eject exit -9223372036854775808\n",
     ),
     // Numbers that name nothing.
     (2, What::Wake(2), "2 wake \n"),

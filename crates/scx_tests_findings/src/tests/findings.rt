@@ -224,7 +224,7 @@ fn sorts_come_by_their_numbers(rt: HostRuntime) {
     for place in 0..SORTS.len() {
         expect_same(&rt, usize::from(SORTS[place].number()), place, "place");
     }
-    expect_same(&rt, SORTS.len(), 11, "eight faults and three more");
+    expect_same(&rt, SORTS.len(), 12, "eight faults and four more");
 }
 
 /// The number of a finding's sort.
