@@ -679,7 +679,8 @@ function drawAxis(offset, wide) {
 function endedWords() {
   const { how, at, task, code } = run.ended;
   if (at === undefined) return "in force to the end";
-  return "ejected at " + momentText(at) + ": " + (how === "stall" ? "stall of " + run.tasks[task].name : "fault " + code + " (" + FAULTS[code] + ")");
+  const why = { stall: () => "stall of " + run.tasks[task].name, fault: () => "fault " + code + " (" + FAULTS[code] + ")", exit: () => "exit " + code };
+  return "ejected at " + momentText(at) + ": " + why[how]();
 }
 
 const ejectionAt = (offset) => Math.round(offset + toPixel(run.ended.at ?? -1) / ratio);

@@ -23,6 +23,12 @@ typedef long long s64;
  *   SEC("running")    void NAME(struct task *task)
  *   SEC("stopping")   void NAME(struct task *task, u64 runnable)
  *
+ * By Linux rules also:
+ *
+ *   SEC("tick")       void NAME(struct task *task)
+ *   SEC("runnable")   void NAME(struct task *task, u64 flags)
+ *   SEC("quiescent")  void NAME(struct task *task, u64 flags)
+ *
  * NAME is free, but for the section's own name.
  */
 #define SEC(name) __attribute__((section(name), used))
@@ -39,6 +45,7 @@ struct task {
 	const volatile u32 prev_cpu;
 	const volatile u32 group;
 	const volatile u64 run_ns;
+	const volatile u64 cpus;	/* on which it may run, a bit for each; by Linux rules alone */
 };
 
 /* Queues beside the policy's own, whose numbers are below 2^63. */
@@ -67,7 +74,16 @@ static u64 (*const select_cpu_dfl)(struct task *task) = (void *)1005;
 static s64 (*const cpu_idle)(u64 cpu) = (void *)1006;
 static struct task *(*const task_by_pid)(u64 pid) = (void *)1007;
 static s64 (*const dsq_nr_queued)(u64 queue) = (void *)1008;
-static s64 (*const kick_cpu)(u64 cpu, u64 flags) = (void *)1009;	/* by Linux rules */
+/* By Linux rules alone. */
+static u64 (*const get_smp_processor_id)(void) = (void *)8;
+static s64 (*const kick_cpu)(u64 cpu, u64 flags) = (void *)1009;
+static s64 (*const exit_policy)(s64 code, u64 message) = (void *)1010;
+static struct task *(*const cpu_curr)(u64 cpu) = (void *)1011;
+static struct task *(*const dsq_peek)(u64 queue) = (void *)1012;
+static u64 (*const task_running)(struct task *task) = (void *)1013;
+static u64 (*const task_cpu)(struct task *task) = (void *)1014;
+static s64 (*const pick_idle)(u64 mask, u64 flags) = (void *)1015;
+static s64 (*const claim_idle)(u64 cpu) = (void *)1016;
 
 /* Map NUMBER of the policy, counted from 0, has so many elements of that type. */
 #define DEFINE_MAP(number, entries, type) \

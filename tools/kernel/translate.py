@@ -15,7 +15,8 @@ from kernel_types import KernelTypes, NoCounterpart
 from kernel import slots
 from kernel.registers import Registers
 
-ARGUMENTS = {"init": 0, "enable": 1, "select_cpu": 3, "enqueue": 2, "dispatch": 2, "running": 1, "stopping": 2}
+ARGUMENTS = {"init": 0, "enable": 1, "select_cpu": 3, "enqueue": 2, "dispatch": 2, "running": 1, "stopping": 2,
+             "tick": 1, "runnable": 2, "quiescent": 2}
 ANSWERED = ("init", "select_cpu")
 LOADS = (0x61, 0x69, 0x71, 0x79, 0x81, 0x89, 0x91)
 FIELDS = {0: "pid", 4: "scx.weight", 8: "scx.slice", 16: "scx.dsq_vtime", 24: "thread_info.cpu", 32: "se.sum_exec_runtime"}
@@ -79,6 +80,7 @@ class Callback:
         self.asked, self.mask, self.bit = (self.cell(), self.cell(), self.cell()) if self.asks else (None, None, None)
         self.held = [self.cell() for number in calls if number == 1007]
         self.answer = self.cell() if self.held and name in ANSWERED else None
+        self.text = self.cell() if 1010 in calls else None
         if self.used > 512:
             raise NoCounterpart(f"{name}: 512 bytes of stack don't hold what the kernel's form keeps there")
 
@@ -157,9 +159,33 @@ class Callback:
             return [self.kernel_call("bpf_task_from_pid"), slots.store(10, next(held), 0)]
         if number == 1008:
             return [self.kernel_call("scx_bpf_dsq_nr_queued"), slots.Instruction(0xbf, 0, 0, 32)]
-        if number == 1009 and self.rules == "linux":
+        return self.linux_helper(number) if self.rules == "linux" else [slots.call(number)]
+
+    def linux_helper(self, number):
+        """A helper that Linux rules alone have, but for pick_idle, whose mask is no number there."""
+        is_true = slots.Instruction(0x54, 0, 0, 0, 1)
+        if number == 1009:
             return [self.kernel_call("scx_bpf_kick_cpu"), slots.move_number(0, 0)]
+        if number == 1010:
+            return [*self.no_text(), self.kernel_call("scx_bpf_exit_bstr"), slots.move_number(0, 0)]
+        if number == 1011:
+            return [self.kernel_call("scx_bpf_cpu_curr")]
+        if number == 1012:
+            return [self.kernel_call("scx_bpf_dsq_peek")]
+        if number == 1013:
+            return [self.kernel_call("scx_bpf_task_running"), is_true]
+        if number == 1014:
+            return [self.kernel_call("scx_bpf_task_cpu"), slots.Instruction(0xbf, 0, 0, 32)]
+        if number == 1015:
+            raise NoCounterpart(f"{self.name}: a kernel's mask of CPUs is no number, as pick_idle takes one")
+        if number == 1016:
+            return [self.kernel_call("scx_bpf_test_and_clear_cpu_idle"), is_true]
         return [slots.call(number)]
+
+    def no_text(self):
+        """An empty text in r2, with one argument that it doesn't use in r3 and r4."""
+        lines = [slots.Instruction(0x7a, 10, 0, self.text, 0), slots.move(2, 10), slots.add_number(2, self.text)]
+        return [*lines, slots.move(3, 2), slots.move_number(4, 8)]
 
     def insert_flags(self, register):
         """Puts the kernel's numbers of flags in place of ours. r0 is free, as a call comes next."""

@@ -38,13 +38,16 @@ def reads_second_argument(instructions):
 
 
 def is_error(one, symbol):
-    return one.code == slots.CALL and symbol is not None and symbol.name == "scx_bpf_error"
+    return one.code == slots.CALL and symbol is not None and symbol.name in names.HELPERS
 
 
-def go_on_if_zero(target, place):
-    """Behind init_task: enable comes next if it answered 0. Else the policy is refused, as in a kernel, by a call with a fault."""
+def go_on_if_zero(target, place, rules):
+    """Behind init_task: enable comes next if it answered 0. Else the policy is refused, as in a kernel: by Linux rules with
+    that answer, by plain rules by a call with a fault."""
     jump = slots.Instruction(0x16, 0, 0, 0, 0, place, target)
-    failed = [slots.wide_number(1, 1 << 63), slots.call(1008), slots.Instruction(slots.EXIT)]
+    with_answer = [slots.move(1, 0), slots.move_number(2, 0), slots.call(1010)]
+    with_fault = [slots.wide_number(1, 1 << 63), slots.call(1008)]
+    failed = [*(with_answer if rules == "linux" else with_fault), slots.Instruction(slots.EXIT)]
     return [jump, *slots.noted("init_task didn't answer 0, so the policy is refused", failed)]
 
 
@@ -103,7 +106,7 @@ class Callback:
             loaded = [one for one in lists[at] if one.note and one.code == slots.WIDE]
             if loaded:
                 return loaded[-1].note
-        return "scx_bpf_error: the queue's number says which message, as the head of this file has it"
+        return "scx_bpf_error: the number says which message, as the head of this file has it"
 
     def all_lists(self):
         """Those of the function; of init_task and enable, those of both, one after the other."""
@@ -113,7 +116,7 @@ class Callback:
         count = len(lists)
         for instructions in lists:
             if instructions and instructions[-1].code == slots.EXIT:
-                instructions[-1:] = go_on_if_zero(count, instructions[-1].place)
+                instructions[-1:] = go_on_if_zero(count, instructions[-1].place, self.policy.rules)
         second = self.lists(self.read[1]) if len(self.read) > 1 else [[slots.Instruction(slots.EXIT)]]
         second = slots.moved(second, count)
         second[0] = [slots.load(1, 10, -self.task_cell), *second[0]]
@@ -165,7 +168,7 @@ class Callback:
 
     def cpu_at_hand(self, one):
         """The CPU of dispatch, of init 0, else that of the task."""
-        self.policy.warn(f"{one.place}: warning: {CPU_AT_HAND} is the CPU of dispatch, and elsewhere that on which the task runs or ran last", CPU_AT_HAND)
+        self.policy.warn(f"{one.place}: warning: {CPU_AT_HAND} is the CPU of dispatch, and elsewhere that on which the task runs or ran last; Linux rules have it", CPU_AT_HAND)
         if self.name == "init":
             return [slots.move_number(0, 0)]
         kept = slots.load(0, 10, -self.first_cell)

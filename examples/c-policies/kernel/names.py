@@ -6,7 +6,9 @@ from functools import lru_cache
 
 FOLDER = os.path.dirname(os.path.dirname(os.path.realpath(__file__)))
 
-CALLBACKS = {"init": 0, "enable": 1, "select_cpu": 3, "enqueue": 2, "dispatch": 2, "running": 1, "stopping": 2}
+CALLBACKS = {"init": 0, "enable": 1, "select_cpu": 3, "enqueue": 2, "dispatch": 2, "running": 1, "stopping": 2,
+             "tick": 1, "runnable": 2, "quiescent": 2}
+OF_LINUX = ("tick", "runnable", "quiescent")	# callbacks that plain rules don't have
 ANSWERED = ("init", "select_cpu")
 
 # Callbacks that no run here would call, and why.
@@ -53,9 +55,9 @@ ARGUMENTS = {
 # What to write instead of a callback that isn't here.
 NO_CALLBACK = {
     "dequeue": "a task that sleeps is taken from its queue by the host; keep no list of tasks of your own",
-    "tick": "give shorter slices",
-    "runnable": "do it in enqueue, whose flags are 1 after a wake",
-    "quiescent": "do it in stopping, where runnable is 0",
+    "tick": "by plain rules give shorter slices; Linux rules have it",
+    "runnable": "by plain rules do it in enqueue, whose flags are 1 after a wake; Linux rules have it",
+    "quiescent": "by plain rules do it in stopping, where runnable is 0; Linux rules have it",
     "set_weight": "read p->scx.weight where it is used",
     "update_idle": "ask in select_cpu or enqueue, by scx_bpf_select_cpu_dfl",
     "cgroup_init": "an array map by p->group, the number of the task's group in the workload",
@@ -92,7 +94,7 @@ def said(table, name, rules):
 
 
 # The kernel's functions that stay calls, with the host's number.
-HELPERS = {"scx_bpf_error": 1008}
+HELPERS = {"scx_bpf_error": 1008, "scx_bpf_exit": 1010}
 
 NOTES = {
     1: "__sync_fetch_and_add is a plain addition, since no other callback runs beside this one",
@@ -106,7 +108,7 @@ NOTES = {
     10: "a loop whose bounds aren't constant has at most {rounds} rounds, past which the policy is ejected; --loops N says another number",
     11: "a map that is a queue or a stack is a ring in an array map",
     12: "scx_bpf_dispatch_nr_slots is 32: dispatch inserts at once, as many tasks as it likes",
-    13: "scx_bpf_exit ends the policy as scx_bpf_error does, by a fault",
+    13: "by plain rules scx_bpf_exit ends the policy as scx_bpf_error does, by a fault; Linux rules keep its code",
     14: "the mask of a task has all CPUs",
 }
 NOTE_ERROR = 6
@@ -127,11 +129,13 @@ NOT_HERE = [
     ("scx_bpf_task_cgroup|bpf_cgroup_.*", "p->group, the number of the task's group in the workload"),
     ("scx_bpf_destroy_dsq", "queues stay"),
     ("scx_bpf_dispatch_cancel", "dispatch inserts at once, as many tasks as it likes"),
-    ("scx_bpf_dsq_move.*|scx_bpf_dsq_peek", "scx_bpf_dsq_move_to_local, or hold tasks in enqueue and insert them in dispatch"),
+    ("scx_bpf_dsq_move.*", "scx_bpf_dsq_move_to_local, or hold tasks in enqueue and insert them in dispatch"),
+    ("scx_bpf_dsq_peek", "by plain rules ask scx_bpf_dsq_nr_queued; Linux rules have it"),
     ("scx_bpf_pick_.*|bpf_cpumask_(test_cpu|first|empty|weight)", "say how many there are, as build --set cpus=4"),
     ("bpf_cpumask.*", "each task may run on all processors; scx_bpf_select_cpu_dfl finds an idle one"),
-    ("scx_bpf_task_running", "keep it in a variable, which running and stopping write"),
-    ("scx_bpf_cpu_(rq|curr)", "keep the pid in an array, which running and stopping write"),
+    ("scx_bpf_task_running", "by plain rules keep it in a variable, which running and stopping write; Linux rules have it"),
+    ("scx_bpf_cpu_curr", "by plain rules keep the pid in an array, which running and stopping write; Linux rules have it"),
+    ("scx_bpf_cpu_rq", "the current task is scx_bpf_cpu_curr by Linux rules; else keep the pid in an array, which running writes"),
     ("scx_bpf_cpuperf_.*", "processors are all as fast"),
     ("scx_bpf_kick_cpu_with_flags", "by plain rules nothing stops a task before its slice ends: take --rules linux, or give shorter slices"),
     ("scx_bpf_kick_cpu_and_wait", "no CPU waits for another; leave the flag out"),

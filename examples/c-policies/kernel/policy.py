@@ -115,9 +115,14 @@ class Policy:
         inside = (one for one in self.elf.symbols if one.kind == FUNCTION and one.section is symbol.section and one.value == symbol.value + number)
         return next(inside, symbol)
 
+    def has_callback(self, member):
+        if self.rules != "linux" and member in names.OF_LINUX:
+            return False
+        return member in names.CALLBACKS or member == "init_task"
+
     def take_function(self, ops, functions, member, symbol):
         place = f"{self.place_of_text(symbol.name)}: {member}"
-        if member in names.CALLBACKS or member == "init_task":
+        if self.has_callback(member):
             functions[member] = symbol
         elif member in names.LEFT_OUT:
             self.warn(f"{self.place_of_text(symbol.name)}: warning: {member} is left out: {names.LEFT_OUT[member]}")
@@ -227,18 +232,29 @@ class Policy:
                 return name, start
         return "..", offset
 
+    def first_message(self):
+        """The number of the first message: by plain rules that of a queue that is never there."""
+        return 1 if self.rules == "linux" else NEVER_THERE
+
     def message_number(self, symbol, one):
-        """The number of a queue that stands for a message of scx_bpf_error."""
+        """The number that stands for a message."""
         at = symbol.value + one.number
         message = text_at(symbol.section.content, at)
         if (message, one.place) not in self.messages:
             self.messages.append((message, one.place))
-        return NEVER_THERE + self.messages.index((message, one.place))
+        return self.first_message() + self.messages.index((message, one.place))
 
     def said_at(self, number):
-        """The message for which a queue's number stands, with its line."""
-        message, place = self.messages[number - NEVER_THERE]
-        return f"scx_bpf_error at {place}: {quoted(message)}"
+        """The message for which a number stands, with its line."""
+        message, place = self.messages[number - self.first_message()]
+        name = "scx_bpf_exit" if "scx_bpf_exit" in self.line_at(place) else "scx_bpf_error"
+        return f"{name} at {place}: {quoted(message)}"
+
+    def line_at(self, place):
+        """The line of the source at a place, or nothing."""
+        number = place.rpartition(":")[2]
+        lines = self.lines_of_source
+        return lines[int(number) - 1] if number.isdecimal() and 0 < int(number) <= len(lines) else ""
 
     def map_number(self, symbol, one):
         start = symbol.value + (one.number if symbol.kind != 1 else 0)
@@ -290,7 +306,8 @@ class Policy:
     def text(self, program):
         lines = ["# Made of C in the kernel's form by examples/c-policies/build."]
         for number, (message, place) in enumerate(self.messages):
-            lines.append(f"# The queue {NEVER_THERE + number} is never there: {place} says {quoted(message)}")
+            what = f"Message {1 + number}:" if self.rules == "linux" else f"The queue {NEVER_THERE + number} is never there:"
+            lines.append(f"# {what} {place} says {quoted(message)}")
         if self.globals.size:
             lines.append(f"# Map 0 has the variables: {self.globals.names()}")
         if self.name:

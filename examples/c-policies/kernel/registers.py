@@ -4,9 +4,10 @@ Control is followed forward once, as jumps here go forward. Where two ways meet,
 """
 from . import slots
 
-TASKS = {"enable": 1, "select_cpu": 1, "enqueue": 1, "running": 1, "stopping": 1, "dispatch": 2}
+TASKS = {"enable": 1, "select_cpu": 1, "enqueue": 1, "running": 1, "stopping": 1, "dispatch": 2, "tick": 1, "runnable": 1,
+         "quiescent": 1}
 TASK = "task"
-TASK_BY_PID = 1007
+TASK_ANSWERS = (1007, 1011, 1012)	# helpers that answer a task, or 0
 LOADS, NUMBER_STORES, STORES, ALU, LONG_ALU = 1, 2, 3, 4, 7
 
 
@@ -36,7 +37,7 @@ class Registers:
         kind = one.code & 7
         if one.code == slots.CALL:
             state = {place: fact for place, fact in state.items() if place not in range(6)}
-            if one.number == TASK_BY_PID:
+            if one.number in TASK_ANSWERS:
                 state[0] = TASK
         elif kind == LOADS:
             self.load(one, state)

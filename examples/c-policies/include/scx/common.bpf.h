@@ -339,7 +339,14 @@ static u64 (*const host_select_cpu_dfl)(struct task_struct *p) = (void *)1005;
 static s64 (*const host_cpu_idle)(u64 cpu) = (void *)1006;
 static struct task_struct *(*const host_task_by_pid)(u64 pid) = (void *)1007;
 static s64 (*const host_dsq_nr_queued)(u64 queue) = (void *)1008;
-static s64 (*const host_kick_cpu)(u64 cpu, u64 flags) = (void *)1009;	/* by Linux rules */
+/* By Linux rules. */
+static u64 (*const host_get_smp_processor_id)(void) = (void *)8;
+static s64 (*const host_kick_cpu)(u64 cpu, u64 flags) = (void *)1009;
+static struct task_struct *(*const host_cpu_curr)(u64 cpu) = (void *)1011;
+static struct task_struct *(*const host_dsq_peek)(u64 queue) = (void *)1012;
+static u64 (*const host_task_running)(const struct task_struct *p) = (void *)1013;
+static s64 (*const host_pick_idle)(u64 mask, u64 flags) = (void *)1015;
+static s64 (*const host_claim_idle)(u64 cpu) = (void *)1016;
 
 INSTEAD void *bpf_map_lookup_elem(void *map, const void *key)
 {
@@ -391,19 +398,70 @@ INSTEAD bool host_moved_to_local(u64 dsq_id)
 #define scx_bpf_dispatch_vtime scx_bpf_dsq_insert_vtime
 #define scx_bpf_consume(dsq_id) host_moved_to_local(dsq_id)
 
-INSTEAD s32 scx_bpf_select_cpu_dfl(struct task_struct *p, s32 prev_cpu, u64 wake_flags, bool *is_idle)
+/*
+ * The default choice, and whether it is idle. By Linux rules it is claimed, and isn't idle where it was claimed before,
+ * also by the same callback, for which host_cpu_idle shows it as idle.
+ */
+INSTEAD s32 host_choice(struct task_struct *p, bool *is_idle)
 {
+#ifdef HOST_LINUX
+	u64 cpu = p->thread_info.cpu, last = cpu;
+
+	*is_idle = host_claim_idle(last) == 1;
+	if (!*is_idle) {
+		cpu = host_select_cpu_dfl(p);
+		*is_idle = cpu != last;
+	}
+#else
 	u64 cpu = host_select_cpu_dfl(p);
 
 	*is_idle = host_cpu_idle(cpu) != 0;
+#endif
 	return cpu;
 }
 
+INSTEAD s32 scx_bpf_select_cpu_dfl(struct task_struct *p, s32 prev_cpu, u64 wake_flags, bool *is_idle)
+{
+	return host_choice(p, is_idle);
+}
+
+#ifdef HOST_LINUX
+INSTEAD bool scx_bpf_test_and_clear_cpu_idle(s32 cpu)
+{
+	return host_claim_idle((u32)cpu) == 1;
+}
+
+INSTEAD u32 bpf_get_smp_processor_id(void)
+{
+	return host_get_smp_processor_id();
+}
+
+INSTEAD struct task_struct *scx_bpf_cpu_curr(s32 cpu)
+{
+	return FORGOTTEN(host_cpu_curr((u32)cpu));
+}
+
+INSTEAD struct task_struct *scx_bpf_dsq_peek(u64 dsq_id)
+{
+	return FORGOTTEN(host_dsq_peek(dsq_id));
+}
+
+INSTEAD bool scx_bpf_task_running(const struct task_struct *p)
+{
+	return host_task_running(p) != 0;
+}
+#else
 INSTEAD bool scx_bpf_test_and_clear_cpu_idle(s32 cpu)
 {
 	NOTE(NOTE_NOT_CLAIMED);
 	return host_cpu_idle((u32)cpu) != 0;
 }
+extern u32 bpf_get_smp_processor_id(void);
+extern struct task_struct *scx_bpf_cpu_curr(s32 cpu);
+extern struct task_struct *scx_bpf_dsq_peek(u64 dsq_id);
+extern bool scx_bpf_task_running(const struct task_struct *p);
+#endif
+#define __COMPAT_scx_bpf_dsq_peek scx_bpf_dsq_peek
 
 INSTEAD s32 scx_bpf_dsq_nr_queued(u64 dsq_id)
 {
@@ -644,11 +702,28 @@ INSTEAD void scx_bpf_put_idle_cpumask(const struct cpumask *mask)
 #endif
 INSTEAD s32 scx_bpf_select_cpu_and(struct task_struct *p, s32 prev_cpu, u64 wake_flags, const struct cpumask *allowed, u64 flags)
 {
-	u64 cpu = host_select_cpu_dfl(p);
+	bool is_idle = false;
+	s32 cpu = host_choice(p, &is_idle);
 
 	NOTE(NOTE_SELECTED);
-	return host_cpu_idle(cpu) ? (s32)cpu : -EBUSY;
+	return is_idle ? cpu : -EBUSY;
 }
+
+/* By Linux rules the CPU is claimed. */
+#ifdef HOST_LINUX
+INSTEAD s32 scx_bpf_pick_idle_cpu(const struct cpumask *allowed, u64 flags)
+{
+	NOTE(NOTE_ALL_CPUS);
+	return host_pick_idle(~0ull, flags & SCX_PICK_IDLE_CORE);
+}
+
+INSTEAD s32 scx_bpf_pick_any_cpu(const struct cpumask *allowed, u64 flags)
+{
+	s32 cpu = scx_bpf_pick_idle_cpu(allowed, flags);
+
+	return cpu >= 0 ? cpu : 0;
+}
+#endif
 
 #ifdef HOST_CPUS
 INSTEAD bool bpf_cpumask_test_cpu(u32 cpu, const struct cpumask *mask)
@@ -659,7 +734,8 @@ INSTEAD bool bpf_cpumask_test_cpu(u32 cpu, const struct cpumask *mask)
 	return mask == HOST_IDLE ? host_cpu_idle(cpu) != 0 : true;
 }
 
-INSTEAD s32 scx_bpf_pick_idle_cpu(const struct cpumask *allowed, u64 flags)
+/* The lowest idle CPU, which isn't claimed. */
+INSTEAD s32 host_first_idle(void)
 {
 	NOTE(NOTE_MASK);
 	_Pragma("clang loop unroll(full)") for (u32 cpu = 0; cpu < HOST_CPUS; cpu++)
@@ -668,23 +744,30 @@ INSTEAD s32 scx_bpf_pick_idle_cpu(const struct cpumask *allowed, u64 flags)
 	return -EBUSY;
 }
 
+#ifndef HOST_LINUX
+INSTEAD s32 scx_bpf_pick_idle_cpu(const struct cpumask *allowed, u64 flags)
+{
+	return host_first_idle();
+}
+
 INSTEAD s32 scx_bpf_pick_any_cpu(const struct cpumask *allowed, u64 flags)
 {
 	s32 cpu = scx_bpf_pick_idle_cpu(allowed, flags);
 
 	return cpu >= 0 ? cpu : 0;
 }
+#endif
 
 INSTEAD u32 bpf_cpumask_first(const struct cpumask *mask)
 {
-	s32 cpu = mask == HOST_IDLE ? scx_bpf_pick_idle_cpu(mask, 0) : 0;
+	s32 cpu = mask == HOST_IDLE ? host_first_idle() : 0;
 
 	return cpu >= 0 ? cpu : HOST_CPUS;
 }
 
 INSTEAD bool bpf_cpumask_empty(const struct cpumask *mask)
 {
-	return mask == HOST_IDLE && scx_bpf_pick_idle_cpu(mask, 0) < 0;
+	return mask == HOST_IDLE && host_first_idle() < 0;
 }
 
 INSTEAD u32 bpf_cpumask_weight(const struct cpumask *mask)
@@ -697,8 +780,10 @@ INSTEAD u32 bpf_cpumask_weight(const struct cpumask *mask)
 }
 #else
 extern bool bpf_cpumask_test_cpu(u32 cpu, const struct cpumask *mask);
+#ifndef HOST_LINUX
 extern s32 scx_bpf_pick_idle_cpu(const struct cpumask *allowed, u64 flags);
 extern s32 scx_bpf_pick_any_cpu(const struct cpumask *allowed, u64 flags);
+#endif
 extern u32 bpf_cpumask_first(const struct cpumask *mask);
 extern bool bpf_cpumask_empty(const struct cpumask *mask);
 extern u32 bpf_cpumask_weight(const struct cpumask *mask);
@@ -744,7 +829,20 @@ INSTEAD u32 scx_bpf_dispatch_nr_slots(void)
 	(void)(0, ##values); \
 	_Pragma("clang diagnostic pop")
 
-/* The address of the message becomes the number of a queue that is never there. */
+/*
+ * By Linux rules the address of the message becomes its number, and an error is an exit with the code -1. By plain rules
+ * it becomes the number of a queue that is never there.
+ */
+#ifdef HOST_LINUX
+extern void host_exit(s64 code, const char *message) asm("scx_bpf_exit");
+#define scx_bpf_exit(code, message, values...) \
+	({ \
+		LOOKED_AT(values) \
+		host_exit(code, message); \
+	})
+#define scx_bpf_error(message, values...) scx_bpf_exit(-1, message, ##values)
+#define host_error(message) host_exit(-1, message)
+#else
 extern void host_error(const char *message) asm("scx_bpf_error");
 #define scx_bpf_error(message, values...) \
 	({ \
@@ -752,6 +850,8 @@ extern void host_error(const char *message) asm("scx_bpf_error");
 		NOTE(NOTE_ERROR); \
 		host_error(message); \
 	})
+#define scx_bpf_exit(code, message, values...) ({ LOOKED_AT(values) (void)(code); NOTE(NOTE_EXIT); host_error(message); })
+#endif
 
 /*
  * Loops, which clang writes out: as many rounds as constant bounds say, where these are at most 512, else at most
@@ -821,7 +921,6 @@ extern long bpf_timer_set_callback(struct bpf_timer *timer, void *callback);
 extern long bpf_timer_start(struct bpf_timer *timer, u64 nsecs, u64 flags);
 extern long bpf_timer_cancel(struct bpf_timer *timer);
 extern long bpf_loop(u32 rounds, void *callback, void *context, u64 flags);
-extern u32 bpf_get_smp_processor_id(void);
 extern struct task_struct *bpf_get_current_task_btf(void);
 extern void *bpf_kptr_xchg(void *to, void *pointer);
 extern struct task_struct *bpf_task_acquire(struct task_struct *p);
@@ -849,22 +948,17 @@ extern void scx_bpf_dsq_move_set_vtime(struct bpf_iter_scx_dsq *iterator, u64 vt
 extern int bpf_iter_scx_dsq_new(struct bpf_iter_scx_dsq *iterator, u64 dsq_id, u64 flags);
 extern struct task_struct *bpf_iter_scx_dsq_next(struct bpf_iter_scx_dsq *iterator);
 extern void bpf_iter_scx_dsq_destroy(struct bpf_iter_scx_dsq *iterator);
-extern struct task_struct *scx_bpf_dsq_peek(u64 dsq_id);
-#define __COMPAT_scx_bpf_dsq_peek scx_bpf_dsq_peek
 extern int bpf_strncmp(const char *text, u32 size, const char *other);
 extern void bpf_cpumask_set_cpu(u32 cpu, struct bpf_cpumask *mask);
 extern void bpf_cpumask_clear_cpu(u32 cpu, struct bpf_cpumask *mask);
 extern struct bpf_cpumask *bpf_cpumask_create(void);
 extern void bpf_cpumask_release(struct bpf_cpumask *mask);
-extern bool scx_bpf_task_running(const struct task_struct *p);
 extern struct rq *scx_bpf_cpu_rq(s32 cpu);
-extern struct task_struct *scx_bpf_cpu_curr(s32 cpu);
 extern u32 scx_bpf_cpuperf_cap(s32 cpu);
 extern u32 scx_bpf_cpuperf_cur(s32 cpu);
 extern void scx_bpf_cpuperf_set(s32 cpu, u32 perf);
 extern u32 scx_bpf_reenqueue_local(void);
 extern void *host_for_each(void) asm("bpf_for_each");
-#define scx_bpf_exit(code, message, values...) ({ LOOKED_AT(values) (void)(code); NOTE(NOTE_EXIT); host_error(message); })
 #define scx_bpf_dump(message, values...) ({ LOADED(values) NOTE(NOTE_NO_PRINT); })
 #define bpf_printk(message, values...) ({ LOADED(values) NOTE(NOTE_NO_PRINT); })
 #define bpf_for_each(kind, element, values...) for ((element) = host_for_each(); (element); (element) = NULL)

@@ -1,17 +1,17 @@
 /* Callbacks that aren't here, some that nothing here would call, and functions that are none. */
 #include <scx/common.bpf.h>
 
-void BPF_STRUCT_OPS(callbacks_tick, struct task_struct *p)	/* refused: tick isn't here: give shorter slices */
+void BPF_STRUCT_OPS(callbacks_tick, struct task_struct *p)	/* refused by plain rules: tick isn't here: by plain rules give shorter slices; Linux rules have it */
 {
 	p->scx.slice = 0;
 }
 
-void BPF_STRUCT_OPS(callbacks_runnable, struct task_struct *p, u64 enq_flags)	/* refused: runnable isn't here: do it in enqueue */
+void BPF_STRUCT_OPS(callbacks_runnable, struct task_struct *p, u64 enq_flags)	/* refused by plain rules: runnable isn't here: by plain rules do it in enqueue */
 {
 	p->scx.dsq_vtime = 0;
 }
 
-void BPF_STRUCT_OPS(callbacks_quiescent, struct task_struct *p, u64 deq_flags)	/* warned: quiescent is left out: it does nothing */
+void BPF_STRUCT_OPS(callbacks_quiescent, struct task_struct *p, u64 deq_flags)	/* warned by plain rules: quiescent is left out: it does nothing */
 {
 }
 
