@@ -1,0 +1,182 @@
+"""Policies by Linux rules that do as much harm as they can: they kick in every callback, preempt each other, hold
+claims, give and take slices, and some end themselves or have a fault; and what a trace has to be, whatever they do."""
+import json
+import re
+
+MS = 10**6
+LOCAL, GLOBAL, LOCAL_ON = 2**63 + 2, 2**63 + 1, 3 * 2**62
+PREEMPT, HEAD = 2**32, 2**48
+CALLBACKS = ["enable", "select_cpu", "enqueue", "dispatch", "running", "stopping", "tick", "runnable", "quiescent"]
+RUNS = CALLBACKS[1:]  # those in which a CPU may be kicked and claimed
+
+
+class Harm:
+    """Lines of one policy; `calm` is how often nothing is done that may end it."""
+
+    def __init__(self, random, cpus):
+        self.random, self.cpus = random, cpus
+        self.calm = random.choice([0, 0, 0.002, 0.02])
+        self.labels = 0
+
+    def cpu(self):
+        return self.random.randrange(self.cpus)
+
+    def kick(self):
+        return [f"r1 = {self.cpu()}", f"r2 = {self.random.choice([0, 1, 2, 2])}", "call 1009"]
+
+    def kick_all(self):
+        flags = self.random.choice([0, 1, 2])
+        return [line for cpu in range(min(self.cpus, 8)) for line in (f"r1 = {cpu}", f"r2 = {flags}", "call 1009")]
+
+    def claim(self):
+        return [f"r1 = {self.cpu()}", "call 1016"]
+
+    def claim_all(self):
+        return [line for cpu in range(min(self.cpus, 8)) for line in (f"r1 = {cpu}", "call 1016")]
+
+    def pick(self):
+        return [f"r1 = {self.random.choice([-1, 0, 2, 5, 2**62])} ll", f"r2 = {self.random.randrange(2)}", "call 1015"]
+
+    def read(self):
+        return self.random.choice([["call 8"], [f"r1 = {self.cpu()}", "call 1011"], ["r1 = 0", "call 1012"], ["call 5"],
+                                   ["r1 = 0", "call 1008"]])
+
+    def read_task(self):
+        return self.random.choice([["r1 = r6", "call 1013"], ["r1 = r6", "call 1014"], ["r1 = *(u64 *)(r6 + 40)"]])
+
+    def change_task(self):
+        slices = [0, 0, 1, MS, 2 * MS, 20 * MS, 2**64 - 1]
+        return [f"r1 = {self.random.choice(slices)} ll", "*(u64 *)(r6 + 8) = r1"]
+
+    def end(self):
+        code = self.random.choice([0, -1, 1, 7, -2**63, 2**63 - 1, -22])
+        return [f"r1 = {code} ll", "r2 = 0", "call 1010"]
+
+    def fault(self):
+        return self.random.choice([["r1 = 64", "r2 = 0", "call 1009"], ["r1 = 0", "r2 = 3", "call 1009"],
+                                   ["r1 = 64", "call 1016"], ["r1 = 0", "r2 = 2", "call 1015"], ["r1 = 64", "call 1011"],
+                                   ["r1 = 9", "call 1012"]])
+
+    def seldom(self, lines):
+        """These lines in some calls alone: where the lowest bits of the clock are so."""
+        self.labels += 1
+        over = f"over{self.labels}"
+        return ["call 5", f"r0 /= {MS}", f"r0 &= {self.random.choice([1, 3, 7, 15])}", f"if r0 != 0 goto {over}", *lines, f"{over}:"]
+
+    def steps(self, callback):
+        kinds = [self.read, self.read]
+        if callback in RUNS:
+            kinds += [self.kick, self.kick, self.kick_all, self.claim, self.claim_all, self.pick]
+        if callback not in ("dispatch", "init"):
+            kinds += [self.read_task, self.change_task]
+        lines = []
+        for _ in range(self.random.randrange(4)):
+            made = self.random.choice(kinds)()
+            lines += made if self.random.random() < 0.6 else self.seldom(made)
+        if callback in RUNS and self.random.random() < self.calm * 10:
+            lines += self.seldom(self.random.choice([self.end, self.fault])())
+        return lines
+
+    def insert(self):
+        """An insert of the task in r6."""
+        queue = self.random.choice([0, 0, 0, LOCAL, LOCAL_ON + self.cpu(), GLOBAL])
+        slice = self.random.choice([0, 1, MS, 2 * MS, 20 * MS])
+        flags = self.random.choice([0, 0, 1, PREEMPT, PREEMPT, HEAD, PREEMPT + HEAD, PREEMPT + HEAD + 1])
+        if queue == 0 and self.by_vtime:
+            return ["r1 = r6", f"r2 = {queue}", f"r3 = {slice}", "r4 = *(u64 *)(r6 + 16)", f"r5 = {flags} ll", "call 1003"]
+        return ["r1 = r6", f"r2 = {queue} ll", f"r3 = {slice}", f"r4 = {flags} ll", "call 1002"]
+
+    def hand_out(self, tasks):
+        """An insert of some task, which is late unless that one is held."""
+        self.labels += 1
+        over = f"over{self.labels}"
+        return [f"r1 = {self.random.randrange(tasks) + 1}", "call 1007", f"if r0 == 0 goto {over}", "r6 = r0", *self.insert(), f"{over}:"]
+
+    def program(self, callback, tasks):
+        lines = [] if callback == "dispatch" else ["r6 = r1"]
+        lines += self.steps(callback)
+        if callback == "select_cpu":
+            if self.random.random() < 0.3:
+                lines += self.insert()
+            lines += self.steps(callback) + [f"r0 = {self.cpu()}"]
+        if callback == "enqueue" and self.random.random() < 0.9:
+            lines += self.insert() + self.steps(callback)
+        if callback == "dispatch":
+            for _ in range(self.random.randrange(3)):
+                lines += self.hand_out(tasks)
+            lines += ["r1 = 0", "call 1004"] + self.steps(callback)
+        return lines + ["exit"]
+
+    def policy(self, tasks):
+        random = self.random
+        self.by_vtime = random.random() < 0.3
+        code = {"init": ["r1 = 0", "call 1001", "r0 = 0", "exit"]}
+        code |= {callback: self.program(callback, tasks) for callback in CALLBACKS if random.random() < 0.75}
+        if random.random() < 0.9 and "dispatch" not in code:
+            code["dispatch"] = self.program("dispatch", tasks)
+        head = f'rules = "linux"\ntimeout_ms = {random.choice([3, 50, 30000])}\ntick_ms = {random.choice([0, 0, 1, 4, 100])}\n'
+        order = sorted(code, key=lambda callback: (["init"] + CALLBACKS).index(callback))
+        return head + "[code]\n" + "".join(f'{name} = """\n' + "\n".join(code[name]) + '\n"""\n' for name in order)
+
+
+def harmful(random):
+    """The text of a policy, and of a workload for it."""
+    cpus = random.choice([1, 1, 2, 2, 3, 8, 64])
+    ms = random.randrange(1, {64: 3, 8: 20}.get(cpus, 40))
+    tasks = [{"name": f"t{at}", "group": "g", "start": random.randrange(4)} for at in range(random.randrange(1, 9))]
+    for task in tasks:
+        if random.random() < 0.6:
+            task |= {"run": random.randrange(1, 5), "sleep": random.randrange(1, 5)}
+        if random.random() < 0.3:
+            task["weight"] = random.choice([1, 100, 10000])
+    group = {"name": "g"} | ({"cpu_max": "3000 10000"} if random.random() < 0.3 else {})
+    lines = [f"cpus = {cpus}", f"ms = {ms}", "[[group]]", *(f"{key} = {json.dumps(value)}" for key, value in group.items())]
+    for task in tasks:
+        lines += ["[[task]]", *(f"{key} = {json.dumps(value)}" for key, value in task.items())]
+    return Harm(random, cpus).policy(len(tasks)), "\n".join(lines) + "\n"
+
+
+LINE = re.compile(r"(\d+) (?:(wake|sleep) (\S+)|insert (\S+) ((?:queue|local) \d+|global|held|builtin|parked)|move (\S+) local (\d+)"
+                  r"|(run|stop) (\S+) cpu (\d+)|idle cpu (\d+)|eject (?:fault \d+|exit -?\d+|stall \S+))")
+
+
+def fault_of(trace):
+    """What is wrong with a trace, or None: each task is in one place, a CPU runs one task, a policy is ejected once."""
+    at, on, sleeping, clock, ejected = {}, {}, set(), 0, False
+    for line in trace.splitlines():
+        found = LINE.fullmatch(line)
+        if not found:
+            return f"no line of a trace: {line}"
+        now, woken, who, comes, queue, moved, to, turn, turned, cpu, idle = found.groups()
+        if int(now) < clock or int(now) > clock and (sleeping or "hand" in at.values()):
+            return f"a task is nowhere before: {line}"
+        clock = int(now)
+        place = at.get(who or comes or moved or turned, "asleep")
+        if woken == "wake":
+            good, at[who] = place == "asleep", "hand"
+        elif woken == "sleep":
+            good = place != "asleep" and place != "hand"
+            if place.startswith("cpu"):
+                sleeping.add(who)
+            else:
+                at[who] = "asleep"
+        elif comes:
+            good = (place in ("hand", "held", "parked") or queue == "parked" and (place.startswith("local") or place == "builtin")
+                    or queue == "builtin" and ejected and place != "asleep" and not place.startswith("cpu"))
+            at[comes] = queue
+        elif moved:
+            good, at[moved] = place.startswith("queue") or place in ("global", "builtin"), f"local {to}"
+        elif turn == "run":
+            good = place == f"local {cpu}" and cpu not in on
+            at[turned], on[cpu] = f"cpu {cpu}", turned
+        elif turn == "stop":
+            good = place == f"cpu {cpu}" and on.pop(cpu, None) == turned
+            at[turned] = "asleep" if turned in sleeping else "hand"
+            sleeping.discard(turned)
+        elif idle:
+            good = idle not in on
+        else:
+            good, ejected = not ejected, True
+        if not good:
+            return f"a task or a CPU is elsewhere: {line}"
+    return None
