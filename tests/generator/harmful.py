@@ -119,9 +119,9 @@ class Harm:
         return head + "[code]\n" + "".join(f'{name} = """\n' + "\n".join(code[name]) + '\n"""\n' for name in order)
 
 
-def harmful(random):
-    """The text of a policy, and of a workload for it."""
-    cpus = random.choice([1, 1, 2, 2, 3, 8, 64])
+def harmful(random, most_cpus=64):
+    """The text of a policy, and of a workload for it with no more CPUs than that."""
+    cpus = min(random.choice([1, 1, 2, 2, 3, 8, 64]), most_cpus)
     ms = random.randrange(1, {64: 3, 8: 20}.get(cpus, 40))
     tasks = [{"name": f"t{at}", "group": "g", "start": random.randrange(4)} for at in range(random.randrange(1, 9))]
     for task in tasks:
