@@ -22,6 +22,8 @@ pub fn helper_name(helper: Helper) -> &'static str {
         Helper::TaskCpu => "task_cpu",
         Helper::PickIdle => "pick_idle",
         Helper::ClaimIdle => "claim_idle",
+        Helper::TimerStart => "timer_start",
+        Helper::TimerCancel => "timer_cancel",
     }
 }
 

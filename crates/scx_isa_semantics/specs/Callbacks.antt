@@ -14,8 +14,8 @@ use Rattle.scx_isa_semantics.specs.declared.rules.Rules.TheVariants as rules
 abbrev pub callbacks : List Callback
 callbacks =
     callback.Init ∷ callback.Enable ∷ callback.SelectCpu ∷ callback.Enqueue ∷ callback.Dispatch
-    ∷ callback.Running ∷ callback.Stopping ∷ callback.Tick ∷ callback.Runnable ∷ callback.Quiescent
-    ∷ []
+    ∷ callback.Running ∷ callback.Stopping ∷ callback.Tick ∷ callback.Dequeue ∷ callback.Runnable
+    ∷ callback.Quiescent ∷ callback.UpdateIdle ∷ callback.SetWeight ∷ callback.Timer ∷ []
 
 -- the names of callbacks, as a policy file and a refusal spell them
 abbrev pub callback_name : Callback → List ℕ
@@ -28,14 +28,22 @@ callback_name callback.Dispatch = codes "dispatch"
 callback_name callback.Running = codes "running"
 callback_name callback.Stopping = codes "stopping"
 callback_name callback.Tick = codes "tick"
+callback_name callback.Dequeue = codes "dequeue"
 callback_name callback.Runnable = codes "runnable"
 callback_name callback.Quiescent = codes "quiescent"
+callback_name callback.UpdateIdle = codes "update_idle"
+callback_name callback.SetWeight = codes "set_weight"
+callback_name callback.Timer = codes "timer"
 
 -- true if a policy by these rules may have the callback
 abbrev pub is_known_callback : Callback → Rules → Bool
 is_known_callback callback.Tick rules.Plain = false
+is_known_callback callback.Dequeue rules.Plain = false
 is_known_callback callback.Runnable rules.Plain = false
 is_known_callback callback.Quiescent rules.Plain = false
+is_known_callback callback.UpdateIdle rules.Plain = false
+is_known_callback callback.SetWeight rules.Plain = false
+is_known_callback callback.Timer rules.Plain = false
 is_known_callback c r = true
 
 -- how many come before this one
@@ -49,8 +57,12 @@ place callback.Dispatch = 4
 place callback.Running = 5
 place callback.Stopping = 6
 place callback.Tick = 7
-place callback.Runnable = 8
-place callback.Quiescent = 9
+place callback.Dequeue = 8
+place callback.Runnable = 9
+place callback.Quiescent = 10
+place callback.UpdateIdle = 11
+place callback.SetWeight = 12
+place callback.Timer = 13
 
 -- those before this one
 abbrev pub earlier : Callback → List Callback
@@ -67,8 +79,12 @@ at p callback.Dispatch = p.dispatch
 at p callback.Running = p.running
 at p callback.Stopping = p.stopping
 at p callback.Tick = p.tick
+at p callback.Dequeue = p.dequeue
 at p callback.Runnable = p.runnable
 at p callback.Quiescent = p.quiescent
+at p callback.UpdateIdle = p.update_idle
+at p callback.SetWeight = p.set_weight
+at p callback.Timer = p.timer
 
 -- all values, with that of one callback set
 abbrev pub with_at : {T : Type 0} → PerCallback T → Callback → T → PerCallback T
@@ -81,8 +97,12 @@ with_at p callback.Dispatch x = record p { dispatch = x }
 with_at p callback.Running x = record p { running = x }
 with_at p callback.Stopping x = record p { stopping = x }
 with_at p callback.Tick x = record p { tick = x }
+with_at p callback.Dequeue x = record p { dequeue = x }
 with_at p callback.Runnable x = record p { runnable = x }
 with_at p callback.Quiescent x = record p { quiescent = x }
+with_at p callback.UpdateIdle x = record p { update_idle = x }
+with_at p callback.SetWeight x = record p { set_weight = x }
+with_at p callback.Timer x = record p { timer = x }
 
 -- no value for any callback
 abbrev pub none : {T : Type 0} → PerCallback (Option T)
@@ -95,8 +115,12 @@ none = record {
   running = None;
   stopping = None;
   tick = None;
+  dequeue = None;
   runnable = None;
   quiescent = None;
+  update_idle = None;
+  set_weight = None;
+  timer = None;
 }
 
 -- ---- tests

@@ -1,6 +1,6 @@
 ghost use Rattle.std.specs.Prelude.{◌≡◌, slice_get};
 ghost use Rattle.scx_isa_semantics.specs.Callbacks.{callback_name, is_known_callback};
-ghost use Rattle.scx_isa_semantics.specs.HostTables.{answers, in_events};
+ghost use Rattle.scx_isa_semantics.specs.HostTables.{answers, may_kick};
 ghost use Rattle.scx_isa_semantics.specs.Arguments.{callback_arguments};
 
 use crate::rules::Rules;
@@ -31,19 +31,30 @@ pub enum Callback {
     /// nothing.
     Stopping,
     /// In a tick of a CPU, for the task that runs there, before its slice is looked at. r1: the
-    /// task. It answers nothing. Known by Linux rules alone, as the next two.
+    /// task. It answers nothing. Known by Linux rules alone, as all that follow.
     Tick,
-    /// As a task wakes, after `select_cpu` and before it waits anywhere. r1: the task; r2: 1. It
-    /// answers nothing.
+    /// As a task leaves custody (a queue of the policy, or none) otherwise than into the hands of a
+    /// callback. r1: the task; r2: flags. It answers nothing.
+    Dequeue,
+    /// As a task wakes, after `select_cpu` and before it waits anywhere (r2: 1), and as its weight has
+    /// changed (r2: 2). r1: the task. It answers nothing.
     Runnable,
-    /// As a task goes to sleep, after it left its CPU or its queue. r1: the task; r2: 1. It answers
-    /// nothing.
+    /// As a task goes to sleep (r2: 1) or its weight changes (r2: 2^33 + 2), after it left its CPU or
+    /// its queue. r1: the task. It answers nothing.
     Quiescent,
+    /// As a CPU becomes idle, or idle no more. r1: the CPU; r2: 1 if it is idle, else 0. It answers
+    /// nothing.
+    UpdateIdle,
+    /// For each task after `enable`, and as a task's weight changes. r1: the task; r2: the weight. It
+    /// answers nothing.
+    SetWeight,
+    /// As a timer that was started is due. r1: its number. It answers nothing.
+    Timer,
 }
 
 /// The callbacks of a policy, in the order in which its programs are read and verified. A plain program
 /// isn't one.
-pub const CALLBACKS: [Callback; 10] = [
+pub const CALLBACKS: [Callback; 14] = [
     Callback::Init,
     Callback::Enable,
     Callback::SelectCpu,
@@ -52,8 +63,12 @@ pub const CALLBACKS: [Callback; 10] = [
     Callback::Running,
     Callback::Stopping,
     Callback::Tick,
+    Callback::Dequeue,
     Callback::Runnable,
     Callback::Quiescent,
+    Callback::UpdateIdle,
+    Callback::SetWeight,
+    Callback::Timer,
 ];
 
 /// The kind of one argument of a callback.
@@ -71,7 +86,14 @@ impl Callback {
     pub fn argument(self, number: usize) -> Option<ArgumentKind>
         ensures { result ≡ slice_get (callback_arguments self) number }
     {
-        let kinds: &[ArgumentKind] = match self {
+        self.arguments().get(number).copied()
+    }
+
+    /// The kinds of its arguments, that in r1 first.
+    fn arguments(self) -> &'static [ArgumentKind]
+        ensures { result.now ≡ callback_arguments self }
+    {
+        match self {
             Callback::Plain | Callback::Init => &[],
             Callback::Enable | Callback::Running | Callback::Tick => &[ArgumentKind::Task],
             Callback::SelectCpu => &[
@@ -79,13 +101,16 @@ impl Callback {
                 ArgumentKind::Number,
                 ArgumentKind::Number,
             ],
-            Callback::Enqueue | Callback::Stopping | Callback::Runnable | Callback::Quiescent => &[
-                ArgumentKind::Task,
-                ArgumentKind::Number,
-            ],
+            Callback::Enqueue
+            | Callback::Stopping
+            | Callback::Dequeue
+            | Callback::Runnable
+            | Callback::Quiescent
+            | Callback::SetWeight => &[ArgumentKind::Task, ArgumentKind::Number],
             Callback::Dispatch => &[ArgumentKind::Number, ArgumentKind::TaskOrNull],
-        };
-        kinds.get(number).copied()
+            Callback::UpdateIdle => &[ArgumentKind::Number, ArgumentKind::Number],
+            Callback::Timer => &[ArgumentKind::Number],
+        }
     }
 
     /// True if its run answers a number, in r0.
@@ -95,11 +120,14 @@ impl Callback {
         matches!(self, Callback::Plain | Callback::Init | Callback::SelectCpu)
     }
 
-    /// True if it is called in events, and not as the policy begins.
-    pub fn in_events(self) -> bool
-        ensures { result ≡ in_events self }
+    /// True if it may kick and claim CPUs. Those that prepare a policy and its tasks may not.
+    pub fn may_kick(self) -> bool
+        ensures { result ≡ may_kick self }
     {
-        !matches!(self, Callback::Plain | Callback::Init | Callback::Enable)
+        !matches!(
+            self,
+            Callback::Plain | Callback::Init | Callback::Enable | Callback::SetWeight
+        )
     }
 
     /// True if a policy by these rules may have it.
@@ -109,7 +137,13 @@ impl Callback {
         !matches!(
             (self, rules),
             (
-                Callback::Tick | Callback::Runnable | Callback::Quiescent,
+                Callback::Tick
+                    | Callback::Dequeue
+                    | Callback::Runnable
+                    | Callback::Quiescent
+                    | Callback::UpdateIdle
+                    | Callback::SetWeight
+                    | Callback::Timer,
                 Rules::Plain
             )
         )
@@ -129,8 +163,12 @@ impl Callback {
             Callback::Running => "running",
             Callback::Stopping => "stopping",
             Callback::Tick => "tick",
+            Callback::Dequeue => "dequeue",
             Callback::Runnable => "runnable",
             Callback::Quiescent => "quiescent",
+            Callback::UpdateIdle => "update_idle",
+            Callback::SetWeight => "set_weight",
+            Callback::Timer => "timer",
         }
     }
 }

@@ -51,6 +51,8 @@ pub enum Helper {
     TaskCpu,
     PickIdle,
     ClaimIdle,
+    TimerStart,
+    TimerCancel,
 }
 
 /// The most arguments that a helper takes, in r1 to r5.
@@ -139,6 +141,8 @@ impl Helper {
             1014 => Some(Helper::TaskCpu),
             1015 => Some(Helper::PickIdle),
             1016 => Some(Helper::ClaimIdle),
+            1017 => Some(Helper::TimerStart),
+            1018 => Some(Helper::TimerCancel),
             _ => None,
         }
     }
@@ -208,7 +212,9 @@ impl Helper {
                 0,
             ) => Some(Parameter::Task),
             (Helper::DsqInsert, 1..=3) | (Helper::DsqInsertVtime, 1..=4) => Some(Parameter::Number),
-            (Helper::KickCpu | Helper::Exit | Helper::PickIdle, 0..=1) => Some(Parameter::Number),
+            (Helper::KickCpu | Helper::Exit | Helper::PickIdle | Helper::TimerStart, 0..=1) => {
+                Some(Parameter::Number)
+            }
             (
                 Helper::CreateDsq
                 | Helper::DsqMoveToLocal
@@ -217,7 +223,8 @@ impl Helper {
                 | Helper::DsqNrQueued
                 | Helper::CpuCurr
                 | Helper::DsqPeek
-                | Helper::ClaimIdle,
+                | Helper::ClaimIdle
+                | Helper::TimerCancel,
                 0,
             ) => Some(Parameter::Number),
             _ => None,
@@ -239,7 +246,7 @@ impl Helper {
                 callback,
                 Callback::SelectCpu | Callback::Enqueue | Callback::Dispatch
             ),
-            (Helper::KickCpu | Helper::PickIdle | Helper::ClaimIdle, _) => callback.in_events(),
+            (Helper::KickCpu | Helper::PickIdle | Helper::ClaimIdle, _) => callback.may_kick(),
             _ => true,
         }
     }

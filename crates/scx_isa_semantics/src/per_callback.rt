@@ -14,8 +14,12 @@ pub struct PerCallback<T> {
     pub running: T,
     pub stopping: T,
     pub tick: T,
+    pub dequeue: T,
     pub runnable: T,
     pub quiescent: T,
+    pub update_idle: T,
+    pub set_weight: T,
+    pub timer: T,
 }
 
 impl<T> PerCallback<Option<T>> {
@@ -32,8 +36,12 @@ impl<T> PerCallback<Option<T>> {
             running: None,
             stopping: None,
             tick: None,
+            dequeue: None,
             runnable: None,
             quiescent: None,
+            update_idle: None,
+            set_weight: None,
+            timer: None,
         }
     }
 
@@ -51,8 +59,12 @@ impl<T> PerCallback<Option<T>> {
             Callback::Running => self.running.as_ref(),
             Callback::Stopping => self.stopping.as_ref(),
             Callback::Tick => self.tick.as_ref(),
+            Callback::Dequeue => self.dequeue.as_ref(),
             Callback::Runnable => self.runnable.as_ref(),
             Callback::Quiescent => self.quiescent.as_ref(),
+            Callback::UpdateIdle => self.update_idle.as_ref(),
+            Callback::SetWeight => self.set_weight.as_ref(),
+            Callback::Timer => self.timer.as_ref(),
         }
     }
 
@@ -97,8 +109,12 @@ impl<T: Drop> PerCallback<Option<T>> {
             Callback::Running => self.running.take(),
             Callback::Stopping => self.stopping.take(),
             Callback::Tick => self.tick.take(),
+            Callback::Dequeue => self.dequeue.take(),
             Callback::Runnable => self.runnable.take(),
             Callback::Quiescent => self.quiescent.take(),
+            Callback::UpdateIdle => self.update_idle.take(),
+            Callback::SetWeight => self.set_weight.take(),
+            Callback::Timer => self.timer.take(),
         }
     }
 
@@ -116,8 +132,12 @@ impl<T: Drop> PerCallback<Option<T>> {
             Callback::Running => self.running = value,
             Callback::Stopping => self.stopping = value,
             Callback::Tick => self.tick = value,
+            Callback::Dequeue => self.dequeue = value,
             Callback::Runnable => self.runnable = value,
             Callback::Quiescent => self.quiescent = value,
+            Callback::UpdateIdle => self.update_idle = value,
+            Callback::SetWeight => self.set_weight = value,
+            Callback::Timer => self.timer = value,
         }
     }
 
@@ -140,8 +160,12 @@ impl<T: Drop> PerCallback<Option<T>> {
             running: made(Callback::Running, self.running, f)?,
             stopping: made(Callback::Stopping, self.stopping, f)?,
             tick: made(Callback::Tick, self.tick, f)?,
+            dequeue: made(Callback::Dequeue, self.dequeue, f)?,
             runnable: made(Callback::Runnable, self.runnable, f)?,
             quiescent: made(Callback::Quiescent, self.quiescent, f)?,
+            update_idle: made(Callback::UpdateIdle, self.update_idle, f)?,
+            set_weight: made(Callback::SetWeight, self.set_weight, f)?,
+            timer: made(Callback::Timer, self.timer, f)?,
         })
     }
 }

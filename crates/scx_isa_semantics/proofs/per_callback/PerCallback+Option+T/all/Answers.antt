@@ -1,15 +1,32 @@
-use Rattle.std.proofs.Common.{ℕ, ◌<◌, true, get_or, refl, arith}
+use Rattle.std.proofs.Common.{◌≡◌, ℕ, ◌+◌, ◌<◌, ◌⊎◌, inl, inr, true, get_or, refl, subst, arith}
+use Rattle.std.proofs.lemmas.Bool.{cases_eq}
+use Rattle.std.proofs.lemmas.List.{get_or_default}
 use Rattle.scx_isa_semantics.specs.declared.callbacks.Callback.{Callback}
 use Rattle.scx_isa_semantics.specs.declared.callbacks.Callback.TheVariants as callback
 use Rattle.scx_isa_semantics.specs.Callbacks.{callbacks, place, at, Answer}
 use Rattle.scx_isa_semantics.proofs.per_callback.PerCallback+Option+T.all.Goals as goal
 
 -- what is so of a plain program and of each callback of the list is so of all
-of_each : (P : Callback → Type 0) → P callback.Plain → ((k : ℕ) (d : Callback) → k < 10 → P (get_or callbacks k d)) → (b : Callback) → P b
+of_each : (P : Callback → Type 0) → P callback.Plain → ((k : ℕ) (d : Callback) → k < 14 → P (get_or callbacks k d)) → (b : Callback) → P b
 of_each P plain each callback.Plain = plain
 of_each P plain each b = each (place b) b (omega arith)
+
+-- what is so of those before and of this one
+and_this : (P : ℕ → Type 0) (i : ℕ) → ((k : ℕ) → k < i → P k) → P i → (k : ℕ) → k < i + 1 → P k
+and_this P i before this k lt = go (cases_eq k i)
+  where
+    go : (k ≡ i) ⊎ (k ≡ i → ⊥) → P k
+    go (inl same) = rw same this
+    go (inr other) = before k (omega (arith, lt, other))
 
 pub returns : goal.returns
 returns g c =
     of_each (λ b. Answer g.F.Fn c.args.test b (at c.args.self.now b) true) refl
     (λ k d lt. c.loop-callback.invariant k d (omega (arith, lt, c.loop-callback-test.false)))
+
+pub loop-callback-preserved : goal.loop-callback-preserved
+loop-callback-preserved g c = λ k d lt.
+    let Passes = λ (b : Callback). Answer g.F.Fn c.args.test b (at c.args.self.now b) true in
+    let i = c.loop-callback.callback-index in
+    and_this (λ n. Passes (get_or callbacks n d)) i (λ n. c.loop-callback.invariant n d)
+    (subst Passes (get_or_default callbacks i _ d c.loop-callback-test.true) c.if-not-passes.ensures) k lt
