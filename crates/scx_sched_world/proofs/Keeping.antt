@@ -14,15 +14,16 @@ use Rattle.scx_sched_world.proofs.Settled.{AreMarked, settled_pushed, unsettled}
 
 -- another world has the same in it, and room for the notes of a callback
 pub same_kept : (w v : Inside) → IsKept w → v.clock ≡ w.clock → v.tasks ≡ w.tasks → v.cpus.items ≡ w.cpus.items → v.busy ≡ w.busy → v.running_on.items ≡ w.running_on.items
-    → v.queues ≡ w.queues → v.tree ≡ w.tree → v.notes.items ≡ w.notes.items → 4096 ≤ vec_capacity v.notes → v.parked_throttled ≡ w.parked_throttled
+    → v.timers.items ≡ w.timers.items → v.queues ≡ w.queues → v.tree ≡ w.tree → v.notes.items ≡ w.notes.items → 4096 ≤ vec_capacity v.notes → v.parked_throttled ≡ w.parked_throttled
     → v.rules ≡ w.rules → v.ejected ≡ w.ejected → v.by_linux ≡ w.by_linux → v.cycling ≡ w.cycling → v.unsettled ≡ w.unsettled → IsKept v
-same_kept w v is clock tasks cpus busy running queues tree notes room known rules ejected linux cycling unsettled = record {
+same_kept w v is clock tasks cpus busy running timers queues tree notes room known rules ejected linux cycling unsettled = record {
   notes = room;
   few_notes = rw notes is.few_notes;
   queued = rw (queues, tasks) is.queued;
   weighed = rw (tree, tasks) is.weighed;
   few_tasks = rw tasks is.few_tasks;
   few_cpus = rw cpus is.few_cpus;
+  few_timers = rw timers is.few_timers;
   busy = rw (busy, cpus) is.busy;
   running = rw (running, cpus) is.running;
   known_running = rw (running, tasks) is.known_running;
@@ -45,6 +46,7 @@ queues_changed w queues known bits is tasks places parked settled = record {
   weighed = is.weighed;
   few_tasks = is.few_tasks;
   few_cpus = is.few_cpus;
+  few_timers = is.few_timers;
   busy = is.busy;
   running = is.running;
   known_running = is.known_running;
@@ -65,6 +67,7 @@ tree_changed w tree known is homes parked = record {
   weighed = homes ∙ is.weighed;
   few_tasks = is.few_tasks;
   few_cpus = is.few_cpus;
+  few_timers = is.few_timers;
   busy = is.busy;
   running = is.running;
   known_running = is.known_running;
@@ -84,6 +87,7 @@ rules_changed w rules linux is known = record {
   weighed = is.weighed;
   few_tasks = is.few_tasks;
   few_cpus = is.few_cpus;
+  few_timers = is.few_timers;
   busy = is.busy;
   running = is.running;
   known_running = is.known_running;

@@ -7,8 +7,8 @@ mod Records
 pub mod Likes
 mod Places
 mod Running
-mod Keeping
-mod Settled
-mod Entering
 mod Scans
+mod Settled
+mod Keeping
+mod Entering
 mod Picks

@@ -1,5 +1,5 @@
 -- Sets of processors, as a kernel's cpumask: a bit for each.
-use Rattle.std.specs.Prelude.{ℕ, Bool, ◌==◌, ◌*◌, ◌%◌, ◌^◌, Option, Some, None}
+use Rattle.std.specs.Prelude.{ℕ, Bool, ◌==◌, ◌*◌, ◌%◌, ◌^◌}
 use Rattle.std.specs.Int.{w64, bit_at, bit_not}
 use Rattle.std.specs.Int.Bits.{bit_or, bit_and}
 use Rattle.scx_sched_world.specs.declared.cpu_set.CpuSet.{CpuSet}

@@ -1,6 +1,6 @@
 -- A policy is put out of force, and what the scheduler does that takes its place: the virtual time
 -- rules of Linux's example scx_simple, over numbers of its own.
-use Rattle.std.specs.Prelude.{ℕ, zero, suc, ◌+◌, ◌-◌, ◌*◌, ◌/◌, min, max, false, nat_lt, List, [], ◌∷◌, ◌++◌, length, if◌then◌else◌, Option, Some, None}
+use Rattle.std.specs.Prelude.{ℕ, zero, suc, ◌+◌, ◌-◌, ◌*◌, ◌/◌, min, max, true, false, nat_lt, List, [], ◌∷◌, ◌++◌, length, if◌then◌else◌, Option, Some, None}
 use Rattle.scx_dsq.specs.Calls.{after_push}
 use Rattle.scx_dsq.specs.declared.entries.Rank.TheVariants.{Vtime}
 use Rattle.scx_sched_world.specs.declared.call.Call.{Call}
@@ -61,10 +61,15 @@ abbrev pub eject_of : Cause → ℕ → Eject
 eject_of (reason.Fault f) clock = cause.Fault f clock
 eject_of (reason.Exit n) clock = cause.Exit n clock
 
--- the policy is out of force, for that cause, and nothing that Linux rules keep is known any more
+-- the policy is out of force, for that cause, and nothing that Linux rules keep is known any more;
+-- the host tracks idle processors again
 abbrev pub put_out : WorldState → Eject → WorldState
-put_out w x =
-    record w { ejected = Some x; call = without_insert w.call; passing = nothing_passes }
+put_out w x = record w {
+  ejected = Some x;
+  call = without_insert w.call;
+  passing = nothing_passes;
+  tracks_idle = true;
+}
 
 -- a task that waits in any queue waits for the built-in scheduler
 abbrev pub evict : WorldState → ℕ → WorldState

@@ -1,5 +1,5 @@
 -- The first world: nobody runs or waits, and the machine's own queues are there.
-use Rattle.std.specs.Prelude.{ℕ, zero, suc, ◌+◌, [], length, replicate, None}
+use Rattle.std.specs.Prelude.{ℕ, zero, suc, ◌+◌, true, [], length, replicate, None}
 use Rattle.scx_dsq.specs.Queues.{QueueState}
 use Rattle.scx_dsq.specs.Calls.{after_create, empty}
 use Rattle.scx_weights.specs.Hierarchy.{Hierarchy}
@@ -26,7 +26,7 @@ abbrev pub first_queues : ℕ → ℕ → QueueState
 first_queues cpus tasks = with_locals cpus (own_queues cpus tasks)
 
 -- the world at the start, over a tree of groups and tasks and with so many processors, by plain
--- rules
+-- rules and without timers
 abbrev pub first_world : Hierarchy → ℕ → WorldState
 first_world tree cpus = record {
   clock = 0;
@@ -38,6 +38,8 @@ first_world tree cpus = record {
   claimed = no_cpus;
   kicked = no_cpus;
   preempted = no_cpus;
+  tracks_idle = true;
+  timers = [];
   queues = first_queues cpus (length tree.homes);
   tree = tree;
   call = no_call;

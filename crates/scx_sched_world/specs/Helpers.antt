@@ -1,6 +1,6 @@
 -- What each helper answers, and what it makes of the world. A call with a fault answers that it is
 -- invalid, and changes nothing but that the fault is kept, if it is the first one of the callback.
-use Rattle.std.specs.Prelude.{ℕ, zero, suc, Bool, true, false, ◌&&◌, ◌==◌, nat_lt, nat_le, not, ◌||◌, ◌+◌, ◌-◌, ◌*◌, ◌/◌, ◌%◌, ◌^◌, min, List, length, if◌then◌else◌, Option, Some, None, is_none, slice_index_or}
+use Rattle.std.specs.Prelude.{ℕ, zero, suc, Bool, true, false, ◌&&◌, ◌==◌, nat_lt, nat_le, not, ◌||◌, ◌+◌, ◌-◌, ◌*◌, ◌/◌, ◌%◌, ◌^◌, min, max, List, length, if◌then◌else◌, Option, Some, None, is_none, slice_index_or, slice_set}
 use Rattle.std.specs.Int.{w64, bit_at, cast_signed}
 use Rattle.std.specs.List.{list_any}
 use Rattle.scx_dsq.specs.Queues.{exists, entry_of, is_in, front_of, len_of}
@@ -13,7 +13,7 @@ use Rattle.scx_weights.specs.Weights.{task_weight}
 use Rattle.scx_isa_semantics.specs.declared.callbacks.Callback.{Callback}
 use Rattle.scx_isa_semantics.specs.declared.callbacks.Callback.TheVariants as callback
 use Rattle.scx_isa_semantics.specs.declared.host_tables.Helper.{Helper}
-use Rattle.scx_isa_semantics.specs.declared.host_tables.Helper.TheVariants.{MapLookupElem, KtimeGetNs, CreateDsq, DsqInsert, DsqInsertVtime, DsqMoveToLocal, SelectCpuDfl, CpuIdle, TaskByPid, DsqNrQueued, KickCpu, SmpProcessorId, Exit, CpuCurr, DsqPeek, TaskRunning, TaskCpu, PickIdle, ClaimIdle}
+use Rattle.scx_isa_semantics.specs.declared.host_tables.Helper.TheVariants.{MapLookupElem, KtimeGetNs, CreateDsq, DsqInsert, DsqInsertVtime, DsqMoveToLocal, SelectCpuDfl, CpuIdle, TaskByPid, DsqNrQueued, KickCpu, SmpProcessorId, Exit, CpuCurr, DsqPeek, TaskRunning, TaskCpu, PickIdle, ClaimIdle, TimerStart, TimerCancel}
 use Rattle.scx_isa_semantics.specs.declared.host_tables.TaskId.{TaskId}
 use Rattle.scx_isa_semantics.specs.declared.host_tables.Field.{Field}
 use Rattle.scx_isa_semantics.specs.declared.host_tables.Field.TheVariants.{Pid, Weight, Slice, DsqVtime, PrevCpu, Group, RunNs, Cpus}
@@ -26,13 +26,14 @@ use Rattle.scx_sched_tasks.specs.declared.task.Task.{Task}
 use Rattle.scx_sched_world.specs.declared.eject.Cause.{Cause}
 use Rattle.scx_sched_world.specs.declared.eject.Cause.TheVariants as reason
 use Rattle.scx_sched_world.specs.declared.faults.Fault.{Fault}
-use Rattle.scx_sched_world.specs.declared.faults.Fault.TheVariants.{NoSuchQueue, CannotInsert, NoSuchCpu, UnknownFlag, CannotCreate, BuiltinVtime, Mixed}
+use Rattle.scx_sched_world.specs.declared.faults.Fault.TheVariants.{NoSuchQueue, CannotInsert, NoSuchCpu, UnknownFlag, CannotCreate, BuiltinVtime, Mixed, IdleUntracked}
 use Rattle.scx_sched_world.specs.declared.call.Insert.{Insert}
 use Rattle.scx_sched_world.specs.declared.kicks.Kick.{Kick}
 use Rattle.scx_sched_world.specs.declared.kicks.Kick.TheVariants.{Any, IfIdle, Preempt}
+use Rattle.scx_sched_world.specs.declared.timers.Alarm.{Alarm}
 use Rattle.scx_sched_world.specs.declared.notes.What.TheVariants as notes
 use Rattle.scx_sched_world.specs.Ids.{policy_end, global, local, held_queue, local_on}
-use Rattle.scx_sched_world.specs.World.{WorldState, with_queues, with_kick, with_preemption, is_by_linux, task_at, with_task, running, is_this, current, is_current, is_idle, this_if, or_this, is_claimed, is_free, choice, default_choice, after_claim, here, with_note}
+use Rattle.scx_sched_world.specs.World.{WorldState, with_queues, with_kick, with_preemption, is_by_linux, task_at, with_task, running, is_this, current, is_current, is_idle, this_if, or_this, is_claimed, is_free, choice, default_choice, after_claim, with_timer_at_hand, here, with_note}
 use Rattle.scx_sched_world.specs.CpuSets.{is_in_set}
 use Rattle.scx_sched_world.specs.Tasks.{with_slice, with_vtime, after_leave, after_enter, after_take, after_local, for_cpu}
 
@@ -309,27 +310,50 @@ move_answer w q = if can_move w q then one_if_some (front_of w.queues q) else in
 
 -- ---- processors and tasks
 
+-- where the host doesn't track which processors are idle, asking it for one is a fault, which goes
+-- before any other (ext/idle.c, `check_builtin_idle_enabled`)
+abbrev pub untracked_fault : WorldState → Option Fault
+untracked_fault w = if w.tracks_idle then None else Some IdleUntracked
+
+-- a processor that isn't there is a fault
+abbrev pub cpu_fault : WorldState → ℕ → Option Fault
+cpu_fault w c = if nat_lt c (length w.cpus) then None else Some NoSuchCpu
+
+-- asking the host about one idle processor
+abbrev pub ask_fault : WorldState → ℕ → Option Fault
+ask_fault w c = or_fault (untracked_fault w) (cpu_fault w c)
+
+-- a call with that fault answers -22, one without answers that number
+abbrev pub unless_fault : Option Fault → ℕ → ℕ
+unless_fault None n = n
+unless_fault (Some f) n = invalid
+
+-- the world that a call leaves: with its fault, or that one
+abbrev pub fault_or : WorldState → Option Fault → WorldState → WorldState
+fault_or w None v = v
+fault_or w (Some f) v = with_fault w f
+
 -- which processor is chosen by default for a task; 0 where a helper was given no task
 abbrev pub choice_answer : WorldState → Option ℕ → ℕ
 choice_answer w None = 0
-choice_answer w (Some t) = default_choice w t
+choice_answer w (Some t) = unless_fault (untracked_fault w) (default_choice w t)
 
 -- under Linux rules the processor that is chosen is claimed
 abbrev pub after_choice : WorldState → Option ℕ → WorldState
 after_choice w None = w
-after_choice w (Some t) = after_claim w (choice w t)
+after_choice w (Some t) = fault_or w (untracked_fault w) (after_claim w (choice w t))
 
 -- whether a callback is told that the processor is idle: not where another claimed it before
 abbrev pub seems_idle : WorldState → ℕ → Bool
 seems_idle w c = is_idle w c && (not (is_claimed w c) || is_in_set w.call.claims c)
 
--- asking whether a processor is idle changes nothing; it is a fault where there is none
+-- asking whether a processor is idle changes nothing but that its fault is kept
 abbrev pub after_idle : WorldState → ℕ → WorldState
-after_idle w c = if nat_lt c (length w.cpus) then w else with_fault w NoSuchCpu
+after_idle w c = fault_or w (ask_fault w c) w
 
--- 1 where a processor seems idle and 0 where it doesn't; -22 where there is no such processor
+-- 1 where a processor seems idle and 0 where it doesn't; -22 where there is a fault
 abbrev pub idle_answer : WorldState → ℕ → ℕ
-idle_answer w c = if nat_lt c (length w.cpus) then one_if (seems_idle w c) else invalid
+idle_answer w c = unless_fault (ask_fault w c) (one_if (seems_idle w c))
 
 -- pids count from 1
 abbrev pub is_pid : WorldState → ℕ → Bool
@@ -428,10 +452,13 @@ free_in_below (suc n) mask w =
 abbrev pub first_free_in : ℕ → WorldState → Option ℕ
 first_free_in mask w = free_in_below (length w.cpus) mask w
 
--- what is wrong with the flags of such a choice: 1 asks for a whole core, which is any processor
--- here
-abbrev pub pick_fault : ℕ → Option Fault
-pick_fault flags = if nat_le flags 1 then None else Some UnknownFlag
+-- the flag 1 of such a choice asks for a whole core, which is any processor here
+abbrev pub pick_flags_fault : ℕ → Option Fault
+pick_flags_fault flags = if nat_le flags 1 then None else Some UnknownFlag
+
+-- what is wrong with such a choice: idle processors aren't tracked, or its flags
+abbrev pub pick_fault : WorldState → ℕ → Option Fault
+pick_fault w flags = or_fault (untracked_fault w) (pick_flags_fault flags)
 
 -- -16 as a number of 64 bits
 abbrev pub busy : ℕ
@@ -445,7 +472,7 @@ pick_answer_by None (Some c) = c
 
 -- what a choice from a mask answers
 abbrev pub pick_answer : WorldState → ℕ → ℕ → ℕ
-pick_answer w mask flags = pick_answer_by (pick_fault flags) (first_free_in mask w)
+pick_answer w mask flags = pick_answer_by (pick_fault w flags) (first_free_in mask w)
 
 -- the processor that is chosen is claimed, unless there was a fault
 abbrev pub after_pick_by : Option Fault → WorldState → Option ℕ → WorldState
@@ -454,17 +481,79 @@ after_pick_by None w o = after_claim w o
 
 -- the world after a choice from a mask
 abbrev pub after_pick : WorldState → ℕ → ℕ → WorldState
-after_pick w mask flags = after_pick_by (pick_fault flags) w (first_free_in mask w)
+after_pick w mask flags = after_pick_by (pick_fault w flags) w (first_free_in mask w)
 
--- 1 where that processor may be chosen, else 0; -22 where there is no such processor
+-- 1 where that processor may be chosen, else 0; -22 where there is a fault
 abbrev pub claim_answer : WorldState → ℕ → ℕ
-claim_answer w c = if nat_lt c (length w.cpus) then one_if (is_free w c) else invalid
+claim_answer w c = unless_fault (ask_fault w c) (one_if (is_free w c))
 
--- where that processor may be chosen it is claimed; it is a fault where there is none
+-- where that processor may be chosen it is claimed
 abbrev pub after_claim_of : WorldState → ℕ → WorldState
-after_claim_of w c =
-    if nat_lt c (length w.cpus) then after_claim w (this_if (is_free w c) c)
-    else with_fault w NoSuchCpu
+after_claim_of w c = fault_or w (ask_fault w c) (after_claim w (this_if (is_free w c) c))
+
+-- ---- timers (kernel/bpf/helpers.c, `bpf_timer_start`, `bpf_timer_cancel`)
+
+-- whether the policy has that timer
+abbrev pub is_timer : WorldState → ℕ → Bool
+is_timer w n = nat_lt n (length w.timers)
+
+-- a timer that isn't there is a fault
+abbrev pub timer_fault : WorldState → ℕ → Option Fault
+timer_fault w n = if is_timer w n then None else Some UnknownFlag
+
+-- nanoseconds as whole milliseconds, rounded up, and at least one
+abbrev pub delay_ms : ℕ → ℕ
+delay_ms ns = max 1 ((ns + 999999) / 1000000)
+
+-- that timer is due at that clock, for that processor; or it isn't started any more
+abbrev pub with_timer : WorldState → ℕ → Option Alarm → WorldState
+with_timer w n o = record w { timers = slice_set w.timers n o }
+
+-- a timer that is started now: its callback runs on the processor of this one
+abbrev pub alarm_in : WorldState → ℕ → Alarm
+alarm_in w ns = record { due = w.clock + delay_ms ns; cpu = here w }
+
+-- a timer is started, whether or not it was before
+abbrev pub after_timer_start : WorldState → ℕ → ℕ → WorldState
+after_timer_start w n ns = fault_or w (timer_fault w n) (with_timer w n (Some (alarm_in w ns)))
+
+-- what starting a timer answers: 0, or -22 where it isn't there
+abbrev pub timer_start_answer : WorldState → ℕ → ℕ
+timer_start_answer w n = invalid_if (timer_fault w n)
+
+-- when a timer is due, if it was started
+abbrev pub alarm_at : WorldState → ℕ → Option Alarm
+alarm_at w n = slice_index_or w.timers n None
+
+-- -35 as a number of 64 bits
+abbrev pub deadlock : ℕ
+deadlock = 0xffff_ffff_ffff_ffdd
+
+-- what is answered of a timer that is to be cancelled, out of its own callback or not
+abbrev pub cancelled_answer : Bool → Option Alarm → ℕ
+cancelled_answer true o = deadlock
+cancelled_answer false None = 0
+cancelled_answer false (Some a) = 1
+
+-- what cancelling a timer answers: 1 where it was started and 0 where it wasn't, -35 out of its own
+-- callback, -22 where it isn't there
+abbrev pub timer_cancel_answer : WorldState → ℕ → ℕ
+timer_cancel_answer w n =
+    unless_fault (timer_fault w n) (cancelled_answer (is_this n w.passing.timer) (alarm_at w n))
+
+-- a timer isn't started any more; out of its own callback nothing changes
+abbrev pub after_timer_cancel : WorldState → ℕ → WorldState
+after_timer_cancel w n =
+    fault_or w (timer_fault w n) (if is_this n w.passing.timer then w else with_timer w n None)
+
+-- when that timer was due, if it was, at this clock or before
+abbrev pub due_now : WorldState → Option Alarm → Option Alarm
+due_now w None = None
+due_now w (Some a) = if nat_le a.due w.clock then Some a else None
+
+-- the timer isn't started any more, and its callback is at hand
+abbrev pub after_fire : WorldState → ℕ → WorldState
+after_fire w n = with_timer_at_hand (with_timer w n None) (Some n)
 
 -- ---- all helpers; elements of maps are looked up by the run itself
 
@@ -490,6 +579,8 @@ helper_answer w TaskRunning a = answer.Num (one_if (is_current_one w (given_task
 helper_answer w TaskCpu a = answer.Num (cpu_of_task w (given_task a 0))
 helper_answer w PickIdle a = answer.Num (pick_answer w (given_number a 0) (given_number a 1))
 helper_answer w ClaimIdle a = answer.Num (claim_answer w (given_number a 0))
+helper_answer w TimerStart a = answer.Num (timer_start_answer w (given_number a 0))
+helper_answer w TimerCancel a = answer.Num (timer_cancel_answer w (given_number a 0))
 helper_answer w MapLookupElem a = answer.Num 0
 
 -- the world that a helper call with these arguments leaves
@@ -508,6 +599,8 @@ helper_after w CpuCurr a = after_asking_cpu w (given_number a 0)
 helper_after w DsqPeek a = after_queued w (given_number a 0)
 helper_after w PickIdle a = after_pick w (given_number a 0) (given_number a 1)
 helper_after w ClaimIdle a = after_claim_of w (given_number a 0)
+helper_after w TimerStart a = after_timer_start w (given_number a 0) (given_number a 1)
+helper_after w TimerCancel a = after_timer_cancel w (given_number a 0)
 helper_after w h a = w
 
 -- ---- the record of a task

@@ -22,6 +22,8 @@ state_of w = record {
   claimed = w.claimed;
   kicked = w.kicked;
   preempted = w.preempted;
+  tracks_idle = w.tracks_idle;
+  timers = w.timers.items;
   queues = w.queues.state;
   tree = w.tree;
   call = w.call;
@@ -101,6 +103,7 @@ pub record IsKept (w : Inside) : Type 0 where
   pub weighed : length w.tree.homes ≡ length w.tasks
   pub few_tasks : length w.tasks ≤ 1024
   pub few_cpus : length w.cpus.items ≤ 64
+  pub few_timers : length w.timers.items ≤ 255
   pub busy : AreBusy w.busy w.cpus.items
   pub running : AreOn w.running_on.items w.cpus.items
   pub known_running : length w.running_on.items ≡ length w.tasks

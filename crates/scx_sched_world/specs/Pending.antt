@@ -1,5 +1,5 @@
 -- Which processors look for work as an event by Linux rules ends.
-use Rattle.std.specs.Prelude.{◌≡◌, ℕ, zero, suc, Bool, ◌==◌, ◌&&◌, ◌||◌, not, length, Option, Some, None}
+use Rattle.std.specs.Prelude.{ℕ, zero, suc, Bool, ◌==◌, ◌&&◌, ◌||◌, not, length, Option, None}
 use Rattle.scx_sched_world.specs.CpuSets.{is_in_set}
 use Rattle.scx_sched_world.specs.World.{WorldState, is_idle, this_if, or_this}
 use Rattle.scx_sched_world.specs.Tasks.{local_len}

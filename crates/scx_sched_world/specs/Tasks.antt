@@ -6,7 +6,7 @@ use Rattle.scx_dsq.specs.declared.entries.Rank.{Rank}
 use Rattle.scx_dsq.specs.declared.entries.Rank.TheVariants.{Fifo, Front, Vtime}
 use Rattle.scx_weights.specs.Hierarchy as tree
 use Rattle.scx_weights.specs.Limits as limits
-use Rattle.scx_weights.specs.Refusals.{weight_fault}
+use Rattle.scx_weights.specs.Refusals.{weight_fault, own_weight_fault}
 use Rattle.scx_sched_world.specs.declared.call.Insert.{Insert}
 use Rattle.scx_sched_tasks.specs.declared.task.Task.{Task}
 use Rattle.scx_sched_tasks.specs.Tasks.{default_slice}
@@ -314,3 +314,9 @@ begun_periods w = with_tree w (limits.with_turn w.tree w.clock)
 abbrev pub after_reweigh : WorldState → ℕ → ℕ → WorldState
 after_reweigh w g x =
     if is_none (weight_fault w.tree g x) then with_tree w (tree.with_weight w.tree g x) else w
+
+-- the task has that weight itself; one that can't be set changes nothing
+abbrev pub after_own_weight : WorldState → ℕ → ℕ → WorldState
+after_own_weight w t x =
+    if is_none (own_weight_fault w.tree t x) then with_tree w (tree.with_own_weight w.tree t x)
+    else w

@@ -1,5 +1,5 @@
 -- The world that a policy's programs see and change, and its parts.
-use Rattle.std.specs.Prelude.{◌≡◌, ℕ, zero, suc, Bool, true, false, ◌==◌, ◌&&◌, not, nat_lt, List, [], ◌∷◌, ◌++◌, length, if◌then◌else◌, Option, Some, None, is_none, unwrap_or, slice_index_or, slice_set, position}
+use Rattle.std.specs.Prelude.{◌≡◌, ℕ, zero, suc, Bool, true, false, ◌==◌, ◌&&◌, not, nat_lt, List, [], ◌∷◌, ◌++◌, length, if◌then◌else◌, Option, Some, None, is_none, unwrap_or, slice_index_or, slice_set, position, replicate}
 use Rattle.scx_dsq.specs.Queues.{QueueState, queue_of}
 use Rattle.scx_weights.specs.Hierarchy.{Hierarchy, is_active_task}
 use Rattle.scx_weights.specs.Counting.{any_below}
@@ -19,6 +19,7 @@ use Rattle.scx_sched_tasks.specs.Waits.{time_since}
 use Rattle.scx_sched_world.specs.declared.call.Call.{Call}
 use Rattle.scx_sched_world.specs.declared.passing.Passing.{Passing}
 use Rattle.scx_sched_world.specs.declared.passing.Switch.{Switch}
+use Rattle.scx_sched_world.specs.declared.timers.Alarm.{Alarm}
 use Rattle.scx_sched_world.specs.declared.eject.Eject.{Eject}
 
 -- what a world is at one time, with tasks and processors by number and the clock in milliseconds
@@ -32,6 +33,8 @@ pub record WorldState : Type 0 where
   pub claimed : CpuSet  -- processors chosen for a task, on which no cycle has begun since
   pub kicked : CpuSet  -- processors that look for work as the event ends
   pub preempted : CpuSet  -- those on which the task that runs loses its slice then
+  pub tracks_idle : Bool  -- whether the host tells the policy which processors are idle
+  pub timers : List (Option Alarm)  -- of each timer of the policy when it is due, if it was started
   pub queues : QueueState
   pub tree : Hierarchy
   pub call : Call  -- the callback at hand, or the last one
@@ -46,6 +49,7 @@ pub record IsLike (v w : WorldState) : Type 0 where
   pub room : v.queues.room ≡ w.queues.room
   pub queues : v.queues.ids ≡ w.queues.ids
   pub groups : length v.tree.groups ≡ length w.tree.groups
+  pub timers : length v.timers ≡ length w.timers
 
 -- ---- the rules
 
@@ -62,11 +66,19 @@ is_by_linux w = are_linux w.rules && is_none w.ejected
 abbrev pub with_rules : WorldState → Rules → WorldState
 with_rules w r = record w { rules = r }
 
+-- the world whose host tells the policy which processors are idle, or doesn't
+abbrev pub with_tracking : WorldState → Bool → WorldState
+with_tracking w b = record w { tracks_idle = b }
+
+-- the world with that number of timers, none of which was started
+abbrev pub with_timers : WorldState → ℕ → WorldState
+with_timers w n = record w { timers = replicate n None }
+
 -- ---- one part changed
 
 -- between events Linux rules keep nothing of the one before
 abbrev pub nothing_passes : Passing
-nothing_passes = record { slept = None; switching = None; waker = None }
+nothing_passes = record { slept = None; switching = None; waker = None; timer = None }
 
 -- the world with that processor to look for work as the event ends
 abbrev pub with_kick : WorldState → ℕ → WorldState
@@ -80,6 +92,10 @@ with_preemption w c = record (with_kick w c) { preempted = and_cpu w.preempted c
 abbrev pub without_kick : WorldState → ℕ → WorldState
 without_kick w c =
     record w { kicked = but_cpu w.kicked c; preempted = but_cpu w.preempted c }
+
+-- the world with no processor claimed, kicked or preempted
+abbrev pub without_marks : WorldState → WorldState
+without_marks w = record w { claimed = no_cpus; kicked = no_cpus; preempted = no_cpus }
 
 -- the world with these dispatch queues
 abbrev pub with_queues : WorldState → QueueState → WorldState
@@ -165,6 +181,14 @@ with_slept w t = record w { passing = record w.passing { slept = Some t } }
 abbrev pub with_waker : WorldState → Option ℕ → WorldState
 with_waker w o = record w { passing = record w.passing { waker = o } }
 
+-- the world with the callback of that timer at hand, or of none
+abbrev pub with_timer_at_hand : WorldState → Option ℕ → WorldState
+with_timer_at_hand w o = record w { passing = record w.passing { timer = o } }
+
+-- the cycle that is under way ends; what was kept for it is known until what follows it has ended
+abbrev pub out_of_cycle : WorldState → WorldState
+out_of_cycle w = record w { cycling = None }
+
 -- whether a task or a processor is the given one; false where none is given
 abbrev pub is_this : ℕ → Option ℕ → Bool
 is_this t None = false
@@ -220,12 +244,17 @@ abbrev pub first_free : WorldState → Option ℕ
 first_free w = free_below (length w.cpus) w
 
 -- the processor of the task if it is free, else the lowest free one, if there is one
-abbrev pub choice : WorldState → ℕ → Option ℕ
-choice w t =
+abbrev pub free_choice : WorldState → ℕ → Option ℕ
+free_choice w t =
     let prev = (task_at w t).prev_cpu in
     if is_free w prev then Some prev else first_free w
 
--- the processor of the task if it is free, else the lowest free one, else that one
+-- the processor that the host chooses for a task, if one is free; none where it doesn't track which
+-- are (ext/idle.c, `check_builtin_idle_enabled`)
+abbrev pub choice : WorldState → ℕ → Option ℕ
+choice w t = if w.tracks_idle then free_choice w t else None
+
+-- the processor that the host chooses for a task, else the task's own
 abbrev pub default_choice : WorldState → ℕ → ℕ
 default_choice w t = unwrap_or (choice w t) (task_at w t).prev_cpu
 

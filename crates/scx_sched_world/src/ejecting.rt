@@ -26,7 +26,8 @@ impl World {
         self.ejected.is_some()
     }
 
-    /// The policy is out of force. What the callback at hand wanted and what Linux rules keep of the event are forgotten.
+    /// The policy is out of force. What the callback at hand wanted and what Linux rules keep of the event are
+    /// forgotten, and the host tracks idle CPUs again.
     pub fn put_out(&mut self, why: Eject)
         ensures world { self.new ≡ put_out self.old why }
         ensures few { self.new.queues.pushes ≡ self.old.queues.pushes }
@@ -35,6 +36,7 @@ impl World {
         self.call.insert = None;
         self.call.has_moved = false;
         self.passing = Passing::NOTHING;
+        self.tracks_idle = true;
         self.by_linux = false;
     }
 

@@ -20,10 +20,12 @@ pub enum Fault {
     UnknownFlag,
     /// The id is no policy's, a queue has it, or there is no room for another.
     CannotCreate,
+    /// The host was asked which CPUs are idle, and the policy keeps track of them itself.
+    IdleUntracked,
 }
 
 impl Fault {
-    /// Its number, 0 to 7 in the order above.
+    /// Its number, 0 to 8 in the order above.
     pub fn number(self) -> u8
         ensures { result ≡ fault_number self }
     {
@@ -36,6 +38,7 @@ impl Fault {
             Fault::NoSuchCpu => 5,
             Fault::UnknownFlag => 6,
             Fault::CannotCreate => 7,
+            Fault::IdleUntracked => 8,
         }
     }
 }

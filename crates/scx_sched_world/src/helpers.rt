@@ -1,16 +1,16 @@
 ghost use Rattle.std.specs.Prelude.{◌≡◌, ◌+◌, ◌-◌, ◌*◌, ◌^◌, ◌<◌, ◌≤◌, length, is_some, IfSome};
 ghost use Rattle.scx_dsq.specs.Queues.{IsQueueAt, front_of};
 ghost use Rattle.scx_sched_world.specs.Ids.{policy_end};
-ghost use Rattle.scx_sched_world.specs.World.{is_free, this_if, after_claim, with_note};
+ghost use Rattle.scx_sched_world.specs.World.{with_note};
 ghost use Rattle.scx_sched_world.specs.declared.kicks.Kick.TheVariants.{IfIdle};
 ghost use Rattle.scx_isa_semantics.specs.HostTables.{field_width};
-ghost use Rattle.scx_sched_world.specs.Helpers.{invalid, with_cause, with_fault, after_exit, task_or_null, current_answer, after_asking_cpu, peek_answer, is_current_one, cpu_of_task, first_free_in, pick_answer, after_pick, claim_answer, after_claim_of, invalid_if, is_there, create_answer, after_create_dsq, queued_answer, after_queued, is_held, may_insert, queue_fault, rank_fault, or_fault, are_known, flags_fault, insert_fault, is_late, after_late, insert_or_fault, with_move, insert_answer, after_insert, after_release, choice_answer, after_choice, seems_idle, idle_answer, after_idle, pid_answer, moved_here, move_answer, after_move, kicked_so, kick_answer, after_kick, weight_at, weight_told, group_at, all_cpus, field_of};
+ghost use Rattle.scx_sched_world.specs.Helpers.{invalid, with_cause, with_fault, after_exit, task_or_null, current_answer, after_asking_cpu, peek_answer, is_current_one, cpu_of_task, invalid_if, is_there, create_answer, after_create_dsq, queued_answer, after_queued, is_held, may_insert, queue_fault, rank_fault, or_fault, are_known, flags_fault, insert_fault, is_late, after_late, insert_or_fault, with_move, insert_answer, after_insert, after_release, pid_answer, moved_here, move_answer, after_move, kicked_so, kick_answer, after_kick, weight_at, weight_told, group_at, all_cpus, field_of};
 
 use crate::call::Insert;
 use crate::eject::Cause;
 use crate::faults::Fault;
 use crate::flags::are_linux_flags;
-use crate::ids::{BUSY, GLOBAL, HELD, INVALID, LOCAL, LOCAL_IDS, LOCAL_ON, POLICY_END};
+use crate::ids::{GLOBAL, HELD, INVALID, LOCAL, LOCAL_IDS, LOCAL_ON, POLICY_END};
 use crate::kicks::Kick;
 use crate::notes::{Note, What};
 use crate::world::World;
@@ -31,7 +31,7 @@ impl World {
     }
 
     /// Keeps the fault, if the callback had neither a fault nor an exit before.
-    fn fault(&mut self, fault: Fault) -> u64
+    pub(crate) fn fault(&mut self, fault: Fault) -> u64
         ensures answer { result ≡ invalid }
         ensures world { self.new ≡ with_fault self.old fault }
     {
@@ -321,39 +321,6 @@ impl World {
 
     // ---- processors and tasks
 
-    /// Chooses a CPU for the task by default. Linux rules claim it.
-    pub(crate) fn choose(&mut self, task: Option<u16>) -> u64
-        ensures answer { result ≡ choice_answer self.old task }
-        ensures world { self.new ≡ after_choice self.old task }
-        ensures few { self.new.queues.pushes ≡ self.old.queues.pushes }
-    {
-        let Some(task) = task else {
-            return 0;
-        };
-        let choice = self.choice(task);
-        let prev = self.task(task).prev_cpu;
-        self.claim(choice);
-        u64::from(choice.unwrap_or(prev))
-    }
-
-    /// True if a callback is told that the CPU is idle.
-    fn seems_idle(&self, cpu: u32) -> bool
-        ensures { result ≡ seems_idle self.now cpu }
-    {
-        self.is_idle(cpu) && (!self.is_claimed(cpu) || self.call.claims.has(cpu))
-    }
-
-    pub(crate) fn ask_idle(&mut self, cpu: u64) -> u64
-        ensures answer { result ≡ idle_answer self.old cpu }
-        ensures world { self.new ≡ after_idle self.old cpu }
-        ensures few { self.new.queues.pushes ≡ self.old.queues.pushes }
-    {
-        if cpu >= self.cpus.len() as u64 {
-            return self.fault(Fault::NoSuchCpu);
-        }
-        u64::from(self.seems_idle(cpu as u32))
-    }
-
     /// Kicks the CPU, as the flags ask for.
     pub(crate) fn kick_by(&mut self, cpu: u64, flags: u64) -> u64
         ensures answer { result ≡ kick_answer self.old cpu flags }
@@ -457,63 +424,6 @@ impl World {
             Some(task) => self.task(task).prev_cpu,
             None => 0,
         }
-    }
-
-    // ---- claims
-
-    /// Claims the lowest free CPU of the mask, and answers it.
-    pub(crate) fn pick_idle(&mut self, mask: u64, flags: u64) -> u64
-        ensures answer { result ≡ pick_answer self.old mask flags }
-        ensures world { self.new ≡ after_pick self.old mask flags }
-        ensures few { self.new.queues.pushes ≡ self.old.queues.pushes }
-    {
-        if flags > 1 {
-            return self.fault(Fault::UnknownFlag);
-        }
-        let picked = self.first_free_in(mask);
-        self.claim(picked);
-        match picked {
-            Some(cpu) => u64::from(cpu),
-            None => BUSY,
-        }
-    }
-
-    /// The lowest free CPU of the mask.
-    #[tactic(auto, using(crate::proofs::Picks::lowest_in, crate::proofs::Picks::none_in_mask))]
-    fn first_free_in(&self, mask: u64) -> Option<u32>
-        ensures { result ≡ first_free_in mask self.now }
-    {
-        let cpu = (mask & !self.taken()).trailing_zeros();
-        if (cpu as usize) < self.cpus.len() {
-            Some(cpu)
-        } else {
-            None
-        }
-    }
-
-    /// Claims the CPU if it is free, and answers 1 if it was.
-    pub(crate) fn claim_idle(&mut self, cpu: u64) -> u64
-        ensures answer { result ≡ claim_answer self.old cpu }
-        ensures world { self.new ≡ after_claim_of self.old cpu }
-        ensures few { self.new.queues.pushes ≡ self.old.queues.pushes }
-    {
-        if cpu >= self.cpus.len() as u64 {
-            return self.fault(Fault::NoSuchCpu);
-        }
-        u64::from(self.claim_free(cpu as u32))
-    }
-
-    /// Claims the CPU if it is free, and returns whether it was.
-    fn claim_free(&mut self, cpu: u32) -> bool
-        ensures answer { result ≡ is_free self.old cpu }
-        ensures world { self.new ≡ after_claim self.old (this_if (is_free self.old cpu) cpu) }
-        ensures few { self.new.queues.pushes ≡ self.old.queues.pushes }
-    {
-        let free = self.is_free(cpu);
-        if free {
-            self.claim(Some(cpu));
-        }
-        free
     }
 
     // ---- the record of a task

@@ -52,6 +52,10 @@ impl Env for World {
             }
             Helper::PickIdle => Answer::Num(self.pick_idle(first, given_number(arguments[1]))),
             Helper::ClaimIdle => Answer::Num(self.claim_idle(first)),
+            Helper::TimerStart => {
+                Answer::Num(self.start_timer(first, given_number(arguments[1])))
+            }
+            Helper::TimerCancel => Answer::Num(self.cancel_timer(first)),
             // A run looks up elements itself.
             Helper::MapLookupElem => Answer::Num(0),
         }

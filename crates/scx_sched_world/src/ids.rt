@@ -31,6 +31,9 @@ pub(crate) const INVALID: u64 = 0xffff_ffff_ffff_ffea;
 /// The answer of a helper call that finds no CPU to claim: -16, Linux's EBUSY.
 pub(crate) const BUSY: u64 = 0xffff_ffff_ffff_fff0;
 
+/// The answer of a helper call that cancels the timer whose callback is at hand: -35, Linux's EDEADLK.
+pub(crate) const DEADLOCK: u64 = 0xffff_ffff_ffff_ffdd;
+
 /// The place of the global queue among the queues, as it is created first.
 pub(crate) const GLOBAL_PLACE: usize = 0;
 

@@ -5,6 +5,7 @@
 #![tactic(auto)]
 
 mod call;
+mod copying;
 mod counting;
 mod cpu_set;
 mod eject;
@@ -13,12 +14,14 @@ mod faults;
 mod flags;
 mod helpers;
 mod host;
+mod idle;
 mod ids;
 mod kicks;
 mod notes;
 mod passing;
 mod pending;
 mod steps;
+mod timers;
 mod world;
 
 pub use call::{Call, Insert};
@@ -30,4 +33,5 @@ pub use notes::{Note, What};
 pub use passing::{Passing, Switch};
 pub use scx_dsq::{Entry, Rank};
 pub use scx_sched_tasks::{DEFAULT_SLICE, Task};
+pub use timers::Alarm;
 pub use world::World;

@@ -26,6 +26,8 @@ pub enum What {
     Idle(u32),
     /// A group has that weight from now on.
     Weight(u32, u32),
+    /// A task has that weight of its own from now on.
+    TaskWeight(u16, u32),
     /// The policy is ejected: that task waited too long.
     Stall(u16),
     /// The policy is ejected: that was the first fault of a callback.

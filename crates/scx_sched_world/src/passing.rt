@@ -14,6 +14,8 @@ pub struct Passing {
     pub switching: Option<Switch>,
     /// The CPU from which a task is woken.
     pub waker: Option<u32>,
+    /// The timer whose callback is at hand.
+    pub timer: Option<u32>,
 }
 
 impl Passing {
@@ -21,5 +23,6 @@ impl Passing {
         slept: None,
         switching: None,
         waker: None,
+        timer: None,
     };
 }

@@ -2,10 +2,12 @@ ghost use Rattle.std.specs.Prelude.{◌≡◌, ℕ, ◌+◌, ◌^◌, ◌<◌, �
 ghost use Rattle.scx_dsq.specs.declared.entries.Rank.TheVariants.{Fifo};
 ghost use Rattle.scx_dsq.specs.Calls.{after_push};
 ghost use Rattle.scx_dsq.specs.Queues.{IsQueueAt, entry_of, is_in, front_of, len_of, behind_of};
+ghost use Rattle.scx_weights.specs.Hierarchy.{own_weight};
 ghost use Rattle.scx_weights.specs.Limits.{usage_of, with_use};
+ghost use Rattle.scx_weights.specs.Refusals.{max_weight};
 ghost use Rattle.scx_sched_world.specs.Ids.{global, parked_queue, local_on};
 ghost use Rattle.scx_sched_world.specs.World.{task_at, with_task, with_queues, with_tree};
-ghost use Rattle.scx_sched_world.specs.Tasks.{after_wake, after_sleep, after_leave, homed, local_cpu, homed_at, after_local, given_slice, task_after_insert, key_by, rank_by, after_preempt_of, after_preempt_at, after_preempt, queued_by, after_enter, local_len, fill_front, after_fill, after_stop, after_run, after_start, after_keep, after_cut_off, longer, after_switch, put_parked, after_take, let_go, ran_a_tick, after_tick, later, used_ms, slice_left, begun_periods, after_reweigh};
+ghost use Rattle.scx_sched_world.specs.Tasks.{after_wake, after_sleep, after_leave, homed, local_cpu, homed_at, after_local, given_slice, task_after_insert, key_by, rank_by, after_preempt_of, after_preempt_at, after_preempt, queued_by, after_enter, local_len, fill_front, after_fill, after_stop, after_run, after_start, after_keep, after_cut_off, longer, after_switch, put_parked, after_take, let_go, ran_a_tick, after_tick, later, used_ms, slice_left, begun_periods, after_reweigh, after_own_weight};
 
 use crate::call::Insert;
 use crate::counting;
@@ -640,6 +642,23 @@ impl World {
     {
         self.parked_throttled = false;
         let _refused = self.tree.set_weight(group, weight);
+    }
+
+    /// Sets the weight of its own that a task has, if there is such a task and weight.
+    pub fn set_task_weight(&mut self, task: u16, weight: u32)
+        ensures world { self.new ≡ after_own_weight self.old task weight }
+        ensures few { self.new.queues.pushes ≡ self.old.queues.pushes }
+    {
+        self.parked_throttled = false;
+        let _refused = self.tree.set_own_weight(u32::from(task), weight);
+    }
+
+    /// The weight of its own that the task has; 0 if there is no such task.
+    pub fn own_weight(&self, task: u16) -> u32
+        ensures weight { result ≡ own_weight self.now.tree task }
+        ensures few { result ≤ max_weight }
+    {
+        self.tree.own_weight(u32::from(task))
     }
 }
 

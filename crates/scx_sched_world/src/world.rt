@@ -1,4 +1,4 @@
-ghost use Rattle.std.specs.Prelude.{◌≡◌, ◌≢◌, ℕ, true, ◌&&◌, ◌+◌, ◌≤◌, ◌<◌, is_none, nat_lt, length, position, slice_get, slice_index_or, vec_capacity, Some, IfSome, IfOk, OnOk};
+ghost use Rattle.std.specs.Prelude.{◌≡◌, ◌≢◌, ℕ, true, ◌&&◌, ◌+◌, ◌≤◌, ◌<◌, is_none, nat_lt, length, position, slice_get, slice_index_or, Some, IfSome, IfOk, OnOk};
 ghost use Rattle.std.specs.Int.{bit_at};
 ghost use Rattle.scx_dsq.specs.Laws.{one_if};
 ghost use Rattle.scx_dsq.specs.Queues.{entry_of, queue_of, task_count};
@@ -6,10 +6,10 @@ ghost use Rattle.scx_weights.specs.Limits.{has_quota};
 ghost use Rattle.scx_sched_world.specs.First.{with_locals, first_queues, first_world};
 ghost use Rattle.scx_sched_world.specs.CpuSets.{is_in_set};
 ghost use Rattle.scx_sched_world.specs.Helpers.{task_argument, with_insert};
-ghost use Rattle.scx_sched_world.specs.Kept.{AreOccupied, AreTaken, lowest_bit, StaysParked, NobodyIsFree};
+ghost use Rattle.scx_sched_world.specs.Kept.{lowest_bit, StaysParked, NobodyIsFree};
 ghost use Rattle.scx_sched_world.specs.Waits.{first_overdue};
 ghost use Rattle.scx_weights.specs.Limits.{usage_of};
-ghost use Rattle.scx_sched_world.specs.World.{task_at, wait, with_task, is_runnable, is_throttled, waits, running, with_cpu, with_switch, cycling_by_linux, with_cycling, with_slept, with_waker, is_this, cpu_of, current_in, current, is_current, is_idle, is_claimed, is_free, first_free, choice, default_choice, after_claim, with_kick, with_preemption, without_kick, are_linux, is_by_linux, with_rules, at_callback, quiet, here, note_now, IsLike};
+ghost use Rattle.scx_sched_world.specs.World.{task_at, wait, with_task, is_runnable, is_throttled, waits, running, with_cpu, with_switch, cycling_by_linux, with_cycling, out_of_cycle, with_timers, with_slept, with_waker, is_this, cpu_of, current_in, current, is_current, with_kick, with_preemption, without_kick, without_marks, are_linux, is_by_linux, with_rules, at_callback, quiet, here, note_now};
 
 use crate::call::{Call, Insert};
 use crate::counting;
@@ -19,6 +19,7 @@ use crate::ids::{BUILTIN, GLOBAL, HELD, LOCAL_ON, PARKED};
 use crate::notes::{Note, What};
 use crate::passing::{Passing, Switch};
 use crate::pending::unsettle;
+use crate::timers::Alarm;
 use scx_dsq::{Entry, Queues};
 use scx_isa::{Callback, Rules, TaskId};
 use scx_sched_tasks::{Task, Tasks};
@@ -52,6 +53,10 @@ pub struct World {
     pub(crate) kicked: CpuSet,
     /// Those on which the task that runs loses its slice then.
     pub(crate) preempted: CpuSet,
+    /// True if the host tells the policy which CPUs are idle.
+    pub(crate) tracks_idle: bool,
+    /// For each timer of the policy its alarm, if it was started.
+    pub(crate) timers: Vec<Option<Alarm>>,
     pub(crate) queues: Queues,
     pub(crate) tree: Tree,
     pub(crate) call: Call,
@@ -81,11 +86,12 @@ impl Model for World {
 }
 
 impl World {
-    /// A world in which no task runs or waits. All memory is taken here.
+    /// A world in which no task runs or waits, with that number of timers. All memory is taken here.
     #[tactic(auto, using(crate::proofs::Busy::none_busy))]
-    pub fn new(alloc: Global, tree: Tree, cpus: usize) -> Result<World, AllocError>
+    pub fn new(alloc: Global, tree: Tree, cpus: usize, timers: u8) -> Result<World, AllocError>
         requires { cpus ≤ 64 }
-        ensures world { IfOk result (λ world. world ≡ first_world tree cpus) }
+        ensures world { IfOk result (λ world.
+            world ≡ with_timers (first_world tree cpus) timers) }
         ensures few { IfOk result (λ world. world.queues.pushes ≡ 0) }
         ensures flags { OnOk result (length tree.active ≡ length tree.homes) }
     {
@@ -95,8 +101,9 @@ impl World {
         let running_on = vec![in alloc; 0; count];
         let queues = own_queues(alloc, cpus, count);
         let notes = Vec::with_capacity(alloc, 4096);
-        match (tasks, running, running_on, queues, notes) {
-            (Ok(tasks), Ok(cpus), Ok(running_on), Ok(queues), Ok(notes)) => Ok(World {
+        let timers = vec![in alloc; None; usize::from(timers)];
+        match (tasks, running, running_on, queues, notes, timers) {
+            (Ok(tasks), Ok(cpus), Ok(running_on), Ok(queues), Ok(notes), Ok(timers)) => Ok(World {
                 clock: 0,
                 tasks,
                 cpus,
@@ -108,6 +115,8 @@ impl World {
                 claimed: CpuSet::EMPTY,
                 kicked: CpuSet::EMPTY,
                 preempted: CpuSet::EMPTY,
+                tracks_idle: true,
+                timers,
                 queues,
                 tree,
                 call: Call::NONE,
@@ -118,85 +127,14 @@ impl World {
                 by_linux: false,
                 unsettled: u64::MAX,
             }),
-            (tasks, cpus, running_on, queues, notes) => {
+            (tasks, cpus, running_on, queues, notes, timers) => {
                 drop(tasks);
                 drop(cpus);
                 drop(running_on);
                 drop(queues);
                 drop(notes);
+                drop(timers);
                 drop(tree);
-                Err(AllocError)
-            }
-        }
-    }
-
-    /// Becomes a copy of the other world. No memory is taken.
-    pub fn copy_from(&mut self, other: &World)
-        requires { IsLike self.old other.now }
-        ensures { self.new ≡ other.now }
-    {
-        self.clock = other.clock;
-        self.tasks.copy_from(&other.tasks);
-        self.cpus.copy_from_slice(&other.cpus);
-        self.busy = other.busy;
-        self.running_on.copy_from_slice(&other.running_on);
-        self.cycling = other.cycling;
-        self.passing = other.passing;
-        self.rules = other.rules;
-        self.claimed = other.claimed;
-        self.kicked = other.kicked;
-        self.preempted = other.preempted;
-        self.queues.copy_from(&other.queues);
-        self.tree.copy_from(&other.tree);
-        self.call = other.call;
-        self.builtin_clock = other.builtin_clock;
-        self.ejected = other.ejected;
-        copy_notes(&mut self.notes, &other.notes);
-        self.parked_throttled = other.parked_throttled;
-        self.by_linux = other.by_linux;
-        self.unsettled = other.unsettled;
-    }
-
-    /// A copy of the world, in memory of its own.
-    pub fn duplicate(&self, alloc: Global) -> Result<World, AllocError>
-        ensures { IfOk result (λ copy. copy ≡ self.now) }
-    {
-        let tasks = self.tasks.duplicate(alloc);
-        let cpus = Vec::from_slice(alloc, &self.cpus);
-        let running_on = Vec::from_slice(alloc, &self.running_on);
-        let queues = self.queues.duplicate(alloc);
-        let tree = self.tree.duplicate(alloc);
-        let notes = duplicate_notes(alloc, &self.notes);
-        match (tasks, cpus, running_on, queues, tree, notes) {
-            (Ok(tasks), Ok(cpus), Ok(running_on), Ok(queues), Ok(tree), Ok(notes)) => Ok(World {
-                clock: self.clock,
-                tasks,
-                cpus,
-                busy: self.busy,
-                running_on,
-                cycling: self.cycling,
-                passing: self.passing,
-                rules: self.rules,
-                claimed: self.claimed,
-                kicked: self.kicked,
-                preempted: self.preempted,
-                queues,
-                tree,
-                call: self.call,
-                builtin_clock: self.builtin_clock,
-                ejected: self.ejected,
-                notes,
-                parked_throttled: self.parked_throttled,
-                by_linux: self.by_linux,
-                unsettled: self.unsettled,
-            }),
-            (tasks, cpus, running_on, queues, tree, notes) => {
-                drop(tasks);
-                drop(cpus);
-                drop(running_on);
-                drop(queues);
-                drop(tree);
-                drop(notes);
                 Err(AllocError)
             }
         }
@@ -405,6 +343,14 @@ impl World {
         self.cycle_on(cpu);
     }
 
+    /// The cycle that is under way ends. Facts that were kept for it stay known.
+    pub fn end_cycle(&mut self)
+        ensures world { self.new ≡ out_of_cycle self.old }
+        ensures few { self.new.queues.pushes ≡ self.old.queues.pushes }
+    {
+        self.cycle_on(None);
+    }
+
     /// The cycle that is under way is one on that CPU, or there is none.
     #[inline(always)]
     fn cycle_on(&mut self, cpu: Option<u32>)
@@ -510,108 +456,6 @@ impl World {
         self.current(cpu) == Some(task)
     }
 
-    /// True if no task runs on the CPU, and no cycle is under way there.
-    pub fn is_idle(&self, cpu: u32) -> bool
-        ensures { result ≡ is_idle self.now cpu }
-    {
-        (cpu as usize) < self.cpus.len()
-            && self.cpus[cpu as usize].is_none()
-            && self.cycling != Some(cpu)
-    }
-
-    /// True if the CPU was chosen for a task, and no cycle has begun there since.
-    #[inline(always)]
-    pub(crate) fn is_claimed(&self, cpu: u32) -> bool
-        ensures { result ≡ is_claimed self.now cpu }
-    {
-        self.is_by_linux() && self.claimed.has(cpu)
-    }
-
-    /// True if the CPU may be chosen for a task.
-    pub fn is_free(&self, cpu: u32) -> bool
-        ensures { result ≡ is_free self.now cpu }
-    {
-        self.is_idle(cpu) && !self.is_claimed(cpu)
-    }
-
-    /// The processor of the task if it is free, else the lowest free one, if there is one.
-    pub fn choice(&self, task: u16) -> Option<u32>
-        ensures { result ≡ choice self.now task }
-    {
-        let prev = self.task(task).prev_cpu;
-        if self.is_free(prev) {
-            Some(prev)
-        } else {
-            self.first_free()
-        }
-    }
-
-    /// The processor of the task if it is free, else the lowest free one, else that one.
-    pub fn default_choice(&self, task: u16) -> u32
-        ensures { result ≡ default_choice self.now task }
-    {
-        match self.choice(task) {
-            Some(cpu) => cpu,
-            None => self.task(task).prev_cpu,
-        }
-    }
-
-    /// The lowest processor that is free.
-    #[tactic(auto, using(crate::proofs::Busy::lowest_free, crate::proofs::Busy::none_free))]
-    fn first_free(&self) -> Option<u32>
-        ensures { result ≡ first_free self.now }
-    {
-        let cpu = (!self.taken()).trailing_zeros();
-        if (cpu as usize) < self.cpus.len() {
-            Some(cpu)
-        } else {
-            None
-        }
-    }
-
-    /// The processors that aren't free, one bit each.
-    #[tactic(auto, using(crate::proofs::Busy::taken_claimed, crate::proofs::Busy::taken_unclaimed))]
-    pub(crate) fn taken(&self) -> u64
-        ensures { AreTaken result self.now }
-    {
-        let occupied = self.occupied();
-        if self.is_by_linux() {
-            self.claimed.with_bits(occupied)
-        } else {
-            occupied
-        }
-    }
-
-    /// The processors that aren't idle, one bit each.
-    #[tactic(auto, using(crate::proofs::Busy::occupied_none, crate::proofs::Busy::occupied_past, crate::proofs::Busy::occupied_set))]
-    fn occupied(&self) -> u64
-        ensures { AreOccupied result self.now }
-    {
-        match self.cycling {
-            Some(cpu) => {
-                if (cpu as usize) < self.cpus.len() {
-                    with_bit(self.busy, cpu, true)
-                } else {
-                    self.busy
-                }
-            }
-            None => self.busy,
-        }
-    }
-
-    /// Under Linux rules the processor is claimed, by the callback at hand.
-    pub fn claim(&mut self, cpu: Option<u32>)
-        ensures world { self.new ≡ after_claim self.old cpu }
-        ensures few { self.new.queues.pushes ≡ self.old.queues.pushes }
-    {
-        if let Some(cpu) = cpu {
-            if self.is_by_linux() {
-                self.claimed = self.claimed.and(cpu);
-                self.call.claims = self.call.claims.and(cpu);
-            }
-        }
-    }
-
     // ---- kicks
 
     /// The processor looks for work as the event ends.
@@ -638,6 +482,16 @@ impl World {
     {
         self.kicked = self.kicked.but(cpu);
         self.preempted = self.preempted.but(cpu);
+    }
+
+    /// Forgets which CPUs were claimed, kicked and preempted.
+    pub fn forget_marks(&mut self)
+        ensures world { self.new ≡ without_marks self.old }
+        ensures few { self.new.queues.pushes ≡ self.old.queues.pushes }
+    {
+        self.claimed = CpuSet::EMPTY;
+        self.kicked = CpuSet::EMPTY;
+        self.preempted = CpuSet::EMPTY;
     }
 
     /// True if the processor was kicked, and hasn't looked for work since.
@@ -812,6 +666,15 @@ impl World {
         self.call.insert = Some(insert);
     }
 
+    /// The callback at hand moved a task, or didn't.
+    pub fn set_moved(&mut self, moved: bool)
+        ensures world { self.new
+            ≡ record self.old { call = record self.old.call { has_moved = moved } } }
+        ensures few { self.new.queues.pushes ≡ self.old.queues.pushes }
+    {
+        self.call.has_moved = moved;
+    }
+
     /// True if the callback moved a task to a local queue.
     pub fn has_moved(&self) -> bool
         ensures { result ≡ self.now.call.has_moved }
@@ -854,30 +717,6 @@ fn are_linux(rules: Rules) -> bool
         Rules::Plain => false,
         Rules::Linux => true,
     }
-}
-
-/// Replaces the notes by the others, in the memory that there is.
-fn copy_notes(notes: &mut Vec<Note>, others: &[Note])
-    requires { length others.now ≤ vec_capacity notes.old }
-    ensures notes { notes.new.items ≡ others.now }
-    ensures room { vec_capacity notes.old ≤ vec_capacity notes.new }
-{
-    notes.clear();
-    match notes.extend_from_slice(others) {
-        Ok(()) => (),
-        Err(_) => unreachable!(),
-    }
-}
-
-/// A copy of the notes, in memory with room for those of a callback.
-fn duplicate_notes(alloc: Global, notes: &[Note]) -> Result<Vec<Note>, AllocError>
-    requires { length notes.now ≤ 4096 }
-    ensures notes { IfOk result (λ copy. copy.items ≡ notes.now) }
-    ensures room { IfOk result (λ copy. 4096 ≤ vec_capacity copy) }
-{
-    let mut copy = Vec::with_capacity(alloc, 4096)?;
-    copy_notes(&mut copy, notes);
-    Ok(copy)
 }
 
 /// The machine's own queues.

@@ -14,6 +14,7 @@ invariant_of-result c =
     (search rules)
     (search rules)
     (search rules)
+    (search rules)
     refl
     refl
     refl

@@ -12,6 +12,7 @@ invariant_of-self-2 c = record {
   weighed = c.self.invariant.weighed;
   few_tasks = c.self.invariant.few_tasks;
   few_cpus = c.self.invariant.few_cpus;
+  few_timers = c.self.invariant.few_timers;
   busy = c.self.invariant.busy;
   running = c.self.invariant.running;
   known_running = c.self.invariant.known_running;

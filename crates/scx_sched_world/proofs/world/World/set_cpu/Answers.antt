@@ -30,6 +30,7 @@ invariant_of-self c =
       weighed = is.weighed;
       few_tasks = is.few_tasks;
       few_cpus = rw (length-set w.cpus.items cpu c.args.task) is.few_cpus;
+      few_timers = is.few_timers;
       busy = busy_set w.busy _ cpu c.args.task w.cpus.items within is.few_cpus (c.with_bit-self-inside.ensures.here ∙ ap one_if c.is_some.ensures) c.with_bit-self-inside.ensures.others is.busy;
       running = subst (λ (bits : List ℕ). AreOn bits (set w.cpus.items cpu c.args.task)) (sym written) (on_set w.running_on.items now cpu c.args.task w.cpus.items within is.few_cpus count here others is.running);
       known_running = ap (λ (bits : List ℕ). length bits) written ∙ (count ∙ is.known_running);
