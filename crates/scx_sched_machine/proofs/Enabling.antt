@@ -3,7 +3,7 @@ use Rattle.std.proofs.Common.{◌≡◌, ℕ, zero, suc, ◌+◌, ◌<◌, ◌�
 use Rattle.std.proofs.lemmas.Bool.{cases_eq}
 use Rattle.scx_sched_machine.specs.Steps.{State, CallMade}
 use Rattle.scx_sched_machine.specs.Callbacks.{AreAnswered}
-use Rattle.scx_sched_machine.specs.Start.{enable, then_enable, after_enables, enable_calls, calls_below}
+use Rattle.scx_sched_machine.specs.Start.{then_enable, after_enables, enable_calls, calls_below}
 use Rattle.scx_sched_machine.specs.Hearing.{Hears}
 use Rattle.scx_sched_machine.proofs.Taking.{answered_append, Hears-append}
 
@@ -22,7 +22,7 @@ enabled_none (suc n) k s x l e = go (cases_eq k (suc n)) (λ d. enabled_none n k
     go (inr d) f = rw (f d) refl
 
 -- the next one fails
-pub enabled_fails : (n k : ℕ) (s t : State) (x : ℤ) → k < n → after_enables k s ≡ Ok t → enable t k ≡ Err x → after_enables n s ≡ Err x
+pub enabled_fails : (n k : ℕ) (s t : State) (x : ℤ) → k < n → after_enables k s ≡ Ok t → then_enable (Ok t) k ≡ Err x → after_enables n s ≡ Err x
 enabled_fails n k s t x l e f = enabled_none n (k + 1) s x (omega (arith, l)) (enabled_next k s ∙ rw e f)
 
 -- ---- their callbacks are answered
@@ -44,7 +44,7 @@ answered_none (suc n) k s x l e h = go (cases_eq k (suc n)) (λ d. answered_none
         answered_append (calls_below n s) (enable_calls (after_enables n s) n) (f d) (subst (λ o. AreAnswered (enable_calls o n)) (sym none) tt)
 
 -- and where it isn't, so are all up to it
-pub answered_fails : (n k : ℕ) (s t : State) (x : ℤ) → k < n → after_enables k s ≡ Ok t → enable t k ≡ Err x → AreAnswered (calls_below k s) → AreAnswered (enable_calls (Ok t) k) → AreAnswered (calls_below n s)
+pub answered_fails : (n k : ℕ) (s t : State) (x : ℤ) → k < n → after_enables k s ≡ Ok t → then_enable (Ok t) k ≡ Err x → AreAnswered (calls_below k s) → AreAnswered (enable_calls (Ok t) k) → AreAnswered (calls_below n s)
 answered_fails n k s t x l e f before next = answered_none n (k + 1) s x (omega (arith, l)) (enabled_next k s ∙ rw e f) (answered_next k s t e before next)
 
 -- ---- and a hearer is told of them
@@ -66,5 +66,5 @@ heard_none {T} hears (suc n) k s x a b l e h = go (cases_eq k (suc n)) (λ d. he
         Hears-append hears a b b (calls_below n s) (enable_calls (after_enables n s) n) (f d) (subst (λ o. Hears hears b (enable_calls o n) b) (sym none) refl)
 
 -- and where it isn't, of none after it
-pub heard_fails : {T : Type 0} (hears : T → CallMade → T → Type 0) (n k : ℕ) (s t : State) (x : ℤ) (a b c : T) → k < n → after_enables k s ≡ Ok t → enable t k ≡ Err x → Hears hears a (calls_below k s) b → Hears hears b (enable_calls (Ok t) k) c → Hears hears a (calls_below n s) c
+pub heard_fails : {T : Type 0} (hears : T → CallMade → T → Type 0) (n k : ℕ) (s t : State) (x : ℤ) (a b c : T) → k < n → after_enables k s ≡ Ok t → then_enable (Ok t) k ≡ Err x → Hears hears a (calls_below k s) b → Hears hears b (enable_calls (Ok t) k) c → Hears hears a (calls_below n s) c
 heard_fails hears n k s t x a b c l e f before next = heard_none hears n (k + 1) s x a c (omega (arith, l)) (enabled_next k s ∙ rw e f) (heard_next hears k s t a b c e before next)

@@ -9,15 +9,15 @@ use Rattle.scx_dsq.specs.Calls.{after_create, clashes}
 use Rattle.scx_dsq.specs.declared.entries.Rank.{Rank}
 use Rattle.scx_dsq.specs.declared.entries.Rank.TheVariants.{Front}
 use Rattle.scx_isa_semantics.specs.declared.host_tables.Helper.{Helper}
-use Rattle.scx_isa_semantics.specs.declared.host_tables.Helper.TheVariants.{CreateDsq, DsqInsert, DsqInsertVtime, DsqMoveToLocal, SelectCpuDfl, CpuIdle, DsqNrQueued, KickCpu, Exit, CpuCurr, DsqPeek, PickIdle, ClaimIdle}
+use Rattle.scx_isa_semantics.specs.declared.host_tables.Helper.TheVariants.{CreateDsq, DsqInsert, DsqInsertVtime, DsqMoveToLocal, SelectCpuDfl, CpuIdle, DsqNrQueued, KickCpu, Exit, CpuCurr, DsqPeek, PickIdle, ClaimIdle, TimerStart, TimerCancel}
 use Rattle.scx_vm.specs.declared.arguments.Arg.{Arg}
 use Rattle.scx_sched_world.specs.declared.call.Insert.{Insert}
 use Rattle.scx_sched_world.specs.declared.faults.Fault.{Fault}
 use Rattle.scx_sched_world.specs.declared.kicks.Kick.{Kick}
 use Rattle.scx_sched_world.specs.declared.faults.Fault.TheVariants.{Stuck, NoSuchQueue, CannotInsert, NoSuchCpu, UnknownFlag, CannotCreate}
 use Rattle.scx_sched_world.specs.Ids.{policy_end, global, local, local_on}
-use Rattle.scx_sched_world.specs.World.{WorldState, with_queues, is_by_linux, this_if, is_free, choice, after_claim}
-use Rattle.scx_sched_world.specs.Helpers.{is_there, can_create, with_fault, is_dispatch, is_held, may_insert, is_vtime, queue_fault, rank_fault, or_fault, are_linux_flags, are_known, arrival_rank, flags_fault, insert_fault, is_late, insert_or_fault, with_move, after_late, after_insert, after_move, insert_of, insert_of_vtime, front_moved_to_local, after_choice, kick_of, kick_fault, kicked_so, kicked_or_fault, after_kick, after_exit, first_free_in, after_pick_by, after_pick, given_number, given_task, helper_after}
+use Rattle.scx_sched_world.specs.World.{WorldState, with_queues, is_by_linux, is_this, this_if, is_free, choice, after_claim}
+use Rattle.scx_sched_world.specs.Helpers.{is_there, can_create, with_fault, is_dispatch, is_held, may_insert, is_vtime, queue_fault, rank_fault, or_fault, are_linux_flags, are_known, arrival_rank, flags_fault, insert_fault, is_late, insert_or_fault, with_move, after_late, after_insert, after_move, insert_of, insert_of_vtime, front_moved_to_local, after_choice, kick_of, kick_fault, kicked_so, kicked_or_fault, after_kick, after_exit, untracked_fault, cpu_fault, ask_fault, fault_or, first_free_in, pick_flags_fault, pick_fault, after_pick_by, after_pick, timer_fault, with_timer, alarm_in, given_number, given_task, helper_after}
 use Rattle.scx_sched_machine.proofs.Choices.{keeps_if}
 
 -- ---- the fault of a helper call
@@ -56,6 +56,18 @@ other_insert w t i flags =
     (other_or (flags_fault w flags) _ (other_flags w flags) (other_or (queue_fault w i.queue) (rank_fault w i.queue i.rank) (other_queue w i.queue) (other_rank w i.queue i.rank)))
     (λ e. absurd (cc))
 
+other_untracked : (w : WorldState) → IsOther (untracked_fault w)
+other_untracked w = other_if w.tracks_idle _ _ no_fault (λ e. absurd (cc))
+
+other_ask : (w : WorldState) (c : ℕ) → IsOther (ask_fault w c)
+other_ask w c = other_or (untracked_fault w) (cpu_fault w c) (other_untracked w) (other_if (nat_lt c (length w.cpus)) _ _ no_fault (λ e. absurd (cc)))
+
+other_pick : (w : WorldState) (flags : ℕ) → IsOther (pick_fault w flags)
+other_pick w flags = other_or (untracked_fault w) (pick_flags_fault flags) (other_untracked w) (other_if (nat_le flags 1) _ _ no_fault (λ e. absurd (cc)))
+
+other_timer : (w : WorldState) (n : ℕ) → IsOther (timer_fault w n)
+other_timer w n = other_if (nat_lt n (length w.timers)) _ _ no_fault (λ e. absurd (cc))
+
 -- ---- inserts to the front of a queue
 
 -- a rank by which a task doesn't go to the front
@@ -89,7 +101,7 @@ arrives w flags fine plain = go (nat_le flags 1) refl (subst (λ b. (if (if b th
 
 -- what a helper call may leave has the property: the world as it is, one with a fault that helpers have or with an
 -- end of the policy's own, with a queue created, with an insert kept or done at once, or too late, with a task moved
--- in dispatch, with a processor claimed or kicked
+-- in dispatch, with a processor claimed or kicked, with a timer started or cancelled
 pub record HoldsAfterCalls (P : WorldState → Type 0) (w : WorldState) : Type 0 where
   pub same : P w
   pub faulty : (f : Fault) → IsOther (Some f) → P (with_fault w f)
@@ -99,6 +111,8 @@ pub record HoldsAfterCalls (P : WorldState → Type 0) (w : WorldState) : Type 0
   pub late : is_by_linux w ≡ true → is_dispatch w.call.callback ≡ true → P (with_move w)
   pub claimed : (o : Option ℕ) → P (after_claim w o)
   pub kicked : (c : ℕ) (k : Kick) → P (kicked_so w c k)
+  pub started : (n ns : ℕ) → P (with_timer w n (Some (alarm_in w ns)))
+  pub cancelled : (n : ℕ) → P (with_timer w n None)
   pub moved : (q : ℕ) → is_dispatch w.call.callback ≡ true → q < policy_end → P (front_moved_to_local w (front_of w.queues q) q)
 
 module _ (P : WorldState → Type 0) (w : WorldState) (h : HoldsAfterCalls P w) where
@@ -128,9 +142,14 @@ module _ (P : WorldState → Type 0) (w : WorldState) (h : HoldsAfterCalls P w) 
       go true false d here low = h.faulty NoSuchQueue (λ e. absurd (cc))
       go false c d here low = h.faulty NoSuchQueue (λ e. absurd (cc))
 
+  -- a fault, or what is done without one
+  or_done : (o : Option Fault) (v : WorldState) → IsOther o → P v → P (fault_or w o v)
+  or_done None v other done = done
+  or_done (Some f) v other done = h.faulty f other
+
   chooses : (t : Option ℕ) → P (after_choice w t)
   chooses None = h.same
-  chooses (Some t) = h.claimed (choice w t)
+  chooses (Some t) = or_done (untracked_fault w) (after_claim w (choice w t)) (other_untracked w) (h.claimed (choice w t))
 
   kicks : (c flags : ℕ) → P (after_kick w c flags)
   kicks c flags = go (kick_of flags)
@@ -144,11 +163,11 @@ module _ (P : WorldState → Type 0) (w : WorldState) (h : HoldsAfterCalls P w) 
           at false = h.faulty NoSuchCpu (λ e. absurd (cc))
 
   picks : (mask flags : ℕ) → P (after_pick w mask flags)
-  picks mask flags = go (nat_le flags 1)
+  picks mask flags = go (pick_fault w flags) (other_pick w flags)
     where
-      go : (b : Bool) → P (after_pick_by (if b then None else Some UnknownFlag) w (first_free_in mask w))
-      go true = h.claimed (first_free_in mask w)
-      go false = h.faulty UnknownFlag (λ e. absurd (cc))
+      go : (o : Option Fault) → IsOther o → P (after_pick_by o w (first_free_in mask w))
+      go None other = h.claimed (first_free_in mask w)
+      go (Some f) other = h.faulty f other
 
   -- whichever helper is called, and whatever it is given
   pub by_helper : (f : Helper) (a : List Arg) → P (helper_after w f a)
@@ -158,7 +177,7 @@ module _ (P : WorldState → Type 0) (w : WorldState) (h : HoldsAfterCalls P w) 
   by_helper DsqMoveToLocal a = moves (given_number a 0)
   by_helper SelectCpuDfl a = chooses (given_task a 0)
   by_helper KickCpu a = kicks (given_number a 0) (given_number a 1)
-  by_helper CpuIdle a = keeps_if P (nat_lt (given_number a 0) (length w.cpus)) w (with_fault w NoSuchCpu) h.same (h.faulty NoSuchCpu (λ e. absurd (cc)))
+  by_helper CpuIdle a = or_done (ask_fault w (given_number a 0)) w (other_ask w (given_number a 0)) h.same
   by_helper DsqNrQueued a = keeps_if P (is_there w (given_number a 0)) w (with_fault w NoSuchQueue) h.same (h.faulty NoSuchQueue (λ e. absurd (cc)))
   by_helper Exit a = h.ended (given_number a 0)
   by_helper CpuCurr a = keeps_if P (nat_lt (given_number a 0) (length w.cpus)) w (with_fault w NoSuchCpu) h.same (h.faulty NoSuchCpu (λ e. absurd (cc)))
@@ -166,5 +185,12 @@ module _ (P : WorldState → Type 0) (w : WorldState) (h : HoldsAfterCalls P w) 
   by_helper PickIdle a = picks (given_number a 0) (given_number a 1)
   by_helper ClaimIdle a =
       let c = given_number a 0 in
-      keeps_if P (nat_lt c (length w.cpus)) (after_claim w (this_if (is_free w c) c)) (with_fault w NoSuchCpu) (h.claimed (this_if (is_free w c) c)) (h.faulty NoSuchCpu (λ e. absurd (cc)))
+      or_done (ask_fault w c) (after_claim w (this_if (is_free w c) c)) (other_ask w c) (h.claimed (this_if (is_free w c) c))
+  by_helper TimerStart a =
+      let n = given_number a 0 in
+      let ns = given_number a 1 in
+      or_done (timer_fault w n) (with_timer w n (Some (alarm_in w ns))) (other_timer w n) (h.started n ns)
+  by_helper TimerCancel a =
+      let n = given_number a 0 in
+      or_done (timer_fault w n) (if is_this n w.passing.timer then w else with_timer w n None) (other_timer w n) (keeps_if P (is_this n w.passing.timer) w (with_timer w n None) h.same (h.cancelled n))
   by_helper f a = h.same

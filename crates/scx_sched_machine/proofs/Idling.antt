@@ -1,5 +1,5 @@
 -- A processor on which nobody runs stays idle where nobody waits for it and there is no dispatch.
-use Rattle.std.proofs.Common.{arith, ◌≡◌, ℕ, ◌==◌, ◌&&◌, not, Bool, true, false, if◌then◌else◌, is_some, is_none, Option, Some, None, refl, ap, ◌∙◌}
+use Rattle.std.proofs.Common.{arith, ◌≡◌, ℕ, ◌==◌, ◌&&◌, not, Bool, true, false, if◌then◌else◌, is_some, is_none, [], Option, Some, None, refl, ap, ◌∙◌}
 use Rattle.std.proofs.lemmas.Bool.{and_parts, eqb-true}
 use Rattle.scx_dsq.specs.Queues.{QueueState, len_of, front_of}
 use Rattle.scx_isa_semantics.specs.declared.callbacks.Callback.TheVariants as callback
@@ -13,9 +13,10 @@ use Rattle.scx_sched_world.specs.Tasks.{local_len}
 use Rattle.scx_sched_machine.specs.Policy.{program_of}
 use Rattle.scx_sched_machine.specs.Steps.{State, Stepped, with_world, is_ejected, is_by_linux, kicked, stays, one_after_other}
 use Rattle.scx_sched_machine.specs.Ejecting.{ejected_for}
-use Rattle.scx_sched_machine.specs.Callbacks.{unless_ejected, acting, call_ending, after_callback, calls_of, cause_of, call_back, cpu_and_task}
+use Rattle.scx_sched_machine.specs.Callbacks.{unless_ejected, acting, call_ending, after_callback, calls_of, cause_of, call_back, noted_by, cpu_and_task}
+use Rattle.scx_sched_machine.specs.Custody.{moved_as, hears_dequeue, tells_left}
 use Rattle.scx_sched_machine.specs.Parking.{supply}
-use Rattle.scx_sched_machine.specs.Cycle.{has_local, after_dispatch, supply_unless_kept, told_of, asks_again, tries, rest, builtin_cycle, pick, pick_or_rest, keep_or_pick, conclude, give_up, ask, seek, look, cycling, stays_idle, idles, cycle}
+use Rattle.scx_sched_machine.specs.Cycle.{has_local, dispatch_called, after_dispatch, supply_unless_kept, told_of, asks_again, tries, rest, builtin_cycle, pick, pick_or_rest, keep_or_pick, conclude, give_up, ask, seek, look, cycling, stays_idle, idles, falls_idle, concluded, cycle}
 use Rattle.scx_sched_machine.proofs.Choices.{keeps_if}
 use Rattle.scx_sched_machine.proofs.Free.{supply_nobody}
 use Rattle.scx_sched_machine.proofs.Tries.{tries_last}
@@ -54,10 +55,39 @@ no_call s c h =
     let none : acting s callback.Dispatch ≡ None = ap (λ o. unless_ejected o (program_of s.policy callback.Dispatch)) h.force ∙ h.unasked in
     ap (λ p. called_with s c p) none
 
+no_notes : (s : State) (c : ℕ) → Rests s c → noted_by s callback.Dispatch (cpu_and_task c (told_of s None)) 0 c ≡ []
+unfolding noted_by call_ending
+no_notes s c h =
+    let none : acting s callback.Dispatch ≡ None = ap (λ o. unless_ejected o (program_of s.policy callback.Dispatch)) h.force ∙ h.unasked in
+    ap (λ p. (call_ending p callback.Dispatch (cpu_and_task c (told_of s None)) s.maps (at_callback s.world callback.Dispatch 0 c)).outside.notes) none
+
+moved_already : (s : State) → moved_as s.world.call.has_moved s ≡ s
+moved_already s = go (is_ejected s)
+  where
+    go : (b : Bool) → (if b then s else with_world s (record s.world { call = record s.world.call { has_moved = s.world.call.has_moved } })) ≡ s
+    go true = refl
+    go false = refl
+
+-- where nothing was noted nobody left custody
+nobody_left : (s : State) (c : ℕ) → tells_left s c [] ≡ stays s
+unfolding tells_left
+nobody_left s c = go (hears_dequeue s)
+  where
+    go : (b : Bool) → (if b then record (stays s) { state = moved_as s.world.call.has_moved s } else stays s) ≡ stays s
+    go true = ap (λ v. stays v) (moved_already s)
+    go false = refl
+
+dispatch_rests : (s : State) (c : ℕ) → Rests s c → dispatch_called s c None ≡ stays (called s c)
+unfolding dispatch_called
+dispatch_rests s c h =
+    ap (λ r. one_after_other r (tells_left r.state c (noted_by s callback.Dispatch (cpu_and_task c (told_of s None)) 0 c))) (no_call s c h)
+    ∙ ap (λ ns. one_after_other (stays (called s c)) (tells_left (called s c) c ns)) (no_notes s c h)
+    ∙ ap (λ r. one_after_other (stays (called s c)) r) (nobody_left (called s c) c)
+
 no_dispatch : (s : State) (c : ℕ) → Rests s c → after_dispatch s c None ≡ stays (called s c)
 unfolding after_dispatch supply_unless_kept
 no_dispatch s c h =
-    ap (λ r. one_after_other r (supply r.state c)) (no_call s c h)
+    ap (λ r. one_after_other r (supply r.state c)) (dispatch_rests s c h)
     ∙ ap (λ r. one_after_other (stays (called s c)) r) (supply_nobody (called s c) c h.free h.nobody)
 
 no_tries : (s : State) (c : ℕ) → Rests s c → tries 32 s c None ≡ stays (called s c)
@@ -122,7 +152,7 @@ begins_alike w c = keeps_if (LooksAlike w) (world.is_by_linux w) (cycling_by_lin
 
 -- where the processor stays idle, a cycle comes to nothing
 pub idle_cycle : (s : State) (c : ℕ) → stays_idle s c ≡ true → cycle s c None false ≡ idles s c
-unfolding stays_idle cycle look idles
+unfolding stays_idle cycle look idles concluded falls_idle
 idle_cycle s c e =
     let begun = cycling s (Some c) in
     let first = and_parts (is_none (program_of s.policy callback.Dispatch)) _ e in
@@ -140,4 +170,4 @@ idle_cycle s c e =
     } in
     let nothing : look begun c None false ≡ stays (called begun c) =
     ap (λ b. if b then builtin_cycle begun c None false else seek begun c None false) (ap is_some force) ∙ no_seek begun c h in
-    ap (λ (r : Stepped). record r { state = cycling r.state None }) nothing
+    ap (λ (r : Stepped). one_after_other r (stays (cycling r.state None))) nothing

@@ -1,5 +1,5 @@
 -- By plain rules less is asked: what steps come to where the machine doesn't go by Linux rules.
-use Rattle.std.proofs.Common.{◌≡◌, ℕ, ◌-◌, ◌<◌, Bool, true, false, ◌==◌, ◌&&◌, not, if◌then◌else◌, length, [], ◌∷◌, Option, Some, None, refl, ap, ◌∙◌}
+use Rattle.std.proofs.Common.{◌≡◌, ℕ, ◌-◌, ◌<◌, Bool, true, false, ◌==◌, ◌&&◌, not, if◌then◌else◌, is_some, length, [], ◌∷◌, Option, Some, None, refl, ap, ◌∙◌}
 use Rattle.scx_dsq.specs.Queues.{front_of}
 use Rattle.scx_isa_semantics.specs.declared.callbacks.Callback.TheVariants as callback
 use Rattle.scx_vm.specs.Programs.{VerifiedProgram}
@@ -11,12 +11,15 @@ use Rattle.scx_sched_world.specs.World.{WorldState, with_task, with_waker, task_
 use Rattle.scx_sched_world.specs.Tasks.{with_home, homed, after_stop, for_cpu, to_front}
 use Rattle.scx_sched_world.specs.Ejecting.{after_charge}
 use Rattle.scx_sched_machine.specs.Steps.{State, Stepped, with_world, stays, after, one_after_other, is_ejected, is_by_linux, kicked, kicked_if_idle}
-use Rattle.scx_sched_machine.specs.Callbacks.{acting, call_back, answered_by, task_cpu_and_0, task_and_number, cpu_and_task}
+use Rattle.scx_sched_machine.specs.Callbacks.{acting, call_back, call_by_linux, answered_by, task_cpu_and_0, task_and_number, two_numbers, cpu_and_task}
+use Rattle.scx_sched_machine.specs.Policy.{program_of}
+use Rattle.scx_sched_machine.specs.Custody.{hears_dequeue}
 use Rattle.scx_sched_machine.specs.Put.{enters, enters_builtin, enqueue_choice, comes_in, put}
 use Rattle.scx_sched_machine.specs.Parking.{supply}
-use Rattle.scx_sched_machine.specs.Cycle.{keeps_slice, supply_unless_kept, told_of, after_dispatch, moved_in_vain, asks_again, tries, after_stopping, put_back, leave, builtin_cycle, start_or_cycle, picked, refilled, start_picked_or_cycle, pick, pick_or_rest, keep_or_pick, conclude, give_up, cycle}
+use Rattle.scx_sched_machine.specs.Cycle.{keeps_slice, supply_unless_kept, told_of, after_dispatch, moved_in_vain, asks_again, tries, after_stopping, put_back, leave, builtin_cycle, start_or_cycle, picked, refilled, start_picked_or_cycle, tells_idle, tells_busy, makes_way, pick, pick_or_rest, keep_or_pick, conclude, give_up, cycle}
 use Rattle.scx_sched_machine.specs.Events.{target, insert_or_put, woken, wake_target, comes_to, told_runnable, settle, inserted_by_choice, chosen, ask_target, select, from_waker}
 use Rattle.scx_sched_machine.proofs.Choices.{keeps_if}
+use Rattle.scx_sched_machine.proofs.Leaving.{dispatch_unheard}
 use Rattle.scx_sched_machine.proofs.Steady.{steady, steady_entered, steady_builtin, plain_as, plain_called, plain_supplied}
 use Rattle.scx_sched_machine.proofs.Tries.{tries_none, tries_again, tries_last}
 
@@ -114,6 +117,11 @@ keeps_plainly : (s : State) (p : Option ℕ) → is_by_linux s ≡ false → kee
 keeps_plainly s None plain = refl
 keeps_plainly s (Some t) plain = ap (λ b. b && not ((task_at s.world t).slice == 0)) plain
 
+-- nothing is heard of who leaves custody
+unheard_plainly : (s : State) → is_by_linux s ≡ false → hears_dequeue s ≡ false
+unfolding hears_dequeue
+unheard_plainly s plain = ap (λ b. b && is_some (program_of s.policy callback.Dequeue)) plain
+
 -- no task before keeps the processor
 pub dispatches : (s : State) (c : ℕ) (p : Option ℕ) → is_by_linux s ≡ false → after_dispatch s c p ≡ (
     let r = call_back s callback.Dispatch (cpu_and_task c (told_of s p)) 0 c in
@@ -121,7 +129,8 @@ pub dispatches : (s : State) (c : ℕ) (p : Option ℕ) → is_by_linux s ≡ fa
 unfolding after_dispatch supply_unless_kept
 dispatches s c p plain =
     let r = call_back s callback.Dispatch (cpu_and_task c (told_of s p)) 0 c in
-    ap (λ b. one_after_other r (if b then stays r.state else supply r.state c)) (keeps_plainly r.state p (plain_called s callback.Dispatch (cpu_and_task c (told_of s p)) 0 c plain))
+    ap (λ (x : Stepped). one_after_other x (supply_unless_kept x.state c p)) (dispatch_unheard s c p (unheard_plainly s plain))
+    ∙ ap (λ b. one_after_other r (if b then stays r.state else supply r.state c)) (keeps_plainly r.state p (plain_called s callback.Dispatch (cpu_and_task c (told_of s p)) 0 c plain))
 
 plain_dispatched : (s : State) (c : ℕ) (p : Option ℕ) → is_by_linux s ≡ false → is_by_linux (after_dispatch s c p).state ≡ false
 plain_dispatched s c p plain =
@@ -176,8 +185,16 @@ picked_none : (s : State) (c : ℕ) → is_by_linux s ≡ false → picked s c �
 unfolding picked
 picked_none s c plain = ap (λ b. if b then front_of s.world.queues (local_on c) else None) plain
 
+-- nothing is heard of a processor that isn't idle any more
+busy_plainly : (s : State) (c : ℕ) (p : Option ℕ) (ran : Bool) → is_by_linux s ≡ false → tells_busy s c p ran ≡ stays s
+unfolding tells_busy tells_idle call_by_linux
+busy_plainly s c None false plain = ap (λ b. if b && is_some (program_of s.policy callback.UpdateIdle) then call_back s callback.UpdateIdle (two_numbers c 0) 0 c else stays s) plain
+busy_plainly s c None true plain = refl
+busy_plainly s c (Some t) ran plain = refl
+
 -- nobody is picked before the task before leaves
 pub picks : (s : State) (c : ℕ) (p : Option ℕ) (ran : Bool) → is_by_linux s ≡ false → pick s c p ran ≡ one_after_other (leave s c p) (start_or_cycle (leave s c p).state c ran)
-unfolding pick
+unfolding pick makes_way
 picks s c p ran plain =
-    ap (λ (o : Option ℕ). let l = leave (refilled s o) c p in one_after_other l (start_picked_or_cycle o l.state c ran)) (picked_none s c plain)
+    ap (λ (o : Option ℕ). let l = makes_way (refilled s o) c p ran in one_after_other l (start_picked_or_cycle o l.state c ran)) (picked_none s c plain)
+    ∙ ap (λ (b : Stepped). let l = one_after_other b (leave b.state c p) in one_after_other l (start_or_cycle l.state c ran)) (busy_plainly s c p ran plain)

@@ -26,7 +26,7 @@ use Rattle.scx_sched_world.specs.Ids.{global, local_on}
 use Rattle.scx_sched_world.specs.World.{WorldState, with_queues, with_task, are_linux, is_by_linux, task_at, waits, running, is_this, with_kick, after_claim, at_callback}
 use Rattle.scx_sched_world.specs.Tasks.{after_leave, homed, homed_at, local_cpu, task_after_insert, rank_by, after_preempt_of, after_preempt_at, after_preempt, after_enter, for_cpu, after_local, brought, fill_front, put_parked, after_take}
 use Rattle.scx_sched_world.specs.Ejecting.{eject_of, put_out, put_builtin, after_evictions, after_cut, cut_task}
-use Rattle.scx_sched_world.specs.Helpers.{with_fault, is_dispatch, with_insert, insert_or_fault, after_release, with_move, front_moved_to_local, kicked_so, after_exit, helper_after, stored_in, world_functions}
+use Rattle.scx_sched_world.specs.Helpers.{with_fault, is_dispatch, with_insert, insert_or_fault, after_release, with_move, front_moved_to_local, kicked_so, after_exit, with_timer, alarm_in, helper_after, stored_in, world_functions}
 use Rattle.scx_sched_machine.specs.Steps.{State, Stepped}
 use Rattle.scx_sched_machine.specs.Ejecting.{moves_over, eject, ejected_for}
 use Rattle.scx_sched_machine.specs.Filling.{fill}
@@ -150,6 +150,8 @@ module _ (v : WorldState) where
     late = λ linux here. steady_as w (with_move w) refl refl refl h;
     claimed = λ o. steady_claimed w o h;
     kicked = λ c k. steady_kicked w c k h;
+    started = λ n ns. steady_as w (with_timer w n (Some (alarm_in w ns))) refl refl refl h;
+    cancelled = λ n. steady_as w (with_timer w n None) refl refl refl h;
     moved = λ q here low. steady_moved w _ q h;
   }) f a
 
@@ -222,7 +224,7 @@ plain_as w u h plain =
     ap (λ r. are_linux r && is_none u.ejected) h.rules ∙ ap (λ (o : Option Eject). are_linux w.rules && is_none o) h.ejected ∙ plain
 
 -- once the policy is out of force the machine goes by plain rules
-plain_out : (w : WorldState) (x : Eject) → w.ejected ≡ Some x → is_by_linux w ≡ false
+pub plain_out : (w : WorldState) (x : Eject) → w.ejected ≡ Some x → is_by_linux w ≡ false
 plain_out w x e = ap (λ (o : Option Eject). are_linux w.rules && is_none o) e ∙ and_false (are_linux w.rules)
 
 -- where the machine goes by plain rules it still does after a callback

@@ -25,7 +25,7 @@ use Rattle.scx_sched_world.specs.declared.kicks.Kick.{Kick}
 use Rattle.scx_sched_world.specs.declared.kicks.Kick.TheVariants.{Any, IfIdle, Preempt}
 use Rattle.scx_sched_world.specs.World.{WorldState, with_queues, with_task, is_by_linux, task_at, running, is_this, with_kick, after_claim, at_callback}
 use Rattle.scx_sched_world.specs.Ejecting.{eject_of}
-use Rattle.scx_sched_world.specs.Helpers.{with_fault, is_dispatch, with_insert, insert_or_fault, with_move, kicked_so, after_exit, helper_after, stored_in, world_functions}
+use Rattle.scx_sched_world.specs.Helpers.{with_fault, is_dispatch, with_insert, insert_or_fault, with_move, kicked_so, after_exit, with_timer, alarm_in, helper_after, stored_in, world_functions}
 use Rattle.scx_sched_machine.specs.Steps.{State, Stepped, is_ejected}
 use Rattle.scx_sched_machine.specs.Ejecting.{ejected_for}
 use Rattle.scx_sched_machine.specs.Budgets.{eject_pushes, enter_pushes, eject_left, pushes_due}
@@ -93,6 +93,8 @@ module _ (v : WorldState) where
     late = λ linux here. calm_as w (with_move w) refl refl refl refl h;
     claimed = λ o. calm_claimed w o h;
     kicked = λ c k. calm_kicked w c k h;
+    started = λ n ns. calm_as w (with_timer w n (Some (alarm_in w ns))) refl refl refl refl h;
+    cancelled = λ n. calm_as w (with_timer w n None) refl refl refl refl h;
     moved = λ q here low. absurd (is_not here);
   }) f a
     where
@@ -130,7 +132,8 @@ left_few s = go (is_ejected s)
     go true = omega arith
     go false = omega arith
 
-left_out : (s : State) (x : Eject) → s.world.ejected ≡ Some x → eject_left s ≡ 0
+-- where it is out of force, none are
+pub left_out : (s : State) (x : Eject) → s.world.ejected ≡ Some x → eject_left s ≡ 0
 unfolding eject_left
 left_out s x e = ap (λ (o : Option Eject). cond (is_some o) 0 eject_pushes) e
 

@@ -37,13 +37,21 @@ eject_pushes = most_tasks
 abbrev pub program_pushes : ℕ
 program_pushes = 4096
 
--- enable is called for each task
+-- enable and `set_weight` are called for each task
 abbrev pub enable_pushes : ℕ
-enable_pushes = program_pushes * most_tasks
+enable_pushes = (program_pushes + program_pushes) * most_tasks
 
--- init is called, and then enable for each task
+-- the most processors that there are
+abbrev pub most_cpus : ℕ
+most_cpus = 64
+
+-- `update_idle` is called for each processor
+abbrev pub idle_pushes : ℕ
+idle_pushes = program_pushes * most_cpus
+
+-- init is called, then what is called for each task, and for each processor
 abbrev pub start_pushes : ℕ
-start_pushes = program_pushes + enable_pushes
+start_pushes = program_pushes + (enable_pushes + idle_pushes)
 
 -- a program runs, and the policy is ejected
 abbrev pub callback_pushes : ℕ
@@ -69,9 +77,13 @@ builtin_dispatch_pushes = enter_pushes * most_tasks + fill_pushes
 
 -- ---- a cycle
 
--- dispatch is called once, and the local queue supplied
+-- callbacks that move nobody are called, of which one may eject the policy
+abbrev pub calm_pushes : ℕ
+calm_pushes = eject_pushes + callback_pushes
+
+-- dispatch is called once, `dequeue` for those who left, and the local queue supplied
 abbrev pub dispatch_pushes : ℕ
-dispatch_pushes = callback_pushes + supply_pushes
+dispatch_pushes = callback_pushes + calm_pushes + supply_pushes
 
 -- the policy hears that a task left, and the task is put
 abbrev pub leave_pushes : ℕ
@@ -89,17 +101,26 @@ builtin_ask_pushes = builtin_dispatch_pushes + swap_pushes
 abbrev pub builtin_cycle_pushes : ℕ
 builtin_cycle_pushes = supply_pushes + builtin_ask_pushes
 
--- a task leaves, and where that ejects the policy the cycle begins anew
+-- the policy hears that a processor isn't idle any more, a task leaves, and where that ejects the
+-- policy the cycle begins anew
 abbrev pub pick_pushes : ℕ
-pick_pushes = leave_pushes + builtin_cycle_pushes
+pick_pushes = callback_pushes + leave_pushes + builtin_cycle_pushes
 
 -- dispatch is called 32 times at most, and a task picked
 abbrev pub ask_pushes : ℕ
 ask_pushes = dispatch_pushes * 32 + pick_pushes
 
 -- the local queue is supplied before dispatch is called
+abbrev pub look_pushes : ℕ
+look_pushes = supply_pushes + ask_pushes
+
+-- the policy hears that the processor is idle, and where that ejects it the cycle begins anew
+abbrev pub fall_idle_pushes : ℕ
+fall_idle_pushes = callback_pushes + builtin_cycle_pushes
+
+-- a whole cycle
 abbrev pub cycle_pushes : ℕ
-cycle_pushes = supply_pushes + ask_pushes
+cycle_pushes = look_pushes + fall_idle_pushes
 
 -- ---- events
 
@@ -123,6 +144,10 @@ sleep_pushes = callback_pushes + callback_pushes + cycle_pushes
 abbrev pub throttle_pushes : ℕ
 throttle_pushes = callback_pushes + enter_pushes + cycle_pushes
 
+-- the policy hears of a task's weight in five callbacks, and the task is put
+abbrev pub reweigh_pushes : ℕ
+reweigh_pushes = callback_pushes * 5 + put_pushes
+
 -- and it hears of a tick before
 abbrev pub tick_pushes : ℕ
 tick_pushes = callback_pushes + throttle_pushes
@@ -145,13 +170,13 @@ CanLetGo n s = pushes_due s + enter_pushes * n + put_pushes ≤ most_pushes
 abbrev pub let_go_pushes : ℕ
 let_go_pushes = eject_pushes + enter_pushes * most_tasks
 
--- and the watchdog may eject it
+-- timers run, and the watchdog may eject it
 abbrev pub clock_pushes : ℕ
-clock_pushes = let_go_pushes + eject_pushes
+clock_pushes = let_go_pushes + calm_pushes + eject_pushes
 
 -- whatever the event, before its rounds
 abbrev pub own_pushes : ℕ
-own_pushes = 2 ^ 19
+own_pushes = 2 ^ 20
 
 -- the rounds of an event, each of them a cycle
 abbrev pub rounds_pushes : ℕ
@@ -159,4 +184,4 @@ rounds_pushes = cycle_pushes * 256
 
 -- whatever the event, with its rounds
 abbrev pub event_pushes : ℕ
-event_pushes = 2 ^ 27
+event_pushes = 3 * 2 ^ 26

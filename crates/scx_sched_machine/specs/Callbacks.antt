@@ -15,6 +15,7 @@ use Rattle.scx_vm.specs.Host.{host, answer_to, after_query}
 use Rattle.scx_sched_world.specs.declared.eject.Cause.{Cause}
 use Rattle.scx_sched_world.specs.declared.eject.Cause.TheVariants as reason
 use Rattle.scx_sched_world.specs.declared.eject.Eject.{Eject}
+use Rattle.scx_sched_world.specs.declared.notes.Note.{Note}
 use Rattle.scx_sched_world.specs.declared.faults.Fault.{Fault}
 use Rattle.scx_sched_world.specs.declared.faults.Fault.TheVariants.{Stuck, NoSuchCpu}
 use Rattle.scx_sched_world.specs.World.{WorldState, at_callback, quiet}
@@ -107,6 +108,11 @@ call_by_linux s b a t c =
 unfoldable pub answered_by : State → Callback → Args → ℕ → ℕ → Option ℕ
 answered_by s b a t c = (call_ending (acting s b) b a s.maps (at_callback s.world b t c)).answer
 
+-- what its program notes while it runs
+unfoldable pub noted_by : State → Callback → Args → ℕ → ℕ → List Note
+noted_by s b a t c =
+    (call_ending (acting s b) b a s.maps (at_callback s.world b t c)).outside.notes
+
 -- a callback that is called is never stuck: it comes to an answer, in no more steps than its
 -- program has instructions
 pub record IsAnswered (c : CallMade) : Type 0 where
@@ -141,6 +147,14 @@ task_cpu_and_0 t c = record { first = task_argument t; second = Num c; third = N
 -- a task and a number: the flags of enqueue, or whether the task stays runnable
 abbrev pub task_and_number : ℕ → ℕ → Args
 task_and_number t n = record { first = task_argument t; second = Num n; third = Unset }
+
+-- a number and nothing else, as `timer` is given
+abbrev pub one_number : ℕ → Args
+one_number n = record { first = Num n; second = Unset; third = Unset }
+
+-- two numbers, as `update_idle` is given
+abbrev pub two_numbers : ℕ → ℕ → Args
+two_numbers n m = record { first = Num n; second = Num m; third = Unset }
 
 -- a pointer to a task, or the number 0 where there is no task
 abbrev pub task_or_0 : Option ℕ → Arg

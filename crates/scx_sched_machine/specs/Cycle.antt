@@ -1,18 +1,19 @@
 -- The scheduling cycle (sched-ext.rst, "Scheduling Cycle"): a processor looks for the task
 -- that it runs next.
-use Rattle.std.specs.Prelude.{ℕ, zero, suc, Bool, true, false, ◌&&◌, ◌==◌, not, List, [], ◌∷◌, if◌then◌else◌, Option, Some, None, is_none}
+use Rattle.std.specs.Prelude.{ℕ, zero, suc, Bool, true, false, ◌&&◌, ◌==◌, not, List, [], ◌∷◌, if◌then◌else◌, Option, Some, None, is_none, is_some}
 use Rattle.scx_dsq.specs.Queues.{front_of, len_of, entry_of, is_in}
 use Rattle.scx_isa_semantics.specs.declared.callbacks.Callback.TheVariants as callback
 use Rattle.scx_sched_world.specs.declared.notes.Note.{Note}
 use Rattle.scx_sched_world.specs.declared.notes.What.TheVariants.{Stop, Run, Idle}
 use Rattle.scx_weights.specs.Limits.{has_quota}
 use Rattle.scx_sched_world.specs.Ids.{global, builtin_queue, local_on}
-use Rattle.scx_sched_world.specs.World.{WorldState, or_this, with_cycling, task_at, at_callback, note_now}
+use Rattle.scx_sched_world.specs.World.{WorldState, or_this, with_cycling, out_of_cycle, task_at, running, at_callback, note_now}
 use Rattle.scx_sched_world.specs.Pending as world
 use Rattle.scx_sched_world.specs.Tasks.{local_len, after_stop, started_at, after_run, after_switch, after_keep, to_front}
 use Rattle.scx_sched_world.specs.Ejecting.{after_catch_up, after_charge}
 use Rattle.scx_sched_machine.specs.Steps.{State, Stepped, with_world, stays, after, one_after_other, is_ejected, is_by_linux, kicked}
-use Rattle.scx_sched_machine.specs.Callbacks.{call_back, one_task, task_and_number, cpu_and_task}
+use Rattle.scx_sched_machine.specs.Callbacks.{call_back, call_by_linux, noted_by, one_task, task_and_number, two_numbers, cpu_and_task}
+use Rattle.scx_sched_machine.specs.Custody.{tells_left}
 use Rattle.scx_sched_machine.specs.Policy.{program_of}
 use Rattle.scx_sched_machine.specs.Put.{enters, put}
 use Rattle.scx_sched_machine.specs.Filling.{fill}
@@ -39,11 +40,17 @@ supply_unless_kept s c p = if keeps_slice s p then stays s else supply s c
 abbrev pub told_of : State → Option ℕ → Option ℕ
 told_of s p = or_this p s.world.passing.slept
 
+-- one call of dispatch; a policy that has `dequeue` hears who left its custody in it
+unfoldable pub dispatch_called : State → ℕ → Option ℕ → Stepped
+dispatch_called s c p =
+    let r = call_back s callback.Dispatch (cpu_and_task c (told_of s p)) 0 c in
+    one_after_other r
+    (tells_left r.state c (noted_by s callback.Dispatch (cpu_and_task c (told_of s p)) 0 c))
+
 -- one call of dispatch, and then the local queue is supplied
 unfoldable pub after_dispatch : State → ℕ → Option ℕ → Stepped
 after_dispatch s c p =
-    let r = call_back s callback.Dispatch (cpu_and_task c (told_of s p)) 0 c in
-    one_after_other r (supply_unless_kept r.state c p)
+    let r = dispatch_called s c p in one_after_other r (supply_unless_kept r.state c p)
 
 -- whether dispatch moved or inserted a task, and the local queue is empty still
 abbrev pub moved_in_vain : State → ℕ → Bool
@@ -112,17 +119,29 @@ start s c = started_if (front_of s.world.queues (local_on c)) s c
 
 -- ---- rest
 
+-- whether a policy hears which processors are idle: under Linux rules, where it has `update_idle`
+unfoldable pub hears_idle : State → Bool
+hears_idle s = is_by_linux s && is_some (program_of s.policy callback.UpdateIdle)
+
+-- the policy hears that the processor is idle (1), or idle no more (0)
+unfoldable pub tells_idle : State → ℕ → ℕ → Stepped
+tells_idle s c n = call_by_linux s callback.UpdateIdle (two_numbers c n) 0 c
+
 -- what is noted where nobody comes: idle, if none may stay and one ran as the event began
 abbrev pub idle_note : WorldState → Option ℕ → Bool → ℕ → List Note
 idle_note w None true c = note_now w (Idle c) ∷ []
 idle_note w None false c = []
 idle_note w (Some t) ran c = []
 
+-- the same; not yet where the policy is to hear of it first
+abbrev pub rest_notes : State → ℕ → Option ℕ → Bool → List Note
+rest_notes s c p ran = idle_note s.world p (ran && not (hears_idle s)) c
+
 -- nobody comes: the task before stays, or the processor is idle
 unfoldable pub rest : State → ℕ → Option ℕ → Bool → Stepped
 rest s c p ran = record {
   state = with_world s (after_keep s.world p);
-  notes = idle_note s.world p ran c;
+  notes = rest_notes s c p ran;
   calls = [];
 }
 
@@ -187,11 +206,22 @@ start_picked_or_cycle None s c ran = start_or_cycle s c ran
 start_picked_or_cycle (Some t) s c ran =
     if is_local s c t then start_picked s c t else start_or_cycle s c ran
 
+-- where the processor was idle, the policy hears that it isn't any more (ext/idle.c,
+-- `__scx_update_idle`)
+unfoldable pub tells_busy : State → ℕ → Option ℕ → Bool → Stepped
+tells_busy s c None false = tells_idle s c 0
+tells_busy s c p ran = stays s
+
+-- the task before leaves, once the policy has heard that a processor isn't idle any more
+unfoldable pub makes_way : State → ℕ → Option ℕ → Bool → Stepped
+makes_way s c p ran =
+    let b = tells_busy s c p ran in one_after_other b (leave b.state c p)
+
 -- the front of the local queue runs in the place of the task before, of which a callback
 -- may eject the policy
 unfoldable pub pick : State → ℕ → Option ℕ → Bool → Stepped
 pick s c p ran =
-    let l = leave (refilled s (picked s c)) c p in
+    let l = makes_way (refilled s (picked s c)) c p ran in
     one_after_other l (start_picked_or_cycle (picked s c) l.state c ran)
 
 -- under a policy, the front of the local queue is picked; where there is none, nobody comes
@@ -248,8 +278,41 @@ idles s c =
     let v = cycling s (Some c) in
     stays (cycling (with_world v (at_callback v.world callback.Dispatch 0 c)) None)
 
+-- the cycle ends
+abbrev pub ends : Stepped → Stepped
+ends r = record r { state = cycling r.state None }
+
+-- ---- a processor falls idle
+
+-- whether no task came to a processor on which one ran, and the policy hears of that
+unfoldable pub falls_idle : State → ℕ → Bool → Bool
+falls_idle s c ran = ran && (hears_idle s && is_none (running s.world c))
+
+-- it is idle, and that is noted
+unfoldable pub notes_idle : State → ℕ → Stepped
+notes_idle s c = record {
+  state = cycling s None;
+  notes = note_now s.world (Idle c) ∷ [];
+  calls = [];
+}
+
+-- where the policy was ejected as it heard of it, the cycle begins anew
+unfoldable pub idle_or_anew : State → ℕ → Stepped
+idle_or_anew s c =
+    if is_ejected s then ends (builtin_cycle (cycling s (Some c)) c None true) else notes_idle s c
+
+-- the processor is idle already as the policy hears of it; the task that was there last is current
+-- there until then
+unfoldable pub becomes_idle : State → ℕ → Stepped
+becomes_idle s c =
+    let r = tells_idle (with_world s (out_of_cycle s.world)) c 1 in
+    one_after_other r (idle_or_anew r.state c)
+
+-- after the cycle on a processor
+unfoldable pub concluded : State → ℕ → Bool → Stepped
+concluded s c ran = if falls_idle s c ran then becomes_idle s c else stays (cycling s None)
+
 -- all the while the cycle is under way
 unfoldable pub cycle : State → ℕ → Option ℕ → Bool → Stepped
 cycle s c p ran =
-    let r = look (cycling s (Some c)) c p ran in
-    record r { state = cycling r.state None }
+    let r = look (cycling s (Some c)) c p ran in one_after_other r (concluded r.state c ran)

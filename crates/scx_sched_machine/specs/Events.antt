@@ -1,25 +1,27 @@
 -- Events: which are accepted, and what each one does.
-use Rattle.std.specs.Prelude.{ℕ, Bool, true, false, ◌==◌, ◌&&◌, ◌||◌, ◌+◌, ◌%◌, not, is_some, nat_lt, [], ◌∷◌, length, if◌then◌else◌, Option, Some, None}
+use Rattle.std.specs.Prelude.{ℕ, Bool, true, false, ◌==◌, ◌&&◌, ◌||◌, ◌+◌, ◌%◌, ◌^◌, not, is_some, nat_lt, [], ◌∷◌, length, if◌then◌else◌, Option, Some, None}
 use Rattle.scx_weights.specs.Refusals.{max_weight, is_outside}
 use Rattle.scx_isa_semantics.specs.declared.callbacks.Callback.TheVariants as callback
 use Rattle.scx_sched_world.specs.declared.notes.What.TheVariants as note
 use Rattle.scx_vm.specs.Programs.{VerifiedProgram}
 use Rattle.scx_sched_world.specs.declared.call.Insert.{Insert}
 use Rattle.scx_sched_world.specs.World as world
-use Rattle.scx_sched_world.specs.World.{WorldState, with_switch, with_slept, with_waker, task_at, is_runnable, is_throttled, running, cpu_of, is_idle, choice, default_choice, after_claim, at_callback, note_now}
+use Rattle.scx_sched_world.specs.World.{WorldState, with_switch, with_slept, with_waker, task_at, is_runnable, is_throttled, waits, running, cpu_of, is_idle, choice, default_choice, after_claim, at_callback, note_now}
 use Rattle.scx_sched_world.specs.declared.eject.Eject.TheVariants as cause
-use Rattle.scx_sched_world.specs.Tasks.{for_cpu, to_local, homed, after_wake, after_sleep, after_leave, after_stop, after_tick, used_ms, later, begun_periods, after_reweigh}
+use Rattle.scx_sched_world.specs.Tasks.{for_cpu, to_local, homed, after_wake, after_sleep, after_leave, after_stop, after_tick, used_ms, later, begun_periods, after_reweigh, after_own_weight}
 use Rattle.scx_sched_world.specs.Helpers.{with_insert}
 use Rattle.scx_sched_world.specs.Waits.{first_overdue}
 use Rattle.scx_sched_machine.specs.declared.events.Event.{Event}
-use Rattle.scx_sched_machine.specs.declared.events.Event.TheVariants.{Wake, Sleep, Tick, Clock, SetWeight}
+use Rattle.scx_sched_machine.specs.declared.events.Event.TheVariants.{Wake, Sleep, Tick, Clock, SetWeight, SetTaskWeight}
 use Rattle.scx_sched_machine.specs.declared.events.Refused.{Refused}
 use Rattle.scx_sched_machine.specs.declared.events.Refused.TheVariants.{AlreadyRunnable, NotRunnable, UnknownTask, UnknownCpu, UnknownGroup, BadWeight}
 use Rattle.scx_sched_machine.specs.Policy.{program_of}
 use Rattle.scx_sched_machine.specs.Steps.{State, Stepped, with_world, stays, after, one_after_other, is_ejected, is_by_linux, kicked_if_idle}
 use Rattle.scx_sched_machine.specs.Ejecting.{eject}
 use Rattle.scx_sched_machine.specs.Callbacks.{acting, call_back, call_by_linux, answered_by, one_task, task_cpu_and_0, task_and_number}
+use Rattle.scx_sched_machine.specs.Custody.{is_in_custody, tells_dequeued_if}
 use Rattle.scx_sched_machine.specs.Put.{enters, put}
+use Rattle.scx_sched_machine.specs.Firing.{fire_all}
 use Rattle.scx_sched_machine.specs.Parking.{park, let_all_go}
 use Rattle.scx_sched_machine.specs.Cycle.{after_stopping, cycle}
 use Rattle.scx_sched_machine.specs.Rounds.{with_rounds}
@@ -42,6 +44,10 @@ refusal s (SetWeight g x) =
     if nat_lt g (length s.world.tree.groups)
     then (if is_outside max_weight x then Some BadWeight else None)
     else Some UnknownGroup
+refusal s (SetTaskWeight t x) =
+    if nat_lt t (length s.world.tasks)
+    then (if is_outside max_weight x then Some BadWeight else None)
+    else Some UnknownTask
 
 -- ---- what each event does
 
@@ -166,6 +172,11 @@ leaves_cpu s c t n =
     after (note_now s.world (note.Stop t c) ∷ [])
     (after_stopping (with_world s (after_stop (with_switch s.world c) c t)) c t n)
 
+-- a task leaves its queue, of which a policy in whose custody it was hears, with these flags
+unfoldable pub leaves_queue : State → ℕ → ℕ → ℕ → Stepped
+leaves_queue s t c flags =
+    tells_dequeued_if (is_in_custody s.world t) (with_world s (after_leave s.world t)) t c flags
+
 -- a task that runs leaves its processor and sleeps, and the processor looks for another
 unfoldable pub sleep_from_cpu : State → ℕ → ℕ → Stepped
 sleep_from_cpu s t c =
@@ -173,10 +184,14 @@ sleep_from_cpu s t c =
     let q = falls_asleep r.state t c in
     one_after_other r (one_after_other q (looks_after_sleep q.state t c))
 
+-- a task that waits leaves its queue, of which a policy in whose custody it was hears, and sleeps
+unfoldable pub sleep_from_queue : State → ℕ → ℕ → Stepped
+sleep_from_queue s t c =
+    let r = leaves_queue s t c 1 in one_after_other r (falls_asleep r.state t c)
+
 -- a task goes to sleep from that processor, or, where it runs on none, from its queue
 abbrev pub sleep_from : Option ℕ → State → ℕ → Stepped
-sleep_from None s t =
-    falls_asleep (with_world s (after_leave s.world t)) t (task_at s.world t).prev_cpu
+sleep_from None s t = sleep_from_queue s t (task_at s.world t).prev_cpu
 sleep_from (Some c) s t = sleep_from_cpu s t c
 
 -- a task goes to sleep, from where it is, and that is noted first
@@ -252,11 +267,81 @@ abbrev pub eject_if_stalled : Option ℕ → State → Stepped
 eject_if_stalled None s = stays s
 eject_if_stalled (Some t) s = eject s (cause.Stall t s.world.clock)
 
--- periods begin, who may run again is let go, and then the watchdog looks
+-- the watchdog looks
+unfoldable pub watch : State → Stepped
+watch s = eject_if_stalled (overdue s) s
+
+-- timers that are due run, and then the watchdog looks
+unfoldable pub timers_and_watchdog : State → Stepped
+timers_and_watchdog s = let r = fire_all s in one_after_other r (watch r.state)
+
+-- periods begin, who may run again is let go, timers that are due run, and then the watchdog looks
 unfoldable pub clock : State → Stepped
 clock s =
     let r = let_all_go (with_world s (begun_periods (later s.world))) in
-    one_after_other r (eject_if_stalled (overdue r.state) r.state)
+    one_after_other r (timers_and_watchdog r.state)
+
+-- ---- a task's own weight (syscalls.c, `set_user_nice`; core.c, `sched_change_begin`)
+
+-- the flag with which a task that was changed is runnable again, RESTORE
+abbrev pub restore_flag : ℕ
+restore_flag = 2
+
+-- the flags of a task that leaves to be changed, SAVE and SCHED_CHANGE
+abbrev pub change_flags : ℕ
+change_flags = 2 ^ 33 + 2
+
+-- the task has that weight, and the policy hears it
+unfoldable pub takes_weight : State → ℕ → ℕ → ℕ → Stepped
+takes_weight s t c x =
+    call_by_linux (with_world s (after_own_weight s.world t x)) callback.SetWeight
+    (task_and_number t x) t c
+
+-- the policy hears that the task isn't runnable, its weight, and that it is runnable again
+unfoldable pub changes_weight : State → ℕ → ℕ → ℕ → Stepped
+changes_weight s t c x =
+    let q = call_by_linux s callback.Quiescent (task_and_number t change_flags) t c in
+    let w = takes_weight q.state t c x in
+    let r = call_by_linux w.state callback.Runnable (task_and_number t restore_flag) t c in
+    one_after_other q (one_after_other w r)
+
+-- a task that runs stays on its processor; the policy hears that it stops before and runs again
+-- afterwards
+unfoldable pub reweigh_running : State → ℕ → ℕ → ℕ → Stepped
+reweigh_running s t c x =
+    let a = call_by_linux s callback.Stopping (task_and_number t 0) t c in
+    let b = changes_weight a.state t c x in
+    let r = call_by_linux b.state callback.Running (one_task t) t c in
+    one_after_other a (one_after_other b r)
+
+-- a task that waits leaves its queue, and is put again; its wait goes on
+unfoldable pub reweigh_waiting : State → ℕ → ℕ → ℕ → Stepped
+reweigh_waiting s t c x =
+    let a = leaves_queue s t c change_flags in
+    let b = changes_weight a.state t c x in
+    one_after_other a (one_after_other b (put b.state t c 0))
+
+-- of a task that doesn't run: one that sleeps or is parked stays where it is
+unfoldable pub reweigh_off_cpu : State → ℕ → ℕ → ℕ → Stepped
+reweigh_off_cpu s t c x =
+    if waits s.world t then reweigh_waiting s t c x else takes_weight s t c x
+
+-- on that processor, or off
+abbrev pub reweigh_at : Option ℕ → State → ℕ → ℕ → Stepped
+reweigh_at None s t x = reweigh_off_cpu s t (task_at s.world t).prev_cpu x
+reweigh_at (Some c) s t x = reweigh_running s t c x
+
+-- by Linux rules, with all callbacks on processor 0
+unfoldable pub reweigh_by_linux : State → ℕ → ℕ → Stepped
+reweigh_by_linux s t x =
+    let r = reweigh_at (cpu_of s.world t) (with_world s (with_waker s.world (Some 0))) t x in
+    record r { state = woken r.state }
+
+-- a policy that is out of force hears nothing, nor does one by plain rules
+unfoldable pub reweigh : State → ℕ → ℕ → Stepped
+reweigh s t x =
+    if is_by_linux s then reweigh_by_linux s t x
+    else stays (with_world s (after_own_weight s.world t x))
 
 -- what an accepted event does, before processors look for work
 abbrev pub own_step : State → Event → Stepped
@@ -269,6 +354,8 @@ own_step s (SetWeight g x) = record {
   notes = note_now s.world (note.Weight g x) ∷ [];
   calls = [];
 }
+own_step s (SetTaskWeight t x) =
+    after (note_now s.world (note.TaskWeight t x) ∷ []) (reweigh s t x)
 
 -- what an accepted event does
 abbrev pub event_step : State → Event → Stepped

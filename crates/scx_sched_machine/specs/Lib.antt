@@ -9,7 +9,9 @@ pub mod Does
 pub mod Put
 pub mod Filling
 pub mod Parking
+pub mod Custody
 pub mod Cycle
 pub mod Rounds
+pub mod Firing
 pub mod Events
 pub mod Start

@@ -1,12 +1,14 @@
 -- Policies: a program for each callback, or none.
-use Rattle.std.specs.Prelude.{◌≡◌, ℕ, ⊤, ◌≤◌, List, Option, Some, None}
+use Rattle.std.specs.Prelude.{◌≡◌, ℕ, ⊤, ◌≤◌, Bool, true, false, ◌&&◌, ◌||◌, not, List, Option, Some, None, is_some}
 use Rattle.scx_maps.specs.declared.shape.Shape.{Shape}
 use Rattle.scx_isa_semantics.specs.declared.callbacks.Callback.{Callback}
+use Rattle.scx_isa_semantics.specs.declared.callbacks.Callback.TheVariants as callback
 use Rattle.scx_isa_semantics.specs.declared.rules.Rules.{Rules}
 use Rattle.scx_isa_semantics.specs.declared.rules.Rules.TheVariants.{Plain, Linux}
 use Rattle.scx_isa_semantics.specs.declared.per_callback.PerCallback.{PerCallback}
 use Rattle.scx_isa_semantics.specs.Callbacks.{at}
 use Rattle.scx_vm.specs.Programs.{VerifiedProgram}
+use Rattle.scx_sched_world.specs.World.{are_linux}
 use Rattle.scx_sched_machine.specs.declared.policy.BadPolicy.{BadPolicy}
 use Rattle.scx_sched_machine.specs.declared.policy.BadPolicy.TheVariants.{BadTimeout, OtherCallback, OtherMaps, OtherRules}
 
@@ -16,28 +18,42 @@ Programs = PerCallback (Option VerifiedProgram)
 
 -- a policy: the shapes of its maps, how many milliseconds a task may wait, by whose rules the
 -- machine goes while it is in force, how many milliseconds there are from tick to tick (0 where
--- slices end exactly), and its programs
+-- slices end exactly), whether the host tracks idle processors beside `update_idle`, how many timers
+-- it has, and its programs
 pub record PolicyState : Type 0 where
   pub shapes : List Shape
   pub timeout_ms : ℕ
   pub rules : Rules
   pub tick_ms : ℕ
+  pub keeps_idle : Bool
+  pub timers : ℕ
   pub callbacks : Programs
 
 -- the policy by these rules, with these shapes of maps, that timeout in milliseconds, and these
--- programs, whose slices end exactly
+-- programs; its slices end exactly, and it has no timers
 abbrev pub policy_by : Rules → List Shape → ℕ → Programs → PolicyState
 policy_by rules shapes timeout callbacks = record {
   shapes = shapes;
   timeout_ms = timeout;
   rules = rules;
   tick_ms = 0;
+  keeps_idle = false;
+  timers = 0;
   callbacks = callbacks;
 }
 
 -- the policy with ticks so many milliseconds apart
 abbrev pub with_ticks : PolicyState → ℕ → PolicyState
 with_ticks p n = record p { tick_ms = n }
+
+-- the policy for which the host tracks idle processors, whatever callbacks it has
+-- (`SCX_OPS_KEEP_BUILTIN_IDLE`)
+abbrev pub with_idle_kept : PolicyState → PolicyState
+with_idle_kept p = record p { keeps_idle = true }
+
+-- the policy with that number of timers
+abbrev pub with_timers : PolicyState → ℕ → PolicyState
+with_timers p n = record p { timers = n }
 
 -- the policy by plain rules
 abbrev pub policy_of : List Shape → ℕ → Programs → PolicyState
@@ -46,6 +62,12 @@ policy_of shapes timeout callbacks = policy_by Plain shapes timeout callbacks
 -- the program of a callback
 abbrev pub program_of : PolicyState → Callback → Option VerifiedProgram
 program_of p b = at p.callbacks b
+
+-- whether the host tracks idle processors: by Linux rules a policy with `update_idle` does so itself
+-- (ext/idle.c, `scx_idle_enable`)
+abbrev pub tracks_idle : PolicyState → Bool
+tracks_idle p =
+    p.keeps_idle || not (are_linux p.rules && is_some (program_of p callback.UpdateIdle))
 
 -- ---- what a policy may not be made of
 

@@ -1,7 +1,7 @@
 ghost use Rattle.std.specs.Prelude.{◌≡◌, ◌+◌, ◌≤◌, ◌^◌, [], true, Some, option_map};
 ghost use Rattle.scx_maps.specs.Contents.{HasShapes};
 ghost use Rattle.scx_isa_semantics.specs.Arguments.{FitsCallback};
-ghost use Rattle.scx_isa_semantics.specs.declared.callbacks.Callback.TheVariants.{Enable, SelectCpu, Enqueue, Dispatch, Running, Stopping, Tick, Runnable, Quiescent};
+ghost use Rattle.scx_isa_semantics.specs.declared.callbacks.Callback.TheVariants.{Enable, SelectCpu, Enqueue, Dispatch, Running, Stopping, Tick, Dequeue, Runnable, Quiescent, UpdateIdle, SetWeight, Timer};
 ghost use Rattle.scx_isa_semantics.specs.Endings.{run_of};
 ghost use Rattle.scx_vm.specs.Arguments.{program_arguments};
 ghost use Rattle.scx_vm.specs.Host.{answer_to, after_query};
@@ -13,7 +13,8 @@ ghost use Rattle.scx_sched_machine.specs.Hearing.{Hears};
 ghost use Rattle.scx_sched_machine.specs.Notes.{Takes};
 ghost use Rattle.scx_sched_machine.specs.Policy.{IsAs, HasMaps, program_of};
 ghost use Rattle.scx_sched_machine.specs.Ejecting.{ejected_for};
-ghost use Rattle.scx_sched_machine.specs.Callbacks.{call_ending, call_back, call_by_linux, end_fault, as_cause, or_cause, unless_ejected, answered_by, calls_of, IsAnswered, AreAnswered, is_calm, one_task, task_cpu_and_0, task_and_number, task_or_0, cpu_and_task};
+ghost use Rattle.scx_sched_machine.specs.Custody.{ended};
+ghost use Rattle.scx_sched_machine.specs.Callbacks.{call_ending, call_back, call_by_linux, end_fault, as_cause, or_cause, unless_ejected, answered_by, calls_of, IsAnswered, AreAnswered, is_calm, one_task, task_cpu_and_0, task_and_number, one_number, two_numbers, task_or_0, cpu_and_task};
 
 use crate::machine::Machine;
 use crate::policy::Policy;
@@ -167,12 +168,38 @@ pub(crate) fn task_and_number(task: u16, number: u64) -> Args
     ensures both { result ≡ task_and_number task number }
     ensures enqueue { FitsCallback Enqueue (program_arguments result) }
     ensures stopping { FitsCallback Stopping (program_arguments result) }
+    ensures dequeue { FitsCallback Dequeue (program_arguments result) }
     ensures runnable { FitsCallback Runnable (program_arguments result) }
+    ensures set_weight { FitsCallback SetWeight (program_arguments result) }
     ensures quiescent { FitsCallback Quiescent (program_arguments result) }
 {
     Args {
         first: World::pointer(task),
         second: Arg::Num(number),
+        third: Arg::Unset,
+    }
+}
+
+/// A number.
+pub(crate) fn one_number(number: u64) -> Args
+    ensures number { result ≡ one_number number }
+    ensures timer { FitsCallback Timer (program_arguments result) }
+{
+    Args {
+        first: Arg::Num(number),
+        second: Arg::Unset,
+        third: Arg::Unset,
+    }
+}
+
+/// Two numbers.
+pub(crate) fn two_numbers(first: u64, second: u64) -> Args
+    ensures both { result ≡ two_numbers first second }
+    ensures update_idle { FitsCallback UpdateIdle (program_arguments result) }
+{
+    Args {
+        first: Arg::Num(first),
+        second: Arg::Num(second),
         third: Arg::Unset,
     }
 }
@@ -200,7 +227,7 @@ pub(crate) fn cpu_and_task(cpu: u32, before: Option<u16>) -> Args
 
 impl Machine {
     /// The reason for which the policy is ejected as a callback ends with that answer, if there is one.
-    fn cause(&self, callback: Callback, answer: u64) -> Option<Cause>
+    pub(crate) fn cause(&self, callback: Callback, answer: u64) -> Option<Cause>
         ensures { result ≡ or_cause self.now.world.call.cause
             (as_cause (end_fault callback self.now.world (Some answer))) }
     {
@@ -224,6 +251,18 @@ impl Machine {
             let clock = self.world.clock();
             self.eject(cause.at(clock), hearer);
         }
+    }
+
+    /// Hands on what the callback noted, and ejects the policy if there is a cause.
+    #[tactic(auto, unfolding(crate::specs::Custody::ended), using(crate::proofs::Taking::takings))]
+    pub(crate) fn end_callback<H: Hearer>(&mut self, cause: Option<Cause>, hearer: &mut H)
+        requires { HasRoom eject_pushes self.old }
+        ensures does { Goes H.noted H.takes H.told H.hears eject_pushes (ended cause self.old)
+            self.old hearer.old self.new hearer.new }
+        ensures committed { pushes_due self.new ≤ self.old.world.queues.pushes + eject_pushes }
+    {
+        flush_any(&mut self.world, hearer);
+        self.eject_for(cause, hearer);
     }
 
     /// Runs a callback of the policy, with that task and CPU at hand, and answers what its program
@@ -262,9 +301,9 @@ impl Machine {
         answer
     }
 
-    /// Runs a callback as a call of its own, for callbacks that few policies have.
+    /// `call_back` as a call of its own, for callbacks that few policies have.
     #[inline(never)]
-    fn call_apart<H: Hearer>(
+    pub(crate) fn call_apart<H: Hearer>(
         &mut self,
         callback: Callback,
         arguments: Args,
@@ -274,9 +313,10 @@ impl Machine {
     )
         requires arguments { FitsCallback callback (program_arguments arguments) }
         requires room { HasRoom callback_pushes self.old }
-        ensures { Goes H.noted H.takes H.told H.hears callback_pushes
+        ensures does { Goes H.noted H.takes H.told H.hears callback_pushes
             (call_back self.old callback arguments task cpu)
             self.old hearer.old self.new hearer.new }
+        ensures calm { is_calm callback ≡ true → pushes_due self.new ≤ pushes_due self.old }
     {
         self.call_back(callback, arguments, task, cpu, hearer);
     }
@@ -294,9 +334,10 @@ impl Machine {
     )
         requires arguments { FitsCallback callback (program_arguments arguments) }
         requires room { HasRoom callback_pushes self.old }
-        ensures { Goes H.noted H.takes H.told H.hears callback_pushes
+        ensures does { Goes H.noted H.takes H.told H.hears callback_pushes
             (call_by_linux self.old callback arguments task cpu)
             self.old hearer.old self.new hearer.new }
+        ensures calm { is_calm callback ≡ true → pushes_due self.new ≤ pushes_due self.old }
     {
         if self.is_by_linux() && self.policy.has_program(callback) {
             self.call_apart(callback, arguments, task, cpu, hearer);

@@ -1,16 +1,16 @@
-ghost use Rattle.std.specs.Prelude.{◌≡◌, ◌*◌, true, false, None};
+ghost use Rattle.std.specs.Prelude.{◌≡◌, ◌+◌, ◌*◌, true, false, None};
 ghost use Rattle.scx_sched_world.specs.Ids.{global};
-ghost use Rattle.scx_sched_machine.specs.Budgets.{HasRoom, ask_pushes, builtin_ask_pushes, builtin_cycle_pushes, builtin_dispatch_pushes, callback_pushes, cycle_pushes, dispatch_pushes, fill_pushes, leave_pushes, pick_pushes, put_pushes, supply_pushes, swap_pushes};
+ghost use Rattle.scx_sched_machine.specs.Budgets.{HasRoom, ask_pushes, builtin_ask_pushes, builtin_cycle_pushes, builtin_dispatch_pushes, callback_pushes, cycle_pushes, dispatch_pushes, fill_pushes, leave_pushes, look_pushes, pick_pushes, supply_pushes, swap_pushes};
 ghost use Rattle.scx_sched_machine.specs.Does.{Goes};
 ghost use Rattle.scx_sched_machine.specs.Steps.{is_by_linux};
 ghost use Rattle.scx_sched_machine.specs.Filling.{fill};
-ghost use Rattle.scx_sched_machine.specs.Cycle.{supply_unless_kept, after_dispatch, tries, after_stopping, after_running, put_back, leave, switched, start, rest, swap, swap_or_rest, builtin_dispatch, builtin_fill, builtin_ask, builtin_cycle, start_or_cycle, start_picked, start_picked_or_cycle, pick, pick_or_rest, keep_or_pick, conclude, give_up, ask, seek, look, stays_idle, idles, cycle};
+ghost use Rattle.scx_sched_machine.specs.Cycle.{supply_unless_kept, after_dispatch, tries, swap, swap_or_rest, builtin_dispatch, builtin_fill, builtin_ask, builtin_cycle, start_or_cycle, start_picked_or_cycle, makes_way, pick, pick_or_rest, keep_or_pick, conclude, give_up, ask, seek, look, stays_idle, idles, cycle};
 
-use crate::callbacks::{cpu_and_task, one_task, task_and_number};
+use crate::callbacks::cpu_and_task;
 use crate::machine::Machine;
 use crate::sink::Hearer;
 use scx_isa::Callback;
-use scx_sched_world::{BUILTIN, Insert, LOCAL_ON, What};
+use scx_sched_world::{BUILTIN, LOCAL_ON, What};
 
 impl Machine {
     /// Where the local queue is empty, the front of another comes to it.
@@ -52,7 +52,7 @@ impl Machine {
         }
     }
 
-    /// Asks dispatch once, and then supplies the local queue.
+    /// Calls dispatch once, and then supplies the local queue.
     #[inline(always)]
     #[tactic(auto, unfolding(crate::specs::Cycle::after_dispatch), using(crate::proofs::Taking::takings))]
     fn call_dispatch<H: Hearer>(&mut self, cpu: u32, before: Option<u16>, hearer: &mut H)
@@ -60,13 +60,7 @@ impl Machine {
         ensures { Goes H.noted H.takes H.told H.hears dispatch_pushes
             (after_dispatch self.old cpu before) self.old hearer.old self.new hearer.new }
     {
-        self.call_back(
-            Callback::Dispatch,
-            cpu_and_task(cpu, self.told_of(before)),
-            0,
-            cpu,
-            hearer,
-        );
+        self.ask_dispatch(cpu, before, hearer);
         self.supply_unless_kept(cpu, before, hearer);
     }
 
@@ -122,133 +116,6 @@ impl Machine {
         if self.moved_in_vain(cpu) {
             self.tries_plainly(left - 1, cpu, before, hearer);
         }
-    }
-
-    /// A task has left its CPU. The number says whether it stays runnable.
-    #[inline(always)]
-    #[tactic(auto, unfolding(crate::specs::Cycle::after_stopping), using(crate::proofs::Taking::takings))]
-    pub(crate) fn call_stopping<H: Hearer>(
-        &mut self,
-        cpu: u32,
-        task: u16,
-        runnable: u64,
-        hearer: &mut H,
-    )
-        requires { HasRoom callback_pushes self.old }
-        ensures { Goes H.noted H.takes H.told H.hears callback_pushes
-            (after_stopping self.old cpu task runnable) self.old hearer.old self.new hearer.new }
-    {
-        if self.is_ejected() {
-            self.world.charge(task);
-        } else {
-            let arguments = task_and_number(task, runnable);
-            self.call_back(Callback::Stopping, arguments, task, cpu, hearer);
-        }
-    }
-
-    /// A task has come to its CPU.
-    #[inline(always)]
-    #[tactic(auto, unfolding(crate::specs::Cycle::after_running), using(crate::proofs::Taking::takings))]
-    fn call_running<H: Hearer>(&mut self, cpu: u32, task: u16, hearer: &mut H)
-        requires { HasRoom callback_pushes self.old }
-        ensures { Goes H.noted H.takes H.told H.hears callback_pushes
-            (after_running self.old cpu task) self.old hearer.old self.new hearer.new }
-    {
-        if self.is_ejected() {
-            self.world.overtake(task);
-        } else {
-            self.call_back(Callback::Running, one_task(task), task, cpu, hearer);
-        }
-    }
-
-    /// A task that was stopped is put. Under Linux rules one with some of its slice left goes to the front of the
-    /// local queue.
-    #[inline(always)]
-    #[tactic(auto, unfolding(crate::specs::Cycle::put_back), using(crate::proofs::Taking::takings))]
-    fn put_back<H: Hearer>(&mut self, cpu: u32, task: u16, hearer: &mut H)
-        requires { HasRoom put_pushes self.old }
-        ensures { Goes H.noted H.takes H.told H.hears put_pushes (put_back self.old cpu task)
-            self.old hearer.old self.new hearer.new }
-    {
-        if self.keeps_slice(Some(task)) {
-            self.enter(task, Insert::front(cpu), hearer);
-        } else {
-            self.put(task, cpu, 0, hearer);
-        }
-    }
-
-    /// The task before leaves the CPU, and is put.
-    #[inline(always)]
-    #[tactic(auto, unfolding(crate::specs::Cycle::leave), using(crate::proofs::Taking::takings))]
-    fn leave<H: Hearer>(&mut self, cpu: u32, before: Option<u16>, hearer: &mut H)
-        requires { HasRoom leave_pushes self.old }
-        ensures { Goes H.noted H.takes H.told H.hears leave_pushes (leave self.old cpu before)
-            self.old hearer.old self.new hearer.new }
-    {
-        if let Some(task) = before {
-            hearer.note(self.world.note(What::Stop(task, cpu)));
-            self.world.stop(cpu, task);
-            self.call_stopping(cpu, task, 1, hearer);
-            self.put_back(cpu, task, hearer);
-        }
-    }
-
-    /// By plain rules the task before leaves the CPU, and is put.
-    #[inline(always)]
-    #[tactic(auto, using(crate::proofs::Taking::takings, crate::proofs::Plainly::leaves))]
-    fn leave_plainly<H: Hearer>(&mut self, cpu: u32, before: Option<u16>, hearer: &mut H)
-        requires plain { is_by_linux self.old ≡ false }
-        requires room { HasRoom leave_pushes self.old }
-        ensures { Goes H.noted H.takes H.told H.hears leave_pushes (leave self.old cpu before)
-            self.old hearer.old self.new hearer.new }
-    {
-        if let Some(task) = before {
-            hearer.note(self.world.note(What::Stop(task, cpu)));
-            self.world.stop(cpu, task);
-            self.call_stopping(cpu, task, 1, hearer);
-            self.put(task, cpu, 0, hearer);
-        }
-    }
-
-    /// Under Linux rules with ticks, a task that begins to run has a slice one nanosecond longer.
-    #[inline(always)]
-    #[tactic(auto, unfolding(crate::specs::Cycle::switched))]
-    fn switch(&mut self, task: u16)
-        ensures state { self.new ≡ switched self.old task }
-        ensures few { self.new.world.queues.pushes ≡ self.old.world.queues.pushes }
-    {
-        if self.is_by_linux() && self.policy.tick_ms() != 0 {
-            self.world.lengthen_slice(task);
-        }
-    }
-
-    /// The front of the local queue runs.
-    #[inline(always)]
-    #[tactic(auto, unfolding(crate::specs::Cycle::start), using(crate::proofs::Taking::takings))]
-    fn start<H: Hearer>(&mut self, cpu: u32, hearer: &mut H)
-        requires { HasRoom callback_pushes self.old }
-        ensures { Goes H.noted H.takes H.told H.hears callback_pushes (start self.old cpu)
-            self.old hearer.old self.new hearer.new }
-    {
-        if let Some(task) = self.world.start(cpu) {
-            hearer.note(self.world.note(What::Run(task, cpu)));
-            self.switch(task);
-            self.call_running(cpu, task, hearer);
-        }
-    }
-
-    /// No task comes: the one before stays, or the CPU is idle.
-    #[inline(always)]
-    #[tactic(auto, unfolding(crate::specs::Cycle::rest), using(crate::proofs::Taking::takings))]
-    fn rest<H: Hearer>(&mut self, cpu: u32, before: Option<u16>, ran: bool, hearer: &mut H)
-        requires { HasRoom 0 self.old }
-        ensures { Goes H.noted H.takes H.told H.hears 0 (rest self.old cpu before ran)
-            self.old hearer.old self.new hearer.new }
-    {
-        if before.is_none() && ran {
-            hearer.note(self.world.note(What::Idle(cpu)));
-        }
-        self.world.keep(before);
     }
 
     /// Under the built-in scheduler the front of the local queue runs in the place of the task before.
@@ -314,7 +181,13 @@ impl Machine {
     /// A cycle of the built-in scheduler.
     #[inline(never)]
     #[tactic(auto, unfolding(crate::specs::Cycle::builtin_cycle), using(crate::proofs::Taking::takings))]
-    fn builtin_cycle<H: Hearer>(&mut self, cpu: u32, before: Option<u16>, ran: bool, hearer: &mut H)
+    pub(crate) fn builtin_cycle<H: Hearer>(
+        &mut self,
+        cpu: u32,
+        before: Option<u16>,
+        ran: bool,
+        hearer: &mut H,
+    )
         requires { HasRoom builtin_cycle_pushes self.old }
         ensures { Goes H.noted H.takes H.told H.hears builtin_cycle_pushes
             (builtin_cycle self.old cpu before ran) self.old hearer.old self.new hearer.new }
@@ -336,20 +209,6 @@ impl Machine {
         } else {
             self.builtin_cycle(cpu, None, ran, hearer);
         }
-    }
-
-    /// The task that was picked runs, from wherever it waits in the local queue.
-    #[inline(never)]
-    #[tactic(auto, unfolding(crate::specs::Cycle::start_picked), using(crate::proofs::Taking::takings))]
-    fn start_picked<H: Hearer>(&mut self, cpu: u32, task: u16, hearer: &mut H)
-        requires { HasRoom callback_pushes self.old }
-        ensures { Goes H.noted H.takes H.told H.hears callback_pushes (start_picked self.old cpu task)
-            self.old hearer.old self.new hearer.new }
-    {
-        hearer.note(self.world.note(What::Run(task, cpu)));
-        self.world.run(cpu, task);
-        self.switch(task);
-        self.call_running(cpu, task, hearer);
     }
 
     /// The task that was picked runs. An ejection may have taken it away; then the cycle begins anew. Without one
@@ -380,6 +239,18 @@ impl Machine {
         }
     }
 
+    /// The task before leaves, once the policy has heard that a CPU that was idle isn't any more.
+    #[inline(always)]
+    #[tactic(auto, unfolding(crate::specs::Cycle::makes_way), using(crate::proofs::Taking::takings))]
+    fn make_way<H: Hearer>(&mut self, cpu: u32, before: Option<u16>, ran: bool, hearer: &mut H)
+        requires { HasRoom (callback_pushes + leave_pushes) self.old }
+        ensures { Goes H.noted H.takes H.told H.hears (callback_pushes + leave_pushes)
+            (makes_way self.old cpu before ran) self.old hearer.old self.new hearer.new }
+    {
+        self.tell_busy(cpu, before, ran, hearer);
+        self.leave(cpu, before, hearer);
+    }
+
     /// By Linux rules the front of the local queue is picked, and then the task before leaves.
     #[inline(never)]
     #[tactic(auto, unfolding(crate::specs::Cycle::pick, crate::specs::Cycle::picked), using(crate::proofs::Taking::takings))]
@@ -391,7 +262,7 @@ impl Machine {
     {
         let picked = self.world.front(LOCAL_ON + u64::from(cpu));
         self.world.keep(picked);
-        self.leave(cpu, before, hearer);
+        self.make_way(cpu, before, ran, hearer);
         self.start_picked_or_cycle(picked, cpu, ran, hearer);
     }
 
@@ -542,8 +413,8 @@ impl Machine {
     /// A CPU on which that task ran and may stay, or none, seeks the one that it runs next.
     #[tactic(auto, unfolding(crate::specs::Cycle::seek), using(crate::proofs::Taking::takings))]
     fn seek<H: Hearer>(&mut self, cpu: u32, before: Option<u16>, ran: bool, hearer: &mut H)
-        requires { HasRoom cycle_pushes self.old }
-        ensures { Goes H.noted H.takes H.told H.hears cycle_pushes (seek self.old cpu before ran)
+        requires { HasRoom look_pushes self.old }
+        ensures { Goes H.noted H.takes H.told H.hears look_pushes (seek self.old cpu before ran)
             self.old hearer.old self.new hearer.new }
     {
         self.supply(cpu, hearer);
@@ -557,8 +428,8 @@ impl Machine {
     /// A cycle of whichever scheduler is in force.
     #[tactic(auto, unfolding(crate::specs::Cycle::look), using(crate::proofs::Taking::takings))]
     fn look<H: Hearer>(&mut self, cpu: u32, before: Option<u16>, ran: bool, hearer: &mut H)
-        requires { HasRoom cycle_pushes self.old }
-        ensures { Goes H.noted H.takes H.told H.hears cycle_pushes (look self.old cpu before ran)
+        requires { HasRoom look_pushes self.old }
+        ensures { Goes H.noted H.takes H.told H.hears look_pushes (look self.old cpu before ran)
             self.old hearer.old self.new hearer.new }
     {
         if self.is_ejected() {
@@ -624,6 +495,6 @@ impl Machine {
     {
         self.world.set_cycling(Some(cpu));
         self.look(cpu, before, ran, hearer);
-        self.world.set_cycling(None);
+        self.end_cycle(cpu, ran, hearer);
     }
 }

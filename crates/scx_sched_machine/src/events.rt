@@ -1,20 +1,20 @@
-ghost use Rattle.std.specs.Prelude.{◌≡◌, ℕ, ◌+◌, ◌<◌, ◌≤◌, ◌^◌, true, false, length, Some, None};
+ghost use Rattle.std.specs.Prelude.{◌≡◌, ℕ, ◌+◌, ◌<◌, ◌^◌, true, false, None};
 ghost use Rattle.scx_weights.specs.Limits.{usage_of};
 ghost use Rattle.scx_sched_world.specs.World.{task_at};
 ghost use Rattle.scx_sched_machine.specs.Steps.{is_by_linux};
-ghost use Rattle.scx_sched_machine.specs.Budgets.{HasRoom, clock_pushes, cycle_pushes, eject_pushes, event_pushes, own_pushes, callback_pushes, put_pushes, runnable_pushes, settle_pushes, sleep_pushes, throttle_pushes, tick_pushes, wake_pushes};
+ghost use Rattle.scx_sched_machine.specs.Budgets.{HasRoom, calm_pushes, callback_pushes, clock_pushes, cycle_pushes, eject_pushes, event_pushes, own_pushes, throttle_pushes, tick_pushes};
 ghost use Rattle.scx_sched_machine.specs.Does.{Does, Goes};
 ghost use Rattle.scx_sched_machine.specs.Notes.{Takes};
-ghost use Rattle.scx_isa_semantics.specs.declared.callbacks.Callback.TheVariants.{SelectCpu, Tick};
-ghost use Rattle.scx_sched_machine.specs.Callbacks.{acting, call_back, one_task};
-ghost use Rattle.scx_sched_machine.specs.declared.events.Event.TheVariants.{Wake, Sleep, SetWeight};
-ghost use Rattle.scx_sched_machine.specs.Events.{refusal, target, insert_or_put, wake_target, comes_to, while_in_force, told_runnable, settle, chosen, ask_target, select, from_waker, wake, told_of_sleep, falls_asleep, looks_after_sleep, leaves_cpu, sleep_from_cpu, sleep, throttle, is_tick_time, ends_slices, expire, use_up, hears_tick, count_down, tick_idle, tick, overdue, eject_if_stalled, clock, own_step, event_step};
+ghost use Rattle.scx_isa_semantics.specs.declared.callbacks.Callback.TheVariants.{Tick};
+ghost use Rattle.scx_sched_machine.specs.Callbacks.{call_back, one_task};
+ghost use Rattle.scx_sched_machine.specs.declared.events.Event.TheVariants.{Wake, Sleep, SetWeight, SetTaskWeight};
+ghost use Rattle.scx_sched_machine.specs.Events.{refusal, throttle, is_tick_time, ends_slices, expire, use_up, hears_tick, count_down, tick_idle, tick, overdue, eject_if_stalled, timers_and_watchdog, clock, own_step, event_step};
 
-use crate::callbacks::{one_task, task_and_number, task_cpu_and_0};
+use crate::callbacks::one_task;
 use crate::machine::Machine;
 use crate::sink::{Hearer, Sink};
 use scx_isa::Callback;
-use scx_sched_world::{Eject, Insert, What};
+use scx_sched_world::{Eject, What};
 use scx_weights::is_weight;
 use thiserror::Error;
 
@@ -31,6 +31,8 @@ pub enum Event {
     Clock,
     /// A group has that weight from now on.
     SetWeight(u32, u32),
+    /// A task has that weight of its own from now on.
+    SetTaskWeight(u16, u32),
 }
 
 /// The reason why an event isn't accepted. Nothing has changed, and nothing was noted.
@@ -42,7 +44,7 @@ pub enum Refused {
     /// A task is to go to sleep that sleeps.
     #[error("the task isn't runnable")]
     NotRunnable,
-    /// A wake or a sleep is of a task that isn't there.
+    /// A wake, a sleep or a weight is of a task that isn't there.
     #[error("there is no such task")]
     UnknownTask,
     /// A tick is of a CPU that isn't there.
@@ -51,7 +53,7 @@ pub enum Refused {
     /// A weight is for a group that isn't there.
     #[error("there is no such group")]
     UnknownGroup,
-    /// A group that is there is to have a weight that is out of range.
+    /// A group or a task that is there is to have a weight that is out of range.
     #[error("a weight is one of 1 to 10000")]
     BadWeight,
     /// A machine has accepted 2^32 events: this goes before any other cause.
@@ -77,6 +79,7 @@ impl Machine {
             }
             Event::Clock => None,
             Event::SetWeight(group, weight) => self.weight_refusal(group, weight),
+            Event::SetTaskWeight(task, weight) => self.own_weight_refusal(task, weight),
         }
     }
 
@@ -116,309 +119,15 @@ impl Machine {
         }
     }
 
-    /// The CPU for which a task that wakes is put, if select_cpu answered that number.
-    fn target(&self, task: u16, answer: u64) -> u32
-        ensures { result ≡ target (acting self.now SelectCpu) self.now.world task (Some answer) }
+    fn own_weight_refusal(&self, task: u16, weight: u32) -> Option<Refused>
+        ensures { result ≡ refusal self.now (SetTaskWeight task weight) }
     {
-        if self.is_ejected() || self.policy.program(Callback::SelectCpu).is_none() {
-            return self.world.default_choice(task);
-        }
-        if answer < u64::from(self.world.cpus()) {
-            answer as u32
+        if !self.world.has_task(task) {
+            Some(Refused::UnknownTask)
+        } else if is_weight(weight) {
+            None
         } else {
-            self.world.default_choice(task)
-        }
-    }
-
-    /// Applies that insert of select_cpu, or puts the task.
-    #[inline(always)]
-    #[tactic(auto, using(crate::proofs::Taking::takings))]
-    fn apply_or_put<H: Hearer>(
-        &mut self,
-        insert: Option<Insert>,
-        task: u16,
-        cpu: u32,
-        hearer: &mut H,
-    )
-        requires { HasRoom put_pushes self.old }
-        ensures { Goes H.noted H.takes H.told H.hears put_pushes
-            (insert_or_put insert self.old task cpu)
-            self.old hearer.old self.new hearer.new }
-    {
-        match insert {
-            Some(insert) => self.enter(task, insert.for_cpu(cpu), hearer),
-            None => self.put(task, cpu, 1, hearer),
-        }
-    }
-
-    /// If the target is idle it looks for a task: under Linux rules as the event ends, else at once.
-    #[inline(always)]
-    #[tactic(auto, unfolding(crate::specs::Events::wake_target), using(crate::proofs::Taking::takings))]
-    fn wake_target<H: Hearer>(&mut self, cpu: u32, hearer: &mut H)
-        requires { HasRoom cycle_pushes self.old }
-        ensures { Goes H.noted H.takes H.told H.hears cycle_pushes (wake_target self.old cpu)
-            self.old hearer.old self.new hearer.new }
-    {
-        if self.is_by_linux() {
-            self.world.tell_waker(None);
-            self.kick_if_idle(cpu);
-        } else if self.world.is_idle(cpu) {
-            self.cycle(cpu, None, false, hearer);
-        }
-    }
-
-    /// The task comes to wait for the target, and a target that is idle looks for a task.
-    #[tactic(auto, unfolding(crate::specs::Events::comes_to), using(crate::proofs::Taking::takings))]
-    fn come_to<H: Hearer>(&mut self, insert: Option<Insert>, task: u16, cpu: u32, hearer: &mut H)
-        requires { HasRoom settle_pushes self.old }
-        ensures { Goes H.noted H.takes H.told H.hears settle_pushes
-            (comes_to insert self.old task cpu) self.old hearer.old self.new hearer.new }
-    {
-        self.apply_or_put(insert, task, cpu, hearer);
-        self.wake_target(cpu, hearer);
-    }
-
-    /// The insert, unless the policy is out of force.
-    fn while_in_force(&self, insert: Option<Insert>) -> Option<Insert>
-        ensures { result ≡ while_in_force self.now insert }
-    {
-        if !self.is_ejected() { insert } else { None }
-    }
-
-    /// A policy that has `runnable` hears that the task woke, and the task comes to wait for the target.
-    #[tactic(auto, unfolding(crate::specs::Events::told_runnable), using(crate::proofs::Taking::takings))]
-    fn tell_runnable<H: Hearer>(
-        &mut self,
-        insert: Option<Insert>,
-        task: u16,
-        cpu: u32,
-        hearer: &mut H,
-    )
-        requires { HasRoom runnable_pushes self.old }
-        ensures { Goes H.noted H.takes H.told H.hears runnable_pushes
-            (told_runnable insert self.old task cpu) self.old hearer.old self.new hearer.new }
-    {
-        let arguments = task_and_number(task, 1);
-        self.call_by_linux(Callback::Runnable, arguments, task, cpu, hearer);
-        let insert = self.while_in_force(insert);
-        self.come_to(insert, task, cpu, hearer);
-    }
-
-    /// A task that woke comes to wait for the target by plain rules.
-    #[inline(always)]
-    #[tactic(auto, using(crate::proofs::Taking::takings, crate::proofs::Plainly::settles))]
-    fn settle_plainly<H: Hearer>(&mut self, task: u16, cpu: u32, hearer: &mut H)
-        requires plain { is_by_linux self.old ≡ false }
-        requires room { HasRoom settle_pushes self.old }
-        ensures { Goes H.noted H.takes H.told H.hears settle_pushes (settle self.old task cpu)
-            self.old hearer.old self.new hearer.new }
-    {
-        let insert = self.world.insert();
-        self.apply_or_put(insert, task, cpu, hearer);
-        let is_idle = self.world.is_idle(cpu);
-        if is_idle {
-            self.cycle(cpu, None, false, hearer);
-        }
-    }
-
-    /// A task that woke comes to wait for the target, which is its CPU from then on, by Linux rules.
-    #[tactic(auto, using(crate::proofs::Taking::takings, crate::proofs::Plainly::settles_by_linux))]
-    fn settle_by_linux<H: Hearer>(&mut self, task: u16, cpu: u32, hearer: &mut H)
-        requires linux { is_by_linux self.old ≡ true }
-        requires room { HasRoom runnable_pushes self.old }
-        ensures { Goes H.noted H.takes H.told H.hears runnable_pushes (settle self.old task cpu)
-            self.old hearer.old self.new hearer.new }
-    {
-        self.world.set_home(task, cpu);
-        let insert = self.world.insert();
-        self.tell_runnable(insert, task, cpu, hearer);
-    }
-
-    /// A task that woke comes to wait for the target.
-    #[tactic(auto, using(crate::proofs::Taking::takings))]
-    fn settle<H: Hearer>(&mut self, task: u16, cpu: u32, hearer: &mut H)
-        requires { HasRoom runnable_pushes self.old }
-        ensures { Goes H.noted H.takes H.told H.hears runnable_pushes (settle self.old task cpu)
-            self.old hearer.old self.new hearer.new }
-    {
-        if self.is_by_linux() {
-            self.settle_by_linux(task, cpu, hearer);
-        } else {
-            self.settle_plainly(task, cpu, hearer);
-        }
-    }
-
-    /// If no program was asked, Linux rules claim the CPU that is chosen by default, and insert the task into its
-    /// local queue.
-    #[inline(always)]
-    fn choose(&mut self, task: u16)
-        ensures state { self.new ≡ chosen (acting self.old SelectCpu) self.old task }
-        ensures few { self.new.world.queues.pushes ≡ self.old.world.queues.pushes }
-    {
-        if self.is_by_linux() && !self.policy.has_program(Callback::SelectCpu) {
-            self.choose_by_default(task);
-        }
-    }
-
-    /// Claims the CPU that is chosen for the task, if one is, and inserts the task into its local queue.
-    fn choose_by_default(&mut self, task: u16)
-        requires { is_by_linux self.old ≡ true }
-        ensures state { self.new ≡ chosen None self.old task }
-        ensures few { self.new.world.queues.pushes ≡ self.old.world.queues.pushes }
-    {
-        if let Some(cpu) = self.world.choice(task) {
-            self.world.claim(Some(cpu));
-            self.world.keep_insert(Insert::local(cpu));
-        }
-    }
-
-    /// Asks select_cpu for the target of the task.
-    #[tactic(auto, unfolding(crate::specs::Events::ask_target), using(crate::proofs::Taking::takings))]
-    fn ask_target<H: Hearer>(&mut self, task: u16, hearer: &mut H)
-        requires { HasRoom wake_pushes self.old }
-        ensures { Goes H.noted H.takes H.told H.hears wake_pushes (ask_target self.old task)
-            self.old hearer.old self.new hearer.new }
-    {
-        let prev = self.world.task(task).prev_cpu;
-        let arguments = task_cpu_and_0(task, prev);
-        let answer = self.call_back(Callback::SelectCpu, arguments, task, prev, hearer);
-        let cpu = self.target(task, answer);
-        self.choose(task);
-        self.settle(task, cpu, hearer);
-    }
-
-    /// Asks select_cpu for the target of a task that wakes by plain rules.
-    #[inline(always)]
-    #[tactic(auto, using(crate::proofs::Taking::takings, crate::proofs::Plainly::selects, crate::proofs::Steady::plain_called))]
-    fn select_plainly<H: Hearer>(&mut self, task: u16, hearer: &mut H)
-        requires plain { is_by_linux self.old ≡ false }
-        requires room { HasRoom wake_pushes self.old }
-        ensures { Goes H.noted H.takes H.told H.hears wake_pushes
-            (select (from_waker self.old task) task) self.old hearer.old self.new hearer.new }
-    {
-        let prev = self.world.task(task).prev_cpu;
-        let arguments = task_cpu_and_0(task, prev);
-        let answer = self.call_back(Callback::SelectCpu, arguments, task, prev, hearer);
-        let cpu = self.target(task, answer);
-        self.settle_plainly(task, cpu, hearer);
-    }
-
-    /// Asks for the target of a task that wakes by Linux rules, unless there is only one CPU.
-    #[inline(never)]
-    #[tactic(auto, unfolding(crate::specs::Events::select, crate::specs::Events::from_waker), using(crate::proofs::Taking::takings))]
-    fn select_by_linux<H: Hearer>(&mut self, task: u16, hearer: &mut H)
-        requires linux { is_by_linux self.old ≡ true }
-        requires room { HasRoom wake_pushes self.old }
-        ensures { Goes H.noted H.takes H.told H.hears wake_pushes
-            (select (from_waker self.old task) task) self.old hearer.old self.new hearer.new }
-    {
-        let prev = self.world.task(task).prev_cpu;
-        self.world.tell_waker(Some(prev));
-        if self.world.cpus() == 1 {
-            self.world.begin(Callback::SelectCpu, task, 0);
-            self.settle(task, 0, hearer);
-        } else {
-            self.ask_target(task, hearer);
-        }
-    }
-
-    /// A task wakes.
-    #[inline(never)]
-    #[tactic(auto, unfolding(crate::specs::Events::wake), using(crate::proofs::Taking::takings))]
-    fn wake<H: Hearer>(&mut self, task: u16, hearer: &mut H)
-        requires known { task < length self.old.world.tasks }
-        requires room { HasRoom wake_pushes self.old }
-        ensures { Goes H.noted H.takes H.told H.hears wake_pushes (wake self.old task)
-            self.old hearer.old self.new hearer.new }
-    {
-        hearer.note(self.world.note(What::Wake(task)));
-        self.world.wake(task);
-        if self.is_by_linux() {
-            self.select_by_linux(task, hearer);
-        } else {
-            self.select_plainly(task, hearer);
-        }
-    }
-
-    /// Under Linux rules dispatch is told of the task that goes to sleep.
-    #[inline(always)]
-    #[tactic(auto, unfolding(crate::specs::Events::told_of_sleep))]
-    fn tell_sleep(&mut self, task: u16)
-        ensures state { self.new ≡ told_of_sleep self.old task }
-        ensures few { self.new.world.queues.pushes ≡ self.old.world.queues.pushes }
-    {
-        if self.is_by_linux() {
-            self.world.tell_slept(task);
-        }
-    }
-
-    /// The task sleeps, and a policy that has `quiescent` hears that it isn't runnable any more.
-    #[inline(always)]
-    #[tactic(auto, unfolding(crate::specs::Events::falls_asleep), using(crate::proofs::Taking::takings))]
-    fn fall_asleep<H: Hearer>(&mut self, task: u16, cpu: u32, hearer: &mut H)
-        requires { HasRoom callback_pushes self.old }
-        ensures { Goes H.noted H.takes H.told H.hears callback_pushes
-            (falls_asleep self.old task cpu) self.old hearer.old self.new hearer.new }
-    {
-        self.world.sleep(task);
-        let arguments = task_and_number(task, 1);
-        self.call_by_linux(Callback::Quiescent, arguments, task, cpu, hearer);
-    }
-
-    /// The CPU of a task that sleeps now looks for another.
-    #[inline(always)]
-    #[tactic(auto, unfolding(crate::specs::Events::looks_after_sleep), using(crate::proofs::Taking::takings))]
-    fn look_after_sleep<H: Hearer>(&mut self, task: u16, cpu: u32, hearer: &mut H)
-        requires { HasRoom cycle_pushes self.old }
-        ensures { Goes H.noted H.takes H.told H.hears cycle_pushes
-            (looks_after_sleep self.old task cpu) self.old hearer.old self.new hearer.new }
-    {
-        self.tell_sleep(task);
-        self.cycle(cpu, None, true, hearer);
-    }
-
-    /// A task leaves its CPU. The number says whether it stays runnable.
-    #[inline(always)]
-    #[tactic(auto, unfolding(crate::specs::Events::leaves_cpu), using(crate::proofs::Taking::takings))]
-    fn leave_cpu<H: Hearer>(&mut self, cpu: u32, task: u16, runnable: u64, hearer: &mut H)
-        requires { HasRoom callback_pushes self.old }
-        ensures { Goes H.noted H.takes H.told H.hears callback_pushes
-            (leaves_cpu self.old cpu task runnable) self.old hearer.old self.new hearer.new }
-    {
-        hearer.note(self.world.note(What::Stop(task, cpu)));
-        self.world.begin_switch(cpu);
-        self.world.stop(cpu, task);
-        self.call_stopping(cpu, task, runnable, hearer);
-    }
-
-    /// A task that runs goes to sleep.
-    #[tactic(auto, unfolding(crate::specs::Events::sleep_from_cpu), using(crate::proofs::Taking::takings))]
-    fn sleep_from_cpu<H: Hearer>(&mut self, task: u16, cpu: u32, hearer: &mut H)
-        requires { HasRoom sleep_pushes self.old }
-        ensures { Goes H.noted H.takes H.told H.hears sleep_pushes
-            (sleep_from_cpu self.old task cpu) self.old hearer.old self.new hearer.new }
-    {
-        self.leave_cpu(cpu, task, 0, hearer);
-        self.fall_asleep(task, cpu, hearer);
-        self.look_after_sleep(task, cpu, hearer);
-    }
-
-    /// A task goes to sleep.
-    #[inline(never)]
-    #[tactic(auto, unfolding(crate::specs::Events::sleep), using(crate::proofs::Taking::takings))]
-    fn sleep<H: Hearer>(&mut self, task: u16, hearer: &mut H)
-        requires { HasRoom sleep_pushes self.old }
-        ensures { Goes H.noted H.takes H.told H.hears sleep_pushes (sleep self.old task)
-            self.old hearer.old self.new hearer.new }
-    {
-        hearer.note(self.world.note(What::Sleep(task)));
-        match self.world.cpu_of(task) {
-            Some(cpu) => self.sleep_from_cpu(task, cpu, hearer),
-            None => {
-                let prev = self.world.task(task).prev_cpu;
-                self.world.leave_queue(task);
-                self.fall_asleep(task, prev, hearer);
-            }
+            Some(Refused::BadWeight)
         }
     }
 
@@ -609,7 +318,20 @@ impl Machine {
         }
     }
 
-    /// The clock grows by a millisecond, and periods begin: tasks that may run again are let go.
+    /// Timers that are due run, and then the watchdog looks.
+    #[inline(always)]
+    #[tactic(auto, unfolding(crate::specs::Events::timers_and_watchdog, crate::specs::Events::watch), using(crate::proofs::Taking::takings))]
+    fn fire_and_watch<H: Hearer>(&mut self, hearer: &mut H)
+        requires { HasRoom (calm_pushes + eject_pushes) self.old }
+        ensures { Goes H.noted H.takes H.told H.hears (calm_pushes + eject_pushes)
+            (timers_and_watchdog self.old) self.old hearer.old self.new hearer.new }
+    {
+        self.fire_all(hearer);
+        self.watch(hearer);
+    }
+
+    /// The clock grows by a millisecond, and periods begin: tasks that may run again are let go. Timers that are due
+    /// run, and then the watchdog looks.
     #[inline(always)]
     #[tactic(auto, unfolding(crate::specs::Events::clock), using(crate::proofs::Taking::takings))]
     fn clock<H: Hearer>(&mut self, hearer: &mut H)
@@ -621,7 +343,7 @@ impl Machine {
         self.world.advance();
         self.world.begin_periods();
         self.let_all_go(hearer);
-        self.watch(hearer);
+        self.fire_and_watch(hearer);
     }
 
     /// Carries out an event that is accepted.
@@ -676,6 +398,10 @@ impl Machine {
             Event::SetWeight(group, weight) => {
                 self.world.set_weight(group, weight);
                 hearer.note(self.world.note(What::Weight(group, weight)));
+            }
+            Event::SetTaskWeight(task, weight) => {
+                hearer.note(self.world.note(What::TaskWeight(task, weight)));
+                self.reweigh(task, weight, hearer);
             }
         }
     }

@@ -6,16 +6,23 @@
 #![tactic(auto)]
 
 mod callbacks;
+mod custody;
 mod cycle;
 mod ejecting;
 mod events;
+mod firing;
+mod idle_cpus;
 mod machine;
 mod parking;
 mod policy;
 mod put;
+mod reweighing;
 mod rounds;
 mod sink;
+mod sleeping;
 mod start;
+mod switching;
+mod waking;
 
 pub use events::{Event, Refused};
 pub use machine::Machine;

@@ -1,6 +1,7 @@
 ghost use Rattle.std.specs.Prelude.{◌≡◌, ◌↔◌, option_map, is_some, IsTrue, IfOk, OnOk, IfErr, None, IfSome};
-ghost use Rattle.scx_sched_machine.specs.Policy.{IsTimeout, IsAs, HasMaps, AreAs, HaveMaps, AreBy, IsFault, program_of, policy_of, policy_by, with_ticks};
+ghost use Rattle.scx_sched_machine.specs.Policy.{IsTimeout, IsAs, HasMaps, AreAs, HaveMaps, AreBy, IsFault, program_of, policy_of, policy_by, with_ticks, with_idle_kept, with_timers, tracks_idle};
 ghost use Rattle.scx_isa_semantics.specs.declared.rules.Rules.TheVariants.{Plain};
+ghost use Rattle.scx_sched_world.specs.World.{are_linux};
 
 use scx_isa::{Callback, PerCallback, Rules};
 use scx_maps::MapDefs;
@@ -37,6 +38,8 @@ pub struct Policy {
     timeout_ms: u32,
     rules: Rules,
     tick_ms: u32,
+    keeps_idle: bool,
+    timers: u8,
     callbacks: Callbacks,
 }
 
@@ -50,6 +53,8 @@ impl Model for Policy {
       timeout_ms = p.timeout_ms;
       rules = p.rules;
       tick_ms = p.tick_ms;
+      keeps_idle = p.keeps_idle;
+      timers = p.timers;
       callbacks = p.callbacks;
     } };
 
@@ -70,7 +75,7 @@ impl Policy {
         Policy::new_by(Rules::Plain, defs, timeout_ms, callbacks)
     }
 
-    /// A policy of these programs, by those rules. Slices end exactly.
+    /// A policy of these programs, by those rules. Slices end exactly, and it has no timers.
     pub fn new_by(
         rules: Rules,
         defs: MapDefs,
@@ -90,6 +95,8 @@ impl Policy {
                 timeout_ms,
                 rules,
                 tick_ms: 0,
+                keeps_idle: false,
+                timers: 0,
                 callbacks,
             }),
             Some(fault) => {
@@ -101,16 +108,27 @@ impl Policy {
 
     /// The policy with ticks that many milliseconds apart: under Linux rules slices end at ticks alone. With 0
     /// they end exactly.
-    pub fn with_ticks(self, tick_ms: u32) -> Policy
+    pub fn with_ticks(mut self, tick_ms: u32) -> Policy
         ensures { result ≡ with_ticks self tick_ms }
     {
-        Policy {
-            defs: self.defs,
-            timeout_ms: self.timeout_ms,
-            rules: self.rules,
-            tick_ms,
-            callbacks: self.callbacks,
-        }
+        self.tick_ms = tick_ms;
+        self
+    }
+
+    /// The policy for which the host tracks idle CPUs, whatever callbacks it has (`SCX_OPS_KEEP_BUILTIN_IDLE`).
+    pub fn with_idle_kept(mut self) -> Policy
+        ensures { result ≡ with_idle_kept self }
+    {
+        self.keeps_idle = true;
+        self
+    }
+
+    /// The policy with that many timers, none of which is started as it begins.
+    pub fn with_timers(mut self, count: u8) -> Policy
+        ensures { result ≡ with_timers self count }
+    {
+        self.timers = count;
+        self
     }
 
     /// A copy of the policy, in memory of its own.
@@ -123,6 +141,8 @@ impl Policy {
             timeout_ms: self.timeout_ms,
             rules: self.rules,
             tick_ms: self.tick_ms,
+            keeps_idle: self.keeps_idle,
+            timers: self.timers,
             callbacks,
         })
     }
@@ -158,6 +178,36 @@ impl Policy {
         u64::from(self.tick_ms)
     }
 
+    /// True if the host tracks idle CPUs even where the policy has `update_idle`.
+    pub fn keeps_idle(&self) -> bool
+        ensures { result ≡ self.now.keeps_idle }
+    {
+        self.keeps_idle
+    }
+
+    /// The number of its timers.
+    pub fn timers(&self) -> u8
+        ensures { result ≡ self.now.timers }
+    {
+        self.timers
+    }
+
+    /// True if the host tracks idle CPUs: under Linux rules a policy with `update_idle` does so itself.
+    pub(crate) fn tracks_idle(&self) -> bool
+        ensures { result ≡ tracks_idle self.now }
+    {
+        self.keeps_idle || !(self.is_by_linux() && self.has_program(Callback::UpdateIdle))
+    }
+
+    fn is_by_linux(&self) -> bool
+        ensures { result ≡ are_linux self.now.rules }
+    {
+        match self.rules {
+            Rules::Linux => true,
+            Rules::Plain => false,
+        }
+    }
+
     /// The program of a callback.
     #[inline(always)]
     pub(crate) fn program(&self, callback: Callback) -> Option<&Verified>
@@ -181,6 +231,23 @@ impl Policy {
 fn duplicates_of(callbacks: &Callbacks, alloc: Global) -> Result<Callbacks, AllocError>
     ensures { IfOk result (λ copy. copy ≡ callbacks.now) }
 {
+    let copies = plain_duplicates_of(callbacks, alloc)?;
+    let copies = with_duplicates_of_tasks(copies, callbacks, alloc)?;
+    with_other_duplicates(copies, callbacks, alloc)
+}
+
+/// A copy of the programs of callbacks that plain rules know too, in memory of its own.
+fn plain_duplicates_of(callbacks: &Callbacks, alloc: Global) -> Result<Callbacks, AllocError>
+    ensures { IfOk result (λ copy. copy ≡ record callbacks.now {
+      tick = None;
+      dequeue = None;
+      runnable = None;
+      quiescent = None;
+      update_idle = None;
+      set_weight = None;
+      timer = None;
+    }) }
+{
     Ok(PerCallback {
         init: duplicate_of(&callbacks.init, alloc)?,
         enable: duplicate_of(&callbacks.enable, alloc)?,
@@ -189,10 +256,54 @@ fn duplicates_of(callbacks: &Callbacks, alloc: Global) -> Result<Callbacks, Allo
         dispatch: duplicate_of(&callbacks.dispatch, alloc)?,
         running: duplicate_of(&callbacks.running, alloc)?,
         stopping: duplicate_of(&callbacks.stopping, alloc)?,
-        tick: duplicate_of(&callbacks.tick, alloc)?,
-        runnable: duplicate_of(&callbacks.runnable, alloc)?,
-        quiescent: duplicate_of(&callbacks.quiescent, alloc)?,
+        tick: None,
+        dequeue: None,
+        runnable: None,
+        quiescent: None,
+        update_idle: None,
+        set_weight: None,
+        timer: None,
     })
+}
+
+/// These copies, with those of callbacks that tell where a task is.
+fn with_duplicates_of_tasks(
+    copies: Callbacks,
+    callbacks: &Callbacks,
+    alloc: Global,
+) -> Result<Callbacks, AllocError>
+    ensures { IfOk result (λ copy. copy ≡ record copies {
+      tick = callbacks.now.tick;
+      dequeue = callbacks.now.dequeue;
+      runnable = callbacks.now.runnable;
+      quiescent = callbacks.now.quiescent;
+    }) }
+{
+    let mut copies = copies;
+    copies.tick = duplicate_of(&callbacks.tick, alloc)?;
+    copies.dequeue = duplicate_of(&callbacks.dequeue, alloc)?;
+    copies.runnable = duplicate_of(&callbacks.runnable, alloc)?;
+    copies.quiescent = duplicate_of(&callbacks.quiescent, alloc)?;
+    Ok(copies)
+}
+
+/// These copies, with those of all other callbacks that Linux rules alone know.
+fn with_other_duplicates(
+    copies: Callbacks,
+    callbacks: &Callbacks,
+    alloc: Global,
+) -> Result<Callbacks, AllocError>
+    ensures { IfOk result (λ copy. copy ≡ record copies {
+      update_idle = callbacks.now.update_idle;
+      set_weight = callbacks.now.set_weight;
+      timer = callbacks.now.timer;
+    }) }
+{
+    let mut copies = copies;
+    copies.update_idle = duplicate_of(&callbacks.update_idle, alloc)?;
+    copies.set_weight = duplicate_of(&callbacks.set_weight, alloc)?;
+    copies.timer = duplicate_of(&callbacks.timer, alloc)?;
+    Ok(copies)
 }
 
 /// A copy of the program, if there is one, in memory of its own.

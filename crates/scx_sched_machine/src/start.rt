@@ -1,14 +1,17 @@
 ghost use Rattle.std.specs.Prelude.{◌≡◌, ◌+◌, ◌≤◌, ◌<◌, ◌^◌, ◌++◌, true, false, Some, None, Ok, Err, length, IfOk, IfErr, OnOk};
+ghost use Rattle.scx_isa_semantics.specs.Arguments.{FitsCallback};
+ghost use Rattle.scx_isa_semantics.specs.declared.callbacks.Callback.TheVariants.{Enable};
+ghost use Rattle.scx_vm.specs.Arguments.{program_arguments};
 ghost use Rattle.scx_weights.specs.Counting.{any_below};
 ghost use Rattle.scx_weights.specs.Hierarchy.{is_active_task};
 ghost use Rattle.scx_sched_machine.specs.declared.start.NewError.TheVariants.{OutOfMemory};
 ghost use Rattle.scx_sched_machine.specs.Policy.{IsTimeout, AreAs};
-ghost use Rattle.scx_sched_machine.specs.Budgets.{HasRoom, enable_pushes, program_pushes, start_pushes};
-ghost use Rattle.scx_sched_machine.specs.Callbacks.{AreAnswered};
+ghost use Rattle.scx_sched_machine.specs.Budgets.{HasRoom, enable_pushes, idle_pushes, program_pushes, start_pushes};
+ghost use Rattle.scx_sched_machine.specs.Callbacks.{AreAnswered, one_task};
 ghost use Rattle.scx_sched_machine.specs.Hearing.{Hears};
-ghost use Rattle.scx_sched_machine.specs.Start.{is_bad_shape, blank, cause_answer, after_init, enable, after_enables, all_enabled, first_state, IsRefusal, init_calls, enable_calls, calls_below, calls_after_init, start_calls, calls_before, AreAnsweredBefore};
+ghost use Rattle.scx_sched_machine.specs.Start.{is_bad_shape, blank, cause_answer, after_init, begin_with, has_by_linux, begin_by_linux, enable, then_weigh, then_enable, after_enables, then_idle, after_idles, all_idle, all_enabled, first_state, IsRefusal, init_calls, begin_calls, begin_calls_by_linux, weigh_calls, enable_calls, calls_below, idle_calls, idle_calls_below, calls_after_enables, calls_after_init, start_calls, calls_before, AreAnsweredBefore};
 
-use crate::callbacks::{one_task, run_callback};
+use crate::callbacks::{one_task, run_callback, task_and_number, two_numbers};
 use crate::machine::Machine;
 use crate::policy::Policy;
 use crate::sink::Hearer;
@@ -24,7 +27,7 @@ use thiserror::Error;
 /// The reason why a machine isn't made.
 #[derive(Clone, Copy, Debug, PartialEq, Eq, Error)]
 pub enum NewError {
-    /// init answered that number, or init or enable called `exit` with it; -22 if one of them had a fault.
+    /// init answered that number, or a callback called `exit` with it as the policy began; -22 if one had a fault.
     #[error("init answered {0}")]
     InitFailed(i64),
     /// The number of CPUs is out of range, or a task is active before anything has happened.
@@ -43,11 +46,11 @@ impl From<AllocError> for NewError {
     }
 }
 
-/// The answer for a fault in init or enable: Linux's EINVAL.
+/// The answer for a fault as the policy begins: Linux's EINVAL.
 const FAULT_ANSWER: i64 = -22;
 
 impl Machine {
-    /// The machine of a policy, after its init and its enable of each task.
+    /// The machine of a policy, after its init, and what it hears of each task and each CPU.
     ///
     /// The shape is checked first: 1 to 64 CPUs, and no active task. Then all memory is taken, and then init
     /// runs. The hearer runs the programs, but takes no notes.
@@ -99,9 +102,10 @@ impl Machine {
         ensures programs { OnOk result (AreAs policy.callbacks) }
     {
         let maps = Maps::new(alloc, policy.defs());
-        match (maps, World::new(alloc, tree, cpus)) {
+        match (maps, World::new(alloc, tree, cpus, policy.timers())) {
             (Ok(maps), Ok(mut world)) => {
                 world.set_rules(policy.rules());
+                world.set_tracking(policy.tracks_idle());
                 world.begin_periods();
                 Ok(Machine {
                     policy,
@@ -119,7 +123,7 @@ impl Machine {
         }
     }
 
-    /// Runs init, and enable of each task. If one fails, its number is the error.
+    /// Runs init, and then what follows it. If a callback fails, its number is the error.
     #[tactic(auto, using(crate::proofs::Taking::answered_append, crate::proofs::Taking::takings))]
     fn begin<H: Hearer>(&mut self, hearer: &mut H) -> Result<(), i64>
         requires { self.old.world.queues.pushes ≡ 0 }
@@ -133,7 +137,25 @@ impl Machine {
         ensures notes { H.noted hearer.new ≡ H.noted hearer.old }
     {
         self.initialize(hearer)?;
-        self.enable_all(hearer)
+        self.enable_and_tell(hearer)
+    }
+
+    /// Runs enable and `set_weight` of each task, and then `update_idle` of each CPU. If one fails, its number is
+    /// the error.
+    #[tactic(auto, using(crate::proofs::Taking::answered_append, crate::proofs::Taking::takings))]
+    fn enable_and_tell<H: Hearer>(&mut self, hearer: &mut H) -> Result<(), i64>
+        requires { HasRoom (enable_pushes + idle_pushes) self.old }
+        ensures done { OnOk result (all_enabled (Ok self.old) ≡ Ok self.new) }
+        ensures failed { IfErr result (λ answer. all_enabled (Ok self.old) ≡ Err answer) }
+        ensures few { self.new.world.queues.pushes
+            ≤ self.old.world.queues.pushes + (enable_pushes + idle_pushes) }
+        ensures answered { AreAnswered (calls_after_init (Ok self.old)) }
+        ensures calls { Hears H.hears (H.told hearer.old) (calls_after_init (Ok self.old))
+            (H.told hearer.new) }
+        ensures notes { H.noted hearer.new ≡ H.noted hearer.old }
+    {
+        self.enable_all(hearer)?;
+        self.tell_all_idle(hearer)
     }
 
     /// Runs init. If it fails, its number is the error.
@@ -168,7 +190,7 @@ impl Machine {
         Ok(())
     }
 
-    /// Runs enable of each task, by number, up to the first that fails: its number is the error.
+    /// Runs enable and `set_weight` of each task, by number, up to the first that fails: its number is the error.
     #[tactic(auto, using(crate::proofs::Enabling::answered_next, crate::proofs::Enabling::heard_next))]
     fn enable_all<H: Hearer>(&mut self, hearer: &mut H) -> Result<(), i64>
         requires { HasRoom enable_pushes self.old }
@@ -183,31 +205,89 @@ impl Machine {
         ensures notes { H.noted hearer.new ≡ H.noted hearer.old }
     {
         for task in 0..self.world.tasks() {
-            if let Err(answer) = self.enable(task, hearer) {
+            if let Err(answer) = self.enable_and_weigh(task, hearer) {
                 return Err(answer);
             }
         }
         Ok(())
     }
 
-    /// Runs enable of a task. If it fails, the number is the error.
-    #[tactic(auto, unfolding(crate::specs::Start::enable))]
-    fn enable<H: Hearer>(&mut self, task: u16, hearer: &mut H) -> Result<(), i64>
-        requires { HasRoom program_pushes self.old }
-        ensures done { OnOk result (enable self.old task ≡ Ok self.new) }
-        ensures failed { IfErr result (λ answer. enable self.old task ≡ Err answer) }
-        ensures few { self.new.world.queues.pushes ≤ self.old.world.queues.pushes + program_pushes }
+    /// Runs enable of a task, and then `set_weight`. If one fails, its number is the error.
+    #[tactic(auto, using(crate::proofs::Taking::answered_append, crate::proofs::Taking::takings))]
+    fn enable_and_weigh<H: Hearer>(&mut self, task: u16, hearer: &mut H) -> Result<(), i64>
+        requires { HasRoom (program_pushes + program_pushes) self.old }
+        ensures done { OnOk result (then_enable (Ok self.old) task ≡ Ok self.new) }
+        ensures failed { IfErr result (λ answer. then_enable (Ok self.old) task ≡ Err answer) }
+        ensures few { self.new.world.queues.pushes
+            ≤ self.old.world.queues.pushes + (program_pushes + program_pushes) }
         ensures answered { AreAnswered (enable_calls (Ok self.old) task) }
         ensures calls { Hears H.hears (H.told hearer.old) (enable_calls (Ok self.old) task)
             (H.told hearer.new) }
         ensures notes { H.noted hearer.new ≡ H.noted hearer.old }
     {
-        self.world.begin(Callback::Enable, task, 0);
+        self.enable(task, hearer)?;
+        self.weigh(task, hearer)
+    }
+
+    /// Runs enable of a task. If it fails, the number is the error.
+    fn enable<H: Hearer>(&mut self, task: u16, hearer: &mut H) -> Result<(), i64>
+        requires { HasRoom program_pushes self.old }
+        ensures done { OnOk result (enable self.old task ≡ Ok self.new) }
+        ensures failed { IfErr result (λ answer. enable self.old task ≡ Err answer) }
+        ensures few { self.new.world.queues.pushes ≤ self.old.world.queues.pushes + program_pushes }
+        ensures answered { AreAnswered (begin_calls self.old Enable (one_task task) task 0) }
+        ensures calls { Hears H.hears (H.told hearer.old) (begin_calls self.old Enable (one_task task) task 0)
+            (H.told hearer.new) }
+        ensures notes { H.noted hearer.new ≡ H.noted hearer.old }
+    {
+        self.begin_with(Callback::Enable, one_task(task), task, 0, hearer)
+    }
+
+    /// Runs `set_weight` of a task, if the policy hears of weights. If it fails, the number is the error.
+    fn weigh<H: Hearer>(&mut self, task: u16, hearer: &mut H) -> Result<(), i64>
+        requires { HasRoom program_pushes self.old }
+        ensures done { OnOk result (then_weigh (Ok self.old) task ≡ Ok self.new) }
+        ensures failed { IfErr result (λ answer. then_weigh (Ok self.old) task ≡ Err answer) }
+        ensures few { self.new.world.queues.pushes ≤ self.old.world.queues.pushes + program_pushes }
+        ensures answered { AreAnswered (weigh_calls (Ok self.old) task) }
+        ensures calls { Hears H.hears (H.told hearer.old) (weigh_calls (Ok self.old) task)
+            (H.told hearer.new) }
+        ensures notes { H.noted hearer.new ≡ H.noted hearer.old }
+    {
+        let weight = u64::from(self.world.own_weight(task));
+        let arguments = task_and_number(task, weight);
+        self.begin_by_linux(Callback::SetWeight, arguments, task, 0, hearer)
+    }
+
+    /// Runs a callback as the policy begins. If it fails, the number is the error.
+    #[tactic(auto, unfolding(crate::specs::Start::begin_with))]
+    fn begin_with<H: Hearer>(
+        &mut self,
+        callback: Callback,
+        arguments: Args,
+        task: u16,
+        cpu: u32,
+        hearer: &mut H,
+    ) -> Result<(), i64>
+        requires arguments { FitsCallback callback (program_arguments arguments) }
+        requires room { HasRoom program_pushes self.old }
+        ensures done { OnOk result
+            (begin_with self.old callback arguments task cpu ≡ Ok self.new) }
+        ensures failed { IfErr result
+            (λ answer. begin_with self.old callback arguments task cpu ≡ Err answer) }
+        ensures few { self.new.world.queues.pushes ≤ self.old.world.queues.pushes + program_pushes }
+        ensures answered { AreAnswered
+            (begin_calls self.old callback arguments task cpu) }
+        ensures calls { Hears H.hears (H.told hearer.old)
+            (begin_calls self.old callback arguments task cpu) (H.told hearer.new) }
+        ensures notes { H.noted hearer.new ≡ H.noted hearer.old }
+    {
+        self.world.begin(callback, task, cpu);
         run_callback(
             &mut self.core,
             &self.policy,
-            Callback::Enable,
-            one_task(task),
+            callback,
+            arguments,
             &mut self.maps,
             &mut self.world,
             hearer,
@@ -219,6 +299,98 @@ impl Machine {
                 Ok(())
             }
         }
+    }
+
+    /// True if the policy has a callback that Linux rules call more.
+    fn has_by_linux(&self, callback: Callback) -> bool
+        ensures { result ≡ has_by_linux self.now callback }
+    {
+        self.is_by_linux() && self.policy.has_program(callback)
+    }
+
+    /// Runs a callback that Linux rules call more, as the policy begins, if the policy has it. If it fails, the
+    /// number is the error.
+    #[tactic(auto, unfolding(crate::specs::Start::begin_by_linux))]
+    fn begin_by_linux<H: Hearer>(
+        &mut self,
+        callback: Callback,
+        arguments: Args,
+        task: u16,
+        cpu: u32,
+        hearer: &mut H,
+    ) -> Result<(), i64>
+        requires arguments { FitsCallback callback (program_arguments arguments) }
+        requires room { HasRoom program_pushes self.old }
+        ensures done { OnOk result
+            (begin_by_linux self.old callback arguments task cpu ≡ Ok self.new) }
+        ensures failed { IfErr result
+            (λ answer. begin_by_linux self.old callback arguments task cpu ≡ Err answer) }
+        ensures few { self.new.world.queues.pushes ≤ self.old.world.queues.pushes + program_pushes }
+        ensures answered { AreAnswered
+            (begin_calls_by_linux self.old callback arguments task cpu) }
+        ensures calls { Hears H.hears (H.told hearer.old)
+            (begin_calls_by_linux self.old callback arguments task cpu) (H.told hearer.new) }
+        ensures notes { H.noted hearer.new ≡ H.noted hearer.old }
+    {
+        if self.has_by_linux(callback) {
+            self.begin_with(callback, arguments, task, cpu, hearer)
+        } else {
+            Ok(())
+        }
+    }
+
+    /// A policy that has `update_idle` hears of each CPU that it is idle. If a call fails, its number is the error.
+    fn tell_all_idle<H: Hearer>(&mut self, hearer: &mut H) -> Result<(), i64>
+        requires { HasRoom idle_pushes self.old }
+        ensures done { OnOk result (all_idle self.old ≡ Ok self.new) }
+        ensures failed { IfErr result (λ answer. all_idle self.old ≡ Err answer) }
+        ensures few { self.new.world.queues.pushes ≤ self.old.world.queues.pushes + idle_pushes }
+        ensures answered { AreAnswered (calls_after_enables (Ok self.old)) }
+        ensures calls { Hears H.hears (H.told hearer.old) (calls_after_enables (Ok self.old))
+            (H.told hearer.new) }
+        ensures notes { H.noted hearer.new ≡ H.noted hearer.old }
+    {
+        if !self.has_by_linux(Callback::UpdateIdle) {
+            return Ok(());
+        }
+        self.tell_each_idle(hearer)?;
+        self.world.forget_marks();
+        Ok(())
+    }
+
+    /// Runs `update_idle` of each CPU, by number, up to the first that fails: its number is the error.
+    #[tactic(auto, using(crate::proofs::Telling::idle_answered_next, crate::proofs::Telling::idle_heard_next))]
+    fn tell_each_idle<H: Hearer>(&mut self, hearer: &mut H) -> Result<(), i64>
+        requires { HasRoom idle_pushes self.old }
+        ensures done { OnOk result (after_idles (length self.old.world.cpus) self.old ≡ Ok self.new) }
+        ensures failed { IfErr result (λ answer. after_idles (length self.old.world.cpus) self.old ≡ Err answer) }
+        ensures few { self.new.world.queues.pushes ≤ self.old.world.queues.pushes + idle_pushes }
+        ensures answered { AreAnswered (idle_calls_below (length self.old.world.cpus) self.old) }
+        ensures calls { Hears H.hears (H.told hearer.old) (idle_calls_below (length self.old.world.cpus) self.old)
+            (H.told hearer.new) }
+        ensures notes { H.noted hearer.new ≡ H.noted hearer.old }
+    {
+        for cpu in 0..self.world.cpus() {
+            if let Err(answer) = self.begin_idle(cpu, hearer) {
+                return Err(answer);
+            }
+        }
+        Ok(())
+    }
+
+    /// Runs `update_idle` of a CPU as the policy begins. If it fails, the number is the error.
+    fn begin_idle<H: Hearer>(&mut self, cpu: u32, hearer: &mut H) -> Result<(), i64>
+        requires { HasRoom program_pushes self.old }
+        ensures done { OnOk result (then_idle (Ok self.old) cpu ≡ Ok self.new) }
+        ensures failed { IfErr result (λ answer. then_idle (Ok self.old) cpu ≡ Err answer) }
+        ensures few { self.new.world.queues.pushes ≤ self.old.world.queues.pushes + program_pushes }
+        ensures answered { AreAnswered (idle_calls (Ok self.old) cpu) }
+        ensures calls { Hears H.hears (H.told hearer.old) (idle_calls (Ok self.old) cpu)
+            (H.told hearer.new) }
+        ensures notes { H.noted hearer.new ≡ H.noted hearer.old }
+    {
+        let arguments = two_numbers(u64::from(cpu), 1);
+        self.begin_by_linux(Callback::UpdateIdle, arguments, 0, cpu, hearer)
     }
 }
 
