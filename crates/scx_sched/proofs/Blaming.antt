@@ -11,33 +11,39 @@ use Rattle.scx_isa_semantics.specs.declared.callbacks.Callback.TheVariants as ca
 use Rattle.scx_isa_semantics.specs.Endings.{Ending}
 use Rattle.scx_vm.specs.Programs.{VerifiedProgram}
 use Rattle.scx_vm.specs.declared.arguments.Args.{Args}
-use Rattle.scx_weights.specs.Hierarchy.{Hierarchy, with_task, with_weight}
+use Rattle.scx_weights.specs.Hierarchy.{Hierarchy, with_task, with_weight, with_own_weight}
 use Rattle.scx_weights.specs.Limits.{with_use}
 use Rattle.scx_weights.specs.declared.error.TreeError.{TreeError}
-use Rattle.scx_weights.specs.Refusals.{weight_fault}
+use Rattle.scx_weights.specs.Refusals.{weight_fault, own_weight_fault}
 use Rattle.scx_sched_world.specs.declared.call.Insert.{Insert}
 use Rattle.scx_sched_world.specs.declared.eject.Cause.{Cause}
 use Rattle.scx_sched_world.specs.declared.eject.Eject.{Eject}
 use Rattle.scx_sched_world.specs.declared.faults.Fault.{Fault}
 use Rattle.scx_sched_world.specs.declared.notes.Note.{Note}
 use Rattle.scx_sched_world.specs.declared.notes.What.TheVariants as note
+use Rattle.scx_sched_world.specs.declared.timers.Alarm.{Alarm}
+use Rattle.scx_sched_world.specs.declared.passing.Passing.{Passing}
 use Rattle.scx_sched_world.specs.Ids.{global, builtin_queue, parked_queue, local_on}
 use Rattle.scx_sched_world.specs.CpuSets.{is_in_set}
 use Rattle.scx_sched_world.specs.World as world
-use Rattle.scx_sched_world.specs.World.{WorldState, are_linux, with_kick, without_kick, with_cycling, with_switch, with_slept, with_waker, choice, after_claim, with_tree, with_task as set_task, task_at, is_throttled, running, cpu_of, is_idle, at_callback, quiet, note_now}
-use Rattle.scx_sched_world.specs.Tasks.{to_front, homed, after_run, after_switch, after_cut_off, with_since, after_wake, after_sleep, after_leave, after_enter, for_cpu, fill_front, after_fill, after_stop, started_at, after_keep, put_parked, after_take, let_go, after_tick, used_ms, after_reweigh}
+use Rattle.scx_sched_world.specs.World.{WorldState, are_linux, with_kick, without_kick, with_cycling, with_switch, with_slept, with_waker, choice, after_claim, with_tree, with_task as set_task, task_at, is_throttled, running, cpu_of, is_idle, at_callback, quiet, note_now, waits, out_of_cycle, with_timer_at_hand}
+use Rattle.scx_sched_world.specs.Tasks.{to_front, homed, after_run, after_switch, after_cut_off, with_since, after_wake, after_sleep, after_leave, after_enter, for_cpu, fill_front, after_fill, after_stop, started_at, after_keep, put_parked, after_take, let_go, after_tick, used_ms, after_reweigh, after_own_weight}
+use Rattle.scx_sched_world.specs.Helpers.{alarm_at, due_now, after_fire}
 use Rattle.scx_sched_world.specs.Ejecting.{eject_of, put_builtin, after_charge, after_catch_up}
 use Rattle.scx_sched_machine.specs.Policy.{program_of}
 use Rattle.scx_sched_machine.specs.Steps.{State, CallMade, Stepped, with_world, stays, after, one_after_other, is_ejected, is_by_linux, kicked, kicked_if_idle}
 use Rattle.scx_sched_machine.specs.Ejecting.{moves_over, eject, ejected_for}
-use Rattle.scx_sched_machine.specs.Callbacks.{call_ending, after_callback, answer_fault, as_cause, cause_of, unless_ejected, acting, call_back, call_by_linux, answered_by, one_task, task_cpu_and_0, task_and_number, cpu_and_task}
+use Rattle.scx_sched_machine.specs.Callbacks.{call_ending, after_callback, answer_fault, as_cause, cause_of, unless_ejected, acting, call_back, call_by_linux, answered_by, one_task, task_cpu_and_0, task_and_number, cpu_and_task, noted_by, one_number, two_numbers}
 use Rattle.scx_sched_machine.specs.Put.{enters, enqueue_choice, enters_builtin, comes_in, put}
 use Rattle.scx_sched_machine.specs.Filling.{fill}
 use Rattle.scx_sched_machine.specs.Parking.{park, park_front, throttled_front, park_fronts, clear, in_reach, supply, let_go_one, let_go_from, let_all_go}
-use Rattle.scx_sched_machine.specs.Cycle.{has_local, keeps_slice, supply_unless_kept, told_of, after_dispatch, asks_again, tries, stopping_called, after_stopping, switched, after_running, put_back, leave, started_if, start, rest, swap, swap_or_rest, builtin_dispatch, builtin_fill, builtin_ask, builtin_cycle, start_or_cycle, picked, refilled, is_local, start_picked, start_picked_or_cycle, give_up, pick, pick_or_rest, keep_or_pick, conclude, ask, seek, look, cycling, cycle}
-use Rattle.scx_sched_machine.specs.Events.{target, insert_or_put, woken, wake_target, comes_to, while_in_force, told_runnable, settle, inserted_by_choice, chosen_by_default, chosen, ask_target, asks_target, select, from_waker, wake, told_of_sleep, falls_asleep, looks_after_sleep, leaves_cpu, sleep_from_cpu, sleep_from, sleep, throttle, ends_slices, expire, use_up, hears_tick, tick_heard, count_down, tick_idle, tick_of, tick}
+use Rattle.scx_sched_machine.specs.Custody.{is_in_custody, tells_dequeued, leaver, tells_of, tells_each, moved_as, hears_dequeue, tells_left}
+use Rattle.scx_sched_machine.specs.Cycle.{has_local, keeps_slice, supply_unless_kept, told_of, after_dispatch, asks_again, tries, stopping_called, after_stopping, switched, after_running, put_back, leave, started_if, start, rest, swap, swap_or_rest, builtin_dispatch, builtin_fill, builtin_ask, builtin_cycle, start_or_cycle, picked, refilled, is_local, start_picked, start_picked_or_cycle, give_up, pick, pick_or_rest, keep_or_pick, conclude, ask, seek, look, cycling, cycle, dispatch_called, tells_idle, tells_busy, makes_way, ends, falls_idle, notes_idle, idle_or_anew, becomes_idle, concluded}
+use Rattle.scx_sched_machine.specs.Firing.{due, fired, fires, fire, fire_below, fire_all}
+use Rattle.scx_sched_machine.specs.Events.{target, insert_or_put, woken, wake_target, comes_to, while_in_force, told_runnable, settle, inserted_by_choice, chosen_by_default, chosen, ask_target, asks_target, select, from_waker, wake, told_of_sleep, falls_asleep, looks_after_sleep, leaves_cpu, sleep_from_cpu, sleep_from, sleep, throttle, ends_slices, expire, use_up, hears_tick, tick_heard, count_down, tick_idle, tick_of, tick, leaves_queue, sleep_from_queue, restore_flag, change_flags, takes_weight, changes_weight, reweigh_running, reweigh_waiting, reweigh_off_cpu, reweigh_at, reweigh_by_linux, reweigh}
 use Rattle.scx_sched_machine.specs.Rounds.{most_rounds, next_to_look, cut_off_if, look_past, look_from, round, round_then, rounds, with_rounds}
 use Rattle.scx_sched_machine.proofs.Choices.{keeps_if}
+use Rattle.scx_sched.specs.Kept.{with_moved}
 use Rattle.scx_sched.specs.Causes.{IsLast}
 use Rattle.scx_sched.specs.Decided.{used_at_tick}
 use Rattle.scx_sched.proofs.Marks.{Anywhere, kept_homed, kept_claim}
@@ -384,11 +390,36 @@ honest_supply_unless_kept : (s : State) (c : ℕ) (p : Option ℕ) → IsHonest 
 unfolding supply_unless_kept
 honest_supply_unless_kept s c p = keeps_if (IsHonest s) (keeps_slice s p) (stays s) (supply s c) (honest_stays s) (honest_supply s c)
 
+-- the policy hears of a task that left its custody
+honest_tells_of : (o : Option ℕ) (s : State) (c : ℕ) → IsHonest s (tells_of o s c)
+unfolding tells_dequeued
+honest_tells_of None s c = honest_stays s
+honest_tells_of (Some t) s c = honest_call_by_linux s callback.Dequeue (task_and_number t 0) t c (λ e. absurd (cc))
+
+honest_tells_each : (ns : List Note) (s : State) (c : ℕ) → IsHonest s (tells_each ns s c)
+honest_tells_each [] s c = honest_stays s
+honest_tells_each (x ∷ xs) s c = let r = tells_of (leaver x.what) s c in honest_joined s r (tells_each xs r.state c) (honest_tells_of (leaver x.what) s c) (honest_tells_each xs r.state c)
+
+honest_tells_left : (s : State) (c : ℕ) (ns : List Note) → IsHonest s (tells_left s c ns)
+unfolding tells_left
+honest_tells_left s c ns =
+    let r = tells_each ns s c in
+    let x = honest_tells_each ns s c in
+    let w = with_moved r.state.world s.world.call.has_moved in
+    keeps_if (IsHonest s) (hears_dequeue s) (record r { state = moved_as s.world.call.has_moved r.state }) (stays s)
+    (keeps_if (λ (v : State). IsHonest s (record r { state = v })) (is_ejected r.state) r.state (with_world r.state w) x (honest_ended s r w (refl, refl, refl, refl) (λ y. y) x)) (honest_stays s)
+
+honest_dispatch_called : (s : State) (c : ℕ) (p : Option ℕ) → IsHonest s (dispatch_called s c p)
+unfolding dispatch_called
+honest_dispatch_called s c p =
+    let a = cpu_and_task c (told_of s p) in
+    let r = call_back s callback.Dispatch a 0 c in
+    let ns = noted_by s callback.Dispatch a 0 c in
+    honest_joined s r (tells_left r.state c ns) (honest_call_back s callback.Dispatch a 0 c (λ e. absurd (cc))) (honest_tells_left r.state c ns)
+
 honest_dispatched : (s : State) (c : ℕ) (p : Option ℕ) → IsHonest s (after_dispatch s c p)
 unfolding after_dispatch
-honest_dispatched s c p =
-    let r = call_back s callback.Dispatch (cpu_and_task c (told_of s p)) 0 c in
-    honest_joined s r (supply_unless_kept r.state c p) (honest_call_back s callback.Dispatch (cpu_and_task c (told_of s p)) 0 c (λ e. absurd (cc))) (honest_supply_unless_kept r.state c p)
+honest_dispatched s c p = let r = dispatch_called s c p in honest_joined s r (supply_unless_kept r.state c p) (honest_dispatch_called s c p) (honest_supply_unless_kept r.state c p)
 
 -- dispatch is asked several times
 pub honest_tries : (j : ℕ) (s : State) (c : ℕ) (p : Option ℕ) → IsHonest s (tries j s c p)
@@ -476,7 +507,8 @@ honest_builtin_ask : (s : State) (c : ℕ) (p : Option ℕ) (ran : Bool) → IsH
 unfolding builtin_ask
 honest_builtin_ask s c p ran = let f = builtin_fill s c in honest_joined s f (swap_or_rest f.state c p ran) (honest_builtin_fill s c) (honest_swap_or_rest f.state c p ran)
 
-honest_builtin_cycle : (s : State) (c : ℕ) (p : Option ℕ) (ran : Bool) → IsHonest s (builtin_cycle s c p ran)
+-- a cycle of the built-in scheduler does no more to the policy than a step may
+pub honest_builtin_cycle : (s : State) (c : ℕ) (p : Option ℕ) (ran : Bool) → IsHonest s (builtin_cycle s c p ran)
 unfolding builtin_cycle
 honest_builtin_cycle s c p ran = let f = supply s c in honest_joined s f (builtin_ask f.state c p ran) (honest_supply s c) (honest_builtin_ask f.state c p ran)
 
@@ -494,14 +526,41 @@ honest_start_picked_or_cycle : (o : Option ℕ) (s : State) (c : ℕ) (ran : Boo
 honest_start_picked_or_cycle None s c ran = honest_start_or_cycle s c ran
 honest_start_picked_or_cycle (Some t) s c ran = keeps_if (IsHonest s) (is_local s c t) (start_picked s c t) (start_or_cycle s c ran) (honest_start_picked s c t) (honest_start_or_cycle s c ran)
 
+-- the policy hears that a processor is idle, or idle no more
+pub honest_tells_idle : (s : State) (c n : ℕ) → IsHonest s (tells_idle s c n)
+unfolding tells_idle
+honest_tells_idle s c n = honest_call_by_linux s callback.UpdateIdle (two_numbers c n) 0 c (λ e. absurd (cc))
+
+honest_tells_busy : (s : State) (c : ℕ) (p : Option ℕ) (ran : Bool) → IsHonest s (tells_busy s c p ran)
+unfolding tells_busy
+honest_tells_busy s c None false = honest_tells_idle s c 0
+honest_tells_busy s c None true = honest_stays s
+honest_tells_busy s c (Some t) ran = honest_stays s
+
+-- and a task leaves that processor
+pub honest_makes_way : (s : State) (c : ℕ) (p : Option ℕ) (ran : Bool) → IsHonest s (makes_way s c p ran)
+unfolding makes_way
+honest_makes_way s c p ran = let b = tells_busy s c p ran in honest_joined s b (leave b.state c p) (honest_tells_busy s c p ran) (honest_leave b.state c p)
+
+-- by plain rules the policy hears of no processor
+pub way_plain : (s : State) (c : ℕ) (p : Option ℕ) (ran : Bool) → is_by_linux s ≡ false → (makes_way s c p ran).state ≡ (leave s c p).state
+unfolding makes_way tells_busy tells_idle call_by_linux
+way_plain s c None false plain = go (is_by_linux s) plain
+  where
+    go : (b : Bool) → b ≡ false → (leave (if b && is_some (program_of s.policy callback.UpdateIdle) then call_back s callback.UpdateIdle (two_numbers c 0) 0 c else stays s).state c None).state ≡ (leave s c None).state
+    go true e = absurd (cc)
+    go false e = refl
+way_plain s c None true plain = refl
+way_plain s c (Some t) ran plain = refl
+
 honest_pick : (s : State) (c : ℕ) (p : Option ℕ) (ran : Bool) → IsHonest s (pick s c p ran)
 unfolding pick
 honest_pick s c p ran =
     let o = picked s c in
     let v = refilled s o in
-    let l = leave v c p in
+    let l = makes_way v c p ran in
     let r = start_picked_or_cycle o l.state c ran in
-    honest_from s (after_keep s.world o) (one_after_other l r) (same_kept s.world o) (honest_joined v l r (honest_leave v c p) (honest_start_picked_or_cycle o l.state c ran))
+    honest_from s (after_keep s.world o) (one_after_other l r) (same_kept s.world o) (honest_joined v l r (honest_makes_way v c p ran) (honest_start_picked_or_cycle o l.state c ran))
 
 honest_pick_or_rest : (s : State) (c : ℕ) (p : Option ℕ) (ran : Bool) → IsHonest s (pick_or_rest s c p ran)
 unfolding pick_or_rest
@@ -539,13 +598,39 @@ pub honest_look : (s : State) (c : ℕ) (p : Option ℕ) (ran : Bool) → IsHone
 unfolding look
 honest_look s c p ran = keeps_if (IsHonest s) (is_ejected s) (builtin_cycle s c p ran) (seek s c p ran) (honest_builtin_cycle s c p ran) (honest_seek s c p ran)
 
+-- a step after which the cycle ends
+honest_ends : (s : State) (r : Stepped) → IsHonest s r → IsHonest s (ends r)
+honest_ends s r h = honest_ended s r (with_cycling r.state.world None) (ruled_cycling r.state.world None) (λ x. tidy_cycling r.state.world None x) h
+
+honest_idle_or_anew : (s : State) (c : ℕ) → IsHonest s (idle_or_anew s c)
+unfolding idle_or_anew notes_idle
+honest_idle_or_anew s c =
+    let v = cycling s (Some c) in
+    let r = ends (builtin_cycle v c None true) in
+    let ns = note_now s.world (note.Idle c) ∷ [] in
+    keeps_if (IsHonest s) (is_ejected s) r (record { state = cycling s None; notes = ns; calls = [] })
+    (honest_begun s v.world r (ruled_cycling s.world (Some c)) (λ x. tidy_cycling s.world (Some c) x) (honest_ends v (builtin_cycle v c None true) (honest_builtin_cycle v c None true)))
+    (honest_after s ns (ends (stays s)) (honest_ends s (stays s) (honest_stays s)))
+
+honest_becomes_idle : (s : State) (c : ℕ) → IsHonest s (becomes_idle s c)
+unfolding becomes_idle
+honest_becomes_idle s c =
+    let v = with_world s (out_of_cycle s.world) in
+    let r = tells_idle v c 1 in
+    let y = idle_or_anew r.state c in
+    honest_begun s v.world (one_after_other r y) (refl, refl, refl, refl) (λ x. x) (honest_joined v r y (honest_tells_idle v c 1) (honest_idle_or_anew r.state c))
+
+honest_concluded : (s : State) (c : ℕ) (ran : Bool) → IsHonest s (concluded s c ran)
+unfolding concluded
+honest_concluded s c ran = keeps_if (IsHonest s) (falls_idle s c ran) (becomes_idle s c) (ends (stays s)) (honest_becomes_idle s c) (honest_ends s (stays s) (honest_stays s))
+
 honest_cycle : (s : State) (c : ℕ) (p : Option ℕ) (ran : Bool) → IsHonest s (cycle s c p ran)
 unfolding cycle
 honest_cycle s c p ran =
     let v = cycling s (Some c) in
     let r = look v c p ran in
-    honest_begun s v.world (record r { state = cycling r.state None }) (ruled_cycling s.world (Some c)) (λ x. tidy_cycling s.world (Some c) x)
-    (honest_ended v r (with_cycling r.state.world None) (ruled_cycling r.state.world None) (λ x. tidy_cycling r.state.world None x) (honest_look v c p ran))
+    let y = concluded r.state c ran in
+    honest_begun s v.world (one_after_other r y) (ruled_cycling s.world (Some c)) (λ x. tidy_cycling s.world (Some c) x) (honest_joined v r y (honest_look v c p ran) (honest_concluded r.state c ran))
 
 -- ---- rounds
 
@@ -743,8 +828,37 @@ honest_sleep_from_cpu s t c known =
     falls : IsHonest (state_with_tree r.state tree) q
     falls = subst (λ (h : Hierarchy). IsHonest (state_with_tree r.state (with_task h t false)) q) left.tree (honest_falls_asleep r.state t c known)
 
+-- a task that leaves its queue, and the policy hears of it
+pub honest_leaves_queue : (s : State) (t c flags : ℕ) → IsHonest s (leaves_queue s t c flags)
+unfolding leaves_queue tells_dequeued
+honest_leaves_queue s t c flags =
+    let w = after_leave s.world t in
+    let v = with_world s w in
+    let r = call_by_linux v callback.Dequeue (task_and_number t flags) t c in
+    let b = is_in_custody s.world t in
+    honest_from s w (if b then r else stays v) (refl, refl, refl, refl, refl, refl) (keeps_if (IsHonest v) b r (stays v) (honest_call_by_linux v callback.Dequeue (task_and_number t flags) t c (λ e. absurd (cc))) (honest_stays v))
+
+honest_sleep_from_queue : (s : State) (t c : ℕ) → t < length (leaves_queue s t c 1).state.world.tasks → IsHonest (state_with_tree s (with_task s.world.tree t false)) (sleep_from_queue s t c)
+unfolding sleep_from_queue
+honest_sleep_from_queue s t c known = honest_joined (state_with_tree s tree) (step_with_tree r tree) q (honest_with_tree s r tree left) falls
+  where
+    tree : Hierarchy
+    tree = with_task s.world.tree t false
+
+    r : Stepped
+    r = leaves_queue s t c 1
+
+    q : Stepped
+    q = falls_asleep r.state t c
+
+    left : IsHonest s r
+    left = honest_leaves_queue s t c 1
+
+    falls : IsHonest (state_with_tree r.state tree) q
+    falls = subst (λ (h : Hierarchy). IsHonest (state_with_tree r.state (with_task h t false)) q) left.tree (honest_falls_asleep r.state t c known)
+
 -- one that goes to sleep
-pub honest_sleep : (s : State) (t : ℕ) → t < length s.world.tasks → ((c : ℕ) → cpu_of s.world t ≡ Some c → t < length (leaves_cpu s c t 0).state.world.tasks) → IsHonest (state_with_tree s (with_task s.world.tree t false)) (sleep s t)
+pub honest_sleep : (s : State) (t : ℕ) → t < length (leaves_queue s t (task_at s.world t).prev_cpu 1).state.world.tasks → ((c : ℕ) → cpu_of s.world t ≡ Some c → t < length (leaves_cpu s c t 0).state.world.tasks) → IsHonest (state_with_tree s (with_task s.world.tree t false)) (sleep s t)
 unfolding sleep
 honest_sleep s t known still = honest_after (state_with_tree s tree) (note_now s.world (note.Sleep t) ∷ []) (sleep_from (cpu_of s.world t) s t) (go (cpu_of s.world t) refl)
   where
@@ -752,10 +866,7 @@ honest_sleep s t known still = honest_after (state_with_tree s tree) (note_now s
     tree = with_task s.world.tree t false
 
     go : (o : Option ℕ) → cpu_of s.world t ≡ o → IsHonest (state_with_tree s tree) (sleep_from o s t)
-    go None e =
-        let w = after_leave s.world t in
-        let c = (task_at s.world t).prev_cpu in
-        honest_from (state_with_tree s tree) (with_tree w tree) (falls_asleep (with_world s w) t c) (refl, refl, refl, refl, refl, refl) (honest_falls_asleep (with_world s w) t c known)
+    go None e = honest_sleep_from_queue s t (task_at s.world t).prev_cpu known
     go (Some c) e = honest_sleep_from_cpu s t c (still c e)
 
 honest_throttle : (s : State) (c t : ℕ) → IsHonest s (throttle s c t)
@@ -847,3 +958,122 @@ honest_weight s g x ns fine = go (weight_fault s.world.tree g x) fine
     go : (o : Option TreeError) → o ≡ None → IsHonest (state_with_tree s tree) (record { state = with_world s (if is_none o then with_tree s.world tree else s.world); notes = ns; calls = [] })
     go None e = honest_plain (state_with_tree s tree) (with_tree s.world tree) ns (refl, refl, refl, refl, refl, refl)
     go (Some f) e = absurd (cc)
+
+-- ---- timers
+
+-- what is honest once no timer's callback is at hand any more
+honest_fires : (s : State) (n : ℕ) (a : Alarm) → is_by_linux s ≡ true → IsHonest s (fires (Some a) s n)
+honest_fires s n a linux =
+    let w = after_fire s.world n in
+    let v = with_world s w in
+    let r = call_by_linux v callback.Timer (one_number n) 0 a.cpu in
+    honest_begun s w (record r { state = fired r.state }) (refl, refl, refl, refl) (λ x. tidy_linux w linux)
+    (honest_ended v r (with_timer_at_hand r.state.world None) (refl, refl, refl, refl) (λ y plain. ap (λ (p : Passing). record p { timer = None }) (y plain)) (honest_call_by_linux v callback.Timer (one_number n) 0 a.cpu (λ e. absurd (cc))))
+
+honest_fire : (s : State) (n : ℕ) → IsHonest s (fire s n)
+unfolding fire due
+honest_fire s n = go (is_by_linux s) refl (due_now s.world (alarm_at s.world n))
+  where
+    go : (b : Bool) → is_by_linux s ≡ b → (o : Option Alarm) → IsHonest s (fires (if b then o else None) s n)
+    go false e o = honest_stays s
+    go true e None = honest_stays s
+    go true e (Some a) = honest_fires s n a e
+
+honest_fire_below : (j : ℕ) (s : State) → IsHonest s (fire_below j s)
+honest_fire_below zero s = honest_stays s
+honest_fire_below (suc j) s = let r = fire_below j s in honest_joined s r (fire r.state j) (honest_fire_below j s) (honest_fire r.state j)
+
+-- timers that run do no more to the policy than a step may
+pub honest_fire_all : (s : State) → IsHonest s (fire_all s)
+unfolding fire_all
+honest_fire_all s = honest_fire_below (length s.world.timers) s
+
+-- ---- a task's own weight
+
+-- a step after which the task has that weight, if it can be set
+abbrev Weighs : State → ℕ → ℕ → Stepped → Type 0
+Weighs s t x r = own_weight_fault s.world.tree t x ≡ None → IsHonest (state_with_tree s (with_own_weight s.world.tree t x)) r
+
+-- after one that leaves the tree
+weighs_after : (s : State) (t x : ℕ) (a r : Stepped) → IsHonest s a → Weighs a.state t x r → Weighs s t x (one_after_other a r)
+weighs_after s t x a r h k fine =
+    let tree = with_own_weight s.world.tree t x in
+    honest_joined (state_with_tree s tree) (step_with_tree a tree) r (honest_with_tree s a tree h)
+    (subst (λ (y : Hierarchy). IsHonest (state_with_tree a.state (with_own_weight y t x)) r) h.tree (k (ap (λ (y : Hierarchy). own_weight_fault y t x) h.tree ∙ fine)))
+
+-- before one that leaves it
+weighs_before : (s : State) (t x : ℕ) (a r : Stepped) → Weighs s t x a → IsHonest a.state r → Weighs s t x (one_after_other a r)
+weighs_before s t x a r h k fine = honest_joined (state_with_tree s (with_own_weight s.world.tree t x)) a r (h fine) k
+
+-- one that can be set is set
+now_weighed : (w : WorldState) (t x : ℕ) → own_weight_fault w.tree t x ≡ None → IsAsBefore (with_tree w (with_own_weight w.tree t x)) (after_own_weight w t x)
+now_weighed w t x fine = go (own_weight_fault w.tree t x) fine
+  where
+    go : (o : Option TreeError) → o ≡ None → IsAsBefore (with_tree w (with_own_weight w.tree t x)) (if is_none o then with_tree w (with_own_weight w.tree t x) else w)
+    go None e = (refl, refl, refl, refl, refl, refl)
+    go (Some f) e = absurd (cc)
+
+weighs_takes : (s : State) (t c x : ℕ) → Weighs s t x (takes_weight s t c x)
+unfolding takes_weight
+weighs_takes s t c x fine =
+    let w = after_own_weight s.world t x in
+    let r = call_by_linux (with_world s w) callback.SetWeight (task_and_number t x) t c in
+    honest_from (state_with_tree s (with_own_weight s.world.tree t x)) w r (now_weighed s.world t x fine) (honest_call_by_linux (with_world s w) callback.SetWeight (task_and_number t x) t c (λ e. absurd (cc)))
+
+weighs_changes : (s : State) (t c x : ℕ) → Weighs s t x (changes_weight s t c x)
+unfolding changes_weight
+weighs_changes s t c x =
+    let q = call_by_linux s callback.Quiescent (task_and_number t change_flags) t c in
+    let w = takes_weight q.state t c x in
+    let r = call_by_linux w.state callback.Runnable (task_and_number t restore_flag) t c in
+    weighs_after s t x q (one_after_other w r) (honest_call_by_linux s callback.Quiescent (task_and_number t change_flags) t c (λ e. absurd (cc)))
+    (weighs_before q.state t x w r (weighs_takes q.state t c x) (honest_call_by_linux w.state callback.Runnable (task_and_number t restore_flag) t c (λ e. absurd (cc))))
+
+weighs_running : (s : State) (t c x : ℕ) → Weighs s t x (reweigh_running s t c x)
+unfolding reweigh_running
+weighs_running s t c x =
+    let a = call_by_linux s callback.Stopping (task_and_number t 0) t c in
+    let b = changes_weight a.state t c x in
+    let r = call_by_linux b.state callback.Running (one_task t) t c in
+    weighs_after s t x a (one_after_other b r) (honest_call_by_linux s callback.Stopping (task_and_number t 0) t c (λ e. absurd (cc)))
+    (weighs_before a.state t x b r (weighs_changes a.state t c x) (honest_call_by_linux b.state callback.Running (one_task t) t c (λ e. absurd (cc))))
+
+weighs_waiting : (s : State) (t c x : ℕ) → Weighs s t x (reweigh_waiting s t c x)
+unfolding reweigh_waiting
+weighs_waiting s t c x =
+    let a = leaves_queue s t c change_flags in
+    let b = changes_weight a.state t c x in
+    let r = put b.state t c 0 in
+    weighs_after s t x a (one_after_other b r) (honest_leaves_queue s t c change_flags) (weighs_before a.state t x b r (weighs_changes a.state t c x) (honest_put b.state t c 0))
+
+weighs_off_cpu : (s : State) (t c x : ℕ) → Weighs s t x (reweigh_off_cpu s t c x)
+unfolding reweigh_off_cpu
+weighs_off_cpu s t c x = keeps_if (Weighs s t x) (waits s.world t) (reweigh_waiting s t c x) (takes_weight s t c x) (weighs_waiting s t c x) (weighs_takes s t c x)
+
+weighs_at : (o : Option ℕ) (s : State) (t x : ℕ) → Weighs s t x (reweigh_at o s t x)
+weighs_at None s t x = weighs_off_cpu s t (task_at s.world t).prev_cpu x
+weighs_at (Some c) s t x = weighs_running s t c x
+
+weighs_by_linux : (s : State) (t x : ℕ) → is_by_linux s ≡ true → Weighs s t x (reweigh_by_linux s t x)
+unfolding reweigh_by_linux
+weighs_by_linux s t x linux fine =
+    let v = with_world s (with_waker s.world (Some 0)) in
+    let r = reweigh_at (cpu_of s.world t) v t x in
+    let tree = with_own_weight s.world.tree t x in
+    honest_begun (state_with_tree s tree) (with_tree v.world tree) (record r { state = woken r.state }) (refl, refl, refl, refl) (λ y. tidy_linux (with_tree v.world tree) linux)
+    (honest_ended (state_with_tree v tree) r (with_waker r.state.world None) (refl, refl, refl, refl) (λ y plain. ap (λ (p : Passing). record p { waker = None }) (y plain)) (weighs_at (cpu_of s.world t) v t x fine))
+
+-- a task that has another weight
+pub honest_reweigh : (s : State) (t x : ℕ) (ns : List Note) → own_weight_fault s.world.tree t x ≡ None → IsHonest (state_with_tree s (with_own_weight s.world.tree t x)) (after ns (reweigh s t x))
+unfolding reweigh
+honest_reweigh s t x ns fine = honest_after (state_with_tree s tree) ns (reweigh s t x) (go (is_by_linux s) refl)
+  where
+    tree : Hierarchy
+    tree = with_own_weight s.world.tree t x
+
+    w : WorldState
+    w = after_own_weight s.world t x
+
+    go : (b : Bool) → is_by_linux s ≡ b → IsHonest (state_with_tree s tree) (if b then reweigh_by_linux s t x else stays (with_world s w))
+    go true linux = weighs_by_linux s t x linux fine
+    go false plain = honest_plain (state_with_tree s tree) w [] (now_weighed s.world t x fine)

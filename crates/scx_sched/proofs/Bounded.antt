@@ -7,7 +7,7 @@ use Rattle.std.proofs.lemmas.List.FromFn.{get_or-map-range_with_len, length-map-
 use Rattle.std.proofs.lemmas.List.Sums.{sum_by-cons}
 use Rattle.std.proofs.Math.Nat.{zero-mod}
 use Rattle.scx_weights.specs.declared.group.Group.{Group}
-use Rattle.scx_weights.specs.Hierarchy.{Hierarchy, parent_of, quota_at, period_at, upward, path, lies_in, home_of, with_weight_of, with_weight}
+use Rattle.scx_weights.specs.Hierarchy.{Hierarchy, parent_of, quota_at, period_at, upward, path, lies_in, home_of, with_weight_of, with_weight, with_own_weight}
 use Rattle.scx_weights.specs.Limits.{usage_of, is_used_up, is_throttled_group, is_throttled, begins_period, with_use, with_turn}
 use Rattle.scx_weights.proofs.Reweighed.{parent_reweighed}
 use Rattle.scx_weights.specs.Bounds.{runs_in, cpus_in, StaysBelowQuota}
@@ -88,6 +88,10 @@ within_reweighed t on g x h k quota lt is =
     let within : usage_of t k + cpus_in t k on < quota + length on = h k quota there (sym (quota_reweighed t.groups g x k) ∙ is) in
     let same : cpus_in (with_weight t g x) k on ≡ cpus_in t k on = cpus_same t (with_weight t g x) k (λ j. ap (λ ps. list_any (λ y. y == k) ps) (path_reweighed t.groups g x (home_of t j))) on in
     omega (arith, within, same)
+
+-- a task's own weight changes no usage
+pub within_own : (t : Hierarchy) (on : List (Option ℕ)) (k x : ℕ) → AreWithin t on → AreWithin (with_own_weight t k x) on
+within_own t on k x h g quota lt is = h g quota lt is
 
 any_same : (p q : ℕ → Bool) → ((x : ℕ) → p x ≡ q x) → (xs : List ℕ) → list_any p xs ≡ list_any q xs
 any_same p q h [] = refl

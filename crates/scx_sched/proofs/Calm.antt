@@ -12,6 +12,7 @@ use Rattle.scx_sched_world.specs.declared.call.Insert.{Insert}
 use Rattle.scx_sched_world.specs.declared.eject.Cause.{Cause}
 use Rattle.scx_sched_world.specs.declared.eject.Cause.TheVariants as reason
 use Rattle.scx_sched_world.specs.declared.faults.Fault.{Fault}
+use Rattle.scx_sched_world.specs.declared.timers.Alarm.{Alarm}
 use Rattle.scx_sched_world.specs.World.{WorldState, with_queues}
 use Rattle.scx_sched_world.specs.Tasks.{for_cpu}
 use Rattle.scx_sched_world.specs.Helpers.{with_cause, is_dispatch, with_insert, after_release, insert_or_fault, helper_after, world_functions}
@@ -37,6 +38,9 @@ module _ (v : WorldState) where
   calm_caused : (w : WorldState) (x : Cause) → IsCalm v w → IsCalm v (with_cause w x)
   calm_caused w x h = record { entries = h.entries; pushes = h.pushes; tree = h.tree; ejected = h.ejected; callback = h.callback }
 
+  calm_timed : (w : WorldState) (ts : List (Option Alarm)) → IsCalm v w → IsCalm v (record w { timers = ts })
+  calm_timed w ts h = record { entries = h.entries; pushes = h.pushes; tree = h.tree; ejected = h.ejected; callback = h.callback }
+
   calm_inserted : (w : WorldState) (o : Option Fault) (t : Option ℕ) (i : Insert) → IsCalm v w → IsCalm v (insert_or_fault w o t i)
   calm_inserted w None t i h = go (is_dispatch w.call.callback) h.callback
     where
@@ -55,6 +59,8 @@ module _ (v : WorldState) where
     late = λ linux here. absurd (is_not here);
     claimed = λ o. kept_claim Anywhere (IsCalm v) calm_marks w o h;
     kicked = λ c k. kept_kicked_so Anywhere (IsCalm v) calm_marks w c k h;
+    started = λ t ns. calm_timed w _ h;
+    cancelled = λ t. calm_timed w _ h;
     moved = λ q here low. absurd (is_not here);
   }) f a
     where

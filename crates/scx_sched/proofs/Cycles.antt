@@ -1,7 +1,7 @@
 -- What each small step of a world keeps, whole cycles keep. Before a front is started its queue is cleared, so that
 -- nobody comes to run who may not.
-use Rattle.std.proofs.Common.{◌≡◌, ℕ, zero, suc, ◌+◌, ◌==◌, ◌<◌, Bool, true, false, ◌&&◌, not, if◌then◌else◌, List, length, set, get_or, Option, Some, None, is_some, option_map, refl, sym, ap, ◌∙◌, arith}
-use Rattle.std.proofs.lemmas.Bool.{ne_eqb, eq-eqb}
+use Rattle.std.proofs.Common.{◌≡◌, ℕ, zero, suc, ◌+◌, ◌==◌, ◌<◌, Bool, true, false, ◌&&◌, not, if◌then◌else◌, List, [], ◌∷◌, length, set, get_or, Option, Some, None, is_some, is_none, option_map, refl, sym, ap, ◌∙◌, subst, arith}
+use Rattle.std.proofs.lemmas.Bool.{ne_eqb, eq-eqb, and_parts}
 use Rattle.std.proofs.lemmas.Bool.Decides.{nat_tests}
 use Rattle.std.proofs.lemmas.List.{length-set, get_or-set_same}
 use Rattle.scx_dsq.proofs.Facts.{front_is_known}
@@ -10,26 +10,29 @@ use Rattle.scx_dsq.specs.declared.entries.Entry.{Entry}
 use Rattle.scx_isa_semantics.specs.declared.callbacks.Callback.TheVariants as callback
 use Rattle.scx_weights.specs.Limits.{is_throttled}
 use Rattle.scx_sched_world.specs.Ids.{global, builtin_queue, parked_queue, local_on}
-use Rattle.scx_sched_world.specs.World.{WorldState, task_at}
+use Rattle.scx_sched_world.specs.World.{WorldState, task_at, out_of_cycle, running, note_now}
 use Rattle.scx_sched_world.specs.declared.eject.Eject.{Eject}
+use Rattle.scx_sched_world.specs.declared.notes.What.TheVariants.{Idle}
+use Rattle.scx_sched_world.specs.declared.notes.Note.{Note}
 use Rattle.scx_sched_world.specs.Tasks.{local_len, to_front, after_stop, started_at, after_run, after_take}
 use Rattle.scx_sched_world.proofs.Fronts.{front_in}
 use Rattle.scx_sched_machine.specs.Steps.{State, Stepped, one_after_other, stays, with_world, is_ejected, is_by_linux, kicked}
-use Rattle.scx_sched_machine.specs.Callbacks.{call_back, cpu_and_task}
+use Rattle.scx_sched_machine.specs.Callbacks.{call_back, cpu_and_task, call_by_linux, noted_by, task_and_number, two_numbers}
 use Rattle.scx_sched_machine.specs.Put.{enters, put}
 use Rattle.scx_sched_machine.specs.Filling.{fill}
 use Rattle.scx_sched_machine.specs.Parking.{park, park_front, throttled_front, park_fronts, clear, in_reach, supply}
-use Rattle.scx_sched_machine.specs.Cycle.{has_local, keeps_slice, supply_unless_kept, told_of, after_dispatch, asks_again, tries, after_stopping, switched, put_back, leave, started_if, start as run_front, rest, swap, swap_or_rest, builtin_dispatch, builtin_fill, builtin_ask, builtin_cycle, start_or_cycle, picked, refilled, is_local, start_picked, start_picked_or_cycle, give_up, pick, pick_or_rest, keep_or_pick, conclude, ask, seek, look, cycling, cycle}
+use Rattle.scx_sched_machine.specs.Custody.{tells_dequeued, leaver, tells_of, tells_each, moved_as, hears_dequeue, tells_left}
+use Rattle.scx_sched_machine.specs.Cycle.{has_local, keeps_slice, supply_unless_kept, told_of, after_dispatch, asks_again, tries, after_stopping, switched, put_back, leave, started_if, start as run_front, rest, swap, swap_or_rest, builtin_dispatch, builtin_fill, builtin_ask, builtin_cycle, start_or_cycle, picked, refilled, is_local, start_picked, start_picked_or_cycle, give_up, pick, pick_or_rest, keep_or_pick, conclude, ask, seek, look, cycling, cycle, dispatch_called, hears_idle, tells_idle, tells_busy, makes_way, ends, falls_idle, notes_idle, idle_or_anew, becomes_idle, concluded}
 use Rattle.scx_sched_machine.proofs.Choices.{keeps_if}
-use Rattle.scx_sched.specs.Kept.{IsKeptBySteps, InFront}
+use Rattle.scx_sched.specs.Kept.{IsKeptBySteps, InFront, with_moved}
 use Rattle.scx_sched.specs.Once.{IsSound}
 use Rattle.scx_sched.proofs.Clear.{IsClear, MayStart, IsPicked, tree_used_up, clear_of}
 use Rattle.scx_sched.proofs.Firsts.{no_front_is_empty}
 use Rattle.scx_sched.proofs.Leaving.{LeavesPlainly, out_is_plain}
-use Rattle.scx_sched.proofs.Blaming.{plain_on, honest_supply, honest_builtin_fill, honest_leave}
-use Rattle.scx_sched.proofs.Ready.{ready_leave, picked_leave, linux_in_force}
+use Rattle.scx_sched.proofs.Blaming.{plain_on, honest_supply, honest_builtin_fill, way_plain, honest_makes_way}
+use Rattle.scx_sched.proofs.Ready.{ready_leave, picked_makes_way, linux_in_force}
 use Rattle.scx_sched.proofs.Supplying.{park_fronts_from, clear_from, throttled_is, supply_clears, builtin_clears}
-use Rattle.scx_sched.proofs.Skeleton.{IsKnown, once_for, keeps_call_back, keeps_stopping, keeps_running_on, keeps_put, keeps_kicked, keeps_switched}
+use Rattle.scx_sched.proofs.Skeleton.{IsKnown, once_for, keeps_call_back, keeps_stopping, keeps_running_on, keeps_put, keeps_kicked, keeps_switched, keeps_call_by_linux, keeps_out_of_cycle}
 
 -- whoever keeps each small step knows where each task is
 pub record IsKeptInside (n : ℕ) (I : ℕ → Option ℕ → List (Option ℕ) → WorldState → Type 0) : Type 0 where
@@ -93,12 +96,39 @@ module _ (n : ℕ) (I : ℕ → Option ℕ → List (Option ℕ) → WorldState 
     unfolding supply
     keeps_supply s c l h = keeps_clear (in_reach s c) s c l h
 
+    -- the policy hears who left its custody
+    keeps_tells_of : (o : Option ℕ) (s : State) (c : ℕ) → c < length on → I m None on s.world → I m None on (tells_of o s c).state.world
+    unfolding tells_dequeued
+    keeps_tells_of None s c l h = h
+    keeps_tells_of (Some t) s c l h = keeps_call_by_linux n I k.steps m None on s callback.Dequeue (task_and_number t 0) t c l h
+
+    keeps_tells_each : (ns : List Note) (s : State) (c : ℕ) → c < length on → I m None on s.world → I m None on (tells_each ns s c).state.world
+    keeps_tells_each [] s c l h = h
+    keeps_tells_each (x ∷ xs) s c l h = keeps_tells_each xs (tells_of (leaver x.what) s c).state c l (keeps_tells_of (leaver x.what) s c l h)
+
+    keeps_tells_left : (s : State) (c : ℕ) (ns : List Note) → c < length on → I m None on s.world → I m None on (tells_left s c ns).state.world
+    unfolding tells_left
+    keeps_tells_left s c ns l h = keeps_if (λ (v : Stepped). I m None on v.state.world) (hears_dequeue s) (record (tells_each ns s c) { state = moved_as s.world.call.has_moved r }) (stays s) (keeps_if (λ (v : State). I m None on v.world) (is_ejected r) r (with_world r (with_moved r.world s.world.call.has_moved)) x (k.steps.moved m None on r.world s.world.call.has_moved x)) h
+      where
+        r : State
+        r = (tells_each ns s c).state
+
+        x : I m None on r.world
+        x = keeps_tells_each ns s c l h
+
     -- a call of dispatch
+    pub keeps_dispatch_called : (s : State) (c : ℕ) (p : Option ℕ) → c < length on → I m None on s.world → I m None on (dispatch_called s c p).state.world
+    unfolding dispatch_called
+    keeps_dispatch_called s c p l h =
+        let a = cpu_and_task c (told_of s p) in
+        keeps_tells_left (call_back s callback.Dispatch a 0 c).state c (noted_by s callback.Dispatch a 0 c) l (keeps_call_back n I k.steps m None on s callback.Dispatch a 0 c l h)
+
+    -- and the local queue supplied
     pub keeps_dispatched : (s : State) (c : ℕ) (p : Option ℕ) → c < length on → I m None on s.world → I m None on (after_dispatch s c p).state.world
     unfolding after_dispatch supply_unless_kept
     keeps_dispatched s c p l h =
-        let r = (call_back s callback.Dispatch (cpu_and_task c (told_of s p)) 0 c).state in
-        let x = keeps_call_back n I k.steps m None on s callback.Dispatch (cpu_and_task c (told_of s p)) 0 c l h in
+        let r = (dispatch_called s c p).state in
+        let x = keeps_dispatch_called s c p l h in
         keeps_if (λ (r : Stepped). I m None on r.state.world) (keeps_slice r p) (stays r) (supply r c) x (keeps_supply r c l x)
 
     -- after which the local queue is clear, unless the task before keeps the processor
@@ -110,7 +140,7 @@ module _ (n : ℕ) (I : ℕ → Option ℕ → List (Option ℕ) → WorldState 
     dispatched_clears s c p = go (keeps_slice r p) refl
       where
         r : State
-        r = (call_back s callback.Dispatch (cpu_and_task c (told_of s p)) 0 c).state
+        r = (dispatch_called s c p).state
 
         go : (b : Bool) → keeps_slice r p ≡ b → MayStartUnlessKept c p (if b then stays r else supply r c).state
         go true stays-on left = let bad : true ≡ false = sym stays-on ∙ left in absurd (cc)
@@ -142,25 +172,25 @@ module _ (n : ℕ) (I : ℕ → Option ℕ → List (Option ℕ) → WorldState 
   pub clear_now : (m : ℕ) (on : List (Option ℕ)) (s : State) (c : ℕ) → I m None on s.world → MayStart c s.world → IsClear c s.world
   clear_now m on s c h may = clear_of None on n c s.world (k.sound m None on s.world h) may
 
-  -- somebody runs where
-  abbrev pub Some-on : ℕ → WorldState → Type 0
-  Some-on m w = (on : List (Option ℕ)) × I m None on w
+  -- somebody runs where, and the processor is there
+  abbrev pub Some-on : ℕ → ℕ → WorldState → Type 0
+  Some-on c m w = (on : List (Option ℕ)) × (c < length on) × I m None on w
 
-  keeps_start : (m : ℕ) (on : List (Option ℕ)) (s : State) (c : ℕ) → c < length on → get_or on c None ≡ None → IsClear c s.world → I m None on s.world → Some-on m (run_front s c).state.world
+  keeps_start : (m : ℕ) (on : List (Option ℕ)) (s : State) (c : ℕ) → c < length on → get_or on c None ≡ None → IsClear c s.world → I m None on s.world → Some-on c m (run_front s c).state.world
   unfolding run_front
   keeps_start m on s c l free clear-now h = go (front_of s.world.queues (local_on c)) refl
     where
-      go : (o : Option ℕ) → front_of s.world.queues (local_on c) ≡ o → Some-on m (started_if o s c).state.world
-      go None e = (on, h)
+      go : (o : Option ℕ) → front_of s.world.queues (local_on c) ≡ o → Some-on c m (started_if o s c).state.world
+      go None e = (on, l, h)
       go (Some t) e =
           let l' : c < length (set on c (Some t)) = rw (length-set on c (Some t)) l in
           let v = with_world s (started_at (Some t) s.world c) in
-          (set on c (Some t), keeps_running_on n I k.steps m None (set on c (Some t)) (switched v t) c t l' (keeps_switched n I k.steps m None (set on c (Some t)) v t (k.steps.started m on s.world c t l free e (clear-now t e) h)))
+          (set on c (Some t), l', keeps_running_on n I k.steps m None (set on c (Some t)) (switched v t) c t l' (keeps_switched n I k.steps m None (set on c (Some t)) v t (k.steps.started m on s.world c t l free e (clear-now t e) h)))
 
-  keeps_rest : (m : ℕ) (on : List (Option ℕ)) (s : State) (c : ℕ) (p : Option ℕ) (ran : Bool) → I m None on s.world → Some-on (once_for p m) (rest s c p ran).state.world
+  keeps_rest : (m : ℕ) (on : List (Option ℕ)) (s : State) (c : ℕ) (p : Option ℕ) (ran : Bool) → c < length on → I m None on s.world → Some-on c (once_for p m) (rest s c p ran).state.world
   unfolding rest
-  keeps_rest m on s c None ran h = (on, h)
-  keeps_rest m on s c (Some t) ran h = (on, k.steps.more m None on _ (k.steps.kept m on s.world t h))
+  keeps_rest m on s c None ran l h = (on, l, h)
+  keeps_rest m on s c (Some t) ran l h = (on, l, k.steps.more m None on _ (k.steps.kept m on s.world t h))
 
   -- a task that was stopped is put, or goes to the front
   keeps_put_back : (m : ℕ) (on : List (Option ℕ)) (s : State) (c t : ℕ) → t < n → c < length on → I m (Some t) on s.world → I m None on (put_back s c t).state.world
@@ -193,17 +223,17 @@ module _ (n : ℕ) (I : ℕ → Option ℕ → List (Option ℕ) → WorldState 
 
   -- ---- the built-in scheduler
 
-  keeps_swap : (m : ℕ) (on : List (Option ℕ)) (s : State) (c : ℕ) (p : Option ℕ) → LeavesPlainly p s → c < length on → IsKnown n p → get_or on c None ≡ p → has_local s c ≡ true → IsClear c s.world → I m None on s.world → Some-on (once_for p m) (swap s c p).state.world
+  keeps_swap : (m : ℕ) (on : List (Option ℕ)) (s : State) (c : ℕ) (p : Option ℕ) → LeavesPlainly p s → c < length on → IsKnown n p → get_or on c None ≡ p → has_local s c ≡ true → IsClear c s.world → I m None on s.world → Some-on c (once_for p m) (swap s c p).state.world
   unfolding swap
   keeps_swap m on s c p plain l known runs some clear-now h = let x = keeps_leave m on s c p l known runs h in keeps_start (once_for p m) x.0 (leave s c p).state c x.2 x.3 (ready_left m on s c p plain l known runs some clear-now h) x.1
 
-  keeps_swap_or_rest : (m : ℕ) (on : List (Option ℕ)) (s : State) (c : ℕ) (p : Option ℕ) (ran : Bool) → LeavesPlainly p s → c < length on → IsKnown n p → get_or on c None ≡ p → IsClear c s.world → I m None on s.world → Some-on (once_for p m) (swap_or_rest s c p ran).state.world
+  keeps_swap_or_rest : (m : ℕ) (on : List (Option ℕ)) (s : State) (c : ℕ) (p : Option ℕ) (ran : Bool) → LeavesPlainly p s → c < length on → IsKnown n p → get_or on c None ≡ p → IsClear c s.world → I m None on s.world → Some-on c (once_for p m) (swap_or_rest s c p ran).state.world
   unfolding swap_or_rest
   keeps_swap_or_rest m on s c p ran plain l known runs clear-now h = go (has_local s c) refl
     where
-      go : (b : Bool) → has_local s c ≡ b → Some-on (once_for p m) (if b then swap s c p else rest s c p ran).state.world
+      go : (b : Bool) → has_local s c ≡ b → Some-on c (once_for p m) (if b then swap s c p else rest s c p ran).state.world
       go true some = keeps_swap m on s c p plain l known runs some clear-now h
-      go false none = keeps_rest m on s c p ran h
+      go false none = keeps_rest m on s c p ran l h
 
   -- its dispatch
   pub keeps_builtin_fill : (m : ℕ) (on : List (Option ℕ)) (s : State) (c : ℕ) → c < length on → I m None on s.world → I m None on (builtin_fill s c).state.world
@@ -212,7 +242,7 @@ module _ (n : ℕ) (I : ℕ → Option ℕ → List (Option ℕ) → WorldState 
       let p = park_fronts (len_of s.world.queues builtin_queue) s builtin_queue in
       keeps_if (λ (r : Stepped). I m None on r.state.world) (has_local s c) (stays s) (one_after_other p (fill p.state builtin_queue c)) h (keeps_fill m on p.state builtin_queue c refl l (keeps_park_fronts m on (len_of s.world.queues builtin_queue) s builtin_queue refl h))
 
-  pub keeps_builtin_cycle : (m : ℕ) (on : List (Option ℕ)) (s : State) (c : ℕ) (p : Option ℕ) (ran : Bool) → LeavesPlainly p s → c < length on → IsKnown n p → get_or on c None ≡ p → I m None on s.world → Some-on (once_for p m) (builtin_cycle s c p ran).state.world
+  pub keeps_builtin_cycle : (m : ℕ) (on : List (Option ℕ)) (s : State) (c : ℕ) (p : Option ℕ) (ran : Bool) → LeavesPlainly p s → c < length on → IsKnown n p → get_or on c None ≡ p → I m None on s.world → Some-on c (once_for p m) (builtin_cycle s c p ran).state.world
   unfolding builtin_cycle builtin_ask
   keeps_builtin_cycle m on s c p ran plain l known runs h =
       let f = supply s c in
@@ -225,7 +255,7 @@ module _ (n : ℕ) (I : ℕ → Option ℕ → List (Option ℕ) → WorldState 
       still (Some t) e = plain_on (supply s c).state (builtin_fill (supply s c).state c) (honest_builtin_fill (supply s c).state c) (plain_on s (supply s c) (honest_supply s c) e)
 
   -- where the policy is out of force
-  pub keeps_out : (m : ℕ) (on : List (Option ℕ)) (s : State) (c : ℕ) (p : Option ℕ) (ran : Bool) → is_ejected s ≡ true → c < length on → IsKnown n p → get_or on c None ≡ p → I m None on s.world → Some-on (once_for p m) (builtin_cycle s c p ran).state.world
+  pub keeps_out : (m : ℕ) (on : List (Option ℕ)) (s : State) (c : ℕ) (p : Option ℕ) (ran : Bool) → is_ejected s ≡ true → c < length on → IsKnown n p → get_or on c None ≡ p → I m None on s.world → Some-on c (once_for p m) (builtin_cycle s c p ran).state.world
   keeps_out m on s c p ran out l known runs h = keeps_builtin_cycle m on s c p ran (plainly p) l known runs h
     where
       plainly : (q : Option ℕ) → LeavesPlainly q s
@@ -234,10 +264,10 @@ module _ (n : ℕ) (I : ℕ → Option ℕ → List (Option ℕ) → WorldState 
 
   -- ---- the policy
 
-  keeps_start_or_cycle : (m : ℕ) (on : List (Option ℕ)) (s : State) (c : ℕ) (ran : Bool) → c < length on → get_or on c None ≡ None → IsClear c s.world → I m None on s.world → Some-on m (start_or_cycle s c ran).state.world
+  keeps_start_or_cycle : (m : ℕ) (on : List (Option ℕ)) (s : State) (c : ℕ) (ran : Bool) → c < length on → get_or on c None ≡ None → IsClear c s.world → I m None on s.world → Some-on c m (start_or_cycle s c ran).state.world
   unfolding start_or_cycle
   keeps_start_or_cycle m on s c ran l free clear-now h =
-      keeps_if (λ (r : Stepped). Some-on m r.state.world) (has_local s c) (run_front s c) (builtin_cycle s c None ran) (keeps_start m on s c l free clear-now h) (keeps_builtin_cycle m on s c None ran tt l tt free h)
+      keeps_if (λ (r : Stepped). Some-on c m r.state.world) (has_local s c) (run_front s c) (builtin_cycle s c None ran) (keeps_start m on s c l free clear-now h) (keeps_builtin_cycle m on s c None ran tt l tt free h)
 
   -- a task that is picked gets a slice
   pub keeps_refilled : (m : ℕ) (on : List (Option ℕ)) (s : State) (o : Option ℕ) → I m None on s.world → I m None on (refilled s o).world
@@ -245,21 +275,21 @@ module _ (n : ℕ) (I : ℕ → Option ℕ → List (Option ℕ) → WorldState 
   keeps_refilled m on s (Some t) h = k.steps.kept m on s.world t h
 
   -- it runs, from wherever it waits in the local queue
-  keeps_start_picked : (m : ℕ) (on : List (Option ℕ)) (s : State) (c t : ℕ) → c < length on → get_or on c None ≡ None → is_local s c t ≡ true → is_throttled s.world.tree t ≡ false → I m None on s.world → Some-on m (start_picked s c t).state.world
+  keeps_start_picked : (m : ℕ) (on : List (Option ℕ)) (s : State) (c t : ℕ) → c < length on → get_or on c None ≡ None → is_local s c t ≡ true → is_throttled s.world.tree t ≡ false → I m None on s.world → Some-on c m (start_picked s c t).state.world
   unfolding start_picked
   keeps_start_picked m on s c t l free here may h =
       let l' : c < length (set on c (Some t)) = rw (length-set on c (Some t)) l in
       let v = with_world s (after_run s.world c t) in
-      (set on c (Some t), keeps_running_on n I k.steps m None (set on c (Some t)) (switched v t) c t l' (keeps_switched n I k.steps m None (set on c (Some t)) v t (k.steps.ran m on s.world c t l free here may h)))
+      (set on c (Some t), l', keeps_running_on n I k.steps m None (set on c (Some t)) (switched v t) c t l' (keeps_switched n I k.steps m None (set on c (Some t)) v t (k.steps.ran m on s.world c t l free here may h)))
 
-  keeps_start_picked_or_cycle : (m : ℕ) (on : List (Option ℕ)) (s : State) (c t : ℕ) (ran : Bool) → c < length on → get_or on c None ≡ None → IsPicked c t s.world → is_throttled s.world.tree t ≡ false → I m None on s.world → Some-on m (start_picked_or_cycle (Some t) s c ran).state.world
+  keeps_start_picked_or_cycle : (m : ℕ) (on : List (Option ℕ)) (s : State) (c t : ℕ) (ran : Bool) → c < length on → get_or on c None ≡ None → IsPicked c t s.world → is_throttled s.world.tree t ≡ false → I m None on s.world → Some-on c m (start_picked_or_cycle (Some t) s c ran).state.world
   keeps_start_picked_or_cycle m on s c t ran l free x may h = go (is_local s c t) refl
     where
       clear-left : is_local s c t ≡ false → (o : Option Eject) → s.world.ejected ≡ o → IsClear c s.world
       clear-left gone None force = let bad : true ≡ false = sym (x.there force) ∙ gone in absurd (cc)
       clear-left gone (Some y) out = x.none (ap (λ (o : Option Eject). is_some o) out)
 
-      go : (b : Bool) → is_local s c t ≡ b → Some-on m (if b then start_picked s c t else start_or_cycle s c ran).state.world
+      go : (b : Bool) → is_local s c t ≡ b → Some-on c m (if b then start_picked s c t else start_or_cycle s c ran).state.world
       go true here = keeps_start_picked m on s c t l free here may h
       go false gone = keeps_start_or_cycle m on s c ran l free (clear-left gone s.world.ejected refl) h
 
@@ -274,64 +304,76 @@ module _ (n : ℕ) (I : ℕ → Option ℕ → List (Option ℕ) → WorldState 
       go None x = absurd (cc)
       go (Some q) x = eq-eqb q.queue (local_on c) (same q.queue (local_on c) x)
 
-  keeps_pick : (m : ℕ) (on : List (Option ℕ)) (s : State) (c : ℕ) (p : Option ℕ) (ran : Bool) → c < length on → IsKnown n p → get_or on c None ≡ p → has_local s c ≡ true → IsClear c s.world → I m None on s.world → Some-on (once_for p m) (pick s c p ran).state.world
+  -- the policy hears that the processor isn't idle any more
+  keeps_tells_busy : (m : ℕ) (on : List (Option ℕ)) (s : State) (c : ℕ) (p : Option ℕ) (ran : Bool) → c < length on → I m None on s.world → I m None on (tells_busy s c p ran).state.world
+  unfolding tells_busy tells_idle
+  keeps_tells_busy m on s c None false l h = keeps_call_by_linux n I k.steps m None on s callback.UpdateIdle (two_numbers c 0) 0 c l h
+  keeps_tells_busy m on s c None true l h = h
+  keeps_tells_busy m on s c (Some t) ran l h = h
+
+  -- and the task before leaves
+  keeps_makes_way : (m : ℕ) (on : List (Option ℕ)) (s : State) (c : ℕ) (p : Option ℕ) (ran : Bool) → c < length on → IsKnown n p → get_or on c None ≡ p → I m None on s.world → Left (once_for p m) c (makes_way s c p ran).state.world
+  unfolding makes_way
+  keeps_makes_way m on s c p ran l known runs h = keeps_leave m on (tells_busy s c p ran).state c p l known runs (keeps_tells_busy m on s c p ran l h)
+
+  keeps_pick : (m : ℕ) (on : List (Option ℕ)) (s : State) (c : ℕ) (p : Option ℕ) (ran : Bool) → c < length on → IsKnown n p → get_or on c None ≡ p → has_local s c ≡ true → IsClear c s.world → I m None on s.world → Some-on c (once_for p m) (pick s c p ran).state.world
   unfolding pick picked
   keeps_pick m on s c p ran l known runs some clear-now h = go (is_by_linux s) refl
     where
       after_leaving : Option ℕ → Stepped
-      after_leaving o = leave (refilled s o) c p
+      after_leaving o = makes_way (refilled s o) c p ran
 
       plainly : is_by_linux s ≡ false → (q : Option ℕ) → LeavesPlainly q (refilled s None)
       plainly e None = tt
       plainly e (Some t) = e
 
-      by_front : (o : Option ℕ) → front_of s.world.queues (local_on c) ≡ o → is_by_linux s ≡ true → Some-on (once_for p m) (start_picked_or_cycle o (after_leaving o).state c ran).state.world
+      by_front : (o : Option ℕ) → front_of s.world.queues (local_on c) ≡ o → is_by_linux s ≡ true → Some-on c (once_for p m) (start_picked_or_cycle o (after_leaving o).state c ran).state.world
       by_front None e linux = absurd (omega (arith, no_front_is_empty s.world.queues (local_on c) e, some_local (local_len s.world c) (local_len s.world c == 0) refl some))
       by_front (Some t) e linux =
           let v = refilled s (Some t) in
           let y = keeps_refilled m on s (Some t) h in
-          let x = keeps_leave m on v c p l known runs y in
+          let x = keeps_makes_way m on v c p ran l known runs y in
           let none : is_some v.world.ejected ≡ true → IsClear c v.world = λ out. let bad : true ≡ false = sym out ∙ ap (λ (o : Option Eject). is_some o) (linux_in_force s linux) in absurd (cc) in
-          let z = picked_leave n I k.steps k.sound c t m on v c p l known runs y (record { there = λ force. front_there s c t e; none = none }) in
-          keeps_start_picked_or_cycle (once_for p m) x.0 (leave v c p).state c t ran x.2 x.3 z (ap (λ tree. is_throttled tree t) (honest_leave v c p).tree ∙ clear-now t e) x.1
+          let z = picked_makes_way n I k.steps k.sound c t m on v c p ran l known runs y (record { there = λ force. front_there s c t e; none = none }) in
+          keeps_start_picked_or_cycle (once_for p m) x.0 (makes_way v c p ran).state c t ran x.2 x.3 z (ap (λ tree. is_throttled tree t) (honest_makes_way v c p ran).tree ∙ clear-now t e) x.1
 
-      go : (b : Bool) → is_by_linux s ≡ b → Some-on (once_for p m) (start_picked_or_cycle (if b then front_of s.world.queues (local_on c) else None) (after_leaving (if b then front_of s.world.queues (local_on c) else None)).state c ran).state.world
+      go : (b : Bool) → is_by_linux s ≡ b → Some-on c (once_for p m) (start_picked_or_cycle (if b then front_of s.world.queues (local_on c) else None) (after_leaving (if b then front_of s.world.queues (local_on c) else None)).state c ran).state.world
       go true linux = by_front (front_of s.world.queues (local_on c)) refl linux
       go false plain =
           let v = refilled s None in
           let x = keeps_leave m on v c p l known runs h in
-          keeps_start_or_cycle (once_for p m) x.0 (leave v c p).state c ran x.2 x.3 (ready_left m on v c p (plainly plain p) l known runs some clear-now h) x.1
+          subst (λ (r : State). Some-on c (once_for p m) (start_or_cycle r c ran).state.world) (sym (way_plain v c p ran plain)) (keeps_start_or_cycle (once_for p m) x.0 (leave v c p).state c ran x.2 x.3 (ready_left m on v c p (plainly plain p) l known runs some clear-now h) x.1)
 
-  keeps_pick_or_rest : (m : ℕ) (on : List (Option ℕ)) (s : State) (c : ℕ) (p : Option ℕ) (ran : Bool) → c < length on → IsKnown n p → get_or on c None ≡ p → IsClear c s.world → I m None on s.world → Some-on (once_for p m) (pick_or_rest s c p ran).state.world
+  keeps_pick_or_rest : (m : ℕ) (on : List (Option ℕ)) (s : State) (c : ℕ) (p : Option ℕ) (ran : Bool) → c < length on → IsKnown n p → get_or on c None ≡ p → IsClear c s.world → I m None on s.world → Some-on c (once_for p m) (pick_or_rest s c p ran).state.world
   unfolding pick_or_rest
   keeps_pick_or_rest m on s c p ran l known runs clear-now h = go (has_local s c) refl
     where
-      go : (b : Bool) → has_local s c ≡ b → Some-on (once_for p m) (if b then pick s c p ran else rest s c p ran).state.world
+      go : (b : Bool) → has_local s c ≡ b → Some-on c (once_for p m) (if b then pick s c p ran else rest s c p ran).state.world
       go true some = keeps_pick m on s c p ran l known runs some clear-now h
-      go false none = keeps_rest m on s c p ran h
+      go false none = keeps_rest m on s c p ran l h
 
   -- who keeps the processor stays
-  keeps_keep_or_pick : (m : ℕ) (on : List (Option ℕ)) (s : State) (c : ℕ) (p : Option ℕ) (ran : Bool) → c < length on → IsKnown n p → get_or on c None ≡ p → MayStartUnlessKept m on c p s → I m None on s.world → Some-on (once_for p m) (keep_or_pick s c p ran).state.world
+  keeps_keep_or_pick : (m : ℕ) (on : List (Option ℕ)) (s : State) (c : ℕ) (p : Option ℕ) (ran : Bool) → c < length on → IsKnown n p → get_or on c None ≡ p → MayStartUnlessKept m on c p s → I m None on s.world → Some-on c (once_for p m) (keep_or_pick s c p ran).state.world
   unfolding keep_or_pick
   keeps_keep_or_pick m on s c p ran l known runs may h = go (keeps_slice s p) refl
     where
-      go : (b : Bool) → keeps_slice s p ≡ b → Some-on (once_for p m) (if b then stays s else pick_or_rest s c p ran).state.world
-      go true kept = (on, stays_on p)
+      go : (b : Bool) → keeps_slice s p ≡ b → Some-on c (once_for p m) (if b then stays s else pick_or_rest s c p ran).state.world
+      go true kept = (on, l, stays_on p)
         where
           stays_on : (p : Option ℕ) → I (once_for p m) None on s.world
           stays_on None = h
           stays_on (Some t) = k.steps.more m None on s.world h
       go false off = keeps_pick_or_rest m on s c p ran l known runs (clear_now m on s c h (may off)) h
 
-  keeps_conclude : (m : ℕ) (on : List (Option ℕ)) (s : State) (c : ℕ) (p : Option ℕ) (ran : Bool) → c < length on → IsKnown n p → get_or on c None ≡ p → MayStartUnlessKept m on c p s → I m None on s.world → Some-on (once_for p m) (conclude s c p ran).state.world
+  keeps_conclude : (m : ℕ) (on : List (Option ℕ)) (s : State) (c : ℕ) (p : Option ℕ) (ran : Bool) → c < length on → IsKnown n p → get_or on c None ≡ p → MayStartUnlessKept m on c p s → I m None on s.world → Some-on c (once_for p m) (conclude s c p ran).state.world
   unfolding conclude
   keeps_conclude m on s c p ran l known runs may h = go (is_ejected s) refl
     where
-      go : (b : Bool) → is_ejected s ≡ b → Some-on (once_for p m) (if b then builtin_cycle s c p ran else keep_or_pick s c p ran).state.world
+      go : (b : Bool) → is_ejected s ≡ b → Some-on c (once_for p m) (if b then builtin_cycle s c p ran else keep_or_pick s c p ran).state.world
       go true out = keeps_out m on s c p ran out l known runs h
       go false force = keeps_keep_or_pick m on s c p ran l known runs may h
 
-  keeps_ask : (m : ℕ) (on : List (Option ℕ)) (s : State) (c : ℕ) (p : Option ℕ) (ran : Bool) → c < length on → IsKnown n p → get_or on c None ≡ p → MayStart c s.world → I m None on s.world → Some-on (once_for p m) (ask s c p ran).state.world
+  keeps_ask : (m : ℕ) (on : List (Option ℕ)) (s : State) (c : ℕ) (p : Option ℕ) (ran : Bool) → c < length on → IsKnown n p → get_or on c None ≡ p → MayStart c s.world → I m None on s.world → Some-on c (once_for p m) (ask s c p ran).state.world
   unfolding ask give_up
   keeps_ask m on s c p ran l known runs may h =
       let x = keeps_tries m on 32 s c p l h in
@@ -346,7 +388,7 @@ module _ (n : ℕ) (I : ℕ → Option ℕ → List (Option ℕ) → WorldState 
           kicked_clear None y = y
           kicked_clear (Some t) y = y
 
-  keeps_seek : (m : ℕ) (on : List (Option ℕ)) (s : State) (c : ℕ) (p : Option ℕ) (ran : Bool) → c < length on → IsKnown n p → get_or on c None ≡ p → I m None on s.world → Some-on (once_for p m) (seek s c p ran).state.world
+  keeps_seek : (m : ℕ) (on : List (Option ℕ)) (s : State) (c : ℕ) (p : Option ℕ) (ran : Bool) → c < length on → IsKnown n p → get_or on c None ≡ p → I m None on s.world → Some-on c (once_for p m) (seek s c p ran).state.world
   unfolding seek
   keeps_seek m on s c p ran l known runs h = go (has_local f c) refl
     where
@@ -356,23 +398,58 @@ module _ (n : ℕ) (I : ℕ → Option ℕ → List (Option ℕ) → WorldState 
       x : I m None on f.world
       x = keeps_supply m on s c l h
 
-      go : (b : Bool) → has_local f c ≡ b → Some-on (once_for p m) (if b then pick f c p ran else ask f c p ran).state.world
+      go : (b : Bool) → has_local f c ≡ b → Some-on c (once_for p m) (if b then pick f c p ran else ask f c p ran).state.world
       go true some = keeps_pick m on f c p ran l known runs some (clear_now m on f c x (supply_clears s c)) x
       go false none = keeps_ask m on f c p ran l known runs (supply_clears s c) x
 
   -- ---- whichever is in force
 
-  keeps_look : (m : ℕ) (on : List (Option ℕ)) (s : State) (c : ℕ) (p : Option ℕ) (ran : Bool) → c < length on → IsKnown n p → get_or on c None ≡ p → I m None on s.world → Some-on (once_for p m) (look s c p ran).state.world
+  keeps_look : (m : ℕ) (on : List (Option ℕ)) (s : State) (c : ℕ) (p : Option ℕ) (ran : Bool) → c < length on → IsKnown n p → get_or on c None ≡ p → I m None on s.world → Some-on c (once_for p m) (look s c p ran).state.world
   unfolding look
   keeps_look m on s c p ran l known runs h = go (is_ejected s) refl
     where
-      go : (b : Bool) → is_ejected s ≡ b → Some-on (once_for p m) (if b then builtin_cycle s c p ran else seek s c p ran).state.world
+      go : (b : Bool) → is_ejected s ≡ b → Some-on c (once_for p m) (if b then builtin_cycle s c p ran else seek s c p ran).state.world
       go true out = keeps_out m on s c p ran out l known runs h
       go false force = keeps_seek m on s c p ran l known runs h
 
+  -- ---- a processor that falls idle
+
+  -- once the policy has heard of it
+  keeps_idle_or_anew : (m : ℕ) (on : List (Option ℕ)) (s : State) (c : ℕ) → c < length on → get_or on c None ≡ None → I m None on s.world → (on : List (Option ℕ)) × I m None on (idle_or_anew s c).state.world
+  unfolding idle_or_anew notes_idle
+  keeps_idle_or_anew m on s c l free h =
+      let v = cycling s (Some c) in
+      let x = keeps_builtin_cycle m on v c None true tt l tt free (k.steps.cycling m None on s.world (Some c) h) in
+      keeps_if (λ (r : Stepped). (on : List (Option ℕ)) × I m None on r.state.world) (is_ejected s) (ends (builtin_cycle v c None true)) (record { state = cycling s None; notes = note_now s.world (Idle c) ∷ []; calls = [] })
+      (x.0, k.steps.cycling m None x.0 (builtin_cycle v c None true).state.world None x.2) (on, k.steps.cycling m None on s.world None h)
+
+  keeps_becomes_idle : (m : ℕ) (on : List (Option ℕ)) (s : State) (c : ℕ) → c < length on → get_or on c None ≡ None → I m None on s.world → (on : List (Option ℕ)) × I m None on (becomes_idle s c).state.world
+  unfolding becomes_idle tells_idle
+  keeps_becomes_idle m on s c l free h =
+      let v = with_world s (out_of_cycle s.world) in
+      let r = call_by_linux v callback.UpdateIdle (two_numbers c 1) 0 c in
+      keeps_idle_or_anew m on r.state c l free (keeps_call_by_linux n I k.steps m None on v callback.UpdateIdle (two_numbers c 1) 0 c l (keeps_out_of_cycle n I k.steps m None on s.world h))
+
+  -- no task runs on a processor that falls idle
+  nobody_runs : (s : State) (c : ℕ) (ran : Bool) → falls_idle s c ran ≡ true → running s.world c ≡ None
+  unfolding falls_idle
+  nobody_runs s c ran e = go (running s.world c) (and_parts (hears_idle s) _ (and_parts ran _ e).1).1
+    where
+      go : (o : Option ℕ) → is_none o ≡ true → o ≡ None
+      go None x = refl
+      go (Some t) x = absurd (cc)
+
+  keeps_concluded : (m : ℕ) (on : List (Option ℕ)) (s : State) (c : ℕ) (ran : Bool) → c < length on → I m None on s.world → (on : List (Option ℕ)) × I m None on (concluded s c ran).state.world
+  unfolding concluded
+  keeps_concluded m on s c ran l h = go (falls_idle s c ran) refl
+    where
+      go : (b : Bool) → falls_idle s c ran ≡ b → (on : List (Option ℕ)) × I m None on (if b then becomes_idle s c else stays (cycling s None)).state.world
+      go true e = keeps_becomes_idle m on s c l (subst (λ (xs : List (Option ℕ)). get_or xs c None ≡ None) (k.sound m None on s.world h).cpus (nobody_runs s c ran e)) h
+      go false e = (on, k.steps.cycling m None on s.world None h)
+
   -- a whole cycle
-  pub keeps_cycle : (m : ℕ) (on : List (Option ℕ)) (s : State) (c : ℕ) (p : Option ℕ) (ran : Bool) → c < length on → IsKnown n p → get_or on c None ≡ p → I m None on s.world → Some-on (once_for p m) (cycle s c p ran).state.world
+  pub keeps_cycle : (m : ℕ) (on : List (Option ℕ)) (s : State) (c : ℕ) (p : Option ℕ) (ran : Bool) → c < length on → IsKnown n p → get_or on c None ≡ p → I m None on s.world → (on : List (Option ℕ)) × I (once_for p m) None on (cycle s c p ran).state.world
   unfolding cycle
   keeps_cycle m on s c p ran l known runs h =
       let x = keeps_look m on (cycling s (Some c)) c p ran l known runs (k.steps.cycling m None on s.world (Some c) h) in
-      (x.0, k.steps.cycling (once_for p m) None x.0 (look (cycling s (Some c)) c p ran).state.world None x.1)
+      keeps_concluded (once_for p m) x.0 (look (cycling s (Some c)) c p ran).state c ran x.1 x.2

@@ -1,22 +1,25 @@
 -- What events alone decide: the clock, who is runnable, the weights and what was used of quotas. No callback and no cycle
 -- changes these.
-use Rattle.std.proofs.Common.{◌≡◌, ℕ, ◌+◌, ◌<◌, Bool, true, false, ◌==◌, nat_lt, nat_le, if◌then◌else◌, List, [], length, set, get_or, Option, Some, None, refl, sym, ap, subst, ◌∙◌, arith}
+use Rattle.std.proofs.Common.{◌≡◌, ℕ, ◌+◌, ◌<◌, Bool, true, false, ◌==◌, nat_lt, nat_le, if◌then◌else◌, List, [], length, set, get_or, Option, Some, None, refl, sym, ap, subst, ◌∙◌, arith, ◌++◌, ◌∷◌}
 use Rattle.std.proofs.lemmas.Bool.Decides.{nat_tests}
 use Rattle.std.proofs.lemmas.List.{length-set}
 use Rattle.std.proofs.lemmas.List.Quantifiers.{position-Some}
 use Rattle.scx_weights.specs.Hierarchy.{Hierarchy}
-use Rattle.scx_weights.specs.Refusals.{max_weight, is_outside, weight_fault}
+use Rattle.scx_weights.specs.Refusals.{max_weight, is_outside, weight_fault, own_weight_fault}
 use Rattle.scx_sched_world.specs.declared.eject.Eject.{Eject}
 use Rattle.scx_sched_world.specs.declared.eject.Eject.TheVariants as cause
-use Rattle.scx_sched_world.specs.World.{is_this, cpu_of}
-use Rattle.scx_sched_world.specs.Tasks.{after_stop, after_tick, later, begun_periods}
+use Rattle.scx_sched_world.specs.declared.notes.What.TheVariants as note
+use Rattle.scx_sched_world.specs.World.{is_this, cpu_of, task_at, note_now}
+use Rattle.scx_sched_world.specs.Tasks.{after_stop, after_tick, later, begun_periods, after_leave}
 use Rattle.scx_sched_machine.specs.declared.events.Event.{Event}
-use Rattle.scx_sched_machine.specs.declared.events.Event.TheVariants.{Wake, Sleep, Tick, Clock, SetWeight}
-use Rattle.scx_sched_machine.specs.declared.events.Refused.TheVariants.{UnknownGroup, BadWeight, RunOver}
+use Rattle.scx_sched_machine.specs.declared.events.Event.TheVariants.{Wake, Sleep, Tick, Clock, SetWeight, SetTaskWeight}
+use Rattle.scx_sched_machine.specs.declared.events.Refused.TheVariants.{UnknownGroup, BadWeight, RunOver, UnknownTask}
 use Rattle.scx_sched_machine.specs.Steps.{State, Stepped, with_world, stays, one_after_other, is_by_linux}
 use Rattle.scx_sched_machine.specs.Ejecting.{eject}
 use Rattle.scx_sched_machine.specs.Parking.{let_all_go}
-use Rattle.scx_sched_machine.specs.Events.{wake, leaves_cpu, sleep, tick, overdue, eject_if_stalled, clock, own_step, event_step}
+use Rattle.scx_sched_machine.specs.Custody.{is_in_custody, tells_dequeued_if}
+use Rattle.scx_sched_machine.specs.Firing.{fire_all}
+use Rattle.scx_sched_machine.specs.Events.{wake, leaves_cpu, sleep, tick, overdue, eject_if_stalled, clock, own_step, event_step, leaves_queue, watch, timers_and_watchdog}
 use Rattle.scx_sched_machine.specs.Rounds.{with_rounds}
 use Rattle.scx_sched_machine.specs.Events as machine
 use Rattle.scx_sched.specs.Sim.{SimState, max_events, refusal, calls_if, IsValid}
@@ -24,9 +27,9 @@ use Rattle.scx_sched.specs.Ranges.{IsFine}
 use Rattle.scx_sched.specs.Decided.{clock_after, tree_after, EventsDecide}
 use Rattle.scx_sched.proofs.Unchanged.{eject_sets}
 use Rattle.scx_sched.proofs.Fine.{fine_steps}
-use Rattle.scx_sched.proofs.Events.{IsFineNow, IsTaken, Wakes, Sleeps, Ticks, Clocks, Weighs, is_task, is_taken, known_running, fine_events, fine_ticked, keeps_leaves_cpu, keeps_heard}
+use Rattle.scx_sched.proofs.Events.{IsFineNow, IsTaken, Wakes, Sleeps, Ticks, Clocks, Weighs, is_task, is_taken, known_running, fine_events, fine_ticked, keeps_leaves_cpu, keeps_heard, WeighsTask, custody_waits, keeps_leaves_queue}
 use Rattle.scx_sched.proofs.Tallies.{run_times}
-use Rattle.scx_sched.proofs.Blaming.{IsHonest, state_with_tree, ticked, none_of, eject_policy, eject_calls, honest_wake, honest_sleep, honest_tick, honest_weight, honest_let_all_go, honest_joined, honest_stays, honest_with_rounds, no_rounds, plain_on}
+use Rattle.scx_sched.proofs.Blaming.{IsHonest, state_with_tree, ticked, none_of, eject_policy, eject_calls, honest_wake, honest_sleep, honest_tick, honest_weight, honest_let_all_go, honest_joined, honest_stays, honest_with_rounds, no_rounds, plain_on, honest_fire_all, honest_reweigh}
 
 pub record IsAccepted (s : SimState) (v : Event) : Type 0 where
   pub not_over : (s.events == max_events) ≡ false
@@ -46,6 +49,15 @@ can_set h g x e = go (nat_lt g (length h.groups)) (is_outside max_weight x) refl
   where
     go : (a b : Bool) → nat_lt g (length h.groups) ≡ a → is_outside max_weight x ≡ b → (if a then (if b then Some BadWeight else None) else Some UnknownGroup) ≡ None → weight_fault h g x ≡ None
     go true false y z f = let known : nat_le (length h.groups) g ≡ false = grind (arith, nat_tests, y) in rw (known, z) refl
+    go true true y z f = absurd (cc)
+    go false b y z f = absurd (cc)
+
+-- nor one of a task, in a sound world
+can_set_own : (h : Hierarchy) (m t x : ℕ) → length h.homes ≡ m → (if nat_lt t m then (if is_outside max_weight x then Some BadWeight else None) else Some UnknownTask) ≡ None → own_weight_fault h t x ≡ None
+can_set_own h m t x many e = go (nat_lt t m) (is_outside max_weight x) refl refl e
+  where
+    go : (a b : Bool) → nat_lt t m ≡ a → is_outside max_weight x ≡ b → (if a then (if b then Some BadWeight else None) else Some UnknownTask) ≡ None → own_weight_fault h t x ≡ None
+    go true false y z f = let known : nat_le (length h.homes) t ≡ false = grind (arith, nat_tests, y, many) in rw (known, z) refl
     go true true y z f = absurd (cc)
     go false b y z f = absurd (cc)
 
@@ -73,11 +85,28 @@ module _ (s : State) (n : ℕ) (fine : IsFineNow (length s.world.tasks) n n s.wo
       let off : IsFine many (n + 1) n None s.world.cpus (ticked s c t).state.world = keeps_heard many (IsFine many (n + 1)) (fine_events many (n + 1)) n s.world.cpus (with_world s (after_tick s.world t)) c t l x.ran in
       subst (λ k. t < k) (sym off.sound.tasks) (known_running many n n s.world c t l at fine)
 
+  -- nor one that leaves its queue to sleep
+  left_known : (t : ℕ) → t < many → t < length (leaves_queue s t (task_at s.world t).prev_cpu 1).state.world.tasks
+  unfolding leaves_queue
+  left_known t within = go (is_in_custody s.world t) refl
+    where
+      c : ℕ
+      c = (task_at s.world t).prev_cpu
+
+      v : State
+      v = with_world s (after_leave s.world t)
+
+      go : (b : Bool) → is_in_custody s.world t ≡ b → t < length (leaves_queue s t c 1).state.world.tasks
+      go true e =
+          let x : IsFine many n n (Some t) s.world.cpus (leaves_queue s t c 1).state.world = keeps_leaves_queue many (IsFine many n) (fine_events many n) n s.world.cpus s t c 1 within (fine.sound.homes t) (custody_waits s.world t e) fine in
+          subst (λ k. t < k) (sym x.sound.tasks) within
+      go false e = subst (λ b. t < length (tells_dequeued_if b v t c 1).state.world.tasks) (sym e) within
+
   pub wake_is_honest : (t : ℕ) → IsHonestEvent s (Wake t)
-  wake_is_honest t = honest_with_rounds _ (wake s t) (honest_wake s t (omega (arith, fine.sound.here)))
+  wake_is_honest t = honest_with_rounds _ (wake s t) (honest_wake s t (omega (arith, fine.sound.homes t)))
 
   pub sleep_is_honest : (t : ℕ) → t < many → IsHonestEvent s (Sleep t)
-  sleep_is_honest t within = honest_with_rounds _ (sleep s t) (honest_sleep s t within (λ c at. still_known t c within at))
+  sleep_is_honest t within = honest_with_rounds _ (sleep s t) (honest_sleep s t (left_known t within) (λ c at. still_known t c within at))
 
   -- a tick leaves plain rules
   pub tick_plain : (c : ℕ) → c < length s.world.cpus → is_by_linux s ≡ false → is_by_linux (tick s c).state ≡ false
@@ -89,6 +118,9 @@ module _ (s : State) (n : ℕ) (fine : IsFineNow (length s.world.tasks) n n s.wo
   pub weight_is_honest : (g x : ℕ) → machine.refusal s (SetWeight g x) ≡ None → IsHonestEvent s (SetWeight g x)
   weight_is_honest g x ok = honest_with_rounds _ (own_step s (SetWeight g x)) (honest_weight s g x _ (can_set s.world.tree g x ok))
 
+  pub task_weight_is_honest : (t x : ℕ) → machine.refusal s (SetTaskWeight t x) ≡ None → IsHonestEvent s (SetTaskWeight t x)
+  task_weight_is_honest t x ok = honest_with_rounds _ (own_step s (SetTaskWeight t x)) (honest_reweigh s t x (note_now s.world (note.TaskWeight t x) ∷ []) (can_set_own s.world.tree many t x fine.sound.members ok))
+
 -- of an accepted event
 pub record IsDecided (e : Event) (s : State) (r : Stepped) : Type 0 where
   pub clock : r.state.world.clock ≡ clock_after e s.world.clock
@@ -97,10 +129,10 @@ pub record IsDecided (e : Event) (s : State) (r : Stepped) : Type 0 where
   pub policy : r.state.policy ≡ s.policy
   pub silent : (x : Eject) → s.world.ejected ≡ Some x → r.calls ≡ []
 
--- the clock: tasks are let go, and the watchdog looks
+-- the clock: tasks are let go, timers run, and the watchdog looks
 clock_decides : (s : State) → IsDecided Clock s (event_step s Clock)
-unfolding clock
-clock_decides s = go (overdue r.state)
+unfolding clock timers_and_watchdog watch
+clock_decides s = go (overdue f.state)
   where
     v : State
     v = with_world s (begun_periods (later s.world))
@@ -108,18 +140,32 @@ clock_decides s = go (overdue r.state)
     r : Stepped
     r = let_all_go v
 
+    f : Stepped
+    f = fire_all r.state
+
     h : IsHonest v r
     h = honest_let_all_go v
 
-    go : (o : Option ℕ) → IsDecided Clock s (with_rounds (one_after_other r (eject_if_stalled o r.state)))
+    k : IsHonest r.state f
+    k = honest_fire_all r.state
+
+    go : (o : Option ℕ) → IsDecided Clock s (with_rounds (one_after_other r (one_after_other f (eject_if_stalled o f.state))))
     go None =
-        let i = honest_with_rounds v (one_after_other r (stays r.state)) (honest_joined v r (stays r.state) h (honest_stays r.state)) in
+        let y = one_after_other f (stays f.state) in
+        let i = honest_with_rounds v (one_after_other r y) (honest_joined v r y h (honest_joined r.state f (stays f.state) k (honest_stays f.state))) in
         record { clock = i.clock; tree = i.tree; rules = i.rules; policy = i.policy; silent = i.silent }
     go (Some t) =
-        let y = cause.Stall t r.state.world.clock in
-        let sets = eject_sets r.state y in
-        subst (λ (x : Stepped). IsDecided Clock s x) (sym (no_rounds (one_after_other r (eject r.state y)) y sets.1))
-        (record { clock = sets.0 ∙ h.clock; tree = sets.3 ∙ h.tree; rules = sets.4 ∙ h.rules; policy = eject_policy r.state y ∙ h.policy; silent = λ x out. none_of r.calls (eject_if_stalled (Some t) r.state).calls (h.silent x out) (eject_calls r.state y) })
+        let y = cause.Stall t f.state.world.clock in
+        let w = eject f.state y in
+        let sets = eject_sets f.state y in
+        subst (λ (x : Stepped). IsDecided Clock s x) (sym (no_rounds (one_after_other r (one_after_other f w)) y sets.1))
+        (record {
+          clock = sets.0 ∙ (k.clock ∙ h.clock);
+          tree = sets.3 ∙ (k.tree ∙ h.tree);
+          rules = sets.4 ∙ (k.rules ∙ h.rules);
+          policy = eject_policy f.state y ∙ (k.policy ∙ h.policy);
+          silent = λ x out. none_of r.calls (f.calls ++ w.calls) (h.silent x out) (none_of f.calls w.calls (k.silent x (h.stays x out)) (eject_calls f.state y));
+        })
 
 decided : (v : Event) (s : State) → IsHonestEvent s v → clock_after v s.world.clock ≡ s.world.clock → IsDecided v s (event_step s v)
 decided v s h now = record { clock = h.clock ∙ sym now; tree = h.tree; rules = h.rules; policy = h.policy; silent = h.silent }
@@ -134,6 +180,7 @@ decides s n v ok fine = go v (is_taken s v ok) ok
     go _ (Ticks c l) ok = decided (Tick c) s (tick_is_honest s n fine c l) refl
     go _ Clocks ok = clock_decides s
     go _ (Weighs g x) ok = decided (SetWeight g x) s (weight_is_honest s n fine g x ok) refl
+    go _ (WeighsTask t x within) ok = decided (SetTaskWeight t x) s (task_weight_is_honest s n fine t x ok) refl
 
 -- of a machine between two events
 pub step_decides : (s : State) (n : ℕ) (v : Event) → refusal (record { state = s; events = n }) v ≡ None → IsValid s n → EventsDecide (record { state = s; events = n }) v (record { state = (event_step s v).state; events = n + 1 })

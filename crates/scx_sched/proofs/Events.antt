@@ -1,43 +1,48 @@
 -- Each event keeps what holds between two events.
-use Rattle.std.proofs.Common.{unwrap_or, ◌≡◌, ℕ, zero, suc, not, ◌+◌, ◌<◌, ◌≤◌, Bool, true, false, ◌&&◌, ◌==◌, nat_lt, ◌⊎◌, inl, inr, if◌then◌else◌, cond, List, length, set, get_or, Option, Some, None, is_some, is_none, refl, sym, ap, ◌∙◌, subst, arith}
-use Rattle.std.proofs.lemmas.Bool.{cases_lt, eq-eqb, lt-ltb}
+use Rattle.std.proofs.Common.{unwrap_or, ◌≡◌, ℕ, zero, suc, not, ◌+◌, ◌<◌, ◌≤◌, Bool, true, false, ◌&&◌, ◌||◌, ◌==◌, nat_lt, ◌⊎◌, inl, inr, if◌then◌else◌, cond, List, length, set, get_or, Option, Some, None, is_some, is_none, refl, sym, ap, ◌∙◌, subst, arith}
+use Rattle.std.proofs.lemmas.Bool.{cases_lt, eq-eqb, ne_eqb, lt-ltb}
 use Rattle.std.proofs.lemmas.Bool.Decides.{nat_tests}
 use Rattle.std.proofs.lemmas.List.{length-set, get_or-set_same, get_or_past}
 use Rattle.std.proofs.lemmas.List.Quantifiers.{position-Some}
 use Rattle.std.proofs.lemmas.List.Sums.{sum_by-set}
+use Rattle.scx_dsq.specs.Queues.{queue_of}
 use Rattle.scx_dsq.specs.Laws.{one_if}
 use Rattle.scx_isa_semantics.specs.declared.callbacks.Callback.TheVariants as callback
-use Rattle.scx_weights.specs.Hierarchy.{with_weight}
+use Rattle.scx_weights.specs.Hierarchy.{with_weight, with_own_weight}
 use Rattle.scx_weights.specs.Limits.{with_use, usage_of}
 use Rattle.scx_weights.specs.Limits as limits
-use Rattle.scx_weights.specs.Refusals.{weight_fault}
+use Rattle.scx_weights.specs.Refusals.{weight_fault, own_weight_fault, is_outside, max_weight}
 use Rattle.scx_vm.specs.Programs.{VerifiedProgram}
+use Rattle.scx_sched_world.specs.Ids.{policy_end, held_queue, parked_queue}
 use Rattle.scx_sched_world.specs.CpuSets.{is_in_set, and_cpu, but_cpu}
 use Rattle.scx_sched_world.specs.World as world
-use Rattle.scx_sched_world.specs.World.{WorldState, with_tree, switch_at, with_switch, task_at, is_this, is_runnable, is_throttled, running, cpu_of, without_kick, with_slept, with_waker, is_idle, is_free, this_if, or_this, free_below, first_free, choice, default_choice, after_claim, at_callback}
+use Rattle.scx_sched_world.specs.World.{WorldState, with_tree, switch_at, with_switch, task_at, is_this, is_runnable, is_throttled, running, cpu_of, without_kick, with_slept, with_waker, is_idle, is_free, this_if, or_this, free_below, first_free, choice, default_choice, after_claim, at_callback, waits_in, waits, free_choice}
 use Rattle.scx_sched_world.specs.declared.call.Insert.{Insert}
+use Rattle.scx_sched_world.specs.declared.timers.Alarm.{Alarm}
 use Rattle.scx_sched_world.specs.Pending.{is_pending, pending_below, first_pending}
-use Rattle.scx_sched_world.specs.Helpers.{is_dispatch}
-use Rattle.scx_sched_world.specs.Tasks.{homed, for_cpu, after_cut_off, after_wake, after_sleep, after_leave, after_stop, let_go, ran_a_tick, after_tick, used_ms, later, begun_periods, after_reweigh}
+use Rattle.scx_sched_world.specs.Helpers.{is_dispatch, with_timer, after_fire}
+use Rattle.scx_sched_world.specs.Tasks.{homed, for_cpu, after_cut_off, after_wake, after_sleep, after_leave, after_stop, let_go, ran_a_tick, after_tick, used_ms, later, begun_periods, after_reweigh, after_own_weight}
 use Rattle.scx_sched_machine.specs.declared.events.Event.{Event}
-use Rattle.scx_sched_machine.specs.declared.events.Event.TheVariants.{Wake, Sleep, Tick, Clock, SetWeight}
-use Rattle.scx_sched_machine.specs.declared.events.Refused.TheVariants.{AlreadyRunnable, NotRunnable, UnknownTask, UnknownCpu}
+use Rattle.scx_sched_machine.specs.declared.events.Event.TheVariants.{Wake, Sleep, Tick, Clock, SetWeight, SetTaskWeight}
+use Rattle.scx_sched_machine.specs.declared.events.Refused.TheVariants.{AlreadyRunnable, NotRunnable, UnknownTask, UnknownCpu, BadWeight}
 use Rattle.scx_sched_machine.specs.Steps.{State, Stepped, with_world, stays, one_after_other, is_ejected, is_by_linux, kicked_if_idle}
-use Rattle.scx_sched_machine.specs.Callbacks.{acting, call_back, call_by_linux, answered_by, one_task, task_cpu_and_0, task_and_number}
+use Rattle.scx_sched_machine.specs.Callbacks.{acting, call_back, call_by_linux, answered_by, one_task, task_cpu_and_0, task_and_number, one_number}
 use Rattle.scx_sched_machine.specs.Parking.{park, let_all_go}
 use Rattle.scx_sched_machine.specs.Policy.{program_of}
+use Rattle.scx_sched_machine.specs.Custody.{is_custody, is_in_custody, tells_dequeued, tells_dequeued_if}
 use Rattle.scx_sched_machine.specs.Cycle.{cycle}
-use Rattle.scx_sched_machine.specs.Events.{refusal, target, insert_or_put, woken, wake_target, comes_to, while_in_force, told_runnable, settle, inserted_by_choice, chosen, ask_target, asks_target, select, from_waker, wake, told_of_sleep, falls_asleep, looks_after_sleep, leaves_cpu, sleep_from_cpu, sleep_from, sleep, throttle, ends_slices, expire, use_up, hears_tick, tick_heard, count_down, tick_idle, tick_of, tick, overdue, eject_if_stalled, clock, own_step, event_step}
+use Rattle.scx_sched_machine.specs.Firing.{due, fires, fire, fire_below, fire_all}
+use Rattle.scx_sched_machine.specs.Events.{refusal, target, insert_or_put, woken, wake_target, comes_to, while_in_force, told_runnable, settle, inserted_by_choice, chosen, ask_target, asks_target, select, from_waker, wake, told_of_sleep, falls_asleep, looks_after_sleep, leaves_cpu, sleep_from_cpu, sleep_from, sleep, throttle, ends_slices, expire, use_up, hears_tick, tick_heard, count_down, tick_idle, tick_of, tick, overdue, eject_if_stalled, clock, own_step, event_step, leaves_queue, sleep_from_queue, watch, timers_and_watchdog, restore_flag, change_flags, takes_weight, changes_weight, reweigh_running, reweigh_waiting, reweigh_off_cpu, reweigh_at, reweigh_by_linux, reweigh}
 use Rattle.scx_sched_machine.specs.Rounds.{most_rounds, next_to_look, cut_off_if, look_past, look_from, round, round_then, rounds, with_rounds}
 use Rattle.scx_sched_machine.proofs.Choices.{keeps_if}
 use Rattle.scx_sched.specs.Once.{runs, GoesSomewhere, IsSound}
 use Rattle.scx_sched.specs.Ranges.{IsFine}
 use Rattle.scx_sched.specs.Usages.{AreWithin}
 use Rattle.scx_sched.specs.Kept.{IsKeptBySteps, IsWanted, Inserted, Before}
-use Rattle.scx_sched.proofs.Sound.{sound_woken, sound_left, sound_stopped, sound_ticked, sound_later, sound_with_weight}
+use Rattle.scx_sched.proofs.Sound.{sound_woken, sound_left, sound_stopped, sound_ticked, sound_later, sound_with_weight, sound_removed, sound_own_weight}
 use Rattle.scx_sched.proofs.Parking.{sound_let_go, sound_used_ms, sound_begun_periods}
-use Rattle.scx_sched.proofs.Bounded.{within_used, within_used_up, within_turned, within_reweighed, most_used, most_turned}
-use Rattle.scx_sched.proofs.Skeleton.{keeps_eject, keeps_call_back, keeps_call_by_linux, keeps_waker, keeps_stopping, keeps_settled, keeps_homed, keeps_kicked_if_idle}
+use Rattle.scx_sched.proofs.Bounded.{within_used, within_used_up, within_turned, within_reweighed, most_used, most_turned, within_own}
+use Rattle.scx_sched.proofs.Skeleton.{keeps_eject, keeps_call_back, keeps_call_by_linux, keeps_waker, keeps_stopping, keeps_settled, keeps_homed, keeps_kicked_if_idle, keeps_timer, keeps_timer_called, keeps_put}
 use Rattle.scx_sched.proofs.Clear.{tree_free, tree_used_up}
 use Rattle.scx_sched.proofs.Ready.{calm_call_back, linux_in_force, not_out}
 use Rattle.scx_sched.proofs.Remembering.{remembers}
@@ -55,6 +60,8 @@ pub record IsKeptByEvents (n : ℕ) (I : ℕ → Option ℕ → List (Option ℕ
   pub woken : (m : ℕ) (on : List (Option ℕ)) (w : WorldState) (t : ℕ) → t < n → is_runnable w t ≡ false → I m None on w → I m (Some t) on (after_wake w t)
   pub let_go : LetsGo n I
   pub left : (m : ℕ) (on : List (Option ℕ)) (w : WorldState) (t : ℕ) → t < n → is_runnable w t ≡ true → cpu_of w t ≡ None → I m None on w → I m None on (after_sleep (after_leave w t) t)
+  pub removed : (m : ℕ) (on : List (Option ℕ)) (w : WorldState) (t : ℕ) → t < n → waits w t ≡ true → I m None on w → I m (Some t) on (after_leave w t)
+  pub weighed : (m : ℕ) (hand : Option ℕ) (on : List (Option ℕ)) (w : WorldState) (t x : ℕ) → I m hand on w → I m hand on (after_own_weight w t x)
   -- while the policy is in force nobody was charged yet, so that the number may be said anew
   pub anew : (m k : ℕ) (on : List (Option ℕ)) (w : WorldState) → w.ejected ≡ None → I m None on w → I k None on w
 
@@ -78,7 +85,7 @@ free_is_there (suc m) w c e = go (free_below m w) (λ x. free_is_there m w c x) 
     go None f false x = absurd (cc)
 
 chosen_is_there : (w : WorldState) (t c : ℕ) → (task_at w t).prev_cpu < length w.cpus → choice w t ≡ Some c → c < length w.cpus
-chosen_is_there w t c home e = go (is_free w (task_at w t).prev_cpu) e
+chosen_is_there w t c home e = tracked w.tracks_idle e
   where
     same : (a b : ℕ) → Some a ≡ Some b → a ≡ b
     same a b x = cc
@@ -86,6 +93,10 @@ chosen_is_there w t c home e = go (is_free w (task_at w t).prev_cpu) e
     go : (b : Bool) → (if b then Some (task_at w t).prev_cpu else first_free w) ≡ Some c → c < length w.cpus
     go true x = omega (arith, home, same (task_at w t).prev_cpu c x)
     go false x = free_is_there (length w.cpus) w c x
+
+    tracked : (b : Bool) → (if b then free_choice w t else None) ≡ Some c → c < length w.cpus
+    tracked true x = go (is_free w (task_at w t).prev_cpu) x
+    tracked false x = absurd (cc)
 
 choice_is_there : (w : WorldState) (t : ℕ) → (task_at w t).prev_cpu < length w.cpus → default_choice w t < length w.cpus
 choice_is_there w t home = go (choice w t) refl
@@ -160,6 +171,19 @@ running_is_there n w c t l at h = go (cases_lt t n)
     go (inr past) =
         let none : is_runnable w t ≡ false = get_or_past w.tree.active t false (omega (arith, past, h.flags)) in
         absurd (omega (arith, h.once t, ap one_if none, one, sum_by-set (λ o. one_if (is_this t o)) w.cpus c None None l))
+
+-- who is in a policy's custody waits
+pub custody_waits : (w : WorldState) (t : ℕ) → is_in_custody w t ≡ true → waits w t ≡ true
+custody_waits w t e = go (queue_of w.queues t) e
+  where
+    apart_or : (q : ℕ) (a b : Bool) → nat_lt q policy_end ≡ a → (q == held_queue) ≡ b → (a || b) ≡ true → q ≡ parked_queue → ⊥
+    apart_or q true b x y z is = let low : q < policy_end = grind (arith, nat_tests, x) in omega (arith, low, is)
+    apart_or q false true x y z is = let held : q ≡ held_queue = grind (arith, nat_tests, y) in omega (arith, held, is)
+    apart_or q false false x y z is = absurd (cc)
+
+    go : (o : Option ℕ) → is_custody o ≡ true → waits_in o ≡ true
+    go None x = absurd (cc)
+    go (Some q) x = ap (λ b. not b) (ne_eqb q parked_queue (apart_or q (nat_lt q policy_end) (q == held_queue) refl refl x))
 
 module _ (n : ℕ) (I : ℕ → Option ℕ → List (Option ℕ) → WorldState → Type 0) (k : IsKeptByEvents n I) where
   -- who runs where is what the world says
@@ -284,7 +308,7 @@ module _ (n : ℕ) (I : ℕ → Option ℕ → List (Option ℕ) → WorldState 
   unfolding select
   keeps_select m on s t within h =
       keeps_if (λ (r : Stepped). I m None r.state.world.cpus r.state.world) (asks_target s) (ask_target s t) (settle (with_world s (at_callback s.world callback.SelectCpu t 0)) t 0) (keeps_ask_target m on s t within h)
-      (keeps_settle m on (with_world s (at_callback s.world callback.SelectCpu t 0)) t 0 within l (k.steps.begun m (Some t) on s.world callback.SelectCpu t 0 l h))
+      (keeps_settle m on (with_world s (at_callback s.world callback.SelectCpu t 0)) t 0 within l (k.steps.begun m (Some t) on s.world callback.SelectCpu t 0 (λ other. l) h))
     where
       home : (task_at s.world t).prev_cpu < length on
       home = (k.sound m (Some t) on s.world h).homes t
@@ -350,6 +374,31 @@ module _ (n : ℕ) (I : ℕ → Option ℕ → List (Option ℕ) → WorldState 
       down : I (m + 1) None on q.world
       down = keeps_falls_asleep (m + 1) on r t c l' (k.steps.asleep (m + 1) on r.world t within off)
 
+  -- a task that left its queue, and the policy hears of it
+  keeps_tells_dequeued : (m : ℕ) (on : List (Option ℕ)) (b : Bool) (s : State) (t c flags : ℕ) → c < length on → I m (Some t) on s.world → I m (Some t) on (tells_dequeued_if b s t c flags).state.world
+  unfolding tells_dequeued
+  keeps_tells_dequeued m on true s t c flags l h = keeps_call_by_linux n I k.steps m (Some t) on s callback.Dequeue (task_and_number t flags) t c l h
+  keeps_tells_dequeued m on false s t c flags l h = h
+
+  -- a task that waits leaves its queue
+  pub keeps_leaves_queue : (m : ℕ) (on : List (Option ℕ)) (s : State) (t c flags : ℕ) → t < n → c < length on → waits s.world t ≡ true → I m None on s.world → I m (Some t) on (leaves_queue s t c flags).state.world
+  unfolding leaves_queue
+  keeps_leaves_queue m on s t c flags within l here h = keeps_tells_dequeued m on (is_in_custody s.world t) (with_world s (after_leave s.world t)) t c flags l (k.removed m on s.world t within here h)
+
+  -- and sleeps
+  keeps_sleep_from_queue : (m : ℕ) (on : List (Option ℕ)) (s : State) (t c : ℕ) → t < n → c < length on → is_runnable s.world t ≡ true → cpu_of s.world t ≡ None → I m None on s.world → I m None on (sleep_from_queue s t c).state.world
+  unfolding sleep_from_queue leaves_queue
+  keeps_sleep_from_queue m on s t c within l runnable off h = go (is_in_custody s.world t) refl
+    where
+      v : State
+      v = with_world s (after_leave s.world t)
+
+      go : (b : Bool) → is_in_custody s.world t ≡ b → I m None on (falls_asleep (tells_dequeued_if b v t c 1).state t c).state.world
+      go true e =
+          let r = tells_dequeued_if true v t c 1 in
+          keeps_falls_asleep m on r.state t c l (k.steps.asleep m on r.state.world t within (keeps_tells_dequeued m on true v t c 1 l (k.removed m on s.world t within (custody_waits s.world t e) h)))
+      go false e = keeps_falls_asleep m on v t c l (k.left m on s.world t within runnable off h)
+
   -- a task that goes to sleep
   pub keeps_sleep : (m : ℕ) (s : State) (t : ℕ) → t < n → is_runnable s.world t ≡ true → I m None s.world.cpus s.world → I (m + 1) None (sleep s t).state.world.cpus (sleep s t).state.world
   unfolding sleep
@@ -358,7 +407,7 @@ module _ (n : ℕ) (I : ℕ → Option ℕ → List (Option ℕ) → WorldState 
       go : (o : Option ℕ) → cpu_of s.world t ≡ o → I (m + 1) None (sleep_from o s t).state.world.cpus (sleep_from o s t).state.world
       go None off =
           let home : (task_at s.world t).prev_cpu < length s.world.cpus = (k.sound m None s.world.cpus s.world h).homes t in
-          keeps_now (m + 1) _ (s.world.cpus, k.steps.more m None s.world.cpus _ (keeps_falls_asleep m s.world.cpus (with_world s (after_leave s.world t)) t (task_at s.world t).prev_cpu home (k.left m s.world.cpus s.world t within runnable off h)))
+          keeps_now (m + 1) _ (s.world.cpus, k.steps.more m None s.world.cpus _ (keeps_sleep_from_queue m s.world.cpus s t (task_at s.world t).prev_cpu within home runnable off h))
       go (Some c) at =
           let x = position-Some (is_this t) s.world.cpus c None at in
           keeps_sleep_from_cpu m s t c within x.0 (is_task t (get_or s.world.cpus c None) x.1) h
@@ -509,20 +558,97 @@ module _ (n : ℕ) (I : ℕ → Option ℕ → List (Option ℕ) → WorldState 
 
   -- ---- the clock
 
+  -- a timer that runs
+  keeps_fires : (m : ℕ) (on : List (Option ℕ)) (o : Option Alarm) (s : State) (j : ℕ) → I m None on s.world → I m None on (fires o s j).state.world
+  keeps_fires m on None s j h = h
+  keeps_fires m on (Some a) s j h =
+      let v = with_world s (after_fire s.world j) in
+      let x = keeps_timer n I k.steps m None on (with_timer s.world j None) (Some j) (k.steps.cancelled m None on s.world j h) in
+      keeps_timer n I k.steps m None on (call_by_linux v callback.Timer (one_number j) 0 a.cpu).state.world None (keeps_timer_called n I k.steps m None on v (one_number j) a.cpu x)
+
+  keeps_fire : (m : ℕ) (on : List (Option ℕ)) (s : State) (j : ℕ) → I m None on s.world → I m None on (fire s j).state.world
+  unfolding fire
+  keeps_fire m on s j h = keeps_fires m on (due s j) s j h
+
+  keeps_fire_below : (m : ℕ) (on : List (Option ℕ)) (j : ℕ) (s : State) → I m None on s.world → I m None on (fire_below j s).state.world
+  keeps_fire_below m on zero s h = h
+  keeps_fire_below m on (suc j) s h = keeps_fire m on (fire_below j s).state j (keeps_fire_below m on j s h)
+
+  -- all timers that are due
+  pub keeps_fire_all : (m : ℕ) (on : List (Option ℕ)) (s : State) → I m None on s.world → I m None on (fire_all s).state.world
+  unfolding fire_all
+  keeps_fire_all m on s h = keeps_fire_below m on (length s.world.timers) s h
+
   -- where that the clock goes on and periods begin is kept
   pub keeps_clock : (m : ℕ) (s : State) → I m None s.world.cpus (begun_periods (later s.world)) → I m None (clock s).state.world.cpus (clock s).state.world
-  unfolding clock
+  unfolding clock timers_and_watchdog watch
   keeps_clock m s h = go (overdue v)
     where
+      u : State
+      u = (let_all_go (with_world s (begun_periods (later s.world)))).state
+
       v : State
-      v = (let_all_go (with_world s (begun_periods (later s.world)))).state
+      v = (fire_all u).state
 
       gone-on : I m None s.world.cpus v.world
-      gone-on = keeps_let_all_go n I (inside_of n I k) k.let_go m s.world.cpus (with_world s (begun_periods (later s.world))) h
+      gone-on = keeps_fire_all m s.world.cpus u (keeps_let_all_go n I (inside_of n I k) k.let_go m s.world.cpus (with_world s (begun_periods (later s.world))) h)
 
       go : (o : Option ℕ) → I m None (eject_if_stalled o v).state.world.cpus (eject_if_stalled o v).state.world
       go None = keeps_now m v.world (s.world.cpus, gone-on)
       go (Some t) = keeps_now m _ (s.world.cpus, keeps_eject n I k.steps m None s.world.cpus v _ gone-on)
+
+  -- ---- a task's own weight
+
+  keeps_takes_weight : (m : ℕ) (hand : Option ℕ) (on : List (Option ℕ)) (s : State) (t c x : ℕ) → c < length on → I m hand on s.world → I m hand on (takes_weight s t c x).state.world
+  unfolding takes_weight
+  keeps_takes_weight m hand on s t c x l h = keeps_call_by_linux n I k.steps m hand on (with_world s (after_own_weight s.world t x)) callback.SetWeight (task_and_number t x) t c l (k.weighed m hand on s.world t x h)
+
+  keeps_changes_weight : (m : ℕ) (hand : Option ℕ) (on : List (Option ℕ)) (s : State) (t c x : ℕ) → c < length on → I m hand on s.world → I m hand on (changes_weight s t c x).state.world
+  unfolding changes_weight
+  keeps_changes_weight m hand on s t c x l h =
+      let q = (call_by_linux s callback.Quiescent (task_and_number t change_flags) t c).state in
+      let y = keeps_takes_weight m hand on q t c x l (keeps_call_by_linux n I k.steps m hand on s callback.Quiescent (task_and_number t change_flags) t c l h) in
+      keeps_call_by_linux n I k.steps m hand on (takes_weight q t c x).state callback.Runnable (task_and_number t restore_flag) t c l y
+
+  keeps_reweigh_running : (m : ℕ) (on : List (Option ℕ)) (s : State) (t c x : ℕ) → c < length on → I m None on s.world → I m None on (reweigh_running s t c x).state.world
+  unfolding reweigh_running
+  keeps_reweigh_running m on s t c x l h =
+      let a = (call_by_linux s callback.Stopping (task_and_number t 0) t c).state in
+      let y = keeps_changes_weight m None on a t c x l (keeps_call_by_linux n I k.steps m None on s callback.Stopping (task_and_number t 0) t c l h) in
+      keeps_call_by_linux n I k.steps m None on (changes_weight a t c x).state callback.Running (one_task t) t c l y
+
+  keeps_reweigh_waiting : (m : ℕ) (on : List (Option ℕ)) (s : State) (t c x : ℕ) → t < n → c < length on → waits s.world t ≡ true → I m None on s.world → I m None on (reweigh_waiting s t c x).state.world
+  unfolding reweigh_waiting
+  keeps_reweigh_waiting m on s t c x within l here h =
+      let a = (leaves_queue s t c change_flags).state in
+      let b = (changes_weight a t c x).state in
+      keeps_put n I k.steps m on b t c 0 within l (keeps_changes_weight m (Some t) on a t c x l (keeps_leaves_queue m on s t c change_flags within l here h))
+
+  keeps_reweigh_off_cpu : (m : ℕ) (on : List (Option ℕ)) (s : State) (t c x : ℕ) → t < n → c < length on → I m None on s.world → I m None on (reweigh_off_cpu s t c x).state.world
+  unfolding reweigh_off_cpu
+  keeps_reweigh_off_cpu m on s t c x within l h = go (waits s.world t) refl
+    where
+      go : (b : Bool) → waits s.world t ≡ b → I m None on (if b then reweigh_waiting s t c x else takes_weight s t c x).state.world
+      go true here = keeps_reweigh_waiting m on s t c x within l here h
+      go false away = keeps_takes_weight m None on s t c x l h
+
+  keeps_reweigh_at : (m : ℕ) (on : List (Option ℕ)) (o : Option ℕ) (s : State) (t x : ℕ) → ((c : ℕ) → o ≡ Some c → c < length on) → t < n → I m None on s.world → I m None on (reweigh_at o s t x).state.world
+  keeps_reweigh_at m on None s t x there within h = keeps_reweigh_off_cpu m on s t (task_at s.world t).prev_cpu x within ((k.sound m None on s.world h).homes t) h
+  keeps_reweigh_at m on (Some c) s t x there within h = keeps_reweigh_running m on s t c x (there c refl) h
+
+  -- a task that has another weight
+  pub keeps_reweigh : (m : ℕ) (s : State) (t x : ℕ) → t < n → I m None s.world.cpus s.world → I m None s.world.cpus (reweigh s t x).state.world
+  unfolding reweigh reweigh_by_linux
+  keeps_reweigh m s t x within h = keeps_if (λ (y : Stepped). I m None s.world.cpus y.state.world) (is_by_linux s) (record r { state = woken r.state }) (stays (with_world s (after_own_weight s.world t x))) (keeps_waker n I k.steps m None s.world.cpus r.state.world None done) (k.weighed m None s.world.cpus s.world t x h)
+    where
+      v : State
+      v = with_world s (with_waker s.world (Some 0))
+
+      r : Stepped
+      r = reweigh_at (cpu_of s.world t) v t x
+
+      done : I m None s.world.cpus r.state.world
+      done = keeps_reweigh_at m s.world.cpus (cpu_of s.world t) v t x (λ c at. (position-Some (is_this t) s.world.cpus c None at).0) within (keeps_waker n I k.steps m None s.world.cpus s.world (Some 0) h)
 
 -- ---- what an accepted event may be
 
@@ -532,6 +658,7 @@ pub data IsTaken (s : State) : Event → Type 0 where
   Ticks : (c : ℕ) → c < length s.world.cpus → IsTaken s (Tick c)
   Clocks : IsTaken s Clock
   Weighs : (g x : ℕ) → IsTaken s (SetWeight g x)
+  WeighsTask : (t x : ℕ) → t < length s.world.tasks → IsTaken s (SetTaskWeight t x)
 
 -- what an accepted event is about is there, and a task isn't already as it would make it
 pub is_taken : (s : State) (v : Event) → refusal s v ≡ None → IsTaken s v
@@ -554,6 +681,11 @@ is_taken s (Tick c) ok = go (nat_lt c (length s.world.cpus)) refl ok
     go false x z = absurd (cc)
 is_taken s Clock ok = Clocks
 is_taken s (SetWeight g x) ok = Weighs g x
+is_taken s (SetTaskWeight t x) ok = go (nat_lt t (length s.world.tasks)) refl (is_outside max_weight x) ok
+  where
+    go : (a : Bool) → nat_lt t (length s.world.tasks) ≡ a → (b : Bool) → (if a then (if b then Some BadWeight else None) else Some UnknownTask) ≡ None → IsTaken s (SetTaskWeight t x)
+    go true y b z = WeighsTask t x (grind (arith, nat_tests, y))
+    go false y b z = absurd (cc)
 
 -- ---- each task in its place, and numbers that grow no faster than they may
 
@@ -567,6 +699,10 @@ fine_anew n e m k on w force h =
     let fresh = h.not_yet force in
     fine_of n e k None on w h.sound (r.0, r.1, (λ t. omega (arith, fresh.1 t)), omega (arith, fresh.0), r.4, r.5, r.6)
 
+-- a task's own weight lets no number grow
+range_own_weight : (e m : ℕ) (on : List (Option ℕ)) (w : WorldState) (t x : ℕ) → IsRange e m on w → IsRange e m on (after_own_weight w t x)
+range_own_weight e m on w t x r = keeps_if (IsRange e m on) (is_none (own_weight_fault w.tree t x)) (with_tree w (with_own_weight w.tree t x)) w (r.0, r.1, r.2, r.3, r.4, r.5, within_own w.tree on t x r.6) r
+
 -- events keep what is fine between them
 pub fine_events : (n e : ℕ) → IsKeptByEvents n (IsFine n e)
 fine_events n e = record {
@@ -575,6 +711,8 @@ fine_events n e = record {
   woken = λ m on w t within resting h. fine_of n e m (Some t) on (after_wake w t) (sound_woken on n w t within resting h.sound) (range_same e m on w t _ refl refl (range_of n e m None on w h));
   let_go = λ m on w t within there h. fine_of n e m (Some t) on (let_go w t) (sound_let_go on n w t within there h.sound) (range_same e m on w t _ refl refl (range_of n e m None on w h));
   left = λ m on w t within runnable off h. let r = range_of n e m None on w h in fine_of n e m None on _ (sound_left on n w t within runnable off h.sound) (keeps_if (IsRange e m on) (nat_lt t (length w.tasks)) _ (after_leave w t) (range_same e m on (after_leave w t) t _ refl refl r) r);
+  removed = λ m on w t within here h. fine_of n e m (Some t) on (after_leave w t) (sound_removed on n w t here h.sound) (range_of n e m None on w h);
+  weighed = λ m hand on w t x h. fine_of n e m hand on (after_own_weight w t x) (sound_own_weight hand on n w t x h.sound) (range_own_weight e m on w t x (range_of n e m hand on w h));
   anew = λ m k on w force h. fine_anew n e m k on w force h;
 }
 
@@ -668,6 +806,7 @@ fine_own n e s v tasks ok h = go v (is_taken s v ok)
     go _ (Ticks c l) = keeps_tick n I k e s c l h' (λ t at. fine_ticked n e e s.world c t l at h)
     go _ Clocks = k.steps.more e None _ _ (keeps_clock n I k e s (fine_later n e e s.world h))
     go _ (Weighs g x) = k.steps.more e None _ _ (fine_reweighed n (e + 1) e s.world g x h')
+    go _ (WeighsTask t x within) = k.steps.more e None _ _ (keeps_now n I k e _ (s.world.cpus, keeps_reweigh n I k e s t x (omega (arith, within, tasks)) h'))
 
 -- and with their rounds
 pub fine_step : (n e : ℕ) (s : State) (v : Event) → length s.world.tasks ≡ n → refusal s v ≡ None → IsFineNow n e e s.world → IsFineNow n (e + 1) (e + 1) (event_step s v).state.world

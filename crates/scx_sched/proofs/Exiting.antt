@@ -1,11 +1,11 @@
 -- A callback whose cause is an exit has called `exit`, and had no cause before; and that call is its cause at its end.
-use Rattle.std.proofs.Common.{◌≡◌, ℕ, zero, suc, ℤ, nat_lt, nat_le, List, map, length, Option, Some, None, refl, sym, ap, ◌∙◌, subst}
+use Rattle.std.proofs.Common.{◌≡◌, ℕ, zero, suc, ℤ, nat_lt, List, map, length, Option, Some, None, refl, sym, ap, ◌∙◌, subst, if◌then◌else◌}
 use Rattle.std.specs.Int.{w64, cast_signed}
 use Rattle.scx_dsq.specs.Queues.{front_of}
 use Rattle.scx_dsq.specs.Calls.{after_create}
 use Rattle.scx_isa_semantics.specs.declared.callbacks.Callback.{Callback}
 use Rattle.scx_isa_semantics.specs.declared.host_tables.Helper.{Helper}
-use Rattle.scx_isa_semantics.specs.declared.host_tables.Helper.TheVariants.{CreateDsq, DsqInsert, DsqInsertVtime, DsqMoveToLocal, SelectCpuDfl, CpuIdle, DsqNrQueued, KickCpu, Exit, CpuCurr, DsqPeek, PickIdle, ClaimIdle}
+use Rattle.scx_isa_semantics.specs.declared.host_tables.Helper.TheVariants.{CreateDsq, DsqInsert, DsqInsertVtime, DsqMoveToLocal, SelectCpuDfl, CpuIdle, DsqNrQueued, KickCpu, Exit, CpuCurr, DsqPeek, PickIdle, ClaimIdle, TimerStart, TimerCancel}
 use Rattle.scx_isa_semantics.specs.declared.values.Value.{Value}
 use Rattle.scx_isa_semantics.specs.Code.{Code}
 use Rattle.scx_isa_semantics.specs.Effects.{Query, Call, Load, Store}
@@ -20,11 +20,11 @@ use Rattle.scx_sched_world.specs.declared.call.Insert.{Insert}
 use Rattle.scx_sched_world.specs.declared.eject.Cause.{Cause}
 use Rattle.scx_sched_world.specs.declared.eject.Cause.TheVariants as reason
 use Rattle.scx_sched_world.specs.declared.faults.Fault.{Fault}
-use Rattle.scx_sched_world.specs.declared.faults.Fault.TheVariants.{NoSuchQueue, NoSuchCpu, CannotCreate, UnknownFlag}
+use Rattle.scx_sched_world.specs.declared.faults.Fault.TheVariants.{NoSuchQueue, NoSuchCpu, CannotCreate}
 use Rattle.scx_sched_world.specs.declared.kicks.Kick.{Kick}
-use Rattle.scx_sched_world.specs.World.{WorldState, with_queues, is_free, this_if, choice, after_claim}
+use Rattle.scx_sched_world.specs.World.{WorldState, with_queues, is_free, this_if, choice, after_claim, is_this}
 use Rattle.scx_sched_world.specs.Tasks.{after_take, after_leave, after_enter, for_cpu}
-use Rattle.scx_sched_world.specs.Helpers.{first_cause, with_cause, with_fault, is_there, can_create, is_dispatch, can_move, flags_fault, insert_fault, is_late, with_insert, after_release, insert_or_fault, after_late, after_insert, insert_of, insert_of_vtime, front_moved_to_local, after_choice, kick_of, kick_fault, kicked_or_fault, first_free_in, after_pick_by, given_number, given_task, helper_after, world_functions}
+use Rattle.scx_sched_world.specs.Helpers.{first_cause, with_cause, with_fault, is_there, can_create, is_dispatch, can_move, flags_fault, insert_fault, is_late, with_insert, after_release, insert_or_fault, after_late, after_insert, insert_of, insert_of_vtime, front_moved_to_local, after_choice, kick_of, kick_fault, kicked_or_fault, first_free_in, after_pick_by, given_number, given_task, helper_after, world_functions, untracked_fault, ask_fault, fault_or, pick_fault, timer_fault, with_timer, alarm_in}
 use Rattle.scx_sched_machine.proofs.Choices.{keeps_if}
 use Rattle.scx_sched_machine.proofs.HelperCalls.{by_helper}
 use Rattle.scx_sched.specs.Causes.{Of_call}
@@ -71,6 +71,8 @@ module _ (x : Cause) where
     late = λ linux here. h;
     claimed = λ o. kept_claim Anywhere HasCause cause_marks w o h;
     kicked = λ c k. kept_kicked_so Anywhere HasCause cause_marks w c k h;
+    started = λ t ns. h;
+    cancelled = λ t. h;
     moved = λ q here low. cause_moved w (front_of w.queues q) q h;
   }) f a
 
@@ -114,9 +116,18 @@ module _ (code : ℤ) where
   no_front w None q h = h
   no_front w (Some t) q h = kept_local Anywhere NoExit no_marks (after_take w q) w.call.cpu t tt h
 
+  -- with a fault, or what is done without one
+  no_or_done : (w v : WorldState) (o : Option Fault) → NoExit w → NoExit v → NoExit (fault_or w o v)
+  no_or_done w v None h done = done
+  no_or_done w v (Some f) h done = no_faulted w f h
+
   no_chosen : (w : WorldState) (t : Option ℕ) → NoExit w → NoExit (after_choice w t)
   no_chosen w None h = h
-  no_chosen w (Some t) h = kept_claim Anywhere NoExit no_marks w (choice w t) h
+  no_chosen w (Some t) h = no_or_done w (after_claim w (choice w t)) (untracked_fault w) h (kept_claim Anywhere NoExit no_marks w (choice w t) h)
+
+  no_picked : (w : WorldState) (o : Option Fault) (c : Option ℕ) → NoExit w → NoExit (after_pick_by o w c)
+  no_picked w None c h = kept_claim Anywhere NoExit no_marks w c h
+  no_picked w (Some f) c h = no_faulted w f h
 
   no_kicked : (w : WorldState) (o : Option Fault) (c : ℕ) (k : Option Kick) → NoExit w → NoExit (kicked_or_fault w o c k)
   no_kicked w (Some f) c k h = no_faulted w f h
@@ -130,16 +141,18 @@ module _ (code : ℤ) where
   no_other w DsqMoveToLocal a h other = let q = given_number a 0 in keeps_if NoExit (can_move w q) (front_moved_to_local w (front_of w.queues q) q) (with_fault w NoSuchQueue) (no_front w (front_of w.queues q) q h) (no_faulted w NoSuchQueue h)
   no_other w SelectCpuDfl a h other = no_chosen w (given_task a 0) h
   no_other w KickCpu a h other = let k = kick_of (given_number a 1) in no_kicked w (kick_fault w (given_number a 0) k) (given_number a 0) k h
-  no_other w CpuIdle a h other = keeps_if NoExit (nat_lt (given_number a 0) (length w.cpus)) w (with_fault w NoSuchCpu) h (no_faulted w NoSuchCpu h)
+  no_other w CpuIdle a h other = no_or_done w w (ask_fault w (given_number a 0)) h h
   no_other w DsqNrQueued a h other = keeps_if NoExit (is_there w (given_number a 0)) w (with_fault w NoSuchQueue) h (no_faulted w NoSuchQueue h)
   no_other w DsqPeek a h other = keeps_if NoExit (is_there w (given_number a 0)) w (with_fault w NoSuchQueue) h (no_faulted w NoSuchQueue h)
   no_other w CpuCurr a h other = keeps_if NoExit (nat_lt (given_number a 0) (length w.cpus)) w (with_fault w NoSuchCpu) h (no_faulted w NoSuchCpu h)
-  no_other w PickIdle a h other =
-      let o = first_free_in (given_number a 0) w in
-      keeps_if (λ (f : Option Fault). NoExit (after_pick_by f w o)) (nat_le (given_number a 1) 1) None (Some UnknownFlag) (kept_claim Anywhere NoExit no_marks w o h) (no_faulted w UnknownFlag h)
+  no_other w PickIdle a h other = no_picked w (pick_fault w (given_number a 1)) (first_free_in (given_number a 0) w) h
   no_other w ClaimIdle a h other =
       let c = given_number a 0 in
-      keeps_if NoExit (nat_lt c (length w.cpus)) (after_claim w (this_if (is_free w c) c)) (with_fault w NoSuchCpu) (kept_claim Anywhere NoExit no_marks w (this_if (is_free w c) c) h) (no_faulted w NoSuchCpu h)
+      no_or_done w (after_claim w (this_if (is_free w c) c)) (ask_fault w c) h (kept_claim Anywhere NoExit no_marks w (this_if (is_free w c) c) h)
+  no_other w TimerStart a h other = no_or_done w (with_timer w (given_number a 0) (Some (alarm_in w (given_number a 1)))) (timer_fault w (given_number a 0)) h h
+  no_other w TimerCancel a h other =
+      let n = given_number a 0 in
+      no_or_done w (if is_this n w.passing.timer then w else with_timer w n None) (timer_fault w n) h (keeps_if NoExit (is_this n w.passing.timer) w (with_timer w n None) h h)
   no_other w Exit a h other = absurd (other refl)
   no_other w f a h other = h
 

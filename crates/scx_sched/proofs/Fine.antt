@@ -30,7 +30,7 @@ use Rattle.scx_sched.specs.Usages.{AreWithin}
 use Rattle.scx_sched.proofs.Marks.{KeepsMarks, Anywhere, kept_cycling, kept_kicked_so, kept_claim, kept_local, kept_entered}
 use Rattle.scx_sched.proofs.Bounded.{within_begun, within_ended}
 use Rattle.scx_sched.proofs.Parking.{sound_put_parked, sound_taken}
-use Rattle.scx_sched.proofs.Sound.{sound_query, sound_begun, sound_quiet, sound_cycling, sound_entered, sound_filled, sound_stopped, sound_started, sound_ran, sound_marks, sound_sets, sound_wants, sound_kept, sound_asleep, sound_put_out, sound_evict, sound_cut, sound_put_builtin, sound_overtaken, sound_charged}
+use Rattle.scx_sched.proofs.Sound.{sound_query, sound_begun, sound_quiet, sound_cycling, sound_entered, sound_filled, sound_stopped, sound_started, sound_ran, sound_marks, sound_sets, sound_moves, sound_timers, sound_wants, sound_kept, sound_asleep, sound_put_out, sound_evict, sound_cut, sound_put_builtin, sound_overtaken, sound_charged}
 
 -- ---- each task
 
@@ -165,6 +165,8 @@ module _ (e m : ℕ) (on : List (Option ℕ)) where
     late = λ linux here. r;
     claimed = λ o. kept_claim Anywhere (IsRange e m on) range_marks w o r;
     kicked = λ c k. kept_kicked_so Anywhere (IsRange e m on) range_marks w c k r;
+    started = λ t ns. r;
+    cancelled = λ t. r;
     moved = λ q here low. range_moved w (front_of w.queues q) q r;
   }) f a
 
@@ -205,6 +207,8 @@ fine_steps n e = record {
   query = λ m hand on w q h. fine_of n e m hand on _ (sound_query hand on n w q h.sound) (range_query e m on w q (range_of n e m hand on w h));
   begun = λ m hand on w b t c l h. fine_of n e m hand on _ (sound_begun hand on n w b t c l h.sound) (range_of n e m hand on w h);
   quiet = λ m hand on w h. fine_of n e m hand on _ (sound_quiet hand on n w h.sound) (range_of n e m hand on w h);
+  moved = λ m hand on w b h. fine_of n e m hand on _ (sound_moves hand on n w b h.sound) (range_of n e m hand on w h);
+  cancelled = λ m hand on w t h. fine_of n e m hand on _ (sound_timers hand on n w _ h.sound) (range_of n e m hand on w h);
   cycling = λ m hand on w o h. fine_of n e m hand on _ (sound_cycling hand on n w o h.sound) (kept_cycling (IsRange e m on) (λ v p a x r. r) w o (range_of n e m hand on w h));
   sets = λ m hand on w a b c d o h. fine_of n e m hand on _ (sound_sets hand on n w a b c d o h.sound) (range_of n e m hand on w h);
   homed = λ m hand on w t c l h. fine_of n e m hand on _ ((sound_marks hand on n).homed w t c l h.sound) (range_same e m on w t _ refl refl (range_of n e m hand on w h));

@@ -15,21 +15,21 @@ use Rattle.scx_isa_semantics.specs.declared.callbacks.Callback.{Callback}
 use Rattle.scx_vm.specs.declared.arguments.Args.{Args}
 use Rattle.scx_weights.specs.Hierarchy.{Hierarchy, is_active_task}
 use Rattle.scx_weights.specs.Counting.{any_below}
-use Rattle.scx_isa_semantics.specs.declared.rules.Rules.{Rules}
-use Rattle.scx_sched_world.specs.World.{with_rules, WorldState, is_this, at_callback}
+use Rattle.scx_sched_world.specs.CpuSets.{no_cpus}
+use Rattle.scx_sched_world.specs.World.{WorldState, is_this, at_callback}
 use Rattle.scx_sched_tasks.specs.declared.task.Task.{Task}
 use Rattle.scx_sched_tasks.specs.Tasks.{no_task, new_task}
 use Rattle.scx_sched_world.specs.First.{first_world}
 use Rattle.scx_sched_machine.specs.Policy.{PolicyState}
 use Rattle.scx_sched_machine.specs.Steps.{State}
 use Rattle.scx_sched_machine.specs.Callbacks.{call_ending, acting}
-use Rattle.scx_sched_machine.specs.Start.{is_bad_shape, first_state}
+use Rattle.scx_sched_machine.specs.Start.{is_bad_shape, first_state, by_policy}
 use Rattle.scx_sched_machine.proofs.Choices.{keeps_if}
 use Rattle.scx_sched.specs.Once.{runs, HasQueues}
 use Rattle.scx_sched.specs.Ranges.{IsFine}
 use Rattle.scx_sched.specs.Kept.{IsKeptBySteps}
 use Rattle.scx_sched.proofs.Unchanged.{same_called}
-use Rattle.scx_sched.proofs.Begins.{left_by, keeps_started}
+use Rattle.scx_sched.proofs.Begins.{left_by, keeps_started, IsAnyOf}
 use Rattle.scx_sched.proofs.Skeleton.{keeps_called}
 use Rattle.scx_sched.proofs.Fine.{fine_steps}
 use Rattle.scx_sched.proofs.Timely.{IsInTime, AreInTime, time_steps}
@@ -182,19 +182,20 @@ has_shape tree cpus e = go (nat_lt cpus 1) (nat_lt 64 cpus) (any_below (length t
 both_are : (o : Option Entry) (p : Entry) → o ≡ None → o ≡ Some p → ⊥
 both_are o p x y = absurd (cc)
 
-first_is_fine : (rules : Rules) (tree : Hierarchy) (cpus : ℕ) → HasShape tree cpus → length tree.active ≡ length tree.homes → IsFine (length tree.homes) 0 0 None (replicate cpus None) (begun_periods (with_rules (first_world tree cpus) rules))
-first_is_fine rules tree cpus shape flags = record {
+first_is_fine : (p : PolicyState) (tree : Hierarchy) (cpus : ℕ) → HasShape tree cpus → length tree.active ≡ length tree.homes → IsFine (length tree.homes) 0 0 None (replicate cpus None) (begun_periods (by_policy p (first_world tree cpus)))
+first_is_fine p tree cpus shape flags = record {
   sound = record {
     cpus = refl;
     tasks = length-replicate (length tree.homes) new_task;
     even = rw (first_places cpus (length tree.homes)) (length-replicate {A = Option Entry} (length tree.homes) None);
     flags = flags;
+    members = refl;
     homes = λ t. rw (at_home (length tree.homes) t, length-replicate {A = Option ℕ} cpus None) shape.some;
     queues = rw (length-replicate {A = Option ℕ} cpus None) (first_has_queues cpus (length tree.homes));
     sorted = λ t. rw (nowhere cpus (length tree.homes) t) refl;
     stamped = λ t p e. absurd (both_are (entry_of (first_queues cpus (length tree.homes)) t) p (nowhere cpus (length tree.homes) t) e);
     once = λ t. rw (nobody_runs cpus t, nowhere cpus (length tree.homes) t, sleeps t (cases_lt t (length tree.homes))) refl;
-    here = rw (length-replicate {A = Option ℕ} cpus None) shape.some;
+    here = λ other. rw (length-replicate {A = Option ℕ} cpus None) shape.some;
     goes = tt;
     behind = λ e. tt;
     waiting = λ t. rw (never_waited (length tree.homes) t, nowhere cpus (length tree.homes) t) refl;
@@ -217,23 +218,27 @@ first_is_fine rules tree cpus shape flags = record {
 
 -- whatever small steps keep, and holds of the first world, holds once a machine is made
 pub steps_started : (I : ℕ → Option ℕ → List (Option ℕ) → WorldState → Type 0) (p : PolicyState) (tree : Hierarchy) (cpus : ℕ) (t : State) → IsKeptBySteps (length tree.homes) I → is_bad_shape tree cpus ≡ false → first_state p tree cpus ≡ Ok t
-    → I 0 None (replicate cpus None) (begun_periods (with_rules (first_world tree cpus) p.rules)) → I 0 None (replicate cpus None) t.world
-steps_started I p tree cpus t k shape e h = keeps_started (λ s. I 0 None on s.world) keeps p tree cpus t e h
+    → I 0 None (replicate cpus None) (begun_periods (by_policy p (first_world tree cpus))) → I 0 None (replicate cpus None) t.world
+steps_started I p tree cpus t k shape e h = keeps_started cpus (λ s. I 0 None on s.world) keeps (λ s x. k.sets 0 None on s.world no_cpus no_cpus no_cpus s.world.call.claims s.world.passing x) p tree t e h
   where
     on : List (Option ℕ)
     on = replicate cpus None
 
-    some : 0 < length on
-    some = rw (length-replicate {A = Option ℕ} cpus None) (has_shape tree cpus shape).some
+    some : 0 < cpus
+    some = (has_shape tree cpus shape).some
 
-    keeps : (s : State) (b : Callback) (a : Args) (t : ℕ) → I 0 None on s.world → I 0 None on (left_by s b a t).world
-    keeps s b a t h =
-        let w = at_callback s.world b t 0 in
-        k.quiet 0 None on (call_ending (acting s b) b a s.maps w).outside (keeps_called (length tree.homes) I k 0 None on (acting s b) b a s.maps w (k.begun 0 None on s.world b t 0 some h))
+    there : (c : ℕ) → IsAnyOf cpus c → c < length on
+    there c (inl e) = rw (length-replicate {A = Option ℕ} cpus None) (omega (arith, some, e))
+    there c (inr l) = rw (length-replicate {A = Option ℕ} cpus None) l
+
+    keeps : (s : State) (b : Callback) (a : Args) (t c : ℕ) → IsAnyOf cpus c → I 0 None on s.world → I 0 None on (left_by s b a t c).world
+    keeps s b a t c any h =
+        let w = at_callback s.world b t c in
+        k.quiet 0 None on (call_ending (acting s b) b a s.maps w).outside (keeps_called (length tree.homes) I k 0 None on (acting s b) b a s.maps w (k.begun 0 None on s.world b t c (λ other. there c any) h))
 
 -- what holds between two events holds at first
 pub fine_started : (p : PolicyState) (tree : Hierarchy) (cpus : ℕ) (t : State) → is_bad_shape tree cpus ≡ false → length tree.active ≡ length tree.homes → first_state p tree cpus ≡ Ok t → IsFine (length tree.homes) 0 0 None (replicate cpus None) t.world
-fine_started p tree cpus t shape flags e = steps_started (IsFine (length tree.homes) 0) p tree cpus t (fine_steps (length tree.homes) 0) shape e (first_is_fine p.rules tree cpus (has_shape tree cpus shape) flags)
+fine_started p tree cpus t shape flags e = steps_started (IsFine (length tree.homes) 0) p tree cpus t (fine_steps (length tree.homes) 0) shape e (first_is_fine p tree cpus (has_shape tree cpus shape) flags)
 
 -- nobody waits too long at first
 pub time_started : (limit : ℕ) (p : PolicyState) (tree : Hierarchy) (cpus : ℕ) (t : State) → is_bad_shape tree cpus ≡ false → first_state p tree cpus ≡ Ok t → IsInTime limit t.world
@@ -244,12 +249,12 @@ time_started limit p tree cpus t shape e =
 
 -- its policy is the one that it was given, and in force
 pub policy_started : (p : PolicyState) (tree : Hierarchy) (cpus : ℕ) (t : State) → first_state p tree cpus ≡ Ok t → t.policy ≡ p
-policy_started p tree cpus t e = keeps_started (λ s. s.policy ≡ p) (λ s b a u h. h) p tree cpus t e refl
+policy_started p tree cpus t e = keeps_started cpus (λ s. s.policy ≡ p) (λ s b a u c any h. h) (λ s h. h) p tree t e refl
 
 -- it goes by the rules of its policy
 pub rules_started : (p : PolicyState) (tree : Hierarchy) (cpus : ℕ) (t : State) → first_state p tree cpus ≡ Ok t → t.world.rules ≡ p.rules
-rules_started p tree cpus t e = keeps_started (λ s. s.world.rules ≡ p.rules) (λ s b a u h. (same_called (acting s b) b a s.maps (at_callback s.world b u 0)).4 ∙ h) p tree cpus t e refl
+rules_started p tree cpus t e = keeps_started cpus (λ s. s.world.rules ≡ p.rules) (λ s b a u c any h. (same_called (acting s b) b a s.maps (at_callback s.world b u c)).4 ∙ h) (λ s h. h) p tree t e refl
 
 -- as a machine begins, its policy is in force
 pub force_started : (p : PolicyState) (tree : Hierarchy) (cpus : ℕ) (t : State) → first_state p tree cpus ≡ Ok t → t.world.ejected ≡ None
-force_started p tree cpus t e = keeps_started (λ s. s.world.ejected ≡ None) (λ s b a u h. (same_called (acting s b) b a s.maps (at_callback s.world b u 0)).1 ∙ h) p tree cpus t e refl
+force_started p tree cpus t e = keeps_started cpus (λ s. s.world.ejected ≡ None) (λ s b a u c any h. (same_called (acting s b) b a s.maps (at_callback s.world b u c)).1 ∙ h) (λ s h. h) p tree t e refl

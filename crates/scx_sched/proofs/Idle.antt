@@ -18,12 +18,12 @@ use Rattle.scx_sched_world.specs.World.{WorldState, with_switch, task_at, is_thr
 use Rattle.scx_sched_world.specs.Tasks.{after_local, after_take, local_len, brought, after_stop, started_at, after_tick, used_ms}
 use Rattle.scx_sched_machine.specs.Steps.{State, Stepped, with_world, stays, one_after_other, is_ejected, is_by_linux, kicked}
 use Rattle.scx_sched_machine.specs.Policy.{program_of}
-use Rattle.scx_sched_machine.specs.Callbacks.{call_back, one_task, cpu_and_task}
+use Rattle.scx_sched_machine.specs.Callbacks.{call_back, one_task}
 use Rattle.scx_sched_machine.specs.Filling.{fill}
 use Rattle.scx_sched_machine.specs.Parking.{park, park_front, throttled_front, park_fronts, clear, in_reach, supply}
-use Rattle.scx_sched_machine.specs.Cycle.{has_local, keeps_slice, supply_unless_kept, told_of, after_dispatch, asks_again, tries, after_stopping, switched, leave, started_if, start as run_front, rest, swap, swap_or_rest, builtin_dispatch, builtin_fill, builtin_ask, builtin_cycle, start_or_cycle, picked, refilled, start_picked_or_cycle, give_up, pick, pick_or_rest, keep_or_pick, conclude, ask, seek, look, cycling, cycle}
+use Rattle.scx_sched_machine.specs.Cycle.{has_local, keeps_slice, supply_unless_kept, after_dispatch, asks_again, tries, after_stopping, switched, leave, started_if, start as run_front, rest, swap, swap_or_rest, builtin_dispatch, builtin_fill, builtin_ask, builtin_cycle, start_or_cycle, picked, refilled, start_picked_or_cycle, give_up, pick, pick_or_rest, keep_or_pick, conclude, ask, seek, look, cycling, cycle, dispatch_called, makes_way, hears_idle, falls_idle, becomes_idle, concluded}
 use Rattle.scx_sched_machine.specs.declared.events.Event.{Event}
-use Rattle.scx_sched_machine.specs.declared.events.Event.TheVariants.{Wake, Sleep, Tick, Clock, SetWeight}
+use Rattle.scx_sched_machine.specs.declared.events.Event.TheVariants.{Wake, Sleep, Tick, Clock, SetWeight, SetTaskWeight}
 use Rattle.scx_sched_machine.specs.declared.events.Refused.TheVariants.{UnknownCpu}
 use Rattle.scx_sched_machine.specs.Events.{is_tick_time, leaves_cpu, throttle, ends_slices, expire, use_up, hears_tick, tick_heard, count_down, tick_idle, tick_of, tick, event_step}
 use Rattle.scx_sched_machine.specs.Rounds.{most_rounds, rounds, with_rounds}
@@ -33,15 +33,15 @@ use Rattle.scx_sched.specs.Left.{LeavesNothing, LeavesNothingIdle}
 use Rattle.scx_sched.specs.Sim.{refusal, IsValid}
 use Rattle.scx_sched.proofs.Entering.{own_open, is_accepted, sorted_popped, stay_without, local_sort}
 use Rattle.scx_sched.proofs.Sound.{left_place}
-use Rattle.scx_sched.proofs.Blaming.{plain_on, honest_supply, honest_builtin_fill, honest_tries, honest_stopping, honest_park}
+use Rattle.scx_sched.proofs.Blaming.{plain_on, honest_supply, honest_builtin_fill, honest_tries, honest_stopping, honest_park, way_plain, honest_look}
 use Rattle.scx_sched.proofs.Fronts.{front_same}
 use Rattle.scx_sched.proofs.Clear.{IsClear, MayStart, tree_used_up}
 use Rattle.scx_sched.proofs.Ready.{tree_stopping}
 use Rattle.scx_sched.proofs.Supplying.{clear_from, empty_no_front, throttled_is, IsLeft, left_park_fronts, reach_fill, reach_park_front, supply_clears, builtin_clears}
 use Rattle.scx_sched.proofs.Marks.{KeepsMarks, Anywhere, kept_cycling, kept_local}
 use Rattle.scx_sched.proofs.Unchanged.{ruled_switch, ruled_cycling, same_linux}
-use Rattle.scx_sched.proofs.Skeleton.{IsKnown, once_for, keeps_call_back, keeps_stopping, keeps_running_on, keeps_switched}
-use Rattle.scx_sched.proofs.Cycles.{not_kept, MayStartUnlessKept, some_local, no_local, keeps_park, keeps_park_front, keeps_park_fronts, keeps_fill, keeps_supply, keeps_dispatched, keeps_tries, tries_clear, clear_now, keeps_leave, ready_left, keeps_builtin_fill}
+use Rattle.scx_sched.proofs.Skeleton.{IsKnown, once_for, keeps_stopping, keeps_running_on, keeps_switched}
+use Rattle.scx_sched.proofs.Cycles.{not_kept, MayStartUnlessKept, some_local, no_local, keeps_park, keeps_park_front, keeps_park_fronts, keeps_fill, keeps_supply, keeps_dispatched, keeps_tries, tries_clear, clear_now, keeps_leave, ready_left, keeps_builtin_fill, keeps_dispatch_called}
 use Rattle.scx_sched.proofs.Fine.{fine_steps}
 use Rattle.scx_sched.proofs.Events.{cpus_used, IsKeptByUse, IsKeptByTick, fine_inside, fine_events, known_running, fine_ticked, keeps_stop_switch}
 use Rattle.scx_sched.proofs.Firsts.{no_front_is_empty}
@@ -96,17 +96,26 @@ plain_leaves s None plain = tt
 plain_leaves s (Some t) plain = plain
 
 -- by plain rules the front runs that there is once the task before has left
-pick_plain : (s : State) (c : ℕ) (p : Option ℕ) (ran : Bool) → is_by_linux s ≡ false → pick s c p ran ≡ one_after_other (leave s c p) (start_or_cycle (leave s c p).state c ran)
+pick_plain : (s : State) (c : ℕ) (p : Option ℕ) (ran : Bool) → is_by_linux s ≡ false → (pick s c p ran).state ≡ (start_or_cycle (leave s c p).state c ran).state
 unfolding pick picked
-pick_plain s c p ran plain = ap (λ b. after_pick (if b then front_of s.world.queues (local_on c) else None)) plain
+pick_plain s c p ran plain = ap (λ b. (after_pick (if b then front_of s.world.queues (local_on c) else None)).state) plain ∙ ap (λ (v : State). (start_or_cycle v c ran).state) (way_plain s c p ran plain)
   where
     after_pick : Option ℕ → Stepped
-    after_pick o = let l = leave (refilled s o) c p in one_after_other l (start_picked_or_cycle o l.state c ran)
+    after_pick o = let l = makes_way (refilled s o) c p ran in one_after_other l (start_picked_or_cycle o l.state c ran)
 
 -- and a processor gives up for good
 give_up_plain : (s : State) (c : ℕ) (p : Option ℕ) → is_by_linux s ≡ false → give_up s c p ≡ s
 unfolding give_up
 give_up_plain s c p plain = ap (λ b. if b && asks_again s c p then kicked s c else s) plain
+
+-- by plain rules a cycle ends once it is over
+concluded_plain : (s : State) (c : ℕ) (ran : Bool) → is_by_linux s ≡ false → concluded s c ran ≡ stays (cycling s None)
+unfolding concluded falls_idle hears_idle
+concluded_plain s c ran plain = go ran
+  where
+    go : (b : Bool) → (if b && ((is_by_linux s && is_some (program_of s.policy callback.UpdateIdle)) && is_none (running s.world c)) then becomes_idle s c else stays (cycling s None)) ≡ stays (cycling s None)
+    go false = refl
+    go true = ap (λ d. if (d && is_some (program_of s.policy callback.UpdateIdle)) && is_none (running s.world c) then becomes_idle s c else stays (cycling s None)) plain
 
 module _ (n e : ℕ) (c : ℕ) where
   -- ---- who comes to run
@@ -248,7 +257,7 @@ module _ (n e : ℕ) (c : ℕ) where
   pick_leaves : (m : ℕ) (on : List (Option ℕ)) (s : State) (p : Option ℕ) (ran : Bool) → is_by_linux s ≡ false → c < length on → IsKnown n p → get_or on c None ≡ p → has_local s c ≡ true → IsClear c s.world → IsFine n e m None on s.world → LeavesIfIdle c (pick s c p ran).state.world
   pick_leaves m on s p ran plain l known runs some clear-now h =
       let x = keeps_leave n (IsFine n e) (fine_inside n e) m on s c p l known runs h in
-      subst (λ (r : Stepped). LeavesIfIdle c r.state.world) (sym (pick_plain s c p ran plain))
+      subst (λ (v : State). LeavesIfIdle c v.world) (sym (pick_plain s c p ran plain))
       (start_or_cycle_leaves (once_for p m) x.0 (leave s c p).state ran x.2 x.3 (ready_left n (IsFine n e) (fine_inside n e) m on s c p (plain_leaves s p plain) l known runs some clear-now h) x.1)
 
   pick_or_rest_leaves : (m : ℕ) (on : List (Option ℕ)) (s : State) (p : Option ℕ) (ran : Bool) → is_by_linux s ≡ false → c < length on → IsKnown n p → get_or on c None ≡ p → is_ejected s ≡ false → IsClear c s.world → IsFine n e m None on s.world → LeavesGlobal c s.world
@@ -296,11 +305,11 @@ module _ (n e : ℕ) (c : ℕ) where
   dispatched_leaves m on s p l h = go (keeps_slice r p) refl
     where
       r : State
-      r = (call_back s callback.Dispatch (cpu_and_task c (told_of s p)) 0 c).state
+      r = (dispatch_called s c p).state
 
       go : (b : Bool) → keeps_slice r p ≡ b → LeavesGlobalUnlessKept p (if b then stays r else supply r c).state
       go true kept off = let bad : true ≡ false = sym kept ∙ off in absurd (cc)
-      go false z off = supply_leaves m on r l (keeps_call_back n (IsFine n e) (fine_steps n e) m None on s callback.Dispatch (cpu_and_task c (told_of s p)) 0 c l h)
+      go false z off = supply_leaves m on r l (keeps_dispatch_called n (IsFine n e) (fine_inside n e) m on s c p l h)
 
   tries_go : (j : ℕ) (p : Option ℕ) (d : Stepped) (b : Bool) → asks_again d.state c p ≡ b → LeavesGlobalUnlessKept p d.state → (LeavesGlobal c d.state.world → LeavesGlobalUnlessKept p (tries j d.state c p).state) → LeavesGlobalUnlessKept p (if b then one_after_other d (tries j d.state c p) else d).state
   tries_go j p d true z y more = more (y (not_kept (keeps_slice d.state p) _ z))
@@ -357,7 +366,9 @@ module _ (n e : ℕ) (c : ℕ) where
       let v = cycling s (Some c) in
       let still = same_linux s.world v.world (ruled_cycling s.world (Some c)).3 (ruled_cycling s.world (Some c)).1 ∙ plain in
       let x = look_leaves m on v p ran still l known runs ((fine_steps n e).cycling m None on s.world (Some c) h) in
-      kept_cycling (LeavesIfIdle c) (λ w o a y g free. let z = g free in record { local = z.local; global = z.global; builtin = z.builtin }) (look v c p ran).state.world None x idle
+      let r = look v c p ran in
+      let ends = concluded_plain r.state c ran (plain_on v r (honest_look v c p ran) still) in
+      subst (λ (y : Stepped). LeavesIfIdle c y.state.world) (sym ends) (kept_cycling (LeavesIfIdle c) (λ w o a y g free. let z = g free in record { local = z.local; global = z.global; builtin = z.builtin }) r.state.world None x) idle
 
 -- by plain rules the policy hears of no tick
 heard_plain : (s : State) (c t : ℕ) → is_by_linux s ≡ false → tick_heard s c t ≡ stays s
@@ -431,3 +442,4 @@ step_leaves s n (Wake t) e h plain = tt
 step_leaves s n (Sleep t) e h plain = tt
 step_leaves s n Clock e h plain = tt
 step_leaves s n (SetWeight g x) e h plain = tt
+step_leaves s n (SetTaskWeight t x) e h plain = tt

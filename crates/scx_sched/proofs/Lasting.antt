@@ -1,5 +1,5 @@
 -- Letting tasks go changes nobody's wait: who is parked has none, and one that begins is 0.
-use Rattle.std.proofs.Common.{◌≡◌, ℕ, zero, suc, ◌<◌, ◌≤◌, ◌⊎◌, inl, inr, Bool, true, false, nat_lt, if◌then◌else◌, List, length, set, get_or, map, Option, Some, None, refl, sym, ap, ◌∙◌, arith}
+use Rattle.std.proofs.Common.{◌≡◌, ℕ, zero, suc, ◌<◌, ◌≤◌, ◌⊎◌, inl, inr, Bool, true, false, nat_lt, if◌then◌else◌, List, length, set, get_or, map, Option, Some, None, refl, sym, ap, ◌∙◌, arith, ◌&&◌, is_none, is_some}
 use Rattle.std.proofs.lemmas.Bool.{cases_eq, cases_lt}
 use Rattle.std.proofs.lemmas.List.{length-set, get_or-set_same, get_or-set_other, set_past}
 use Rattle.scx_dsq.specs.Queues.{front_of}
@@ -17,6 +17,8 @@ use Rattle.scx_vm.specs.Arguments.{program_arguments as registers, argument_of}
 use Rattle.scx_vm.specs.declared.arguments.Arg.{Arg}
 use Rattle.scx_vm.specs.declared.arguments.Args.{Args}
 use Rattle.scx_vm.specs.Host.{answer_to, after_query}
+use Rattle.scx_weights.specs.Hierarchy.{with_own_weight}
+use Rattle.scx_weights.specs.Refusals.{own_weight_fault}
 use Rattle.scx_sched_tasks.specs.declared.task.Task.{Task}
 use Rattle.scx_sched_tasks.specs.Tasks.{no_task}
 use Rattle.scx_sched_tasks.specs.Waits.{time_since}
@@ -24,16 +26,22 @@ use Rattle.scx_sched_world.specs.declared.call.Insert.{Insert}
 use Rattle.scx_sched_world.specs.declared.eject.Cause.{Cause}
 use Rattle.scx_sched_world.specs.declared.eject.Eject.{Eject}
 use Rattle.scx_sched_world.specs.declared.faults.Fault.{Fault}
-use Rattle.scx_sched_world.specs.World.{WorldState, with_kick, with_task, task_at, running, waits, wait, at_callback}
-use Rattle.scx_sched_world.specs.Tasks.{with_home, with_slice, after_take, with_since, let_go, task_after_insert, after_leave, after_enter, for_cpu}
-use Rattle.scx_sched_world.specs.Helpers.{is_dispatch, with_insert, after_release, insert_or_fault, front_moved_to_local, helper_after, stored_in, world_functions}
+use Rattle.scx_sched_world.specs.declared.timers.Alarm.{Alarm}
+use Rattle.scx_sched_world.specs.World.{WorldState, with_kick, with_task, task_at, running, waits, wait, at_callback, with_tree, with_waker, cpu_of}
+use Rattle.scx_sched_world.specs.Tasks.{with_home, with_slice, after_take, with_since, let_go, task_after_insert, after_leave, after_enter, for_cpu, after_own_weight}
+use Rattle.scx_sched_world.specs.Helpers.{is_dispatch, with_insert, after_release, insert_or_fault, front_moved_to_local, helper_after, stored_in, world_functions, after_fire}
 use Rattle.scx_sched_world.specs.Ejecting.{put_out, put_builtin, after_evictions, after_cut, cut_task}
-use Rattle.scx_sched_machine.specs.Steps.{State, is_ejected}
+use Rattle.scx_sched_machine.specs.Policy.{program_of}
+use Rattle.scx_sched_machine.specs.Steps.{State, is_ejected, Stepped, with_world, stays, is_by_linux}
 use Rattle.scx_sched_machine.specs.Ejecting.{moves_over, eject, ejected_for}
-use Rattle.scx_sched_machine.specs.Callbacks.{call_ending, acting, after_callback, cause_of, call_back, task_and_number}
+use Rattle.scx_sched_machine.specs.Callbacks.{call_ending, acting, after_callback, cause_of, call_back, task_and_number, call_by_linux, one_task, one_number}
 use Rattle.scx_sched_machine.specs.Put.{enters, enqueue_choice, enters_builtin, comes_in, put}
+use Rattle.scx_sched_machine.specs.Custody.{is_in_custody, tells_dequeued}
+use Rattle.scx_sched_machine.specs.Firing.{due, fires, fire, fire_below, fire_all}
+use Rattle.scx_sched_machine.specs.Events.{woken, leaves_queue, restore_flag, change_flags, takes_weight, changes_weight, reweigh_running, reweigh_waiting, reweigh_off_cpu, reweigh_at, reweigh_by_linux, reweigh}
 use Rattle.scx_sched_machine.proofs.Choices.{keeps_if}
 use Rattle.scx_sched_machine.proofs.HelperCalls.{by_helper}
+use Rattle.scx_sched.specs.Laws.{WeightsKeepWaits}
 use Rattle.scx_sched.proofs.Marks.{KeepsMarks, Anywhere, kept_kicked_so, kept_claim, kept_local, kept_entered}
 use Rattle.scx_sched.proofs.Waiting.{since_set, stored_since, given_since}
 
@@ -110,6 +118,8 @@ module _ (w : WorldState) where
     late = λ linux here. h;
     claimed = λ o. kept_claim Anywhere (AreAsLong w) long_marks v o h;
     kicked = λ c k. kept_kicked_so Anywhere (AreAsLong w) long_marks v c k h;
+    started = λ t ns. h;
+    cancelled = λ t. h;
     moved = λ q here low. long_moved v (front_of v.queues q) q h;
   }) f a
 
@@ -174,3 +184,77 @@ module _ (w : WorldState) where
   long_put s t c flags h =
       let r = call_back s callback.Enqueue (task_and_number t flags) t c in
       long_comes_in r.state t c (long_call_back s callback.Enqueue (task_and_number t flags) t c h)
+
+  -- ---- callbacks that Linux rules call more
+
+  long_call_by_linux : (s : State) (b : Callback) (a : Args) (t c : ℕ) → AreAsLong w s.world → AreAsLong w (call_by_linux s b a t c).state.world
+  unfolding call_by_linux
+  long_call_by_linux s b a t c h = keeps_if (λ (r : Stepped). AreAsLong w r.state.world) (is_by_linux s && is_some (program_of s.policy b)) (call_back s b a t c) (stays s) (long_call_back s b a t c h) h
+
+  -- a timer that runs
+  long_fires : (o : Option Alarm) (s : State) (j : ℕ) → AreAsLong w s.world → AreAsLong w (fires o s j).state.world
+  long_fires None s j h = h
+  long_fires (Some a) s j h = long_call_by_linux (with_world s (after_fire s.world j)) callback.Timer (one_number j) 0 a.cpu h
+
+  long_fire_below : (j : ℕ) (s : State) → AreAsLong w s.world → AreAsLong w (fire_below j s).state.world
+  unfolding fire
+  long_fire_below zero s h = h
+  long_fire_below (suc j) s h = let r = (fire_below j s).state in long_fires (due r j) r j (long_fire_below j s h)
+
+  -- all timers that are due
+  pub long_fire_all : (s : State) → AreAsLong w s.world → AreAsLong w (fire_all s).state.world
+  unfolding fire_all
+  long_fire_all s h = long_fire_below (length s.world.timers) s h
+
+  -- ---- a task's own weight
+
+  long_weighed : (v : WorldState) (t x : ℕ) → AreAsLong w v → AreAsLong w (after_own_weight v t x)
+  long_weighed v t x h = keeps_if (AreAsLong w) (is_none (own_weight_fault v.tree t x)) (with_tree v (with_own_weight v.tree t x)) v h h
+
+  long_takes_weight : (s : State) (t c x : ℕ) → AreAsLong w s.world → AreAsLong w (takes_weight s t c x).state.world
+  unfolding takes_weight
+  long_takes_weight s t c x h = long_call_by_linux (with_world s (after_own_weight s.world t x)) callback.SetWeight (task_and_number t x) t c (long_weighed s.world t x h)
+
+  long_changes_weight : (s : State) (t c x : ℕ) → AreAsLong w s.world → AreAsLong w (changes_weight s t c x).state.world
+  unfolding changes_weight
+  long_changes_weight s t c x h =
+      let q = (call_by_linux s callback.Quiescent (task_and_number t change_flags) t c).state in
+      long_call_by_linux (takes_weight q t c x).state callback.Runnable (task_and_number t restore_flag) t c (long_takes_weight q t c x (long_call_by_linux s callback.Quiescent (task_and_number t change_flags) t c h))
+
+  long_reweigh_running : (s : State) (t c x : ℕ) → AreAsLong w s.world → AreAsLong w (reweigh_running s t c x).state.world
+  unfolding reweigh_running
+  long_reweigh_running s t c x h =
+      let a = (call_by_linux s callback.Stopping (task_and_number t 0) t c).state in
+      long_call_by_linux (changes_weight a t c x).state callback.Running (one_task t) t c (long_changes_weight a t c x (long_call_by_linux s callback.Stopping (task_and_number t 0) t c h))
+
+  long_leaves_queue : (s : State) (t c flags : ℕ) → AreAsLong w s.world → AreAsLong w (leaves_queue s t c flags).state.world
+  unfolding leaves_queue tells_dequeued
+  long_leaves_queue s t c flags h =
+      let v = with_world s (after_leave s.world t) in
+      let r = call_by_linux v callback.Dequeue (task_and_number t flags) t c in
+      keeps_if (λ (r : Stepped). AreAsLong w r.state.world) (is_in_custody s.world t) r (stays v) (long_call_by_linux v callback.Dequeue (task_and_number t flags) t c h) h
+
+  long_reweigh_waiting : (s : State) (t c x : ℕ) → AreAsLong w s.world → AreAsLong w (reweigh_waiting s t c x).state.world
+  unfolding reweigh_waiting
+  long_reweigh_waiting s t c x h =
+      let a = (leaves_queue s t c change_flags).state in
+      long_put (changes_weight a t c x).state t c 0 (long_changes_weight a t c x (long_leaves_queue s t c change_flags h))
+
+  long_reweigh_off_cpu : (s : State) (t c x : ℕ) → AreAsLong w s.world → AreAsLong w (reweigh_off_cpu s t c x).state.world
+  unfolding reweigh_off_cpu
+  long_reweigh_off_cpu s t c x h = keeps_if (λ (r : Stepped). AreAsLong w r.state.world) (waits s.world t) (reweigh_waiting s t c x) (takes_weight s t c x) (long_reweigh_waiting s t c x h) (long_takes_weight s t c x h)
+
+  long_reweigh_at : (o : Option ℕ) (s : State) (t x : ℕ) → AreAsLong w s.world → AreAsLong w (reweigh_at o s t x).state.world
+  long_reweigh_at None s t x h = long_reweigh_off_cpu s t (task_at s.world t).prev_cpu x h
+  long_reweigh_at (Some c) s t x h = long_reweigh_running s t c x h
+
+  long_reweigh : (s : State) (t x : ℕ) → AreAsLong w s.world → AreAsLong w (reweigh s t x).state.world
+  unfolding reweigh reweigh_by_linux
+  long_reweigh s t x h =
+      let v = with_world s (with_waker s.world (Some 0)) in
+      let r = reweigh_at (cpu_of s.world t) v t x in
+      keeps_if (λ (y : Stepped). AreAsLong w y.state.world) (is_by_linux s) (record r { state = woken r.state }) (stays (with_world s (after_own_weight s.world t x))) (long_reweigh_at (cpu_of s.world t) v t x h) (long_weighed s.world t x h)
+
+-- the law
+pub weights_keep_waits : WeightsKeepWaits
+weights_keep_waits s t x u = let h = long_reweigh s.world s t x (long_here s.world) in h.2 u

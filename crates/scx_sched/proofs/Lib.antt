@@ -31,12 +31,14 @@ pub mod Events
 pub mod First
 pub mod Watching
 pub mod Tallies
+pub mod Alarms
 pub mod Deciding
 pub mod Causing
 pub mod Failing
 pub mod Exiting
 pub mod Following
 pub mod Unstuck
+pub mod Leavers
 pub mod Valid
 pub mod Idle
 pub mod Counted

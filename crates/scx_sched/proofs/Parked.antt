@@ -203,6 +203,8 @@ as_helper w f a = by_helper (StayParked w) w (record {
   late = λ linux here. stay_here w;
   claimed = λ o. kept_claim Anywhere (StayParked w) (parked_marks w) w o (stay_here w);
   kicked = λ c k. kept_kicked_so Anywhere (StayParked w) (parked_marks w) w c k (stay_here w);
+  started = λ t ns. stay_here w;
+  cancelled = λ t. stay_here w;
   moved = λ q here low. as_moved w (front_of w.queues q) q (ne_eqb q parked_queue (λ x. omega (arith, x, low)));
 }) f a
 

@@ -25,6 +25,7 @@ module _ (on : List (Option ℕ)) (n : ℕ) where
     tasks = length-set w.tasks t _ ∙ h.tasks;
     even = tasks_pushed w.queues parked_queue t Fifo ∙ h.even;
     flags = h.flags;
+    members = h.members;
     homes = homes_set w.tasks t _ (length on) (h.homes t) h.homes;
     queues = queues_stay w.queues s (length on) (stay_pushed w.queues parked_queue t Fifo) h.queues;
     sorted = sorted_pushed w.queues parked_queue t Fifo refl h.sorted;
@@ -56,6 +57,7 @@ module _ (on : List (Option ℕ)) (n : ℕ) where
     tasks = h.tasks;
     even = tasks_without w.queues (front_of w.queues q) ∙ h.even;
     flags = h.flags;
+    members = h.members;
     homes = h.homes;
     queues = queues_stay w.queues s (length on) (stay_without w.queues (front_of w.queues q)) h.queues;
     sorted = sorted_popped w.queues q h.sorted;
@@ -78,6 +80,7 @@ module _ (on : List (Option ℕ)) (n : ℕ) where
     tasks = length-set w.tasks t _ ∙ h.tasks;
     even = tasks_removed w.queues t ∙ h.even;
     flags = h.flags;
+    members = h.members;
     homes = homes_set w.tasks t _ (length on) (h.homes t) h.homes;
     queues = queues_stay w.queues s (length on) (stay_removed w.queues t) h.queues;
     sorted = sorted_removed w.queues t h.sorted;
@@ -107,8 +110,8 @@ module _ (on : List (Option ℕ)) (n : ℕ) where
 pub sound_used_ms : (hand : Option ℕ) (on : List (Option ℕ)) (n : ℕ) (w : WorldState) (t : ℕ) → IsSound hand on n w → IsSound hand on n (used_ms w t)
 sound_used_ms hand on n w t h =
     keeps_if (IsSound hand on n) (nat_lt t (length w.tasks)) (with_tree w (with_use w.tree t)) w
-    (record { cpus = h.cpus; tasks = h.tasks; even = h.even; flags = h.flags; homes = h.homes; queues = h.queues; sorted = h.sorted; stamped = h.stamped; once = h.once; here = h.here; goes = h.goes; behind = h.behind; waiting = h.waiting; at_once = h.at_once }) h
+    (record { cpus = h.cpus; tasks = h.tasks; even = h.even; flags = h.flags; members = h.members; homes = h.homes; queues = h.queues; sorted = h.sorted; stamped = h.stamped; once = h.once; here = h.here; goes = h.goes; behind = h.behind; waiting = h.waiting; at_once = h.at_once }) h
 
 -- and periods begin
 pub sound_begun_periods : (hand : Option ℕ) (on : List (Option ℕ)) (n : ℕ) (w : WorldState) → IsSound hand on n w → IsSound hand on n (begun_periods w)
-sound_begun_periods hand on n w h = record { cpus = h.cpus; tasks = h.tasks; even = h.even; flags = h.flags; homes = h.homes; queues = h.queues; sorted = h.sorted; stamped = h.stamped; once = h.once; here = h.here; goes = h.goes; behind = h.behind; waiting = h.waiting; at_once = h.at_once }
+sound_begun_periods hand on n w h = record { cpus = h.cpus; tasks = h.tasks; even = h.even; flags = h.flags; members = h.members; homes = h.homes; queues = h.queues; sorted = h.sorted; stamped = h.stamped; once = h.once; here = h.here; goes = h.goes; behind = h.behind; waiting = h.waiting; at_once = h.at_once }

@@ -20,11 +20,12 @@ use Rattle.scx_sched_world.specs.World.{WorldState, are_linux, task_at, waits, r
 use Rattle.scx_sched_world.specs.Tasks.{to_front, after_leave, after_stop}
 use Rattle.scx_sched_world.specs.Ejecting.{eject_of, put_out, put_builtin, after_evictions, after_cut, cut_task, after_charge}
 use Rattle.scx_sched_world.specs.Helpers.{is_dispatch, world_functions}
+use Rattle.scx_sched_machine.specs.Policy.{program_of}
 use Rattle.scx_sched_machine.specs.Steps.{State, Stepped, with_world, stays, is_ejected, is_by_linux}
 use Rattle.scx_sched_machine.specs.Ejecting.{moves_over, eject, ejected_for}
-use Rattle.scx_sched_machine.specs.Callbacks.{call_ending, acting, after_callback, cause_of, call_back, task_and_number}
+use Rattle.scx_sched_machine.specs.Callbacks.{call_ending, acting, after_callback, cause_of, call_back, task_and_number, call_by_linux, two_numbers}
 use Rattle.scx_sched_machine.specs.Put.{enters, enqueue_choice, enters_builtin, comes_in, put}
-use Rattle.scx_sched_machine.specs.Cycle.{stopping_called, after_stopping, put_back, leave}
+use Rattle.scx_sched_machine.specs.Cycle.{stopping_called, after_stopping, put_back, leave, tells_idle, tells_busy, makes_way}
 use Rattle.scx_sched_machine.proofs.Choices.{keeps_if}
 use Rattle.scx_sched.specs.Kept.{IsKeptBySteps}
 use Rattle.scx_sched.specs.Once.{IsSound}
@@ -106,7 +107,7 @@ module _ (n : ℕ) (I : ℕ → Option ℕ → List (Option ℕ) → WorldState 
   unfolding call_back
   ready_call_back m hand on s b a t d calm l h r =
       let e = call_ending (acting s b) b a s.maps (at_callback s.world b t d) in
-      ready_ejected_for m hand on (cause_of b e) (after_callback s.policy e) (k.quiet m hand on e.outside (keeps_called n I k m hand on (acting s b) b a s.maps (at_callback s.world b t d) (k.begun m hand on s.world b t d l h)))
+      ready_ejected_for m hand on (cause_of b e) (after_callback s.policy e) (k.quiet m hand on e.outside (keeps_called n I k m hand on (acting s b) b a s.maps (at_callback s.world b t d) (k.begun m hand on s.world b t d (λ other. l) h)))
       (ready_calm c s.world (quiet e.outside) (calm_quiet s.world e.outside (calm_called (acting s b) b a s.maps s.world t d calm)) r)
 
   ready_stopping : (m : ℕ) (hand : Option ℕ) (on : List (Option ℕ)) (s : State) (d t x : ℕ) → d < length on → I m hand on s.world → IsReady c s.world → IsReady c (after_stopping s d t x).state.world
@@ -159,7 +160,7 @@ module _ (n : ℕ) (I : ℕ → Option ℕ → List (Option ℕ) → WorldState 
     unfolding call_back
     picked_call_back m hand on s b a u d calm l h r =
         let e = call_ending (acting s b) b a s.maps (at_callback s.world b u d) in
-        picked_ejected_for m hand on (cause_of b e) (after_callback s.policy e) (k.quiet m hand on e.outside (keeps_called n I k m hand on (acting s b) b a s.maps (at_callback s.world b u d) (k.begun m hand on s.world b u d l h)))
+        picked_ejected_for m hand on (cause_of b e) (after_callback s.policy e) (k.quiet m hand on e.outside (keeps_called n I k m hand on (acting s b) b a s.maps (at_callback s.world b u d) (k.begun m hand on s.world b u d (λ other. l) h)))
         (picked_calm c t s.world (quiet e.outside) (calm_quiet s.world e.outside (calm_called (acting s b) b a s.maps s.world u d calm)) r)
 
     picked_stopping : (m : ℕ) (hand : Option ℕ) (on : List (Option ℕ)) (s : State) (d u x : ℕ) → d < length on → I m hand on s.world → IsPicked c t s.world → IsPicked c t (after_stopping s d u x).state.world
@@ -198,7 +199,7 @@ module _ (n : ℕ) (I : ℕ → Option ℕ → List (Option ℕ) → WorldState 
         go b e = in_front b (not ((task_at s.world u).slice == 0)) e
 
     -- the task before leaves
-    pub picked_leave : (m : ℕ) (on : List (Option ℕ)) (s : State) (d : ℕ) (p : Option ℕ) → d < length on → IsKnown n p → get_or on d None ≡ p → I m None on s.world → IsPicked c t s.world → IsPicked c t (leave s d p).state.world
+    picked_leave : (m : ℕ) (on : List (Option ℕ)) (s : State) (d : ℕ) (p : Option ℕ) → d < length on → IsKnown n p → get_or on d None ≡ p → I m None on s.world → IsPicked c t s.world → IsPicked c t (leave s d p).state.world
     unfolding leave
     picked_leave m on s d None l known runs h r = r
     picked_leave m on s d (Some u) l known runs h r =
@@ -207,6 +208,21 @@ module _ (n : ℕ) (I : ℕ → Option ℕ → List (Option ℕ) → WorldState 
         let away : I m (Some u) (set on d None) off.world = k.stopped m on s.world d u l known runs h in
         let first : IsPicked c t off.world = picked_same c t s.world off.world refl refl refl r in
         picked_put_back (m + 1) (set on d None) (after_stopping off d u 1).state d u known l' (keeps_stopping n I k m (Some u) (set on d None) off d u 1 l' away) (picked_stopping m (Some u) (set on d None) off d u 1 l' away first)
+
+    -- and the policy has heard before that the processor isn't idle any more
+    picked_tells_busy : (m : ℕ) (on : List (Option ℕ)) (s : State) (d : ℕ) (p : Option ℕ) (ran : Bool) → d < length on → I m None on s.world → IsPicked c t s.world → (I m None on (tells_busy s d p ran).state.world) × IsPicked c t (tells_busy s d p ran).state.world
+    unfolding tells_busy tells_idle call_by_linux
+    picked_tells_busy m on s d None false l h r =
+        let a = two_numbers d 0 in
+        keeps_if (λ (v : Stepped). I m None on v.state.world × IsPicked c t v.state.world) (is_by_linux s && is_some (program_of s.policy callback.UpdateIdle)) (call_back s callback.UpdateIdle a 0 d) (stays s)
+        (keeps_call_back n I k m None on s callback.UpdateIdle a 0 d l h, picked_call_back m None on s callback.UpdateIdle a 0 d refl l h r) (h, r)
+    picked_tells_busy m on s d None true l h r = (h, r)
+    picked_tells_busy m on s d (Some u) ran l h r = (h, r)
+
+    -- so that it may start
+    pub picked_makes_way : (m : ℕ) (on : List (Option ℕ)) (s : State) (d : ℕ) (p : Option ℕ) (ran : Bool) → d < length on → IsKnown n p → get_or on d None ≡ p → I m None on s.world → IsPicked c t s.world → IsPicked c t (makes_way s d p ran).state.world
+    unfolding makes_way
+    picked_makes_way m on s d p ran l known runs h r = let x = picked_tells_busy m on s d p ran l h r in picked_leave m on (tells_busy s d p ran).state d p l known runs x.0 x.1
 
   -- ---- the tree
 
@@ -219,7 +235,7 @@ module _ (n : ℕ) (I : ℕ → Option ℕ → List (Option ℕ) → WorldState 
   unfolding call_back
   tree_call_back m hand on s b a t d calm l h =
       let e = call_ending (acting s b) b a s.maps (at_callback s.world b t d) in
-      tree_ejected_for m hand on (cause_of b e) (after_callback s.policy e) (k.quiet m hand on e.outside (keeps_called n I k m hand on (acting s b) b a s.maps (at_callback s.world b t d) (k.begun m hand on s.world b t d l h)))
+      tree_ejected_for m hand on (cause_of b e) (after_callback s.policy e) (k.quiet m hand on e.outside (keeps_called n I k m hand on (acting s b) b a s.maps (at_callback s.world b t d) (k.begun m hand on s.world b t d (λ other. l) h)))
       ∙ (calm_called (acting s b) b a s.maps s.world t d calm).tree
 
   pub tree_stopping : (m : ℕ) (hand : Option ℕ) (on : List (Option ℕ)) (s : State) (d t x : ℕ) → d < length on → I m hand on s.world → (after_stopping s d t x).state.world.tree ≡ s.world.tree

@@ -54,6 +54,8 @@ module _ (cpus : ℕ) (o : Option Insert) where
     late = λ linux here. absurd (not_dispatch w h here);
     claimed = λ c. kept_claim Anywhere IsRemembered remembered_marks w c h;
     kicked = λ c k. kept_kicked_so Anywhere IsRemembered remembered_marks w c k h;
+    started = λ t ns. h;
+    cancelled = λ t. h;
     moved = λ q here low. absurd (not_dispatch w h here);
   }) f a
 

@@ -15,7 +15,7 @@ use Rattle.scx_sched_world.specs.declared.eject.Cause.{Cause}
 use Rattle.scx_sched_world.specs.declared.eject.Eject.{Eject}
 use Rattle.scx_sched_world.specs.CpuSets.{and_cpu}
 use Rattle.scx_sched_world.specs.World as world
-use Rattle.scx_sched_world.specs.World.{WorldState, with_task, switch_at, with_switch, with_waker, task_at, is_idle, running, at_callback}
+use Rattle.scx_sched_world.specs.World.{WorldState, with_task, switch_at, with_switch, with_waker, task_at, is_idle, running, at_callback, nothing_passes, with_timer_at_hand, out_of_cycle}
 use Rattle.scx_sched_world.specs.Tasks.{with_home, homed, after_switch, for_cpu}
 use Rattle.scx_sched_world.specs.Ejecting.{put_out, after_evictions, after_cut, cut_task, after_charge, after_catch_up}
 use Rattle.scx_sched_world.specs.Helpers.{world_functions}
@@ -80,12 +80,16 @@ module _ (n : ℕ) (I : ℕ → Option ℕ → List (Option ℕ) → WorldState 
     keeps_ejected_for None s h = h
     keeps_ejected_for (Some x) s h = keeps_eject s _ h
 
-    -- a callback
-    pub keeps_call_back : (s : State) (b : Callback) (a : Args) (t c : ℕ) → c < length on → I m hand on s.world → I m hand on (call_back s b a t c).state.world
+    -- a callback, on a processor that there is, or `timer`
+    pub keeps_call_back_if : (s : State) (b : Callback) (a : Args) (t c : ℕ) → ((b ≡ callback.Timer → ⊥) → c < length on) → I m hand on s.world → I m hand on (call_back s b a t c).state.world
     unfolding call_back
-    keeps_call_back s b a t c l h =
+    keeps_call_back_if s b a t c l h =
         let e = call_ending (acting s b) b a s.maps (at_callback s.world b t c) in
         keeps_ejected_for (cause_of b e) (after_callback s.policy e) (k.quiet m hand on e.outside (keeps_called (acting s b) b a s.maps (at_callback s.world b t c) (k.begun m hand on s.world b t c l h)))
+
+    -- a callback on a processor that there is
+    pub keeps_call_back : (s : State) (b : Callback) (a : Args) (t c : ℕ) → c < length on → I m hand on s.world → I m hand on (call_back s b a t c).state.world
+    keeps_call_back s b a t c l h = keeps_call_back_if s b a t c (λ other. l) h
 
     pub keeps_stopping : (s : State) (c t x : ℕ) → c < length on → I m hand on s.world → I (m + 1) hand on (after_stopping s c t x).state.world
     unfolding after_stopping
@@ -110,6 +114,11 @@ module _ (n : ℕ) (I : ℕ → Option ℕ → List (Option ℕ) → WorldState 
     unfolding call_by_linux
     keeps_call_by_linux s b a t c l h = keeps_if (λ (r : Stepped). I m hand on r.state.world) (is_by_linux s && is_some (program_of s.policy b)) (call_back s b a t c) (stays s) (keeps_call_back s b a t c l h) h
 
+    -- `timer`, wherever it runs
+    pub keeps_timer_called : (s : State) (a : Args) (c : ℕ) → I m hand on s.world → I m hand on (call_by_linux s callback.Timer a 0 c).state.world
+    unfolding call_by_linux
+    keeps_timer_called s a c h = keeps_if (λ (r : Stepped). I m hand on r.state.world) (is_by_linux s && is_some (program_of s.policy callback.Timer)) (call_back s callback.Timer a 0 c) (stays s) (keeps_call_back_if s callback.Timer a 0 c (λ other. absurd (other refl)) h) h
+
     -- a processor that begins to switch
     pub keeps_switch : (w : WorldState) (c : ℕ) → I m hand on w → I m hand on (with_switch w c)
     keeps_switch w c h = keeps_if (I m hand on) (world.is_by_linux w) (record w { passing = record w.passing { switching = switch_at w c } }) w (k.sets m hand on w w.claimed w.kicked w.preempted w.call.claims (record w.passing { switching = switch_at w c }) h) h
@@ -117,6 +126,18 @@ module _ (n : ℕ) (I : ℕ → Option ℕ → List (Option ℕ) → WorldState 
     -- a processor from which a task is woken, or none
     pub keeps_waker : (w : WorldState) (o : Option ℕ) → I m hand on w → I m hand on (with_waker w o)
     keeps_waker w o h = k.sets m hand on w w.claimed w.kicked w.preempted w.call.claims (record w.passing { waker = o }) h
+
+    -- a timer whose callback is at hand, or none
+    pub keeps_timer : (w : WorldState) (o : Option ℕ) → I m hand on w → I m hand on (with_timer_at_hand w o)
+    keeps_timer w o h = k.sets m hand on w w.claimed w.kicked w.preempted w.call.claims (record w.passing { timer = o }) h
+
+    -- a cycle that ends, of which all is known still
+    pub keeps_out_of_cycle : (w : WorldState) → I m hand on w → I m hand on (out_of_cycle w)
+    keeps_out_of_cycle w h = go (world.is_by_linux w) (k.cycling m hand on w None h)
+      where
+        go : (b : Bool) → I m hand on (if b then record w { cycling = None; passing = nothing_passes } else record w { cycling = None }) → I m hand on (out_of_cycle w)
+        go true x = k.sets m hand on (record w { cycling = None; passing = nothing_passes }) w.claimed w.kicked w.preempted w.call.claims w.passing x
+        go false x = x
 
     -- a processor that is to look for work
     pub keeps_kicked : (s : State) (c : ℕ) → I m hand on s.world → I m hand on (kicked s c).world

@@ -16,6 +16,7 @@ use Rattle.scx_dsq.specs.declared.entries.Entry.{Entry}
 use Rattle.scx_dsq.specs.Laws.{one_if, standing, IsStamped}
 use Rattle.scx_dsq.proofs.Facts.{front_is_known, standing_pushed, standing_popped, standing_removed, tasks_pushed, tasks_without, tasks_removed, tasks_created, others_change_none}
 use Rattle.scx_weights.specs.Hierarchy as tree
+use Rattle.scx_weights.specs.Refusals.{own_weight_fault}
 use Rattle.scx_isa_semantics.specs.declared.callbacks.Callback.{Callback}
 use Rattle.scx_isa_semantics.specs.declared.callbacks.Callback.TheVariants as callback
 use Rattle.scx_isa_semantics.specs.declared.host_tables.Field.{Field}
@@ -36,15 +37,16 @@ use Rattle.scx_sched_world.specs.declared.eject.Cause.{Cause}
 use Rattle.scx_sched_world.specs.declared.eject.Cause.TheVariants as reason
 use Rattle.scx_sched_world.specs.declared.eject.Eject.{Eject}
 use Rattle.scx_sched_world.specs.declared.passing.Passing.{Passing}
+use Rattle.scx_sched_world.specs.declared.timers.Alarm.{Alarm}
 use Rattle.scx_sched_world.specs.Ids.{global, local, held_queue, builtin_queue, parked_queue, local_on, policy_end}
 use Rattle.scx_sched_world.specs.Ejecting.{put_out, builtin_vtime, put_builtin, evict, cut_task, after_catch_up, after_charge}
 use Rattle.scx_sched_world.specs.World.{WorldState, is_by_linux, with_queues, with_tree, with_cycling, with_task, task_at, waits_in, waits, is_this, is_runnable, cpu_of, quiet, at_callback, with_note}
-use Rattle.scx_sched_world.specs.Tasks.{with_slice, with_home, rank_by, to_local, to_front, after_local, after_take, after_run, after_wake, after_sleep, after_leave, given_slice, given_vtime, task_after_insert, after_enter, queue_for, for_cpu, to_held, to_global, brought, fill_front, after_fill, local_len, after_stop, started_at, with_new_slice, after_keep, ran_a_tick, after_tick, later}
+use Rattle.scx_sched_world.specs.Tasks.{with_slice, with_home, rank_by, to_local, to_front, after_local, after_take, after_run, after_wake, after_sleep, after_leave, given_slice, given_vtime, task_after_insert, after_enter, queue_for, for_cpu, to_held, to_global, brought, fill_front, after_fill, local_len, after_stop, started_at, with_new_slice, after_keep, ran_a_tick, after_tick, later, after_own_weight}
 use Rattle.scx_sched_world.specs.Helpers.{with_cause, flags_fault, is_dispatch, is_held, may_insert_in, may_insert, queue_fault, is_vtime, rank_fault, or_fault, insert_fault, with_insert, with_move, after_release, insert_or_fault, front_moved_to_local, helper_after, stored_in, world_functions}
 use Rattle.scx_sched_machine.proofs.Choices.{keeps_if}
 use Rattle.scx_sched_machine.proofs.HelperCalls.{by_helper}
 use Rattle.scx_sched.specs.Once.{runs, appearances, IsOnce, HasQueues, sort_of, IsSorted, IsAlike, IsOpen, IsBehind, IsSound, GoesSomewhere}
-use Rattle.scx_sched.specs.Kept.{with_sets, IsWanted, ForAny, Nowhere, Inserted, InFront, Before}
+use Rattle.scx_sched.specs.Kept.{with_sets, with_moved, IsWanted, ForAny, Nowhere, Inserted, InFront, Before}
 use Rattle.scx_sched.proofs.Marks.{KeepsMarks, KeepsCycles, kept_cycling, kept_kicked_so, kept_claim, kept_local, kept_put}
 use Rattle.scx_sched.proofs.Waiting.{waiting, waits_there, without_other, removed_other, same_waiting, waiting_pushed, waiting_left, front_waits_here, set_since, one_same, waits_sum, waits_by_sum, since_set, stored_since, given_since, renewed_since, waits_at_hand, waits_asleep, waits_on_cpu}
 use Rattle.scx_sched.proofs.Entering.{nowhere, sorted_pushed, sorted_popped, sorted_removed, stamped_pushed, stamped_popped, stamped_removed, stamped_created, own_open, alike_from, is_accepted, Stay, stay_pushed, stay_without, stay_removed, stay_created, queues_stay, open_without, open_removed, open_created, open_own, open_same, same_itself, same_key, open_by, goes_on, local_fits, local_sort, low_fits}
@@ -79,6 +81,7 @@ module _ (hand : Option ℕ) (on : List (Option ℕ)) (n : ℕ) where
     tasks = h.tasks;
     even = even ∙ h.even;
     flags = h.flags;
+    members = h.members;
     homes = h.homes;
     queues = queues_stay w.queues s (length on) stay h.queues;
     sorted = sorted;
@@ -92,31 +95,43 @@ module _ (hand : Option ℕ) (on : List (Option ℕ)) (n : ℕ) where
   }
 
   sound_task : (w : WorldState) (t : ℕ) (x : Task) → x.prev_cpu ≡ (task_at w t).prev_cpu → x.since ≡ (task_at w t).since → IsSound hand on n w → IsSound hand on n (with_task w t x)
-  sound_task w t x home since h = record { cpus = h.cpus; tasks = length-set w.tasks t x ∙ h.tasks; even = h.even; flags = h.flags; homes = homes_set w.tasks t x (length on) (rw home (h.homes t)) h.homes; queues = h.queues; sorted = h.sorted; stamped = h.stamped; once = h.once; here = h.here; goes = h.goes; behind = h.behind; waiting = λ u. ap is_some (since_set w.tasks t x since u) ∙ h.waiting u; at_once = h.at_once }
+  sound_task w t x home since h = record { cpus = h.cpus; tasks = length-set w.tasks t x ∙ h.tasks; even = h.even; flags = h.flags; members = h.members; homes = homes_set w.tasks t x (length on) (rw home (h.homes t)) h.homes; queues = h.queues; sorted = h.sorted; stamped = h.stamped; once = h.once; here = h.here; goes = h.goes; behind = h.behind; waiting = λ u. ap is_some (since_set w.tasks t x since u) ∙ h.waiting u; at_once = h.at_once }
 
   -- nor is any task moved by sets of processors, or by what is kept until an event ends
   pub sound_sets : (w : WorldState) (claimed kicked preempted claims : CpuSet) (passing : Passing) → IsSound hand on n w → IsSound hand on n (with_sets w claimed kicked preempted claims passing)
-  sound_sets w a b c d o h = record { cpus = h.cpus; tasks = h.tasks; even = h.even; flags = h.flags; homes = h.homes; queues = h.queues; sorted = h.sorted; stamped = h.stamped; once = h.once; here = h.here; goes = h.goes; behind = h.behind; waiting = h.waiting; at_once = h.at_once }
+  sound_sets w a b c d o h = record { cpus = h.cpus; tasks = h.tasks; even = h.even; flags = h.flags; members = h.members; homes = h.homes; queues = h.queues; sorted = h.sorted; stamped = h.stamped; once = h.once; here = h.here; goes = h.goes; behind = h.behind; waiting = h.waiting; at_once = h.at_once }
+
+  -- it says of the callback at hand that it moved a task, or that it didn't
+  pub sound_moves : (w : WorldState) (b : Bool) → IsSound hand on n w → IsSound hand on n (with_moved w b)
+  sound_moves w b h = record { cpus = h.cpus; tasks = h.tasks; even = h.even; flags = h.flags; members = h.members; homes = h.homes; queues = h.queues; sorted = h.sorted; stamped = h.stamped; once = h.once; here = h.here; goes = h.goes; behind = h.behind; waiting = h.waiting; at_once = h.at_once }
+
+  -- timers
+  pub sound_timers : (w : WorldState) (ts : List (Option Alarm)) → IsSound hand on n w → IsSound hand on n (record w { timers = ts })
+  sound_timers w ts h = record { cpus = h.cpus; tasks = h.tasks; even = h.even; flags = h.flags; members = h.members; homes = h.homes; queues = h.queues; sorted = h.sorted; stamped = h.stamped; once = h.once; here = h.here; goes = h.goes; behind = h.behind; waiting = h.waiting; at_once = h.at_once }
+
+  -- a task's own weight
+  pub sound_own_weight : (w : WorldState) (t x : ℕ) → IsSound hand on n w → IsSound hand on n (after_own_weight w t x)
+  sound_own_weight w t x h = keeps_if (IsSound hand on n) (is_none (own_weight_fault w.tree t x)) (with_tree w (tree.with_own_weight w.tree t x)) w (record { cpus = h.cpus; tasks = h.tasks; even = h.even; flags = h.flags; members = h.members; homes = h.homes; queues = h.queues; sorted = h.sorted; stamped = h.stamped; once = h.once; here = h.here; goes = h.goes; behind = h.behind; waiting = h.waiting; at_once = h.at_once }) h
 
   -- as the processor of a task, its slice and sets of processors change, tasks stay where they are
   pub sound_marks : KeepsMarks (λ c. c < length on) (IsSound hand on n)
   sound_marks = record {
     there = λ w c h l. rw (← h.cpus) l;
-    homed = λ w t c l h. record { cpus = h.cpus; tasks = length-set w.tasks t (with_home (task_at w t) c) ∙ h.tasks; even = h.even; flags = h.flags; homes = homes_set w.tasks t (with_home (task_at w t) c) (length on) l h.homes; queues = h.queues; sorted = h.sorted; stamped = h.stamped; once = h.once; here = h.here; goes = h.goes; behind = h.behind; waiting = λ u. ap is_some (since_set w.tasks t (with_home (task_at w t) c) refl u) ∙ h.waiting u; at_once = h.at_once };
+    homed = λ w t c l h. record { cpus = h.cpus; tasks = length-set w.tasks t (with_home (task_at w t) c) ∙ h.tasks; even = h.even; flags = h.flags; members = h.members; homes = homes_set w.tasks t (with_home (task_at w t) c) (length on) l h.homes; queues = h.queues; sorted = h.sorted; stamped = h.stamped; once = h.once; here = h.here; goes = h.goes; behind = h.behind; waiting = λ u. ap is_some (since_set w.tasks t (with_home (task_at w t) c) refl u) ∙ h.waiting u; at_once = h.at_once };
     sliced = λ w t k h. sound_task w t (with_slice (task_at w t) k) refl refl h;
     sets = λ w a b c d h. sound_sets w a b c d w.passing h;
   }
 
   -- notes that are handed on
   pub sound_quiet : (w : WorldState) → IsSound hand on n w → IsSound hand on n (quiet w)
-  sound_quiet w h = record { cpus = h.cpus; tasks = h.tasks; even = h.even; flags = h.flags; homes = h.homes; queues = h.queues; sorted = h.sorted; stamped = h.stamped; once = h.once; here = h.here; goes = h.goes; behind = h.behind; waiting = h.waiting; at_once = h.at_once }
+  sound_quiet w h = record { cpus = h.cpus; tasks = h.tasks; even = h.even; flags = h.flags; members = h.members; homes = h.homes; queues = h.queues; sorted = h.sorted; stamped = h.stamped; once = h.once; here = h.here; goes = h.goes; behind = h.behind; waiting = h.waiting; at_once = h.at_once }
 
   -- a cycle that begins or ends
   pub sound_cycling : (w : WorldState) (o : Option ℕ) → IsSound hand on n w → IsSound hand on n (with_cycling w o)
   sound_cycling w o h = kept_cycling (IsSound hand on n) (λ v p a x h. kept_so v p a x h) w o h
     where
       kept_so : KeepsCycles (IsSound hand on n)
-      kept_so v p a x h = record { cpus = h.cpus; tasks = h.tasks; even = h.even; flags = h.flags; homes = h.homes; queues = h.queues; sorted = h.sorted; stamped = h.stamped; once = h.once; here = h.here; goes = h.goes; behind = h.behind; waiting = h.waiting; at_once = h.at_once }
+      kept_so v p a x h = record { cpus = h.cpus; tasks = h.tasks; even = h.even; flags = h.flags; members = h.members; homes = h.homes; queues = h.queues; sorted = h.sorted; stamped = h.stamped; once = h.once; here = h.here; goes = h.goes; behind = h.behind; waiting = h.waiting; at_once = h.at_once }
 
   entry_created : (s : QueueState) (q u : ℕ) → entry_of (after_create s q) u ≡ entry_of s u
   entry_created s q u = keeps_if (λ (x : QueueState). entry_of x u ≡ entry_of s u) (is_none (create_refusal s q)) (with_queue s q) s refl refl
@@ -273,9 +288,13 @@ given_home x i = vtime i.rank ∙ keeps_if (λ (y : Task). y.prev_cpu ≡ x.prev
 pub inside : (n : ℕ) (w : WorldState) (t : ℕ) → t < n → length w.tasks ≡ n → nat_lt t (length w.tasks) ≡ true
 inside n w t within e = let l : t < length w.tasks = rw e within in grind (arith, nat_tests, l)
 
+-- dispatch isn't `timer`
+pub not_timer : (b : Callback) → is_dispatch b ≡ true → b ≡ callback.Timer → ⊥
+not_timer b x e = let bad : false ≡ true = sym (ap is_dispatch e) ∙ x in absurd (cc)
+
 module _ (hand : Option ℕ) (on : List (Option ℕ)) (n : ℕ) where
   sound_caused : (w : WorldState) (x : Cause) → IsSound hand on n w → IsSound hand on n (with_cause w x)
-  sound_caused w x h = record { cpus = h.cpus; tasks = h.tasks; even = h.even; flags = h.flags; homes = h.homes; queues = h.queues; sorted = h.sorted; stamped = h.stamped; once = h.once; here = h.here; goes = h.goes; behind = h.behind; waiting = h.waiting; at_once = h.at_once }
+  sound_caused w x h = record { cpus = h.cpus; tasks = h.tasks; even = h.even; flags = h.flags; members = h.members; homes = h.homes; queues = h.queues; sorted = h.sorted; stamped = h.stamped; once = h.once; here = h.here; goes = h.goes; behind = h.behind; waiting = h.waiting; at_once = h.at_once }
 
   -- a task goes from one queue to another
   sound_replaced : (w : WorldState) (t q : ℕ) (r : Rank) (x : Task) → x.prev_cpu ≡ (task_at w t).prev_cpu → x.since ≡ (task_at w t).since → waits_in (queue_of w.queues t) ≡ true → t < task_count w.queues → entry_of (after_remove w.queues t) t ≡ None → IsOpen w.queues q r → (q == parked_queue) ≡ false
@@ -312,11 +331,11 @@ module _ (hand : Option ℕ) (on : List (Option ℕ)) (n : ℕ) where
 
   -- what isn't of queues or tasks
   sound_moving : (w : WorldState) (x : What) → IsSound hand on n w → IsSound hand on n (with_note (with_move w) x)
-  sound_moving w x h = record { cpus = h.cpus; tasks = h.tasks; even = h.even; flags = h.flags; homes = h.homes; queues = h.queues; sorted = h.sorted; stamped = h.stamped; once = h.once; here = h.here; goes = h.goes; behind = h.behind; waiting = h.waiting; at_once = h.at_once }
+  sound_moving w x h = record { cpus = h.cpus; tasks = h.tasks; even = h.even; flags = h.flags; members = h.members; homes = h.homes; queues = h.queues; sorted = h.sorted; stamped = h.stamped; once = h.once; here = h.here; goes = h.goes; behind = h.behind; waiting = h.waiting; at_once = h.at_once }
 
   -- a late insert, which counts as one
   sound_late : (w : WorldState) → IsSound hand on n w → IsSound hand on n (with_move w)
-  sound_late w h = record { cpus = h.cpus; tasks = h.tasks; even = h.even; flags = h.flags; homes = h.homes; queues = h.queues; sorted = h.sorted; stamped = h.stamped; once = h.once; here = h.here; goes = h.goes; behind = h.behind; waiting = h.waiting; at_once = h.at_once }
+  sound_late w h = record { cpus = h.cpus; tasks = h.tasks; even = h.even; flags = h.flags; members = h.members; homes = h.homes; queues = h.queues; sorted = h.sorted; stamped = h.stamped; once = h.once; here = h.here; goes = h.goes; behind = h.behind; waiting = h.waiting; at_once = h.at_once }
 
   sound_inserted : (w : WorldState) (o : Option Fault) (t : Option ℕ) (i : Insert) → (is_by_linux w ≡ false → IsBehind i.rank) → (o ≡ None → IsFit w t i) → IsSound hand on n w → IsSound hand on n (insert_or_fault w o t i)
   sound_inserted w None t i back fine h = go (is_dispatch w.call.callback) refl t (fine refl)
@@ -325,14 +344,15 @@ module _ (hand : Option ℕ) (on : List (Option ℕ)) (n : ℕ) where
       go true x None fit = h
       go true x (Some u) fit =
           sound_moving (after_enter (after_leave w u) u (for_cpu w.call.cpu i)) _
-          (sound_released w u (for_cpu w.call.cpu i) (h.at_once x) (held_waits w u (held_in_dispatch w (Some u) x fit.may)) (fit_open on hand n w (Some u) i w.call.cpu h.here fit h) (fit_apart w i.queue w.call.cpu fit.queue) h)
-      go false x u fit = record { cpus = h.cpus; tasks = h.tasks; even = h.even; flags = h.flags; homes = h.homes; queues = h.queues; sorted = h.sorted; stamped = h.stamped; once = h.once; here = h.here; goes = λ c l. (fit_open on hand n w u i c l fit h, fit_apart w i.queue c fit.queue); behind = back; waiting = h.waiting; at_once = λ y. absurd (cc (sym x ∙ y)) }
+          (sound_released w u (for_cpu w.call.cpu i) (h.at_once x) (held_waits w u (held_in_dispatch w (Some u) x fit.may)) (fit_open on hand n w (Some u) i w.call.cpu (h.here (not_timer w.call.callback x)) fit h) (fit_apart w i.queue w.call.cpu fit.queue) h)
+      go false x u fit = record { cpus = h.cpus; tasks = h.tasks; even = h.even; flags = h.flags; members = h.members; homes = h.homes; queues = h.queues; sorted = h.sorted; stamped = h.stamped; once = h.once; here = h.here; goes = λ c l. (fit_open on hand n w u i c l fit h, fit_apart w i.queue c fit.queue); behind = back; waiting = h.waiting; at_once = λ y. absurd (cc (sym x ∙ y)) }
   sound_inserted w (Some f) t i back fine h = sound_caused w (reason.Fault f) h
 
-  sound_moved : (w : WorldState) (o : Option ℕ) (q : ℕ) → front_of w.queues q ≡ o → (q == parked_queue) ≡ false → IsSound hand on n w → IsSound hand on n (front_moved_to_local w o q)
-  sound_moved w None q e apart h = h
-  sound_moved w (Some t) q e apart h =
-      sound_moving (after_local (after_take w q) w.call.cpu t) _ (kept_local (λ c. c < length on) (IsSound hand on n) (sound_marks hand on n) (after_take w q) w.call.cpu t h.here (sound_brought hand on n w (Some t) q (local_on w.call.cpu) e (h.queues.locals w.call.cpu h.here) (omega arith) (local_sort w.call.cpu) apart (ne_eqb (local_on w.call.cpu) parked_queue (λ x. omega (arith, x))) h t refl))
+  sound_moved : (w : WorldState) (o : Option ℕ) (q : ℕ) → is_dispatch w.call.callback ≡ true → front_of w.queues q ≡ o → (q == parked_queue) ≡ false → IsSound hand on n w → IsSound hand on n (front_moved_to_local w o q)
+  sound_moved w None q x e apart h = h
+  sound_moved w (Some t) q x e apart h =
+      let here = h.here (not_timer w.call.callback x) in
+      sound_moving (after_local (after_take w q) w.call.cpu t) _ (kept_local (λ c. c < length on) (IsSound hand on n) (sound_marks hand on n) (after_take w q) w.call.cpu t here (sound_brought hand on n w (Some t) q (local_on w.call.cpu) e (h.queues.locals w.call.cpu here) (omega arith) (local_sort w.call.cpu) apart (ne_eqb (local_on w.call.cpu) parked_queue (λ x. omega (arith, x))) h t refl))
 
   sound_helper : (w : WorldState) (f : Helper) (a : List Arg) → IsSound hand on n w → IsSound hand on n (helper_after w f a)
   sound_helper w f a h = by_helper (IsSound hand on n) w (record {
@@ -344,7 +364,9 @@ module _ (hand : Option ℕ) (on : List (Option ℕ)) (n : ℕ) where
     late = λ linux here. sound_late w h;
     claimed = λ o. kept_claim (λ c. c < length on) (IsSound hand on n) (sound_marks hand on n) w o h;
     kicked = λ c k. kept_kicked_so (λ c. c < length on) (IsSound hand on n) (sound_marks hand on n) w c k h;
-    moved = λ q here low. sound_moved w (front_of w.queues q) q refl (ne_eqb q parked_queue (λ x. omega (arith, x, low))) h;
+    started = λ t ns. sound_timers hand on n w _ h;
+    cancelled = λ t. sound_timers hand on n w _ h;
+    moved = λ q here low. sound_moved w (front_of w.queues q) q here refl (ne_eqb q parked_queue (λ x. omega (arith, x, low))) h;
   }) f a
 
   -- whatever a program asks
@@ -354,12 +376,12 @@ module _ (hand : Option ℕ) (on : List (Option ℕ)) (n : ℕ) where
   sound_query w (Store t f k) h = sound_task hand on n w t.0 (stored_in (task_at w t.0) f k) (stored_home (task_at w t.0) f k) (stored_since (task_at w t.0) f k) h
 
   -- a callback that begins
-  pub sound_begun : (w : WorldState) (b : Callback) (t c : ℕ) → c < length on → IsSound hand on n w → IsSound hand on n (at_callback w b t c)
-  sound_begun w b t c l h = record { cpus = h.cpus; tasks = h.tasks; even = h.even; flags = h.flags; homes = h.homes; queues = h.queues; sorted = h.sorted; stamped = h.stamped; once = h.once; here = l; goes = tt; behind = λ e. tt; waiting = h.waiting; at_once = λ e. refl }
+  pub sound_begun : (w : WorldState) (b : Callback) (t c : ℕ) → ((b ≡ callback.Timer → ⊥) → c < length on) → IsSound hand on n w → IsSound hand on n (at_callback w b t c)
+  sound_begun w b t c l h = record { cpus = h.cpus; tasks = h.tasks; even = h.even; flags = h.flags; members = h.members; homes = h.homes; queues = h.queues; sorted = h.sorted; stamped = h.stamped; once = h.once; here = l; goes = tt; behind = λ e. tt; waiting = h.waiting; at_once = λ e. refl }
 
   -- where no program chose a processor, the task is to come into the local queue of one
   pub sound_wants : (w : WorldState) (c : ℕ) → c < length on → is_dispatch w.call.callback ≡ false → IsSound hand on n w → IsSound hand on n (with_insert w (to_local c))
-  sound_wants w c l calm h = record { cpus = h.cpus; tasks = h.tasks; even = h.even; flags = h.flags; homes = h.homes; queues = h.queues; sorted = h.sorted; stamped = h.stamped; once = h.once; here = h.here; goes = λ d m. keeps_if (λ q. IsOpen w.queues q Fifo × ((q == parked_queue) ≡ false)) (local_on c == local) (local_on d) (local_on c) (one d m) (one c l); behind = λ plain e. absurd (cc); waiting = h.waiting; at_once = λ y. absurd (cc (sym calm ∙ y)) }
+  sound_wants w c l calm h = record { cpus = h.cpus; tasks = h.tasks; even = h.even; flags = h.flags; members = h.members; homes = h.homes; queues = h.queues; sorted = h.sorted; stamped = h.stamped; once = h.once; here = h.here; goes = λ d m. keeps_if (λ q. IsOpen w.queues q Fifo × ((q == parked_queue) ≡ false)) (local_on c == local) (local_on d) (local_on c) (one d m) (one c l); behind = λ plain e. absurd (cc); waiting = h.waiting; at_once = λ y. absurd (cc (sym calm ∙ y)) }
     where
       one : (d : ℕ) → d < length on → IsOpen w.queues (local_on d) Fifo × ((local_on d == parked_queue) ≡ false)
       one d m = (own_open w.queues (local_on d) Fifo (h.queues.locals d m) (omega arith) (local_sort d) h.sorted, ne_eqb (local_on d) parked_queue (λ x. omega (arith, x)))
@@ -385,6 +407,7 @@ module _ (on : List (Option ℕ)) (n : ℕ) where
         tasks = length-set w.tasks t x ∙ h.tasks;
         even = tasks_pushed w.queues q t r ∙ h.even;
         flags = h.flags;
+        members = h.members;
         homes = homes_set w.tasks t x (length on) (rw home (h.homes t)) h.homes;
         queues = queues_stay w.queues (after_push w.queues q t r) (length on) (stay_pushed w.queues q t r) h.queues;
         sorted = sorted_pushed w.queues q t r ready.fits h.sorted;
@@ -460,11 +483,11 @@ module _ (on : List (Option ℕ)) (n : ℕ) where
 
   -- a clock that goes on
   pub sound_later : (w : WorldState) → IsSound None on n w → IsSound None on n (later w)
-  sound_later w h = record { cpus = h.cpus; tasks = h.tasks; even = h.even; flags = h.flags; homes = h.homes; queues = h.queues; sorted = h.sorted; stamped = h.stamped; once = h.once; here = h.here; goes = h.goes; behind = h.behind; waiting = h.waiting; at_once = h.at_once }
+  sound_later w h = record { cpus = h.cpus; tasks = h.tasks; even = h.even; flags = h.flags; members = h.members; homes = h.homes; queues = h.queues; sorted = h.sorted; stamped = h.stamped; once = h.once; here = h.here; goes = h.goes; behind = h.behind; waiting = h.waiting; at_once = h.at_once }
 
   -- a weight
   pub sound_with_weight : (w : WorldState) (g x : ℕ) → IsSound None on n w → IsSound None on n (with_tree w (tree.with_weight w.tree g x))
-  sound_with_weight w g x h = record { cpus = h.cpus; tasks = h.tasks; even = h.even; flags = h.flags; homes = h.homes; queues = h.queues; sorted = h.sorted; stamped = h.stamped; once = h.once; here = h.here; goes = h.goes; behind = h.behind; waiting = h.waiting; at_once = h.at_once }
+  sound_with_weight w g x h = record { cpus = h.cpus; tasks = h.tasks; even = h.even; flags = h.flags; members = h.members; homes = h.homes; queues = h.queues; sorted = h.sorted; stamped = h.stamped; once = h.once; here = h.here; goes = h.goes; behind = h.behind; waiting = h.waiting; at_once = h.at_once }
 
   -- who leaves its processor is in no place
   pub sound_stopped : (w : WorldState) (c t : ℕ) → c < length on → t < n → get_or on c None ≡ Some t → IsSound None on n w → IsSound (Some t) (set on c None) n (after_stop w c t)
@@ -473,6 +496,7 @@ module _ (on : List (Option ℕ)) (n : ℕ) where
     tasks = length-set w.tasks t _ ∙ h.tasks;
     even = h.even;
     flags = h.flags;
+    members = h.members;
     homes = rw (length-set on c None) (homes_set w.tasks t _ (length on) (h.homes t) h.homes);
     queues = subst (λ k. HasQueues w.queues k) (sym (length-set on c None)) h.queues;
     sorted = h.sorted;
@@ -498,6 +522,7 @@ module _ (on : List (Option ℕ)) (n : ℕ) where
     tasks = length-set w.tasks t _ ∙ h.tasks;
     even = tasks_without w.queues (front_of w.queues (local_on c)) ∙ h.even;
     flags = h.flags;
+    members = h.members;
     homes = rw same (homes_set w.tasks t _ (length on) l h.homes);
     queues = queues_stay w.queues (after_pop w.queues (local_on c)) (length (set on c (Some t))) (stay_without w.queues (front_of w.queues (local_on c))) (subst (λ k. HasQueues w.queues k) (sym same) h.queues);
     sorted = sorted_popped w.queues (local_on c) h.sorted;
@@ -522,6 +547,17 @@ module _ (on : List (Option ℕ)) (n : ℕ) where
       l' : c < length w.cpus
       l' = rw h.cpus l
 
+-- who waits is a task that there is
+pub waits_known : (s : QueueState) (t : ℕ) → is_some (entry_of s t) ≡ true → t < task_count s
+waits_known s t e = go (cases_lt t (task_count s))
+  where
+    none : entry_of s t ≡ None → is_some (entry_of s t) ≡ true → ⊥
+    none x y = absurd (cc)
+
+    go : (t < task_count s) ⊎ (task_count s ≤ t) → t < task_count s
+    go (inl l) = l
+    go (inr past) = absurd (none (get_or_past {X = Option Entry} s.entries t None past) e)
+
 -- who was taken out of its queue waits nowhere
 pub removed_place : (s : QueueState) (t : ℕ) → is_some (entry_of s t) ≡ true → t < task_count s → entry_of (after_remove s t) t ≡ None
 removed_place s t waits-here known = rw waits-here (get_or-set_same {A = Option Entry} s.entries t None None known)
@@ -543,6 +579,7 @@ module _ (on : List (Option ℕ)) (n : ℕ) where
     tasks = length-set w.tasks t _ ∙ h.tasks;
     even = tasks_removed w.queues t ∙ h.even;
     flags = h.flags;
+    members = h.members;
     homes = rw same (homes_set w.tasks t _ (length on) l h.homes);
     queues = queues_stay w.queues (after_remove w.queues t) (length (set on c (Some t))) (stay_removed w.queues t) (subst (λ k. HasQueues w.queues k) (sym same) h.queues);
     sorted = sorted_removed w.queues t h.sorted;
@@ -604,6 +641,7 @@ module _ (on : List (Option ℕ)) (n : ℕ) where
     tasks = length-set w.tasks t _ ∙ h.tasks;
     even = h.even;
     flags = length-set w.tree.active t true ∙ h.flags;
+    members = h.members;
     homes = homes_set w.tasks t _ (length on) (h.homes t) h.homes;
     queues = h.queues;
     sorted = h.sorted;
@@ -637,6 +675,7 @@ module _ (on : List (Option ℕ)) (n : ℕ) where
     tasks = length-set w.tasks t _ ∙ h.tasks;
     even = h.even;
     flags = length-set w.tree.active t false ∙ h.flags;
+    members = h.members;
     homes = homes_set w.tasks t _ (length on) (h.homes t) h.homes;
     queues = h.queues;
     sorted = h.sorted;
@@ -649,6 +688,35 @@ module _ (on : List (Option ℕ)) (n : ℕ) where
     at_once = h.at_once;
   }
 
+  -- who waits leaves its queue, and is at hand
+  pub sound_removed : (w : WorldState) (t : ℕ) → waits w t ≡ true → IsSound None on n w → IsSound (Some t) on n (after_leave w t)
+  sound_removed w t here h = record {
+    cpus = h.cpus;
+    tasks = h.tasks;
+    even = tasks_removed w.queues t ∙ h.even;
+    flags = h.flags;
+    members = h.members;
+    homes = h.homes;
+    queues = queues_stay w.queues (after_remove w.queues t) (length on) (stay_removed w.queues t) h.queues;
+    sorted = sorted_removed w.queues t h.sorted;
+    stamped = stamped_removed w.queues t h.stamped;
+    once = λ u. omega (arith, h.once u, standing_removed w.queues t u stands);
+    here = h.here;
+    goes = goes_on w.queues (after_remove w.queues t) (length on) w.call.insert (λ x k o. open_removed w.queues t x k o) h.goes;
+    behind = h.behind;
+    waiting = waits_by_sum (Some t) (after_leave w t) (λ u. omega (arith, waits_sum None w h.once h.waiting u, waiting_left w.queues (after_remove w.queues t) t u (ap one_if here) gone-now (λ k d. removed_other w.queues t k d)));
+    at_once = h.at_once;
+  }
+    where
+      stands : is_some (entry_of w.queues t) ≡ true
+      stands = waits_there w.queues t here
+
+      known : t < task_count w.queues
+      known = waits_known w.queues t stands
+
+      gone-now : entry_of (after_remove w.queues t) t ≡ None
+      gone-now = removed_place w.queues t stands known
+
   -- who is runnable and doesn't run is in a queue, leaves it and sleeps
   pub sound_left : (w : WorldState) (t : ℕ) → t < n → is_runnable w t ≡ true → cpu_of w t ≡ None → IsSound None on n w → IsSound None on n (after_sleep (after_leave w t) t)
   sound_left w t within runnable off h = rw (inside n w t within h.tasks) record {
@@ -656,6 +724,7 @@ module _ (on : List (Option ℕ)) (n : ℕ) where
     tasks = length-set w.tasks t _ ∙ h.tasks;
     even = tasks_removed w.queues t ∙ h.even;
     flags = length-set w.tree.active t false ∙ h.flags;
+    members = h.members;
     homes = homes_set w.tasks t _ (length on) (h.homes t) h.homes;
     queues = queues_stay w.queues (after_remove w.queues t) (length on) (stay_removed w.queues t) h.queues;
     sorted = sorted_removed w.queues t h.sorted;
@@ -680,21 +749,10 @@ module _ (on : List (Option ℕ)) (n : ℕ) where
 
 -- ---- an ejection, and the built-in scheduler
 
--- who waits is a task that there is
-pub waits_known : (s : QueueState) (t : ℕ) → is_some (entry_of s t) ≡ true → t < task_count s
-waits_known s t e = go (cases_lt t (task_count s))
-  where
-    none : entry_of s t ≡ None → is_some (entry_of s t) ≡ true → ⊥
-    none x y = absurd (cc)
-
-    go : (t < task_count s) ⊎ (task_count s ≤ t) → t < task_count s
-    go (inl l) = l
-    go (inr past) = absurd (none (get_or_past {X = Option Entry} s.entries t None past) e)
-
 module _ (hand : Option ℕ) (on : List (Option ℕ)) (n : ℕ) where
   -- what the callback at hand wanted is forgotten
   pub sound_put_out : (w : WorldState) (x : Eject) → IsSound hand on n w → IsSound hand on n (put_out w x)
-  sound_put_out w x h = record { cpus = h.cpus; tasks = h.tasks; even = h.even; flags = h.flags; homes = h.homes; queues = h.queues; sorted = h.sorted; stamped = h.stamped; once = h.once; here = h.here; goes = tt; behind = λ e. tt; waiting = h.waiting; at_once = λ e. refl }
+  sound_put_out w x h = record { cpus = h.cpus; tasks = h.tasks; even = h.even; flags = h.flags; members = h.members; homes = h.homes; queues = h.queues; sorted = h.sorted; stamped = h.stamped; once = h.once; here = h.here; goes = tt; behind = λ e. tt; waiting = h.waiting; at_once = λ e. refl }
 
   -- a task that waits goes over
   pub sound_evict : (w : WorldState) (t : ℕ) → t < n → IsSound hand on n w → IsSound hand on n (evict w t)
@@ -720,7 +778,7 @@ module _ (hand : Option ℕ) (on : List (Option ℕ)) (n : ℕ) where
 
   -- the clock of the built-in scheduler
   pub sound_overtaken : (w : WorldState) (t : ℕ) → IsSound hand on n w → IsSound hand on n (after_catch_up w t)
-  sound_overtaken w t h = record { cpus = h.cpus; tasks = h.tasks; even = h.even; flags = h.flags; homes = h.homes; queues = h.queues; sorted = h.sorted; stamped = h.stamped; once = h.once; here = h.here; goes = h.goes; behind = h.behind; waiting = h.waiting; at_once = h.at_once }
+  sound_overtaken w t h = record { cpus = h.cpus; tasks = h.tasks; even = h.even; flags = h.flags; members = h.members; homes = h.homes; queues = h.queues; sorted = h.sorted; stamped = h.stamped; once = h.once; here = h.here; goes = h.goes; behind = h.behind; waiting = h.waiting; at_once = h.at_once }
 
   -- its times
   pub sound_charged : (w : WorldState) (t : ℕ) → IsSound hand on n w → IsSound hand on n (after_charge w t)

@@ -1,39 +1,44 @@
 -- Between two events no cycle is under way, and nothing is kept of the event before.
-use Rattle.std.proofs.Common.{◌≡◌, ℕ, zero, suc, Bool, ◌==◌, ◌&&◌, true, false, nat_lt, if◌then◌else◌, length, Option, Some, None, is_some, is_none, Ok, refl, ap, ◌∙◌}
+use Rattle.std.proofs.Common.{◌≡◌, ℕ, zero, suc, Bool, ◌==◌, ◌&&◌, true, false, nat_lt, if◌then◌else◌, length, Option, Some, None, is_some, is_none, Ok, refl, ap, ◌∙◌, [], ◌∷◌}
 use Rattle.scx_dsq.specs.Queues.{len_of, front_of, behind_of}
 use Rattle.scx_isa_semantics.specs.declared.callbacks.Callback.{Callback}
 use Rattle.scx_isa_semantics.specs.declared.callbacks.Callback.TheVariants as callback
 use Rattle.scx_vm.specs.Programs.{VerifiedProgram}
 use Rattle.scx_vm.specs.declared.arguments.Args.{Args}
-use Rattle.scx_weights.specs.Hierarchy.{Hierarchy, with_weight}
+use Rattle.scx_weights.specs.Hierarchy.{Hierarchy, with_weight, with_own_weight}
 use Rattle.scx_weights.specs.Limits.{with_use}
-use Rattle.scx_weights.specs.Refusals.{weight_fault}
+use Rattle.scx_weights.specs.Refusals.{weight_fault, own_weight_fault}
 use Rattle.scx_sched_world.specs.declared.call.Insert.{Insert}
 use Rattle.scx_sched_world.specs.declared.eject.Cause.{Cause}
 use Rattle.scx_sched_world.specs.declared.eject.Eject.{Eject}
 use Rattle.scx_sched_world.specs.declared.passing.Passing.{Passing}
+use Rattle.scx_sched_world.specs.declared.notes.What.TheVariants.{Idle}
+use Rattle.scx_sched_world.specs.declared.timers.Alarm.{Alarm}
 use Rattle.scx_sched_world.specs.Ids.{parked_queue}
 use Rattle.scx_sched_world.specs.CpuSets.{is_in_set}
 use Rattle.scx_sched_world.specs.World as world
-use Rattle.scx_sched_world.specs.World.{without_kick, WorldState, nothing_passes, with_tree, with_task, with_slept, with_waker, task_at, is_throttled, running, current_in, cpu_of, is_idle, at_callback, quiet}
-use Rattle.scx_sched_world.specs.Tasks.{with_home, homed, after_cut_off, after_wake, after_sleep, after_leave, after_enter, for_cpu, let_go, after_tick, used_ms, later, begun_periods}
+use Rattle.scx_sched_world.specs.World.{without_kick, WorldState, nothing_passes, with_tree, with_task, with_slept, with_waker, task_at, is_throttled, running, current_in, cpu_of, is_idle, at_callback, quiet, waits, out_of_cycle, note_now}
+use Rattle.scx_sched_world.specs.Tasks.{with_home, homed, after_cut_off, after_wake, after_sleep, after_leave, after_enter, for_cpu, let_go, after_tick, used_ms, later, begun_periods, after_own_weight}
+use Rattle.scx_sched_world.specs.Helpers.{alarm_at, due_now, after_fire}
 use Rattle.scx_sched_world.specs.Ejecting.{eject_of, put_out, put_builtin}
 use Rattle.scx_sched_machine.specs.declared.events.Event.{Event}
-use Rattle.scx_sched_machine.specs.declared.events.Event.TheVariants.{Wake, Sleep, Tick, Clock, SetWeight}
+use Rattle.scx_sched_machine.specs.declared.events.Event.TheVariants.{Wake, Sleep, Tick, Clock, SetWeight, SetTaskWeight}
 use Rattle.scx_sched_machine.specs.Policy.{PolicyState, program_of}
 use Rattle.scx_sched_machine.specs.Steps.{State, Stepped, one_after_other, stays, with_world, is_ejected, is_by_linux, kicked, kicked_if_idle}
 use Rattle.scx_sched_machine.specs.Ejecting.{eject, ejected_for}
-use Rattle.scx_sched_machine.specs.Callbacks.{call_ending, acting, cause_of, call_back, call_by_linux, answered_by, after_callback, one_task, task_cpu_and_0, task_and_number}
+use Rattle.scx_sched_machine.specs.Callbacks.{call_ending, acting, cause_of, call_back, call_by_linux, answered_by, after_callback, one_task, task_cpu_and_0, task_and_number, one_number}
 use Rattle.scx_sched_machine.specs.Put.{enters, enqueue_choice, enters_builtin, comes_in, put}
 use Rattle.scx_sched_machine.specs.Parking.{park, let_go_one, let_go_from, let_all_go}
-use Rattle.scx_sched_machine.specs.Cycle.{look, cycling, cycle}
-use Rattle.scx_sched_machine.specs.Events.{target, insert_or_put, woken, wake_target, comes_to, while_in_force, told_runnable, settle, chosen_by_default, chosen, ask_target, asks_target, select, from_waker, wake, told_of_sleep, falls_asleep, looks_after_sleep, leaves_cpu, sleep_from_cpu, sleep_from, sleep, throttle, ends_slices, expire, use_up, hears_tick, tick_heard, count_down, tick_idle, tick_of, tick, overdue, eject_if_stalled, clock, own_step, event_step}
+use Rattle.scx_sched_machine.specs.Custody.{is_in_custody, tells_dequeued}
+use Rattle.scx_sched_machine.specs.Cycle.{look, cycling, cycle, builtin_cycle, tells_idle, falls_idle, notes_idle, idle_or_anew, becomes_idle, concluded, ends}
+use Rattle.scx_sched_machine.specs.Firing.{due, fires, fire, fire_below, fire_all}
+use Rattle.scx_sched_machine.specs.Events.{target, insert_or_put, woken, wake_target, comes_to, while_in_force, told_runnable, settle, chosen_by_default, chosen, ask_target, asks_target, select, from_waker, wake, told_of_sleep, falls_asleep, looks_after_sleep, leaves_cpu, sleep_from_cpu, sleep_from, sleep, throttle, ends_slices, expire, use_up, hears_tick, tick_heard, count_down, tick_idle, tick_of, tick, overdue, eject_if_stalled, clock, own_step, event_step, leaves_queue, sleep_from_queue, watch, timers_and_watchdog, restore_flag, change_flags, takes_weight, changes_weight, reweigh_running, reweigh_waiting, reweigh_off_cpu, reweigh_at, reweigh_by_linux, reweigh}
 use Rattle.scx_sched_machine.specs.Rounds.{most_rounds, next_to_look, cut_off_if, look_past, look_from, round, round_then, rounds, with_rounds}
 use Rattle.scx_sched_machine.specs.Start.{first_state}
 use Rattle.scx_sched_machine.proofs.Choices.{keeps_if}
 use Rattle.scx_sched.specs.Current.{AreCurrent}
 use Rattle.scx_sched.proofs.Unchanged.{IsAsBefore, same_entered, same_put_builtin, same_called, eject_sets, IsTidy, tidy_linux, tidy_same, tidy_cycling}
-use Rattle.scx_sched.proofs.Blaming.{same_chosen, honest_park, honest_look, honest_leaves_cpu}
+use Rattle.scx_sched.proofs.Blaming.{same_chosen, honest_park, honest_builtin_cycle, honest_tells_idle, honest_look, honest_leaves_cpu}
 use Rattle.scx_sched.proofs.Begins.{keeps_started}
 
 abbrev pub IsStill : WorldState → Type 0
@@ -42,6 +47,10 @@ IsStill w = (w.cycling ≡ None) × (w.passing ≡ nothing_passes)
 -- in a wake at most the processor from which the task is woken is kept
 abbrev IsWaking : WorldState → Type 0
 IsWaking w = (w.cycling ≡ None) × (record w.passing { waker = None } ≡ nothing_passes) × IsTidy w
+
+-- and while timers run, at most the one whose callback is at hand
+abbrev IsFiring : WorldState → Type 0
+IsFiring w = (w.cycling ≡ None) × (record w.passing { timer = None } ≡ nothing_passes) × IsTidy w
 
 -- ---- what small steps that don't begin or end a cycle keep
 
@@ -59,6 +68,9 @@ still_steady = record { same = λ v w x h. (x.1 ∙ h.0, x.3 ∙ h.1); out = λ 
 
 waking_steady : IsSteady IsWaking
 waking_steady = record { same = λ v w x h. (x.1 ∙ h.0, ap (λ (p : Passing). record p { waker = None }) x.3 ∙ h.1, tidy_same v w x.2 x.0 x.3 h.2); out = λ w x h. (h.0, refl, λ plain. refl) }
+
+firing_steady : IsSteady IsFiring
+firing_steady = record { same = λ v w x h. (x.1 ∙ h.0, ap (λ (p : Passing). record p { timer = None }) x.3 ∙ h.1, tidy_same v w x.2 x.0 x.3 h.2); out = λ w x h. (h.0, refl, λ plain. refl) }
 
 tidy_steady : IsSteady IsTidy
 tidy_steady = record { same = λ v w x h. tidy_same v w x.2 x.0 x.3 h; out = λ w x h plain. refl }
@@ -131,25 +143,76 @@ module _ (P : WorldState → Type 0) (k : IsSteady P) where
       asleep : (w : WorldState) (t : ℕ) → IsAsStill w (after_sleep w t)
       asleep w t = keeps_if (IsAsStill w) (nat_lt t (length w.tasks)) _ w (refl, refl, refl, refl) (refl, refl, refl, refl)
 
+  steady_leaves_queue : (s : State) (t c flags : ℕ) → P s.world → P (leaves_queue s t c flags).state.world
+  unfolding leaves_queue tells_dequeued
+  steady_leaves_queue s t c flags h =
+      let v = with_world s (after_leave s.world t) in
+      let r = call_by_linux v callback.Dequeue (task_and_number t flags) t c in
+      let x = k.same s.world v.world (refl, refl, refl, refl) h in
+      keeps_if (λ (r : Stepped). P r.state.world) (is_in_custody s.world t) r (stays v) (steady_call_by_linux v callback.Dequeue (task_and_number t flags) t c x) x
+
+  -- ---- a task's own weight
+
+  steady_weighed : (w : WorldState) (t x : ℕ) → P w → P (after_own_weight w t x)
+  steady_weighed w t x h = keeps_if P (is_none (own_weight_fault w.tree t x)) (with_tree w (with_own_weight w.tree t x)) w (k.same w (with_tree w (with_own_weight w.tree t x)) (refl, refl, refl, refl) h) h
+
+  steady_takes_weight : (s : State) (t c x : ℕ) → P s.world → P (takes_weight s t c x).state.world
+  unfolding takes_weight
+  steady_takes_weight s t c x h = steady_call_by_linux (with_world s (after_own_weight s.world t x)) callback.SetWeight (task_and_number t x) t c (steady_weighed s.world t x h)
+
+  steady_changes_weight : (s : State) (t c x : ℕ) → P s.world → P (changes_weight s t c x).state.world
+  unfolding changes_weight
+  steady_changes_weight s t c x h =
+      let q = (call_by_linux s callback.Quiescent (task_and_number t change_flags) t c).state in
+      steady_call_by_linux (takes_weight q t c x).state callback.Runnable (task_and_number t restore_flag) t c (steady_takes_weight q t c x (steady_call_by_linux s callback.Quiescent (task_and_number t change_flags) t c h))
+
+  steady_reweigh_at : (o : Option ℕ) (s : State) (t x : ℕ) → P s.world → P (reweigh_at o s t x).state.world
+  unfolding reweigh_off_cpu reweigh_running reweigh_waiting
+  steady_reweigh_at None s t x h =
+      let c = (task_at s.world t).prev_cpu in
+      let a = (leaves_queue s t c change_flags).state in
+      let b = (changes_weight a t c x).state in
+      let r = leaves_queue s t c change_flags in
+      let y = changes_weight a t c x in
+      keeps_if (λ (r : Stepped). P r.state.world) (waits s.world t) (one_after_other r (one_after_other y (put b t c 0))) (takes_weight s t c x) (steady_put b t c 0 (steady_changes_weight a t c x (steady_leaves_queue s t c change_flags h))) (steady_takes_weight s t c x h)
+  steady_reweigh_at (Some c) s t x h =
+      let a = (call_by_linux s callback.Stopping (task_and_number t 0) t c).state in
+      steady_call_by_linux (changes_weight a t c x).state callback.Running (one_task t) t c (steady_changes_weight a t c x (steady_call_by_linux s callback.Stopping (task_and_number t 0) t c h))
+
   steady_heard : (s : State) (c t : ℕ) → P s.world → P (tick_heard s c t).state.world
   unfolding tick_heard
   steady_heard s c t h = keeps_if (λ (r : Stepped). P r.state.world) (hears_tick s) (call_back s callback.Tick (one_task t) t c) (stays s) (steady_call_back s callback.Tick (one_task t) t c h) h
 
 -- ---- events: each cycle that begins ends
 
-cycle_ends : (s : State) (c : ℕ) (p : Option ℕ) (ran : Bool) → IsTidy s.world → IsStill (cycle s c p ran).state.world
-unfolding cycle
-cycle_ends s c p ran h = go (world.is_by_linux w) refl
+ended : (s : State) → IsTidy s.world → IsStill (cycling s None).world
+ended s tidy = go (world.is_by_linux s.world) refl
   where
     w : WorldState
-    w = (look (cycling s (Some c)) c p ran).state.world
-
-    tidy : IsTidy w
-    tidy = (honest_look (cycling s (Some c)) c p ran).tidy (tidy_cycling s.world (Some c) h)
+    w = s.world
 
     go : (b : Bool) → world.is_by_linux w ≡ b → IsStill (if b then record w { cycling = None; passing = nothing_passes } else record w { cycling = None })
     go true linux = (refl, refl)
     go false plain = (refl, tidy plain)
+
+anew_ends : (s : State) (c : ℕ) → IsTidy s.world → IsStill (idle_or_anew s c).state.world
+unfolding idle_or_anew notes_idle
+anew_ends s c tidy =
+    let v = cycling s (Some c) in
+    let r = builtin_cycle v c None true in
+    keeps_if (λ (x : Stepped). IsStill x.state.world) (is_ejected s) (ends r) (record { state = cycling s None; notes = note_now s.world (Idle c) ∷ []; calls = [] }) (ended r.state ((honest_builtin_cycle v c None true).tidy (tidy_cycling s.world (Some c) tidy))) (ended s tidy)
+
+idle_ends : (s : State) (c : ℕ) → IsTidy s.world → IsStill (becomes_idle s c).state.world
+unfolding becomes_idle
+idle_ends s c tidy = let v = with_world s (out_of_cycle s.world) in anew_ends (tells_idle v c 1).state c ((honest_tells_idle v c 1).tidy tidy)
+
+concluded_ends : (s : State) (c : ℕ) (ran : Bool) → IsTidy s.world → IsStill (concluded s c ran).state.world
+unfolding concluded
+concluded_ends s c ran tidy = keeps_if (λ (r : Stepped). IsStill r.state.world) (falls_idle s c ran) (becomes_idle s c) (stays (cycling s None)) (idle_ends s c tidy) (ended s tidy)
+
+cycle_ends : (s : State) (c : ℕ) (p : Option ℕ) (ran : Bool) → IsTidy s.world → IsStill (cycle s c p ran).state.world
+unfolding cycle
+cycle_ends s c p ran h = concluded_ends (look (cycling s (Some c)) c p ran).state c ran ((honest_look (cycling s (Some c)) c p ran).tidy (tidy_cycling s.world (Some c) h))
 
 still_wake_target : (s : State) (c : ℕ) → IsWaking s.world → IsStill (wake_target s c).state.world
 unfolding wake_target
@@ -219,11 +282,13 @@ tidy_told s t h = go (is_by_linux s) refl
     go false plain = h
 
 still_sleep : (s : State) (t : ℕ) → IsStill s.world → IsStill (sleep s t).state.world
-unfolding sleep sleep_from_cpu looks_after_sleep
+unfolding sleep sleep_from_cpu sleep_from_queue looks_after_sleep
 still_sleep s t h = go (cpu_of s.world t)
   where
     go : (o : Option ℕ) → IsStill (sleep_from o s t).state.world
-    go None = steady_falls_asleep IsStill still_steady (with_world s (after_leave s.world t)) t (task_at s.world t).prev_cpu h
+    go None =
+        let c = (task_at s.world t).prev_cpu in
+        steady_falls_asleep IsStill still_steady (leaves_queue s t c 1).state t c (steady_leaves_queue IsStill still_steady s t c 1 h)
     go (Some c) =
         let r = leaves_cpu s c t 0 in
         let q = falls_asleep r.state t c in
@@ -263,12 +328,48 @@ still_let_go (suc j) s (Some t) h =
     keeps_if (λ (x : Stepped). IsStill x.state.world) (is_throttled s.world t) (let_go_from j s next) (one_after_other r (let_go_from j r.state next)) (still_let_go j s next h)
     (still_let_go j r.state next (steady_kicked_if_idle IsStill still_steady _ (task_at s.world t).prev_cpu (steady_put IsStill still_steady (with_world s (let_go s.world t)) t (task_at s.world t).prev_cpu 0 h)))
 
+-- a timer that runs
+still_fires : (s : State) (j : ℕ) (a : Alarm) → is_by_linux s ≡ true → IsStill s.world → IsStill (fires (Some a) s j).state.world
+still_fires s j a linux h =
+    let v = with_world s (after_fire s.world j) in
+    let x = steady_call_by_linux IsFiring firing_steady v callback.Timer (one_number j) 0 a.cpu (h.0, ap (λ (p : Passing). record p { timer = None }) h.1, tidy_linux v.world linux) in
+    (x.0, x.1)
+
+still_fire : (s : State) (j : ℕ) → IsStill s.world → IsStill (fire s j).state.world
+unfolding fire due
+still_fire s j h = go (is_by_linux s) refl (due_now s.world (alarm_at s.world j))
+  where
+    go : (b : Bool) → is_by_linux s ≡ b → (o : Option Alarm) → IsStill (fires (if b then o else None) s j).state.world
+    go false e o = h
+    go true e None = h
+    go true e (Some a) = still_fires s j a e h
+
+still_fire_below : (j : ℕ) (s : State) → IsStill s.world → IsStill (fire_below j s).state.world
+still_fire_below zero s h = h
+still_fire_below (suc j) s h = still_fire (fire_below j s).state j (still_fire_below j s h)
+
 still_clock : (s : State) → IsStill s.world → IsStill (clock s).state.world
-unfolding clock let_all_go
+unfolding clock let_all_go timers_and_watchdog watch fire_all
 still_clock s h =
     let v = with_world s (begun_periods (later s.world)) in
     let r = (let_all_go v).state in
-    still_stalled (overdue r) r (still_let_go (len_of v.world.queues parked_queue) v (front_of v.world.queues parked_queue) h)
+    let f = (fire_below (length r.world.timers) r).state in
+    still_stalled (overdue f) f (still_fire_below (length r.world.timers) r (still_let_go (len_of v.world.queues parked_queue) v (front_of v.world.queues parked_queue) h))
+
+-- a task that has another weight
+still_reweigh : (s : State) (t x : ℕ) → IsStill s.world → IsStill (reweigh s t x).state.world
+unfolding reweigh reweigh_by_linux
+still_reweigh s t x h = go (is_by_linux s) refl
+  where
+    v : State
+    v = with_world s (with_waker s.world (Some 0))
+
+    r : Stepped
+    r = reweigh_at (cpu_of s.world t) v t x
+
+    go : (b : Bool) → is_by_linux s ≡ b → IsStill (if b then record r { state = woken r.state } else stays (with_world s (after_own_weight s.world t x))).state.world
+    go true linux = let y = steady_reweigh_at IsWaking waking_steady (cpu_of s.world t) v t x (h.0, ap (λ (p : Passing). record p { waker = None }) h.1, tidy_linux v.world linux) in (y.0, y.1)
+    go false plain = steady_weighed IsStill still_steady s.world t x h
 
 -- ---- rounds
 
@@ -311,6 +412,7 @@ still_own s (Sleep t) h = still_sleep s t h
 still_own s (Tick c) h = still_tick s c h
 still_own s Clock h = still_clock s h
 still_own s (SetWeight g x) h = keeps_if IsStill (is_none (weight_fault s.world.tree g x)) (with_tree s.world (with_weight s.world.tree g x)) s.world h h
+still_own s (SetTaskWeight t x) h = still_reweigh s t x h
 
 -- after an event
 pub still_step : (s : State) (v : Event) → IsStill s.world → IsStill (event_step s v).state.world
@@ -318,7 +420,7 @@ still_step s v h = still_with_rounds (own_step s v) (still_own s v h)
 
 -- and before the first
 pub still_first : (p : PolicyState) (h : Hierarchy) (cpus : ℕ) (t : State) → first_state p h cpus ≡ Ok t → IsStill t.world
-still_first p h cpus t e = keeps_started (λ s. IsStill s.world) (λ s b a u still. steady_left IsStill still_steady s b a u 0 still) p h cpus t e (refl, refl)
+still_first p h cpus t e = keeps_started cpus (λ s. IsStill s.world) (λ s b a u c any still. steady_left IsStill still_steady s b a u c still) (λ s still. still) p h t e (refl, refl)
 
 -- then the current task of each processor is the one that runs there
 pub are_current : (w : WorldState) → w.passing ≡ nothing_passes → AreCurrent w

@@ -17,9 +17,9 @@ use Rattle.scx_isa_semantics.specs.Effects.{Query, Call, Load, Store}
 use Rattle.scx_vm.specs.Arguments.{argument_of}
 use Rattle.scx_vm.specs.Host.{after_query}
 use Rattle.scx_vm.specs.declared.arguments.Arg.{Arg}
-use Rattle.scx_weights.specs.Hierarchy.{Hierarchy, with_weight}
+use Rattle.scx_weights.specs.Hierarchy.{Hierarchy, with_weight, with_own_weight}
 use Rattle.scx_weights.specs.Limits.{with_use}
-use Rattle.scx_weights.specs.Refusals.{weight_fault}
+use Rattle.scx_weights.specs.Refusals.{weight_fault, own_weight_fault}
 use Rattle.scx_sched_tasks.specs.declared.task.Task.{Task}
 use Rattle.scx_sched_tasks.specs.Tasks.{no_task, new_task, default_slice}
 use Rattle.scx_sched_world.specs.declared.call.Insert.{Insert}
@@ -31,9 +31,9 @@ use Rattle.scx_sched_world.specs.Tasks.{with_home, rank_by, after_take, after_ru
 use Rattle.scx_sched_world.specs.Helpers.{is_dispatch, with_insert, after_release, insert_or_fault, front_moved_to_local, helper_after, stored_in, world_functions}
 use Rattle.scx_sched_world.specs.Ejecting.{builtin_vtime, put_builtin}
 use Rattle.scx_sched_machine.specs.declared.events.Event.{Event}
-use Rattle.scx_sched_machine.specs.declared.events.Event.TheVariants.{Wake, Sleep, Clock, SetWeight}
+use Rattle.scx_sched_machine.specs.declared.events.Event.TheVariants.{Wake, Sleep, Clock, SetWeight, SetTaskWeight}
 use Rattle.scx_sched_machine.specs.Policy.{PolicyState}
-use Rattle.scx_sched_machine.specs.Start.{is_bad_shape, first_state}
+use Rattle.scx_sched_machine.specs.Start.{is_bad_shape, first_state, by_policy}
 use Rattle.scx_sched_machine.specs.Steps.{State}
 use Rattle.scx_sched_machine.specs.Events.{refusal, tick_idle, tick_of, tick, own_step, event_step}
 use Rattle.scx_sched_machine.proofs.Choices.{keeps_if}
@@ -47,7 +47,7 @@ use Rattle.scx_sched.proofs.Fine.{stored_run, given_run, renewed_run, fine_steps
 use Rattle.scx_sched.proofs.Marks.{KeepsMarks, Anywhere, kept_cycling, kept_kicked_so, kept_claim, kept_local, kept_entered}
 use Rattle.scx_sched.proofs.First.{nowhere, steps_started}
 use Rattle.scx_sched.proofs.Watching.{Both, both_steps}
-use Rattle.scx_sched.proofs.Events.{IsKeptByEvents, IsTaken, Wakes, Sleeps, Ticks, Clocks, Weighs, is_taken, IsFineNow, fine_events, one_more, fine_later, fine_ticked, known_running, keeps_wake, keeps_sleep, keeps_tick_idle, keeps_count_down, keeps_clock, keeps_with_rounds, fine_own}
+use Rattle.scx_sched.proofs.Events.{IsKeptByEvents, IsTaken, Wakes, Sleeps, Ticks, Clocks, Weighs, is_taken, IsFineNow, fine_events, one_more, fine_later, fine_ticked, known_running, keeps_wake, keeps_sleep, keeps_tick_idle, keeps_count_down, keeps_clock, keeps_with_rounds, fine_own, WeighsTask, keeps_reweigh}
 
 -- ---- queues that there are
 
@@ -172,6 +172,8 @@ module _ (n : ℕ) (ran : ℕ → ℕ) where
     late = λ linux here. h;
     claimed = λ o. kept_claim Anywhere (IsTallied n ran) tally_marks w o h;
     kicked = λ c k. kept_kicked_so Anywhere (IsTallied n ran) tally_marks w c k h;
+    started = λ t ns. h;
+    cancelled = λ t. h;
     moved = λ q here low. tally_moved w (front_of w.queues q) q h;
   }) f a
 
@@ -207,6 +209,8 @@ tally_steps n ran = record {
   query = λ m hand on w q h. tally_query n ran w q h;
   begun = λ m hand on w b t c l h. h;
   quiet = λ m hand on w h. h;
+  moved = λ m hand on w b h. h;
+  cancelled = λ m hand on w t h. h;
   cycling = λ m hand on w o h. kept_cycling (IsTallied n ran) (λ v p a x r. r) w o h;
   sets = λ m hand on w a b c d o h. h;
   homed = λ m hand on w t c l h. tally_set n ran w t _ refl h;
@@ -242,6 +246,8 @@ tallied_events n e ran = record {
   woken = λ m on w t within resting h. record { one = (fine_events n e).woken m on w t within resting h.one; two = tally_set n ran w t _ refl h.two };
   let_go = λ m on w t within there h. record { one = (fine_events n e).let_go m on w t within there h.one; two = tally_let_go n ran w t h.two };
   left = λ m on w t within runnable off h. record { one = (fine_events n e).left m on w t within runnable off h.one; two = (tally_steps n ran).asleep m on (after_leave w t) t within (tally_gone n ran w t h.two) };
+  removed = λ m on w t within here h. record { one = (fine_events n e).removed m on w t within here h.one; two = tally_gone n ran w t h.two };
+  weighed = λ m hand on w t x h. record { one = (fine_events n e).weighed m hand on w t x h.one; two = keeps_if (IsTallied n ran) (is_none (own_weight_fault w.tree t x)) (with_tree w (with_own_weight w.tree t x)) w h.two h.two };
   anew = λ m k on w force h. record { one = (fine_events n e).anew m k on w force h.one; two = h.two };
 }
 
@@ -312,6 +318,7 @@ module _ (n e : ℕ) (s : State) (tasks : length s.world.tasks ≡ n) (fine : Is
       go _ (Weighs g x) =
           let same : IsTallied n ran s.world = (tasks, (λ u. refl), homes) in
           nobody (own_step s (SetWeight g x)).state.world (keeps_if (IsTallied n ran) (is_none (weight_fault s.world.tree g x)) (with_tree s.world (with_weight s.world.tree g x)) s.world same same)
+      go _ (WeighsTask t x within) = nobody (own_step s (SetTaskWeight t x)).state.world (keeps_reweigh n (I ran) k e s t x (omega (arith, within, tasks)) before).two
 
   tally_step : (v : Event) → refusal s v ≡ None → IsTallied n (λ u. (task_at s.world u).run_ns + ran_in v s.world u) (event_step s v).state.world
   tally_step v ok =
@@ -331,7 +338,7 @@ queues_there n s v ok fine there = let x = tally_step (length s.world.tasks) n s
 pub queues_first : (p : PolicyState) (tree : Hierarchy) (cpus : ℕ) (t : State) → is_bad_shape tree cpus ≡ false → first_state p tree cpus ≡ Ok t → AreInQueues t.world
 queues_first p tree cpus t shape e =
     let n = length tree.homes in
-    let w = begun_periods (first_world tree cpus) in
+    let w = begun_periods (by_policy p (first_world tree cpus)) in
     let ran : ℕ → ℕ = λ u. (task_at w u).run_ns in
     let none : AreHome (first_queues cpus n) = λ u. ap (λ o. is_home (first_queues cpus n).ids o) (nowhere cpus n u) in
     let h = steps_started (λ m hand on v. IsTallied n ran v) p tree cpus t (tally_steps n ran) shape e (length-replicate n new_task, (λ u. refl), none) in

@@ -95,6 +95,8 @@ module _ (limit n : ℕ) where
     late = λ linux here. h;
     claimed = λ o. kept_claim Anywhere (AreInTime limit n) time_marks w o h;
     kicked = λ c k. kept_kicked_so Anywhere (AreInTime limit n) time_marks w c k h;
+    started = λ t ns. h;
+    cancelled = λ t. h;
     moved = λ q here low. time_moved w (front_of w.queues q) q h;
   }) f a
 
@@ -130,6 +132,8 @@ time_steps limit n = record {
   query = λ m hand on w q h. time_query limit n w q h;
   begun = λ m hand on w b t c l h. h;
   quiet = λ m hand on w h. h;
+  moved = λ m hand on w b h. h;
+  cancelled = λ m hand on w t h. h;
   cycling = λ m hand on w o h. kept_cycling (AreInTime limit n) (λ v p a x r. r) w o h;
   sets = λ m hand on w a b c d o h. h;
   homed = λ m hand on w t c l h. time_same limit n w t _ refl h;

@@ -63,6 +63,8 @@ module _ (v : WorldState) where
     late = λ linux here. h;
     claimed = λ o. kept_claim Anywhere (IsAsBefore v) same_marks w o h;
     kicked = λ c k. kept_kicked_so Anywhere (IsAsBefore v) same_marks w c k h;
+    started = λ t ns. h;
+    cancelled = λ t. h;
     moved = λ q here low. same_moved w (front_of w.queues q) q h;
   }) f a
 

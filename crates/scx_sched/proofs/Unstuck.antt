@@ -27,11 +27,12 @@ use Rattle.scx_sched_world.specs.Ejecting.{eject_of}
 use Rattle.scx_sched_world.specs.Tasks.{after_take, after_leave, after_enter, for_cpu, later, begun_periods}
 use Rattle.scx_sched_world.specs.Helpers.{first_cause, with_cause, is_dispatch, with_insert, after_release, insert_or_fault, front_moved_to_local, helper_after, world_functions}
 use Rattle.scx_sched_machine.specs.declared.events.Event.{Event}
-use Rattle.scx_sched_machine.specs.declared.events.Event.TheVariants.{Wake, Sleep, Tick, Clock, SetWeight}
+use Rattle.scx_sched_machine.specs.declared.events.Event.TheVariants.{Wake, Sleep, Tick, Clock, SetWeight, SetTaskWeight}
 use Rattle.scx_sched_machine.specs.Steps.{State, Stepped, CallMade, with_world, stays, one_after_other}
 use Rattle.scx_sched_machine.specs.Ejecting.{eject}
 use Rattle.scx_sched_machine.specs.Parking.{let_all_go}
-use Rattle.scx_sched_machine.specs.Events.{refusal, overdue, eject_if_stalled, clock, event_step}
+use Rattle.scx_sched_machine.specs.Firing.{fire_all}
+use Rattle.scx_sched_machine.specs.Events.{refusal, overdue, eject_if_stalled, clock, event_step, watch, timers_and_watchdog}
 use Rattle.scx_sched_machine.specs.Rounds.{with_rounds}
 use Rattle.scx_sched_machine.specs.Callbacks.{call_ending, AreAnswered}
 use Rattle.scx_sched_machine.proofs.Choices.{keeps_if}
@@ -40,9 +41,9 @@ use Rattle.scx_sched.specs.Causes.{HasFault, Of_helper, Of_answer, HasReason, Is
 use Rattle.scx_sched.specs.Decided.{tree_after}
 use Rattle.scx_sched.proofs.Marks.{KeepsMarks, Anywhere, kept_kicked_so, kept_claim, kept_local, kept_entered}
 use Rattle.scx_sched.proofs.Unchanged.{eject_sets}
-use Rattle.scx_sched.proofs.Events.{IsFineNow, IsTaken, Wakes, Sleeps, Ticks, Clocks, Weighs, is_taken}
-use Rattle.scx_sched.proofs.Blaming.{IsHonest, state_with_tree, same_eject, honest_let_all_go, honest_joined, honest_stays, honest_with_rounds, no_rounds}
-use Rattle.scx_sched.proofs.Deciding.{IsHonestEvent, wake_is_honest, sleep_is_honest, tick_is_honest, weight_is_honest}
+use Rattle.scx_sched.proofs.Events.{IsFineNow, IsTaken, Wakes, Sleeps, Ticks, Clocks, Weighs, is_taken, WeighsTask}
+use Rattle.scx_sched.proofs.Blaming.{IsHonest, state_with_tree, same_eject, honest_let_all_go, honest_joined, honest_stays, honest_with_rounds, no_rounds, honest_fire_all}
+use Rattle.scx_sched.proofs.Deciding.{IsHonestEvent, wake_is_honest, sleep_is_honest, tick_is_honest, weight_is_honest, task_weight_is_honest}
 use Rattle.scx_sched.proofs.Causing.{last_answered, computes, has_reason}
 
 -- ---- the run of a program
@@ -95,6 +96,8 @@ unstuck_helper w f a h = by_helper IsUnstuck w (record {
   late = λ linux here. h;
   claimed = λ o. kept_claim Anywhere IsUnstuck unstuck_marks w o h;
   kicked = λ c k. kept_kicked_so Anywhere IsUnstuck unstuck_marks w c k h;
+  started = λ t ns. h;
+  cancelled = λ t. h;
   moved = λ q here low. unstuck_moved w (front_of w.queues q) q h;
 }) f a
 
@@ -141,8 +144,8 @@ apart_causes : (t k n : ℕ) → cause.Stall t k ≡ cause.Fault Stuck n → ⊥
 apart_causes t k n e = absurd (cc)
 
 clock_unstuck : (s : State) → AreAnswered (event_step s Clock).calls → IsNeverStuck s.world → IsNeverStuck (event_step s Clock).state.world
-unfolding clock
-clock_unstuck s answered before = go (overdue r.state) answered
+unfolding clock timers_and_watchdog watch
+clock_unstuck s answered before = go (overdue f.state) answered
   where
     v : State
     v = with_world s (begun_periods (later s.world))
@@ -150,12 +153,17 @@ clock_unstuck s answered before = go (overdue r.state) answered
     r : Stepped
     r = let_all_go v
 
-    go : (o : Option ℕ) → AreAnswered (with_rounds (one_after_other r (eject_if_stalled o r.state))).calls → IsNeverStuck (with_rounds (one_after_other r (eject_if_stalled o r.state))).state.world
-    go None all n out = never_stuck v (with_rounds (one_after_other r (stays r.state))) (honest_with_rounds v (one_after_other r (stays r.state)) (honest_joined v r (stays r.state) (honest_let_all_go v) (honest_stays r.state))) all before n out
+    f : Stepped
+    f = fire_all r.state
+
+    go : (o : Option ℕ) → AreAnswered (with_rounds (one_after_other r (one_after_other f (eject_if_stalled o f.state)))).calls → IsNeverStuck (with_rounds (one_after_other r (one_after_other f (eject_if_stalled o f.state)))).state.world
+    go None all n out =
+        let y = one_after_other f (stays f.state) in
+        never_stuck v (with_rounds (one_after_other r y)) (honest_with_rounds v (one_after_other r y) (honest_joined v r y (honest_let_all_go v) (honest_joined r.state f (stays f.state) (honest_fire_all r.state) (honest_stays f.state)))) all before n out
     go (Some t) all n out =
-        let y = cause.Stall t r.state.world.clock in
-        let same = no_rounds (one_after_other r (eject r.state y)) y (eject_sets r.state y).1 in
-        apart_causes t r.state.world.clock n (same_eject (eject r.state y).state.world.ejected y (cause.Fault Stuck n) (eject_sets r.state y).1 (subst (λ (x : Stepped). x.state.world.ejected ≡ Some (cause.Fault Stuck n)) same out))
+        let y = cause.Stall t f.state.world.clock in
+        let same = no_rounds (one_after_other r (one_after_other f (eject f.state y))) y (eject_sets f.state y).1 in
+        apart_causes t f.state.world.clock n (same_eject (eject f.state y).state.world.ejected y (cause.Fault Stuck n) (eject_sets f.state y).1 (subst (λ (x : Stepped). x.state.world.ejected ≡ Some (cause.Fault Stuck n)) same out))
 
 -- no accepted event whose calls are answered ejects a policy for a callback that was stuck
 pub unstuck_step : (s : State) (n : ℕ) (v : Event) → refusal s v ≡ None → IsFineNow (length s.world.tasks) n n s.world → AreAnswered (event_step s v).calls → IsNeverStuck s.world → IsNeverStuck (event_step s v).state.world
@@ -170,3 +178,4 @@ unstuck_step s n v ok fine answered before = go v (is_taken s v ok) ok answered
     go _ (Ticks c l) ok answered = plain (Tick c) (tick_is_honest s n fine c l) answered
     go _ Clocks ok answered = clock_unstuck s answered before
     go _ (Weighs g x) ok answered = plain (SetWeight g x) (weight_is_honest s n fine g x ok) answered
+    go _ (WeighsTask t x within) ok answered = plain (SetTaskWeight t x) (task_weight_is_honest s n fine t x ok) answered

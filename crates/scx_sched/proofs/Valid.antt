@@ -25,6 +25,7 @@ use Rattle.scx_sched.proofs.Timely.{IsInTime}
 use Rattle.scx_sched.proofs.Watching.{time_step}
 use Rattle.scx_sched.proofs.Tallies.{queues_first, queues_there}
 use Rattle.scx_sched.proofs.Still.{still_step, still_first, are_current}
+use Rattle.scx_sched.proofs.Alarms.{timers_step, timers_first}
 
 fine_with : (n e : ℕ) (w : WorldState) → IsFine n e e None w.cpus w → IsFine (length w.tasks) e e None w.cpus w
 fine_with n e w h = subst (λ k. IsFine k e e None w.cpus w) (sym h.sound.tasks) h
@@ -43,6 +44,7 @@ valid_first p tree cpus t shape flags timeout programs e few =
       timeout = subst (λ (q : PolicyState). IsTimeout q.timeout_ms) (sym (policy_started p tree cpus t e)) timeout;
       programs = subst (λ (q : PolicyState). AreAs q.callbacks) (sym (policy_started p tree cpus t e)) programs;
       timely = time_started t.policy.timeout_ms p tree cpus t shape e;
+      timers = timers_first p tree cpus t shape e;
       unstuck = λ n out. absurd (apart t.world.ejected (cause.Fault Stuck n) (force_started p tree cpus t e) out);
       there = queues_first p tree cpus t shape e;
       fine = fine_with (length tree.homes) 0 t.world (subst (λ on. IsFine (length tree.homes) 0 0 None on t.world) (sym h.sound.cpus) h);
@@ -64,6 +66,7 @@ valid_step s n v e h answered few =
       rules = (decides s n v a.taken h.fine).rules ∙ (h.rules ∙ sym (ap (λ (q : PolicyState). q.rules) same));
       timeout = subst (λ (q : PolicyState). IsTimeout q.timeout_ms) (sym same) h.timeout;
       programs = subst (λ (q : PolicyState). AreAs q.callbacks) (sym same) h.programs;
+      timers = timers_step (length s.world.tasks) n s v refl a.taken h.fine h.timers;
       unstuck = unstuck_step s n v a.taken h.fine answered h.unstuck;
       there = queues_there n s v a.taken h.fine h.there;
       timely = subst (λ (q : PolicyState). IsInTime q.timeout_ms t.world) (sym same) time;

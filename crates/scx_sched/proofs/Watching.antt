@@ -1,8 +1,8 @@
 -- The watchdog: while a policy is in force no event lets a task wait longer than the policy may.
 use Rattle.std.proofs.Common.{◌≡◌, ℕ, ◌+◌, ◌<◌, ◌≤◌, List, length, get_or, Option, Some, None, is_some, is_none, nat_lt, if◌then◌else◌, refl, sym, ap, ◌∙◌, subst, arith}
-use Rattle.scx_weights.specs.Hierarchy.{with_weight}
+use Rattle.scx_weights.specs.Hierarchy.{with_weight, with_own_weight}
 use Rattle.scx_weights.specs.Limits.{with_use}
-use Rattle.scx_weights.specs.Refusals.{weight_fault}
+use Rattle.scx_weights.specs.Refusals.{weight_fault, own_weight_fault}
 use Rattle.scx_sched_world.specs.declared.eject.Eject.{Eject}
 use Rattle.scx_sched_world.specs.declared.eject.Eject.TheVariants as cause
 use Rattle.scx_sched_world.specs.World.{WorldState, with_tree, wait}
@@ -13,15 +13,16 @@ use Rattle.scx_sched_machine.specs.Policy.{PolicyState}
 use Rattle.scx_sched_machine.specs.Steps.{State, with_world}
 use Rattle.scx_sched_machine.specs.Parking.{let_all_go}
 use Rattle.scx_sched_machine.specs.Ejecting.{eject}
-use Rattle.scx_sched_machine.specs.Events.{refusal, overdue, eject_if_stalled, clock, own_step, event_step}
+use Rattle.scx_sched_machine.specs.Firing.{fire_all}
+use Rattle.scx_sched_machine.specs.Events.{refusal, overdue, eject_if_stalled, clock, own_step, event_step, watch, timers_and_watchdog}
 use Rattle.scx_sched_machine.proofs.Choices.{keeps_if}
 use Rattle.scx_sched.specs.Kept.{IsKeptBySteps}
 use Rattle.scx_sched.specs.Ranges.{IsFine}
 use Rattle.scx_sched.proofs.Unchanged.{eject_sets}
-use Rattle.scx_sched.proofs.Blaming.{apart, honest_let_all_go}
+use Rattle.scx_sched.proofs.Blaming.{apart, honest_let_all_go, honest_fire_all}
 use Rattle.scx_sched.proofs.Fine.{fine_steps}
 use Rattle.scx_sched.proofs.Timely.{IsInTime, AreInTime, time_woken, time_ticked, time_let_go, time_stopped, time_steps, nobody_late}
-use Rattle.scx_sched.proofs.Events.{IsKeptByEvents, IsKeptByTick, IsTaken, Wakes, Sleeps, Ticks, Clocks, Weighs, is_taken, IsFineNow, fine_events, one_more, fine_ticked, fine_clock, fine_reweighed, keeps_wake, keeps_sleep, keeps_tick, keeps_with_rounds}
+use Rattle.scx_sched.proofs.Events.{IsKeptByEvents, IsKeptByTick, IsTaken, Wakes, Sleeps, Ticks, Clocks, Weighs, is_taken, IsFineNow, fine_events, one_more, fine_ticked, fine_clock, fine_reweighed, keeps_wake, keeps_sleep, keeps_tick, keeps_with_rounds, WeighsTask, keeps_now, keeps_reweigh}
 
 -- ---- two facts at once
 
@@ -37,6 +38,8 @@ both_steps n I J a b = record {
   query = λ m hand on w q h. record { one = a.query m hand on w q h.one; two = b.query m hand on w q h.two };
   begun = λ m hand on w x t c l h. record { one = a.begun m hand on w x t c l h.one; two = b.begun m hand on w x t c l h.two };
   quiet = λ m hand on w h. record { one = a.quiet m hand on w h.one; two = b.quiet m hand on w h.two };
+  moved = λ m hand on w c h. record { one = a.moved m hand on w c h.one; two = b.moved m hand on w c h.two };
+  cancelled = λ m hand on w t h. record { one = a.cancelled m hand on w t h.one; two = b.cancelled m hand on w t h.two };
   cycling = λ m hand on w o h. record { one = a.cycling m hand on w o h.one; two = b.cycling m hand on w o h.two };
   sets = λ m hand on w c x y z o h. record { one = a.sets m hand on w c x y z o h.one; two = b.sets m hand on w c x y z o h.two };
   homed = λ m hand on w t c l h. record { one = a.homed m hand on w t c l h.one; two = b.homed m hand on w t c l h.two };
@@ -70,6 +73,8 @@ watched_events limit n e = record {
   woken = λ m on w t within resting h. record { one = (fine_events n e).woken m on w t within resting h.one; two = time_woken limit n w t h.two };
   let_go = λ m on w t within there h. record { one = (fine_events n e).let_go m on w t within there h.one; two = time_let_go limit n w t h.two };
   left = λ m on w t within runnable off h. record { one = (fine_events n e).left m on w t within runnable off h.one; two = (time_steps limit n).asleep m on (after_leave w t) t within h.two };
+  removed = λ m on w t within here h. record { one = (fine_events n e).removed m on w t within here h.one; two = h.two };
+  weighed = λ m hand on w t x h. record { one = (fine_events n e).weighed m hand on w t x h.one; two = keeps_if (AreInTime limit n) (is_none (own_weight_fault w.tree t x)) (with_tree w (with_own_weight w.tree t x)) w h.two h.two };
   anew = λ m k on w force h. record { one = (fine_events n e).anew m k on w force h.one; two = h.two };
 }
 
@@ -84,17 +89,20 @@ none_late s force e = go s.world.ejected force e
     go (Some x) f e = absurd (cc)
 
 time_clock : (limit : ℕ) (s : State) → limit ≡ s.policy.timeout_ms → IsInTime limit (clock s).state.world
-unfolding clock
+unfolding clock timers_and_watchdog watch
 time_clock limit s is = go (overdue r) refl
   where
     v : State
     v = with_world s (begun_periods (later s.world))
 
+    l : State
+    l = (let_all_go v).state
+
     r : State
-    r = (let_all_go v).state
+    r = (fire_all l).state
 
     same : limit ≡ r.policy.timeout_ms
-    same = is ∙ ap (λ (p : PolicyState). p.timeout_ms) (sym (honest_let_all_go v).policy)
+    same = is ∙ ap (λ (p : PolicyState). p.timeout_ms) (sym ((honest_fire_all l).policy ∙ (honest_let_all_go v).policy))
 
     go : (o : Option ℕ) → overdue r ≡ o → IsInTime limit (eject_if_stalled o r).state.world
     go None e force = subst (λ (k : ℕ). (t : ℕ) → wait r.world t ≤ k) (sym same) (nobody_late r.world r.policy.timeout_ms (none_late r force e))
@@ -141,3 +149,4 @@ time_step limit n e s v tasks ok is fine time = let x = (keeps_with_rounds n I k
       one = (fine_events n (e + 1)).steps.more e None _ _ (fine_reweighed n (e + 1) e s.world g x (one_more n e e s.world fine));
       two = keeps_if (AreInTime limit n) (is_none (weight_fault s.world.tree g x)) (with_tree s.world (with_weight s.world.tree g x)) s.world old old;
     }
+    go _ (WeighsTask t x within) = k.steps.more e None _ _ (keeps_now n I k e _ (s.world.cpus, keeps_reweigh n I k e s t x (omega (arith, within, tasks)) h))

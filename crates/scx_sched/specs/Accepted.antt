@@ -4,6 +4,7 @@ use Rattle.std.specs.Prelude.{◌≡◌, ℕ, ◌<◌, true, List, length, Optio
 use Rattle.scx_dsq.specs.Queues.{front_of}
 use Rattle.scx_dsq.specs.Calls.{push_refusal, after_pop, after_remove}
 use Rattle.scx_dsq.specs.declared.entries.Rank.TheVariants.{Fifo, Vtime}
+use Rattle.scx_isa_semantics.specs.declared.callbacks.Callback.TheVariants as callback
 use Rattle.scx_sched_world.specs.declared.call.Insert.{Insert}
 use Rattle.scx_sched_world.specs.Ids.{local_on, builtin_queue, parked_queue}
 use Rattle.scx_sched_world.specs.World.{WorldState, waits}
@@ -34,8 +35,10 @@ pub record IsPushAccepted (n e m : ℕ) : Type 0 where
   pub fill : (on : List (Option ℕ)) (w : WorldState) (q c t : ℕ)
       → c < length on → front_of w.queues q ≡ Some t → IsFine n e m None on w
       → push_refusal (after_pop w.queues q) (local_on c) t Fifo ≡ None
-  -- of the front of a queue, to the local queue of the processor at hand, while a callback runs
+  -- of the front of a queue, to the local queue of the processor at hand, while a callback runs that
+  -- isn't `timer`
   pub move : (hand : Option ℕ) (on : List (Option ℕ)) (w : WorldState) (q t : ℕ)
+      → (w.call.callback ≡ callback.Timer → ⊥)
       → front_of w.queues q ≡ Some t → IsFine n e m hand on w
       → push_refusal (after_pop w.queues q) (local_on w.call.cpu) t Fifo ≡ None
   -- of a held task, while dispatch runs

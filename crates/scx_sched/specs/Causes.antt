@@ -19,7 +19,7 @@ use Rattle.scx_sched_world.specs.Tasks.{later}
 use Rattle.scx_sched_world.specs.Waits.{IsFirstOverdue}
 use Rattle.scx_sched_world.specs.Helpers.{world_functions}
 use Rattle.scx_sched_machine.specs.declared.events.Event.{Event}
-use Rattle.scx_sched_machine.specs.declared.events.Event.TheVariants.{Wake, Sleep, Tick, Clock, SetWeight}
+use Rattle.scx_sched_machine.specs.declared.events.Event.TheVariants.{Wake, Sleep, Tick, Clock, SetWeight, SetTaskWeight}
 use Rattle.scx_sched_machine.specs.Steps.{CallMade}
 use Rattle.scx_sched.specs.Sim.{SimState, calls_of}
 
@@ -64,6 +64,7 @@ clock_in s (Sleep t) = s.state.world.clock
 clock_in s (Tick c) = s.state.world.clock
 clock_in s Clock = s.state.world.clock + 1
 clock_in s (SetWeight g x) = s.state.world.clock
+clock_in s (SetTaskWeight t x) = s.state.world.clock
 
 -- what put a policy out of force in an event
 pub data IsCause (s : SimState) (e : Event) : Eject → Type 0 where

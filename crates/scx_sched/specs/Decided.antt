@@ -1,14 +1,14 @@
 -- What events alone decide, whatever callbacks do: the clock, who is runnable, the weights of
--- groups and what they have used of their quotas. The policy and the rules stay as they were, and once
--- the policy is ejected none of it is called.
+-- groups and tasks, and what groups have used of their quotas. The policy and the rules stay as
+-- they were, and once the policy is ejected none of it is called.
 use Rattle.std.specs.Prelude.{◌≡◌, ℕ, ◌+◌, true, false, [], Option, Some, None, if◌then◌else◌}
-use Rattle.scx_weights.specs.Hierarchy.{Hierarchy, with_task, with_weight}
+use Rattle.scx_weights.specs.Hierarchy.{Hierarchy, with_task, with_weight, with_own_weight}
 use Rattle.scx_weights.specs.Limits.{with_use, with_turn}
 use Rattle.scx_sched_world.specs.declared.eject.Eject.{Eject}
 use Rattle.scx_sched_world.specs.World.{WorldState, task_at, is_this, running}
 use Rattle.scx_sched_world.specs.Tasks.{tick_ns}
 use Rattle.scx_sched_machine.specs.declared.events.Event.{Event}
-use Rattle.scx_sched_machine.specs.declared.events.Event.TheVariants.{Wake, Sleep, Tick, Clock, SetWeight}
+use Rattle.scx_sched_machine.specs.declared.events.Event.TheVariants.{Wake, Sleep, Tick, Clock, SetWeight, SetTaskWeight}
 use Rattle.scx_sched_machine.specs.declared.events.Refused.{Refused}
 use Rattle.scx_sched.specs.Causes.{EjectsOnce, IsNeverStuck}
 use Rattle.scx_sched.specs.Once.{AreInQueues}
@@ -21,6 +21,7 @@ clock_after (Wake t) n = n
 clock_after (Sleep t) n = n
 clock_after (Tick c) n = n
 clock_after (SetWeight g x) n = n
+clock_after (SetTaskWeight t x) n = n
 
 -- whoever runs has used a millisecond
 abbrev pub used_at_tick : Option ℕ → Hierarchy → Hierarchy
@@ -34,6 +35,7 @@ tree_after (Sleep t) w = with_task w.tree t false
 tree_after (Tick c) w = used_at_tick (running w c) w.tree
 tree_after Clock w = with_turn w.tree (w.clock + 1)
 tree_after (SetWeight g x) w = with_weight w.tree g x
+tree_after (SetTaskWeight t x) w = with_own_weight w.tree t x
 
 -- how much longer a task has run: for a millisecond where the event is a tick of its processor
 abbrev pub ran_in : Event → WorldState → ℕ → ℕ

@@ -1,9 +1,10 @@
 -- What each small step of a world keeps, so that whole events keep it. The fact is one of the task
 -- that is in no place, of who runs where, and of the world.
-use Rattle.std.specs.Prelude.{◌≡◌, ℕ, ◌+◌, ◌==◌, ◌<◌, true, false, List, length, Option, Some, None, is_some, slice_index_or, slice_set}
+use Rattle.std.specs.Prelude.{◌≡◌, ℕ, ◌+◌, ◌==◌, ◌<◌, Bool, true, false, List, length, Option, Some, None, is_some, slice_index_or, slice_set}
 use Rattle.scx_dsq.specs.Queues.{front_of, entry_of, is_in}
 use Rattle.scx_weights.specs.Limits.{is_throttled}
 use Rattle.scx_isa_semantics.specs.declared.callbacks.Callback.{Callback}
+use Rattle.scx_isa_semantics.specs.declared.callbacks.Callback.TheVariants as callback
 use Rattle.scx_isa_semantics.specs.Effects.{Query}
 use Rattle.scx_vm.specs.Host.{after_query}
 use Rattle.scx_sched_world.specs.declared.call.Insert.{Insert}
@@ -13,7 +14,7 @@ use Rattle.scx_sched_world.specs.declared.passing.Passing.{Passing}
 use Rattle.scx_sched_world.specs.Ids.{parked_queue, local_on}
 use Rattle.scx_sched_world.specs.World.{WorldState, with_cycling, is_by_linux, task_at, with_task, at_callback, quiet}
 use Rattle.scx_sched_world.specs.Tasks.{with_slice, with_home, for_cpu, to_held, to_global, to_local, to_front, after_sleep, after_enter, after_fill, after_stop, started_at, after_run, after_keep, put_parked, after_take}
-use Rattle.scx_sched_world.specs.Helpers.{is_dispatch, with_insert, world_functions}
+use Rattle.scx_sched_world.specs.Helpers.{is_dispatch, with_insert, with_timer, world_functions}
 use Rattle.scx_sched.specs.Once.{GoesSomewhere}
 use Rattle.scx_sched_world.specs.Ejecting.{put_out, evict, cut_task, put_builtin, after_catch_up, after_charge}
 
@@ -28,6 +29,10 @@ with_sets w claimed kicked preempted claims passing = record w {
   preempted = preempted;
   call = record w.call { claims = claims };
 }
+
+-- the world in which the last callback moved a task, or didn't
+abbrev pub with_moved : WorldState → Bool → WorldState
+with_moved w b = record w { call = record w.call { has_moved = b } }
 
 -- where the task at hand may come to wait: for any processor, held, where a callback inserted it,
 -- or, under Linux rules, at the front of a local queue, or where select_cpu inserted it, once the
@@ -54,11 +59,16 @@ pub record IsKeptBySteps (n : ℕ) (I : ℕ → Option ℕ → List (Option ℕ)
       → I m hand on w → I m hand on (after_query world_functions w q)
   pub begun : (m : ℕ) (hand : Option ℕ) (on : List (Option ℕ)) (w : WorldState)
       (b : Callback) (t c : ℕ)
-      → c < length on → I m hand on w → I m hand on (at_callback w b t c)
+      → ((b ≡ callback.Timer → ⊥) → c < length on) → I m hand on w → I m hand on (at_callback w b t c)
   pub quiet : (m : ℕ) (hand : Option ℕ) (on : List (Option ℕ)) (w : WorldState)
       → I m hand on w → I m hand on (quiet w)
   pub cycling : (m : ℕ) (hand : Option ℕ) (on : List (Option ℕ)) (w : WorldState) (o : Option ℕ)
       → I m hand on w → I m hand on (with_cycling w o)
+  -- whether the last callback moved a task, and a timer that isn't started any more
+  pub moved : (m : ℕ) (hand : Option ℕ) (on : List (Option ℕ)) (w : WorldState) (b : Bool)
+      → I m hand on w → I m hand on (with_moved w b)
+  pub cancelled : (m : ℕ) (hand : Option ℕ) (on : List (Option ℕ)) (w : WorldState) (timer : ℕ)
+      → I m hand on w → I m hand on (with_timer w timer None)
   -- Linux rules: sets of processors, what is kept until the event ends, the processor of a task,
   -- and a slice
   pub sets : (m : ℕ) (hand : Option ℕ) (on : List (Option ℕ)) (w : WorldState)

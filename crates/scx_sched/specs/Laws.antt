@@ -2,8 +2,8 @@
 use Rattle.std.specs.Prelude.{◌≡◌, false, ℕ, ◌+◌, ◌<◌, length, Option, None}
 use Rattle.scx_sched_machine.specs.declared.events.Event.{Event}
 use Rattle.scx_sched_machine.specs.Steps.{State, is_by_linux}
-use Rattle.scx_sched_world.specs.World.{running}
-use Rattle.scx_sched_machine.specs.Events.{refusal, event_step, tick}
+use Rattle.scx_sched_world.specs.World.{running, wait}
+use Rattle.scx_sched_machine.specs.Events.{refusal, event_step, tick, reweigh}
 use Rattle.scx_sched_world.specs.declared.eject.Eject.{Eject}
 use Rattle.scx_sched_machine.specs.Ejecting.{eject}
 use Rattle.scx_sched.specs.Over.{GoesOver}
@@ -35,6 +35,11 @@ abbrev pub EjectionLosesNobody : Type 0
 EjectionLosesNobody =
     (n e m : ℕ) (hand : Option ℕ) (s : State) (x : Eject)
     → IsFine n e m hand s.world.cpus s.world → GoesOver s.world (eject s x).state.world
+
+-- a change of a task's own weight leaves each task's wait as long as it was, whatever callbacks do
+abbrev pub WeightsKeepWaits : Type 0
+WeightsKeepWaits =
+    (s : State) (t x u : ℕ) → wait (reweigh s t x).state.world u ≡ wait s.world u
 
 -- and where that holds, no push is refused
 abbrev pub NoPushIsRefused : Type 0

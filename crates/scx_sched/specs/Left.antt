@@ -9,7 +9,7 @@ use Rattle.scx_sched_world.specs.Tasks.{local_len}
 use Rattle.scx_sched_machine.specs.Steps.{State, Stepped, is_by_linux}
 use Rattle.scx_sched_machine.specs.Rounds.{most_rounds, next_to_look, round, with_rounds}
 use Rattle.scx_sched_machine.specs.declared.events.Event.{Event}
-use Rattle.scx_sched_machine.specs.declared.events.Event.TheVariants.{Wake, Sleep, Tick, Clock, SetWeight}
+use Rattle.scx_sched_machine.specs.declared.events.Event.TheVariants.{Wake, Sleep, Tick, Clock, SetWeight, SetTaskWeight}
 
 -- nobody is in the local queue, the global one, or, once the policy is ejected, the built-in one
 pub record LeavesNothing (w : WorldState) (c : ℕ) : Type 0 where
@@ -24,6 +24,7 @@ LeavesNothingIdle (Wake t) w = ⊤
 LeavesNothingIdle (Sleep t) w = ⊤
 LeavesNothingIdle Clock w = ⊤
 LeavesNothingIdle (SetWeight g x) w = ⊤
+LeavesNothingIdle (SetTaskWeight t x) w = ⊤
 
 -- ---- by Linux rules
 

@@ -3,6 +3,7 @@ pub mod Once
 pub mod Usages
 pub mod Parked
 pub mod Current
+pub mod Timers
 pub mod Kept
 pub mod Ranges
 pub mod Sim
@@ -13,5 +14,6 @@ pub mod Causes
 pub mod Failures
 pub mod Exits
 pub mod Decided
+pub mod Leavers
 pub mod Accepted
 pub mod Laws

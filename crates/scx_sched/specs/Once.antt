@@ -9,6 +9,7 @@ use Rattle.scx_dsq.specs.declared.entries.Entry.{Entry}
 use Rattle.scx_dsq.specs.declared.entries.Rank.{Rank}
 use Rattle.scx_dsq.specs.declared.entries.Rank.TheVariants.{Fifo, Front, Vtime}
 use Rattle.scx_dsq.specs.Laws.{one_if, standing, IsStamped}
+use Rattle.scx_isa_semantics.specs.declared.callbacks.Callback.TheVariants as callback
 use Rattle.scx_sched_world.specs.declared.call.Insert.{Insert}
 use Rattle.scx_sched_world.specs.Ids.{policy_end, global, held_queue, builtin_queue, parked_queue, local_on}
 use Rattle.scx_sched_world.specs.World.{WorldState, is_by_linux, task_at, is_this, is_runnable}
@@ -91,12 +92,13 @@ pub record IsSound (hand : Option ℕ) (on : List (Option ℕ)) (n : ℕ) (w : W
   pub tasks : length w.tasks ≡ n
   pub even : task_count w.queues ≡ n
   pub flags : length w.tree.active ≡ n
+  pub members : length w.tree.homes ≡ n
   pub homes : (t : ℕ) → (task_at w t).prev_cpu < length on
   pub queues : HasQueues w.queues (length on)
   pub sorted : IsSorted w.queues
   pub stamped : IsStamped w.queues
   pub once : IsOnce hand w
-  pub here : w.call.cpu < length on
+  pub here : (w.call.callback ≡ callback.Timer → ⊥) → w.call.cpu < length on
   pub goes : GoesSomewhere w.queues (length on) w.call.insert
   pub behind : is_by_linux w ≡ false → GoesBehind w.call.insert
   pub waiting : HasWaits hand w

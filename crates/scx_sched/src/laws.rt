@@ -1,6 +1,7 @@
 ghost use Rattle.scx_sched.specs.Exits.{ExitsAreCalls, CallsAreExits};
+ghost use Rattle.scx_sched.specs.Leavers.{LeaversWait};
 ghost use Rattle.scx_sched.specs.Left.{RoundsLeaveNothing};
-ghost use Rattle.scx_sched.specs.Laws.{StepKeepsFine, TickLeavesNothing, StepsKeepFine, NoPushIsRefused, EjectionLosesNobody};
+ghost use Rattle.scx_sched.specs.Laws.{StepKeepsFine, TickLeavesNothing, StepsKeepFine, NoPushIsRefused, EjectionLosesNobody, WeightsKeepWaits};
 
 /// An accepted event keeps each task in its one place. The function does nothing: its contract is the
 /// law.
@@ -18,6 +19,18 @@ pub fn nothing_is_left_behind()
 /// The function does nothing: its contract is the law.
 pub fn ejections_lose_nobody()
     ensures { EjectionLosesNobody }
+{}
+
+/// A change of a task's own weight leaves each task's wait as long as it was, before processors look for work: who
+/// waits leaves its queue and is put again, and its wait goes on. The function does nothing: its contract is the law.
+pub fn changes_of_weight_keep_waits()
+    ensures { WeightsKeepWaits }
+{}
+
+/// Each call of `dequeue` that follows a call of dispatch tells of a task that waits in GLOBAL or in a local queue by
+/// then. The function does nothing: its contract is the law.
+pub fn leavers_wait_to_run()
+    ensures { LeaversWait }
 {}
 
 /// No push of the machine is ever refused: each small step of an event keeps what holds inside of it,

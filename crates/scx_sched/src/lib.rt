@@ -20,8 +20,9 @@ mod places;
 mod sim;
 
 pub use laws::{
-    ejections_lose_nobody, events_keep_places, exits_are_called, no_idle_processor_is_forgotten,
-    no_push_is_refused, nothing_is_left_behind,
+    changes_of_weight_keep_waits, ejections_lose_nobody, events_keep_places, exits_are_called,
+    leavers_wait_to_run, no_idle_processor_is_forgotten, no_push_is_refused,
+    nothing_is_left_behind,
 };
 pub use places::Place;
 pub use scx_sched_machine::{

@@ -18,6 +18,7 @@ ghost use Rattle.scx_sched.specs.Usages.{AreBounded};
 ghost use Rattle.scx_sched.specs.Waits.{IsTimely, HasWaits};
 ghost use Rattle.scx_sched.specs.Once.{IsOnce, AreInQueues};
 ghost use Rattle.scx_sched.specs.Places.{place};
+ghost use Rattle.scx_sched.specs.Timers.{AreTimersLater};
 ghost use Rattle.scx_sched.specs.Sim.{max_events, refusal, answer_of, after_event, notes_of, calls_of, IsFirstState};
 
 use crate::places::{Place, place_in};
@@ -54,8 +55,9 @@ impl Model for Sim {
 impl Sim {
     /// The machine of a policy, with these groups and tasks, all asleep, and that many CPUs.
     ///
-    /// `BadShape` is looked at first, then all memory is taken, and then init runs, and enable of each
-    /// task. If one of them fails, `InitFailed` has the code of its `exit`, -22 for a fault, or the answer of init.
+    /// `BadShape` is looked at first, then all memory is taken, and then init runs, enable and `set_weight` of each
+    /// task, and `update_idle` of each CPU. If one of them fails, `InitFailed` has the code of its `exit`, -22 for a
+    /// fault, or the answer of init.
     pub fn new(alloc: Global, policy: Policy, tree: Tree, cpus: u32) -> Result<Sim, NewError>
         ensures first { IfOk result (IsFirstState policy tree cpus) }
         ensures shape { OnOk result (is_bad_shape tree cpus ≡ false) }
@@ -63,6 +65,7 @@ impl Sim {
         ensures programs { OnOk result (AreAs policy.callbacks) }
         ensures in_force { IfOk result (λ sim. sim.state.world.ejected ≡ None) }
         ensures current { IfOk result (λ sim. AreCurrent sim.state.world) }
+        ensures timers { IfOk result (λ sim. AreTimersLater sim.state.world) }
         ensures refused { IfErr result (IsRefusal policy tree cpus) }
         ensures failed { IfErr result (HasFailed policy tree cpus) }
         ensures none_failed { OnOk result (NoneFails (start_calls policy tree cpus)) }
@@ -72,7 +75,7 @@ impl Sim {
         Sim::new_seen(alloc, policy, tree, cpus, &mut Unseen)
     }
 
-    /// `new`, with init and enable run by a hearer, which takes no notes.
+    /// `new`, with its callbacks run by a hearer, which takes no notes.
     pub fn new_seen<H: Hearer>(
         alloc: Global,
         policy: Policy,
@@ -86,6 +89,7 @@ impl Sim {
         ensures programs { OnOk result (AreAs policy.callbacks) }
         ensures in_force { IfOk result (λ sim. sim.state.world.ejected ≡ None) }
         ensures current { IfOk result (λ sim. AreCurrent sim.state.world) }
+        ensures timers { IfOk result (λ sim. AreTimersLater sim.state.world) }
         ensures refused { IfErr result (IsRefusal policy tree cpus) }
         ensures failed { IfErr result (HasFailed policy tree cpus) }
         ensures none_failed { OnOk result (NoneFails (start_calls policy tree cpus)) }
@@ -130,6 +134,7 @@ impl Sim {
         ensures there { AreInQueues self.new.state.world }
         ensures current { AreCurrent self.new.state.world }
         ensures timely { IsTimely self.new.state }
+        ensures timers { AreTimersLater self.new.state.world }
         ensures bounded { AreBounded self.new.state.world }
         ensures never_stuck { IsNeverStuck self.new.state.world }
         ensures cause { OnOk result (EjectsOnce self.old event self.new) }
@@ -156,6 +161,7 @@ impl Sim {
         ensures there { AreInQueues self.new.state.world }
         ensures current { AreCurrent self.new.state.world }
         ensures timely { IsTimely self.new.state }
+        ensures timers { AreTimersLater self.new.state.world }
         ensures bounded { AreBounded self.new.state.world }
         ensures never_stuck { IsNeverStuck self.new.state.world }
         ensures cause { OnOk result (EjectsOnce self.old event self.new) }
@@ -195,11 +201,13 @@ impl Sim {
 
     /// The law of what holds between two events: each runnable task is in one place, and no other task anywhere; a task
     /// has a wait where it is in a queue and not parked, and no longer one than a policy in force may let it
-    /// have; no group with a quota has used as much as that and one millisecond for each processor in its
-    /// period; the times of the built-in scheduler are far from where they would be cut off, and 0 until it
-    /// begins; stamps of queues are far from theirs; no scheduling cycle is under way, nothing is kept of the event
-    /// before, and the current task of each CPU is the one that runs there; the rules are those of the policy; and
-    /// each program of the policy was verified as its callback. The function does nothing: its contract is the law.
+    /// have; each timer that was started is due later than the clock, while the policy is in force; no group
+    /// with a quota has used as much as that and one millisecond for each processor in its period; the times of
+    /// the built-in scheduler are far from where they would be cut off, and 0 until it begins; stamps of queues
+    /// are far from theirs; no scheduling cycle is under way, no timer's callback is at hand, nothing is kept of the
+    /// event before, and the current task of each CPU is the one that runs there; the rules are those of the policy;
+    /// and each program of the policy was verified as its callback. The function does nothing: its contract is the
+    /// law.
     #[tactic(auto, using(crate::proofs::Bounded::are_bounded))]
     pub fn is_sound(&self)
         ensures once { IsOnce None self.now.state.world }
@@ -207,6 +215,7 @@ impl Sim {
         ensures current { AreCurrent self.now.state.world }
         ensures waits { HasWaits None self.now.state.world }
         ensures timely { IsTimely self.now.state }
+        ensures timers { AreTimersLater self.now.state.world }
         ensures never_stuck { IsNeverStuck self.now.state.world }
         ensures bounded { AreBounded self.now.state.world }
         ensures times { (t : ℕ) → (task_at self.now.state.world t).builtin < 2 ^ 63 }

@@ -2,8 +2,8 @@
 use Rattle.std.proofs.Common.{unwrap_or, ◌≡◌, ℕ, zero, suc, ◌<◌, ◌≤◌, Bool, true, false, not, nat_lt, ◌⊎◌, inl, inr, if◌then◌else◌, length, Option, Some, None, refl, sym, ap, subst, ◌∙◌, arith}
 use Rattle.std.proofs.lemmas.Bool.{cases_eq, cases_lt}
 use Rattle.std.proofs.lemmas.Bool.Decides.{nat_tests}
-use Rattle.scx_sched_world.specs.World.{WorldState, is_by_linux, task_at, is_idle, is_claimed, is_free, this_if, or_this, free_below, first_free, choice, default_choice, after_claim}
-use Rattle.scx_sched_rules.specs.Helpers.{IsFree, IsChoice, ItsOwn, Lowest, NoneFree, IsDefault, Chosen, NotChosen, with_claim, Claims, NoClaim, MakesClaim}
+use Rattle.scx_sched_world.specs.World.{WorldState, is_by_linux, task_at, is_idle, is_claimed, is_free, this_if, or_this, free_below, first_free, free_choice, choice, default_choice, after_claim}
+use Rattle.scx_sched_rules.specs.Helpers.{IsFree, IsChoice, ItsOwn, Lowest, NoneFree, NoneTracked, IsDefault, Chosen, NotChosen, with_claim, Claims, NoClaim, MakesClaim}
 use Rattle.scx_sched_rules.proofs.Differing.{both_true, and_true, false_from, not_so}
 
 -- ---- free processors
@@ -59,23 +59,31 @@ all_taken w e c = go (cases_lt c (length w.cpus))
 
 -- ---- the choice
 
+abbrev tracked_as : WorldState → ℕ → Bool → Option ℕ
+tracked_as w t b = if b then free_choice w t else None
+
 abbrev chosen_as : WorldState → ℕ → Bool → Option ℕ → Option ℕ
 chosen_as w t b o = if b then Some (task_at w t).prev_cpu else o
 
 -- what is computed is a choice
 pub is_choice : (w : WorldState) (t : ℕ) → IsChoice w t (choice w t)
-is_choice w t = go (is_free w (task_at w t).prev_cpu) refl (first_free w) refl
+is_choice w t = top w.tracks_idle refl
   where
-    go : (b : Bool) → is_free w (task_at w t).prev_cpu ≡ b → (o : Option ℕ) → first_free w ≡ o → IsChoice w t (chosen_as w t b o)
-    go true e o x = ItsOwn (task_at w t).prev_cpu refl (free_is w (task_at w t).prev_cpu e)
-    go false e (Some c) x = let h = is_lowest (length w.cpus) w c x in Lowest c (taken w (task_at w t).prev_cpu e) (free_is w c h.free) (λ d l. taken w d (h.below d l))
-    go false e None x = NoneFree (λ d. taken w d (all_taken w x d))
+    go : w.tracks_idle ≡ true → (b : Bool) → is_free w (task_at w t).prev_cpu ≡ b → (o : Option ℕ) → first_free w ≡ o → IsChoice w t (chosen_as w t b o)
+    go k true e o x = ItsOwn (task_at w t).prev_cpu k refl (free_is w (task_at w t).prev_cpu e)
+    go k false e (Some c) x = let h = is_lowest (length w.cpus) w c x in Lowest c k (taken w (task_at w t).prev_cpu e) (free_is w c h.free) (λ d l. taken w d (h.below d l))
+    go k false e None x = NoneFree (λ d. taken w d (all_taken w x d))
+
+    top : (b : Bool) → w.tracks_idle ≡ b → IsChoice w t (tracked_as w t b)
+    top true k = go k (is_free w (task_at w t).prev_cpu) refl (first_free w) refl
+    top false k = NoneTracked k
 
 -- and the only one
 pub only_choice : (w : WorldState) (t : ℕ) (o : Option ℕ) → IsChoice w t o → o ≡ choice w t
-only_choice w t (Some c) (ItsOwn _ k f) =
-    ap (λ x. Some x) k ∙ ap (λ b. chosen_as w t b (first_free w)) (sym (free_of w (task_at w t).prev_cpu (subst (λ x. IsFree w x) k f)))
-only_choice w t (Some c) (Lowest _ n f below) = go (first_free w) refl ∙ ap (λ b. chosen_as w t b (first_free w)) (sym (taken_of w (task_at w t).prev_cpu n))
+only_choice w t (Some c) (ItsOwn _ tracks k f) =
+    ap (λ x. Some x) k ∙ ap (λ b. chosen_as w t b (first_free w)) (sym (free_of w (task_at w t).prev_cpu (subst (λ x. IsFree w x) k f))) ∙ ap (λ b. tracked_as w t b) (sym tracks)
+only_choice w t (Some c) (Lowest _ tracks n f below) =
+    go (first_free w) refl ∙ ap (λ b. chosen_as w t b (first_free w)) (sym (taken_of w (task_at w t).prev_cpu n)) ∙ ap (λ b. tracked_as w t b) (sym tracks)
   where
     one : (d : ℕ) → is_free w d ≡ true → ((k : ℕ) → k < d → is_free w k ≡ false) → (c < d) ⊎ (d ≤ c) → (d < c) ⊎ (c ≤ d) → c ≡ d
     one d j above (inl l) m = absurd (not_so (is_free w c) (above c l) (free_of w c f))
@@ -85,8 +93,13 @@ only_choice w t (Some c) (Lowest _ n f below) = go (first_free w) refl ∙ ap (�
     go : (o : Option ℕ) → first_free w ≡ o → Some c ≡ o
     go (Some d) x = let h = is_lowest (length w.cpus) w d x in ap (λ y. Some y) (one d h.free h.below (cases_lt c d) (cases_lt d c))
     go None x = absurd (not_so (is_free w c) (all_taken w x c) (free_of w c f))
-only_choice w t None (NoneFree all) = go (first_free w) refl ∙ ap (λ b. chosen_as w t b (first_free w)) (sym (taken_of w (task_at w t).prev_cpu (all (task_at w t).prev_cpu)))
+only_choice w t None (NoneTracked e) = ap (λ b. tracked_as w t b) (sym e)
+only_choice w t None (NoneFree all) = top w.tracks_idle (go (first_free w) refl ∙ ap (λ b. chosen_as w t b (first_free w)) (sym (taken_of w (task_at w t).prev_cpu (all (task_at w t).prev_cpu))))
   where
+    top : (b : Bool) → None ≡ free_choice w t → None ≡ tracked_as w t b
+    top true e = e
+    top false e = refl
+
     go : (o : Option ℕ) → first_free w ≡ o → None ≡ o
     go (Some d) x = let h = is_lowest (length w.cpus) w d x in absurd (all d (free_is w d h.free))
     go None x = refl

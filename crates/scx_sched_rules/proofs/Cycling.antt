@@ -1,5 +1,5 @@
 -- A cycle as it is computed is allowed, and no other is.
-use Rattle.std.proofs.Common.{◌≡◌, ℕ, zero, suc, ◌<◌, ◌≤◌, cond, Bool, true, false, not, ◌==◌, nat_lt, ◌⊎◌, inl, inr, if◌then◌else◌, [], ◌∷◌, Option, Some, None, is_some, refl, sym, ◌∙◌, ap, subst, arith}
+use Rattle.std.proofs.Common.{◌≡◌, ℕ, zero, suc, ◌<◌, ◌≤◌, cond, Bool, true, false, not, ◌==◌, ◌&&◌, nat_lt, ◌⊎◌, inl, inr, if◌then◌else◌, [], ◌∷◌, Option, Some, None, is_some, is_none, refl, sym, ◌∙◌, ap, subst, arith}
 use Rattle.std.proofs.lemmas.Bool.Decides.{nat_tests}
 use Rattle.std.proofs.lemmas.Bool.{cases_eq, cases_lt, eq-eqb, ne_eqb}
 use Rattle.scx_dsq.specs.Queues.{len_of, front_of, entry_of}
@@ -11,20 +11,22 @@ use Rattle.scx_sched_world.specs.declared.call.Insert.{Insert}
 use Rattle.scx_sched_world.specs.declared.eject.Eject.{Eject}
 use Rattle.scx_sched_world.specs.declared.notes.What.TheVariants as note
 use Rattle.scx_sched_world.specs.Ids.{global, builtin_queue, parked_queue, local_on}
-use Rattle.scx_sched_world.specs.World.{WorldState, with_queues, with_cycling, note_now}
-use Rattle.scx_sched_world.specs.Tasks.{local_len, brought, to_front, homed}
+use Rattle.scx_sched_world.specs.World.{WorldState, with_queues, with_cycling, out_of_cycle, running, note_now}
+use Rattle.scx_sched_world.specs.Tasks.{local_len, brought, to_front, homed, after_keep}
 use Rattle.scx_sched_world.specs.Ejecting.{put_builtin, after_catch_up, after_charge}
 use Rattle.scx_sched_machine.specs.Steps.{State, Stepped, with_world, stays, after, one_after_other, is_by_linux}
-use Rattle.scx_sched_machine.specs.Callbacks.{call_back, one_task}
+use Rattle.scx_sched_machine.specs.Callbacks.{call_back, call_by_linux, one_task, two_numbers}
+use Rattle.scx_sched_machine.specs.Custody.{tells_left}
 use Rattle.scx_sched_machine.specs.Put.{enters, enqueue_choice, enters_builtin, comes_in, put}
 use Rattle.scx_sched_machine.specs.Filling.{move_note, fill}
 use Rattle.scx_sched_machine.specs.Parking.{park, park_front, if_throttled, throttled_front, park_fronts, clear, in_reach, supply, FrontMayRun}
 use Rattle.scx_sched.proofs.Supplying.{park_fronts_from, clear_from, empty_no_front, throttled_is, front_is_free, len_park_front, reach_fill, reach_park_front}
 use Rattle.scx_sched.proofs.Firsts.{no_front_is_empty}
-use Rattle.scx_sched_machine.specs.Cycle.{keeps_slice, supply_unless_kept, after_dispatch, asks_again, tries, stopping_called, after_stopping, after_running, put_back, leave, switched, started_if, start, rest, swap, swap_or_rest, builtin_dispatch, builtin_fill, builtin_ask, builtin_cycle, start_or_cycle, picked, refilled, is_local, start_picked, start_picked_or_cycle, pick, pick_or_rest, keep_or_pick, conclude, give_up, ask, seek, look, cycling, cycle}
+use Rattle.scx_sched_machine.specs.Cycle.{keeps_slice, supply_unless_kept, dispatch_called, after_dispatch, asks_again, tries, stopping_called, after_stopping, after_running, put_back, leave, switched, started_if, start, hears_idle, tells_idle, idle_note, rest, swap, swap_or_rest, builtin_dispatch, builtin_fill, builtin_ask, builtin_cycle, start_or_cycle, picked, refilled, is_local, start_picked, start_picked_or_cycle, tells_busy, makes_way, pick, pick_or_rest, keep_or_pick, conclude, give_up, ask, seek, look, cycling, falls_idle, notes_idle, idle_or_anew, becomes_idle, concluded, cycle}
 use Rattle.scx_sched_rules.specs.Differences.{KeepsSlice, GivesWay, IsToAsk}
-use Rattle.scx_sched_rules.specs.Cycles.{noting, silent, entering, enqueue_called, dispatch_called, gone_off, gone_on, picked_on, HasStopped, Policy_hears, Is_charged, HasStarted, Policy_learns, Catches_up, Enters, For_builtin, Default, Held, Inserted, Puts, Fills, HasLocal, NoOther, Moves, Parks, ParksFronts, NoneLeft, OneMore, Supplies, Supplied, ParkedOne, FillsBuiltin, HasOne, Looked, Dispatches, Supplied_then, Kept_then, Asks, Enough, Came, NothingMoved, KeptOn, Again, PutsBack, Is_put, Goes_first, Leaves, Nobody, Stops, Starts, Empty, Front, Rests, Keeps, Idles, WasIdle, Swaps, SwapsOrRests, Swapped, Kept, CyclesBuiltin, StartsOrAnew, Runs_front, Emptied, StartsPicked, picking, Picks, Picks_then, Picks_before, Picks_anew, Ends, Anew, KeepsOn, Picked, Rested, Seeks, Filled, Asked, Looks, Of_policy, Of_builtin, Cycles}
-use Rattle.scx_sched_rules.proofs.Differing.{false_from, not_so, then_stays, in_is, in_of, homes, only_homes, begins_cycle, only_begins_cycle, ends_cycle, only_ends_cycle, keeps, gives, keeps_or_gives, switches, only_switches, asks_of, asks_is, gives_up, only_gives_up}
+use Rattle.scx_sched_rules.specs.Cycles.{noting, silent, entering, enqueue_called, dispatch_run, dispatch_noted, CallsDispatch, gone_off, gone_on, picked_on, HasStopped, Policy_hears, Is_charged, HasStarted, Policy_learns, Catches_up, Enters, For_builtin, Default, Held, Inserted, Puts, Fills, HasLocal, NoOther, Moves, Parks, ParksFronts, NoneLeft, OneMore, Supplies, Supplied, ParkedOne, FillsBuiltin, HasOne, Looked, Dispatches, Supplied_then, Kept_then, Asks, Enough, Came, NothingMoved, KeptOn, Again, PutsBack, Is_put, Goes_first, Leaves, Nobody, Stops, Starts, Empty, Front, Rests, Keeps, Idles, IdlesUnheard, WasIdle, Swaps, SwapsOrRests, Swapped, Kept, CyclesBuiltin, StartsOrAnew, Runs_front, Emptied, StartsPicked, picking, TellsBusy, WasAtRest, HadTask, HadRun, MakesWay, Picks, Picks_then, Picks_before, Picks_anew, Ends, Anew, KeepsOn, Picked, Rested, Seeks, Filled, Asked, Looks, Of_policy, Of_builtin, FallsIdle, StaysIdle, IsNoted, CyclesAnew, HearsOfIdle, Concludes, FellIdle, HasEnded, Cycles}
+use Rattle.scx_sched_rules.proofs.Differing.{both_true, and_true, false_from, not_so, then_stays, calls_if_there, only_calls_if_there, hears_idle_is, hears_idle_of, unheard_is, unheard_of, in_is, in_of, homes, only_homes, begins_cycle, only_begins_cycle, ends_cycle, only_ends_cycle, keeps, gives, keeps_or_gives, switches, only_switches, asks_of, asks_is, gives_up, only_gives_up}
+use Rattle.scx_sched_rules.proofs.Departing.{tells_who_left, only_tells_who_left}
 
 -- ---- put
 
@@ -222,10 +224,25 @@ only_supplies s c r h = only_clears (in_reach s c) s c r (omega arith) h
 
 -- ---- dispatch
 
-abbrev supplied_as : State → ℕ → Option ℕ → Bool → Stepped
-supplied_as s c p b = one_after_other (dispatch_called s c p) (if b then stays (dispatch_called s c p).state else supply (dispatch_called s c p).state c)
+calls_dispatch : (s : State) (c : ℕ) (p : Option ℕ) (r : Stepped) → r ≡ dispatch_called s c p → CallsDispatch s c p r
+unfolding dispatch_called
+calls_dispatch s c p r e = record {
+  told = tells_left (dispatch_run s c p).state c (dispatch_noted s c p);
+  tells = tells_who_left (dispatch_run s c p).state c (dispatch_noted s c p);
+  all = e;
+}
 
-supplied_is : (s : State) (c : ℕ) (p : Option ℕ) → supplied_as s c p (keeps_slice (dispatch_called s c p).state p) ≡ after_dispatch s c p
+only_calls_dispatch : (s : State) (c : ℕ) (p : Option ℕ) (r : Stepped) → CallsDispatch s c p r → r ≡ dispatch_called s c p
+unfolding dispatch_called
+only_calls_dispatch s c p r h = h.all ∙ ap (λ x. one_after_other (dispatch_run s c p) x) (only_tells_who_left (dispatch_run s c p).state c (dispatch_noted s c p) h.told h.tells)
+
+abbrev supplied_as : Stepped → ℕ → Bool → Stepped
+supplied_as d c b = one_after_other d (if b then stays d.state else supply d.state c)
+
+abbrev supplied_from : Stepped → ℕ → Option ℕ → Stepped
+supplied_from d c p = supplied_as d c (keeps_slice d.state p)
+
+supplied_is : (s : State) (c : ℕ) (p : Option ℕ) → supplied_from (dispatch_called s c p) c p ≡ after_dispatch s c p
 unfolding after_dispatch supply_unless_kept
 supplied_is s c p = refl
 
@@ -235,17 +252,17 @@ dispatches s c p = subst (λ r. Dispatches s c p r) (supplied_is s c p) (go (kee
     d : Stepped
     d = dispatch_called s c p
 
-    go : KeepsSlice d.state p ⊎ GivesWay d.state p → Dispatches s c p (supplied_as s c p (keeps_slice d.state p))
-    go (inl k) = rw (keeps d.state p k) (Kept_then k (then_stays d))
-    go (inr g) = rw (gives d.state p g) (Supplied_then (supply d.state c) g (supplies d.state c) refl)
+    go : KeepsSlice d.state p ⊎ GivesWay d.state p → Dispatches s c p (supplied_as d c (keeps_slice d.state p))
+    go (inl k) = rw (keeps d.state p k) (Kept_then (calls_dispatch s c p _ (then_stays d)) k)
+    go (inr g) = rw (gives d.state p g) (Supplied_then d (supply d.state c) (calls_dispatch s c p d refl) g (supplies d.state c) refl)
+
+supplied_by : (s : State) (c : ℕ) (p : Option ℕ) (d : Stepped) → CallsDispatch s c p d → supplied_from d c p ≡ after_dispatch s c p
+supplied_by s c p d h = ap (λ (x : Stepped). supplied_from x c p) (only_calls_dispatch s c p d h) ∙ supplied_is s c p
 
 only_dispatches : (s : State) (c : ℕ) (p : Option ℕ) (r : Stepped) → Dispatches s c p r → r ≡ after_dispatch s c p
-only_dispatches s c p r (Supplied_then x g h k) =
-    let d = dispatch_called s c p in
-    k ∙ ap (λ y. one_after_other d y) (only_supplies d.state c x h) ∙ ap (λ b. supplied_as s c p b) (sym (gives d.state p g)) ∙ supplied_is s c p
-only_dispatches s c p r (Kept_then h k) =
-    let d = dispatch_called s c p in
-    k ∙ sym (then_stays d) ∙ ap (λ b. supplied_as s c p b) (sym (keeps d.state p h)) ∙ supplied_is s c p
+only_dispatches s c p r (Supplied_then d x h g y k) =
+    k ∙ ap (λ z. one_after_other d z) (only_supplies d.state c x y) ∙ ap (λ b. supplied_as d c b) (sym (gives d.state p g)) ∙ supplied_by s c p d h
+only_dispatches s c p r (Kept_then h k) = sym (then_stays r) ∙ ap (λ b. supplied_as r c b) (sym (keeps r.state p k)) ∙ supplied_by s c p r h
 
 abbrev tried_as : ℕ → State → ℕ → Option ℕ → Bool → Stepped
 tried_as n s c p b = let d = after_dispatch s c p in if b then one_after_other d (tries n d.state c p) else d
@@ -349,16 +366,24 @@ any_here s c = go (cases_eq (local_len s.world c) 0)
 
 -- ---- rest
 
+abbrev rested_as : State → ℕ → Bool → Stepped
+rested_as s c b = record { state = with_world s (after_keep s.world None); notes = idle_note s.world None (not b) c; calls = [] }
+
 rests : (s : State) (c : ℕ) (p : Option ℕ) (ran : Bool) → Rests s c p ran (rest s c p ran)
 unfolding rest
 rests s c (Some t) ran = Keeps t ran _ refl
-rests s c None true = Idles _ refl
+rests s c None true = go (hears_idle s) refl
+  where
+    go : (b : Bool) → hears_idle s ≡ b → Rests s c None true (rested_as s c b)
+    go true e = IdlesUnheard _ (hears_idle_is s e) refl
+    go false e = Idles _ (unheard_is s e) refl
 rests s c None false = WasIdle _ refl
 
 only_rests : (s : State) (c : ℕ) (p : Option ℕ) (ran : Bool) (r : Stepped) → Rests s c p ran r → r ≡ rest s c p ran
 unfolding rest
 only_rests s c (Some t) ran r (Keeps _ _ _ k) = k
-only_rests s c None true r (Idles _ k) = k
+only_rests s c None true r (Idles _ n k) = k ∙ ap (λ b. rested_as s c b) (sym (unheard_of s n))
+only_rests s c None true r (IdlesUnheard _ h k) = k ∙ ap (λ b. rested_as s c b) (sym (hears_idle_of s h))
 only_rests s c None false r (WasIdle _ k) = k
 
 -- ---- the built-in scheduler's cycle
@@ -461,8 +486,29 @@ starts_picked s c t = record {
   all = refl;
 }
 
+busies : (s : State) (c : ℕ) (p : Option ℕ) (ran : Bool) → TellsBusy s c p ran (tells_busy s c p ran)
+unfolding tells_busy tells_idle
+busies s c None false = WasAtRest _ (calls_if_there s callback.UpdateIdle (two_numbers c 0) 0 c)
+busies s c None true = HadRun _ refl
+busies s c (Some t) ran = HadTask t ran _ refl
+
+only_busies : (s : State) (c : ℕ) (p : Option ℕ) (ran : Bool) (r : Stepped) → TellsBusy s c p ran r → r ≡ tells_busy s c p ran
+unfolding tells_busy tells_idle
+only_busies s c None false r (WasAtRest _ h) = only_calls_if_there s callback.UpdateIdle (two_numbers c 0) 0 c r h
+only_busies s c None true r (HadRun _ k) = k
+only_busies s c (Some t) ran r (HadTask _ _ _ k) = k
+
+gives_way : (s : State) (c : ℕ) (p : Option ℕ) (ran : Bool) → MakesWay s c p ran (makes_way s c p ran)
+unfolding makes_way
+gives_way s c p ran = let b = tells_busy s c p ran in record { told = b; tells = busies s c p ran; left = leave b.state c p; leaves = leaves b.state c p; all = refl }
+
+only_gives_way : (s : State) (c : ℕ) (p : Option ℕ) (ran : Bool) (r : Stepped) → MakesWay s c p ran r → r ≡ makes_way s c p ran
+unfolding makes_way
+only_gives_way s c p ran r h =
+    h.all ∙ ap (λ x. one_after_other h.told x) (only_leaves h.told.state c p h.left h.leaves) ∙ ap (λ (x : Stepped). one_after_other x (leave x.state c p)) (only_busies s c p ran h.told h.tells)
+
 abbrev picked_as : State → ℕ → Option ℕ → Bool → Option ℕ → Stepped
-picked_as s c p ran o = let l = leave (refilled s o) c p in one_after_other l (start_picked_or_cycle o l.state c ran)
+picked_as s c p ran o = let l = makes_way (refilled s o) c p ran in one_after_other l (start_picked_or_cycle o l.state c ran)
 
 abbrev chosen_as : Option ℕ → Bool → Option ℕ
 chosen_as o b = if b then o else None
@@ -478,19 +524,19 @@ local_as s c t ran b = if b then start_picked s c t else start_or_cycle s c ran
 picks : (s : State) (c : ℕ) (p : Option ℕ) (ran : Bool) → 0 < local_len s.world c → Picks s c p ran (pick s c p ran)
 picks s c p ran some = subst (λ r. Picks s c p ran r) (picked_is s c p ran) (go (is_by_linux s) refl (front_of s.world.queues (local_on c)) refl)
   where
-    at : (t : ℕ) → is_by_linux s ≡ true → front_of s.world.queues (local_on c) ≡ Some t → (b : Bool) → is_local (leave (picking s t) c p).state c t ≡ b
-        → Picks s c p ran (one_after_other (leave (picking s t) c p) (local_as (leave (picking s t) c p).state c t ran b))
+    at : (t : ℕ) → is_by_linux s ≡ true → front_of s.world.queues (local_on c) ≡ Some t → (b : Bool) → is_local (makes_way (picking s t) c p ran).state c t ≡ b
+        → Picks s c p ran (one_after_other (makes_way (picking s t) c p ran) (local_as (makes_way (picking s t) c p ran).state c t ran b))
     at t e f true x =
-        let l = leave (picking s t) c p in
-        Picks_before t l (start_picked l.state c t) e f (leaves (picking s t) c p) (in_is (local_on c) (entry_of l.state.world.queues t) x) (starts_picked l.state c t) refl
+        let l = makes_way (picking s t) c p ran in
+        Picks_before t l (start_picked l.state c t) e f (gives_way (picking s t) c p ran) (in_is (local_on c) (entry_of l.state.world.queues t) x) (starts_picked l.state c t) refl
     at t e f false x =
-        let l = leave (picking s t) c p in
-        Picks_anew t l (start_or_cycle l.state c ran) e f (leaves (picking s t) c p) (λ y. not_so (is_local l.state c t) x (in_of (local_on c) (entry_of l.state.world.queues t) y)) (starts_or_anew l.state c ran) refl
+        let l = makes_way (picking s t) c p ran in
+        Picks_anew t l (start_or_cycle l.state c ran) e f (gives_way (picking s t) c p ran) (λ y. not_so (is_local l.state c t) x (in_of (local_on c) (entry_of l.state.world.queues t) y)) (starts_or_anew l.state c ran) refl
 
     go : (b : Bool) → is_by_linux s ≡ b → (o : Option ℕ) → front_of s.world.queues (local_on c) ≡ o → Picks s c p ran (picked_as s c p ran (chosen_as o b))
-    go false e o f = let l = leave s c p in Picks_then l (start_or_cycle l.state c ran) e (leaves s c p) (starts_or_anew l.state c ran) refl
+    go false e o f = let l = makes_way s c p ran in Picks_then l (start_or_cycle l.state c ran) e (gives_way s c p ran) (starts_or_anew l.state c ran) refl
     go true e None f = absurd (omega (arith, some, no_front_is_empty s.world.queues (local_on c) f))
-    go true e (Some t) f = at t e f (is_local (leave (picking s t) c p).state c t) refl
+    go true e (Some t) f = at t e f (is_local (makes_way (picking s t) c p ran).state c t) refl
 
 start_is : (s : State) (c : ℕ) (ran : Bool) → 0 < local_len s.world c → start s c ≡ start_or_cycle s c ran
 unfolding start_or_cycle
@@ -514,7 +560,7 @@ left_then l c t ran b = one_after_other l (local_as l.state c t ran b)
 
 -- once who is picked is known
 picked_at : (s : State) (c : ℕ) (p : Option ℕ) (ran : Bool) (t : ℕ) (l : Stepped) (b : Bool)
-    → is_by_linux s ≡ true → front_of s.world.queues (local_on c) ≡ Some t → l ≡ leave (picking s t) c p → is_local l.state c t ≡ b
+    → is_by_linux s ≡ true → front_of s.world.queues (local_on c) ≡ Some t → l ≡ makes_way (picking s t) c p ran → is_local l.state c t ≡ b
     → left_then l c t ran b ≡ pick s c p ran
 picked_at s c p ran t l b e f k x =
     ap (λ y. left_then l c t ran y) (sym x) ∙ ap (λ (y : Stepped). left_then y c t ran (is_local y.state c t)) k
@@ -522,14 +568,14 @@ picked_at s c p ran t l b e f k x =
 
 only_picks : (s : State) (c : ℕ) (p : Option ℕ) (ran : Bool) (r : Stepped) → Picks s c p ran r → r ≡ pick s c p ran
 only_picks s c p ran r (Picks_then l x e h y k) =
-    k ∙ ap (λ z. one_after_other l z) (only_starts_or_anew l.state c ran x y) ∙ ap (λ (z : Stepped). one_after_other z (start_or_cycle z.state c ran)) (only_leaves s c p l h)
+    k ∙ ap (λ z. one_after_other l z) (only_starts_or_anew l.state c ran x y) ∙ ap (λ (z : Stepped). one_after_other z (start_or_cycle z.state c ran)) (only_gives_way s c p ran l h)
     ∙ ap (λ b. picked_as s c p ran (chosen_as (front_of s.world.queues (local_on c)) b)) (sym e) ∙ picked_is s c p ran
 only_picks s c p ran r (Picks_before t l x e f h q y k) =
     k ∙ ap (λ z. one_after_other l z) (only_starts_picked l.state c t x y)
-    ∙ picked_at s c p ran t l true e f (only_leaves (picking s t) c p l h) (in_of (local_on c) (entry_of l.state.world.queues t) q)
+    ∙ picked_at s c p ran t l true e f (only_gives_way (picking s t) c p ran l h) (in_of (local_on c) (entry_of l.state.world.queues t) q)
 only_picks s c p ran r (Picks_anew t l x e f h n y k) =
     k ∙ ap (λ z. one_after_other l z) (only_starts_or_anew l.state c ran x y)
-    ∙ picked_at s c p ran t l false e f (only_leaves (picking s t) c p l h) (false_from (is_local l.state c t) (λ z. n (in_is (local_on c) (entry_of l.state.world.queues t) z)))
+    ∙ picked_at s c p ran t l false e f (only_gives_way (picking s t) c p ran l h) (false_from (is_local l.state c t) (λ z. n (in_is (local_on c) (entry_of l.state.world.queues t) z)))
 
 abbrev pick_if : State → ℕ → Option ℕ → Bool → Bool → Stepped
 pick_if s c p ran b = if b then pick s c p ran else rest s c p ran
@@ -656,6 +702,88 @@ unfolding look
 only_looks s c p ran r (Of_policy e h) = only_seeks s c p ran r h ∙ ap (λ o. looked_as s c p ran o) (sym e)
 only_looks s c p ran r (Of_builtin x e h) = only_cycles_builtin s c p ran r h ∙ ap (λ o. looked_as s c p ran o) (sym e)
 
+-- ---- a processor falls idle
+
+abbrev over_at : Stepped → WorldState → Stepped
+over_at x w = record { state = with_world x.state w; notes = x.notes; calls = x.calls }
+
+abbrev anew_from : State → ℕ → WorldState → Stepped
+anew_from s c w = let x = builtin_cycle (with_world s w) c None true in over_at x (with_cycling x.state.world None)
+
+abbrev idle_as : State → ℕ → Option Eject → Stepped
+idle_as s c x = if is_some x then anew_from s c (with_cycling s.world (Some c)) else noting s (with_cycling s.world None) (note.Idle c)
+
+stays_idle : (s : State) (c : ℕ) → StaysIdle s c (idle_or_anew s c)
+unfolding idle_or_anew notes_idle
+stays_idle s c = go s.world.ejected refl
+  where
+    f : Stepped
+    f = builtin_cycle (cycling s (Some c)) c None true
+
+    go : (x : Option Eject) → s.world.ejected ≡ x → StaysIdle s c (idle_as s c x)
+    go None e = IsNoted (with_cycling s.world None) e (ends_cycle s.world) refl
+    go (Some x) e =
+        CyclesAnew x (with_cycling s.world (Some c)) (with_cycling f.state.world None) f e (begins_cycle s.world c) (cycles_builtin (cycling s (Some c)) c None true) (ends_cycle f.state.world) refl
+
+only_stays_idle : (s : State) (c : ℕ) (r : Stepped) → StaysIdle s c r → r ≡ idle_or_anew s c
+unfolding idle_or_anew notes_idle
+only_stays_idle s c r (IsNoted w d h k) = k ∙ ap (λ v. noting s v (note.Idle c)) (only_ends_cycle s.world w h) ∙ ap (λ x. idle_as s c x) (sym d)
+only_stays_idle s c r (CyclesAnew x b w f d hb hf hw k) =
+    k ∙ ap (λ v. over_at f v) (only_ends_cycle f.state.world w hw) ∙ ap (λ (y : Stepped). over_at y (with_cycling y.state.world None)) (only_cycles_builtin (with_world s b) c None true f hf)
+    ∙ ap (λ v. anew_from s c v) (only_begins_cycle s.world c b hb) ∙ ap (λ y. idle_as s c y) (sym d)
+
+abbrev idle_told : State → ℕ → Stepped
+idle_told s c = call_by_linux (with_world s (out_of_cycle s.world)) callback.UpdateIdle (two_numbers c 1) 0 c
+
+hears_of_idle : (s : State) (c : ℕ) → HearsOfIdle s c (becomes_idle s c)
+unfolding becomes_idle tells_idle
+hears_of_idle s c = record {
+  told = idle_told s c;
+  tells = calls_if_there (with_world s (out_of_cycle s.world)) callback.UpdateIdle (two_numbers c 1) 0 c;
+  done = idle_or_anew (idle_told s c).state c;
+  stays_so = stays_idle (idle_told s c).state c;
+  all = refl;
+}
+
+only_hears_of_idle : (s : State) (c : ℕ) (r : Stepped) → HearsOfIdle s c r → r ≡ becomes_idle s c
+unfolding becomes_idle tells_idle
+only_hears_of_idle s c r h =
+    h.all ∙ ap (λ x. one_after_other h.told x) (only_stays_idle h.told.state c h.done h.stays_so)
+    ∙ ap (λ (x : Stepped). one_after_other x (idle_or_anew x.state c)) (only_calls_if_there (with_world s (out_of_cycle s.world)) callback.UpdateIdle (two_numbers c 1) 0 c h.told h.tells)
+
+no_task : (o : Option ℕ) → is_none o ≡ true → o ≡ None
+no_task None e = refl
+no_task (Some t) e = absurd (cc)
+
+falls_is : (s : State) (c : ℕ) (ran : Bool) → falls_idle s c ran ≡ true → FallsIdle s c ran
+unfolding falls_idle
+falls_is s c ran e =
+    let x = both_true ran (hears_idle s && is_none (running s.world c)) e in
+    let y = both_true (hears_idle s) (is_none (running s.world c)) x.1 in
+    record { hears = hears_idle_is s y.0; had_task = x.0; has_none = no_task (running s.world c) y.1 }
+
+falls_of : (s : State) (c : ℕ) (ran : Bool) → FallsIdle s c ran → falls_idle s c ran ≡ true
+unfolding falls_idle
+falls_of s c ran h =
+    and_true ran (hears_idle s && is_none (running s.world c)) h.had_task (and_true (hears_idle s) (is_none (running s.world c)) (hears_idle_of s h.hears) (ap (λ o. is_none o) h.has_none))
+
+abbrev concluded_as_so : State → ℕ → Bool → Stepped
+concluded_as_so s c b = if b then becomes_idle s c else silent s (with_cycling s.world None)
+
+concludes : (s : State) (c : ℕ) (ran : Bool) → Concludes s c ran (concluded s c ran)
+unfolding concluded
+concludes s c ran = go (falls_idle s c ran) refl
+  where
+    go : (b : Bool) → falls_idle s c ran ≡ b → Concludes s c ran (concluded_as_so s c b)
+    go true e = FellIdle (falls_is s c ran e) (hears_of_idle s c)
+    go false e = HasEnded (with_cycling s.world None) (λ h. not_so (falls_idle s c ran) e (falls_of s c ran h)) (ends_cycle s.world) refl
+
+only_concludes : (s : State) (c : ℕ) (ran : Bool) (r : Stepped) → Concludes s c ran r → r ≡ concluded s c ran
+unfolding concluded
+only_concludes s c ran r (FellIdle f h) = only_hears_of_idle s c r h ∙ ap (λ b. concluded_as_so s c b) (sym (falls_of s c ran f))
+only_concludes s c ran r (HasEnded w n h k) =
+    k ∙ ap (λ v. silent s v) (only_ends_cycle s.world w h) ∙ ap (λ b. concluded_as_so s c b) (sym (false_from (falls_idle s c ran) (λ e. n (falls_is s c ran e))))
+
 -- a cycle goes as it is computed
 pub cycles : (s : State) (c : ℕ) (p : Option ℕ) (ran : Bool) → Cycles s c p ran (cycle s c p ran)
 unfolding cycle
@@ -664,18 +792,18 @@ cycles s c p ran = record {
   begins = begins_cycle s.world c;
   found = look (cycling s (Some c)) c p ran;
   looks = looks (cycling s (Some c)) c p ran;
-  ended = with_cycling (look (cycling s (Some c)) c p ran).state.world None;
-  ends = ends_cycle (look (cycling s (Some c)) c p ran).state.world;
+  ended = concluded (look (cycling s (Some c)) c p ran).state c ran;
+  concludes = concludes (look (cycling s (Some c)) c p ran).state c ran;
   all = refl;
 }
 
-abbrev over_at : Stepped → WorldState → Stepped
-over_at x w = record { state = with_world x.state w; notes = x.notes; calls = x.calls }
+abbrev cycled : ℕ → Bool → Stepped → Stepped
+cycled c ran x = one_after_other x (concluded x.state c ran)
 
 -- and in no other way
 pub only_cycles : (s : State) (c : ℕ) (p : Option ℕ) (ran : Bool) (r : Stepped) → Cycles s c p ran r → r ≡ cycle s c p ran
 unfolding cycle
 only_cycles s c p ran r h =
-    h.all ∙ ap (λ w. over_at h.found w) (only_ends_cycle h.found.state.world h.ended h.ends)
-    ∙ ap (λ (x : Stepped). over_at x (with_cycling x.state.world None)) (only_looks (with_world s h.begun) c p ran h.found h.looks)
-    ∙ ap (λ w. let x = look (with_world s w) c p ran in over_at x (with_cycling x.state.world None)) (only_begins_cycle s.world c h.begun h.begins)
+    h.all ∙ ap (λ x. one_after_other h.found x) (only_concludes h.found.state c ran h.ended h.concludes)
+    ∙ ap (λ (x : Stepped). cycled c ran x) (only_looks (with_world s h.begun) c p ran h.found h.looks)
+    ∙ ap (λ w. cycled c ran (look (with_world s w) c p ran)) (only_begins_cycle s.world c h.begun h.begins)

@@ -15,11 +15,11 @@ use Rattle.scx_sched_world.specs.World as world
 use Rattle.scx_sched_world.specs.World.{WorldState, nothing_passes, or_switch, with_switch, with_cycling, with_slept, with_waker, current_in, current, here, task_at, running, is_idle}
 use Rattle.scx_sched_world.specs.Tasks.{homed, local_len, after_switch}
 use Rattle.scx_sched_machine.specs.Steps.{State, Stepped, with_world, stays, one_after_other, is_by_linux, kicked, kicked_if_idle}
-use Rattle.scx_sched_machine.specs.Cycle.{keeps_slice, asks_again, switched, give_up}
+use Rattle.scx_sched_machine.specs.Cycle.{keeps_slice, asks_again, switched, give_up, hears_idle}
 use Rattle.scx_sched_machine.specs.Policy.{program_of}
 use Rattle.scx_sched_machine.specs.Callbacks.{call_back, call_by_linux, one_task}
 use Rattle.scx_sched_machine.specs.Events.{from_waker, told_of_sleep, is_tick_time, ends_slices, hears_tick, tick_heard}
-use Rattle.scx_sched_rules.specs.Differences.{with_home_at, Homes, StaysAtHome, MovesHome, IsCurrent, NoSwitch, SwitchesHere, SwitchesElsewhere, BeginsSwitch, NoSwitchByPlain, IsSwitching, Begins, BeginsCycle, BeginsByPlain, BeginsByLinux, EndsCycle, EndsAsByPlain, EndsAsByLinux, IsHere, WokenFrom, AtHand, TellsWaker, NoWaker, HasWaker, CallsIfThere, IsPlain, IsAbsent, IsThere, IsTickTime, EachMs, AtTick, HearsTick, NoTickByPlain, HasNoTick, BetweenTicks, IsCalled, KeepsSlice, HasLeft, GivesWay, NoTask, ByPlain, UsedUp, Switches, SwitchesByPlain, SwitchesExactly, TakesTime, EndsSlices, EndsByPlain, EndsAtTick, TellsSleep, TellsNobody, Tells, IsToAsk, GivesUp, GivesUpByPlain, HasAsked, LooksAgain, LooksIfIdle, LooksByPlain, IsBusy, Looks}
+use Rattle.scx_sched_rules.specs.Differences.{with_home_at, Homes, StaysAtHome, MovesHome, IsCurrent, NoSwitch, SwitchesHere, SwitchesElsewhere, BeginsSwitch, NoSwitchByPlain, IsSwitching, Begins, BeginsCycle, BeginsByPlain, BeginsByLinux, EndsCycle, EndsAsByPlain, EndsAsByLinux, IsHere, WokenFrom, AtHand, TellsWaker, NoWaker, HasWaker, CallsIfThere, IsPlain, IsAbsent, IsThere, IsTickTime, EachMs, AtTick, HearsTick, NoTickByPlain, HasNoTick, BetweenTicks, IsCalled, HearsIdle, HasUpdateIdle, KeepsSlice, HasLeft, GivesWay, NoTask, ByPlain, UsedUp, Switches, SwitchesByPlain, SwitchesExactly, TakesTime, EndsSlices, EndsByPlain, EndsAtTick, TellsSleep, TellsNobody, Tells, IsToAsk, GivesUp, GivesUpByPlain, HasAsked, LooksAgain, LooksIfIdle, LooksByPlain, IsBusy, Looks}
 use Rattle.scx_sched_rules.specs.Laws.{CyclesEndSwitches, CyclesKeepCurrent}
 
 -- ---- Booleans
@@ -375,6 +375,24 @@ only_hears s c t r h = go h
     go (HasNoTick e k) = k ∙ ap (λ b. done b) (sym (false_and (x && y) z (and_false x y (ap (λ o. is_some o) e))))
     go (BetweenTicks n k) = k ∙ ap (λ b. done b) (sym (and_false (x && y) z (false_from z (λ m. n (tick_time_is s m)))))
     go (IsCalled p e h m k) = k ∙ ap (λ b. done b) (sym (and_true (x && y) z (and_true x y e (ap (λ o. is_some o) h)) (tick_time_of s m)))
+
+pub hears_idle_is : (s : State) → hears_idle s ≡ true → HearsIdle s
+unfolding hears_idle
+hears_idle_is s e = let x = both_true (is_by_linux s) (is_some s.policy.callbacks.update_idle) e in go s.policy.callbacks.update_idle refl x.0 x.1
+  where
+    go : (o : Option VerifiedProgram) → s.policy.callbacks.update_idle ≡ o → is_by_linux s ≡ true → is_some o ≡ true → HearsIdle s
+    go None k y z = absurd (cc)
+    go (Some p) k y z = HasUpdateIdle p y k
+
+pub hears_idle_of : (s : State) → HearsIdle s → hears_idle s ≡ true
+unfolding hears_idle
+hears_idle_of s (HasUpdateIdle p e k) = and_true (is_by_linux s) (is_some s.policy.callbacks.update_idle) e (ap (λ o. is_some o) k)
+
+pub unheard_is : (s : State) → hears_idle s ≡ false → ¬ HearsIdle s
+unheard_is s e h = not_so (hears_idle s) e (hears_idle_of s h)
+
+pub unheard_of : (s : State) → ¬ HearsIdle s → hears_idle s ≡ false
+unheard_of s n = false_from (hears_idle s) (λ e. n (hears_idle_is s e))
 
 -- ---- dispatch
 

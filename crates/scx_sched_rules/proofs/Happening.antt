@@ -3,7 +3,9 @@ use Rattle.std.proofs.Common.{◌≡◌, ℕ, zero, suc, ◌<◌, cond, Bool, tr
 use Rattle.std.proofs.lemmas.Bool.{cases_eq, eq-eqb, ne_eqb}
 use Rattle.std.proofs.lemmas.Bool.Decides.{nat_tests}
 use Rattle.scx_dsq.specs.Queues.{len_of, front_of, behind_of}
-use Rattle.scx_weights.specs.Hierarchy.{Hierarchy, with_weight}
+use Rattle.scx_weights.specs.Hierarchy.{Hierarchy, with_weight, with_own_weight}
+use Rattle.scx_weights.specs.declared.error.TreeError.{TreeError}
+use Rattle.scx_weights.specs.declared.error.TreeError.TheVariants.{UnknownTask, OutOfRange}
 use Rattle.scx_weights.specs.Refusals.{max_weight, is_outside, weight_fault}
 use Rattle.scx_isa_semantics.specs.declared.callbacks.Callback.TheVariants as callback
 use Rattle.scx_sched_world.specs.declared.eject.Eject.{Eject}
@@ -11,30 +13,35 @@ use Rattle.scx_sched_world.specs.declared.eject.Eject.TheVariants as cause
 use Rattle.scx_sched_world.specs.declared.eject.Cause.{Cause}
 use Rattle.scx_sched_world.specs.declared.notes.What.TheVariants as note
 use Rattle.scx_sched_world.specs.Ids.{parked_queue}
-use Rattle.scx_sched_world.specs.World.{WorldState, are_linux, is_throttled, with_tree, with_switch, task_at, running, cpu_of, is_idle, choice, after_claim, note_now, at_callback}
-use Rattle.scx_sched_world.specs.Tasks.{homed, to_local, let_go, after_reweigh}
+use Rattle.scx_sched_world.specs.World.{WorldState, are_linux, is_throttled, with_tree, with_switch, task_at, waits, running, cpu_of, is_idle, choice, after_claim, note_now, at_callback}
+use Rattle.scx_sched_world.specs.Tasks.{homed, to_local, let_go, after_reweigh, after_own_weight}
 use Rattle.scx_sched_world.specs.Waits.{first_overdue}
-use Rattle.scx_sched_machine.specs.declared.events.Event.TheVariants.{Wake, Sleep, Tick, Clock, SetWeight}
+use Rattle.scx_sched_machine.specs.declared.events.Event.TheVariants.{Wake, Sleep, Tick, Clock, SetWeight, SetTaskWeight}
 use Rattle.scx_sched_world.specs.Helpers.{with_insert}
 use Rattle.scx_sched_machine.specs.Steps.{State, Stepped, with_world, stays, after, one_after_other, is_by_linux, kicked_if_idle}
 use Rattle.scx_sched_machine.specs.Ejecting.{ejected_for}
-use Rattle.scx_sched_machine.specs.Callbacks.{call_ending, after_callback, cause_of, unless_ejected, acting, call_back, call_by_linux, answered_by, task_cpu_and_0, task_and_number}
+use Rattle.scx_sched_machine.specs.Callbacks.{call_ending, after_callback, cause_of, unless_ejected, acting, call_back, call_by_linux, answered_by, one_task, task_cpu_and_0, task_and_number}
 use Rattle.scx_sched_machine.specs.Put.{enters, put}
 use Rattle.scx_sched_machine.specs.Parking.{park, let_go_one, let_go_from, let_all_go}
 use Rattle.scx_sched_machine.specs.Cycle.{after_stopping, cycle}
 use Rattle.scx_sched_machine.specs.declared.events.Refused.TheVariants.{UnknownGroup, BadWeight}
 use Rattle.scx_sched_machine.specs.declared.events.Event.{Event}
 use Rattle.scx_sched_machine.specs.Rounds.{with_rounds}
-use Rattle.scx_sched_machine.specs.Events.{refusal, answered_cpu, target, insert_or_put, wake_target, settle, inserted_by_choice, chosen, ask_target, asks_target, select, comes_to, while_in_force, told_runnable, from_waker, wake, told_of_sleep, falls_asleep, looks_after_sleep, leaves_cpu, sleep_from_cpu, sleep_from, sleep, throttle, ends_slices, expire, use_up, tick_heard, count_down, tick_idle, tick_of, tick, overdue, eject_if_stalled, clock, own_step}
+use Rattle.scx_sched_machine.specs.Events.{refusal, answered_cpu, target, insert_or_put, wake_target, settle, inserted_by_choice, chosen, ask_target, asks_target, select, comes_to, while_in_force, told_runnable, from_waker, wake, told_of_sleep, falls_asleep, looks_after_sleep, leaves_cpu, leaves_queue, sleep_from_cpu, sleep_from_queue, sleep_from, sleep, throttle, ends_slices, expire, use_up, tick_heard, count_down, tick_idle, tick_of, tick, overdue, eject_if_stalled, watch, timers_and_watchdog, clock, restore_flag, change_flags, takes_weight, changes_weight, reweigh_running, reweigh_waiting, reweigh_off_cpu, reweigh_at, reweigh_by_linux, reweigh, own_step}
+use Rattle.scx_sched_machine.specs.Firing.{fire_all}
+use Rattle.scx_sched_rules.specs.Custody.{LeavesQueue}
 use Rattle.scx_sched_rules.specs.Cycles.{noting, silent, gone_off, parking}
 use Rattle.scx_vm.specs.Programs.{VerifiedProgram}
 use Rattle.scx_sched_world.specs.declared.call.Insert.{Insert}
-use Rattle.scx_sched_rules.specs.Events.{after_waking, select_called, select_answered, IsTarget, Is_ejected, NoCallback, Named, InsertsByChoice, AsByPlain, HasCallback, NoneChosen, IsChosen, Selects, Asks_by_plain, Asks_of_several, Is_only_one, TellsRunnable, TellsNobody, TellsPolicy, TellsLast, Settles, WasInserted, WasPut, is_woken, Rouses, IdleTarget, BusyTarget, ByLinux, Wakes, LeavesCpu, asleep, FallsAsleep, gone_out, Sleeps, FromQueue, FromCpu, ran_on, charged, UsesUp, IsThrottled, RunsOn, RunsOut, RunsToTick, Ticks, NobodyRuns, SleepsOn, Runs, after_clock, LetsGo, Enough, NoMore, StaysParked, IsLetGo, LetsAllGo, Watches, Is_out, In_time, Too_late, Ages, Does}
+use Rattle.scx_sched_rules.specs.Events.{after_waking, select_called, select_answered, IsTarget, Is_ejected, NoCallback, Named, InsertsByChoice, AsByPlain, HasCallback, NoneChosen, IsChosen, Selects, Asks_by_plain, Asks_of_several, Is_only_one, TellsRunnable, TellsNobody, TellsPolicy, TellsLast, Settles, WasInserted, WasPut, is_woken, Rouses, IdleTarget, BusyTarget, ByLinux, Wakes, LeavesCpu, asleep, FallsAsleep, Sleeps, FromQueue, FromCpu, ran_on, charged, UsesUp, IsThrottled, RunsOn, RunsOut, RunsToTick, Ticks, NobodyRuns, SleepsOn, Runs, after_clock, LetsGo, Enough, NoMore, StaysParked, IsLetGo, LetsAllGo, Watches, Is_out, In_time, Too_late, Ages, SetsWeight, IsSet, HasNoHome, IsOutside, TakesWeight, ChangesWeight, Reweighs, WhileItRuns, WhileItWaits, WhileItRests, on_first_cpu, Weighs, Weighs_by_plain, Weighs_by_linux, Does}
 use Rattle.scx_sched_rules.specs.Differences.{EndsSlices}
 use Rattle.scx_sched_rules.specs.Helpers.{IsChoice, with_claim, MakesClaim}
 use Rattle.scx_sched_rules.specs.Laws.{RulesAllowEvents, RulesAllowEventsOnly}
 use Rattle.scx_sched_rules.proofs.Choosing.{is_choice, only_choice, is_default, only_default, only_claims}
 use Rattle.scx_sched_rules.proofs.Differing.{and_false, false_from, not_so, homes, only_homes, begins_switch, only_begins_switch, tells_waker, only_tells_waker, calls_if_there, only_calls_if_there, hears, only_hears, ends_is, ends_of, tells_sleep, only_tells_sleep, looks_if_idle, only_looks_if_idle}
+use Rattle.scx_sched_rules.proofs.Departing.{departs, only_departs}
+use Rattle.scx_sched_rules.proofs.Ringing.{fires_every, only_fires_every}
+use Rattle.scx_sched_rules.proofs.Refusing.{good, bad, is_weight}
 use Rattle.scx_sched_rules.proofs.Rounding.{is_followed, only_followed}
 use Rattle.scx_sched_rules.proofs.Ejecting.{ejects, only_ejects, no_cause, NamesCpu, names_cpu}
 use Rattle.scx_sched_rules.proofs.Waiting.{is_first, nobody_late, only_first, only_nobody}
@@ -408,11 +415,14 @@ abbrev slept : State → ℕ → Stepped → Stepped → Stepped → Stepped
 slept s t l g x = sleep_note s t (one_after_other l (one_after_other g x))
 
 sleeps : (s : State) (t : ℕ) → Sleeps s t (sleep s t)
-unfolding sleep sleep_from_cpu looks_after_sleep
+unfolding sleep sleep_from_queue sleep_from_cpu looks_after_sleep
 sleeps s t = go (cpu_of s.world t) refl
   where
     go : (o : Option ℕ) → cpu_of s.world t ≡ o → Sleeps s t (sleep_note s t (sleep_from o s t))
-    go None e = FromQueue (falls_asleep (gone_out s t) t (task_at s.world t).prev_cpu) e (falls (gone_out s t) t (task_at s.world t).prev_cpu) refl
+    go None e =
+        let d = (task_at s.world t).prev_cpu in
+        let l = leaves_queue s t d 1 in
+        FromQueue l (falls_asleep l.state t d) e (departs s t d 1) (falls l.state t d) refl
     go (Some c) e =
         let l = leaves_cpu s c t 0 in
         let g = falls_asleep l.state t c in
@@ -420,8 +430,10 @@ sleeps s t = go (cpu_of s.world t) refl
         FromCpu c l g (cycle v c None true) v e (leaves s c t 0) (falls l.state t c) (tells_sleep g.state t) (cycles v c None true) refl
 
 only_sleeps : (s : State) (t : ℕ) (r : Stepped) → Sleeps s t r → r ≡ sleep s t
-unfolding sleep sleep_from_cpu looks_after_sleep
-only_sleeps s t r (FromQueue g e h k) = rw e (k ∙ ap (λ z. sleep_note s t z) (only_falls (gone_out s t) t (task_at s.world t).prev_cpu g h))
+unfolding sleep sleep_from_queue sleep_from_cpu looks_after_sleep
+only_sleeps s t r (FromQueue l g e h f k) =
+    let d = (task_at s.world t).prev_cpu in
+    rw e (k ∙ ap (λ z. sleep_note s t (one_after_other l z)) (only_falls l.state t d g f) ∙ ap (λ (z : Stepped). sleep_note s t (one_after_other z (falls_asleep z.state t d))) (only_departs s t d 1 l h))
 only_sleeps s t r (FromCpu c l g found v e h f w y k) =
     rw e (k ∙ ap (λ z. slept s t l g z) (only_cycles v c None true found y) ∙ ap (λ (z : State). slept s t l g (cycle z c None true)) (only_tells_sleep g.state t v w)
     ∙ ap (λ (z : Stepped). slept s t l z (cycle (told_of_sleep z.state t) c None true)) (only_falls l.state t c g f)
@@ -571,15 +583,199 @@ only_watches s r (Is_out x d k) = k ∙ watched_at s (Some x) (first_overdue s.w
 only_watches s r (In_time d nobody k) = k ∙ watched_at s None None d (only_nobody s.world s.policy.timeout_ms nobody)
 only_watches s r (Too_late t d first h) = only_ejects s (cause.Stall t s.world.clock) r h ∙ watched_at s None (Some t) d (only_first s.world s.policy.timeout_ms t first)
 
+abbrev watched : State → Stepped
+watched s = eject_if_stalled (overdue s) s
+
 ages : (s : State) → Ages s (clock s)
-unfolding clock
-ages s = record { gone = let_all_go (after_clock s); lets_go = lets_all_go (after_clock s); watched = eject_if_stalled (overdue (let_all_go (after_clock s)).state) (let_all_go (after_clock s)).state; watches = watches (let_all_go (after_clock s)).state; all = refl }
+unfolding clock timers_and_watchdog watch
+ages s = record { gone = g; lets_go = lets_all_go (after_clock s); fired = f; fires = fires_every g.state; watched = watched f.state; watches = watches f.state; all = refl }
+  where
+    g : Stepped
+    g = let_all_go (after_clock s)
+
+    f : Stepped
+    f = fire_all g.state
+
+abbrev fired_then : State → Stepped
+fired_then s = let f = fire_all s in one_after_other f (watched f.state)
 
 only_ages : (s : State) (r : Stepped) → Ages s r → r ≡ clock s
-unfolding clock
+unfolding clock timers_and_watchdog watch
 only_ages s r h =
-    h.all ∙ ap (λ x. one_after_other h.gone x) (only_watches h.gone.state h.watched h.watches)
-    ∙ ap (λ (x : Stepped). one_after_other x (eject_if_stalled (overdue x.state) x.state)) (only_lets_all_go (after_clock s) h.gone h.lets_go)
+    h.all ∙ ap (λ x. one_after_other h.gone (one_after_other h.fired x)) (only_watches h.fired.state h.watched h.watches)
+    ∙ ap (λ (x : Stepped). one_after_other h.gone (one_after_other x (watched x.state))) (only_fires_every h.gone.state h.fired h.fires)
+    ∙ ap (λ (x : Stepped). one_after_other x (fired_then x.state)) (only_lets_all_go (after_clock s) h.gone h.lets_go)
+
+-- ---- a task's own weight
+
+abbrev own_fault_as : Bool → Bool → Option TreeError
+own_fault_as a b = if a then Some UnknownTask else (if b then Some OutOfRange else None)
+
+abbrev weighed_as : WorldState → ℕ → ℕ → Bool → Bool → WorldState
+weighed_as w t x a b = if is_none (own_fault_as a b) then with_tree w (with_own_weight w.tree t x) else w
+
+sets_weight : (w : WorldState) (t x : ℕ) → SetsWeight w t x (after_own_weight w t x)
+sets_weight w t x = go (nat_le (length w.tree.homes) t) (is_outside max_weight x) refl refl
+  where
+    go : (a b : Bool) → nat_le (length w.tree.homes) t ≡ a → is_outside max_weight x ≡ b → SetsWeight w t x (weighed_as w t x a b)
+    go true b y z = HasNoHome (grind (arith, nat_tests, y)) refl
+    go false true y z = IsOutside (λ h. not_so (is_outside max_weight x) (good x h) z) refl
+    go false false y z = IsSet (grind (arith, nat_tests, y)) (is_weight x z) refl
+
+weighed_is : (w : WorldState) (t x : ℕ) (a b : Bool) → nat_le (length w.tree.homes) t ≡ a → is_outside max_weight x ≡ b → weighed_as w t x a b ≡ after_own_weight w t x
+weighed_is w t x a b y z = ap (λ k. weighed_as w t x a k) (sym z) ∙ ap (λ k. weighed_as w t x k (is_outside max_weight x)) (sym y)
+
+outside_none : (w : WorldState) (t x : ℕ) (a : Bool) → w ≡ weighed_as w t x a true
+outside_none w t x true = refl
+outside_none w t x false = refl
+
+only_sets_weight : (w : WorldState) (t x : ℕ) (v : WorldState) → SetsWeight w t x v → v ≡ after_own_weight w t x
+only_sets_weight w t x v (IsSet l h k) = let y : nat_le (length w.tree.homes) t ≡ false = grind (arith, nat_tests, l) in k ∙ weighed_is w t x false false y (good x h)
+only_sets_weight w t x v (HasNoHome l k) = let y : nat_le (length w.tree.homes) t ≡ true = grind (arith, nat_tests, l) in k ∙ weighed_is w t x true (is_outside max_weight x) y refl
+only_sets_weight w t x v (IsOutside n k) =
+    k ∙ outside_none w t x (nat_le (length w.tree.homes) t) ∙ weighed_is w t x (nat_le (length w.tree.homes) t) true refl (bad x n)
+
+takes : (s : State) (t c x : ℕ) → TakesWeight s t c x (takes_weight s t c x)
+unfolding takes_weight
+takes s t c x = record {
+  weighed = after_own_weight s.world t x;
+  sets = sets_weight s.world t x;
+  hears = calls_if_there (with_world s (after_own_weight s.world t x)) callback.SetWeight (task_and_number t x) t c;
+}
+
+abbrev heard_weight : State → ℕ → ℕ → ℕ → WorldState → Stepped
+heard_weight s t c x w = call_by_linux (with_world s w) callback.SetWeight (task_and_number t x) t c
+
+only_takes : (s : State) (t c x : ℕ) (r : Stepped) → TakesWeight s t c x r → r ≡ takes_weight s t c x
+unfolding takes_weight
+only_takes s t c x r h =
+    only_calls_if_there (with_world s h.weighed) callback.SetWeight (task_and_number t x) t c r h.hears ∙ ap (λ w. heard_weight s t c x w) (only_sets_weight s.world t x h.weighed h.sets)
+
+abbrev rested : State → ℕ → ℕ → Stepped
+rested s t c = call_by_linux s callback.Quiescent (task_and_number t change_flags) t c
+
+abbrev roused : State → ℕ → ℕ → Stepped
+roused s t c = call_by_linux s callback.Runnable (task_and_number t restore_flag) t c
+
+changes : (s : State) (t c x : ℕ) → ChangesWeight s t c x (changes_weight s t c x)
+unfolding changes_weight
+changes s t c x = record {
+  rested = q;
+  rests = calls_if_there s callback.Quiescent (task_and_number t change_flags) t c;
+  weighed = w;
+  weighs = takes q.state t c x;
+  roused = roused w.state t c;
+  rouses = calls_if_there w.state callback.Runnable (task_and_number t restore_flag) t c;
+  all = refl;
+}
+  where
+    q : Stepped
+    q = rested s t c
+
+    w : Stepped
+    w = takes_weight q.state t c x
+
+abbrev weighed_then : State → ℕ → ℕ → ℕ → Stepped
+weighed_then s t c x = let w = takes_weight s t c x in one_after_other w (roused w.state t c)
+
+only_changes : (s : State) (t c x : ℕ) (r : Stepped) → ChangesWeight s t c x r → r ≡ changes_weight s t c x
+unfolding changes_weight
+only_changes s t c x r h =
+    h.all
+    ∙ ap (λ z. one_after_other h.rested (one_after_other h.weighed z)) (only_calls_if_there h.weighed.state callback.Runnable (task_and_number t restore_flag) t c h.roused h.rouses)
+    ∙ ap (λ (z : Stepped). one_after_other h.rested (one_after_other z (roused z.state t c))) (only_takes h.rested.state t c x h.weighed h.weighs)
+    ∙ ap (λ (z : Stepped). one_after_other z (weighed_then z.state t c x)) (only_calls_if_there s callback.Quiescent (task_and_number t change_flags) t c h.rested h.rests)
+
+abbrev stopped_for : State → ℕ → ℕ → Stepped
+stopped_for s t c = call_by_linux s callback.Stopping (task_and_number t 0) t c
+
+abbrev resumed : State → ℕ → ℕ → Stepped
+resumed s t c = call_by_linux s callback.Running (one_task t) t c
+
+abbrev changed_then : State → ℕ → ℕ → ℕ → Stepped
+changed_then s t c x = let b = changes_weight s t c x in one_after_other b (resumed b.state t c)
+
+abbrev changed_and_put : State → ℕ → ℕ → ℕ → Stepped
+changed_and_put s t c x = let b = changes_weight s t c x in one_after_other b (put b.state t c 0)
+
+abbrev off_as : State → ℕ → ℕ → ℕ → Bool → Stepped
+off_as s t c x b = if b then reweigh_waiting s t c x else takes_weight s t c x
+
+off_is : (s : State) (t c x : ℕ) (b : Bool) → waits s.world t ≡ b → off_as s t c x b ≡ reweigh_off_cpu s t c x
+unfolding reweigh_off_cpu
+off_is s t c x b e = ap (λ k. off_as s t c x k) (sym e)
+
+reweighs_waiting : (s : State) (t x : ℕ) → cpu_of s.world t ≡ None → waits s.world t ≡ true → Reweighs s t x (reweigh_waiting s t (task_at s.world t).prev_cpu x)
+unfolding reweigh_waiting
+reweighs_waiting s t x e y =
+    let d = (task_at s.world t).prev_cpu in
+    let a = leaves_queue s t d change_flags in
+    let b = changes_weight a.state t d x in
+    WhileItWaits a b (put b.state t d 0) e y (departs s t d change_flags) (changes a.state t d x) (puts b.state t d 0) refl
+
+reweighs : (s : State) (t x : ℕ) → Reweighs s t x (reweigh_at (cpu_of s.world t) s t x)
+unfolding reweigh_running
+reweighs s t x = go (cpu_of s.world t) refl
+  where
+    d : ℕ
+    d = (task_at s.world t).prev_cpu
+
+    off : cpu_of s.world t ≡ None → (b : Bool) → waits s.world t ≡ b → Reweighs s t x (off_as s t d x b)
+    off e true y = reweighs_waiting s t x e y
+    off e false y = WhileItRests e y (takes s t d x)
+
+    go : (o : Option ℕ) → cpu_of s.world t ≡ o → Reweighs s t x (reweigh_at o s t x)
+    go None e = subst (λ r. Reweighs s t x r) (off_is s t d x (waits s.world t) refl) (off e (waits s.world t) refl)
+    go (Some c) e =
+        let a = stopped_for s t c in
+        let b = changes_weight a.state t c x in
+        WhileItRuns c a b (resumed b.state t c) e (calls_if_there s callback.Stopping (task_and_number t 0) t c) (changes a.state t c x) (calls_if_there b.state callback.Running (one_task t) t c) refl
+
+waiting_is : (s : State) (t c x : ℕ) (a : Stepped) → LeavesQueue s t c change_flags a → one_after_other a (changed_and_put a.state t c x) ≡ reweigh_waiting s t c x
+unfolding reweigh_waiting
+waiting_is s t c x a h = ap (λ (z : Stepped). one_after_other z (changed_and_put z.state t c x)) (only_departs s t c change_flags a h)
+
+only_reweighs : (s : State) (t x : ℕ) (r : Stepped) → Reweighs s t x r → r ≡ reweigh_at (cpu_of s.world t) s t x
+unfolding reweigh_running
+only_reweighs s t x r (WhileItRuns c a b u e h y w k) =
+    rw e (k ∙ ap (λ z. one_after_other a (one_after_other b z)) (only_calls_if_there b.state callback.Running (one_task t) t c u w)
+    ∙ ap (λ (z : Stepped). one_after_other a (one_after_other z (resumed z.state t c))) (only_changes a.state t c x b y)
+    ∙ ap (λ (z : Stepped). one_after_other z (changed_then z.state t c x)) (only_calls_if_there s callback.Stopping (task_and_number t 0) t c a h))
+only_reweighs s t x r (WhileItWaits a b u e y h z w k) =
+    let d = (task_at s.world t).prev_cpu in
+    rw e (k ∙ ap (λ i. one_after_other a (one_after_other b i)) (only_puts b.state t d 0 u w)
+    ∙ ap (λ (i : Stepped). one_after_other a (one_after_other i (put i.state t d 0))) (only_changes a.state t d x b z)
+    ∙ waiting_is s t d x a h ∙ off_is s t d x true y)
+only_reweighs s t x r (WhileItRests e y h) = let d = (task_at s.world t).prev_cpu in rw e (only_takes s t d x r h ∙ off_is s t d x false y)
+
+abbrev weight_note : State → ℕ → ℕ → Stepped → Stepped
+weight_note s t x r = after (note_now s.world (note.TaskWeight t x) ∷ []) r
+
+abbrev done_on_first : State → ℕ → ℕ → Stepped
+done_on_first s t x = reweigh_at (cpu_of s.world t) (on_first_cpu s) t x
+
+abbrev awake : Stepped → Stepped
+awake r = record r { state = is_woken r.state }
+
+abbrev reweighed_as : State → ℕ → ℕ → Bool → Stepped
+reweighed_as s t x b = if b then awake (done_on_first s t x) else silent s (after_own_weight s.world t x)
+
+reweighed_so : (s : State) (t x : ℕ) (b : Bool) → is_by_linux s ≡ b → reweighed_as s t x b ≡ reweigh s t x
+unfolding reweigh reweigh_by_linux
+reweighed_so s t x b e = ap (λ k. reweighed_as s t x k) (sym e)
+
+weighs : (s : State) (t x : ℕ) → Weighs s t x (weight_note s t x (reweigh s t x))
+weighs s t x = subst (λ r. Weighs s t x (weight_note s t x r)) (reweighed_so s t x (is_by_linux s) refl) (go (is_by_linux s) refl)
+  where
+    go : (b : Bool) → is_by_linux s ≡ b → Weighs s t x (weight_note s t x (reweighed_as s t x b))
+    go false e = Weighs_by_plain (after_own_weight s.world t x) e (sets_weight s.world t x) refl
+    go true e = Weighs_by_linux (done_on_first s t x) e (reweighs (on_first_cpu s) t x) refl
+
+only_weighs : (s : State) (t x : ℕ) (r : Stepped) → Weighs s t x r → r ≡ weight_note s t x (reweigh s t x)
+only_weighs s t x r (Weighs_by_plain w e h k) =
+    k ∙ ap (λ v. noting s v (note.TaskWeight t x)) (only_sets_weight s.world t x w h) ∙ ap (λ z. weight_note s t x z) (reweighed_so s t x false e)
+only_weighs s t x r (Weighs_by_linux d e h k) =
+    k ∙ ap (λ z. weight_note s t x (awake z)) (only_reweighs (on_first_cpu s) t x d h) ∙ ap (λ z. weight_note s t x z) (reweighed_so s t x true e)
 
 -- ---- weights
 
@@ -603,6 +799,7 @@ does s (Sleep t) e = sleeps s t
 does s (Tick c) e = ticks s c
 does s Clock e = ages s
 does s (SetWeight g x) e = ap (λ w. noting s w (note.Weight g x)) (reweighed_is s g x e)
+does s (SetTaskWeight t x) e = weighs s t x
 
 only_does : (s : State) (v : Event) (r : Stepped) → refusal s v ≡ None → Does s v r → r ≡ own_step s v
 only_does s (Wake t) r e h = only_wakes s t r h
@@ -610,6 +807,7 @@ only_does s (Sleep t) r e h = only_sleeps s t r h
 only_does s (Tick c) r e h = only_ticks s c r h
 only_does s Clock r e h = only_ages s r h
 only_does s (SetWeight g x) r e h = h ∙ ap (λ w. noting s w (note.Weight g x)) (sym (reweighed_is s g x e))
+only_does s (SetTaskWeight t x) r e h = only_weighs s t x r h
 
 -- what is computed is allowed
 pub happens : RulesAllowEvents

@@ -18,28 +18,29 @@ use Rattle.scx_dsq.specs.declared.errors.QueueError.TheVariants as queue_error
 use Rattle.scx_isa_semantics.specs.declared.callbacks.Callback.{Callback}
 use Rattle.scx_isa_semantics.specs.declared.callbacks.Callback.TheVariants as callback
 use Rattle.scx_isa_semantics.specs.declared.host_tables.Helper.{Helper}
-use Rattle.scx_isa_semantics.specs.declared.host_tables.Helper.TheVariants.{MapLookupElem, KtimeGetNs, CreateDsq, DsqInsert, DsqInsertVtime, DsqMoveToLocal, SelectCpuDfl, CpuIdle, TaskByPid, DsqNrQueued, KickCpu, SmpProcessorId, Exit, CpuCurr, DsqPeek, TaskRunning, TaskCpu, PickIdle, ClaimIdle}
+use Rattle.scx_isa_semantics.specs.declared.host_tables.Helper.TheVariants.{MapLookupElem, KtimeGetNs, CreateDsq, DsqInsert, DsqInsertVtime, DsqMoveToLocal, SelectCpuDfl, CpuIdle, TaskByPid, DsqNrQueued, KickCpu, SmpProcessorId, Exit, CpuCurr, DsqPeek, TaskRunning, TaskCpu, PickIdle, ClaimIdle, TimerStart, TimerCancel}
 use Rattle.scx_vm.specs.declared.arguments.Arg.{Arg}
 use Rattle.scx_vm.specs.declared.arguments.Answer.{Answer}
 use Rattle.scx_vm.specs.declared.arguments.Answer.TheVariants.{Num, Task}
 use Rattle.scx_sched_world.specs.declared.call.Insert.{Insert}
 use Rattle.scx_sched_world.specs.declared.eject.Cause.TheVariants as reason
 use Rattle.scx_sched_world.specs.declared.faults.Fault.{Fault}
-use Rattle.scx_sched_world.specs.declared.faults.Fault.TheVariants.{Stuck, NoSuchQueue, CannotInsert, NoSuchCpu, UnknownFlag, CannotCreate, BuiltinVtime, Mixed}
+use Rattle.scx_sched_world.specs.declared.faults.Fault.TheVariants.{Stuck, NoSuchQueue, CannotInsert, NoSuchCpu, UnknownFlag, CannotCreate, BuiltinVtime, Mixed, IdleUntracked}
 use Rattle.scx_sched_world.specs.Ids.{policy_end, global, local, held_queue, local_on}
 use Rattle.scx_sched_world.specs.declared.kicks.Kick.{Kick}
 use Rattle.scx_sched_world.specs.declared.kicks.Kick.TheVariants.{Any, IfIdle, Preempt}
 use Rattle.scx_sched_world.specs.CpuSets.{is_in_set}
-use Rattle.scx_sched_world.specs.World.{WorldState, with_queues, with_kick, is_by_linux, task_at, running, is_this, is_idle, is_claimed, choice, after_claim, with_note}
+use Rattle.scx_sched_world.specs.World.{WorldState, with_queues, with_kick, is_by_linux, task_at, running, is_this, is_idle, is_claimed, choice, default_choice, after_claim, with_note}
 use Rattle.scx_sched_world.specs.Tasks.{homed, for_cpu}
 use Rattle.scx_sched_world.specs.declared.notes.What.TheVariants as notes
-use Rattle.scx_sched_world.specs.Helpers.{invalid, with_fault, with_move, are_linux_flags, are_known, flags_fault, is_late, after_late, after_insert, insert_answer, after_choice, seems_idle, kick_of, kicked_so, kick_fault, kicked_or_fault, given_number, given_task, task_or_null, is_there, can_create, is_at_hand, is_held, is_dispatch, may_insert_in, may_insert, queue_fault, is_vtime, rank_fault, or_fault, insert_fault, insert_or_fault, invalid_if, insert_of, insert_of_vtime, choice_answer, pid_answer, can_move, front_moved_to_local, one_if_some, after_release, helper_answer, helper_after}
-use Rattle.scx_sched_rules.specs.Helpers.{IsDestination, Own, Global, Local, LocalOn, NamesNoCpu, CanCreate, MayInsert, InSelectCpu, InEnqueue, InDispatch, IsBuiltinVtime, IsMixed, MayMove, AreFlags, OfWake, OfLinux, IsLate, JudgesInsert, JudgesFlags, JudgesAnInsert, InTime, TooLate, Inserts, Keeps, Releases, PassesOver, Moves, Front, Empty, IsChoice, Chooses, OfTask, OfNone, OfNobody, SeemsIdle, IsUnclaimed, ClaimedHere, Tells, TellsIdle, TellsBusy, Kicks, KicksAny, KicksIdle, KicksCycling, LeavesBusy, KicksToPreempt, Finds, Found, Nobody, IsEffect, Done, NamesTask, Wrong, Blames}
+use Rattle.scx_sched_world.specs.Helpers.{invalid, with_fault, with_move, are_linux_flags, are_known, flags_fault, is_late, after_late, after_insert, insert_answer, after_choice, seems_idle, kick_of, kicked_so, kick_fault, kicked_or_fault, given_number, given_task, task_or_null, is_there, can_create, is_at_hand, is_held, is_dispatch, may_insert_in, may_insert, queue_fault, is_vtime, rank_fault, or_fault, unless_fault, fault_or, ask_fault, insert_fault, insert_or_fault, invalid_if, insert_of, insert_of_vtime, choice_answer, pid_answer, can_move, front_moved_to_local, one_if_some, after_release, helper_answer, helper_after}
+use Rattle.scx_sched_rules.specs.Helpers.{IsDestination, Own, Global, Local, LocalOn, NamesNoCpu, CanCreate, MayInsert, InSelectCpu, InEnqueue, InDispatch, IsBuiltinVtime, IsMixed, MayMove, JudgesAsk, JudgesChoice, AreFlags, OfWake, OfLinux, IsLate, JudgesInsert, JudgesFlags, JudgesAnInsert, InTime, TooLate, Inserts, Keeps, Releases, PassesOver, Moves, Front, Empty, IsChoice, Chooses, OfTask, OfNone, OfNobody, SeemsIdle, IsUnclaimed, ClaimedHere, Tells, TellsIdle, TellsBusy, Kicks, KicksAny, KicksIdle, KicksCycling, LeavesBusy, KicksToPreempt, Finds, Found, Nobody, IsEffect, Done, NamesTask, Wrong, Blames}
 use Rattle.scx_sched_rules.specs.Laws.{RulesAllowHelpers, RulesAllowHelpersOnly}
 use Rattle.scx_sched_rules.proofs.Choosing.{is_choice, only_choice, claims, only_claims}
 use Rattle.scx_sched_rules.proofs.Differing.{and_true, homes, only_homes}
 use Rattle.scx_sched_rules.proofs.Ejecting.{blames, only_blames}
-use Rattle.scx_sched_rules.proofs.Readers.{this_is, this_of, there_is, is_there_of, some_fault, here_allowed, only_here_so, exit_allowed, only_exit, current_allowed, only_current_so, peek_allowed, only_peek, running_allowed, only_running, home_allowed, only_home, pick_allowed, only_pick, claim_allowed, only_claim}
+use Rattle.scx_sched_rules.proofs.Readers.{this_is, this_of, there_is, is_there_of, some_fault, here_allowed, only_here_so, exit_allowed, only_exit, current_allowed, only_current_so, peek_allowed, only_peek, running_allowed, only_running, home_allowed, only_home, pick_allowed, only_pick, ask_judged, ask_from, claim_allowed, only_claim}
+use Rattle.scx_sched_rules.proofs.Alarms.{start_allowed, only_start, cancel_allowed, only_cancel}
 
 -- ---- tests of Booleans as facts
 
@@ -71,6 +72,7 @@ FaultOf w q (Some CannotInsert) = ⊥
 FaultOf w q (Some UnknownFlag) = ⊥
 FaultOf w q (Some CannotCreate) = ⊥
 FaultOf w q (Some Stuck) = ⊥
+FaultOf w q (Some IdleUntracked) = ⊥
 FaultOf w q (Some BuiltinVtime) = ⊥
 FaultOf w q (Some Mixed) = ⊥
 
@@ -133,6 +135,7 @@ RankOf w q r (Some CannotInsert) = ⊥
 RankOf w q r (Some UnknownFlag) = ⊥
 RankOf w q r (Some CannotCreate) = ⊥
 RankOf w q r (Some Stuck) = ⊥
+RankOf w q r (Some IdleUntracked) = ⊥
 
 by_vtime_is : (q : ℕ) (r : Rank) → (is_vtime r && nat_le policy_end q) ≡ true → IsBuiltinVtime q r
 by_vtime_is q Fifo e = absurd (cc)
@@ -199,6 +202,7 @@ rank_fault_from w q r (Some CannotInsert) h = absurd h
 rank_fault_from w q r (Some UnknownFlag) h = absurd h
 rank_fault_from w q r (Some CannotCreate) h = absurd h
 rank_fault_from w q r (Some Stuck) h = absurd h
+rank_fault_from w q r (Some IdleUntracked) h = absurd h
 
 -- ---- flags of an insert
 
@@ -322,6 +326,7 @@ insert_fault_is w t i flags = go (may_insert w t) refl
     at_rank m l d (Some UnknownFlag) h = absurd h
     at_rank m l d (Some CannotCreate) h = absurd h
     at_rank m l d (Some Stuck) h = absurd h
+    at_rank m l d (Some IdleUntracked) h = absurd h
 
     at_queue : MayInsert w t → AreFlags w flags → (o : Option Fault) → FaultOf w i.queue o → JudgesInsert w t i flags (or_fault o (rank_fault w i.queue i.rank))
     at_queue m l None h = at_rank m l h (rank_fault w i.queue i.rank) (rank_fault_is w i.queue i.rank)
@@ -331,6 +336,7 @@ insert_fault_is w t i flags = go (may_insert w t) refl
     at_queue m l (Some UnknownFlag) h = absurd h
     at_queue m l (Some CannotCreate) h = absurd h
     at_queue m l (Some Stuck) h = absurd h
+    at_queue m l (Some IdleUntracked) h = absurd h
     at_queue m l (Some BuiltinVtime) h = absurd h
     at_queue m l (Some Mixed) h = absurd h
 
@@ -356,6 +362,7 @@ no_fault_at w q d (Some CannotInsert) h = absurd h
 no_fault_at w q d (Some UnknownFlag) h = absurd h
 no_fault_at w q d (Some CannotCreate) h = absurd h
 no_fault_at w q d (Some Stuck) h = absurd h
+no_fault_at w q d (Some IdleUntracked) h = absurd h
 no_fault_at w q d (Some BuiltinVtime) h = absurd h
 no_fault_at w q d (Some Mixed) h = absurd h
 
@@ -367,6 +374,7 @@ no_cpu_at w q n (Some CannotInsert) h = absurd h
 no_cpu_at w q n (Some UnknownFlag) h = absurd h
 no_cpu_at w q n (Some CannotCreate) h = absurd h
 no_cpu_at w q n (Some Stuck) h = absurd h
+no_cpu_at w q n (Some IdleUntracked) h = absurd h
 no_cpu_at w q n (Some BuiltinVtime) h = absurd h
 no_cpu_at w q n (Some Mixed) h = absurd h
 
@@ -378,6 +386,7 @@ no_queue_at w q d n (Some CannotInsert) h = absurd h
 no_queue_at w q d n (Some UnknownFlag) h = absurd h
 no_queue_at w q d n (Some CannotCreate) h = absurd h
 no_queue_at w q d n (Some Stuck) h = absurd h
+no_queue_at w q d n (Some IdleUntracked) h = absurd h
 no_queue_at w q d n (Some BuiltinVtime) h = absurd h
 no_queue_at w q d n (Some Mixed) h = absurd h
 
@@ -415,6 +424,7 @@ insert_fault_from w t i flags o j = go o j
     go (Some NoSuchCpu) j = at_queue j.0 j.1 NoSuchCpu (no_cpu_at w i.queue j.2 (queue_fault w i.queue) (queue_fault_is w i.queue))
     go (Some CannotCreate) j = absurd j
     go (Some Stuck) j = absurd j
+    go (Some IdleUntracked) j = absurd j
 
 -- what is inserted
 is_dispatch_of : (b : Callback) → b ≡ callback.Dispatch → is_dispatch b ≡ true
@@ -476,6 +486,7 @@ flags_from w flags (Some BuiltinVtime) j = absurd j
 flags_from w flags (Some Mixed) j = absurd j
 flags_from w flags (Some CannotCreate) j = absurd j
 flags_from w flags (Some Stuck) j = absurd j
+flags_from w flags (Some IdleUntracked) j = absurd j
 
 -- an insert, in time or late: its fault, and what it does
 abbrev answered_as : WorldState → Option ℕ → Insert → ℕ → Bool → ℕ
@@ -619,13 +630,32 @@ queued_allowed w a = go (is_there w q) refl
     go true e = Done (len_of w.queues q) (there_is w q e) (refl, refl) refl
     go false e = Wrong NoSuchQueue (λ h. not_both (is_there w q) e (is_there_of w q h)) refl (blames w (reason.Fault NoSuchQueue))
 
-chooses : (w : WorldState) (o : Option ℕ) → Chooses w (choice_answer w o) o (after_choice w o)
-chooses w None = OfNobody refl refl refl
-chooses w (Some t) = go (choice w t) (is_choice w t)
+abbrev untracked_as : Bool → Option Fault
+untracked_as b = if b then None else Some IdleUntracked
+
+abbrev choice_so : WorldState → ℕ → Bool → ℕ
+choice_so w t b = unless_fault (untracked_as b) (default_choice w t)
+
+abbrev chosen_so : WorldState → ℕ → Bool → WorldState
+chosen_so w t b = fault_or w (untracked_as b) (after_claim w (choice w t))
+
+chooses : (w : WorldState) (o : Option ℕ) (t : ℕ) → o ≡ Some t → Chooses w (default_choice w t) o (after_claim w (choice w t))
+chooses w o t e = go (choice w t) (is_choice w t)
   where
-    go : (o : Option ℕ) → IsChoice w t o → Chooses w (unwrap_or o (task_at w t).prev_cpu) (Some t) (after_claim w o)
-    go (Some c) h = OfTask t refl h (claims w c)
-    go None h = OfNone t refl h refl refl
+    go : (c : Option ℕ) → IsChoice w t c → Chooses w (unwrap_or c (task_at w t).prev_cpu) o (after_claim w c)
+    go (Some c) h = OfTask t e h (claims w c)
+    go None h = OfNone t e h refl refl
+
+choice_allowed : (w : WorldState) (a : List Arg) → Is-effect w SelectCpuDfl a
+choice_allowed w a = go (given_task a 0) refl
+  where
+    by : (t : ℕ) → given_task a 0 ≡ Some t → (b : Bool) → w.tracks_idle ≡ b → IsEffect w SelectCpuDfl a (Num (choice_so w t b)) (chosen_so w t b)
+    by t e true k = Done (default_choice w t) (subst (λ o. JudgesChoice w o None) (sym e) k) (chooses w (given_task a 0) t e) refl
+    by t e false k = Wrong IdleUntracked (subst (λ o. JudgesChoice w o (Some IdleUntracked)) (sym e) k) refl (blames w (reason.Fault IdleUntracked))
+
+    go : (o : Option ℕ) → given_task a 0 ≡ o → IsEffect w SelectCpuDfl a (Num (choice_answer w o)) (after_choice w o)
+    go None e = Done 0 (subst (λ o. JudgesChoice w o None) (sym e) refl) (OfNobody e refl refl) refl
+    go (Some t) e = by t e w.tracks_idle refl
 
 seems_is : (w : WorldState) (c : ℕ) → seems_idle w c ≡ true → SeemsIdle w c
 seems_is w c e = let x = both (is_idle w c) (not (is_claimed w c) || is_in_set w.call.claims c) e in go (is_claimed w c) refl (is_in_set w.call.claims c) refl x.0 x.1
@@ -650,15 +680,21 @@ tells w c = go (seems_idle w c) refl
     go true e = TellsIdle (seems_is w c e) refl
     go false e = TellsBusy (λ h. not_both (seems_idle w c) e (seems_of w c h)) refl
 
+abbrev idle_so : WorldState → ℕ → Option Fault → Answer
+idle_so w c o = Num (unless_fault o (one_if (seems_idle w c)))
+
+abbrev kept_so : WorldState → Option Fault → WorldState
+kept_so w o = fault_or w o w
+
 idle_allowed : (w : WorldState) (a : List Arg) → Is-effect w CpuIdle a
-idle_allowed w a = go (nat_lt c (length w.cpus)) refl
+idle_allowed w a = go (ask_fault w c) (ask_judged w c)
   where
     c : ℕ
     c = given_number a 0
 
-    go : (b : Bool) → nat_lt c (length w.cpus) ≡ b → IsEffect w CpuIdle a (Num (if b then one_if (seems_idle w c) else invalid)) (if b then w else with_fault w NoSuchCpu)
-    go true e = Done (one_if (seems_idle w c)) (grind (arith, nat_tests, e)) (tells w c, refl) refl
-    go false e = Wrong NoSuchCpu (grind (arith, nat_tests, e)) refl (blames w (reason.Fault NoSuchCpu))
+    go : (o : Option Fault) → JudgesAsk w c o → IsEffect w CpuIdle a (idle_so w c o) (kept_so w o)
+    go None j = Done (one_if (seems_idle w c)) j (tells w c, refl) refl
+    go (Some f) j = Wrong f j refl (blames w (reason.Fault f))
 
 -- ---- kicks
 
@@ -735,7 +771,7 @@ helper_allowed w CreateDsq a own = create_allowed w a
 helper_allowed w DsqInsert a own = insert_allowed w a
 helper_allowed w DsqInsertVtime a own = insert_vtime_allowed w a
 helper_allowed w DsqMoveToLocal a own = move_allowed w a
-helper_allowed w SelectCpuDfl a own = Done (choice_answer w (given_task a 0)) refl (chooses w (given_task a 0)) refl
+helper_allowed w SelectCpuDfl a own = choice_allowed w a
 helper_allowed w CpuIdle a own = idle_allowed w a
 helper_allowed w TaskByPid a own = finds_allowed w a
 helper_allowed w DsqNrQueued a own = queued_allowed w a
@@ -748,6 +784,8 @@ helper_allowed w TaskRunning a own = running_allowed w a
 helper_allowed w TaskCpu a own = home_allowed w a
 helper_allowed w PickIdle a own = pick_allowed w a
 helper_allowed w ClaimIdle a own = claim_allowed w a
+helper_allowed w TimerStart a own = start_allowed w a
+helper_allowed w TimerCancel a own = cancel_allowed w a
 helper_allowed w MapLookupElem a own = absurd (own refl)
 
 -- ---- and nothing else
@@ -766,6 +804,7 @@ only_create w a x v (Wrong NoSuchCpu j e k) = absurd j
 only_create w a x v (Wrong BuiltinVtime j e k) = absurd j
 only_create w a x v (Wrong Mixed j e k) = absurd j
 only_create w a x v (Wrong Stuck j e k) = absurd j
+only_create w a x v (Wrong IdleUntracked j e k) = absurd j
 
 only_insert : (w : WorldState) (a : List Arg) (x : Answer) (v : WorldState) → IsEffect w DsqInsert a x v → Is-this w DsqInsert a x v
 only_insert w a x v (Done n j d e) = let h = only_does_insert w (given_task a 0) (insert_of w a) (given_number a 3) n v (DoneInsert j d.0 d.1) in (e ∙ ap Num h.0, h.1)
@@ -780,44 +819,56 @@ only_insert_vtime w a x v (Wrong f j e k) = let h = only_does_insert w (given_ta
 abbrev Chosen-so : WorldState → ℕ → Option ℕ → WorldState → Type 0
 Chosen-so w n o v = (n ≡ choice_answer w o) × (v ≡ after_choice w o)
 
-only_chooses : (w : WorldState) (n : ℕ) (o : Option ℕ) (v : WorldState) → Chooses w n o v → Chosen-so w n o v
-only_chooses w n o v (OfTask t e h c) =
+only_chooses : (w : WorldState) (n : ℕ) (o : Option ℕ) (v : WorldState) → JudgesChoice w o None → Chooses w n o v → Chosen-so w n o v
+only_chooses w n o v j (OfTask t e h c) =
     let x = only_choice w t (Some n) h in
-    (ap (λ y. unwrap_or y (task_at w t).prev_cpu) x ∙ ap (λ y. choice_answer w y) (sym e), only_claims w n v c ∙ ap (λ y. after_claim w y) x ∙ ap (λ y. after_choice w y) (sym e))
-only_chooses w n o v (OfNone t e h k z) =
+    let b : w.tracks_idle ≡ true = subst (λ y. JudgesChoice w y None) e j in (
+      ap (λ y. unwrap_or y (task_at w t).prev_cpu) x ∙ ap (λ y. choice_so w t y) (sym b) ∙ ap (λ y. choice_answer w y) (sym e),
+      only_claims w n v c ∙ ap (λ y. after_claim w y) x ∙ ap (λ y. chosen_so w t y) (sym b) ∙ ap (λ y. after_choice w y) (sym e),
+    )
+only_chooses w n o v j (OfNone t e h k z) =
     let x = only_choice w t None h in
-    (k ∙ ap (λ y. unwrap_or y (task_at w t).prev_cpu) x ∙ ap (λ y. choice_answer w y) (sym e), z ∙ ap (λ y. after_claim w y) x ∙ ap (λ y. after_choice w y) (sym e))
-only_chooses w n o v (OfNobody e k z) = (k ∙ ap (λ y. choice_answer w y) (sym e), z ∙ ap (λ y. after_choice w y) (sym e))
+    let b : w.tracks_idle ≡ true = subst (λ y. JudgesChoice w y None) e j in (
+      k ∙ ap (λ y. unwrap_or y (task_at w t).prev_cpu) x ∙ ap (λ y. choice_so w t y) (sym b) ∙ ap (λ y. choice_answer w y) (sym e),
+      z ∙ ap (λ y. after_claim w y) x ∙ ap (λ y. chosen_so w t y) (sym b) ∙ ap (λ y. after_choice w y) (sym e),
+    )
+only_chooses w n o v j (OfNobody e k z) = (k ∙ ap (λ y. choice_answer w y) (sym e), z ∙ ap (λ y. after_choice w y) (sym e))
+
+-- the only fault of a choice
+choice_from : (w : WorldState) (t : ℕ) (f : Fault) → JudgesChoice w (Some t) (Some f) → untracked_as w.tracks_idle ≡ Some f
+choice_from w t IdleUntracked j = ap (λ b. untracked_as b) j
+choice_from w t NoSuchQueue j = absurd j
+choice_from w t NoSuchCpu j = absurd j
+choice_from w t CannotInsert j = absurd j
+choice_from w t UnknownFlag j = absurd j
+choice_from w t CannotCreate j = absurd j
+choice_from w t BuiltinVtime j = absurd j
+choice_from w t Mixed j = absurd j
+choice_from w t Stuck j = absurd j
+
+only_choice_so : (w : WorldState) (a : List Arg) (x : Answer) (v : WorldState) → IsEffect w SelectCpuDfl a x v → Is-this w SelectCpuDfl a x v
+only_choice_so w a x v (Done n j d e) = let h = only_chooses w n (given_task a 0) v j d in (e ∙ ap Num h.0, h.1)
+only_choice_so w a x v (NamesTask o j m e k) = absurd m
+only_choice_so w a x v (Wrong f j e k) = go (given_task a 0) refl j
+  where
+    go : (o : Option ℕ) → given_task a 0 ≡ o → JudgesChoice w o (Some f) → (x ≡ Num (choice_answer w o)) × (v ≡ after_choice w o)
+    go None y z = absurd (some_fault f z)
+    go (Some t) y z =
+        let u = choice_from w t f z in
+        (e ∙ ap (λ q. Num (unless_fault q (default_choice w t))) (sym u), only_blames w (reason.Fault f) v k ∙ ap (λ q. fault_or w q (after_claim w (choice w t))) (sym u))
 
 only_tells : (w : WorldState) (c n : ℕ) → Tells w c n → n ≡ one_if (seems_idle w c)
 only_tells w c n (TellsIdle h k) = rw (seems_of w c h) k
 only_tells w c n (TellsBusy f k) = rw (is_false (seems_idle w c) (λ e. f (seems_is w c e))) k
 
 only_idle : (w : WorldState) (a : List Arg) (x : Answer) (v : WorldState) → IsEffect w CpuIdle a x v → Is-this w CpuIdle a x v
-only_idle w a x v (Done n j d e) = go (nat_lt c (length w.cpus)) refl
-  where
-    c : ℕ
-    c = given_number a 0
-
-    go : (b : Bool) → nat_lt c (length w.cpus) ≡ b → (x ≡ Num (if b then one_if (seems_idle w c) else invalid)) × (v ≡ (if b then w else with_fault w NoSuchCpu))
-    go true y = (e ∙ ap Num (only_tells w c n d.0), d.1)
-    go false y = let past : length w.cpus ≤ c = grind (arith, nat_tests, y) in absurd (omega (arith, j, past))
+only_idle w a x v (Done n j d e) =
+    let y = ask_from w (given_number a 0) None j in
+    (e ∙ ap Num (only_tells w (given_number a 0) n d.0) ∙ ap (λ o. idle_so w (given_number a 0) o) (sym y), d.1 ∙ ap (λ o. kept_so w o) (sym y))
 only_idle w a x v (NamesTask o j m e k) = absurd m
-only_idle w a x v (Wrong NoSuchCpu j e k) = go (nat_lt c (length w.cpus)) refl
-  where
-    c : ℕ
-    c = given_number a 0
-
-    go : (b : Bool) → nat_lt c (length w.cpus) ≡ b → (x ≡ Num (if b then one_if (seems_idle w c) else invalid)) × (v ≡ (if b then w else with_fault w NoSuchCpu))
-    go true y = let l : c < length w.cpus = grind (arith, nat_tests, y) in absurd (omega (arith, j, l))
-    go false y = (e, only_blames w (reason.Fault NoSuchCpu) v k)
-only_idle w a x v (Wrong NoSuchQueue j e k) = absurd j
-only_idle w a x v (Wrong CannotCreate j e k) = absurd j
-only_idle w a x v (Wrong Stuck j e k) = absurd j
-only_idle w a x v (Wrong CannotInsert j e k) = absurd j
-only_idle w a x v (Wrong UnknownFlag j e k) = absurd j
-only_idle w a x v (Wrong BuiltinVtime j e k) = absurd j
-only_idle w a x v (Wrong Mixed j e k) = absurd j
+only_idle w a x v (Wrong f j e k) =
+    let y = ask_from w (given_number a 0) (Some f) j in
+    (e ∙ ap (λ o. idle_so w (given_number a 0) o) (sym y), only_blames w (reason.Fault f) v k ∙ ap (λ o. kept_so w o) (sym y))
 
 only_finds : (w : WorldState) (n : ℕ) (o : Option ℕ) → Finds w n o → task_or_null o ≡ pid_answer w n
 only_finds w n o (Found t l e k) =
@@ -852,6 +903,7 @@ only_move w a x v (Wrong CannotInsert j e k) = absurd j
 only_move w a x v (Wrong UnknownFlag j e k) = absurd j
 only_move w a x v (Wrong CannotCreate j e k) = absurd j
 only_move w a x v (Wrong Stuck j e k) = absurd j
+only_move w a x v (Wrong IdleUntracked j e k) = absurd j
 only_move w a x v (Wrong NoSuchCpu j e k) = absurd j
 only_move w a x v (Wrong BuiltinVtime j e k) = absurd j
 only_move w a x v (Wrong Mixed j e k) = absurd j
@@ -864,6 +916,7 @@ only_queued w a x v (Wrong CannotInsert j e k) = absurd j
 only_queued w a x v (Wrong UnknownFlag j e k) = absurd j
 only_queued w a x v (Wrong CannotCreate j e k) = absurd j
 only_queued w a x v (Wrong Stuck j e k) = absurd j
+only_queued w a x v (Wrong IdleUntracked j e k) = absurd j
 only_queued w a x v (Wrong NoSuchCpu j e k) = absurd j
 only_queued w a x v (Wrong BuiltinVtime j e k) = absurd j
 only_queued w a x v (Wrong Mixed j e k) = absurd j
@@ -902,6 +955,7 @@ only_kick w a x v (Wrong CannotInsert j e k) = absurd j
 only_kick w a x v (Wrong BuiltinVtime j e k) = absurd j
 only_kick w a x v (Wrong Mixed j e k) = absurd j
 only_kick w a x v (Wrong Stuck j e k) = absurd j
+only_kick w a x v (Wrong IdleUntracked j e k) = absurd j
 
 -- and nothing else is
 pub only_helper : RulesAllowHelpersOnly
@@ -912,9 +966,7 @@ only_helper w CreateDsq a x v e = only_create w a x v e
 only_helper w DsqInsert a x v e = only_insert w a x v e
 only_helper w DsqInsertVtime a x v e = only_insert_vtime w a x v e
 only_helper w DsqMoveToLocal a x v e = only_move w a x v e
-only_helper w SelectCpuDfl a x v (Done n j d e) = let h = only_chooses w n (given_task a 0) v d in (e ∙ ap Num h.0, h.1)
-only_helper w SelectCpuDfl a x v (NamesTask o j m e k) = absurd m
-only_helper w SelectCpuDfl a x v (Wrong f j e k) = absurd (some_fault f j)
+only_helper w SelectCpuDfl a x v e = only_choice_so w a x v e
 only_helper w CpuIdle a x v e = only_idle w a x v e
 only_helper w TaskByPid a x v (Done n j d e) = absurd d
 only_helper w TaskByPid a x v (NamesTask o j m e k) = (e ∙ only_finds w (given_number a 0) o m, k)
@@ -929,6 +981,8 @@ only_helper w TaskRunning a x v e = only_running w a x v e
 only_helper w TaskCpu a x v e = only_home w a x v e
 only_helper w PickIdle a x v e = only_pick w a x v e
 only_helper w ClaimIdle a x v e = only_claim w a x v e
+only_helper w TimerStart a x v e = only_start w a x v e
+only_helper w TimerCancel a x v e = only_cancel w a x v e
 only_helper w MapLookupElem a x v (Done n j d e) = absurd j
 only_helper w MapLookupElem a x v (NamesTask o j m e k) = absurd m
 only_helper w MapLookupElem a x v (Wrong f j e k) = absurd j

@@ -2,12 +2,15 @@ pub mod Differing
 pub mod Choosing
 pub mod Ejecting
 pub mod Readers
+pub mod Alarms
 pub mod Entering
 pub mod Helping
 pub mod Calling
+pub mod Departing
+pub mod Ringing
 pub mod Cycling
 pub mod Rounding
 pub mod Waiting
-pub mod Happening
 pub mod Refusing
+pub mod Happening
 pub mod Starting

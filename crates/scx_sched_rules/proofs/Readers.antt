@@ -13,12 +13,12 @@ use Rattle.scx_vm.specs.declared.arguments.Answer.{Answer}
 use Rattle.scx_vm.specs.declared.arguments.Answer.TheVariants.{Num}
 use Rattle.scx_sched_world.specs.declared.eject.Cause.TheVariants as reason
 use Rattle.scx_sched_world.specs.declared.faults.Fault.{Fault}
-use Rattle.scx_sched_world.specs.declared.faults.Fault.TheVariants.{Stuck, NoSuchQueue, CannotInsert, NoSuchCpu, UnknownFlag, CannotCreate, BuiltinVtime, Mixed}
+use Rattle.scx_sched_world.specs.declared.faults.Fault.TheVariants.{Stuck, NoSuchQueue, CannotInsert, NoSuchCpu, UnknownFlag, CannotCreate, BuiltinVtime, Mixed, IdleUntracked}
 use Rattle.scx_sched_world.specs.Ids.{policy_end}
 use Rattle.scx_sched_world.specs.World.{WorldState, is_this, is_free, is_current, current, here, this_if, or_this, after_claim}
-use Rattle.scx_sched_world.specs.Helpers.{invalid, with_fault, given_number, given_task, is_there, task_or_null, is_current_one, cpu_of_task, is_free_in, free_in_below, first_free_in, pick_answer_by, after_pick_by, helper_answer, helper_after}
+use Rattle.scx_sched_world.specs.Helpers.{with_fault, given_number, given_task, is_there, or_fault, unless_fault, fault_or, ask_fault, pick_fault, task_or_null, is_current_one, cpu_of_task, is_free_in, free_in_below, first_free_in, pick_answer_by, after_pick_by, helper_answer, helper_after}
 use Rattle.scx_sched_rules.specs.Differences.{IsCurrent}
-use Rattle.scx_sched_rules.specs.Helpers.{IsPolicyQueue, TellsCurrent, IsOn, IsOnNone, GivenNone, TellsHome, OfTheTask, OfNoTask, IsFreeIn, PicksFrom, PicksLowest, PicksNone, ClaimsThis, WasFree, WasTaken, IsEffect, Done, NamesTask, Wrong}
+use Rattle.scx_sched_rules.specs.Helpers.{IsPolicyQueue, JudgesAsk, JudgesPick, TellsCurrent, IsOn, IsOnNone, GivenNone, TellsHome, OfTheTask, OfNoTask, IsFreeIn, PicksFrom, PicksLowest, PicksNone, ClaimsThis, WasFree, WasTaken, IsEffect, Done, NamesTask, Wrong}
 use Rattle.scx_sched_rules.proofs.Choosing.{free_is, free_of, claims, only_claims}
 use Rattle.scx_sched_rules.proofs.Differing.{both_true, and_true, and_false, false_from, not_so, current_is, only_current, is_here, only_here}
 use Rattle.scx_sched_rules.proofs.Ejecting.{blames, only_blames}
@@ -72,10 +72,10 @@ is_there_of w q h = let l : nat_lt q policy_end ≡ true = grind (arith, nat_tes
 pub some_fault : (f : Fault) → ◌≡◌ {A = Option Fault} (Some f) None → ⊥
 some_fault f e = absurd (cc)
 
-abbrev Is-effect : WorldState → Helper → List Arg → Type 0
+abbrev pub Is-effect : WorldState → Helper → List Arg → Type 0
 Is-effect w h a = IsEffect w h a (helper_answer w h a) (helper_after w h a)
 
-abbrev Is-this : WorldState → Helper → List Arg → Answer → WorldState → Type 0
+abbrev pub Is-this : WorldState → Helper → List Arg → Answer → WorldState → Type 0
 Is-this w h a x v = (x ≡ helper_answer w h a) × (v ≡ helper_after w h a)
 
 -- ---- the processor at hand, and an end of the policy's own
@@ -123,6 +123,7 @@ only_current_so w a x v (Wrong CannotCreate j e k) = absurd j
 only_current_so w a x v (Wrong BuiltinVtime j e k) = absurd j
 only_current_so w a x v (Wrong Mixed j e k) = absurd j
 only_current_so w a x v (Wrong Stuck j e k) = absurd j
+only_current_so w a x v (Wrong IdleUntracked j e k) = absurd j
 
 pub peek_allowed : (w : WorldState) (a : List Arg) → Is-effect w DsqPeek a
 peek_allowed w a = go (is_there w q) refl
@@ -147,6 +148,7 @@ only_peek w a x v (Wrong CannotCreate j e k) = absurd j
 only_peek w a x v (Wrong BuiltinVtime j e k) = absurd j
 only_peek w a x v (Wrong Mixed j e k) = absurd j
 only_peek w a x v (Wrong Stuck j e k) = absurd j
+only_peek w a x v (Wrong IdleUntracked j e k) = absurd j
 
 on_is : (w : WorldState) (t c : ℕ) → is_this t (current w c) ≡ true → IsCurrent w c (Some t)
 on_is w t c e = subst (λ o. IsCurrent w c o) (this_is t (current w c) e) (current_is w c)
@@ -281,8 +283,35 @@ only_picks w mask n v (PicksNone all k z) =
     let x = first_none w mask all in
     (k ∙ ap (λ o. pick_answer_by None o) (sym x), z ∙ ap (λ o. after_claim w o) (sym x))
 
+-- where the host tracks which are idle, and what else is wrong
+abbrev first_wrong : Bool → Option Fault → Option Fault
+first_wrong b o = or_fault (if b then None else Some IdleUntracked) o
+
+abbrev flag_as : Bool → Option Fault
+flag_as b = if b then None else Some UnknownFlag
+
+pick_judged : (w : WorldState) (flags : ℕ) → JudgesPick w flags (pick_fault w flags)
+pick_judged w flags = go w.tracks_idle refl (nat_le flags 1) refl
+  where
+    go : (a : Bool) → w.tracks_idle ≡ a → (b : Bool) → nat_le flags 1 ≡ b → JudgesPick w flags (first_wrong a (flag_as b))
+    go false e b k = e
+    go true e true k = (e, grind (arith, nat_tests, k))
+    go true e false k = (e, grind (arith, nat_tests, k))
+
+pick_from : (w : WorldState) (flags : ℕ) (o : Option Fault) → JudgesPick w flags o → pick_fault w flags ≡ o
+pick_from w flags None j = let l : nat_le flags 1 ≡ true = grind (arith, nat_tests, j.1) in ap (λ a. first_wrong a (flag_as (nat_le flags 1))) j.0 ∙ ap (λ b. flag_as b) l
+pick_from w flags (Some IdleUntracked) j = ap (λ a. first_wrong a (flag_as (nat_le flags 1))) j
+pick_from w flags (Some UnknownFlag) j = let l : nat_le flags 1 ≡ false = grind (arith, nat_tests, j.1) in ap (λ a. first_wrong a (flag_as (nat_le flags 1))) j.0 ∙ ap (λ b. flag_as b) l
+pick_from w flags (Some NoSuchQueue) j = absurd j
+pick_from w flags (Some NoSuchCpu) j = absurd j
+pick_from w flags (Some CannotInsert) j = absurd j
+pick_from w flags (Some CannotCreate) j = absurd j
+pick_from w flags (Some BuiltinVtime) j = absurd j
+pick_from w flags (Some Mixed) j = absurd j
+pick_from w flags (Some Stuck) j = absurd j
+
 pub pick_allowed : (w : WorldState) (a : List Arg) → Is-effect w PickIdle a
-pick_allowed w a = go (nat_le flags 1) refl
+pick_allowed w a = go (pick_fault w flags) (pick_judged w flags)
   where
     flags : ℕ
     flags = given_number a 1
@@ -290,26 +319,25 @@ pick_allowed w a = go (nat_le flags 1) refl
     first : Option ℕ
     first = first_free_in (given_number a 0) w
 
-    go : (b : Bool) → nat_le flags 1 ≡ b → IsEffect w PickIdle a (Num (pick_answer_by (if b then None else Some UnknownFlag) first)) (after_pick_by (if b then None else Some UnknownFlag) w first)
-    go true e = Done (pick_answer_by None first) (grind (arith, nat_tests, e)) (picks w (given_number a 0)) refl
-    go false e = Wrong UnknownFlag (grind (arith, nat_tests, e)) refl (blames w (reason.Fault UnknownFlag))
+    go : (o : Option Fault) → JudgesPick w flags o → IsEffect w PickIdle a (Num (pick_answer_by o first)) (after_pick_by o w first)
+    go None j = Done (pick_answer_by None first) j (picks w (given_number a 0)) refl
+    go (Some f) j = Wrong f j refl (blames w (reason.Fault f))
+
+abbrev picked_so : WorldState → List Arg → Option Fault → Answer
+picked_so w a o = Num (pick_answer_by o (first_free_in (given_number a 0) w))
+
+abbrev left_so : WorldState → List Arg → Option Fault → WorldState
+left_so w a o = after_pick_by o w (first_free_in (given_number a 0) w)
 
 pub only_pick : (w : WorldState) (a : List Arg) (x : Answer) (v : WorldState) → IsEffect w PickIdle a x v → Is-this w PickIdle a x v
 only_pick w a x v (Done n j d e) =
-    let l : nat_le (given_number a 1) 1 ≡ true = grind (arith, nat_tests, j) in
+    let y = pick_from w (given_number a 1) None j in
     let h = only_picks w (given_number a 0) n v d in
-    rw l (e ∙ ap Num h.0, h.1)
+    (e ∙ ap Num h.0 ∙ ap (λ o. picked_so w a o) (sym y), h.1 ∙ ap (λ o. left_so w a o) (sym y))
 only_pick w a x v (NamesTask o j m e k) = absurd m
-only_pick w a x v (Wrong UnknownFlag j e k) =
-    let l : nat_le (given_number a 1) 1 ≡ false = grind (arith, nat_tests, j) in
-    rw l (e, only_blames w (reason.Fault UnknownFlag) v k)
-only_pick w a x v (Wrong NoSuchQueue j e k) = absurd j
-only_pick w a x v (Wrong NoSuchCpu j e k) = absurd j
-only_pick w a x v (Wrong CannotInsert j e k) = absurd j
-only_pick w a x v (Wrong CannotCreate j e k) = absurd j
-only_pick w a x v (Wrong BuiltinVtime j e k) = absurd j
-only_pick w a x v (Wrong Mixed j e k) = absurd j
-only_pick w a x v (Wrong Stuck j e k) = absurd j
+only_pick w a x v (Wrong f j e k) =
+    let y = pick_from w (given_number a 1) (Some f) j in
+    (e ∙ ap (λ o. picked_so w a o) (sym y), only_blames w (reason.Fault f) v k ∙ ap (λ o. left_so w a o) (sym y))
 
 -- ---- a claim
 
@@ -331,36 +359,54 @@ only_claims_this w c n v (WasTaken h k z) =
     let x = false_from (is_free w c) (λ e. h (free_is w c e)) in
     (k ∙ ap one_if (sym x), z ∙ ap (λ b. after_claim w (this_if b c)) (sym x))
 
-abbrev answered_so : WorldState → ℕ → Bool → Answer
-answered_so w c b = Num (if b then one_if (is_free w c) else invalid)
+abbrev cpu_as : Bool → Option Fault
+cpu_as b = if b then None else Some NoSuchCpu
 
-abbrev claimed_so : WorldState → ℕ → Bool → WorldState
-claimed_so w c b = if b then after_claim w (this_if (is_free w c) c) else with_fault w NoSuchCpu
+-- a question about an idle processor, and what is wrong with it
+pub ask_judged : (w : WorldState) (c : ℕ) → JudgesAsk w c (ask_fault w c)
+ask_judged w c = go w.tracks_idle refl (nat_lt c (length w.cpus)) refl
+  where
+    go : (a : Bool) → w.tracks_idle ≡ a → (b : Bool) → nat_lt c (length w.cpus) ≡ b → JudgesAsk w c (first_wrong a (cpu_as b))
+    go false e b k = e
+    go true e true k = (e, grind (arith, nat_tests, k))
+    go true e false k = (e, grind (arith, nat_tests, k))
+
+-- and nothing else is
+pub ask_from : (w : WorldState) (c : ℕ) (o : Option Fault) → JudgesAsk w c o → ask_fault w c ≡ o
+ask_from w c None j = let l : nat_lt c (length w.cpus) ≡ true = grind (arith, nat_tests, j.1) in ap (λ a. first_wrong a (cpu_as (nat_lt c (length w.cpus)))) j.0 ∙ ap (λ b. cpu_as b) l
+ask_from w c (Some IdleUntracked) j = ap (λ a. first_wrong a (cpu_as (nat_lt c (length w.cpus)))) j
+ask_from w c (Some NoSuchCpu) j =
+    let l : nat_lt c (length w.cpus) ≡ false = grind (arith, nat_tests, j.1) in ap (λ a. first_wrong a (cpu_as (nat_lt c (length w.cpus)))) j.0 ∙ ap (λ b. cpu_as b) l
+ask_from w c (Some NoSuchQueue) j = absurd j
+ask_from w c (Some UnknownFlag) j = absurd j
+ask_from w c (Some CannotInsert) j = absurd j
+ask_from w c (Some CannotCreate) j = absurd j
+ask_from w c (Some BuiltinVtime) j = absurd j
+ask_from w c (Some Mixed) j = absurd j
+ask_from w c (Some Stuck) j = absurd j
+
+abbrev answered_so : WorldState → ℕ → Option Fault → Answer
+answered_so w c o = Num (unless_fault o (one_if (is_free w c)))
+
+abbrev claimed_so : WorldState → ℕ → Option Fault → WorldState
+claimed_so w c o = fault_or w o (after_claim w (this_if (is_free w c) c))
 
 pub claim_allowed : (w : WorldState) (a : List Arg) → Is-effect w ClaimIdle a
-claim_allowed w a = go (nat_lt c (length w.cpus)) refl
+claim_allowed w a = go (ask_fault w c) (ask_judged w c)
   where
     c : ℕ
     c = given_number a 0
 
-    go : (b : Bool) → nat_lt c (length w.cpus) ≡ b
-        → IsEffect w ClaimIdle a (Num (if b then one_if (is_free w c) else invalid)) (if b then after_claim w (this_if (is_free w c) c) else with_fault w NoSuchCpu)
-    go true e = Done (one_if (is_free w c)) (grind (arith, nat_tests, e)) (claims_this w c) refl
-    go false e = Wrong NoSuchCpu (grind (arith, nat_tests, e)) refl (blames w (reason.Fault NoSuchCpu))
+    go : (o : Option Fault) → JudgesAsk w c o → IsEffect w ClaimIdle a (answered_so w c o) (claimed_so w c o)
+    go None j = Done (one_if (is_free w c)) j (claims_this w c) refl
+    go (Some f) j = Wrong f j refl (blames w (reason.Fault f))
 
 pub only_claim : (w : WorldState) (a : List Arg) (x : Answer) (v : WorldState) → IsEffect w ClaimIdle a x v → Is-this w ClaimIdle a x v
 only_claim w a x v (Done n j d e) =
-    let l : nat_lt (given_number a 0) (length w.cpus) ≡ true = grind (arith, nat_tests, j) in
+    let y = ask_from w (given_number a 0) None j in
     let h = only_claims_this w (given_number a 0) n v d in
-    (e ∙ ap Num h.0 ∙ ap (λ b. answered_so w (given_number a 0) b) (sym l), h.1 ∙ ap (λ b. claimed_so w (given_number a 0) b) (sym l))
+    (e ∙ ap Num h.0 ∙ ap (λ o. answered_so w (given_number a 0) o) (sym y), h.1 ∙ ap (λ o. claimed_so w (given_number a 0) o) (sym y))
 only_claim w a x v (NamesTask o j m e k) = absurd m
-only_claim w a x v (Wrong NoSuchCpu j e k) =
-    let l : nat_lt (given_number a 0) (length w.cpus) ≡ false = grind (arith, nat_tests, j) in
-    (e ∙ ap (λ b. answered_so w (given_number a 0) b) (sym l), only_blames w (reason.Fault NoSuchCpu) v k ∙ ap (λ b. claimed_so w (given_number a 0) b) (sym l))
-only_claim w a x v (Wrong NoSuchQueue j e k) = absurd j
-only_claim w a x v (Wrong CannotInsert j e k) = absurd j
-only_claim w a x v (Wrong UnknownFlag j e k) = absurd j
-only_claim w a x v (Wrong CannotCreate j e k) = absurd j
-only_claim w a x v (Wrong BuiltinVtime j e k) = absurd j
-only_claim w a x v (Wrong Mixed j e k) = absurd j
-only_claim w a x v (Wrong Stuck j e k) = absurd j
+only_claim w a x v (Wrong f j e k) =
+    let y = ask_from w (given_number a 0) (Some f) j in
+    (e ∙ ap (λ o. answered_so w (given_number a 0) o) (sym y), only_blames w (reason.Fault f) v k ∙ ap (λ o. claimed_so w (given_number a 0) o) (sym y))

@@ -2,25 +2,27 @@
 -- task is put, the local queue is filled, the front of it is picked, dispatch is asked. A callback
 -- of the policy is given by the run of its program; once the policy is ejected, the built-in
 -- scheduler does its work.
-use Rattle.std.specs.Prelude.{◌≡◌, ℕ, suc, ◌<◌, Bool, true, false, [], ◌∷◌, Option, Some, None}
+use Rattle.std.specs.Prelude.{◌≡◌, ℕ, suc, ◌<◌, Bool, true, false, List, [], ◌∷◌, Option, Some, None}
 use Rattle.scx_dsq.specs.Queues.{front_of, queue_of}
 use Rattle.scx_dsq.specs.Calls.{after_push, after_pop}
 use Rattle.scx_dsq.specs.declared.entries.Rank.TheVariants.{Fifo}
 use Rattle.scx_isa_semantics.specs.declared.callbacks.Callback.TheVariants as callback
 use Rattle.scx_vm.specs.Programs.{VerifiedProgram}
 use Rattle.scx_sched_world.specs.declared.call.Insert.{Insert}
+use Rattle.scx_sched_world.specs.declared.notes.Note.{Note}
 use Rattle.scx_sched_world.specs.declared.notes.What.{What}
 use Rattle.scx_sched_world.specs.declared.notes.What.TheVariants as note
 use Rattle.scx_sched_world.specs.declared.eject.Eject.{Eject}
 use Rattle.scx_sched_world.specs.Ids.{global, builtin_queue, parked_queue, local_on}
-use Rattle.scx_sched_world.specs.World.{is_throttled, WorldState, with_queues, note_now}
+use Rattle.scx_sched_world.specs.World.{is_throttled, WorldState, with_queues, running, note_now}
 use Rattle.scx_sched_world.specs.Tasks.{local_len, after_enter, for_cpu, to_held, to_global, to_front, after_stop, started_at, after_run, after_keep, put_parked, after_take}
 use Rattle.scx_sched_world.specs.Ejecting.{put_builtin, after_catch_up, after_charge}
 use Rattle.scx_sched_machine.specs.Steps.{State, Stepped, with_world, stays, after, one_after_other, is_by_linux}
-use Rattle.scx_sched_machine.specs.Callbacks.{call_back, one_task, task_and_number, cpu_and_task}
+use Rattle.scx_sched_machine.specs.Callbacks.{call_back, noted_by, one_task, task_and_number, two_numbers, cpu_and_task}
 use Rattle.scx_sched_machine.specs.Cycle.{told_of, stopping_called}
 use Rattle.scx_sched_machine.specs.Parking.{FrontMayRun}
-use Rattle.scx_sched_rules.specs.Differences.{Homes, BeginsCycle, EndsCycle, KeepsSlice, GivesWay, Switches, IsToAsk, GivesUp}
+use Rattle.scx_sched_rules.specs.Differences.{Homes, BeginsCycle, EndsCycle, CallsIfThere, HearsIdle, KeepsSlice, GivesWay, Switches, IsToAsk, GivesUp}
+use Rattle.scx_sched_rules.specs.Custody.{TellsLeft}
 
 -- to that world, with one note of it
 abbrev pub noting : State → WorldState → What → Stepped
@@ -38,8 +40,18 @@ enqueue_called s t c flags = call_back s callback.Enqueue (task_and_number t fla
 
 -- dispatch is called for a processor, and given the task before or 0; under Linux rules, where a
 -- task goes to sleep, that one
-abbrev pub dispatch_called : State → ℕ → Option ℕ → Stepped
-dispatch_called s c p = call_back s callback.Dispatch (cpu_and_task c (told_of s p)) 0 c
+abbrev pub dispatch_run : State → ℕ → Option ℕ → Stepped
+dispatch_run s c p = call_back s callback.Dispatch (cpu_and_task c (told_of s p)) 0 c
+
+-- what its program notes while it runs: who is moved, and who is inserted
+abbrev pub dispatch_noted : State → ℕ → Option ℕ → List Note
+dispatch_noted s c p = noted_by s callback.Dispatch (cpu_and_task c (told_of s p)) 0 c
+
+-- dispatch is called, and the policy hears who left its custody in that
+pub record CallsDispatch (s : State) (c : ℕ) (p : Option ℕ) (r : Stepped) : Type 0 where
+  pub told : Stepped
+  pub tells : TellsLeft (dispatch_run s c p).state c (dispatch_noted s c p) told
+  pub all : r ≡ one_after_other (dispatch_run s c p) told
 
 -- the task has left its processor; the number says whether it stays runnable
 pub data HasStopped (s : State) (c t runnable : ℕ) (r : Stepped) : Type 0 where
@@ -152,11 +164,10 @@ pub data FillsBuiltin (s : State) (c : ℕ) (r : Stepped) : Type 0 where
 
 -- a call of dispatch, and then the local queue is supplied, unless the task before keeps its slice
 pub data Dispatches (s : State) (c : ℕ) (p : Option ℕ) (r : Stepped) : Type 0 where
-  Supplied_then : (supplied : Stepped)
-      → GivesWay (dispatch_called s c p).state p → Supplies c (dispatch_called s c p).state supplied
-      → r ≡ one_after_other (dispatch_called s c p) supplied → Dispatches s c p r
-  Kept_then : KeepsSlice (dispatch_called s c p).state p → r ≡ dispatch_called s c p
-      → Dispatches s c p r
+  Supplied_then : (called supplied : Stepped)
+      → CallsDispatch s c p called → GivesWay called.state p → Supplies c called.state supplied
+      → r ≡ one_after_other called supplied → Dispatches s c p r
+  Kept_then : CallsDispatch s c p r → KeepsSlice r.state p → Dispatches s c p r
 
 -- so many calls at most: one more where the local queue is still empty, the last call moved a task,
 -- and the task before doesn't keep its slice
@@ -200,11 +211,13 @@ pub data Starts (s : State) (c : ℕ) (r : Stepped) : Type 0 where
 -- ---- rest
 
 -- nobody came: the task before keeps the processor, or it is idle, which is noted where a task
--- ran there as the event began
+-- ran there as the event began; not yet where the policy hears of it first
 pub data Rests (s : State) (c : ℕ) : Option ℕ → Bool → Stepped → Type 0 where
   Keeps : (t : ℕ) (ran : Bool) (r : Stepped)
       → r ≡ silent s (after_keep s.world (Some t)) → Rests s c (Some t) ran r
-  Idles : (r : Stepped) → r ≡ noting s s.world (note.Idle c) → Rests s c None true r
+  Idles : (r : Stepped)
+      → ¬ HearsIdle s → r ≡ noting s s.world (note.Idle c) → Rests s c None true r
+  IdlesUnheard : (r : Stepped) → HearsIdle s → r ≡ stays s → Rests s c None true r
   WasIdle : (r : Stepped) → r ≡ stays s → Rests s c None false r
 
 -- ---- the built-in scheduler's cycle
@@ -253,21 +266,39 @@ pub record StartsPicked (s : State) (c t : ℕ) (r : Stepped) : Type 0 where
 abbrev pub picking : State → ℕ → State
 picking s t = with_world s (after_keep s.world (Some t))
 
+-- of a processor that was idle the policy hears that it isn't any more (ext/idle.c,
+-- `__scx_update_idle`)
+pub data TellsBusy (s : State) (c : ℕ) : Option ℕ → Bool → Stepped → Type 0 where
+  WasAtRest : (r : Stepped)
+      → CallsIfThere s callback.UpdateIdle (two_numbers c 0) 0 c r → TellsBusy s c None false r
+  HadTask : (t : ℕ) (ran : Bool) (r : Stepped) → r ≡ stays s → TellsBusy s c (Some t) ran r
+  HadRun : (r : Stepped) → r ≡ stays s → TellsBusy s c None true r
+
+-- the task before leaves, once the policy has heard that a processor isn't idle any more
+pub record MakesWay (s : State) (c : ℕ) (p : Option ℕ) (ran : Bool) (r : Stepped) : Type 0 where
+  pub told : Stepped
+  pub tells : TellsBusy s c p ran told
+  pub left : Stepped
+  pub leaves : Leaves told.state c p left
+  pub all : r ≡ one_after_other told left
+
 -- the task before leaves, and another runs in its place: under plain rules the front of the local
 -- queue by then; under Linux rules its front before that, which is picked, and gets a slice if it
 -- has none (ext.c, `do_pick_task_scx`), unless an ejection took it away
 pub data Picks (s : State) (c : ℕ) (p : Option ℕ) (ran : Bool) (r : Stepped) : Type 0 where
   Picks_then : (left started : Stepped)
-      → is_by_linux s ≡ false → Leaves s c p left → StartsOrAnew left.state c ran started
+      → is_by_linux s ≡ false → MakesWay s c p ran left → StartsOrAnew left.state c ran started
       → r ≡ one_after_other left started → Picks s c p ran r
   Picks_before : (t : ℕ) (left started : Stepped)
       → is_by_linux s ≡ true → front_of s.world.queues (local_on c) ≡ Some t
-      → Leaves (picking s t) c p left → queue_of left.state.world.queues t ≡ Some (local_on c)
+      → MakesWay (picking s t) c p ran left
+      → queue_of left.state.world.queues t ≡ Some (local_on c)
       → StartsPicked left.state c t started → r ≡ one_after_other left started
       → Picks s c p ran r
   Picks_anew : (t : ℕ) (left started : Stepped)
       → is_by_linux s ≡ true → front_of s.world.queues (local_on c) ≡ Some t
-      → Leaves (picking s t) c p left → ¬ (queue_of left.state.world.queues t ≡ Some (local_on c))
+      → MakesWay (picking s t) c p ran left
+      → ¬ (queue_of left.state.world.queues t ≡ Some (local_on c))
       → StartsOrAnew left.state c ran started → r ≡ one_after_other left started
       → Picks s c p ran r
 
@@ -296,12 +327,47 @@ pub data Looks (s : State) (c : ℕ) (p : Option ℕ) (ran : Bool) (r : Stepped)
   Of_builtin : (x : Eject)
       → s.world.ejected ≡ Some x → CyclesBuiltin s c p ran r → Looks s c p ran r
 
+-- ---- a processor falls idle
+
+-- a cycle began on a processor with a task, and ended with none, and the policy hears of that
+pub record FallsIdle (s : State) (c : ℕ) (ran : Bool) : Type 0 where
+  pub hears : HearsIdle s
+  pub had_task : ran ≡ true
+  pub has_none : running s.world c ≡ None
+
+-- the policy has heard that a processor is idle, which is noted only then; where that ejected the
+-- policy, a cycle of the built-in scheduler follows
+pub data StaysIdle (s : State) (c : ℕ) (r : Stepped) : Type 0 where
+  IsNoted : (ended : WorldState)
+      → s.world.ejected ≡ None → EndsCycle s.world ended → r ≡ noting s ended (note.Idle c)
+      → StaysIdle s c r
+  CyclesAnew : (x : Eject) (begun ended : WorldState) (found : Stepped)
+      → s.world.ejected ≡ Some x → BeginsCycle s.world c begun
+      → CyclesBuiltin (with_world s begun) c None true found → EndsCycle found.state.world ended
+      → r ≡ record found { state = with_world found.state ended } → StaysIdle s c r
+
+-- the policy hears that a processor is idle, as it is already; the task that was there last is
+-- current there until that is over
+pub record HearsOfIdle (s : State) (c : ℕ) (r : Stepped) : Type 0 where
+  pub told : Stepped
+  pub tells : CallsIfThere (with_world s (record s.world { cycling = None })) callback.UpdateIdle
+      (two_numbers c 1) 0 c told
+  pub done : Stepped
+  pub stays_so : StaysIdle told.state c done
+  pub all : r ≡ one_after_other told done
+
+-- what follows a cycle
+pub data Concludes (s : State) (c : ℕ) (ran : Bool) (r : Stepped) : Type 0 where
+  FellIdle : FallsIdle s c ran → HearsOfIdle s c r → Concludes s c ran r
+  HasEnded : (ended : WorldState)
+      → ¬ FallsIdle s c ran → EndsCycle s.world ended → r ≡ silent s ended → Concludes s c ran r
+
 -- a cycle is under way from the first step to the last
 pub record Cycles (s : State) (c : ℕ) (p : Option ℕ) (ran : Bool) (r : Stepped) : Type 0 where
   pub begun : WorldState
   pub begins : BeginsCycle s.world c begun
   pub found : Stepped
   pub looks : Looks (with_world s begun) c p ran found
-  pub ended : WorldState
-  pub ends : EndsCycle found.state.world ended
-  pub all : r ≡ record found { state = with_world found.state ended }
+  pub ended : Stepped
+  pub concludes : Concludes found.state c ran ended
+  pub all : r ≡ one_after_other found ended

@@ -83,7 +83,8 @@ pub data TellsWaker (s : State) (t : ℕ) (v : State) : Type 0 where
 
 -- ---- callbacks by Linux rules
 
--- a policy may have `runnable` and `quiescent`, which are called under Linux rules alone
+-- a policy may have callbacks besides, as `runnable` and `update_idle`, which are called under
+-- Linux rules alone
 pub data CallsIfThere (s : State) (b : Callback) (a : Args) (t c : ℕ) (r : Stepped)
     : Type 0 where
   IsPlain : is_by_linux s ≡ false → r ≡ stays s → CallsIfThere s b a t c r
@@ -106,6 +107,12 @@ pub data HearsTick (s : State) (c t : ℕ) (r : Stepped) : Type 0 where
   IsCalled : (p : VerifiedProgram)
       → is_by_linux s ≡ true → s.policy.callbacks.tick ≡ Some p → IsTickTime s
       → r ≡ call_back s callback.Tick (one_task t) t c → HearsTick s c t r
+
+-- a policy that hears which processors are idle: under Linux rules, where it has `update_idle`
+-- (ext/idle.c, `__scx_update_idle`)
+pub data HearsIdle (s : State) : Type 0 where
+  HasUpdateIdle : (p : VerifiedProgram)
+      → is_by_linux s ≡ true → s.policy.callbacks.update_idle ≡ Some p → HearsIdle s
 
 -- ---- slices
 

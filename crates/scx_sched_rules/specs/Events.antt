@@ -1,27 +1,30 @@
 -- What an accepted event does, by cases, over the steps of a cycle.
-use Rattle.std.specs.Prelude.{◌≡◌, ℕ, suc, ◌<◌, ◌≤◌, true, false, [], ◌∷◌, length, Option, Some, None}
+use Rattle.std.specs.Prelude.{◌≡◌, ℕ, suc, ◌+◌, ◌^◌, ◌<◌, ◌≤◌, true, false, [], ◌∷◌, length, Option, Some, None}
 use Rattle.scx_dsq.specs.Queues.{len_of, front_of, behind_of}
-use Rattle.scx_weights.specs.Hierarchy.{with_weight}
+use Rattle.scx_weights.specs.Hierarchy.{with_weight, with_own_weight}
 use Rattle.scx_isa_semantics.specs.declared.callbacks.Callback.TheVariants as callback
 use Rattle.scx_vm.specs.Programs.{VerifiedProgram}
 use Rattle.scx_sched_world.specs.declared.call.Insert.{Insert}
 use Rattle.scx_sched_world.specs.declared.notes.What.TheVariants as note
 use Rattle.scx_sched_world.specs.Ids.{parked_queue}
-use Rattle.scx_sched_world.specs.World.{WorldState, is_throttled, with_tree, with_waker, task_at, wait, running, cpu_of, is_idle, at_callback, note_now}
+use Rattle.scx_sched_world.specs.World.{WorldState, is_throttled, with_tree, with_waker, task_at, wait, waits, running, cpu_of, is_idle, at_callback, note_now}
 use Rattle.scx_sched_world.specs.declared.eject.Eject.{Eject}
 use Rattle.scx_sched_world.specs.declared.eject.Eject.TheVariants as cause
-use Rattle.scx_sched_world.specs.Tasks.{for_cpu, to_local, after_wake, after_sleep, after_leave, let_go, after_tick, used_ms, later, begun_periods}
+use Rattle.scx_sched_world.specs.Tasks.{for_cpu, to_local, after_wake, after_sleep, let_go, after_tick, used_ms, later, begun_periods}
 use Rattle.scx_sched_world.specs.Helpers.{with_insert}
 use Rattle.scx_sched_world.specs.Waits.{IsFirstOverdue}
 use Rattle.scx_sched_machine.specs.declared.events.Event.{Event}
-use Rattle.scx_sched_machine.specs.declared.events.Event.TheVariants.{Wake, Sleep, Tick, Clock, SetWeight}
+use Rattle.scx_sched_machine.specs.declared.events.Event.TheVariants.{Wake, Sleep, Tick, Clock, SetWeight, SetTaskWeight}
 use Rattle.scx_sched_machine.specs.Steps.{State, Stepped, with_world, stays, after, one_after_other, is_by_linux}
-use Rattle.scx_sched_machine.specs.Callbacks.{call_back, answered_by, task_cpu_and_0, task_and_number}
+use Rattle.scx_sched_machine.specs.Callbacks.{call_back, answered_by, one_task, task_cpu_and_0, task_and_number}
 use Rattle.scx_sched_rules.specs.Differences.{Homes, BeginsSwitch, TellsWaker, CallsIfThere, HearsTick, EndsSlices, TellsSleep, LooksIfIdle}
 use Rattle.scx_sched_rules.specs.Helpers.{IsChoice, IsDefault, with_claim}
 use Rattle.scx_sched_rules.specs.Ejections.{Ejects}
 use Rattle.scx_sched_rules.specs.Cycles.{noting, silent, entering, gone_off, HasStopped, Puts, parking, Cycles}
+use Rattle.scx_sched_rules.specs.Custody.{LeavesQueue}
+use Rattle.scx_sched_rules.specs.Timers.{FiresAll}
 use Rattle.scx_sched_rules.specs.Rounds.{IsFollowed}
+use Rattle.scx_sched_rules.specs.Refusals.{IsWeight}
 
 -- the state in which a task has become runnable, and waits from now on
 abbrev pub after_waking : State → ℕ → State
@@ -143,15 +146,13 @@ abbrev pub FallsAsleep : State → ℕ → ℕ → Stepped → Type 0
 FallsAsleep s t c r =
     CallsIfThere (asleep s t) callback.Quiescent (task_and_number t 1) t c r
 
--- the state in which a task that waited has left its queue
-abbrev pub gone_out : State → ℕ → State
-gone_out s t = with_world s (after_leave s.world t)
-
 -- the task leaves its queue, or its processor, which looks for another task
 pub data Sleeps (s : State) (t : ℕ) (r : Stepped) : Type 0 where
-  FromQueue : (gone : Stepped)
-      → cpu_of s.world t ≡ None → FallsAsleep (gone_out s t) t (task_at s.world t).prev_cpu gone
-      → r ≡ after (note_now s.world (note.Sleep t) ∷ []) gone → Sleeps s t r
+  FromQueue : (left gone : Stepped)
+      → cpu_of s.world t ≡ None → LeavesQueue s t (task_at s.world t).prev_cpu 1 left
+      → FallsAsleep left.state t (task_at s.world t).prev_cpu gone
+      → r ≡ after (note_now s.world (note.Sleep t) ∷ []) (one_after_other left gone)
+      → Sleeps s t r
   FromCpu : (c : ℕ) (left gone found : Stepped) (told : State)
       → cpu_of s.world t ≡ Some c → LeavesCpu s c t 0 left → FallsAsleep left.state t c gone
       → TellsSleep gone.state t told → Cycles told c None true found
@@ -236,13 +237,81 @@ pub data Watches (s : State) (r : Stepped) : Type 0 where
       → s.world.ejected ≡ None → IsFirstOverdue s.world s.policy.timeout_ms t
       → Ejects s (cause.Stall t s.world.clock) r → Watches s r
 
--- the clock grows, who may run again is let go, and the watchdog looks
+-- the clock grows, who may run again is let go, timers that are due run, and the watchdog looks
 pub record Ages (s : State) (r : Stepped) : Type 0 where
   pub gone : Stepped
   pub lets_go : LetsAllGo (after_clock s) gone
+  pub fired : Stepped
+  pub fires : FiresAll gone.state fired
   pub watched : Stepped
-  pub watches : Watches gone.state watched
-  pub all : r ≡ one_after_other gone watched
+  pub watches : Watches fired.state watched
+  pub all : r ≡ one_after_other gone (one_after_other fired watched)
+
+-- ---- a task's own weight (syscalls.c, `set_user_nice`)
+
+-- the task has that weight itself; where it isn't there, or that is no weight, nothing changes
+pub data SetsWeight (w : WorldState) (t x : ℕ) (v : WorldState) : Type 0 where
+  IsSet : t < length w.tree.homes → IsWeight x → v ≡ with_tree w (with_own_weight w.tree t x)
+      → SetsWeight w t x v
+  HasNoHome : length w.tree.homes ≤ t → v ≡ w → SetsWeight w t x v
+  IsOutside : ¬ IsWeight x → v ≡ w → SetsWeight w t x v
+
+-- it is set, and the policy hears it
+pub record TakesWeight (s : State) (t c x : ℕ) (r : Stepped) : Type 0 where
+  pub weighed : WorldState
+  pub sets : SetsWeight s.world t x weighed
+  pub hears : CallsIfThere (with_world s weighed) callback.SetWeight (task_and_number t x) t c r
+
+-- the flags SAVE and SCHED_CHANGE of a task that leaves to be changed
+abbrev pub leaves_to_change : ℕ
+leaves_to_change = 2 ^ 33 + 2
+
+-- the policy hears that the task isn't runnable, its weight, and that it is runnable again (core.c,
+-- `sched_change_begin`, `sched_change_end`)
+pub record ChangesWeight (s : State) (t c x : ℕ) (r : Stepped) : Type 0 where
+  pub rested : Stepped
+  pub rests : CallsIfThere s callback.Quiescent (task_and_number t leaves_to_change) t c rested
+  pub weighed : Stepped
+  pub weighs : TakesWeight rested.state t c x weighed
+  pub roused : Stepped
+  pub rouses : CallsIfThere weighed.state callback.Runnable (task_and_number t 2) t c roused
+  pub all : r ≡ one_after_other rested (one_after_other weighed roused)
+
+-- a task that runs stays on its processor, and the policy hears that it stops and runs again; one
+-- that waits leaves its queue and is put again; one that sleeps or is parked stays there
+pub data Reweighs (s : State) (t x : ℕ) (r : Stepped) : Type 0 where
+  WhileItRuns : (c : ℕ) (stopped changed resumed : Stepped)
+      → cpu_of s.world t ≡ Some c
+      → CallsIfThere s callback.Stopping (task_and_number t 0) t c stopped
+      → ChangesWeight stopped.state t c x changed
+      → CallsIfThere changed.state callback.Running (one_task t) t c resumed
+      → r ≡ one_after_other stopped (one_after_other changed resumed)
+      → Reweighs s t x r
+  WhileItWaits : (left changed put : Stepped)
+      → cpu_of s.world t ≡ None → waits s.world t ≡ true
+      → LeavesQueue s t (task_at s.world t).prev_cpu leaves_to_change left
+      → ChangesWeight left.state t (task_at s.world t).prev_cpu x changed
+      → Puts changed.state t (task_at s.world t).prev_cpu 0 put
+      → r ≡ one_after_other left (one_after_other changed put)
+      → Reweighs s t x r
+  WhileItRests : cpu_of s.world t ≡ None → waits s.world t ≡ false
+      → TakesWeight s t (task_at s.world t).prev_cpu x r → Reweighs s t x r
+
+-- the state in which callbacks run on processor 0
+abbrev pub on_first_cpu : State → State
+on_first_cpu s = with_world s (with_waker s.world (Some 0))
+
+-- a task has that weight from then on, which is noted; a policy that is out of force hears nothing,
+-- nor does one by plain rules
+pub data Weighs (s : State) (t x : ℕ) (r : Stepped) : Type 0 where
+  Weighs_by_plain : (weighed : WorldState)
+      → is_by_linux s ≡ false → SetsWeight s.world t x weighed
+      → r ≡ noting s weighed (note.TaskWeight t x) → Weighs s t x r
+  Weighs_by_linux : (done : Stepped)
+      → is_by_linux s ≡ true → Reweighs (on_first_cpu s) t x done
+      → r ≡ after (note_now s.world (note.TaskWeight t x) ∷ [])
+      (record done { state = is_woken done.state })
+      → Weighs s t x r
 
 -- what an accepted event does, each kind by its own cases, before processors look for work
 abbrev pub Does : State → Event → Stepped → Type 0
@@ -252,6 +321,7 @@ Does s (Tick c) r = Ticks s c r
 Does s Clock r = Ages s r
 Does s (SetWeight g x) r =
     r ≡ noting s (with_tree s.world (with_weight s.world.tree g x)) (note.Weight g x)
+Does s (SetTaskWeight t x) r = Weighs s t x r
 
 -- what an accepted event does, and what follows it
 pub record Happens (s : State) (v : Event) (r : Stepped) : Type 0 where

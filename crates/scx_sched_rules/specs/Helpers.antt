@@ -11,7 +11,7 @@ use Rattle.scx_dsq.specs.declared.entries.Rank.{Rank}
 use Rattle.scx_dsq.specs.declared.entries.Rank.TheVariants.{Fifo, Vtime}
 use Rattle.scx_isa_semantics.specs.declared.callbacks.Callback.TheVariants.{SelectCpu, Enqueue, Dispatch}
 use Rattle.scx_isa_semantics.specs.declared.host_tables.Helper.{Helper}
-use Rattle.scx_isa_semantics.specs.declared.host_tables.Helper.TheVariants.{MapLookupElem, KtimeGetNs, CreateDsq, DsqInsert, DsqInsertVtime, DsqMoveToLocal, SelectCpuDfl, CpuIdle, TaskByPid, DsqNrQueued, KickCpu, SmpProcessorId, Exit, CpuCurr, DsqPeek, TaskRunning, TaskCpu, PickIdle, ClaimIdle}
+use Rattle.scx_isa_semantics.specs.declared.host_tables.Helper.TheVariants.{MapLookupElem, KtimeGetNs, CreateDsq, DsqInsert, DsqInsertVtime, DsqMoveToLocal, SelectCpuDfl, CpuIdle, TaskByPid, DsqNrQueued, KickCpu, SmpProcessorId, Exit, CpuCurr, DsqPeek, TaskRunning, TaskCpu, PickIdle, ClaimIdle, TimerStart, TimerCancel}
 use Rattle.scx_vm.specs.declared.arguments.Arg.{Arg}
 use Rattle.scx_vm.specs.declared.arguments.Answer.{Answer}
 use Rattle.scx_vm.specs.declared.arguments.Answer.TheVariants.{Num}
@@ -19,13 +19,14 @@ use Rattle.scx_sched_world.specs.declared.call.Insert.{Insert}
 use Rattle.scx_sched_world.specs.declared.eject.Cause.{Cause}
 use Rattle.scx_sched_world.specs.declared.eject.Cause.TheVariants as reason
 use Rattle.scx_sched_world.specs.declared.faults.Fault.{Fault}
-use Rattle.scx_sched_world.specs.declared.faults.Fault.TheVariants.{Stuck, NoSuchQueue, CannotInsert, NoSuchCpu, UnknownFlag, CannotCreate, BuiltinVtime, Mixed}
+use Rattle.scx_sched_world.specs.declared.faults.Fault.TheVariants.{Stuck, NoSuchQueue, CannotInsert, NoSuchCpu, UnknownFlag, CannotCreate, BuiltinVtime, Mixed, IdleUntracked}
 use Rattle.scx_sched_world.specs.declared.notes.What.TheVariants as notes
+use Rattle.scx_sched_world.specs.declared.timers.Alarm.{Alarm}
 use Rattle.scx_sched_world.specs.Ids.{policy_end, global, local, held_queue, local_on}
 use Rattle.scx_sched_world.specs.CpuSets.{is_in_set, and_cpu}
 use Rattle.scx_sched_world.specs.World.{WorldState, with_queues, with_kick, with_preemption, is_by_linux, task_at, running, is_idle, is_claimed, with_note}
 use Rattle.scx_sched_world.specs.Tasks.{after_leave, after_enter, queue_for, for_cpu}
-use Rattle.scx_sched_world.specs.Helpers.{invalid, with_insert, with_move, given_number, given_task, task_or_null, insert_of, insert_of_vtime}
+use Rattle.scx_sched_world.specs.Helpers.{invalid, with_insert, with_move, given_number, given_task, task_or_null, insert_of, insert_of_vtime, with_timer, alarm_at}
 use Rattle.scx_sched_rules.specs.Differences.{Homes, IsCurrent, IsHere}
 
 -- ---- queues that a call names
@@ -116,6 +117,7 @@ JudgesInsert w t i flags None =
     × (¬ IsMixed w i.queue i.rank)
 JudgesInsert w t i flags (Some CannotCreate) = ⊥
 JudgesInsert w t i flags (Some Stuck) = ⊥
+JudgesInsert w t i flags (Some IdleUntracked) = ⊥
 
 -- only the flags of a late insert are looked at
 abbrev pub JudgesFlags : WorldState → ℕ → Option Fault → Type 0
@@ -128,6 +130,7 @@ JudgesFlags w flags (Some BuiltinVtime) = ⊥
 JudgesFlags w flags (Some Mixed) = ⊥
 JudgesFlags w flags (Some CannotCreate) = ⊥
 JudgesFlags w flags (Some Stuck) = ⊥
+JudgesFlags w flags (Some IdleUntracked) = ⊥
 
 -- an insert, in time or late
 pub data JudgesAnInsert (w : WorldState) (t : Option ℕ) (i : Insert) (flags : ℕ)
@@ -146,6 +149,7 @@ JudgesCreate w q (Some NoSuchCpu) = ⊥
 JudgesCreate w q (Some BuiltinVtime) = ⊥
 JudgesCreate w q (Some Mixed) = ⊥
 JudgesCreate w q (Some Stuck) = ⊥
+JudgesCreate w q (Some IdleUntracked) = ⊥
 
 -- a call that wants such a queue
 abbrev pub JudgesQueue : Type 0 → Option Fault → Type 0
@@ -158,6 +162,20 @@ JudgesQueue fits (Some NoSuchCpu) = ⊥
 JudgesQueue fits (Some BuiltinVtime) = ⊥
 JudgesQueue fits (Some Mixed) = ⊥
 JudgesQueue fits (Some Stuck) = ⊥
+JudgesQueue fits (Some IdleUntracked) = ⊥
+
+-- a call that wants a timer of the policy
+abbrev pub JudgesTimer : WorldState → ℕ → Option Fault → Type 0
+JudgesTimer w t None = t < length w.timers
+JudgesTimer w t (Some UnknownFlag) = length w.timers ≤ t
+JudgesTimer w t (Some NoSuchQueue) = ⊥
+JudgesTimer w t (Some CannotCreate) = ⊥
+JudgesTimer w t (Some CannotInsert) = ⊥
+JudgesTimer w t (Some NoSuchCpu) = ⊥
+JudgesTimer w t (Some BuiltinVtime) = ⊥
+JudgesTimer w t (Some Mixed) = ⊥
+JudgesTimer w t (Some Stuck) = ⊥
+JudgesTimer w t (Some IdleUntracked) = ⊥
 
 -- a call that wants a processor
 abbrev pub JudgesCpu : WorldState → ℕ → Option Fault → Type 0
@@ -170,6 +188,35 @@ JudgesCpu w c (Some UnknownFlag) = ⊥
 JudgesCpu w c (Some BuiltinVtime) = ⊥
 JudgesCpu w c (Some Mixed) = ⊥
 JudgesCpu w c (Some Stuck) = ⊥
+JudgesCpu w c (Some IdleUntracked) = ⊥
+
+-- a question whether a processor is idle, or its claim: where the host doesn't track which are
+-- idle, that is the fault, before any other (ext/idle.c, `check_builtin_idle_enabled`)
+abbrev pub JudgesAsk : WorldState → ℕ → Option Fault → Type 0
+JudgesAsk w c None = (w.tracks_idle ≡ true) × (c < length w.cpus)
+JudgesAsk w c (Some IdleUntracked) = w.tracks_idle ≡ false
+JudgesAsk w c (Some NoSuchCpu) = (w.tracks_idle ≡ true) × (length w.cpus ≤ c)
+JudgesAsk w c (Some NoSuchQueue) = ⊥
+JudgesAsk w c (Some CannotCreate) = ⊥
+JudgesAsk w c (Some CannotInsert) = ⊥
+JudgesAsk w c (Some UnknownFlag) = ⊥
+JudgesAsk w c (Some BuiltinVtime) = ⊥
+JudgesAsk w c (Some Mixed) = ⊥
+JudgesAsk w c (Some Stuck) = ⊥
+
+-- the choice of an idle processor for a task; what isn't a task has none, and no fault
+abbrev pub JudgesChoice : WorldState → Option ℕ → Option Fault → Type 0
+JudgesChoice w None o = o ≡ None
+JudgesChoice w (Some t) None = w.tracks_idle ≡ true
+JudgesChoice w (Some t) (Some IdleUntracked) = w.tracks_idle ≡ false
+JudgesChoice w (Some t) (Some NoSuchCpu) = ⊥
+JudgesChoice w (Some t) (Some NoSuchQueue) = ⊥
+JudgesChoice w (Some t) (Some CannotCreate) = ⊥
+JudgesChoice w (Some t) (Some CannotInsert) = ⊥
+JudgesChoice w (Some t) (Some UnknownFlag) = ⊥
+JudgesChoice w (Some t) (Some BuiltinVtime) = ⊥
+JudgesChoice w (Some t) (Some Mixed) = ⊥
+JudgesChoice w (Some t) (Some Stuck) = ⊥
 
 -- a kick: the flags 0, 1 (IDLE) and 2 (PREEMPT) are known
 abbrev pub JudgesKick : WorldState → ℕ → ℕ → Option Fault → Type 0
@@ -182,18 +229,20 @@ JudgesKick w c flags (Some CannotInsert) = ⊥
 JudgesKick w c flags (Some BuiltinVtime) = ⊥
 JudgesKick w c flags (Some Mixed) = ⊥
 JudgesKick w c flags (Some Stuck) = ⊥
+JudgesKick w c flags (Some IdleUntracked) = ⊥
 
 -- a choice from a mask: the flags 0 and 1, which asks for a whole core, are known
-abbrev pub JudgesPick : ℕ → Option Fault → Type 0
-JudgesPick flags None = flags ≤ 1
-JudgesPick flags (Some UnknownFlag) = 1 < flags
-JudgesPick flags (Some NoSuchCpu) = ⊥
-JudgesPick flags (Some NoSuchQueue) = ⊥
-JudgesPick flags (Some CannotCreate) = ⊥
-JudgesPick flags (Some CannotInsert) = ⊥
-JudgesPick flags (Some BuiltinVtime) = ⊥
-JudgesPick flags (Some Mixed) = ⊥
-JudgesPick flags (Some Stuck) = ⊥
+abbrev pub JudgesPick : WorldState → ℕ → Option Fault → Type 0
+JudgesPick w flags None = (w.tracks_idle ≡ true) × (flags ≤ 1)
+JudgesPick w flags (Some IdleUntracked) = w.tracks_idle ≡ false
+JudgesPick w flags (Some UnknownFlag) = (w.tracks_idle ≡ true) × (1 < flags)
+JudgesPick w flags (Some NoSuchCpu) = ⊥
+JudgesPick w flags (Some NoSuchQueue) = ⊥
+JudgesPick w flags (Some CannotCreate) = ⊥
+JudgesPick w flags (Some CannotInsert) = ⊥
+JudgesPick w flags (Some BuiltinVtime) = ⊥
+JudgesPick w flags (Some Mixed) = ⊥
+JudgesPick w flags (Some Stuck) = ⊥
 
 -- the fault of a call, or that it has none; of the look-up of an element, which a run does
 -- itself, nothing is allowed
@@ -204,8 +253,8 @@ Judges w DsqInsert a o = JudgesAnInsert w (given_task a 0) (insert_of w a) (give
 Judges w DsqInsertVtime a o =
     JudgesAnInsert w (given_task a 0) (insert_of_vtime w a) (given_number a 4) o
 Judges w DsqMoveToLocal a o = JudgesQueue (MayMove w (given_number a 0)) o
-Judges w SelectCpuDfl a o = o ≡ None
-Judges w CpuIdle a o = JudgesCpu w (given_number a 0) o
+Judges w SelectCpuDfl a o = JudgesChoice w (given_task a 0) o
+Judges w CpuIdle a o = JudgesAsk w (given_number a 0) o
 Judges w TaskByPid a o = o ≡ None
 Judges w DsqNrQueued a o = JudgesQueue (IsPolicyQueue w (given_number a 0)) o
 Judges w KickCpu a o = JudgesKick w (given_number a 0) (given_number a 1) o
@@ -215,8 +264,10 @@ Judges w CpuCurr a o = JudgesCpu w (given_number a 0) o
 Judges w DsqPeek a o = JudgesQueue (IsPolicyQueue w (given_number a 0)) o
 Judges w TaskRunning a o = o ≡ None
 Judges w TaskCpu a o = o ≡ None
-Judges w PickIdle a o = JudgesPick (given_number a 1) o
-Judges w ClaimIdle a o = JudgesCpu w (given_number a 0) o
+Judges w PickIdle a o = JudgesPick w (given_number a 1) o
+Judges w ClaimIdle a o = JudgesAsk w (given_number a 0) o
+Judges w TimerStart a o = JudgesTimer w (given_number a 0) o
+Judges w TimerCancel a o = JudgesTimer w (given_number a 0) o
 Judges w MapLookupElem a o = ⊥
 
 -- ---- what a call does where nothing is wrong: its answer, and the world that it leaves
@@ -249,13 +300,17 @@ pub record IsFree (w : WorldState) (c : ℕ) : Type 0 where
   pub idle : is_idle w c ≡ true
   pub unclaimed : is_claimed w c ≡ false
 
--- the processor that is chosen for a task: its own if that is free, else the lowest free one
+-- the processor that is chosen for a task: its own if that is free, else the lowest free one; none
+-- where the host doesn't track which are idle
 pub data IsChoice (w : WorldState) (t : ℕ) : Option ℕ → Type 0 where
-  ItsOwn : (c : ℕ) → c ≡ (task_at w t).prev_cpu → IsFree w c → IsChoice w t (Some c)
+  ItsOwn : (c : ℕ)
+      → w.tracks_idle ≡ true → c ≡ (task_at w t).prev_cpu → IsFree w c → IsChoice w t (Some c)
   Lowest : (c : ℕ)
-      → ¬ IsFree w (task_at w t).prev_cpu → IsFree w c → ((d : ℕ) → d < c → ¬ IsFree w d)
+      → w.tracks_idle ≡ true → ¬ IsFree w (task_at w t).prev_cpu → IsFree w c
+      → ((d : ℕ) → d < c → ¬ IsFree w d)
       → IsChoice w t (Some c)
   NoneFree : ((d : ℕ) → ¬ IsFree w d) → IsChoice w t None
+  NoneTracked : w.tracks_idle ≡ false → IsChoice w t None
 
 -- the processor for which a task is put by default: the one that is chosen, else its own
 pub data IsDefault (w : WorldState) (t c : ℕ) : Type 0 where
@@ -339,6 +394,31 @@ pub data ClaimsThis (w : WorldState) (c n : ℕ) (v : WorldState) : Type 0 where
   WasFree : IsFree w c → n ≡ 1 → Claims w c v → ClaimsThis w c n v
   WasTaken : ¬ IsFree w c → n ≡ 0 → v ≡ w → ClaimsThis w c n v
 
+-- a delay in whole milliseconds: the least one that is as long as these nanoseconds, and at least 1
+pub record IsDelay (ns delay : ℕ) : Type 0 where
+  pub some : 1 ≤ delay
+  pub long : ns ≤ delay * 1000000
+  pub least : (n : ℕ) → 1 ≤ n → ns ≤ n * 1000000 → delay ≤ n
+
+-- a timer is started, whether or not it was before: it is due after that delay, for the processor of
+-- the callback that starts it (kernel/bpf/helpers.c, `bpf_timer_start`)
+pub record StartsTimer (w : WorldState) (t ns : ℕ) (v : WorldState) : Type 0 where
+  pub delay : ℕ
+  pub delays : IsDelay ns delay
+  pub cpu : ℕ
+  pub here : IsHere w cpu
+  pub all : v ≡ with_timer w t (Some (record { due = w.clock + delay; cpu = cpu }))
+
+-- a timer isn't started any more, and 1 is answered where it was; out of its own callback nothing
+-- changes, and -35 is answered (kernel/bpf/helpers.c, `bpf_timer_cancel`)
+pub data CancelsTimer (w : WorldState) (t n : ℕ) (v : WorldState) : Type 0 where
+  OfItself : w.passing.timer ≡ Some t → n ≡ 2 ^ 64 - 35 → v ≡ w → CancelsTimer w t n v
+  WasStarted : (a : Alarm)
+      → ¬ (w.passing.timer ≡ Some t) → alarm_at w t ≡ Some a → n ≡ 1 → v ≡ with_timer w t None
+      → CancelsTimer w t n v
+  NotStarted : ¬ (w.passing.timer ≡ Some t)
+      → alarm_at w t ≡ None → n ≡ 0 → v ≡ with_timer w t None → CancelsTimer w t n v
+
 -- the callback at hand blames the policy for a fault or an exit: the first of both counts (ext.c,
 -- `scx_claim_exit`)
 pub data Blames (w : WorldState) (x : Cause) (v : WorldState) : Type 0 where
@@ -363,6 +443,8 @@ Does w TaskRunning a n v = TellsCurrent w (given_task a 0) n × (v ≡ w)
 Does w TaskCpu a n v = TellsHome w (given_task a 0) n × (v ≡ w)
 Does w PickIdle a n v = PicksFrom w (given_number a 0) n v
 Does w ClaimIdle a n v = ClaimsThis w (given_number a 0) n v
+Does w TimerStart a n v = (n ≡ 0) × StartsTimer w (given_number a 0) (given_number a 1) v
+Does w TimerCancel a n v = CancelsTimer w (given_number a 0) n v
 Does w CpuCurr a n v = ⊥
 Does w DsqPeek a n v = ⊥
 Does w TaskByPid a n v = ⊥
@@ -388,6 +470,8 @@ Names w TaskRunning a o = ⊥
 Names w TaskCpu a o = ⊥
 Names w PickIdle a o = ⊥
 Names w ClaimIdle a o = ⊥
+Names w TimerStart a o = ⊥
+Names w TimerCancel a o = ⊥
 Names w MapLookupElem a o = ⊥
 
 -- the answer of a call with a fault: that it is invalid, but 0 of a call that answers a task

@@ -3,9 +3,11 @@ pub mod Entries
 pub mod Helpers
 pub mod Ejections
 pub mod Callbacks
+pub mod Custody
+pub mod Timers
 pub mod Cycles
 pub mod Rounds
-pub mod Events
 pub mod Refusals
+pub mod Events
 pub mod Starts
 pub mod Laws

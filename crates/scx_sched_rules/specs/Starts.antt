@@ -1,16 +1,21 @@
--- How a machine begins, by cases: init runs, and then enable of each task, by number.
-use Rattle.std.specs.Prelude.{◌≡◌, ℕ, suc, ℤ, ◌<◌, true, length, Some, None, Result, Ok, Err}
+-- How a machine begins, by cases: init runs, then enable and `set_weight` of each task, by number,
+-- and then `update_idle` of each processor.
+use Rattle.std.specs.Prelude.{◌≡◌, ℕ, suc, ℤ, ◌<◌, true, false, length, Some, None, Result, Ok, Err}
 use Rattle.std.specs.Int.{w64, cast_signed}
-use Rattle.scx_weights.specs.Hierarchy.{Hierarchy, is_active_task}
+use Rattle.scx_weights.specs.Hierarchy.{Hierarchy, is_active_task, own_weight}
+use Rattle.scx_isa_semantics.specs.declared.callbacks.Callback.{Callback}
 use Rattle.scx_isa_semantics.specs.declared.callbacks.Callback.TheVariants as callback
 use Rattle.scx_isa_semantics.specs.Endings.{Ending}
+use Rattle.scx_vm.specs.Programs.{VerifiedProgram}
+use Rattle.scx_vm.specs.declared.arguments.Args.{Args}
 use Rattle.scx_sched_world.specs.declared.faults.Fault.{Fault}
 use Rattle.scx_sched_world.specs.declared.eject.Cause.TheVariants as reason
-use Rattle.scx_sched_world.specs.World.{WorldState, at_callback}
-use Rattle.scx_sched_machine.specs.Policy.{PolicyState}
-use Rattle.scx_sched_machine.specs.Steps.{State}
-use Rattle.scx_sched_machine.specs.Callbacks.{acting, after_callback, no_arguments, one_task}
+use Rattle.scx_sched_world.specs.World.{WorldState, without_marks, at_callback}
+use Rattle.scx_sched_machine.specs.Policy.{PolicyState, program_of}
+use Rattle.scx_sched_machine.specs.Steps.{State, with_world, is_by_linux}
+use Rattle.scx_sched_machine.specs.Callbacks.{acting, after_callback, no_arguments, one_task, task_and_number, two_numbers}
 use Rattle.scx_sched_machine.specs.Start.{blank, fault_answer}
+use Rattle.scx_sched_rules.specs.Differences.{HearsIdle}
 use Rattle.scx_sched_rules.specs.Callbacks.{EndsAs}
 
 -- there must be 1 to 64 processors, and every task asleep
@@ -40,9 +45,9 @@ pub record Initializes (s : State) (r : Result State ℤ) : Type 0 where
       (at_callback s.world callback.Init 0 0) ending
   pub judged : Judged s ending r
 
--- ---- enable
+-- ---- callbacks that answer nothing
 
--- what it answers says nothing
+-- after one the machine goes on, or it fails by a fault or an exit
 pub data Passes (s : State) (e : Ending WorldState) (r : Result State ℤ) : Type 0 where
   HasFault : (f : Fault)
       → e.outside.call.cause ≡ Some (reason.Fault f) → r ≡ Err fault_answer → Passes s e r
@@ -52,12 +57,34 @@ pub data Passes (s : State) (e : Ending WorldState) (r : Result State ℤ) : Typ
       → e.outside.call.cause ≡ None → e.answer ≡ Some n → r ≡ Ok (after_callback s.policy e)
       → Passes s e r
 
--- enable is called for a task: the state after it, or the number with which it fails
-pub record Enables (s : State) (t : ℕ) (r : Result State ℤ) : Type 0 where
+-- one is called, with that task and processor at hand: the state after it, or the number with which
+-- it fails
+pub record Calls (s : State) (b : Callback) (a : Args) (t c : ℕ) (r : Result State ℤ)
+    : Type 0 where
   pub ending : Ending WorldState
-  pub ends : EndsAs (acting s callback.Enable) callback.Enable (one_task t) s.maps
-      (at_callback s.world callback.Enable t 0) ending
+  pub ends : EndsAs (acting s b) b a s.maps (at_callback s.world b t c) ending
   pub passes : Passes s ending r
+
+-- one that is called under Linux rules alone, if the policy has it
+pub data CallsByLinux (s : State) (b : Callback) (a : Args) (t c : ℕ) (r : Result State ℤ)
+    : Type 0 where
+  NotByPlain : is_by_linux s ≡ false → r ≡ Ok s → CallsByLinux s b a t c r
+  IsNotThere : program_of s.policy b ≡ None → r ≡ Ok s → CallsByLinux s b a t c r
+  IsCalledFor : (p : VerifiedProgram)
+      → is_by_linux s ≡ true → program_of s.policy b ≡ Some p → Calls s b a t c r
+      → CallsByLinux s b a t c r
+
+-- ---- each task
+
+-- enable is called for a task, and then `set_weight` with its own weight (ext.c,
+-- `__scx_enable_task`)
+pub data Enables (s : State) (t : ℕ) (r : Result State ℤ) : Type 0 where
+  NotEnabled : (n : ℤ)
+      → Calls s callback.Enable (one_task t) t 0 (Err n) → r ≡ Err n → Enables s t r
+  IsEnabled : (u : State)
+      → Calls s callback.Enable (one_task t) t 0 (Ok u)
+      → CallsByLinux u callback.SetWeight (task_and_number t (own_weight u.world.tree t)) t 0 r
+      → Enables s t r
 
 -- of the first tasks; none after one that fails
 pub data EnablesAll : ℕ → State → Result State ℤ → Type 0 where
@@ -67,9 +94,30 @@ pub data EnablesAll : ℕ → State → Result State ℤ → Type 0 where
   Next : (n : ℕ) (s u : State) (r : Result State ℤ)
       → EnablesAll n s (Ok u) → Enables u n r → EnablesAll (suc n) s r
 
--- ---- both
+-- ---- each processor
 
--- the first state of a machine, or the number with which init or enable fails
+-- the policy hears of the first processors that they are idle; of none after one that fails
+pub data TellsIdleAll : ℕ → State → Result State ℤ → Type 0 where
+  NoneTold : (s : State) (r : Result State ℤ) → r ≡ Ok s → TellsIdleAll 0 s r
+  HasFailed : (n : ℕ) (s : State) (x : ℤ) (r : Result State ℤ)
+      → TellsIdleAll n s (Err x) → r ≡ Err x → TellsIdleAll (suc n) s r
+  NextTold : (n : ℕ) (s u : State) (r : Result State ℤ)
+      → TellsIdleAll n s (Ok u) → CallsByLinux u callback.UpdateIdle (two_numbers n 1) 0 n r
+      → TellsIdleAll (suc n) s r
+
+-- a policy that has `update_idle` hears of all processors that they are idle; which ones it kicked
+-- or claimed in that is forgotten (ext.c, `SCX_RQ_ROOT_IDLE_RENOTIFY`)
+pub data AllAreIdle (s : State) (r : Result State ℤ) : Type 0 where
+  NobodyHears : ¬ HearsIdle s → r ≡ Ok s → AllAreIdle s r
+  IdleFails : (n : ℤ)
+      → HearsIdle s → TellsIdleAll (length s.world.cpus) s (Err n) → r ≡ Err n → AllAreIdle s r
+  IdleTold : (u : State)
+      → HearsIdle s → TellsIdleAll (length s.world.cpus) s (Ok u)
+      → r ≡ Ok (with_world u (without_marks u.world)) → AllAreIdle s r
+
+-- ---- all of it
+
+-- the first state of a machine, or the number with which a callback fails
 pub data Begins (p : PolicyState) (tree : Hierarchy) (cpus : ℕ) (r : Result State ℤ) : Type 0 where
   InitFails : (n : ℤ) → Initializes (blank p tree cpus) (Err n) → r ≡ Err n → Begins p tree cpus r
   EnableFails : (s : State) (n : ℤ)
@@ -77,4 +125,4 @@ pub data Begins (p : PolicyState) (tree : Hierarchy) (cpus : ℕ) (r : Result St
       → r ≡ Err n → Begins p tree cpus r
   Succeeds : (s u : State)
       → Initializes (blank p tree cpus) (Ok s) → EnablesAll (length s.world.tasks) s (Ok u)
-      → r ≡ Ok u → Begins p tree cpus r
+      → AllAreIdle u r → Begins p tree cpus r

@@ -5,6 +5,7 @@ use Rattle.scx_sched.proofs.First.{force_started}
 use Rattle.scx_sched.proofs.Still.{still_first, are_current}
 use Rattle.scx_sched.proofs.Valid.{valid_first}
 use Rattle.scx_sched.proofs.sim.Sim.new_seen.Goals as goal
+use Rattle.scx_sched.proofs.Alarms.{timers_first}
 
 pub invariant_of-result : goal.invariant_of-result
 invariant_of-result g c =
@@ -19,6 +20,9 @@ returns-clause-in_force g c = force_started _ _ _ _ c.in_ok-machine.ensures.made
 
 pub returns-clause-current : goal.returns-clause-current
 returns-clause-current g c = are_current _ (still_first _ _ _ _ c.in_ok-machine.ensures.made).1
+
+pub returns-clause-timers : goal.returns-clause-timers
+returns-clause-timers g c = let m = c.in_ok-machine.ensures in timers_first _ _ _ _ m.shape m.made
 
 -- where the machine begins, no callback has failed
 pub returns-clause-none_failed : goal.returns-clause-none_failed

@@ -1,4 +1,4 @@
-use Rattle.std.proofs.Common.{◌≡◌, ℕ, ◌<◌, ◌≤◌, ◌+◌, ◌^◌, Option, None, sym, ap, ◌∙◌, subst, arith}
+use Rattle.std.proofs.Common.{◌≡◌, ℕ, ◌<◌, ◌≤◌, ◌+◌, ◌*◌, ◌^◌, Option, None, sym, ap, ◌∙◌, subst, arith}
 use Rattle.scx_sched_machine.specs.declared.events.Refused.{Refused}
 use Rattle.scx_sched_machine.specs.Steps.{State, is_by_linux}
 use Rattle.scx_sched_machine.specs.Notes.{Takes}
@@ -61,7 +61,7 @@ invariant_of-self g c =
     let ok : refusal (record { state = c.self.inside.machine; events = n }) c.args.event ≡ None = ap (λ x. refusal x c.args.event) c.self.view_is ∙ (sym c.refusal.ensures.cause ∙ c.in_default.is) in
     let seen : n ≡ c.args.self.now.events = ap (λ (s : SimState). s.events) c.self.view_is in
     let some : 0 < c.self.inside.left = omega (arith, seen, c.refusal.ensures.early c.in_default.is) in
-    let few = subst (λ (x : State). x.world.queues.pushes ≤ c.self.inside.machine.world.queues.pushes + 2 ^ 27) c.event_heard.ensures.state c.event_heard.ensures.few in
+    let few = subst (λ (x : State). x.world.queues.pushes ≤ c.self.inside.machine.world.queues.pushes + 3 * 2 ^ 26) c.event_heard.ensures.state c.event_heard.ensures.few in
     let valid : IsValid c.event_heard.new.self (n + 1) = subst (λ (x : State). IsValid x (n + 1)) (sym c.event_heard.ensures.state) (valid_step c.self.inside.machine n c.args.event ok c.self.invariant.valid (are_answered _ _ _ _ c.event_heard.ensures.calls) few) in
     record {
       few = omega (arith, c.self.invariant.few);
@@ -71,35 +71,42 @@ invariant_of-self g c =
 pub returns-clause-once : goal.returns-clause-once
 returns-clause-once g c =
     let ok : refusal (record { state = c.self.inside.machine; events = accepted c.self.inside.left }) c.args.event ≡ None = ap (λ x. refusal x c.args.event) c.self.view_is ∙ (sym c.refusal.ensures.cause ∙ c.in_default.is) in
-    let few = subst (λ (x : State). x.world.queues.pushes ≤ c.self.inside.machine.world.queues.pushes + 2 ^ 27) c.event_heard.ensures.state c.event_heard.ensures.few in
+    let few = subst (λ (x : State). x.world.queues.pushes ≤ c.self.inside.machine.world.queues.pushes + 3 * 2 ^ 26) c.event_heard.ensures.state c.event_heard.ensures.few in
     let valid : IsValid c.event_heard.new.self ((accepted c.self.inside.left) + 1) = subst (λ (x : State). IsValid x ((accepted c.self.inside.left) + 1)) (sym c.event_heard.ensures.state) (valid_step c.self.inside.machine (accepted c.self.inside.left) c.args.event ok c.self.invariant.valid (are_answered _ _ _ _ c.event_heard.ensures.calls) few) in
     valid.fine.sound.once
 
 pub returns-clause-there : goal.returns-clause-there
 returns-clause-there g c =
     let ok : refusal (record { state = c.self.inside.machine; events = accepted c.self.inside.left }) c.args.event ≡ None = ap (λ x. refusal x c.args.event) c.self.view_is ∙ (sym c.refusal.ensures.cause ∙ c.in_default.is) in
-    let few = subst (λ (x : State). x.world.queues.pushes ≤ c.self.inside.machine.world.queues.pushes + 2 ^ 27) c.event_heard.ensures.state c.event_heard.ensures.few in
+    let few = subst (λ (x : State). x.world.queues.pushes ≤ c.self.inside.machine.world.queues.pushes + 3 * 2 ^ 26) c.event_heard.ensures.state c.event_heard.ensures.few in
     let valid : IsValid c.event_heard.new.self ((accepted c.self.inside.left) + 1) = subst (λ (x : State). IsValid x ((accepted c.self.inside.left) + 1)) (sym c.event_heard.ensures.state) (valid_step c.self.inside.machine (accepted c.self.inside.left) c.args.event ok c.self.invariant.valid (are_answered _ _ _ _ c.event_heard.ensures.calls) few) in
     valid.there
 
 pub returns-clause-current : goal.returns-clause-current
 returns-clause-current g c =
     let ok : refusal (record { state = c.self.inside.machine; events = accepted c.self.inside.left }) c.args.event ≡ None = ap (λ x. refusal x c.args.event) c.self.view_is ∙ (sym c.refusal.ensures.cause ∙ c.in_default.is) in
-    let few = subst (λ (x : State). x.world.queues.pushes ≤ c.self.inside.machine.world.queues.pushes + 2 ^ 27) c.event_heard.ensures.state c.event_heard.ensures.few in
+    let few = subst (λ (x : State). x.world.queues.pushes ≤ c.self.inside.machine.world.queues.pushes + 3 * 2 ^ 26) c.event_heard.ensures.state c.event_heard.ensures.few in
     let valid : IsValid c.event_heard.new.self ((accepted c.self.inside.left) + 1) = subst (λ (x : State). IsValid x ((accepted c.self.inside.left) + 1)) (sym c.event_heard.ensures.state) (valid_step c.self.inside.machine (accepted c.self.inside.left) c.args.event ok c.self.invariant.valid (are_answered _ _ _ _ c.event_heard.ensures.calls) few) in
     valid.current
 
 pub returns-clause-timely : goal.returns-clause-timely
 returns-clause-timely g c =
     let ok : refusal (record { state = c.self.inside.machine; events = accepted c.self.inside.left }) c.args.event ≡ None = ap (λ x. refusal x c.args.event) c.self.view_is ∙ (sym c.refusal.ensures.cause ∙ c.in_default.is) in
-    let few = subst (λ (x : State). x.world.queues.pushes ≤ c.self.inside.machine.world.queues.pushes + 2 ^ 27) c.event_heard.ensures.state c.event_heard.ensures.few in
+    let few = subst (λ (x : State). x.world.queues.pushes ≤ c.self.inside.machine.world.queues.pushes + 3 * 2 ^ 26) c.event_heard.ensures.state c.event_heard.ensures.few in
     let valid : IsValid c.event_heard.new.self ((accepted c.self.inside.left) + 1) = subst (λ (x : State). IsValid x ((accepted c.self.inside.left) + 1)) (sym c.event_heard.ensures.state) (valid_step c.self.inside.machine (accepted c.self.inside.left) c.args.event ok c.self.invariant.valid (are_answered _ _ _ _ c.event_heard.ensures.calls) few) in
     valid.timely
+
+pub returns-clause-timers : goal.returns-clause-timers
+returns-clause-timers g c =
+    let ok : refusal (record { state = c.self.inside.machine; events = accepted c.self.inside.left }) c.args.event ≡ None = ap (λ x. refusal x c.args.event) c.self.view_is ∙ (sym c.refusal.ensures.cause ∙ c.in_default.is) in
+    let few = subst (λ (x : State). x.world.queues.pushes ≤ c.self.inside.machine.world.queues.pushes + 3 * 2 ^ 26) c.event_heard.ensures.state c.event_heard.ensures.few in
+    let valid : IsValid c.event_heard.new.self ((accepted c.self.inside.left) + 1) = subst (λ (x : State). IsValid x ((accepted c.self.inside.left) + 1)) (sym c.event_heard.ensures.state) (valid_step c.self.inside.machine (accepted c.self.inside.left) c.args.event ok c.self.invariant.valid (are_answered _ _ _ _ c.event_heard.ensures.calls) few) in
+    valid.timers
 
 pub returns-clause-never_stuck : goal.returns-clause-never_stuck
 returns-clause-never_stuck g c =
     let ok : refusal (record { state = c.self.inside.machine; events = accepted c.self.inside.left }) c.args.event ≡ None = ap (λ x. refusal x c.args.event) c.self.view_is ∙ (sym c.refusal.ensures.cause ∙ c.in_default.is) in
-    let few = subst (λ (x : State). x.world.queues.pushes ≤ c.self.inside.machine.world.queues.pushes + 2 ^ 27) c.event_heard.ensures.state c.event_heard.ensures.few in
+    let few = subst (λ (x : State). x.world.queues.pushes ≤ c.self.inside.machine.world.queues.pushes + 3 * 2 ^ 26) c.event_heard.ensures.state c.event_heard.ensures.few in
     let valid : IsValid c.event_heard.new.self ((accepted c.self.inside.left) + 1) = subst (λ (x : State). IsValid x ((accepted c.self.inside.left) + 1)) (sym c.event_heard.ensures.state) (valid_step c.self.inside.machine (accepted c.self.inside.left) c.args.event ok c.self.invariant.valid (are_answered _ _ _ _ c.event_heard.ensures.calls) few) in
     valid.unstuck
 

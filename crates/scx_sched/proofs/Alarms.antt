@@ -1,0 +1,355 @@
+-- By Linux rules, while the policy is in force, each timer that was started is due later than the clock: it is as it is
+-- started, and as the clock grows each that is due runs once, by number.
+use Rattle.std.proofs.Common.{◌≡◌, ℕ, zero, suc, ◌+◌, ◌<◌, ◌≤◌, Bool, true, false, ◌&&◌, if◌then◌else◌, nat_lt, nat_le, max, ◌⊎◌, inl, inr, List, length, replicate, set, get_or, map, Option, Some, None, is_none, Ok, refl, sym, ap, ◌∙◌, subst, arith}
+use Rattle.std.proofs.lemmas.Bool.{cases_eq, cases_lt}
+use Rattle.std.proofs.lemmas.Bool.Decides.{nat_tests}
+use Rattle.std.proofs.lemmas.List.{length-set, length-replicate, get_or-set_same, get_or-set_other, get_or_past, set_past}
+use Rattle.scx_dsq.specs.Queues.{front_of}
+use Rattle.scx_isa_semantics.specs.declared.callbacks.Callback.TheVariants as callback
+use Rattle.scx_isa_semantics.specs.declared.host_tables.Helper.{Helper}
+use Rattle.scx_isa_semantics.specs.Effects.{Query, Call, Load, Store}
+use Rattle.scx_vm.specs.Arguments.{argument_of}
+use Rattle.scx_vm.specs.Host.{after_query}
+use Rattle.scx_vm.specs.declared.arguments.Arg.{Arg}
+use Rattle.scx_weights.specs.Hierarchy.{Hierarchy, with_weight, with_own_weight}
+use Rattle.scx_weights.specs.Limits.{with_use}
+use Rattle.scx_weights.specs.Refusals.{weight_fault, own_weight_fault}
+use Rattle.scx_sched_tasks.specs.declared.task.Task.{Task}
+use Rattle.scx_sched_tasks.specs.Tasks.{new_task}
+use Rattle.scx_sched_world.specs.declared.call.Insert.{Insert}
+use Rattle.scx_sched_world.specs.declared.faults.Fault.{Fault}
+use Rattle.scx_sched_world.specs.declared.timers.Alarm.{Alarm}
+use Rattle.scx_sched_world.specs.World as world
+use Rattle.scx_sched_world.specs.World.{WorldState, are_linux, with_tree, with_task, task_at, waits}
+use Rattle.scx_sched_world.specs.Tasks.{with_home, with_slice, after_take, task_after_insert, after_leave, after_enter, for_cpu, brought, fill_front, used_ms, later, begun_periods, after_own_weight}
+use Rattle.scx_sched_world.specs.Helpers.{is_dispatch, with_insert, after_release, insert_or_fault, front_moved_to_local, helper_after, delay_ms, with_timer, alarm_in, alarm_at, due_now, after_fire, world_functions}
+use Rattle.scx_sched_world.specs.Ejecting.{put_builtin}
+use Rattle.scx_sched_machine.specs.declared.events.Event.{Event}
+use Rattle.scx_sched_machine.specs.Policy.{PolicyState}
+use Rattle.scx_sched_machine.specs.Start.{is_bad_shape, first_state}
+use Rattle.scx_sched_machine.specs.Steps.{State, with_world, is_by_linux}
+use Rattle.scx_sched_machine.specs.Callbacks.{call_by_linux, one_number}
+use Rattle.scx_sched_machine.specs.Parking.{let_all_go}
+use Rattle.scx_sched_machine.specs.Firing.{due, fires, fire, fire_below, fire_all}
+use Rattle.scx_sched_machine.specs.Events.{refusal, overdue, eject_if_stalled, watch, timers_and_watchdog, clock, own_step, event_step}
+use Rattle.scx_sched_machine.proofs.Choices.{keeps_if}
+use Rattle.scx_sched_machine.proofs.HelperCalls.{by_helper}
+use Rattle.scx_sched.specs.Kept.{IsKeptBySteps}
+use Rattle.scx_sched.specs.Ranges.{IsFine}
+use Rattle.scx_sched.specs.Timers.{AreTimersLater}
+use Rattle.scx_sched.proofs.Marks.{KeepsMarks, Anywhere, kept_cycling, kept_kicked_so, kept_claim, kept_local, kept_entered}
+use Rattle.scx_sched.proofs.Fine.{fine_steps}
+use Rattle.scx_sched.proofs.First.{steps_started}
+use Rattle.scx_sched.proofs.Skeleton.{keeps_eject, keeps_timer, keeps_timer_called}
+use Rattle.scx_sched.proofs.Letting.{keeps_let_all_go}
+use Rattle.scx_sched.proofs.Watching.{Both, both_steps}
+use Rattle.scx_sched.proofs.Events.{IsKeptByEvents, IsKeptByTick, IsTaken, Wakes, Sleeps, Ticks, Clocks, Weighs, WeighsTask, is_taken, IsFineNow, inside_of, fine_events, one_more, fine_later, fine_ticked, fine_clock, fine_reweighed, keeps_now, keeps_wake, keeps_sleep, keeps_tick, keeps_reweigh, keeps_with_rounds}
+
+-- a timer below that number is due later than the clock, another one at it or later
+abbrev IsDueFor : ℕ → ℕ → ℕ → Alarm → Type 0
+IsDueFor j now i a = (now ≤ a.due) × (i < j → now < a.due)
+
+-- of that many tasks and timers, each timer is due so, if it was started
+abbrev AreDue : (n k j : ℕ) → WorldState → Type 0
+AreDue n k j w =
+    (length w.tasks ≡ n) × (length w.timers ≡ k) × (world.is_by_linux w ≡ true → (i : ℕ) (a : Alarm) → alarm_at w i ≡ Some a → IsDueFor j w.clock i a)
+
+same_alarm : (a b : Alarm) → Some a ≡ Some b → a ≡ b
+same_alarm a b e = cc
+
+no_alarm : (a : Alarm) → None ≡ Some a → ⊥
+no_alarm a e = absurd (cc)
+
+-- an ejected policy goes by no rules
+not_linux : (b : Bool) → (b && false) ≡ true → ⊥
+not_linux true e = absurd (cc)
+not_linux false e = absurd (cc)
+
+-- a timer that is started is due later
+started_later : (now x : ℕ) → now < now + max 1 x
+started_later now x = omega arith
+
+module _ (n k j : ℕ) where
+  -- another record of a task
+  due_task : (w : WorldState) (t : ℕ) (x : Task) → AreDue n k j w → AreDue n k j (with_task w t x)
+  due_task w t x h = (length-set w.tasks t x ∙ h.0, h.1, h.2)
+
+  -- another alarm
+  due_alarm : (w : WorldState) (i : ℕ) (o : Option Alarm) → ((a : Alarm) → o ≡ Some a → IsDueFor j w.clock i a) → AreDue n k j w → AreDue n k j (with_timer w i o)
+  due_alarm w i o new h = (h.0, length-set w.timers i o ∙ h.1, λ linux u a e. go linux u a e (cases_eq u i) (cases_lt i (length w.timers)))
+    where
+      go : world.is_by_linux w ≡ true → (u : ℕ) (a : Alarm) → get_or (set w.timers i o) u None ≡ Some a → (u ≡ i) ⊎ (u ≡ i → ⊥) → (i < length w.timers) ⊎ (length w.timers ≤ i) → IsDueFor j w.clock u a
+      go linux u a e (inl is) (inl l) = rw is (new a (sym (get_or-set_same w.timers i o None l) ∙ (ap (λ x. get_or (set w.timers i o) x None) (sym is) ∙ e)))
+      go linux u a e (inl is) (inr past) = h.2 linux u a (ap (λ (xs : List (Option Alarm)). get_or xs u None) (sym (set_past w.timers i o past)) ∙ e)
+      go linux u a e (inr d) l = h.2 linux u a (sym (get_or-set_other w.timers i u o None d) ∙ e)
+
+  due_started : (w : WorldState) (i ns : ℕ) → AreDue n k j w → AreDue n k j (with_timer w i (Some (alarm_in w ns)))
+  due_started w i ns h = due_alarm w i (Some (alarm_in w ns)) (λ a e. subst (IsDueFor j w.clock i) (same_alarm (alarm_in w ns) a e) (omega (arith, soon), λ l. soon)) h
+    where
+      soon : w.clock < w.clock + delay_ms ns
+      soon = started_later w.clock _
+
+  due_cancelled : (w : WorldState) (i : ℕ) → AreDue n k j w → AreDue n k j (with_timer w i None)
+  due_cancelled w i h = due_alarm w i None (λ a e. absurd (no_alarm a e)) h
+
+  -- as the processor of a task, its slice and sets of processors change, timers are as they were
+  due_marks : KeepsMarks Anywhere (AreDue n k j)
+  due_marks = record { there = λ w c h l. tt; homed = λ w t c l h. due_task w t (with_home (task_at w t) c) h; sliced = λ w t s h. due_task w t (with_slice (task_at w t) s) h; sets = λ w a b c d h. h }
+
+  due_entered : (w : WorldState) (t : ℕ) (i : Insert) → AreDue n k j w → AreDue n k j (after_enter w t i)
+  due_entered w t i h = kept_entered Anywhere (AreDue n k j) due_marks w t i (let x = due_task w t (task_after_insert (task_at w t) i) h in (x.0, x.1, x.2)) h
+
+  due_released : (w : WorldState) (t : Option ℕ) (i : Insert) → AreDue n k j w → AreDue n k j (after_release w t i)
+  due_released w None i h = h
+  due_released w (Some t) i h = let x = due_entered (after_leave w t) t i h in (x.0, x.1, x.2)
+
+  due_inserted : (w : WorldState) (o : Option Fault) (t : Option ℕ) (i : Insert) → AreDue n k j w → AreDue n k j (insert_or_fault w o t i)
+  due_inserted w None t i h = keeps_if (AreDue n k j) (is_dispatch w.call.callback) (after_release w t (for_cpu w.call.cpu i)) (with_insert w i) (due_released w t (for_cpu w.call.cpu i) h) h
+  due_inserted w (Some f) t i h = h
+
+  due_moved : (w : WorldState) (o : Option ℕ) (q : ℕ) → AreDue n k j w → AreDue n k j (front_moved_to_local w o q)
+  due_moved w None q h = h
+  due_moved w (Some t) q h = let x = kept_local Anywhere (AreDue n k j) due_marks (after_take w q) w.call.cpu t tt h in (x.0, x.1, x.2)
+
+  due_brought : (o : Option ℕ) (w : WorldState) (q c : ℕ) → AreDue n k j w → AreDue n k j (brought o w q c)
+  due_brought None w q c h = h
+  due_brought (Some t) w q c h = kept_local Anywhere (AreDue n k j) due_marks (after_take w q) c t tt h
+
+  due_helper : (w : WorldState) (f : Helper) (a : List Arg) → AreDue n k j w → AreDue n k j (helper_after w f a)
+  due_helper w f a h = by_helper (AreDue n k j) w (record {
+    same = h;
+    faulty = λ f other. h;
+    ended = λ n. h;
+    created = λ q. h;
+    inserted = λ t i flags back none. due_inserted w None t i h;
+    late = λ linux here. h;
+    claimed = λ o. kept_claim Anywhere (AreDue n k j) due_marks w o h;
+    kicked = λ c x. kept_kicked_so Anywhere (AreDue n k j) due_marks w c x h;
+    started = λ i ns. due_started w i ns h;
+    cancelled = λ i. due_cancelled w i h;
+    moved = λ q here low. due_moved w (front_of w.queues q) q h;
+  }) f a
+
+  due_query : (w : WorldState) (q : Query) → AreDue n k j w → AreDue n k j (after_query world_functions w q)
+  due_query w (Call f a) h = due_helper w f (map argument_of a) h
+  due_query w (Load t f) h = h
+  due_query w (Store t f x) h = due_task w t.0 _ h
+
+  due_put_builtin : (w : WorldState) (t : ℕ) → AreDue n k j w → AreDue n k j (put_builtin w t)
+  due_put_builtin w t h = keeps_if (AreDue n k j) (nat_lt t (length w.tasks)) _ w (due_task w t _ h) h
+
+  due_weighed : (w : WorldState) (t x : ℕ) → AreDue n k j w → AreDue n k j (after_own_weight w t x)
+  due_weighed w t x h = keeps_if (AreDue n k j) (is_none (own_weight_fault w.tree t x)) (with_tree w (with_own_weight w.tree t x)) w h h
+
+  -- small steps keep it
+  due_steps : IsKeptBySteps n (λ m hand on w. AreDue n k j w)
+  due_steps = record {
+    more = λ m hand on w h. h;
+    known = λ m hand on w h. h.0;
+    query = λ m hand on w q h. due_query w q h;
+    begun = λ m hand on w b t c l h. h;
+    quiet = λ m hand on w h. h;
+    moved = λ m hand on w b h. h;
+    cancelled = λ m hand on w i h. due_cancelled w i h;
+    cycling = λ m hand on w o h. kept_cycling (AreDue n k j) (λ v p a x r. r) w o h;
+    sets = λ m hand on w a b c d o h. h;
+    homed = λ m hand on w t c l h. due_task w t _ h;
+    sliced = λ m hand on w t x h. due_task w t _ h;
+    wants = λ m hand on w c l calm h. h;
+    entered = λ m on w t i l x h. due_entered w t i h;
+    filled = λ m on w q c apart l h. due_brought (fill_front w q c) w q c h;
+    stopped = λ m on w c t l within runs h. due_task w t _ h;
+    started = λ m on w c t l free front may h. due_task w t _ h;
+    ran = λ m on w c t l free here may h. due_task w t _ h;
+    put_parked = λ m on w t l may-not h. keeps_if (AreDue n k j) (nat_lt t (length w.tasks)) _ w (due_task w t _ h) h;
+    taken = λ m on w q t apart front h. h;
+    kept = λ m on w t h. due_task w t _ h;
+    asleep = λ m on w t l h. keeps_if (AreDue n k j) (nat_lt t (length w.tasks)) _ w (due_task w t _ h) h;
+    put_out = λ m hand on w x h. (h.0, h.1, λ linux. absurd (not_linux (are_linux w.rules) linux));
+    evict = λ m hand on w t l h. keeps_if (AreDue n k j) (waits w t) (put_builtin (after_leave w t) t) w (due_put_builtin (after_leave w t) t h) h;
+    cut = λ m hand on w t h. due_task w t _ h;
+    put_builtin = λ m on w t l h. due_put_builtin w t h;
+    overtaken = λ m hand on w t h. h;
+    charged = λ m hand on w t out h. due_task w t _ h;
+  }
+
+-- ---- events
+
+-- each task in its place, and each timer due so
+abbrev IsRightAndDue : (n e k j m : ℕ) → Option ℕ → List (Option ℕ) → WorldState → Type 0
+IsRightAndDue n e k j = Both (IsFine n e) (λ m hand on w. AreDue n k j w)
+
+due_events : (n e k j : ℕ) → IsKeptByEvents n (IsRightAndDue n e k j)
+due_events n e k j = record {
+  steps = both_steps n (IsFine n e) (λ m hand on w. AreDue n k j w) (fine_steps n e) (due_steps n k j);
+  sound = λ m hand on w h. h.one.sound;
+  woken = λ m on w t within resting h. record { one = (fine_events n e).woken m on w t within resting h.one; two = due_task n k j w t _ h.two };
+  let_go = λ m on w t within there h. record { one = (fine_events n e).let_go m on w t within there h.one; two = due_task n k j w t _ h.two };
+  left = λ m on w t within runnable off h. record { one = (fine_events n e).left m on w t within runnable off h.one; two = (due_steps n k j).asleep m on (after_leave w t) t within h.two };
+  removed = λ m on w t within here h. record { one = (fine_events n e).removed m on w t within here h.one; two = h.two };
+  weighed = λ m hand on w t x h. record { one = (fine_events n e).weighed m hand on w t x h.one; two = due_weighed n k j w t x h.two };
+  anew = λ m i on w force h. record { one = (fine_events n e).anew m i on w force h.one; two = h.two };
+}
+
+-- ---- timers that run
+
+-- a timer isn't started any more, and the next ones may be due now
+due_cleared : (n k i : ℕ) (w : WorldState) → AreDue n k i w → AreDue n k (suc i) (with_timer w i None)
+due_cleared n k i w h = (h.0, length-set w.timers i None ∙ h.1, λ linux u a e. go linux u a e (cases_eq u i) (cases_lt i (length w.timers)))
+  where
+    first : (u : ℕ) (a : Alarm) → (u ≡ i → ⊥) → IsDueFor i w.clock u a → IsDueFor (suc i) w.clock u a
+    first u a d x = (x.0, λ l. x.1 (omega (arith, l, d)))
+
+    gone : (u : ℕ) → u ≡ i → length w.timers ≤ i → get_or w.timers u None ≡ None
+    gone u is past = get_or_past {X = Option Alarm} w.timers u None (omega (arith, past, is))
+
+    go : world.is_by_linux w ≡ true → (u : ℕ) (a : Alarm) → get_or (set w.timers i None) u None ≡ Some a → (u ≡ i) ⊎ (u ≡ i → ⊥) → (i < length w.timers) ⊎ (length w.timers ≤ i) → IsDueFor (suc i) w.clock u a
+    go linux u a e (inl is) (inl l) = absurd (no_alarm a (sym (get_or-set_same w.timers i None None l) ∙ (ap (λ x. get_or (set w.timers i None) x None) (sym is) ∙ e)))
+    go linux u a e (inl is) (inr past) = absurd (no_alarm a (sym (gone u is past) ∙ (ap (λ (xs : List (Option Alarm)). get_or xs u None) (sym (set_past w.timers i None past)) ∙ e)))
+    go linux u a e (inr d) l = first u a d (h.2 linux u a (sym (get_or-set_other w.timers i u None None d) ∙ e))
+
+-- one that isn't due now is due later
+due_passed : (n k i : ℕ) (w : WorldState) → due_now w (alarm_at w i) ≡ None → AreDue n k i w → AreDue n k (suc i) w
+due_passed n k i w none h = (h.0, h.1, λ linux u a e. (((h.2 linux u a e).0), λ l. go linux u a e l (cases_eq u i)))
+  where
+    after : (a : Alarm) (b : Bool) → nat_le a.due w.clock ≡ b → (if b then Some a else None) ≡ None → w.clock < a.due
+    after a true x y = absurd (cc)
+    after a false x y = grind (arith, nat_tests, x)
+
+    go : world.is_by_linux w ≡ true → (u : ℕ) (a : Alarm) → alarm_at w u ≡ Some a → u < suc i → (u ≡ i) ⊎ (u ≡ i → ⊥) → w.clock < a.due
+    go linux u a e l (inl is) = after a (nat_le a.due w.clock) refl (ap (λ o. due_now w o) (sym (ap (λ x. alarm_at w x) (sym is) ∙ e)) ∙ none)
+    go linux u a e l (inr d) = (h.2 linux u a e).1 (omega (arith, l, d))
+
+-- by plain rules nothing is said of them
+due_plain : (n k i j : ℕ) (w : WorldState) → world.is_by_linux w ≡ false → AreDue n k i w → AreDue n k j w
+due_plain n k i j w plain h = (h.0, h.1, λ linux. let bad : true ≡ false = sym linux ∙ plain in absurd (cc))
+
+module _ (n e k m : ℕ) (on : List (Option ℕ)) where
+  abbrev IsOnTime : ℕ → State → Type 0
+  IsOnTime i s = IsRightAndDue n e k i m None on s.world
+
+  due_fire : (i : ℕ) (s : State) → IsOnTime i s → IsOnTime (suc i) (fire s i).state
+  unfolding fire due
+  due_fire i s h = go (is_by_linux s) refl (due_now s.world (alarm_at s.world i)) refl
+    where
+      steps : IsKeptBySteps n (IsRightAndDue n e k (suc i))
+      steps = (due_events n e k (suc i)).steps
+
+      runs : (a : Alarm) → IsOnTime (suc i) (fires (Some a) s i).state
+      runs a =
+          let v = with_world s (after_fire s.world i) in
+          let clear : IsRightAndDue n e k (suc i) m None on (with_timer s.world i None) = record { one = (fine_steps n e).cancelled m None on s.world i h.one; two = due_cleared n k i s.world h.two } in
+          let x = keeps_timer n (IsRightAndDue n e k (suc i)) steps m None on (with_timer s.world i None) (Some i) clear in
+          keeps_timer n (IsRightAndDue n e k (suc i)) steps m None on (call_by_linux v callback.Timer (one_number i) 0 a.cpu).state.world None (keeps_timer_called n (IsRightAndDue n e k (suc i)) steps m None on v (one_number i) a.cpu x)
+
+      go : (b : Bool) → is_by_linux s ≡ b → (o : Option Alarm) → due_now s.world (alarm_at s.world i) ≡ o → IsOnTime (suc i) (fires (if b then o else None) s i).state
+      go false plain o x = record { one = h.one; two = due_plain n k i (suc i) s.world plain h.two }
+      go true linux None x = record { one = h.one; two = due_passed n k i s.world x h.two }
+      go true linux (Some a) x = runs a
+
+  due_fire_below : (i : ℕ) (s : State) → IsOnTime 0 s → IsOnTime i (fire_below i s).state
+  due_fire_below zero s h = h
+  due_fire_below (suc i) s h = due_fire i (fire_below i s).state (due_fire_below i s h)
+
+-- where all timers are due later, they are so for whatever number
+due_of : (n j : ℕ) (w : WorldState) → length w.tasks ≡ n → AreTimersLater w → AreDue n (length w.timers) j w
+due_of n j w tasks h = (tasks, refl, λ linux i a e. let l = h linux i a e in (omega (arith, l), λ x. l))
+
+-- and back
+later_of : (n k : ℕ) (w : WorldState) → AreDue n k k w → AreTimersLater w
+later_of n k w h linux i a e = (h.2 linux i a e).1 (go (cases_lt i (length w.timers)))
+  where
+    go : (i < length w.timers) ⊎ (length w.timers ≤ i) → i < k
+    go (inl l) = omega (arith, l, h.1)
+    go (inr past) = absurd (no_alarm a (sym (get_or_past {X = Option Alarm} w.timers i None past) ∙ e))
+
+-- as the clock grows timers run that are due
+due_clock : (n e : ℕ) (s : State) → length s.world.tasks ≡ n → IsFineNow n e e s.world → AreTimersLater s.world → AreDue n (length s.world.timers) (length s.world.timers) (clock s).state.world
+unfolding clock timers_and_watchdog watch fire_all
+due_clock n e s tasks fine late = stalled (overdue f)
+  where
+    many : ℕ
+    many = length s.world.timers
+
+    I : ℕ → ℕ → Option ℕ → List (Option ℕ) → WorldState → Type 0
+    I i = IsRightAndDue n (e + 1) many i
+
+    v : State
+    v = with_world s (begun_periods (later s.world))
+
+    grown : AreDue n many 0 v.world
+    grown = (tasks, refl, λ linux i a x. let l = late linux i a x in (omega (arith, l), λ y. absurd (omega (arith, y))))
+
+    l : State
+    l = (let_all_go v).state
+
+    gone : I 0 e None s.world.cpus l.world
+    gone = keeps_let_all_go n (I 0) (inside_of n (I 0) (due_events n (e + 1) many 0)) (due_events n (e + 1) many 0).let_go e s.world.cpus v (record { one = fine_later n e e s.world fine; two = grown })
+
+    f : State
+    f = (fire_below (length l.world.timers) l).state
+
+    fired : I many e None s.world.cpus f.world
+    fired = subst (λ i. I i e None s.world.cpus f.world) gone.two.1 (due_fire_below n (e + 1) many e s.world.cpus (length l.world.timers) l gone)
+
+    stalled : (o : Option ℕ) → AreDue n many many (eject_if_stalled o f).state.world
+    stalled None = fired.two
+    stalled (Some t) = (keeps_eject n (I many) (due_events n (e + 1) many many).steps e None s.world.cpus f _ fired).two
+
+-- after any accepted event
+pub timers_step : (n e : ℕ) (s : State) (v : Event) → length s.world.tasks ≡ n → refusal s v ≡ None → IsFineNow n e e s.world → AreTimersLater s.world → AreTimersLater (event_step s v).state.world
+timers_step n e s v tasks ok fine late = later_of n many (event_step s v).state.world (keeps_with_rounds n I k e (own_step s v) (go v (is_taken s v ok))).two
+  where
+    many : ℕ
+    many = length s.world.timers
+
+    I : ℕ → Option ℕ → List (Option ℕ) → WorldState → Type 0
+    I = IsRightAndDue n (e + 1) many many
+
+    k : IsKeptByEvents n I
+    k = due_events n (e + 1) many many
+
+    old : AreDue n many many s.world
+    old = due_of n many s.world tasks late
+
+    h : I e None s.world.cpus s.world
+    h = record { one = one_more n e e s.world fine; two = old }
+
+    ticks : (c t : ℕ) → c < length s.world.cpus → get_or s.world.cpus c None ≡ Some t → IsKeptByTick n I k e s.world c t
+    ticks c t l at =
+        let x = fine_ticked n e e s.world c t l at fine in
+        record {
+          ran = record { one = x.ran; two = due_task n many many s.world t _ old };
+          uses = λ w same tree h.
+              let z = x.uses w same tree h.one in
+              let y = keeps_if (AreDue n many many) (nat_lt t (length w.tasks)) (with_tree w (with_use w.tree t)) w h.two h.two in
+              record {
+                goes_on = λ free. record { one = z.goes_on free; two = y };
+                leaves = λ up. record { one = z.leaves up; two = due_task n many many (used_ms w t) t _ y };
+              };
+        }
+
+    go : (v : Event) → IsTaken s v → I (e + 1) None (own_step s v).state.world.cpus (own_step s v).state.world
+    go _ (Wakes t within resting) = k.steps.more e None _ _ (keeps_wake n I k e s t (omega (arith, within, tasks)) resting h)
+    go _ (Sleeps t within runnable) = keeps_sleep n I k e s t (omega (arith, within, tasks)) runnable h
+    go _ (Ticks c l) = keeps_tick n I k e s c l h (λ t at. ticks c t l at)
+    go _ Clocks = record { one = (fine_events n (e + 1)).steps.more e None _ _ (fine_clock n e s fine); two = due_clock n e s tasks fine late }
+    go _ (Weighs g x) = record {
+      one = (fine_events n (e + 1)).steps.more e None _ _ (fine_reweighed n (e + 1) e s.world g x (one_more n e e s.world fine));
+      two = keeps_if (AreDue n many many) (is_none (weight_fault s.world.tree g x)) (with_tree s.world (with_weight s.world.tree g x)) s.world old old;
+    }
+    go _ (WeighsTask t x within) = k.steps.more e None _ _ (keeps_now n I k e _ (s.world.cpus, keeps_reweigh n I k e s t x (omega (arith, within, tasks)) h))
+
+-- ---- at first
+
+none_started : (k i : ℕ) → get_or (replicate {A = Option Alarm} k None) i None ≡ None
+none_started zero i = refl
+none_started (suc k) zero = refl
+none_started (suc k) (suc i) = none_started k i
+
+-- a machine that is made has no timer that is due
+pub timers_first : (p : PolicyState) (tree : Hierarchy) (cpus : ℕ) (t : State) → is_bad_shape tree cpus ≡ false → first_state p tree cpus ≡ Ok t → AreTimersLater t.world
+timers_first p tree cpus t shape e =
+    let n = length tree.homes in
+    let k = p.timers in
+    later_of n k t.world (steps_started (λ m hand on w. AreDue n k k w) p tree cpus t (due_steps n k k) shape e (length-replicate n new_task, length-replicate {A = Option Alarm} k None, λ linux i a x. absurd (no_alarm a (sym (none_started k i) ∙ x))))
