@@ -18,4 +18,6 @@
 pub use scx_load_driver::Driver;
 pub use scx_load_files::{Cause, LoadError};
 pub use scx_load_policies::{BuildError, PolicyText, build, read_policy};
-pub use scx_load_workloads::{Change, Group, Timing, Workload, read_workload, read_workload_by};
+pub use scx_load_workloads::{
+    Change, Group, Timing, Weighed, Workload, read_workload, read_workload_by,
+};

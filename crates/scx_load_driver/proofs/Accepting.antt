@@ -8,13 +8,16 @@ use Rattle.scx_weights.specs.Hierarchy as tree
 use Rattle.scx_weights.specs.Refusals.{max_weight, is_outside, weight_fault}
 use Rattle.scx_sched_world.specs.World.{is_runnable, running}
 use Rattle.scx_sched_machine.specs.declared.events.Event.{Event}
-use Rattle.scx_sched_machine.specs.declared.events.Event.TheVariants.{Wake, Sleep, Tick, Clock, SetWeight}
+use Rattle.scx_sched_machine.specs.declared.events.Event.TheVariants.{Wake, Sleep, Tick, Clock, SetWeight, SetTaskWeight}
 use Rattle.scx_sched_machine.specs.Events as machine
 use Rattle.scx_sched.specs.Sim.{SimState, max_events, refusal, after_event, stepped_if}
 use Rattle.scx_load_driver.specs.Runs.{stepped_all, AreAccepted}
-use Rattle.scx_load_driver.specs.Blocks.{events_below}
+use Rattle.scx_load_workloads.specs.declared.workload.Weighed.{Weighed}
+use Rattle.scx_load_workloads.specs.declared.workload.Weighed.TheVariants as which
+use Rattle.scx_load_workloads.specs.Workload.{IsWeighed}
+use Rattle.scx_load_driver.specs.Blocks.{events_below, weighing}
 use Rattle.scx_load_driver.proofs.Alike.{Times, IsLike, times_of, like_groups, like_active, like_rounds}
-use Rattle.scx_load_driver.proofs.Happening.{like_clock, times_after_tick, like_tick, like_wake, like_sleep, others_stay}
+use Rattle.scx_load_driver.proofs.Happening.{like_clock, times_after_tick, like_tick, like_wake, like_sleep, own_weighed, own_weighed_groups, like_weighed_task, others_stay}
 
 -- ---- lists, one behind another
 
@@ -138,6 +141,25 @@ module _ (n c g e : ℕ) where
           let tree = s.state.world.tree in
           let own : IsLike tree (times s) c (machine.own_step s.state (SetWeight k y)).state.world = rw w ((refl, refl, refl, refl), (h.tasks, λ u. omega arith), h.cpus) in
           is_of tree (times s) (SetWeight k y) s refl h.groups x (like_rounds tree (times s) c (machine.own_step s.state (SetWeight k y)) own) h.events
+
+  -- a task may get a weight of its own
+  pub own_weight_leads : (s : SimState) (t y : ℕ) → e < max_events → t < n → 1 ≤ y → y ≤ 10000 → IsOf n c g e s → (refusal s (SetTaskWeight t y) ≡ None) × IsOf n c g (e + 1) (after_event s (SetTaskWeight t y))
+  own_weight_leads s t y few l least greatest h =
+      (x.accepted, is_of (own_weighed s.state.world.tree t y) (times s) (SetTaskWeight t y) s refl (ap (λ gs. length gs) (own_weighed_groups s.state.world.tree t y) ∙ h.groups) x (like_weighed_task s.state.world.tree (times s) c s.state t y (like_now s h)) h.events)
+    where
+      not_lt : (a b : ℕ) → b ≤ a → nat_lt a b ≡ false
+      not_lt a b l = grind (arith, nat_tests, l)
+
+      right : is_outside max_weight y ≡ false
+      right = rw (not_lt y 1 least, not_lt 10000 y greatest) refl
+
+      x : Goes (SetTaskWeight t y) s
+      x = goes (SetTaskWeight t y) s (omega (arith, few, h.events)) (rw (lt-ltb t (length s.state.world.tasks) (omega (arith, l, h.tasks)), right) refl)
+
+  -- a group or a task may get a weight
+  pub weighing_leads : (s : SimState) (k : Weighed) (y : ℕ) → e < max_events → IsWeighed g n k → 1 ≤ y → y ≤ 10000 → IsOf n c g e s → (refusal s (weighing k y) ≡ None) × IsOf n c g (e + 1) (after_event s (weighing k y))
+  weighing_leads s (which.Group k) y few l least greatest h = weight_leads s k y few l least greatest h
+  weighing_leads s (which.Task t) y few l least greatest h = own_weight_leads s t y few l least greatest h
 
 -- ---- the events of numbers that pass a test
 

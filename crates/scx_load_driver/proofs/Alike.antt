@@ -1,6 +1,6 @@
 -- A scheduling cycle leaves the groups and tasks, who is active, how many tasks and processors there are, and how long
 -- each task has run.
-use Rattle.std.proofs.Common.{◌≡◌, ℕ, zero, suc, ◌<◌, ◌≤◌, ◌⊎◌, inl, inr, Bool, true, false, ◌&&◌, ◌==◌, not, nat_lt, cond, List, length, set, get_or, map, Option, Some, None, is_some, Result, Ok, Err, ℤ, refl, ◌∙◌, subst, arith}
+use Rattle.std.proofs.Common.{◌≡◌, ℕ, zero, suc, ◌<◌, ◌≤◌, ◌⊎◌, inl, inr, Bool, true, false, ◌&&◌, ◌==◌, not, nat_lt, if◌then◌else◌, List, [], ◌∷◌, length, set, get_or, map, Option, Some, None, is_some, Result, Ok, Err, ℤ, refl, ◌∙◌, subst, arith}
 use Rattle.std.proofs.lemmas.Bool.{cases_eq, cases_lt}
 use Rattle.std.proofs.lemmas.List.{length-set, length-replicate, get_or-set_same, get_or-set_other, set_past}
 use Rattle.scx_dsq.specs.Queues.{len_of, front_of, behind_of}
@@ -18,15 +18,16 @@ use Rattle.scx_vm.specs.Arguments.{program_arguments, argument_of}
 use Rattle.scx_vm.specs.declared.arguments.Arg.{Arg}
 use Rattle.scx_vm.specs.declared.arguments.Args.{Args}
 use Rattle.scx_vm.specs.Host.{answer_to, after_query}
-use Rattle.scx_weights.specs.Hierarchy.{Hierarchy}
+use Rattle.scx_weights.specs.Hierarchy.{Hierarchy, own_weight}
 use Rattle.scx_sched_world.specs.declared.call.Insert.{Insert}
 use Rattle.scx_sched_tasks.specs.declared.task.Task.{Task}
 use Rattle.scx_sched_tasks.specs.Tasks.{no_task}
 use Rattle.scx_sched_world.specs.declared.eject.Cause.{Cause}
 use Rattle.scx_sched_world.specs.declared.faults.Fault.{Fault}
+use Rattle.scx_sched_world.specs.declared.notes.Note.{Note}
 use Rattle.scx_sched_world.specs.CpuSets.{is_in_set}
 use Rattle.scx_sched_world.specs.Ids.{global, builtin_queue, parked_queue, local_on}
-use Rattle.scx_sched_world.specs.World.{WorldState, with_switch, with_task, without_kick, task_at, is_throttled, is_idle, waits, running, at_callback}
+use Rattle.scx_sched_world.specs.World.{WorldState, with_switch, with_task, out_of_cycle, without_kick, task_at, is_throttled, is_idle, waits, running, at_callback}
 use Rattle.scx_sched_world.specs.Tasks.{with_home, with_slice, to_front, after_leave, after_enter, for_cpu, brought, fill_front, after_stop, started_at, after_run, after_switch, after_cut_off, put_parked, after_take, let_go}
 use Rattle.scx_sched_world.specs.Helpers.{is_dispatch, with_insert, after_release, insert_or_fault, front_moved_to_local, helper_after, stored_in, world_functions}
 use Rattle.scx_sched_machine.specs.Policy.{PolicyState, program_of}
@@ -34,14 +35,15 @@ use Rattle.scx_sched_world.specs.declared.eject.Eject.{Eject}
 use Rattle.scx_sched_world.specs.Ejecting.{put_out, put_builtin, after_evictions, after_cut, cut_task, after_charge, after_catch_up}
 use Rattle.scx_sched_machine.specs.Steps.{State, Stepped, one_after_other, stays, with_world, is_ejected, is_by_linux, kicked, kicked_if_idle}
 use Rattle.scx_sched_machine.specs.Ejecting.{moves_over, eject, ejected_for}
-use Rattle.scx_sched_machine.specs.Callbacks.{call_ending, acting, cause_of, call_back, call_by_linux, after_callback, no_arguments, one_task, task_and_number, cpu_and_task}
+use Rattle.scx_sched_machine.specs.Callbacks.{call_ending, acting, cause_of, call_back, call_by_linux, after_callback, noted_by, no_arguments, one_task, task_and_number, two_numbers, cpu_and_task}
+use Rattle.scx_sched_machine.specs.Custody.{tells_dequeued, leaver, tells_of, tells_each, moved_as, hears_dequeue, tells_left}
 use Rattle.scx_sched_machine.specs.Put.{enters, enqueue_choice, enters_builtin, comes_in, put}
 use Rattle.scx_sched_machine.specs.Events.{insert_or_put}
 use Rattle.scx_sched_machine.specs.Filling.{fill}
 use Rattle.scx_sched_machine.specs.Parking.{park, park_front, throttled_front, park_then, park_fronts, clear, in_reach, supply, let_go_one, let_go_from, let_all_go}
-use Rattle.scx_sched_machine.specs.Cycle.{has_local, keeps_slice, supply_unless_kept, told_of, after_dispatch, asks_again, tries, stopping_called, after_stopping, after_running, put_back, leave, switched, started_if, start as run_front, rest, swap, swap_or_rest, builtin_dispatch, builtin_fill, builtin_ask, builtin_cycle, start_or_cycle, picked, refilled, is_local, start_picked, start_picked_or_cycle, pick, pick_or_rest, keep_or_pick, conclude, give_up, ask, seek, look, cycling, cycle}
+use Rattle.scx_sched_machine.specs.Cycle.{has_local, keeps_slice, supply_unless_kept, told_of, dispatch_called, after_dispatch, asks_again, tries, stopping_called, after_stopping, after_running, put_back, leave, switched, started_if, start as run_front, tells_idle, rest, swap, swap_or_rest, builtin_dispatch, builtin_fill, builtin_ask, builtin_cycle, start_or_cycle, picked, refilled, is_local, start_picked, start_picked_or_cycle, tells_busy, makes_way, pick, pick_or_rest, keep_or_pick, conclude, give_up, ask, seek, look, cycling, ends, falls_idle, notes_idle, idle_or_anew, becomes_idle, concluded, cycle}
 use Rattle.scx_sched_machine.specs.Rounds.{most_rounds, next_to_look, cut_off_if, look_past, look_from, round, round_then, rounds, with_rounds}
-use Rattle.scx_sched_machine.specs.Start.{blank, init_ending, bad_answer, ok_unless, after_init, enable_ending, failure, enable, then_enable, after_enables, all_enabled, first_state}
+use Rattle.scx_sched_machine.specs.Start.{blank, init_ending, bad_answer, ok_unless, after_init, begin_ending, failure, begin_with, has_by_linux, begin_by_linux, enable, then_weigh, then_enable, after_enables, then_idle, after_idles, unmarked, all_idle, then_all_idle, all_enabled, first_state}
 use Rattle.scx_sched_machine.proofs.Choices.{keeps_if}
 use Rattle.scx_sched_machine.proofs.HelperCalls.{by_helper}
 use Rattle.scx_sched.proofs.Marks.{KeepsMarks, KeepsCycles, Anywhere, kept_switch, kept_cycling, kept_kicked_so, kept_claim, kept_local, kept_entered}
@@ -133,6 +135,8 @@ module _ (h : Hierarchy) (n : Times) (c : ℕ) where
     late = λ linux here. i;
     claimed = λ o. kept_claim Anywhere (IsLike h n c) like_marks w o i;
     kicked = λ d k. kept_kicked_so Anywhere (IsLike h n c) like_marks w d k i;
+    started = λ k ns. i;
+    cancelled = λ k. i;
     moved = λ q here low. like_moved w (front_of w.queues q) q i;
   }) f a
 
@@ -204,6 +208,33 @@ module _ (h : Hierarchy) (n : Times) (c : ℕ) where
   pub like_call_by_linux : (s : State) (b : Callback) (a : Args) (t d : ℕ) → IsLike h n c s.world → IsLike h n c (call_by_linux s b a t d).state.world
   unfolding call_by_linux
   like_call_by_linux s b a t d i = keeps_if (λ (r : Stepped). IsLike h n c r.state.world) (is_by_linux s && is_some (program_of s.policy b)) (call_back s b a t d) (stays s) (like_call_back s b a t d i) i
+
+  -- the policy hears that a task left its custody
+  pub like_dequeued : (s : State) (t d flags : ℕ) → IsLike h n c s.world → IsLike h n c (tells_dequeued s t d flags).state.world
+  unfolding tells_dequeued
+  like_dequeued s t d flags i = like_call_by_linux s callback.Dequeue (task_and_number t flags) t d i
+
+  like_tells_of : (o : Option ℕ) (s : State) (d : ℕ) → IsLike h n c s.world → IsLike h n c (tells_of o s d).state.world
+  like_tells_of None s d i = i
+  like_tells_of (Some t) s d i = like_dequeued s t d 0 i
+
+  like_tells_each : (ns : List Note) (s : State) (d : ℕ) → IsLike h n c s.world → IsLike h n c (tells_each ns s d).state.world
+  like_tells_each [] s d i = i
+  like_tells_each (x ∷ ns) s d i = like_tells_each ns (tells_of (leaver x.what) s d).state d (like_tells_of (leaver x.what) s d i)
+
+  like_moved_as : (b : Bool) (s : State) → IsLike h n c s.world → IsLike h n c (moved_as b s).world
+  like_moved_as b s i = keeps_if (λ (r : State). IsLike h n c r.world) (is_ejected s) s (with_world s (record s.world { call = record s.world.call { has_moved = b } })) i i
+
+  like_tells_left : (s : State) (d : ℕ) (ns : List Note) → IsLike h n c s.world → IsLike h n c (tells_left s d ns).state.world
+  unfolding tells_left
+  like_tells_left s d ns i =
+      let r = tells_each ns s d in
+      keeps_if (λ (x : Stepped). IsLike h n c x.state.world) (hears_dequeue s) (record r { state = moved_as s.world.call.has_moved r.state }) (stays s) (like_moved_as s.world.call.has_moved r.state (like_tells_each ns s d i)) i
+
+  -- and that a processor is idle, or idle no more
+  like_tells_idle : (s : State) (d k : ℕ) → IsLike h n c s.world → IsLike h n c (tells_idle s d k).state.world
+  unfolding tells_idle
+  like_tells_idle s d k i = like_call_by_linux s callback.UpdateIdle (two_numbers d k) 0 d i
 
   -- what an event by Linux rules keeps until it ends is no part of it
   like_cycles : KeepsCycles (IsLike h n c)
@@ -307,11 +338,15 @@ module _ (h : Hierarchy) (n : Times) (c : ℕ) where
   unfolding supply_unless_kept
   like_supply_unless_kept s d p i = keeps_if (λ (r : Stepped). IsLike h n c r.state.world) (keeps_slice s p) (stays s) (supply s d) i (like_supply s d i)
 
+  like_dispatch_called : (s : State) (d : ℕ) (p : Option ℕ) → IsLike h n c s.world → IsLike h n c (dispatch_called s d p).state.world
+  unfolding dispatch_called
+  like_dispatch_called s d p i =
+      let a = cpu_and_task d (told_of s p) in
+      like_tells_left (call_back s callback.Dispatch a 0 d).state d (noted_by s callback.Dispatch a 0 d) (like_call_back s callback.Dispatch a 0 d i)
+
   like_dispatched : (s : State) (d : ℕ) (p : Option ℕ) → IsLike h n c s.world → IsLike h n c (after_dispatch s d p).state.world
   unfolding after_dispatch
-  like_dispatched s d p i =
-      let a = cpu_and_task d (told_of s p) in
-      like_supply_unless_kept (call_back s callback.Dispatch a 0 d).state d p (like_call_back s callback.Dispatch a 0 d i)
+  like_dispatched s d p i = like_supply_unless_kept (dispatch_called s d p).state d p (like_dispatch_called s d p i)
 
   like_tries : (m : ℕ) (s : State) (d : ℕ) (p : Option ℕ) → IsLike h n c s.world → IsLike h n c (tries m s d p).state.world
   unfolding tries
@@ -390,11 +425,21 @@ module _ (h : Hierarchy) (n : Times) (c : ℕ) where
   like_refilled None s i = i
   like_refilled (Some t) s i = like_task s.world t _ (renewed_run (task_at s.world t)) i
 
+  like_tells_busy : (s : State) (d : ℕ) (p : Option ℕ) (ran : Bool) → IsLike h n c s.world → IsLike h n c (tells_busy s d p ran).state.world
+  unfolding tells_busy
+  like_tells_busy s d None false i = like_tells_idle s d 0 i
+  like_tells_busy s d None true i = i
+  like_tells_busy s d (Some t) ran i = i
+
+  like_makes_way : (s : State) (d : ℕ) (p : Option ℕ) (ran : Bool) → IsLike h n c s.world → IsLike h n c (makes_way s d p ran).state.world
+  unfolding makes_way
+  like_makes_way s d p ran i = like_leave (tells_busy s d p ran).state d p (like_tells_busy s d p ran i)
+
   like_pick : (s : State) (d : ℕ) (p : Option ℕ) (ran : Bool) → IsLike h n c s.world → IsLike h n c (pick s d p ran).state.world
   unfolding pick
   like_pick s d p ran i =
       let v = refilled s (picked s d) in
-      like_start_picked_or_cycle (picked s d) (leave v d p).state d ran (like_leave v d p (like_refilled (picked s d) s i))
+      like_start_picked_or_cycle (picked s d) (makes_way v d p ran).state d ran (like_makes_way v d p ran (like_refilled (picked s d) s i))
 
   like_pick_or_rest : (s : State) (d : ℕ) (p : Option ℕ) (ran : Bool) → IsLike h n c s.world → IsLike h n c (pick_or_rest s d p ran).state.world
   unfolding pick_or_rest
@@ -431,12 +476,32 @@ module _ (h : Hierarchy) (n : Times) (c : ℕ) where
   like_look s d p ran i =
       keeps_if (λ (r : Stepped). IsLike h n c r.state.world) (is_ejected s) (builtin_cycle s d p ran) (seek s d p ran) (like_builtin_cycle s d p ran i) (like_seek s d p ran i)
 
+  like_cycling : (s : State) (o : Option ℕ) → IsLike h n c s.world → IsLike h n c (cycling s o).world
+  like_cycling s o i = kept_cycling (IsLike h n c) like_cycles s.world o i
+
+  -- a processor that falls idle
+  like_idle_or_anew : (s : State) (d : ℕ) → IsLike h n c s.world → IsLike h n c (idle_or_anew s d).state.world
+  unfolding idle_or_anew notes_idle
+  like_idle_or_anew s d i =
+      let r = builtin_cycle (cycling s (Some d)) d None true in
+      keeps_if (λ (x : Stepped). IsLike h n c x.state.world) (is_ejected s) (ends r) (notes_idle s d) (like_cycling r.state None (like_builtin_cycle (cycling s (Some d)) d None true (like_cycling s (Some d) i))) (like_cycling s None i)
+
+  like_becomes_idle : (s : State) (d : ℕ) → IsLike h n c s.world → IsLike h n c (becomes_idle s d).state.world
+  unfolding becomes_idle
+  like_becomes_idle s d i =
+      let v = with_world s (out_of_cycle s.world) in
+      like_idle_or_anew (tells_idle v d 1).state d (like_tells_idle v d 1 i)
+
+  like_concluded : (s : State) (d : ℕ) (ran : Bool) → IsLike h n c s.world → IsLike h n c (concluded s d ran).state.world
+  unfolding concluded
+  like_concluded s d ran i = keeps_if (λ (r : Stepped). IsLike h n c r.state.world) (falls_idle s d ran) (becomes_idle s d) (stays (cycling s None)) (like_becomes_idle s d i) (like_cycling s None i)
+
   -- a whole cycle
   pub like_cycle : (s : State) (d : ℕ) (p : Option ℕ) (ran : Bool) → IsLike h n c s.world → IsLike h n c (cycle s d p ran).state.world
   unfolding cycle
   like_cycle s d p ran i =
       let v = cycling s (Some d) in
-      kept_cycling (IsLike h n c) like_cycles (look v d p ran).state.world None (like_look v d p ran (kept_cycling (IsLike h n c) like_cycles s.world (Some d) i))
+      like_concluded (look v d p ran).state d ran (like_look v d p ran (like_cycling s (Some d) i))
 
   -- ---- rounds
 
@@ -489,16 +554,29 @@ module _ (h : Hierarchy) (n : Times) (c : ℕ) where
       go None e = subst (λ (x : State). IsLike h n c x.world) (same_ok _ _ e) after
       go (Some k) e = absurd (cc)
 
-  like_enabled_one : (s t : State) (k : ℕ) → enable s k ≡ Ok t → IsLike h n c s.world → IsLike h n c t.world
-  unfolding enable
-  like_enabled_one s t k e i = go (failure (enable_ending s k).outside.call.cause (enable_ending s k).answer) e
+  like_begun : (s t : State) (b : Callback) (a : Args) (k d : ℕ) → begin_with s b a k d ≡ Ok t → IsLike h n c s.world → IsLike h n c t.world
+  unfolding begin_with
+  like_begun s t b a k d e i = go (failure (begin_ending s b a k d).outside.call.cause (begin_ending s b a k d).answer) e
     where
-      after : IsLike h n c (after_callback s.policy (enable_ending s k)).world
-      after = like_called (acting s callback.Enable) callback.Enable (one_task k) s.maps (at_callback s.world callback.Enable k 0) i
+      after : IsLike h n c (after_callback s.policy (begin_ending s b a k d)).world
+      after = like_called (acting s b) b a s.maps (at_callback s.world b k d) i
 
-      go : (o : Option ℤ) → ok_unless o (after_callback s.policy (enable_ending s k)) ≡ Ok t → IsLike h n c t.world
+      go : (o : Option ℤ) → ok_unless o (after_callback s.policy (begin_ending s b a k d)) ≡ Ok t → IsLike h n c t.world
       go None e = subst (λ (x : State). IsLike h n c x.world) (same_ok _ _ e) after
-      go (Some k) e = absurd (cc)
+      go (Some x) e = absurd (cc)
+
+  -- a callback that Linux rules call more
+  like_begun_by_linux : (s t : State) (b : Callback) (a : Args) (k d : ℕ) → begin_by_linux s b a k d ≡ Ok t → IsLike h n c s.world → IsLike h n c t.world
+  unfolding begin_by_linux
+  like_begun_by_linux s t b a k d e i = go (has_by_linux s b) e
+    where
+      go : (more : Bool) → (if more then begin_with s b a k d else Ok s) ≡ Ok t → IsLike h n c t.world
+      go true e = like_begun s t b a k d e i
+      go false e = subst (λ (x : State). IsLike h n c x.world) (same_ok _ _ e) i
+
+  like_weighed : (k : ℕ) (r : Result State ℤ) (t : State) → then_weigh r k ≡ Ok t → ((u : State) → r ≡ Ok u → IsLike h n c u.world) → IsLike h n c t.world
+  like_weighed k (Err x) t e f = absurd (cc)
+  like_weighed k (Ok u) t e f = like_begun_by_linux u t callback.SetWeight (task_and_number k (own_weight u.world.tree k)) k 0 e (f u refl)
 
   like_enabled : (m : ℕ) (s t : State) → after_enables m s ≡ Ok t → IsLike h n c s.world → IsLike h n c t.world
   like_enabled zero s t e i = subst (λ (x : State). IsLike h n c x.world) (same_ok _ _ e) i
@@ -506,11 +584,34 @@ module _ (h : Hierarchy) (n : Times) (c : ℕ) where
     where
       go : (r : Result State ℤ) → ((u : State) → r ≡ Ok u → IsLike h n c u.world) → then_enable r m ≡ Ok t → IsLike h n c t.world
       go (Err k) f e = absurd (cc)
-      go (Ok u) f e = like_enabled_one u t m e (f u refl)
+      go (Ok u) f e = like_weighed m (enable u m) t e (λ v x. like_begun u v callback.Enable (one_task m) m 0 x (f u refl))
+
+  like_told_idle : (m : ℕ) (s t : State) → after_idles m s ≡ Ok t → IsLike h n c s.world → IsLike h n c t.world
+  like_told_idle zero s t e i = subst (λ (x : State). IsLike h n c x.world) (same_ok _ _ e) i
+  like_told_idle (suc m) s t e i = go (after_idles m s) (λ u x. like_told_idle m s u x i) e
+    where
+      go : (r : Result State ℤ) → ((u : State) → r ≡ Ok u → IsLike h n c u.world) → then_idle r m ≡ Ok t → IsLike h n c t.world
+      go (Err k) f e = absurd (cc)
+      go (Ok u) f e = like_begun_by_linux u t callback.UpdateIdle (two_numbers m 1) 0 m e (f u refl)
+
+  like_unmarked : (r : Result State ℤ) (t : State) → unmarked r ≡ Ok t → ((u : State) → r ≡ Ok u → IsLike h n c u.world) → IsLike h n c t.world
+  like_unmarked (Err x) t e f = absurd (cc)
+  like_unmarked (Ok u) t e f = subst (λ (x : State). IsLike h n c x.world) (same_ok _ _ e) (f u refl)
+
+  like_all_idle : (s t : State) → all_idle s ≡ Ok t → IsLike h n c s.world → IsLike h n c t.world
+  like_all_idle s t e i = go (has_by_linux s callback.UpdateIdle) e
+    where
+      go : (b : Bool) → (if b then unmarked (after_idles (length s.world.cpus) s) else Ok s) ≡ Ok t → IsLike h n c t.world
+      go true e = like_unmarked (after_idles (length s.world.cpus) s) t e (λ u x. like_told_idle (length s.world.cpus) s u x i)
+      go false e = subst (λ (x : State). IsLike h n c x.world) (same_ok _ _ e) i
+
+  like_then_idle : (r : Result State ℤ) (t : State) → then_all_idle r ≡ Ok t → ((u : State) → r ≡ Ok u → IsLike h n c u.world) → IsLike h n c t.world
+  like_then_idle (Err k) t e f = absurd (cc)
+  like_then_idle (Ok s) t e f = like_all_idle s t e (f s refl)
 
   like_all : (r : Result State ℤ) (t : State) → all_enabled r ≡ Ok t → ((s : State) → r ≡ Ok s → IsLike h n c s.world) → IsLike h n c t.world
   like_all (Err k) t e f = absurd (cc)
-  like_all (Ok s) t e f = like_enabled (length s.world.tasks) s t e (f s refl)
+  like_all (Ok s) t e f = like_then_idle (after_enables (length s.world.tasks) s) t e (λ u x. like_enabled (length s.world.tasks) s u x (f s refl))
 
 -- the first world has such a tree, and a task and a processor for each
 pub like_first : (p : PolicyState) (h : Hierarchy) (cpus : ℕ) (t : State) → first_state p h cpus ≡ Ok t → IsLike h (times_of (length h.homes) (blank p h cpus).world) cpus t.world

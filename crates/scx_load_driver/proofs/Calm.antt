@@ -9,7 +9,7 @@ use Rattle.scx_load_workloads.specs.declared.workload.Change.{Change}
 use Rattle.scx_load_workloads.specs.Workload.{change_at}
 use Rattle.scx_load_driver.specs.declared.driver.Phase.{Phase}
 use Rattle.scx_load_driver.specs.declared.driver.Phase.TheVariants as phase
-use Rattle.scx_load_driver.specs.Blocks.{is_at, changes_at, wakes_at, ticks_of, ran_after}
+use Rattle.scx_load_driver.specs.Blocks.{is_at, change_event, changes_at, wakes_at, ticks_of, ran_after}
 use Rattle.scx_load_driver.specs.declared.calendar.Calendar.{Calendar}
 use Rattle.scx_load_driver.specs.Calendar.{soonest_of, AreNoted}
 use Rattle.scx_load_driver.specs.Watch.{sleeps_seen}
@@ -33,7 +33,7 @@ none_behind (x ∷ es) fs e = absurd (cc)
 -- no weight changes before the millisecond that is known
 pub no_changes : (changes : List Change) (now next : ℕ) → AreLater changes now next → now < next → changes_at changes now ≡ []
 no_changes changes now next h l =
-    no_events (length changes) (is_at changes now) (λ i. event.SetWeight (change_at changes i).group (change_at changes i).weight)
+    no_events (length changes) (is_at changes now) (λ i. change_event (change_at changes i))
     (λ i within. ne_eqb (change_at changes i).at now (λ e. absurd (omega (arith, e, l, h i within (omega (arith, e))))))
 
 -- the clock comes behind those who went to sleep, and the next millisecond behind it

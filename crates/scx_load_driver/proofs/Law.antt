@@ -10,11 +10,11 @@ use Rattle.scx_sched.specs.Sim.{SimState, max_events, IsFirstState}
 use Rattle.scx_load_workloads.specs.declared.workload.Timing.{Timing}
 use Rattle.scx_load_workloads.specs.Workload.{WorkloadState, IsWorkload, first_tree, IsChange, change_at}
 use Rattle.scx_load_driver.specs.Runs.{stepped_all, AreAccepted}
-use Rattle.scx_load_driver.specs.Blocks.{Plan, Memory, Block, Changes, Wakes, Ticks, Sleeps, Clock, events_below, is_at, is_due, has_run_enough, may_sleep, goes_to_sleep, block_events, memory_after}
+use Rattle.scx_load_driver.specs.Blocks.{Plan, Memory, Block, Changes, Wakes, Ticks, Sleeps, Clock, change_event, events_below, is_at, is_due, has_run_enough, may_sleep, goes_to_sleep, block_events, memory_after}
 use Rattle.scx_load_driver.specs.Events.{blocks_from, events_from, plan_of, first_memory, workload_events}
 use Rattle.scx_load_driver.proofs.Below.{length_set_below}
 use Rattle.scx_load_driver.proofs.Alike.{Times, IsLike, times_of, like_groups, like_first}
-use Rattle.scx_load_driver.proofs.Accepting.{accepted_behind, IsOf, wake_leads, sleep_leads, tick_leads, clock_leads, weight_leads, Led, led}
+use Rattle.scx_load_driver.proofs.Accepting.{accepted_behind, IsOf, wake_leads, sleep_leads, tick_leads, clock_leads, weighing_leads, Led, led}
 
 -- ---- how many events a block has at most
 
@@ -46,7 +46,7 @@ record IsPlan (n c g : ℕ) (p : Plan) : Type 0 where
   pub few_tasks : n ≤ 1024
   pub few_cpus : c ≤ 64
   pub few_changes : length p.changes ≤ 1024
-  pub changes : (i : ℕ) → i < length p.changes → IsChange g (change_at p.changes i)
+  pub changes : (i : ℕ) → i < length p.changes → IsChange g n (change_at p.changes i)
 
 and_left : (a b : Bool) → (a && b) ≡ true → a ≡ true
 and_left true b e = refl
@@ -91,10 +91,10 @@ module _ (n c g : ℕ) (p : Plan) (plan : IsPlan n c g p) where
     } at_first
 
     change_block : (m : ℕ) → s.events + 1024 ≤ max_events → Led Counted (length p.changes) s (block_events p (Changes m) (record { due = []; ran = [] }) s.state.world)
-    change_block m room = led (length p.changes) (is_at p.changes m) (λ i. event.SetWeight (change_at p.changes i).group (change_at p.changes i).weight) Counted s record {
+    change_block m room = led (length p.changes) (is_at p.changes m) (λ i. change_event (change_at p.changes i)) Counted s record {
       passed = λ k v l e i.
           let y = plan.changes k l in
-          let x = weight_leads n c g (s.events + k) v (change_at p.changes k).group (change_at p.changes k).weight (omega (arith, l, room, plan.few_changes)) y.group y.least y.greatest i in
+          let x = weighing_leads n c g (s.events + k) v (change_at p.changes k).weighed (change_at p.changes k).weight (omega (arith, l, room, plan.few_changes)) y.weighed y.least y.greatest i in
           (x.0, next_is k _ x.1);
       left_out = λ k v l e i. one_more k v i;
     } at_first

@@ -10,7 +10,7 @@ use Rattle.scx_weights.specs.Refusals.{weight_fault}
 use Rattle.scx_sched_world.specs.World.{WorldState, with_tree, task_at, is_runnable, running, is_this}
 use Rattle.scx_sched_world.specs.Tasks.{tick_ns}
 use Rattle.scx_sched_machine.specs.declared.events.Event.{Event}
-use Rattle.scx_sched_machine.specs.declared.events.Event.TheVariants.{Wake, Sleep, Tick, Clock, SetWeight}
+use Rattle.scx_sched_machine.specs.declared.events.Event.TheVariants.{Wake, Sleep, Tick, Clock, SetWeight, SetTaskWeight}
 use Rattle.scx_sched_machine.specs.declared.events.Event.TheVariants as event
 use Rattle.scx_sched_machine.specs.declared.events.Refused.{Refused}
 use Rattle.scx_sched_machine.specs.Steps.{State}
@@ -18,13 +18,15 @@ use Rattle.scx_sched_machine.specs.Events as machine
 use Rattle.scx_sched_machine.proofs.Choices.{keeps_if}
 use Rattle.scx_sched.specs.Sim.{SimState, refusal, after_event, stepped_if}
 use Rattle.scx_sched.proofs.Deciding.{accepted}
-use Rattle.scx_sched.proofs.Events.{IsTaken, Wakes, Sleeps, Ticks, Clocks, Weighs, is_taken}
+use Rattle.scx_sched.proofs.Events.{IsTaken, Wakes, Sleeps, Ticks, Clocks, Weighs, WeighsTask, is_taken}
+use Rattle.scx_load_workloads.specs.declared.workload.Weighed.{Weighed}
+use Rattle.scx_load_workloads.specs.declared.workload.Weighed.TheVariants as which
 use Rattle.scx_load_workloads.specs.declared.workload.Timing.{Timing}
 use Rattle.scx_load_workloads.specs.declared.workload.Change.{Change}
 use Rattle.scx_load_workloads.specs.Workload.{WorkloadState, timing_at, change_at}
 use Rattle.scx_load_driver.specs.Runs.{stepped_all}
 use Rattle.scx_load_driver.specs.Blocks as block
-use Rattle.scx_load_driver.specs.Blocks.{Plan, Memory, Block, is_due, has_run_enough, may_sleep, goes_to_sleep, block_events, memory_after, events_below, is_at, ran_after}
+use Rattle.scx_load_driver.specs.Blocks.{Plan, Memory, Block, weighing, change_event, is_due, has_run_enough, may_sleep, goes_to_sleep, block_events, memory_after, events_below, is_at, ran_after}
 use Rattle.scx_load_driver.specs.Watch.{is_watched, last_ticks_of, watched_if, watched_at_tick, watched_after, watched_after_all, is_seen, is_seen_off, block_seen, memory_seen, watched_in, events_seen}
 use Rattle.scx_load_driver.specs.Events.{blocks_from, events_from, plan_of, first_memory, workload_events}
 use Rattle.scx_load_driver.specs.Driver.{remaining}
@@ -32,7 +34,7 @@ use Rattle.scx_load_driver.proofs.Below.{events_alike, sets_alike, kept_out, set
 use Rattle.scx_load_driver.proofs.LastTicks.{last_at, lacking}
 use Rattle.scx_load_driver.proofs.Accepting.{stepped_behind}
 use Rattle.scx_load_driver.proofs.Alike.{IsLike, times_of, like_rounds}
-use Rattle.scx_load_driver.proofs.Happening.{like_clock, like_tick, like_wake, like_sleep, others_stay}
+use Rattle.scx_load_driver.proofs.Happening.{like_clock, like_tick, like_wake, like_sleep, own_weighed_active, like_weighed_task, others_stay}
 
 -- ---- lists
 
@@ -82,6 +84,10 @@ has_enough timings ran w t h =
 abbrev pub IsFresh : List ℕ → WorldState → Event → Type 0
 IsFresh ran w (Wake t) = (task_at w t).run_ns ≤ get_or ran t 0
 IsFresh ran w e = Unit {0}
+
+weighing_is_fresh : (ran : List ℕ) (w : WorldState) (k : Weighed) (x : ℕ) → IsFresh ran w (weighing k x)
+weighing_is_fresh ran w (which.Group g) x = tt
+weighing_is_fresh ran w (which.Task t) x = tt
 
 -- so of all events, each as its turn comes
 abbrev pub AreFresh : List ℕ → SimState → List Event → Type 0
@@ -196,6 +202,7 @@ module _ (timings : List Timing) (ran : List ℕ) where
   unmoved xs w (Sleep t) h = h
   unmoved xs w Clock h = h
   unmoved xs w (SetWeight g x) h = h
+  unmoved xs w (SetTaskWeight t x) h = h
 
   -- a task that is runnable though another went to sleep was so before
   slept : (h : Hierarchy) (t u : ℕ) → is_active_task (tree.with_task h t false) u ≡ true → is_active_task h u ≡ true
@@ -250,6 +257,10 @@ module _ (timings : List Timing) (ran : List ℕ) where
           let as_active : own.state.world.tree.active ≡ s.world.tree.active = keeps_if (λ (w : WorldState). w.tree.active ≡ s.world.tree.active) b v s.world refl refl in
           let x = like_rounds own.state.world.tree (times_of n s.world) c own alike in
           quietly xs s.world after (λ u y. sym (runs s.world.tree after (x.0.2 ∙ as_active) u) ∙ y) (λ u. x.1.1 u) h
+      go _ (WeighsTask t k within) still =
+          let after = (machine.event_step s (SetTaskWeight t k)).state.world in
+          let x = like_weighed_task s.world.tree (times_of n s.world) c s t k like in
+          quietly xs s.world after (λ u y. sym (runs s.world.tree after (x.0.2 ∙ own_weighed_active s.world.tree t k) u) ∙ y) (λ u. x.1.1 u) h
 
   -- each event keeps it
   watching : (xs : List Bool) (s : SimState) (v : Event) → IsFresh ran s.state.world v → AreAllWatched xs s.state.world → AreAllWatched (watched_after last s.state.world v xs) (after_event s v).state.world
@@ -330,7 +341,7 @@ module _ (p : Plan) (k : Memory) (xs : List Bool) (w : WorldState) (h : AreAllWa
 
 -- as a block begins it was remembered how long each has run that wakes in it
 fresh_block : (p : Plan) (k : Memory) (xs : List Bool) (s : SimState) (b : Block) → length k.due ≤ length k.ran → AreFresh (memory_seen p b k xs s.state.world).ran s (block_seen p b k xs s.state.world)
-fresh_block p k xs s (block.Changes m) l = fresh_others k.ran (length p.changes) (is_at p.changes m) (λ i. SetWeight (change_at p.changes i).group (change_at p.changes i).weight) s (λ i w. tt)
+fresh_block p k xs s (block.Changes m) l = fresh_others k.ran (length p.changes) (is_at p.changes m) (λ i. change_event (change_at p.changes i)) s (λ i w. weighing_is_fresh k.ran w (change_at p.changes i).weighed (change_at p.changes i).weight)
 fresh_block p k xs s (block.Wakes m) l = (fresh_wakes later (length k.due) (is_due k.due m w) s (λ t within e. known t within e)).0
   where
     w : WorldState

@@ -6,6 +6,8 @@ use Rattle.scx_sched_world.specs.Tasks.{tick_ns}
 use Rattle.scx_sched_machine.specs.declared.events.Event.{Event}
 use Rattle.scx_sched_machine.specs.declared.events.Event.TheVariants as event
 use Rattle.scx_load_workloads.specs.declared.workload.Timing.{Timing}
+use Rattle.scx_load_workloads.specs.declared.workload.Weighed.{Weighed}
+use Rattle.scx_load_workloads.specs.declared.workload.Weighed.TheVariants as which
 use Rattle.scx_load_workloads.specs.declared.workload.Change.{Change}
 use Rattle.scx_load_workloads.specs.Workload.{timing_at, change_at}
 
@@ -74,11 +76,19 @@ goes_to_sleep timings ran w t = has_run_enough timings ran w t && may_sleep w t
 
 -- ---- blocks
 
+-- a group or a task gets that weight
+abbrev pub weighing : Weighed → ℕ → Event
+weighing (which.Group g) x = event.SetWeight g x
+weighing (which.Task t) x = event.SetTaskWeight t x
+
+-- the event of a change of a weight
+abbrev pub change_event : Change → Event
+change_event c = weighing c.weighed c.weight
+
 -- the changes of weights of that millisecond, in the order of the file
 abbrev pub changes_at : List Change → ℕ → List Event
 changes_at changes m =
-    events_below (length changes) (is_at changes m)
-    (λ i. event.SetWeight (change_at changes i).group (change_at changes i).weight)
+    events_below (length changes) (is_at changes m) (λ i. change_event (change_at changes i))
 
 -- the tasks that sleep and are due in that millisecond wake, by number
 abbrev pub wakes_at : List ℕ → ℕ → WorldState → List Event

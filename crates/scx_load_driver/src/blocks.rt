@@ -2,7 +2,7 @@
 ghost use Rattle.std.specs.Prelude.{◌≡◌, ℕ, ◌+◌, ◌≤◌, ◌<◌, [], ◌∷◌, ◌++◌, length, slice_set, vec_len, vec_capacity, if◌then◌else◌};
 ghost use Rattle.scx_sched_world.specs.World.{task_at, running};
 ghost use Rattle.scx_load_workloads.specs.Workload.{max_ms, timing_at};
-ghost use Rattle.scx_load_driver.specs.Blocks.{is_due, has_run_enough, only_runners_sleep, may_sleep, changes_at, wakes_at, ran_after};
+ghost use Rattle.scx_load_driver.specs.Blocks.{change_event, is_due, has_run_enough, only_runners_sleep, may_sleep, changes_at, wakes_at, ran_after};
 ghost use Rattle.scx_load_driver.specs.Watch.{last_tick, last_ticks_of, watched_if, watched_at_tick, watched_after, sleeps_seen, due_seen, watched_still};
 ghost use Rattle.scx_sched_machine.specs.declared.events.Event.TheVariants.{Wake, Sleep};
 ghost use Rattle.scx_load_driver.specs.Changes.{AreLater};
@@ -11,7 +11,7 @@ ghost use Rattle.scx_load_driver.specs.Driver.{AreUnwatched};
 
 use crate::calendar::Calendar;
 use crate::set::NumberSet;
-use scx_load_workloads::{Change, Timing};
+use scx_load_workloads::{Change, Timing, Weighed};
 use scx_sched::{Event, Sim};
 use std::cmp;
 
@@ -78,6 +78,16 @@ fn next_change(changes: &[Change], now: u32) -> u32
     next
 }
 
+/// The event of a change of a weight.
+fn change_event(change: Change) -> Event
+    ensures { result ≡ change_event change }
+{
+    match change.weighed {
+        Weighed::Group(group) => Event::SetWeight(group, change.weight),
+        Weighed::Task(task) => Event::SetTaskWeight(task, change.weight),
+    }
+}
+
 /// Adds the changes of weights of this millisecond.
 #[tactic(auto, using(crate::proofs::Below::events_push, crate::proofs::Below::events_skip, crate::proofs::Below::set_push, crate::proofs::Below::set_skip))]
 fn find_changes(changes: &[Change], now: u32, events: &mut Vec<Event>)
@@ -89,7 +99,7 @@ fn find_changes(changes: &[Change], now: u32, events: &mut Vec<Event>)
 {
     for change in changes {
         if change.at == now {
-            events.push_reserved(Event::SetWeight(change.group, change.weight));
+            events.push_reserved(change_event(*change));
         }
     }
 }
@@ -302,7 +312,11 @@ pub(crate) fn watch_event(
 {
     match event {
         Event::Tick(cpu) => watch_runner(last_ticks, watched, some, sim, cpu),
-        Event::Wake(_) | Event::Sleep(_) | Event::Clock | Event::SetWeight(_, _) => {}
+        Event::Wake(_)
+        | Event::Sleep(_)
+        | Event::Clock
+        | Event::SetWeight(_, _)
+        | Event::SetTaskWeight(_, _) => {}
     }
 }
 

@@ -78,3 +78,7 @@ least_is_found (p ∷ paths) = least_behind p paths
 -- it is the least of all of them
 pub four_looks : (ps qs rs ss : List (List ℕ)) → least_with (least_with (least_with (least_with None ps) qs) rs) ss ≡ least_with None (ps ++ qs ++ rs ++ ss)
 four_looks ps qs rs ss = rw (least_with-append None (ps ++ qs ++ rs) ss, least_with-append None (ps ++ qs) rs, least_with-append None ps qs) refl
+
+-- and so of five lists
+pub five_looks : (ps qs rs ss ts : List (List ℕ)) → least_with (least_with (least_with (least_with (least_with None ps) qs) rs) ss) ts ≡ least_with None (ps ++ qs ++ rs ++ ss ++ ts)
+five_looks ps qs rs ss ts = rw (least_with-append None (ps ++ qs ++ rs ++ ss) ts, least_with-append None (ps ++ qs ++ rs) ss, least_with-append None (ps ++ qs) rs, least_with-append None ps qs) refl

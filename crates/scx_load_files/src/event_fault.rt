@@ -4,7 +4,8 @@ ghost use Rattle.scx_load_files.specs.EventFaults.{event_number, event_name};
 /// A fault in a line of events, in the order of the numbers.
 #[derive(Clone, Copy, Debug, PartialEq, Eq)]
 pub enum EventFault {
-    /// It isn't `MS wake TASK`, `MS sleep TASK` or `MS weight GROUP W`, with one space between words.
+    /// It isn't `MS wake TASK`, `MS sleep TASK`, `MS weight GROUP W` or, under Linux rules,
+    /// `MS task_weight TASK W`, with one space between words.
     Syntax,
     /// The millisecond isn't a number less than `ms`.
     BadTime,

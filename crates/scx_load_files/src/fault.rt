@@ -32,6 +32,8 @@ pub enum Cause {
     TooMany,
     /// No group has this name, or none before it.
     NoSuchGroup,
+    /// No task has this name.
+    NoSuchTask,
     /// The group has groups below it, and so no tasks.
     NotALeaf,
     /// The group lies more than three levels below the root.
@@ -85,6 +87,7 @@ impl Cause {
             Cause::Twice => "twice",
             Cause::TooMany => "too many",
             Cause::NoSuchGroup => "no such group",
+            Cause::NoSuchTask => "no such task",
             Cause::NotALeaf => "not a leaf",
             Cause::TooDeep => "too deep",
             Cause::BadHex => "bad hex",

@@ -1,4 +1,5 @@
 mod Keys
+mod Timing
 mod Within
 mod Built
 mod Placing

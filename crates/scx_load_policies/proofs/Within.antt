@@ -1,8 +1,10 @@
 -- What was read is within its limits.
-use Rattle.std.proofs.Common.{◌≡◌, ℕ, suc, ◌+◌, ◌≤◌, codes, Bool, true, false, nat_le, ◌&&◌, if◌then◌else◌, List, [], ◌∷◌, length, pos, negsuc, Option, Some, None, Ok, Err, Result, IsOk, IfOk, ◌↔◌, All, refl, ap, subst, arith}
+use Rattle.std.proofs.Common.{◌≡◌, ℕ, suc, ◌+◌, ◌≤◌, codes, Bool, true, false, nat_le, ◌&&◌, if◌then◌else◌, List, [], ◌∷◌, length, pos, negsuc, Option, Some, None, Ok, Err, Result, IsOk, IfOk, ◌↔◌, All, Bor, refl, ap, subst, arith}
 use Rattle.std.proofs.lemmas.Bool.{and_parts, leb-true, false≢true}
 use Rattle.std.proofs.lemmas.List.Elements.{All-nil, All-cons}
 use Rattle.toml.specs.Data.{Data, string, integer, float, boolean, datetime, array, table, Items, no_items, item, Members, get_member}
+use Rattle.toml.specs.View.{items_view}
+use Rattle.toml.specs.declared.value.Value.{Value}
 use Rattle.scx_maps.specs.declared.shape.Shape.{Shape}
 use Rattle.scx_maps.specs.declared.defs.TheConstants.{MAX_MAPS, MAX_BYTES}
 use Rattle.scx_maps.specs.Limits.{total_bytes, IsWithinLimits, AreWithinLimits}
@@ -14,6 +16,7 @@ use Rattle.scx_load_files.specs.declared.fault.LoadError.{LoadError}
 use Rattle.scx_load_files.specs.Faults.{Reading, Gives, refusal}
 use Rattle.scx_load_files.specs.Paths.{below, element}
 use Rattle.scx_load_files.specs.Values.{found_or, integer_of, table_of, elements_of, item_count, each_from, required, optional}
+use Rattle.scx_load_files.proofs.Counts.{count_of_view}
 use Rattle.scx_load_policies.specs.Reading.{tick_limits, tick_in}
 use Rattle.scx_load_policies.specs.Maps.{entry_limits, size_limits, shape_in, map_at, fitting}
 
@@ -115,26 +118,31 @@ counted : (b : Bool) (path : List ℕ) (ds es : Items) → (if b then Ok ds else
 counted true path ds es e = (refl, ap (value_or es) e)
 counted false path ds es e = absurd (cc)
 
-array_counted : (path : List ℕ) (d : Data) (es : Items) → elements_of MAX_MAPS path d ≡ Ok es → item_count es ≤ MAX_MAPS
-array_counted path (array ds) es e =
-    let (b, same) = counted (nat_le (item_count ds) MAX_MAPS) path ds es e in
-    omega (arith, leb-true (item_count ds) MAX_MAPS b, ap item_count same)
-array_counted path (integer z) n e = absurd (cc)
-array_counted path (string s) n e = absurd (cc)
-array_counted path (float x) n e = absurd (cc)
-array_counted path (boolean b) n e = absurd (cc)
-array_counted path (datetime t) n e = absurd (cc)
-array_counted path (table ms) n e = absurd (cc)
+array_counted : (most : ℕ) (path : List ℕ) (d : Data) (es : Items) → elements_of most path d ≡ Ok es → item_count es ≤ most
+array_counted most path (array ds) es e =
+    let (b, same) = counted (nat_le (item_count ds) most) path ds es e in
+    omega (arith, leb-true (item_count ds) most b, ap item_count same)
+array_counted most path (integer z) n e = absurd (cc)
+array_counted most path (string s) n e = absurd (cc)
+array_counted most path (float x) n e = absurd (cc)
+array_counted most path (boolean b) n e = absurd (cc)
+array_counted most path (datetime t) n e = absurd (cc)
+array_counted most path (table ms) n e = absurd (cc)
 
-found_counted : (path : List ℕ) (o : Option Data) (es : Items) → found_or (elements_of MAX_MAPS path) (Ok no_items) o ≡ Ok es → item_count es ≤ MAX_MAPS
-found_counted path None es e =
+found_counted : (most : ℕ) (path : List ℕ) (o : Option Data) (es : Items) → found_or (elements_of most path) (Ok no_items) o ≡ Ok es → item_count es ≤ most
+found_counted most path None es e =
     let same : no_items ≡ es = ap (value_or es) e in
     omega (arith, ap item_count same)
-found_counted path (Some d) es e = array_counted path d es e
+found_counted most path (Some d) es e = array_counted most path d es e
 
--- the number of maps
-pub few_elements : (path key : List ℕ) (ms : Members) (es : Items) → optional (elements_of MAX_MAPS) no_items path key ms ≡ Ok es → item_count es ≤ MAX_MAPS
-few_elements path key ms es e = found_counted (below path key) (get_member key ms) es e
+-- the number of elements
+pub few_elements : (most : ℕ) (path key : List ℕ) (ms : Members) (es : Items) → optional (elements_of most) no_items path key ms ≡ Ok es → item_count es ≤ most
+few_elements most path key ms es e = found_counted most (below path key) (get_member key ms) es e
+
+-- the same of values
+pub few_values : (most : ℕ) (path key : List ℕ) (ms : Members) (r : Result (Bor (List Value)) LoadError) → Gives (λ (vs : Bor (List Value)). items_view vs.now) r (optional (elements_of most) no_items path key ms) → IfOk r (λ vs. length vs.now ≤ most)
+few_values most path key ms (Ok vs) e = omega (arith, count_of_view vs.now, few_elements most path key ms (items_view vs.now) e)
+few_values most path key ms (Err e) g = tt
 
 not_fitting : (shapes : List Shape) (b : Bool) → nat_le (total_bytes shapes) MAX_BYTES ≡ b → length shapes ≤ MAX_MAPS → All IsWithinLimits shapes → ¬ AreWithinLimits shapes
     → (if b then Ok shapes else refusal (codes "map") cause.OutOfRange) ≡ refusal (codes "map") cause.OutOfRange
@@ -146,7 +154,7 @@ pub too_large : (ms : Members) (ds : Items) (shapes : List Shape) → optional (
     → fitting shapes ≡ refusal (codes "map") cause.OutOfRange
 too_large ms ds shapes elements read broken =
     let h = maps_within 0 ds shapes read in
-    let count : length shapes ≤ MAX_MAPS = omega (arith, h.count, few_elements [] (codes "map") ms ds elements) in
+    let count : length shapes ≤ MAX_MAPS = omega (arith, h.count, few_elements MAX_MAPS [] (codes "map") ms ds elements) in
     not_fitting shapes (nat_le (total_bytes shapes) MAX_BYTES) refl count h.each broken
 
 -- what is answered only otherwise doesn't hold where an error is answered

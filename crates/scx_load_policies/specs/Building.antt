@@ -65,12 +65,14 @@ abbrev pub code_of : Option VerifiedProgram → Option Code
 code_of v = option_map (λ p. p.code) v
 
 -- the policy of these programs, which has them all, each verified as its callback, for these maps
--- and by these rules, with this timeout and these ticks
+-- and by these rules, with this timeout, these ticks and that number of timers
 pub record IsBuilt (text : PolicyFile) (policy : PolicyState) : Type 0 where
   pub shapes : policy.shapes ≡ text.shapes
   pub timeout : policy.timeout_ms ≡ text.timeout_ms
   pub rules : policy.rules ≡ text.rules
   pub ticks : policy.tick_ms ≡ text.tick_ms
+  pub idle : policy.keeps_idle ≡ text.keeps_idle
+  pub timers : policy.timers ≡ text.timers
   pub programs : (b : Callback) → code_of (machine.program_of policy b) ≡ program_of text b
   pub accepted : (b : Callback) → IsAccepted (context_of text b) (program_of text b)
   pub as_callbacks : machine.AreAs policy.callbacks

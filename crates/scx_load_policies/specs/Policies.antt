@@ -1,6 +1,7 @@
 -- The content of a policy file: its name, the shapes of its maps, the time a task may wait, the
--- rules of the machine and its ticks, and its programs.
-use Rattle.std.specs.Prelude.{ℕ, ◌≡◌, ◌≤◌, List, map, filter, Option, None}
+-- rules of the machine and its ticks, whether the host tracks idle CPUs, its timers, and its
+-- programs.
+use Rattle.std.specs.Prelude.{ℕ, Bool, ◌≡◌, ◌≤◌, List, map, filter, Option, None}
 use Rattle.scx_maps.specs.declared.shape.Shape.{Shape}
 use Rattle.scx_isa_semantics.specs.Code.{Code}
 use Rattle.scx_isa_semantics.specs.declared.callbacks.Callback.{Callback}
@@ -18,14 +19,21 @@ abbrev pub IsTick : Rules → ℕ → Type 0
 IsTick Plain n = n ≡ 0
 IsTick Linux n = n ≤ 100
 
+-- a policy has at most 16 timers
+abbrev pub max_timers : ℕ
+max_timers = 16
+
 -- what a policy file says: its name, maps, the milliseconds of its timeout, by whose rules the
--- machine goes, the milliseconds from tick to tick, and programs
+-- machine goes, the milliseconds from tick to tick, whether idle CPUs are tracked beside
+-- `update_idle`, the number of timers, and programs
 pub record PolicyFile : Type 0 where
   pub name : List ℕ  -- empty where the file gives none
   pub shapes : List Shape
   pub timeout_ms : ℕ
   pub rules : Rules
   pub tick_ms : ℕ  -- 0 where slices end exactly
+  pub keeps_idle : Bool
+  pub timers : ℕ
   pub programs : Programs
 
 -- the program of a callback

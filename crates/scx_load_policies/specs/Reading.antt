@@ -1,6 +1,7 @@
 -- The reading of a policy file: unknown keys first, wherever they are; then the name, the timeout,
--- the rules, the ticks, the maps, the programs in `code` and those in `slots`.
-use Rattle.std.specs.Prelude.{ℕ, List, [], ◌∷◌, ◌++◌, codes, Ok, Err, if◌then◌else◌}
+-- the rules, the ticks, whether idle CPUs are tracked, the maps, the timers, the programs in `code`
+-- and those in `slots`.
+use Rattle.std.specs.Prelude.{ℕ, ◌==◌, Bool, List, [], ◌∷◌, ◌++◌, codes, Ok, Err, if◌then◌else◌}
 use Rattle.std.specs.Str.{bytes_eq}
 use Rattle.toml.specs.Data.{Data, Members, no_members}
 use Rattle.scx_load_files.specs.declared.fault.Cause.TheVariants as cause
@@ -14,17 +15,25 @@ use Rattle.scx_load_files.specs.Unknown.{known_alone, unknown, unknown_in, unkno
 use Rattle.scx_isa_semantics.specs.Callbacks.{none}
 use Rattle.scx_load_policies.specs.Policies.{PolicyFile, Programs, callback_keys}
 use Rattle.scx_load_policies.specs.Maps.{maps}
+use Rattle.scx_load_policies.specs.Timers.{timers}
 use Rattle.scx_load_policies.specs.Programs.{with_code, with_slots}
 
--- the keys that the table of a whole file may have
-abbrev pub file_keys : List (List ℕ)
-file_keys =
+-- the keys that the table of a whole file may have by those rules
+abbrev pub file_keys : Rules → List (List ℕ)
+file_keys Plain =
     codes "name" ∷ codes "timeout_ms" ∷ codes "rules" ∷ codes "tick_ms" ∷ codes "map"
     ∷ codes "code" ∷ codes "slots" ∷ []
+file_keys Linux =
+    codes "name" ∷ codes "timeout_ms" ∷ codes "rules" ∷ codes "tick_ms" ∷ codes "keep_idle"
+    ∷ codes "map" ∷ codes "timer" ∷ codes "code" ∷ codes "slots" ∷ []
 
 -- the keys that an element of the array `map` may have
 abbrev pub map_keys : List (List ℕ)
 map_keys = codes "entries" ∷ codes "value_size" ∷ []
+
+-- the keys that an element of the array `timer` may have
+abbrev pub timer_keys : List (List ℕ)
+timer_keys = codes "name" ∷ []
 
 -- ---- the rules
 
@@ -54,17 +63,20 @@ rules_meant ms = or_plain (rules_in ms)
 
 -- ---- unknown keys
 
--- the paths of all unknown keys of a file whose programs may have these keys
-abbrev pub unknown_beside : List (List ℕ) → Members → List (List ℕ)
-unknown_beside callbacks ms =
-    unknown file_keys [] ms
+-- the paths of all unknown keys of a file that may have these keys, and whose programs may have
+-- those
+abbrev pub unknown_beside : List (List ℕ) → List (List ℕ) → Members → List (List ℕ)
+unknown_beside keys callbacks ms =
+    unknown keys [] ms
     ++ unknown_in_each map_keys [] (codes "map") ms
+    ++ unknown_in_each timer_keys [] (codes "timer") ms
     ++ unknown_in callbacks [] (codes "code") ms
     ++ unknown_in callbacks [] (codes "slots") ms
 
--- the paths of all unknown keys of a file; which callbacks are known its rules say
+-- the paths of all unknown keys of a file; which keys and callbacks are known its rules say
 abbrev pub unknown_keys : Members → List (List ℕ)
-unknown_keys ms = unknown_beside (callback_keys (rules_meant ms)) ms
+unknown_keys ms =
+    unknown_beside (file_keys (rules_meant ms)) (callback_keys (rules_meant ms)) ms
 
 -- ---- the values
 
@@ -94,6 +106,15 @@ tick_of Linux path d = integer_of tick_limits path d
 abbrev pub tick_in : Rules → Members → Reading ℕ
 tick_in rules ms = optional (tick_of rules) (default_tick rules) [] (codes "tick_ms") ms
 
+-- the number that says whether idle CPUs are tracked beside `update_idle`, 0 or 1
+abbrev pub idle_limits : Limits
+idle_limits = record { least = 0; most = 1 }
+
+-- whether idle CPUs are tracked beside `update_idle`; where the key is absent they aren't
+abbrev pub idle_kept : Members → Reading Bool
+idle_kept ms =
+    optional (integer_of idle_limits) 0 [] (codes "keep_idle") ms >>= λ n. Ok (n == 1)
+
 -- the table at a key; where it is absent, one without keys
 abbrev pub table_in : List ℕ → Members → Reading Members
 table_in key ms = optional table_of no_members [] key ms
@@ -120,7 +141,9 @@ policy_in ms = do
   timeout ← optional (integer_of timeout_limits) 30000 [] (codes "timeout_ms") ms
   rules ← rules_in ms
   tick ← tick_in rules ms
+  kept ← idle_kept ms
   shapes ← maps ms
+  count ← timers ms
   programs ← programs_in ms
   Ok (record {
     name = name;
@@ -128,6 +151,8 @@ policy_in ms = do
     timeout_ms = timeout;
     rules = rules;
     tick_ms = tick;
+    keeps_idle = kept;
+    timers = count;
     programs = programs;
   })
 

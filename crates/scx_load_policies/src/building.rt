@@ -41,9 +41,18 @@ pub fn build(alloc: Global, text: PolicyText) -> Result<Policy, BuildError>
     let timeout_ms = text.timeout_ms();
     let rules = text.rules();
     let tick_ms = text.tick_ms();
+    let keeps_idle = text.keeps_idle();
+    let timers = text.timers();
     let callbacks = verify_all(alloc, text)?;
     match Policy::new_by(rules, defs, timeout_ms, callbacks) {
-        Ok(policy) => Ok(policy.with_ticks(tick_ms)),
+        Ok(policy) => {
+            let policy = policy.with_ticks(tick_ms).with_timers(timers);
+            if keeps_idle {
+                Ok(policy.with_idle_kept())
+            } else {
+                Ok(policy)
+            }
+        }
         Err(_) => unreachable!(),
     }
 }

@@ -1,4 +1,4 @@
-//! Policy files: the programs of a scheduling policy, its maps, and the time that a task may wait.
+//! Policy files: the programs of a scheduling policy, its maps and timers, and the time that a task may wait.
 //!
 //! `read_policy` reads a file, or names its first fault with its path. `build` verifies the programs of
 //! the file and makes the policy.
@@ -9,6 +9,7 @@ mod maps;
 mod policy_text;
 mod programs;
 mod reading;
+mod timers;
 
 pub use building::{BuildError, build};
 pub use policy_text::{PLAIN_CALLBACKS, PolicyText, Programs};

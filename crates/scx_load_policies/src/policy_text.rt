@@ -1,7 +1,8 @@
-ghost use Rattle.std.specs.Prelude.{◌≡◌, map, string_bytes};
+ghost use Rattle.std.specs.Prelude.{◌≡◌, ◌≤◌, map, string_bytes};
 ghost use Rattle.scx_isa_semantics.specs.declared.rules.Rules.TheVariants.{Plain, Linux};
 ghost use Rattle.scx_sched_machine.specs.Policy.{IsTimeout};
-ghost use Rattle.scx_load_policies.specs.Policies.{IsTick, callback_keys, program_of, without};
+ghost use Rattle.scx_load_policies.specs.Policies.{IsTick, max_timers, callback_keys, program_of, without};
+ghost use Rattle.scx_load_policies.specs.Reading.{file_keys};
 
 use scx_isa::{Callback, PerCallback, Program, Rules};
 use scx_maps::MapDefs;
@@ -18,13 +19,15 @@ pub struct PolicyText {
     pub(crate) timeout_ms: u32,
     pub(crate) rules: Rules,
     pub(crate) tick_ms: u32,
+    pub(crate) keeps_idle: bool,
+    pub(crate) timers: u8,
     pub(crate) programs: Programs,
 }
 
 impl Model for PolicyText {
-    ghost use Rattle.std.specs.Prelude.{string_bytes};
+    ghost use Rattle.std.specs.Prelude.{◌≤◌, string_bytes};
     ghost use Rattle.scx_sched_machine.specs.Policy.{IsTimeout};
-    ghost use Rattle.scx_load_policies.specs.Policies.{PolicyFile, IsTick};
+    ghost use Rattle.scx_load_policies.specs.Policies.{PolicyFile, IsTick, max_timers};
 
     ghost Value = { PolicyFile };
 
@@ -34,10 +37,13 @@ impl Model for PolicyText {
       timeout_ms = p.timeout_ms;
       rules = p.rules;
       tick_ms = p.tick_ms;
+      keeps_idle = p.keeps_idle;
+      timers = p.timers;
       programs = p.programs;
     } };
 
-    ghost invariant = { λ p. IsTimeout p.timeout_ms × IsTick p.rules p.tick_ms };
+    ghost invariant = { λ p. IsTimeout p.timeout_ms × IsTick p.rules p.tick_ms
+        × p.timers ≤ max_timers };
 }
 
 impl PolicyText {
@@ -78,6 +84,21 @@ impl PolicyText {
         self.tick_ms
     }
 
+    /// True if the host tracks idle CPUs also where the policy has `update_idle`.
+    pub fn keeps_idle(&self) -> bool
+        ensures { result ≡ self.now.keeps_idle }
+    {
+        self.keeps_idle
+    }
+
+    /// The number of its timers, at most 16; none under plain rules.
+    pub fn timers(&self) -> u8
+        ensures value { result ≡ self.now.timers }
+        ensures limits { result ≤ max_timers }
+    {
+        self.timers
+    }
+
     /// Its programs.
     pub fn into_programs(self) -> Programs
         ensures { result ≡ self.programs }
@@ -114,7 +135,7 @@ pub(crate) fn plain_keys() -> [&'static str; 7]
 }
 
 /// The keys of the callbacks that Linux rules know, all of them.
-pub(crate) fn linux_keys() -> [&'static str; 10]
+pub(crate) fn linux_keys() -> [&'static str; 14]
     ensures { map (λ key. key.now) result ≡ callback_keys Linux }
 {
     [
@@ -126,7 +147,43 @@ pub(crate) fn linux_keys() -> [&'static str; 10]
         Callback::Running.name(),
         Callback::Stopping.name(),
         Callback::Tick.name(),
+        Callback::Dequeue.name(),
         Callback::Runnable.name(),
         Callback::Quiescent.name(),
+        Callback::UpdateIdle.name(),
+        Callback::SetWeight.name(),
+        Callback::Timer.name(),
+    ]
+}
+
+/// The keys of a file that plain rules know.
+pub(crate) fn plain_file_keys() -> [&'static str; 7]
+    ensures { map (λ key. key.now) result ≡ file_keys Plain }
+{
+    [
+        "name",
+        "timeout_ms",
+        "rules",
+        "tick_ms",
+        "map",
+        "code",
+        "slots",
+    ]
+}
+
+/// The keys of a file that Linux rules know, all of them.
+pub(crate) fn linux_file_keys() -> [&'static str; 9]
+    ensures { map (λ key. key.now) result ≡ file_keys Linux }
+{
+    [
+        "name",
+        "timeout_ms",
+        "rules",
+        "tick_ms",
+        "keep_idle",
+        "map",
+        "timer",
+        "code",
+        "slots",
     ]
 }

@@ -5,11 +5,14 @@ ghost use Rattle.scx_isa_semantics.specs.declared.rules.Rules.TheVariants.{Plain
 ghost use Rattle.scx_load_files.specs.Faults.{Gives};
 ghost use Rattle.scx_load_files.specs.Unknown.{known_alone, words};
 ghost use Rattle.scx_load_policies.specs.Policies.{IsTick};
-ghost use Rattle.scx_load_policies.specs.Reading.{rules_meant, or_plain, unknown_beside, unknown_keys, policy_name, rules_in, rules_of, rules_named, tick_in, table_in, programs_in, programs_with, policy_in, policy_file, policy_text};
+ghost use Rattle.scx_load_policies.specs.Reading.{rules_meant, or_plain, unknown_beside, unknown_keys, idle_kept, policy_name, rules_in, rules_of, rules_named, tick_in, table_in, programs_in, programs_with, policy_in, policy_file, policy_text};
 
 use crate::maps::read_maps;
-use crate::policy_text::{PolicyText, Programs, linux_keys, plain_keys};
+use crate::policy_text::{
+    PolicyText, Programs, linux_file_keys, linux_keys, plain_file_keys, plain_keys,
+};
 use crate::programs::{put_code, put_slots};
+use crate::timers::read_timers;
 use scx_isa::Rules;
 use scx_load_files::{Cause, Limits, LoadError, Section, Unknown, read_document, refused};
 use std::alloc::Global;
@@ -29,15 +32,17 @@ const TICK: Limits = Limits {
     most: 100,
 };
 
+/// 1 where idle CPUs are tracked beside `update_idle`.
+const IDLE_KEPT: Limits = Limits { least: 0, most: 1 };
+
 /// The milliseconds from tick to tick of a file by Linux rules that gives none: those of a kernel with `HZ=250`.
 const USUAL_TICK: u32 = 4;
 
 /// Reads a policy file, or names its first fault.
 ///
-/// Unknown keys are faults before all others, the least path by bytes first; some callbacks are known by Linux
-/// rules alone. Then the order is the
-/// name, the timeout, the rules, the ticks, each map, the programs in `code` and those in `slots`, both in the order of
-/// callbacks.
+/// Unknown keys are faults before all others, the least path by bytes first; some keys and callbacks are known by
+/// Linux rules alone. Then the order is the name, the timeout, the rules, the ticks, `keep_idle`, each map, each timer,
+/// the programs in `code` and those in `slots`, both in the order of callbacks.
 pub fn read_policy(alloc: Global, text: &str) -> Result<PolicyText, LoadError>
     ensures { Gives (λ policy. policy) result (policy_text text.now) }
 {
@@ -56,18 +61,18 @@ fn read_table(alloc: Global, file: Section<'_>) -> Result<PolicyText, LoadError>
     read_file(alloc, file)
 }
 
-/// Refuses the unknown key of the least path. The rules say which callbacks are known.
+/// Refuses the unknown key of the least path. The rules say which keys and callbacks are known.
 fn check_keys(alloc: Global, file: Section<'_>) -> Result<(), LoadError>
     requires { file.path.now ≡ [] }
     ensures { Gives (λ t. t) result (known_alone (unknown_keys (table_view file.entry.table.now))) }
 {
     match rules_meant(file) {
-        Rules::Plain => check_beside(alloc, file, &plain_keys()),
-        Rules::Linux => check_beside(alloc, file, &linux_keys()),
+        Rules::Plain => check_beside(alloc, file, &plain_file_keys(), &plain_keys()),
+        Rules::Linux => check_beside(alloc, file, &linux_file_keys(), &linux_keys()),
     }
 }
 
-/// The rules that decide which callbacks are known: plain ones unless the file names Linux rules.
+/// The rules that decide which keys and callbacks are known: plain ones unless the file names Linux rules.
 fn rules_meant(file: Section<'_>) -> Rules
     requires { file.path.now ≡ [] }
     ensures { result ≡ rules_meant (table_view file.entry.table.now) }
@@ -92,27 +97,23 @@ fn rules_if_named(value: &Value) -> Rules
     }
 }
 
-/// Refuses the unknown key of the least path, where these are the keys of callbacks.
-fn check_beside(alloc: Global, file: Section<'_>, callbacks: &[&str]) -> Result<(), LoadError>
+/// Refuses the unknown key of the least path, where these are the keys of the file and those of its callbacks.
+fn check_beside(
+    alloc: Global,
+    file: Section<'_>,
+    keys: &[&str],
+    callbacks: &[&str],
+) -> Result<(), LoadError>
     requires { file.path.now ≡ [] }
     ensures { Gives (λ t. t) result
-        (known_alone (unknown_beside (words callbacks.now) (table_view file.entry.table.now))) }
+        (known_alone
+        (unknown_beside (words keys.now) (words callbacks.now)
+        (table_view file.entry.table.now))) }
 {
     let unknown = Unknown::none()
-        .in_section(
-            alloc,
-            file,
-            &[
-                "name",
-                "timeout_ms",
-                "rules",
-                "tick_ms",
-                "map",
-                "code",
-                "slots",
-            ],
-        )?
+        .in_section(alloc, file, keys)?
         .below_each(alloc, file, "map", &["entries", "value_size"])?
+        .below_each(alloc, file, "timer", &["name"])?
         .below(alloc, file, "code", callbacks)?
         .below(alloc, file, "slots", callbacks)?;
     unknown.refuse()
@@ -127,7 +128,9 @@ fn read_file(alloc: Global, file: Section<'_>) -> Result<PolicyText, LoadError>
     let timeout_ms = file.integer_or(alloc, "timeout_ms", TIMEOUT, LONGEST_TIMEOUT)?;
     let rules = read_rules(alloc, file)?;
     let tick_ms = read_tick(alloc, file, rules)?;
+    let keeps_idle = read_idle_kept(alloc, file)?;
     let defs = read_maps(alloc, file)?;
+    let timers = read_timers(alloc, file)?;
     let programs = read_programs(alloc, file)?;
     Ok(PolicyText {
         name,
@@ -135,6 +138,8 @@ fn read_file(alloc: Global, file: Section<'_>) -> Result<PolicyText, LoadError>
         timeout_ms,
         rules,
         tick_ms,
+        keeps_idle,
+        timers,
         programs,
     })
 }
@@ -209,6 +214,15 @@ fn read_linux_tick(alloc: Global, file: Section<'_>) -> Result<u32, LoadError>
     ensures limits { IfOk result (λ n. n ≤ 100) }
 {
     file.integer_or(alloc, "tick_ms", TICK, USUAL_TICK)
+}
+
+/// True if idle CPUs are tracked also where the policy has `update_idle`. Where the key is absent they aren't.
+fn read_idle_kept(alloc: Global, file: Section<'_>) -> Result<bool, LoadError>
+    requires { file.path.now ≡ [] }
+    ensures { Gives (λ b. b) result (idle_kept (table_view file.entry.table.now)) }
+{
+    let kept = file.integer_or(alloc, "keep_idle", IDLE_KEPT, 0)?;
+    Ok(kept == 1)
 }
 
 /// The programs of both tables. Each table may be absent.

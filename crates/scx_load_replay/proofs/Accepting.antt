@@ -13,8 +13,8 @@ use Rattle.scx_sched.specs.Sim.{SimState, max_events, refusal, after_event, step
 use Rattle.scx_load_workloads.specs.Workload.{WorkloadState, first_tree}
 use Rattle.scx_load_driver.specs.Runs.{stepped_all, AreAccepted}
 use Rattle.scx_load_driver.proofs.Alike.{Times, AreTimed, IsLike, times_of, like_groups, like_active, like_rounds, like_first}
-use Rattle.scx_load_driver.proofs.Happening.{like_clock, times_after_tick, like_tick, like_wake, like_sleep}
-use Rattle.scx_load_driver.proofs.Accepting.{accepted_behind, IsOf, wake_leads, sleep_leads, tick_leads, clock_leads, weight_leads}
+use Rattle.scx_load_driver.proofs.Happening.{like_clock, times_after_tick, like_tick, like_wake, like_sleep, own_weighed, own_weighed_active, like_weighed_task}
+use Rattle.scx_load_driver.proofs.Accepting.{accepted_behind, IsOf, wake_leads, sleep_leads, tick_leads, clock_leads, weight_leads, own_weight_leads}
 use Rattle.scx_load_replay.specs.declared.lines.Line.{Line}
 use Rattle.scx_load_replay.specs.Replay.{ReplayState, block_of, is_awake, awake_after, Fits, Follow, all_asleep, IsReplay}
 use Rattle.scx_load_replay.specs.Events.{is_before_ticks, is_behind_ticks, first_events, lines_behind, ticks_from, events_from, replay_events}
@@ -77,11 +77,18 @@ module _ (n c g : ℕ) where
       let as_own = weighed s k y (h.of.tasks, λ u. omega arith) h.of.cpus (is_none (weight_fault s.state.world.tree k y)) refl in
       (x.0, record { of = x.1; active = active_is own.state.world.tree (times s) (event.SetWeight k y) s x.0 (like_rounds own.state.world.tree (times s) c own as_own.0) ∙ as_own.1 ∙ h.active })
 
+  own_weight_goes : (e : ℕ) (awake : List Bool) (s : SimState) (t y : ℕ) → e < max_events → t < n → 1 ≤ y → y ≤ 10000 → IsAt e awake s → Goes e awake (event.SetTaskWeight t y) s
+  own_weight_goes e awake s t y few within least greatest h =
+      let x = own_weight_leads n c g e s t y few within least greatest h.of in
+      let h' = own_weighed s.state.world.tree t y in
+      (x.0, record { of = x.1; active = active_is h' (times s) (event.SetTaskWeight t y) s x.0 (like_weighed_task s.state.world.tree (times s) c s.state t y (like_now e awake s h)) ∙ own_weighed_active s.state.world.tree t y ∙ h.active })
+
   -- an event that fits
   fitting_goes : (w : WorkloadState) (e : ℕ) (awake : List Bool) (s : SimState) (v : Event) → length w.homes ≡ n → length w.groups ≡ g → e < max_events → Fits w awake v → IsAt e awake s → Goes e (awake_after awake v) v s
   fitting_goes w e awake s (event.Wake t) tasks groups few fits h = wake_goes e awake s t few (omega (arith, fits.0, tasks)) fits.1 h
   fitting_goes w e awake s (event.Sleep t) tasks groups few fits h = sleep_goes e awake s t few (omega (arith, fits.0, tasks)) fits.1 h
   fitting_goes w e awake s (event.SetWeight k y) tasks groups few fits h = weight_goes e awake s k y few (omega (arith, fits.0, groups)) fits.1 fits.2 h
+  fitting_goes w e awake s (event.SetTaskWeight t y) tasks groups few fits h = own_weight_goes e awake s t y few (omega (arith, fits.0, tasks)) fits.1 fits.2 h
   fitting_goes w e awake s (event.Tick d) tasks groups few fits h = absurd fits
   fitting_goes w e awake s event.Clock tasks groups few fits h = absurd fits
 

@@ -6,6 +6,8 @@ use Rattle.std.specs.Str.Parse.{digits_value}
 use Rattle.std.proofs.lemmas.List.{length-append}
 use Rattle.std.proofs.lemmas.Bool.Decides.{nat_tests}
 use Rattle.scx_isa_semantics.specs.Results.{◌>>=◌}
+use Rattle.scx_isa_semantics.specs.declared.rules.Rules.{Rules}
+use Rattle.scx_isa_semantics.specs.declared.rules.Rules.TheVariants.{Plain, Linux}
 use Rattle.scx_sched_machine.specs.declared.events.Event.{Event}
 use Rattle.scx_sched_machine.specs.declared.events.Event.TheVariants as event
 use Rattle.scx_load_workloads.specs.Limit.{is_numeral}
@@ -15,7 +17,7 @@ use Rattle.scx_load_files.specs.declared.event_fault.EventFault.{EventFault}
 use Rattle.scx_load_files.specs.declared.event_fault.EventFault.TheVariants as fault
 use Rattle.scx_load_replay.specs.declared.lines.Line.{Line}
 use Rattle.scx_load_replay.specs.Replay.{max_lines, block_of, comes_before, is_awake, awake_after, Fits, Follow, all_asleep, IsReplay}
-use Rattle.scx_load_replay.specs.Lines.{Told, or_fault, cut, within, number_in, task_in, weight_in, event_in, line_in, ProgressState, no_lines, with_line, state_fault, place_fault, unless, line_behind, text_behind}
+use Rattle.scx_load_replay.specs.Lines.{Told, or_fault, cut, within, number_in, task_in, weight_in, own_weight_in, own_weight_by, event_in, line_in, ProgressState, no_lines, with_line, state_fault, place_fault, unless, line_behind, text_behind}
 use Rattle.scx_load_replay.specs.Reading.{at_line, lines_from, lines_in}
 
 -- ---- behind lines
@@ -59,6 +61,7 @@ abbrev IsKnown : WorkloadState → Event → Type 0
 IsKnown w (event.Wake t) = t < length w.homes
 IsKnown w (event.Sleep t) = t < length w.homes
 IsKnown w (event.SetWeight g x) = (g < length w.groups) × (1 ≤ x) × (x ≤ 10000)
+IsKnown w (event.SetTaskWeight t x) = (t < length w.homes) × (1 ≤ x) × (x ≤ 10000)
 IsKnown w (event.Tick c) = ⊥
 IsKnown w event.Clock = ⊥
 
@@ -111,31 +114,45 @@ weight_is_known w whole text e h =
     let known = group_is_known w whole words.0.word group.0 (there fault.NoSuchGroup (index_of w.group_names words.0.word) group.0 group.1) in
     subst (IsKnown w) (same_of (event.SetWeight group.0 weight.0) e weight.2) (known, limits.0, limits.1)
 
-event_is_known : (w : WorkloadState) → IsWorkload w → (verb rest : List ℕ) (e : Event) → event_in w verb rest ≡ Ok e → IsKnown w e
-event_is_known w whole verb rest e h = go (bytes_eq verb (codes "wake")) (bytes_eq verb (codes "sleep")) (bytes_eq verb (codes "weight")) h
+own_weight_is_known : (w : WorkloadState) → IsWorkload w → (text : List ℕ) (e : Event) → own_weight_in w text ≡ Ok e → IsKnown w e
+own_weight_is_known w whole text e h =
+    let words = bind_ok (or_fault fault.Syntax (cut text)) _ e h in
+    let task = bind_ok (task_in w words.0.word) _ e words.2 in
+    let weight = bind_ok (or_fault fault.BadWeight (number_in 1 10000 words.0.rest)) _ e task.2 in
+    let limits = number_is 1 10000 words.0.rest weight.0 (there fault.BadWeight (number_in 1 10000 words.0.rest) weight.0 weight.1) in
+    let known = task_is_known w whole words.0.word task.0 (there fault.NoSuchTask (index_of w.task_names words.0.word) task.0 task.1) in
+    subst (IsKnown w) (same_of (event.SetTaskWeight task.0 weight.0) e weight.2) (known, limits.0, limits.1)
+
+own_weight_is_known_by : (rules : Rules) (w : WorkloadState) → IsWorkload w → (text : List ℕ) (e : Event) → own_weight_by rules w text ≡ Ok e → IsKnown w e
+own_weight_is_known_by Plain w whole text e h = absurd (cc)
+own_weight_is_known_by Linux w whole text e h = own_weight_is_known w whole text e h
+
+event_is_known : (rules : Rules) (w : WorkloadState) → IsWorkload w → (verb rest : List ℕ) (e : Event) → event_in rules w verb rest ≡ Ok e → IsKnown w e
+event_is_known rules w whole verb rest e h = go (bytes_eq verb (codes "wake")) (bytes_eq verb (codes "sleep")) (bytes_eq verb (codes "weight")) (bytes_eq verb (codes "task_weight")) h
   where
-    go : (a b c : Bool) → (if a then (task_in w rest >>= λ t. Ok (event.Wake t)) else if b then (task_in w rest >>= λ t. Ok (event.Sleep t)) else if c then weight_in w rest else Err fault.Syntax) ≡ Ok e → IsKnown w e
-    go true b c f =
+    go : (a b c d : Bool) → (if a then (task_in w rest >>= λ t. Ok (event.Wake t)) else if b then (task_in w rest >>= λ t. Ok (event.Sleep t)) else if c then weight_in w rest else if d then own_weight_by rules w rest else Err fault.Syntax) ≡ Ok e → IsKnown w e
+    go true b c d f =
         let task = bind_ok (task_in w rest) (λ t. Ok (event.Wake t)) e f in
         subst (IsKnown w) (same_of (event.Wake task.0) e task.2) (task_is_known w whole rest task.0 (there fault.NoSuchTask (index_of w.task_names rest) task.0 task.1))
-    go false true c f =
+    go false true c d f =
         let task = bind_ok (task_in w rest) (λ t. Ok (event.Sleep t)) e f in
         subst (IsKnown w) (same_of (event.Sleep task.0) e task.2) (task_is_known w whole rest task.0 (there fault.NoSuchTask (index_of w.task_names rest) task.0 task.1))
-    go false false true f = weight_is_known w whole rest e f
-    go false false false f = absurd (cc)
+    go false false true d f = weight_is_known w whole rest e f
+    go false false false true f = own_weight_is_known_by rules w whole rest e f
+    go false false false false f = absurd (cc)
 
 record IsLine (w : WorkloadState) (l : Line) : Type 0 where
   pub in_time : l.at < w.ms
   pub known : IsKnown w l.event
 
-line_is : (w : WorkloadState) → IsWorkload w → (text : List ℕ) (l : Line) → line_in w text ≡ Ok l → IsLine w l
-line_is w whole text l h =
+line_is : (rules : Rules) (w : WorkloadState) → IsWorkload w → (text : List ℕ) (l : Line) → line_in rules w text ≡ Ok l → IsLine w l
+line_is rules w whole text l h =
     let time = bind_ok (or_fault fault.Syntax (cut text)) _ l h in
     let at = bind_ok (or_fault fault.BadTime (number_in 0 (w.ms - 1) time.0.word)) _ l time.2 in
     let verb = bind_ok (or_fault fault.Syntax (cut time.0.rest)) _ l at.2 in
-    let e = bind_ok (event_in w verb.0.word verb.0.rest) _ l verb.2 in
+    let e = bind_ok (event_in rules w verb.0.word verb.0.rest) _ l verb.2 in
     let limits = number_is 0 (w.ms - 1) time.0.word at.0 (there fault.BadTime (number_in 0 (w.ms - 1) time.0.word) at.0 at.1) in
-    subst (IsLine w) (same_of (record { at = at.0; event = e.0 }) l e.2) (record { in_time = omega (arith, limits.1, whole.some_ms); known = event_is_known w whole verb.0.word verb.0.rest e.0 e.1 })
+    subst (IsLine w) (same_of (record { at = at.0; event = e.0 }) l e.2) (record { in_time = omega (arith, limits.1, whole.some_ms); known = event_is_known rules w whole verb.0.word verb.0.rest e.0 e.1 })
 
 -- ---- one line more
 
@@ -165,6 +182,7 @@ fits w awake (event.Sleep t) known state = (known, go (is_awake awake t) refl st
     go true x f = x
     go false x f = absurd (cc)
 fits w awake (event.SetWeight g x) known state = known
+fits w awake (event.SetTaskWeight t x) known state = known
 fits w awake (event.Tick c) known state = absurd known
 fits w awake event.Clock known state = absurd known
 
@@ -198,28 +216,28 @@ line_is_right w p q l right line e = go (place_fault p l) refl e
     go (Some f) x h = absurd (cc)
     go None x h = subst (IsRight w) (same_of (with_line p l) q h) (one_more w p l right line (may_stand p l x))
 
-text_is_right : (w : WorkloadState) → IsWorkload w → (p q : ProgressState) (text : List ℕ) → IsRight w p → text_behind w p text ≡ Ok q → IsRight w q
-text_is_right w whole p q text right e = go (length text == 0) e
+text_is_right : (rules : Rules) (w : WorkloadState) → IsWorkload w → (p q : ProgressState) (text : List ℕ) → IsRight w p → text_behind rules w p text ≡ Ok q → IsRight w q
+text_is_right rules w whole p q text right e = go (length text == 0) e
   where
-    go : (b : Bool) → (if b then Ok p else (line_in w text >>= λ l. line_behind p l)) ≡ Ok q → IsRight w q
+    go : (b : Bool) → (if b then Ok p else (line_in rules w text >>= λ l. line_behind p l)) ≡ Ok q → IsRight w q
     go true h = subst (IsRight w) (same_of p q h) right
     go false h =
-        let line = bind_ok (line_in w text) (λ l. line_behind p l) q h in
-        line_is_right w p q line.0 right (line_is w whole text line.0 line.1) line.2
+        let line = bind_ok (line_in rules w text) (λ l. line_behind p l) q h in
+        line_is_right w p q line.0 right (line_is rules w whole text line.0 line.1) line.2
 
 at_line_ok : {A : Type 0} (n : ℕ) (r : Told A) (x : A) → at_line n r ≡ Ok x → r ≡ Ok x
 at_line_ok n (Ok y) x e = let same : y ≡ x = cc in ap (λ z. Ok z) same
 at_line_ok n (Err f) x e = absurd (cc)
 
-all_are_right : (w : WorkloadState) → IsWorkload w → (n : ℕ) (texts : List (List ℕ)) (p q : ProgressState) → IsRight w p → lines_from w n p texts ≡ Ok q → IsRight w q
+all_are_right : (rules : Rules) (w : WorkloadState) → IsWorkload w → (n : ℕ) (texts : List (List ℕ)) (p q : ProgressState) → IsRight w p → lines_from rules w n p texts ≡ Ok q → IsRight w q
 unfolding lines_from
-all_are_right w whole n [] p q right e = let same : p ≡ q = cc in subst (IsRight w) same right
-all_are_right w whole n (text ∷ texts) p q right e =
-    let one = bind_ok (at_line n (text_behind w p text)) (λ r. lines_from w (n + 1) r texts) q e in
-    all_are_right w whole (n + 1) texts one.0 q (text_is_right w whole p one.0 text right (at_line_ok n (text_behind w p text) one.0 one.1)) one.2
+all_are_right rules w whole n [] p q right e = let same : p ≡ q = cc in subst (IsRight w) same right
+all_are_right rules w whole n (text ∷ texts) p q right e =
+    let one = bind_ok (at_line n (text_behind rules w p text)) (λ r. lines_from rules w (n + 1) r texts) q e in
+    all_are_right rules w whole (n + 1) texts one.0 q (text_is_right rules w whole p one.0 text right (at_line_ok n (text_behind rules w p text) one.0 one.1)) one.2
 
 -- the lines that were read are those of a file of events
-pub lines_are_right : (w : WorkloadState) (text : List ℕ) (p : ProgressState) → IsWorkload w → lines_in w text ≡ Ok p → IsReplay (record { workload = w; lines = p.lines })
-lines_are_right w text p whole e =
-    let right = all_are_right w whole 1 (lines text) (no_lines w) p (record { follow = tt; at = refl; block = refl; awake = refl; few = omega arith }) e in
+pub lines_are_right : (rules : Rules) (w : WorkloadState) (text : List ℕ) (p : ProgressState) → IsWorkload w → lines_in rules w text ≡ Ok p → IsReplay (record { workload = w; lines = p.lines })
+lines_are_right rules w text p whole e =
+    let right = all_are_right rules w whole 1 (lines text) (no_lines w) p (record { follow = tt; at = refl; block = refl; awake = refl; few = omega arith }) e in
     record { workload = whole; few_lines = right.few; follow = right.follow }

@@ -30,6 +30,7 @@ small : (w : WorkloadState) (awake : List Bool) (e : Event) â†’ Fits w awake e â
 small w awake (event.Wake t) fits = omega arith
 small w awake (event.Sleep t) fits = omega arith
 small w awake (event.SetWeight g x) fits = omega arith
+small w awake (event.SetTaskWeight t x) fits = omega arith
 small w awake (event.Tick c) fits = absurd fits
 small w awake event.Clock fits = absurd fits
 

@@ -1,10 +1,12 @@
--- The lines of a file of events: `MS wake TASK`, `MS sleep TASK` or `MS weight GROUP W`, with one
--- space between words. An empty line says nothing.
+-- The lines of a file of events: `MS wake TASK`, `MS sleep TASK`, `MS weight GROUP W`, or, under
+-- Linux rules, `MS task_weight TASK W`, with one space between words. An empty line says nothing.
 use Rattle.std.specs.Prelude.{ℕ, ◌+◌, ◌-◌, ◌==◌, ◌&&◌, nat_le, Bool, List, [], ◌∷◌, ◌++◌, length, take, drop, Option, Some, None, codes, Result, Ok, Err, if◌then◌else◌}
 use Rattle.std.specs.List.{position}
 use Rattle.std.specs.Str.{bytes_eq}
 use Rattle.std.specs.Str.Parse.{digits_value}
 use Rattle.scx_isa_semantics.specs.Results.{◌>>=◌}
+use Rattle.scx_isa_semantics.specs.declared.rules.Rules.{Rules}
+use Rattle.scx_isa_semantics.specs.declared.rules.Rules.TheVariants.{Plain, Linux}
 use Rattle.scx_sched_machine.specs.declared.events.Event.{Event}
 use Rattle.scx_sched_machine.specs.declared.events.Event.TheVariants as event
 use Rattle.scx_load_workloads.specs.Limit.{is_numeral}
@@ -63,27 +65,41 @@ weight_in w text = do
   x ← or_fault fault.BadWeight (number_in 1 10000 words.rest)
   Ok (event.SetWeight g x)
 
+-- a task and its own weight from then on
+abbrev pub own_weight_in : WorkloadState → List ℕ → Told Event
+own_weight_in w text = do
+  words ← or_fault fault.Syntax (cut text)
+  t ← task_in w words.word
+  x ← or_fault fault.BadWeight (number_in 1 10000 words.rest)
+  Ok (event.SetTaskWeight t x)
+
+-- the same, where those rules know of it
+abbrev pub own_weight_by : Rules → WorkloadState → List ℕ → Told Event
+own_weight_by Plain w text = Err fault.Syntax
+own_weight_by Linux w text = own_weight_in w text
+
 -- the event that a verb and the text after it say
-abbrev pub event_in : WorkloadState → List ℕ → List ℕ → Told Event
-event_in w verb rest =
+abbrev pub event_in : Rules → WorkloadState → List ℕ → List ℕ → Told Event
+event_in rules w verb rest =
     if bytes_eq verb (codes "wake") then (task_in w rest >>= λ t. Ok (event.Wake t))
     else if bytes_eq verb (codes "sleep") then (task_in w rest >>= λ t. Ok (event.Sleep t))
     else if bytes_eq verb (codes "weight") then weight_in w rest
+    else if bytes_eq verb (codes "task_weight") then own_weight_by rules w rest
     else Err fault.Syntax
 
 -- the line of that millisecond whose text after it says the event
-abbrev pub line_at : WorkloadState → ℕ → List ℕ → Told Line
-line_at w at text = do
+abbrev pub line_at : Rules → WorkloadState → ℕ → List ℕ → Told Line
+line_at rules w at text = do
   verb ← or_fault fault.Syntax (cut text)
-  e ← event_in w verb.word verb.rest
+  e ← event_in rules w verb.word verb.rest
   Ok (record { at = at; event = e })
 
 -- the millisecond and the event that a line says
-abbrev pub line_in : WorkloadState → List ℕ → Told Line
-line_in w text = do
+abbrev pub line_in : Rules → WorkloadState → List ℕ → Told Line
+line_in rules w text = do
   time ← or_fault fault.Syntax (cut text)
   at ← or_fault fault.BadTime (number_in 0 (w.ms - 1) time.word)
-  line_at w at time.rest
+  line_at rules w at time.rest
 
 -- ---- one line after another
 
@@ -112,6 +128,7 @@ abbrev pub state_fault : List Bool → Event → Option EventFault
 state_fault awake (event.Wake t) = if is_awake awake t then Some fault.AlreadyRunnable else None
 state_fault awake (event.Sleep t) = if is_awake awake t then None else Some fault.NotRunnable
 state_fault awake (event.SetWeight g x) = None
+state_fault awake (event.SetTaskWeight t x) = None
 state_fault awake (event.Tick c) = None
 state_fault awake event.Clock = None
 
@@ -132,6 +149,6 @@ abbrev pub line_behind : ProgressState → Line → Told ProgressState
 line_behind p l = unless (place_fault p l) (with_line p l)
 
 -- a line of the text after these; an empty one says nothing
-abbrev pub text_behind : WorkloadState → ProgressState → List ℕ → Told ProgressState
-text_behind w p text =
-    if length text == 0 then Ok p else (line_in w text >>= λ l. line_behind p l)
+abbrev pub text_behind : Rules → WorkloadState → ProgressState → List ℕ → Told ProgressState
+text_behind rules w p text =
+    if length text == 0 then Ok p else (line_in rules w text >>= λ l. line_behind p l)

@@ -26,18 +26,19 @@ at_line n (Err f) = refusal (codes "events") (cause.Event f n)
 
 -- the lines from the n-th on, one after another
 unfoldable pub lines_from :
-    WorkloadState → ℕ → ProgressState → List (List ℕ) → Reading ProgressState
-lines_from w n p [] = Ok p
-lines_from w n p (text ∷ texts) =
-    at_line n (text_behind w p text) >>= λ q. lines_from w (n + 1) q texts
+    Rules → WorkloadState → ℕ → ProgressState → List (List ℕ) → Reading ProgressState
+lines_from rules w n p [] = Ok p
+lines_from rules w n p (text ∷ texts) =
+    at_line n (text_behind rules w p text) >>= λ q. lines_from rules w (n + 1) q texts
 
 -- what the lines of a text say of that workload
-abbrev pub lines_in : WorkloadState → List ℕ → Reading ProgressState
-lines_in w text = lines_from w 1 (no_lines w) (lines text)
+abbrev pub lines_in : Rules → WorkloadState → List ℕ → Reading ProgressState
+lines_in rules w text = lines_from rules w 1 (no_lines w) (lines text)
 
 -- the file of events of that workload, with the lines of a text
-abbrev pub replay_with : WorkloadState → List ℕ → Reading ReplayState
-replay_with w text = lines_in w text >>= λ p. Ok (record { workload = w; lines = p.lines })
+abbrev pub replay_with : Rules → WorkloadState → List ℕ → Reading ReplayState
+replay_with rules w text =
+    lines_in rules w text >>= λ p. Ok (record { workload = w; lines = p.lines })
 
 -- ---- the file
 
@@ -67,7 +68,7 @@ replay_file rules ms = do
   known ← known_file_keys rules ms
   w ← workload_in rules ms
   text ← required text_of [] (codes "events") ms
-  replay_with w text
+  replay_with rules w text
 
 -- the file of events that a text is for a policy by those rules
 abbrev pub replay_by : Rules → List ℕ → Reading ReplayState

@@ -20,6 +20,7 @@ max_lines = 65536
 -- ticks, sleeps
 abbrev pub block_of : Event → ℕ
 block_of (event.SetWeight g x) = 0
+block_of (event.SetTaskWeight t x) = 0
 block_of (event.Wake t) = 1
 block_of (event.Sleep t) = 2
 block_of (event.Tick c) = 3
@@ -39,15 +40,17 @@ abbrev pub awake_after : List Bool → Event → List Bool
 awake_after awake (event.Wake t) = slice_set awake t true
 awake_after awake (event.Sleep t) = slice_set awake t false
 awake_after awake (event.SetWeight g x) = awake
+awake_after awake (event.SetTaskWeight t x) = awake
 awake_after awake (event.Tick c) = awake
 awake_after awake event.Clock = awake
 
 -- a line may come: its event is of a task that sleeps and wakes, or is awake and goes to sleep,
--- or of a group and a weight in its limits
+-- or of a group or a task and a weight in its limits
 abbrev pub Fits : WorkloadState → List Bool → Event → Type 0
 Fits w awake (event.Wake t) = (t < length w.homes) × (is_awake awake t ≡ false)
 Fits w awake (event.Sleep t) = (t < length w.homes) × (is_awake awake t ≡ true)
 Fits w awake (event.SetWeight g x) = (g < length w.groups) × (1 ≤ x) × (x ≤ 10000)
+Fits w awake (event.SetTaskWeight t x) = (t < length w.homes) × (1 ≤ x) × (x ≤ 10000)
 Fits w awake (event.Tick c) = ⊥
 Fits w awake event.Clock = ⊥
 

@@ -1,7 +1,9 @@
 ghost use Rattle.std.specs.Prelude.{◌≡◌};
+ghost use Rattle.scx_load_files.specs.declared.event_fault.EventFault.TheVariants.{BadWeight};
 ghost use Rattle.scx_load_replay.specs.Events.{is_sleep};
-ghost use Rattle.scx_load_replay.specs.Lines.{within, number_in, task_in, weight_in, event_in, line_at, line_in};
+ghost use Rattle.scx_load_replay.specs.Lines.{or_fault, within, number_in, task_in, weight_in, own_weight_in, own_weight_by, event_in, line_at, line_in};
 
+use scx_isa_semantics::Rules;
 use scx_load_files::EventFault;
 use scx_load_workloads::{Workload, numeral};
 use scx_sched::Event;
@@ -21,14 +23,18 @@ impl Line {
     {
         match self.event {
             Event::Sleep(_) => true,
-            Event::Wake(_) | Event::Tick(_) | Event::Clock | Event::SetWeight(_, _) => false,
+            Event::Wake(_)
+            | Event::Tick(_)
+            | Event::Clock
+            | Event::SetWeight(_, _)
+            | Event::SetTaskWeight(_, _) => false,
         }
     }
 }
 
 /// The event of a line, and its millisecond.
-pub(crate) fn line_in(workload: &Workload, text: &str) -> Result<Line, EventFault>
-    ensures { result ≡ line_in workload.now text.now }
+pub(crate) fn line_in(rules: Rules, workload: &Workload, text: &str) -> Result<Line, EventFault>
+    ensures { result ≡ line_in rules workload.now text.now }
 {
     workload.is_whole();
     let Some((time, rest)) = text.split_once(' ') else {
@@ -37,27 +43,28 @@ pub(crate) fn line_in(workload: &Workload, text: &str) -> Result<Line, EventFaul
     let Some(at) = number_in(time, 0, workload.ms() - 1) else {
         return Err(EventFault::BadTime);
     };
-    line_at(workload, at, rest)
+    line_at(rules, workload, at, rest)
 }
 
 /// The line of that millisecond whose text after it says the event.
-fn line_at(workload: &Workload, at: u32, text: &str) -> Result<Line, EventFault>
-    ensures { result ≡ line_at workload.now at text.now }
+fn line_at(rules: Rules, workload: &Workload, at: u32, text: &str) -> Result<Line, EventFault>
+    ensures { result ≡ line_at rules workload.now at text.now }
 {
     let Some((verb, rest)) = text.split_once(' ') else {
         return Err(EventFault::Syntax);
     };
-    let event = event_in(workload, verb, rest)?;
+    let event = event_in(rules, workload, verb, rest)?;
     Ok(Line { at, event })
 }
 
-fn event_in(workload: &Workload, verb: &str, rest: &str) -> Result<Event, EventFault>
-    ensures { result ≡ event_in workload.now verb.now rest.now }
+fn event_in(rules: Rules, workload: &Workload, verb: &str, rest: &str) -> Result<Event, EventFault>
+    ensures { result ≡ event_in rules workload.now verb.now rest.now }
 {
     match verb {
         "wake" => Ok(Event::Wake(task_in(workload, rest)?)),
         "sleep" => Ok(Event::Sleep(task_in(workload, rest)?)),
         "weight" => weight_in(workload, rest),
+        "task_weight" => own_weight_by(rules, workload, rest),
         _ => Err(EventFault::Syntax),
     }
 }
@@ -81,10 +88,39 @@ fn weight_in(workload: &Workload, text: &str) -> Result<Event, EventFault>
     let Some(group) = workload.group_named(name) else {
         return Err(EventFault::NoSuchGroup);
     };
-    match number_in(weight, 1, 10_000) {
-        Some(weight) => Ok(Event::SetWeight(group, weight)),
+    let weight = weight_said(weight)?;
+    Ok(Event::SetWeight(group, weight))
+}
+
+/// The weight that digits say.
+fn weight_said(text: &str) -> Result<u32, EventFault>
+    ensures { result ≡ or_fault BadWeight (number_in 1 10000 text.now) }
+{
+    match number_in(text, 1, 10_000) {
+        Some(weight) => Ok(weight),
         None => Err(EventFault::BadWeight),
     }
+}
+
+/// A task's own weight, where those rules know of it.
+fn own_weight_by(rules: Rules, workload: &Workload, text: &str) -> Result<Event, EventFault>
+    ensures { result ≡ own_weight_by rules workload.now text.now }
+{
+    match rules {
+        Rules::Plain => Err(EventFault::Syntax),
+        Rules::Linux => own_weight_in(workload, text),
+    }
+}
+
+fn own_weight_in(workload: &Workload, text: &str) -> Result<Event, EventFault>
+    ensures { result ≡ own_weight_in workload.now text.now }
+{
+    let Some((name, weight)) = text.split_once(' ') else {
+        return Err(EventFault::Syntax);
+    };
+    let task = task_in(workload, name)?;
+    let weight = weight_said(weight)?;
+    Ok(Event::SetTaskWeight(task, weight))
 }
 
 /// The number from the least to the greatest that digits say.

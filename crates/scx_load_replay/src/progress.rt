@@ -73,7 +73,8 @@ impl Progress {
                     Some(EventFault::NotRunnable)
                 }
             }
-            Event::SetWeight(_, _) | Event::Tick(_) | Event::Clock => None,
+            Event::SetWeight(_, _) | Event::SetTaskWeight(_, _) | Event::Tick(_) | Event::Clock =>
+                None,
         }
     }
 
@@ -96,7 +97,8 @@ impl Progress {
         match line.event {
             Event::Wake(task) => set(&mut self.awake, task, true),
             Event::Sleep(task) => set(&mut self.awake, task, false),
-            Event::SetWeight(_, _) | Event::Tick(_) | Event::Clock => {}
+            Event::SetWeight(_, _) | Event::SetTaskWeight(_, _) | Event::Tick(_) | Event::Clock =>
+                {}
         }
         Ok(())
     }
@@ -117,7 +119,7 @@ fn block_of(event: Event) -> u32
     ensures { result ≡ block_of event }
 {
     match event {
-        Event::SetWeight(_, _) => 0,
+        Event::SetWeight(_, _) | Event::SetTaskWeight(_, _) => 0,
         Event::Wake(_) => 1,
         Event::Sleep(_) => 2,
         Event::Tick(_) | Event::Clock => 3,

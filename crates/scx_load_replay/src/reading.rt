@@ -44,7 +44,7 @@ fn read_table(alloc: Global, rules: Rules, file: Section<'_>) -> Result<Replay, 
     check_keys(alloc, rules, file)?;
     let workload = read_known_keys_by(alloc, rules, file)?;
     match file.text(alloc, "events") {
-        Ok(text) => read_events(alloc, workload, text),
+        Ok(text) => read_events(alloc, rules, workload, text),
         Err(error) => {
             drop(workload);
             Err(error)
@@ -80,11 +80,16 @@ fn check_keys(alloc: Global, rules: Rules, file: Section<'_>) -> Result<(), Load
 }
 
 /// The file of events of that workload, with the lines of a text.
-fn read_events(alloc: Global, workload: Workload, text: &str) -> Result<Replay, LoadError>
-    ensures { Gives (λ replay. replay) result (replay_with workload text.now) }
+fn read_events(
+    alloc: Global,
+    rules: Rules,
+    workload: Workload,
+    text: &str,
+) -> Result<Replay, LoadError>
+    ensures { Gives (λ replay. replay) result (replay_with rules workload text.now) }
 {
     workload.is_whole();
-    match read_lines(alloc, &workload, text) {
+    match read_lines(alloc, rules, &workload, text) {
         Ok(Progress { lines, .. }) => Ok(Replay { workload, lines }),
         Err(error) => {
             drop(workload);
@@ -100,13 +105,26 @@ fn lines_of<'a>(alloc: Global, text: &'a str) -> Result<Vec<&'a str>, AllocError
 }
 
 /// Reads the lines of a text, one after another.
-fn read_lines(alloc: Global, workload: &Workload, text: &str) -> Result<Progress, LoadError>
-    ensures { Gives (λ progress. progress_of progress) result (lines_in workload.now text.now) }
+fn read_lines(
+    alloc: Global,
+    rules: Rules,
+    workload: &Workload,
+    text: &str,
+) -> Result<Progress, LoadError>
+    ensures { Gives (λ progress. progress_of progress) result
+        (lines_in rules workload.now text.now) }
 {
     let texts = lines_of(alloc, text)?;
     let mut progress = Progress::none(alloc, workload)?;
     for index in 0..texts.len() {
-        match read_line(alloc, workload, &mut progress, index + 1, texts[index]) {
+        match read_line(
+            alloc,
+            rules,
+            workload,
+            &mut progress,
+            index + 1,
+            texts[index],
+        ) {
             Ok(()) => {}
             Err(error) => return Err(error),
         }
@@ -117,18 +135,19 @@ fn read_lines(alloc: Global, workload: &Workload, text: &str) -> Result<Progress
 /// Reads the line of that number, from 1, after others; an empty one says nothing.
 fn read_line(
     alloc: Global,
+    rules: Rules,
     workload: &Workload,
     progress: &mut Progress,
     number: usize,
     text: &str,
 ) -> Result<(), LoadError>
     ensures { Gives (λ _. progress_of progress.new) result
-        (at_line number (text_behind workload.now (progress_of progress.old) text.now)) }
+        (at_line number (text_behind rules workload.now (progress_of progress.old) text.now)) }
 {
     if text.is_empty() {
         return Ok(());
     }
-    match line_in(workload, text) {
+    match line_in(rules, workload, text) {
         Ok(line) => push_line(alloc, progress, number, line),
         Err(fault) => refused_at_line(alloc, fault, number),
     }

@@ -39,7 +39,7 @@ file_alike ms w e =
     let b = parts (required (integer_of length_limits) [] (codes "ms") ms) _ w a.second in
     let c = parts (groups_in ms) _ w b.second in
     let d = parts (tasks_in Plain c.value ms) _ w c.second in
-    let f = parts (changes_in c.value ms) _ w d.second in
+    let f = parts (changes_in Plain c.value d.value ms) _ w d.second in
     subst (λ (v : WorkloadState). v.own_weights ≡ replicate (length v.homes) default_own_weight) (same_ok _ w f.second) (tasks_alike ms c.value d.value d.first)
 
 -- the law

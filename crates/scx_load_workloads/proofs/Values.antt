@@ -150,9 +150,9 @@ weights_more xs x all new t l = go (cases_lt t (length xs))
     go (inr past) = let last : t ≡ length xs + 0 = omega (arith, past, l, length-append xs (x ∷ [])) in rw (last, get_or-append-add xs (x ∷ []) 0 _) new
 
 -- one change more
-pub changes_more : (groups : ℕ) (xs : List Change) (x : Change) → ((t : ℕ) → t < length xs → IsChange groups (change_at xs t)) → IsChange groups x → (t : ℕ) → t < length (xs ++ x ∷ []) → IsChange groups (change_at (xs ++ x ∷ []) t)
-changes_more groups xs x all new t l = go (cases_lt t (length xs))
+pub changes_more : (groups tasks : ℕ) (xs : List Change) (x : Change) → ((t : ℕ) → t < length xs → IsChange groups tasks (change_at xs t)) → IsChange groups tasks x → (t : ℕ) → t < length (xs ++ x ∷ []) → IsChange groups tasks (change_at (xs ++ x ∷ []) t)
+changes_more groups tasks xs x all new t l = go (cases_lt t (length xs))
   where
-    go : (t < length xs) ⊎ (length xs ≤ t) → IsChange groups (change_at (xs ++ x ∷ []) t)
+    go : (t < length xs) ⊎ (length xs ≤ t) → IsChange groups tasks (change_at (xs ++ x ∷ []) t)
     go (inl within) = rw (get_or_append_left xs (x ∷ []) _ t within) (all t within)
     go (inr past) = let last : t ≡ length xs + 0 = omega (arith, past, l, length-append xs (x ∷ [])) in rw (last, get_or-append-add xs (x ∷ []) 0 _) new

@@ -4,7 +4,7 @@
 use Rattle.std.specs.Prelude.{ℕ, ◌+◌, Bool, List, [], ◌∷◌, ◌++◌, Option, Some, None, is_some, Ok, codes, if◌then◌else◌}
 use Rattle.std.specs.List.{list_any}
 use Rattle.std.specs.Str.{bytes_eq}
-use Rattle.toml.specs.Data.{Data, Items, no_items, item, Members}
+use Rattle.toml.specs.Data.{Data, Items, no_items, item, Members, get_member}
 use Rattle.scx_load_files.specs.declared.fault.Cause.TheVariants as cause
 use Rattle.scx_load_files.specs.declared.section.Limits.{Limits}
 use Rattle.scx_isa_semantics.specs.Results.{◌>>=◌}
@@ -18,6 +18,8 @@ use Rattle.scx_weights.specs.declared.group.Group.{Group}
 use Rattle.scx_weights.specs.Refusals.{above, is_parent}
 use Rattle.scx_load_workloads.specs.declared.limit.Limit.{Limit}
 use Rattle.scx_load_workloads.specs.declared.workload.Timing.{Timing}
+use Rattle.scx_load_workloads.specs.declared.workload.Weighed.{Weighed}
+use Rattle.scx_load_workloads.specs.declared.workload.Weighed.TheVariants as which
 use Rattle.scx_load_workloads.specs.declared.workload.Change.{Change}
 use Rattle.scx_load_workloads.specs.Limit.{no_limit, limit_in}
 use Rattle.scx_load_workloads.specs.Workload.{WorkloadState}
@@ -201,27 +203,52 @@ tasks_in rules g ms =
 
 -- ---- changes
 
--- the change of a weight of one of these groups that the table at a path says
-abbrev pub change_in : GroupList → List ℕ → Members → Reading Change
-change_in g path ms = do
+-- the number of the task of that name
+abbrev pub task_named : List (List ℕ) → List ℕ → Data → Reading ℕ
+task_named names path d =
+    text_of path d >>= λ text. found_or Ok (refusal path cause.NoSuchTask) (index_of names text)
+
+-- the group whose weight changes
+abbrev pub group_weighed : GroupList → List ℕ → Members → Reading Weighed
+group_weighed g path ms =
+    required (group_named g.names) path (codes "group") ms >>= λ n. Ok (which.Group n)
+
+-- the task at that path whose weight changes; it is refused where there is a group too
+abbrev pub task_weighed : TaskList → List ℕ → Option Data → Data → Reading Weighed
+task_weighed t path None d = task_named t.names path d >>= λ n. Ok (which.Task n)
+task_weighed t path (Some group) d = refusal path cause.Twice
+
+-- the group or the task whose weight changes; under plain rules no key says a task
+abbrev pub weighed_in : Rules → GroupList → TaskList → List ℕ → Members → Reading Weighed
+weighed_in Plain g t path ms = group_weighed g path ms
+weighed_in Linux g t path ms =
+    found_or (task_weighed t (below path (codes "task")) (get_member (codes "group") ms))
+    (group_weighed g path ms) (get_member (codes "task") ms)
+
+-- the change of a weight of one of these groups or tasks that the table at a path says
+abbrev pub change_in : Rules → GroupList → TaskList → List ℕ → Members → Reading Change
+change_in rules g t path ms = do
   at ← required (integer_of time_limits) path (codes "at") ms
-  group ← required (group_named g.names) path (codes "group") ms
+  weighed ← weighed_in rules g t path ms
   weight ← required (integer_of weight_limits) path (codes "weight") ms
-  Ok (record { at = at; group = group; weight = weight })
+  Ok (record { at = at; weighed = weighed; weight = weight })
 
 -- the change of a weight that the element of that number in the array `change` says
-abbrev pub change_from : GroupList → ℕ → Data → Reading Change
-change_from g n d =
-    table_of (element (codes "change") n) d >>= change_in g (element (codes "change") n)
+abbrev pub change_from : Rules → GroupList → TaskList → ℕ → Data → Reading Change
+change_from rules g t n d =
+    table_of (element (codes "change") n) d
+    >>= change_in rules g t (element (codes "change") n)
 
 -- with one more change, which the element of that number in the array `change` says
-abbrev pub with_change : GroupList → List Change → ℕ → Data → Reading (List Change)
-with_change g cs n d = change_from g n d >>= λ c. Ok (cs ++ c ∷ [])
+abbrev pub with_change :
+    Rules → GroupList → TaskList → List Change → ℕ → Data → Reading (List Change)
+with_change rules g t cs n d = change_from rules g t n d >>= λ c. Ok (cs ++ c ∷ [])
 
 -- the changes of weights that the table of a file says, 1024 at most; it may have none
-abbrev pub changes_in : GroupList → Members → Reading (List Change)
-changes_in g ms =
-    optional (elements_of 1024) no_items [] (codes "change") ms >>= fold_from (with_change g) [] 0
+abbrev pub changes_in : Rules → GroupList → TaskList → Members → Reading (List Change)
+changes_in rules g t ms =
+    optional (elements_of 1024) no_items [] (codes "change") ms
+    >>= fold_from (with_change rules g t) [] 0
 
 -- ---- the file
 
@@ -239,9 +266,10 @@ task_keys Plain = codes "name" ∷ codes "group" ∷ codes "start" ∷ codes "ru
 task_keys Linux =
     codes "name" ∷ codes "group" ∷ codes "weight" ∷ codes "start" ∷ codes "run" ∷ codes "sleep" ∷ []
 
--- the keys that an element of the array `change` may have
-abbrev pub change_keys : List (List ℕ)
-change_keys = codes "at" ∷ codes "group" ∷ codes "weight" ∷ []
+-- the keys that an element of the array `change` may have under those rules
+abbrev pub change_keys : Rules → List (List ℕ)
+change_keys Plain = codes "at" ∷ codes "group" ∷ codes "weight" ∷ []
+change_keys Linux = codes "at" ∷ codes "group" ∷ codes "task" ∷ codes "weight" ∷ []
 
 -- the paths of all unknown keys of a file
 abbrev pub unknown_keys : Rules → Members → List (List ℕ)
@@ -249,7 +277,7 @@ unknown_keys rules ms =
     unknown file_keys [] ms
     ++ unknown_in_each group_keys [] (codes "group") ms
     ++ unknown_in_each (task_keys rules) [] (codes "task") ms
-    ++ unknown_in_each change_keys [] (codes "change") ms
+    ++ unknown_in_each (change_keys rules) [] (codes "change") ms
 
 -- what the known keys of a file say
 abbrev pub workload_in : Rules → Members → Reading WorkloadState
@@ -258,7 +286,7 @@ workload_in rules ms = do
   length ← required (integer_of length_limits) [] (codes "ms") ms
   g ← groups_in ms
   t ← tasks_in rules g ms
-  changes ← changes_in g ms
+  changes ← changes_in rules g t ms
   Ok (record {
     cpus = cpus;
     ms = length;

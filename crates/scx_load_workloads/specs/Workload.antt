@@ -4,6 +4,8 @@ use Rattle.scx_weights.specs.declared.group.Group.{Group}
 use Rattle.scx_weights.specs.Hierarchy.{Hierarchy, idle, with_own_weights}
 use Rattle.scx_weights.specs.Refusals.{first_fault}
 use Rattle.scx_load_workloads.specs.declared.workload.Timing.{Timing}
+use Rattle.scx_load_workloads.specs.declared.workload.Weighed.{Weighed}
+use Rattle.scx_load_workloads.specs.declared.workload.Weighed.TheVariants as which
 use Rattle.scx_load_workloads.specs.declared.workload.Change.{Change}
 
 -- the most milliseconds of a workload, and of each time of a task
@@ -11,7 +13,7 @@ abbrev pub max_ms : ℕ
 max_ms = 1000000
 
 -- what a workload file says: processors, milliseconds, groups, tasks with their own weights, and
--- changes of weights of groups
+-- changes of weights of groups and tasks
 pub record WorkloadState : Type 0 where
   pub cpus : ℕ
   pub ms : ℕ
@@ -33,7 +35,8 @@ timing_at timings t = slice_index_or timings t (record { start = 0; run = 0; sle
 
 -- the change of that number in the order of the file; all of it is 0 where there is none
 abbrev pub change_at : List Change → ℕ → Change
-change_at changes i = slice_index_or changes i (record { at = 0; group = 0; weight = 0 })
+change_at changes i =
+    slice_index_or changes i (record { at = 0; weighed = which.Group 0; weight = 0 })
 
 -- the weight that the task of that number has itself; 0 where there is none
 abbrev pub own_weight_at : List ℕ → ℕ → ℕ
@@ -50,9 +53,14 @@ pub record IsTiming (t : Timing) : Type 0 where
   pub run : t.run ≤ max_ms
   pub sleep : t.sleep ≤ max_ms
 
--- a change of a weight of one of this number of groups
-pub record IsChange (groups : ℕ) (c : Change) : Type 0 where
-  pub group : c.group < groups
+-- one of this number of groups, or of this number of tasks
+abbrev pub IsWeighed : ℕ → ℕ → Weighed → Type 0
+IsWeighed groups tasks (which.Group g) = g < groups
+IsWeighed groups tasks (which.Task t) = t < tasks
+
+-- a change of a weight of one of this number of groups, or of this number of tasks
+pub record IsChange (groups tasks : ℕ) (c : Change) : Type 0 where
+  pub weighed : IsWeighed groups tasks c.weighed
   pub least : 1 ≤ c.weight
   pub greatest : c.weight ≤ 10000
 
@@ -73,4 +81,5 @@ pub record IsWorkload (w : WorkloadState) : Type 0 where
   pub own_weights : (t : ℕ)
       → t < length w.own_weights → IsOwnWeight (own_weight_at w.own_weights t)
   pub timings : (t : ℕ) → t < length w.timings → IsTiming (timing_at w.timings t)
-  pub changes : (i : ℕ) → i < length w.changes → IsChange (length w.groups) (change_at w.changes i)
+  pub changes : (i : ℕ)
+      → i < length w.changes → IsChange (length w.groups) (length w.homes) (change_at w.changes i)

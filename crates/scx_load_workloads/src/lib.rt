@@ -1,7 +1,7 @@
 //! Workload files: groups of tasks, the times at which each task runs and sleeps, and changes of weights.
 //!
 //! `read_workload` reads a file (TOML 1.1), or names its first fault with its path. `read_workload_by` reads one for
-//! a policy by Linux rules, under which a task may have a weight of its own.
+//! a policy by Linux rules, under which a task may have a weight of its own, and that weight may change.
 #![tactic(auto)]
 
 mod elements;
@@ -18,4 +18,4 @@ pub use limit::texts_say_one_limit;
 pub use numerals::numeral;
 pub use reading::{read_known_keys, read_known_keys_by, read_workload, read_workload_by};
 pub use scx_weights::Group;
-pub use workload::{Change, MAX_CHANGES, MAX_CPUS, MAX_MS, Timing, Workload};
+pub use workload::{Change, MAX_CHANGES, MAX_CPUS, MAX_MS, Timing, Weighed, Workload};

@@ -1,17 +1,21 @@
-ghost use Rattle.std.specs.Prelude.{◌≡◌, ℕ, ◌<◌, ◌≤◌, [], length, IfOk};
+ghost use Rattle.std.specs.Prelude.{◌≡◌, ℕ, ◌<◌, ◌≤◌, [], codes, length, IfOk};
+ghost use Rattle.toml.specs.Data.{get_member};
 ghost use Rattle.toml.specs.View.{view, table_view, items_view};
 ghost use Rattle.scx_load_files.specs.Faults.{Gives};
+ghost use Rattle.scx_load_files.specs.Paths.{below};
 ghost use Rattle.scx_load_files.specs.Unknown.{known_alone, words};
-ghost use Rattle.scx_load_workloads.specs.Workload.{IsChange, change_at};
+ghost use Rattle.scx_load_workloads.specs.Workload.{IsWeighed, IsChange, change_at};
 ghost use Rattle.scx_isa_semantics.specs.declared.rules.Rules.TheVariants.{Plain};
-ghost use Rattle.scx_load_workloads.specs.Reading.{task_keys, unknown_keys, workload_in, workload_file, workload_by, workload_of, changes_in, change_from, with_change, fold_from};
+ghost use Rattle.scx_load_workloads.specs.Reading.{task_keys, change_keys, unknown_keys, workload_in, workload_file, workload_by, workload_of, changes_in, change_from, with_change, weighed_in, group_weighed, task_weighed, fold_from};
 
 use crate::elements::{elements, integer};
 use crate::groups::{Groups, WEIGHT};
 use crate::tasks::{TIME, Tasks};
-use crate::workload::{Change, MAX_CHANGES, MAX_CPUS, MAX_MS, Workload};
+use crate::workload::{Change, MAX_CHANGES, MAX_CPUS, MAX_MS, Weighed, Workload};
 use scx_isa_semantics::Rules;
-use scx_load_files::{Limits, LoadError, Section, Unknown, element_path, read_document};
+use scx_load_files::{
+    Cause, Limits, LoadError, Section, Unknown, element_path, read_document, refused,
+};
 use std::alloc::Global;
 use toml::Value;
 
@@ -66,6 +70,16 @@ fn task_keys(rules: Rules) -> &'static [&'static str]
     }
 }
 
+/// The keys that a change may have.
+fn change_keys(rules: Rules) -> &'static [&'static str]
+    ensures { words result.now ≡ change_keys rules }
+{
+    match rules {
+        Rules::Plain => &["at", "group", "weight"],
+        Rules::Linux => &["at", "group", "task", "weight"],
+    }
+}
+
 /// Refuses the unknown key of the least path.
 fn check_keys(alloc: Global, rules: Rules, file: Section<'_>) -> Result<(), LoadError>
     requires { file.path.now ≡ [] }
@@ -81,7 +95,7 @@ fn check_keys(alloc: Global, rules: Rules, file: Section<'_>) -> Result<(), Load
             &["name", "weight", "parent", "cpu_max"],
         )?
         .below_each(alloc, file, "task", task_keys(rules))?
-        .below_each(alloc, file, "change", &["at", "group", "weight"])?;
+        .below_each(alloc, file, "change", change_keys(rules))?;
     unknown.refuse()
 }
 
@@ -109,7 +123,7 @@ pub fn read_known_keys_by(
     let ms = integer(alloc, file, "ms", LENGTH)?;
     let groups = Groups::read(alloc, file)?;
     match Tasks::read(alloc, file, rules, &groups) {
-        Ok(tasks) => match read_changes(alloc, file, &groups) {
+        Ok(tasks) => match read_changes(alloc, file, rules, &groups, &tasks) {
             Ok(changes) => {
                 let (groups, group_names) = groups.into_parts();
                 let (homes, task_names, own_weights, timings) = tasks.into_parts();
@@ -138,49 +152,125 @@ pub fn read_known_keys_by(
     }
 }
 
-fn read_changes(alloc: Global, file: Section<'_>, groups: &Groups) -> Result<Vec<Change>, LoadError>
-    requires { file.path.now ≡ [] }
+fn read_changes(
+    alloc: Global,
+    file: Section<'_>,
+    rules: Rules,
+    groups: &Groups,
+    tasks: &Tasks,
+) -> Result<Vec<Change>, LoadError>
+    requires whole { file.path.now ≡ [] }
+    requires few_tasks { length tasks.now.homes ≤ 1024 }
     ensures changes { Gives (λ changes. changes.items) result
-        (changes_in groups.now (table_view file.entry.table.now)) }
+        (changes_in rules groups.now tasks.now (table_view file.entry.table.now)) }
     ensures few { IfOk result (λ changes. length changes.items ≤ MAX_CHANGES) }
     ensures valid { IfOk result
         (λ changes. (i : ℕ) → i < length changes.items
-        → IsChange (length groups.now.groups) (change_at changes.items i)) }
+        → IsChange (length groups.now.groups) (length tasks.now.homes)
+        (change_at changes.items i)) }
 {
     let values = elements(alloc, file, "change", MAX_CHANGES)?;
-    read_all(alloc, values, groups)
+    read_all(alloc, values, rules, groups, tasks)
 }
 
 #[tactic(auto, using(crate::proofs::Each::goes_on, crate::proofs::Each::ends, crate::proofs::Each::is_done, crate::proofs::Values::changes_more))]
-fn read_all(alloc: Global, values: &[Value], groups: &Groups) -> Result<Vec<Change>, LoadError>
+fn read_all(
+    alloc: Global,
+    values: &[Value],
+    rules: Rules,
+    groups: &Groups,
+    tasks: &Tasks,
+) -> Result<Vec<Change>, LoadError>
+    requires { length tasks.now.homes ≤ 1024 }
     ensures changes { Gives (λ changes. changes.items) result
-        (fold_from (with_change groups.now) [] 0 (items_view values.now)) }
+        (fold_from (with_change rules groups.now tasks.now) [] 0 (items_view values.now)) }
     ensures count { IfOk result (λ changes. length changes.items ≡ length values.now) }
     ensures valid { IfOk result
         (λ changes. (i : ℕ) → i < length changes.items
-        → IsChange (length groups.now.groups) (change_at changes.items i)) }
+        → IsChange (length groups.now.groups) (length tasks.now.homes)
+        (change_at changes.items i)) }
 {
     let mut changes = Vec::with_capacity(alloc, values.len())?;
     for (number, value) in values.iter().enumerate() {
-        changes.push(read_change(alloc, groups, number, value)?)?;
+        changes.push(read_change(alloc, rules, groups, tasks, number, value)?)?;
     }
     Ok(changes)
 }
 
 fn read_change(
     alloc: Global,
+    rules: Rules,
     groups: &Groups,
+    tasks: &Tasks,
     number: usize,
     value: &Value,
 ) -> Result<Change, LoadError>
+    requires { length tasks.now.homes ≤ 1024 }
     ensures change { Gives (λ change. change) result
-        (change_from groups.now number (view value.now)) }
-    ensures valid { IfOk result (IsChange (length groups.now.groups)) }
+        (change_from rules groups.now tasks.now number (view value.now)) }
+    ensures valid { IfOk result (IsChange (length groups.now.groups) (length tasks.now.homes)) }
 {
     let path = element_path(alloc, "change", number)?;
     let section = Section::of(alloc, &path, value)?;
     let at = integer(alloc, section, "at", TIME)?;
-    let group = groups.named(alloc, section)?;
+    let weighed = read_weighed(alloc, rules, groups, tasks, section)?;
     let weight = integer(alloc, section, "weight", WEIGHT)?;
-    Ok(Change { at, group, weight })
+    Ok(Change {
+        at,
+        weighed,
+        weight,
+    })
+}
+
+/// The group or the task whose weight changes. Under plain rules no key says a task.
+fn read_weighed(
+    alloc: Global,
+    rules: Rules,
+    groups: &Groups,
+    tasks: &Tasks,
+    section: Section<'_>,
+) -> Result<Weighed, LoadError>
+    requires { length tasks.now.homes ≤ 1024 }
+    ensures weighed { Gives (λ w. w) result
+        (weighed_in rules groups.now tasks.now section.entry.path.now
+        (table_view section.entry.table.now)) }
+    ensures valid { IfOk result (IsWeighed (length groups.now.groups) (length tasks.now.homes)) }
+{
+    match rules {
+        Rules::Plain => read_group(alloc, groups, section),
+        Rules::Linux => match section.value("task") {
+            Some(value) => read_task(alloc, tasks, section, value),
+            None => read_group(alloc, groups, section),
+        },
+    }
+}
+
+/// The group whose weight changes.
+fn read_group(alloc: Global, groups: &Groups, section: Section<'_>) -> Result<Weighed, LoadError>
+    ensures weighed { Gives (λ w. w) result
+        (group_weighed groups.now section.entry.path.now (table_view section.entry.table.now)) }
+    ensures valid { (tasks : ℕ) → IfOk result (IsWeighed (length groups.now.groups) tasks) }
+{
+    let group = groups.named(alloc, section)?;
+    Ok(Weighed::Group(group))
+}
+
+/// The task whose weight changes, which the value names. `Twice` where there is a group too.
+fn read_task(
+    alloc: Global,
+    tasks: &Tasks,
+    section: Section<'_>,
+    value: &Value,
+) -> Result<Weighed, LoadError>
+    requires { length tasks.now.homes ≤ 1024 }
+    ensures weighed { Gives (λ w. w) result
+        (task_weighed tasks.now (below section.entry.path.now (codes "task"))
+        (get_member (codes "group") (table_view section.entry.table.now)) (view value.now)) }
+    ensures valid { (groups : ℕ) → IfOk result (IsWeighed groups (length tasks.now.homes)) }
+{
+    if section.value("group").is_some() {
+        return refused(alloc, section.path, "task", Cause::Twice);
+    }
+    let task = tasks.named(alloc, section, value)?;
+    Ok(Weighed::Task(task))
 }

@@ -1,17 +1,18 @@
 //! The tasks of a workload file.
-ghost use Rattle.std.specs.Prelude.{◌≡◌, ℕ, ◌+◌, ◌<◌, ◌≤◌, ◌++◌, ◌∷◌, [], length, IfOk, OnOk, IfErr};
+ghost use Rattle.std.specs.Prelude.{◌≡◌, ℕ, ◌+◌, ◌<◌, ◌≤◌, ◌++◌, ◌∷◌, [], codes, length, IfOk, OnOk, IfErr};
 ghost use Rattle.toml.specs.View.{view, table_view, items_view};
 ghost use Rattle.scx_load_files.specs.declared.fault.LoadError.TheVariants.{NoMemory};
 ghost use Rattle.scx_load_files.specs.Faults.{Gives};
+ghost use Rattle.scx_load_files.specs.Paths.{below};
 ghost use Rattle.scx_load_workloads.specs.Workload.{IsOwnWeight, own_weight_at, IsTiming, timing_at};
 ghost use Rattle.scx_load_workloads.specs.Reading.{own_weight_in, timing_in, fold_from};
 ghost use Rattle.scx_load_workloads.specs.Kept.{texts};
 
-use crate::elements::{integer_or, some_elements};
+use crate::elements::{index_of, integer_or, some_elements};
 use crate::groups::{Groups, WEIGHT, new_name};
 use crate::workload::{MAX_MS, Timing};
 use scx_isa_semantics::Rules;
-use scx_load_files::{Limits, LoadError, Section, element_path};
+use scx_load_files::{Cause, Limits, LoadError, Section, element_path, refused};
 use scx_weights::{DEFAULT_OWN_WEIGHT, MAX_TASKS};
 use std::alloc::Global;
 use std::marker::Model;
@@ -44,7 +45,7 @@ impl Model for Tasks {
 }
 
 impl Tasks {
-    ghost use Rattle.scx_load_workloads.specs.Reading.{no_tasks, tasks_in, task_at, with_task};
+    ghost use Rattle.scx_load_workloads.specs.Reading.{no_tasks, tasks_in, task_at, with_task, task_named};
 
     /// The tasks of a file, for a policy by those rules.
     pub(crate) fn read(
@@ -170,6 +171,26 @@ impl Tasks {
         self.own_weights.push_reserved(weight);
         self.timings.push_reserved(timing);
         Ok(())
+    }
+
+    /// The task that the value at the key `task` names. `WrongType` or `NoSuchTask`.
+    pub(crate) fn named(
+        &self,
+        alloc: Global,
+        section: Section<'_>,
+        value: &Value,
+    ) -> Result<u16, LoadError>
+        requires { length self.now.homes ≤ 1024 }
+        ensures number { Gives (λ n. n) result
+            (task_named self.now.names (below section.entry.path.now (codes "task"))
+            (view value.now)) }
+        ensures known { IfOk result (λ n. n < length self.now.homes) }
+    {
+        let name = section.text_in(alloc, "task", value)?;
+        match index_of(&self.names, name) {
+            Some(task) => Ok(task as u16),
+            None => refused(alloc, section.path, "task", Cause::NoSuchTask),
+        }
     }
 
     pub(crate) fn into_parts(self) -> (Vec<u32>, Vec<String>, Vec<u32>, Vec<Timing>)

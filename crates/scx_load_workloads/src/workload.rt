@@ -26,15 +26,23 @@ pub struct Timing {
     pub sleep: u32,
 }
 
-/// A change of a group's weight at some millisecond.
+/// A group or a task, by its number.
+#[derive(Clone, Copy, PartialEq, Eq)]
+pub enum Weighed {
+    Group(u32),
+    Task(u16),
+}
+
+/// A change of a weight at some millisecond.
 #[derive(Clone, Copy)]
 pub struct Change {
     pub at: u32,
-    pub group: u32,
+    /// The group or the task whose weight changes.
+    pub weighed: Weighed,
     pub weight: u32,
 }
 
-/// Groups, tasks in them, the weights and times of the tasks, and changes of weights of groups.
+/// Groups, tasks in them, the weights and times of the tasks, and changes of weights of groups and tasks.
 ///
 /// Groups and tasks go by their numbers in the file. In a contract a workload is its lists: names are
 /// lists of bytes.

@@ -8,4 +8,5 @@ pub invariant_of-result : goal.invariant_of-result
 invariant_of-result c = (
   optional_in timeout_limits 30000 c.args.file.path.now (codes "timeout_ms") (table_view c.args.file.table.now) c.in_ok-timeout_ms.timeout_ms (omega arith, omega arith) c.in_ok-timeout_ms.ensures,
   c.in_ok-tick_ms.ensures.limits,
+  c.in_ok-timers.ensures.few,
 )

@@ -5,4 +5,4 @@ use Rattle.scx_load_replay.proofs.Passing.{left}
 use Rattle.scx_load_replay.proofs.reading.read_lines.Given as goal
 
 abbrev pub invariant-loop-index : goal.invariant-loop-index
-invariant-loop-index l = left l.workload l.texts.items l.index (progress_of l.progress) ≡ lines_in l.workload l.text
+invariant-loop-index l = left l.rules l.workload l.texts.items l.index (progress_of l.progress) ≡ lines_in l.rules l.workload l.text

@@ -6,7 +6,7 @@ use Rattle.scx_load_workloads.proofs.reading.read_all.Given as goal
 
 abbrev pub invariant-loop-number : goal.invariant-loop-number
 invariant-loop-number l = record {
-  changes : fold_from (with_change l.fn.groups) l.changes.items l.number (items_view (drop l.number l.values)) ≡ fold_from (with_change l.fn.groups) [] 0 (items_view l.values);
+  changes : fold_from (with_change l.rules l.fn.groups l.fn.tasks) l.changes.items l.number (items_view (drop l.number l.values)) ≡ fold_from (with_change l.rules l.fn.groups l.fn.tasks) [] 0 (items_view l.values);
   count : length l.changes.items ≡ l.number;
-  valid : (i : ℕ) → i < length l.changes.items → IsChange (length l.fn.groups.groups) (change_at l.changes.items i);
+  valid : (i : ℕ) → i < length l.changes.items → IsChange (length l.fn.groups.groups) (length l.fn.tasks.homes) (change_at l.changes.items i);
 }

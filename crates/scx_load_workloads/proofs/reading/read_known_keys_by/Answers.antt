@@ -33,5 +33,8 @@ invariant_of-result c =
       few_changes = changes.few;
       own_weights = subst AreOwn (sym tasks.own_weights) tasks.weights;
       timings = subst (λ (xs : List Timing). (t : ℕ) → t < length xs → IsTiming (timing_at xs t)) (sym tasks.timings) tasks.times;
-      changes = subst (λ (gs : List Group). (i : ℕ) → i < length c.in-Ok-read_changes.changes.items → IsChange (length gs) (change_at c.in-Ok-read_changes.changes.items i)) (sym groups.groups) changes.valid;
+      changes =
+          let xs = c.in-Ok-read_changes.changes.items in
+          subst (λ (hs : List ℕ). (i : ℕ) → i < length xs → IsChange (length c.into_parts-groups.result.0.items) (length hs) (change_at xs i)) (sym tasks.homes)
+          (subst (λ (gs : List Group). (i : ℕ) → i < length xs → IsChange (length gs) (length c.in-Ok.tasks.homes) (change_at xs i)) (sym groups.groups) changes.valid);
     }
