@@ -3,10 +3,10 @@ use scx_explore_findings::{Finding, Sort};
 use scx_isa::{CALLBACKS, Callback};
 
 /// The number of sorts.
-const SORT_COUNT: usize = 12;
+const SORT_COUNT: usize = 13;
 
 /// The number of callbacks of a policy.
-const CALLBACK_COUNT: usize = 10;
+const CALLBACK_COUNT: usize = 14;
 
 /// The list of the steps to the longest wait, after those to the findings of each sort.
 pub(crate) const WAIT_LIST: usize = SORT_COUNT;

@@ -52,7 +52,10 @@ impl Search {
                     self.look_at_waits(machine, way, part);
                 }
             }
-            Event::Wake(_) | Event::Sleep(_) | Event::SetWeight(_, _) => {}
+            Event::Wake(_)
+            | Event::Sleep(_)
+            | Event::SetWeight(_, _)
+            | Event::SetTaskWeight(_, _) => {}
         }
     }
 

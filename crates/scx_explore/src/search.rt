@@ -90,6 +90,14 @@ impl Tables {
     }
 }
 
+/// The form in which tasks of a group are told apart if lists set weights of tasks.
+fn told_apart(form: Form, changes: &Changes) -> Form {
+    Form {
+        names: form.names || changes.have_tasks(),
+        ..form
+    }
+}
+
 /// A search whose first state was entered.
 fn begun(form: Form, bounds: Bounds, tables: Tables, machines: Machines) -> Search {
     let Tables {
@@ -100,6 +108,7 @@ fn begun(form: Form, bounds: Bounds, tables: Tables, machines: Machines) -> Sear
         stops,
         revisits,
     } = tables;
+    let form = told_apart(form, &changes);
     let mut machines = machines;
     let hand = machines.take_or_0();
     let other_hand = machines.take_or_0();

@@ -13,6 +13,10 @@ pub struct Starts {
     pub init: Option<u64>,
     /// The most of all tasks.
     pub enable: Option<u64>,
+    /// The most of all tasks.
+    pub set_weight: Option<u64>,
+    /// The most of all CPUs.
+    pub update_idle: Option<u64>,
 }
 
 /// Those of the machine of a policy and a workload, whose texts were read before.
@@ -57,6 +61,8 @@ fn starts_with(
             Ok(Starts {
                 init: look.most.grown(Callback::Init),
                 enable: look.most.grown(Callback::Enable),
+                set_weight: look.most.grown(Callback::SetWeight),
+                update_idle: look.most.grown(Callback::UpdateIdle),
             })
         }
         Err(_) => Err(AllocError),

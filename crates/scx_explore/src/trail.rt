@@ -2,6 +2,7 @@ use crate::search::{Search, Stop};
 use scx_explore_bounds::{Memory, Mode, Ticks, event_at, is_behind_ticks, places};
 use scx_explore_machines::push;
 use scx_explore_states::{Step, Tasks};
+use scx_load_workloads::Weighed;
 use scx_sched::Event;
 
 impl Search {
@@ -119,9 +120,17 @@ impl Search {
         match event {
             Event::Wake(task) | Event::Sleep(task) => memory.use_up(Tasks::NONE.with(task)),
             Event::SetWeight(group, weight) => {
-                memory.changed = self.changes.after(memory.changed, group, weight);
+                self.note_weight(memory, Weighed::Group(group), weight);
+            }
+            Event::SetTaskWeight(task, weight) => {
+                self.note_weight(memory, Weighed::Task(task), weight);
             }
             Event::Tick(_) | Event::Clock => {}
         }
+    }
+
+    /// Notes that the group or the task has that weight.
+    fn note_weight(&self, memory: &mut Memory, weighed: Weighed, weight: u32) {
+        memory.changed = self.changes.after(memory.changed, weighed, weight);
     }
 }

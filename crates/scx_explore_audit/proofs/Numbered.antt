@@ -52,7 +52,7 @@ task_met s ids t o there is all =
 -- ---- queues of a machine stay
 
 same_after : (s : SimState) (es : List Event) → HasSize s.state.world (stepped_all s es).state.world
-same_after s es = go s es (refl, refl, refl, refl, refl)
+same_after s es = go s es (refl, refl, refl, refl, refl, refl)
   where
     go : (t : SimState) (es : List Event) → HasSize s.state.world t.state.world → HasSize s.state.world (stepped_all t es).state.world
     go t [] size = size

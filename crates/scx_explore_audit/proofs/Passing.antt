@@ -2,7 +2,7 @@
 use Rattle.std.proofs.Common.{◌≡◌, ℕ, suc, ◌+◌, ◌-◌, ◌<◌, ◌≤◌, List, [], ◌∷◌, ◌++◌, length, Bool, true, false, None, if◌then◌else◌, refl, sym, ap, ◌∙◌, subst, arith, ⊎_elim}
 use Rattle.std.proofs.lemmas.Bool.{cases_eq}
 use Rattle.scx_sched_machine.specs.declared.events.Event.{Event}
-use Rattle.scx_sched_machine.specs.declared.events.Event.TheVariants.{Wake, Sleep, Tick, Clock, SetWeight}
+use Rattle.scx_sched_machine.specs.declared.events.Event.TheVariants.{Wake, Sleep, Tick, Clock, SetWeight, SetTaskWeight}
 use Rattle.scx_sched.specs.Sim.{SimState, refusal, after_event}
 use Rattle.scx_explore_findings.specs.declared.finding.Sort.{Sort}
 use Rattle.scx_explore_findings.specs.Path.{PathState, machine_of, went_back, went_on}
@@ -215,3 +215,4 @@ each_event c d p q r tasks cpus many some second third wakes sleeps ticks clock 
 each_event c d p q r tasks cpus many some second third wakes sleeps ticks clock (Tick k) tried = leads_same c d p q (Tick k ∷ []) second (ticks k (omega (arith, tried, some)))
 each_event c d p q r tasks cpus many some second third wakes sleeps ticks clock Clock tried = leads_same c d p r (Clock ∷ []) (third ∙ second) clock
 each_event c d p q r tasks cpus many some second third wakes sleeps ticks clock (SetWeight g w) tried = absurd tried
+each_event c d p q r tasks cpus many some second third wakes sleeps ticks clock (SetTaskWeight t w) tried = absurd tried

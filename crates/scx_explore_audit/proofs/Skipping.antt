@@ -204,9 +204,9 @@ within (Some most) n m less few = omega (arith, less, few)
 -- where no list shows anything as far as its events are accepted, none shows anything behind one that is refused
 pub none_past : (moves : Moves) (limit : Option ℕ) (sorts : List Sort) (root : SimState) → NoneAtFirst moves limit sorts root → NoneIn moves limit sorts root
 none_past Events limit sorts root none list made few =
-    events_past sorts root list made root (refl, refl, refl, refl, refl) (λ f. none f.list f.made (within limit (length f.list) (length list) f.few few))
+    events_past sorts root list made root (refl, refl, refl, refl, refl, refl) (λ f. none f.list f.made (within limit (length f.list) (length list) f.few few))
 none_past Milliseconds limit sorts root none list made few =
-    milliseconds_past sorts root list made root (refl, refl, refl, refl, refl) (λ f. none f.list f.made (within limit (length f.list) (length list) f.few few))
+    milliseconds_past sorts root list made root (refl, refl, refl, refl, refl, refl) (λ f. none f.list f.made (within limit (length f.list) (length list) f.few few))
 
 -- ---- the events that are accepted
 

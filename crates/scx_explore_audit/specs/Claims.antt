@@ -1,7 +1,7 @@
 -- The lists of events of a claim, and the findings that none of them shows.
 use Rattle.std.specs.Prelude.{◌≡◌, ℕ, zero, suc, ◌<◌, Bool, ⊤, List, [], ◌∷◌, ◌++◌, length, All, None, Some, is_none, if◌then◌else◌}
 use Rattle.scx_sched_machine.specs.declared.events.Event.{Event}
-use Rattle.scx_sched_machine.specs.declared.events.Event.TheVariants.{Wake, Sleep, Tick, Clock, SetWeight}
+use Rattle.scx_sched_machine.specs.declared.events.Event.TheVariants.{Wake, Sleep, Tick, Clock, SetWeight, SetTaskWeight}
 use Rattle.scx_sched.specs.Sim.{SimState, refusal, after_event}
 use Rattle.scx_explore_findings.specs.Findings.{fault_in, stall_in, exit_in, IsIdleBehind}
 use Rattle.scx_explore_findings.specs.declared.finding.Sort.{Sort}
@@ -18,6 +18,7 @@ IsTried r (Sleep t) = t < length r.state.world.tasks
 IsTried r (Tick c) = c < length r.state.world.cpus
 IsTried r Clock = ⊤
 IsTried r (SetWeight g w) = ⊥
+IsTried r (SetTaskWeight t w) = ⊥
 
 -- a set of tasks, which says of each whether it is in the set
 abbrev pub TaskSet : Type 0

@@ -69,6 +69,7 @@ fn is_refused(path: &Path, event: Event) -> bool
     match event {
         Event::Wake(task) => sim.is_runnable(task),
         Event::Sleep(task) => !sim.is_runnable(task),
-        Event::Tick(_) | Event::Clock | Event::SetWeight(_, _) => false,
+        Event::Tick(_) | Event::Clock | Event::SetWeight(_, _) | Event::SetTaskWeight(_, _) =>
+            false,
     }
 }

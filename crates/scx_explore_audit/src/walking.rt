@@ -118,7 +118,7 @@ fn is_tried(path: &Path, event: Event) -> bool
         Event::Sleep(task) => task < tasks_of(path),
         Event::Tick(cpu) => cpu < cpus_of(path),
         Event::Clock => true,
-        Event::SetWeight(_, _) => false,
+        Event::SetWeight(_, _) | Event::SetTaskWeight(_, _) => false,
     }
 }
 

@@ -1,5 +1,6 @@
 -- What the programs of some callbacks do, one after another.
-use Rattle.std.proofs.Common.{◌≡◌, ℕ, zero, suc, ◌+◌, ◌<◌, List, [], ◌∷◌, length, take, get_or, refl, subst, arith}
+use Rattle.std.proofs.Common.{◌≡◌, ℕ, zero, suc, ◌+◌, ◌<◌, List, [], ◌∷◌, length, take, get_or, refl, subst, arith, Result}
+use Rattle.std.specs.Prelude.{IfOk}
 use Rattle.scx_isa_semantics.specs.declared.callbacks.Callback.{Callback}
 use Rattle.scx_isa_semantics.specs.Callbacks.{at}
 use Rattle.scx_isa_semantics.specs.declared.rules.Rules.{Rules}
@@ -24,3 +25,11 @@ pub one_more : (r : Rules) (shapes : List Shape) (p : Programs) (bs : List Callb
 one_more r shapes p bs k b u v w l so_far one =
     let next : suc k ≡ k + 1 = omega arith in
     subst (λ (n : ℕ). DoAll r shapes p (take n bs) u w) next (then_one r shapes p bs k b u v w l so_far one)
+
+-- what is done by the programs of a policy, by its rules and under its maps
+pub done_by : {E : Type 0} (r q : Rules) (s t : List Shape) (p o : Programs) (bs : List Callback) (u : Uses) (made : Result Uses E) → r ≡ q → s ≡ t → p ≡ o
+    → IfOk made (DoAll r s p bs u) → IfOk made (DoAll q t o bs u)
+done_by r q s t p o bs u made rules shapes programs done =
+    subst (λ (x : Rules). IfOk made (DoAll x t o bs u)) rules
+    (subst (λ (x : List Shape). IfOk made (DoAll r x o bs u)) shapes
+    (subst (λ (x : Programs). IfOk made (DoAll r s x bs u)) programs done))

@@ -1,8 +1,8 @@
 ghost use Rattle.std.specs.Prelude.{◌≡◌, length};
-ghost use Rattle.scx_explore_bounds.specs.Events.{change_at};
+ghost use Rattle.scx_explore_bounds.specs.Events.{change_at, event_of};
 
 use crate::bounds::{Bounds, Mode};
-use scx_load_workloads::{Change, Workload};
+use scx_load_workloads::{Change, Weighed, Workload};
 use scx_sched::Event;
 use std::alloc::{AllocError, Global};
 use std::marker::Model;
@@ -10,13 +10,13 @@ use std::marker::Model;
 /// The most different changes of weights that a search tries.
 pub const MOST_CHANGES: usize = 64;
 
-/// The weights that groups may come to have, each once.
+/// The weights that groups and tasks may come to have, each once.
 ///
 /// In a contract it is the changes that give them.
 #[derive(Drop)]
 pub struct Changes {
     changes: Vec<Change>,
-    /// Bit i is set where the workload's group has the weight of change i.
+    /// Bit i is set where the workload's group or task has the weight of change i.
     first: u64,
 }
 
@@ -48,17 +48,15 @@ impl Changes {
         if self.has(change) || self.changes.len() >= self.changes.capacity() {
             return;
         }
-        if let Some(group) = workload.groups().get(change.group as usize) {
-            if group.weight == change.weight {
-                self.first |= bit(self.changes.len());
-            }
+        if weight_in(workload, change.weighed) == Some(change.weight) {
+            self.first |= bit(self.changes.len());
         }
         self.changes.push_reserved(change);
     }
 
     fn has(&self, change: Change) -> bool {
         for other in &self.changes {
-            if other.group == change.group && other.weight == change.weight {
+            if other.weighed == change.weighed && other.weight == change.weight {
                 return true;
             }
         }
@@ -70,6 +68,16 @@ impl Changes {
         !self.changes.is_empty()
     }
 
+    /// True if there are any of tasks. Tasks of a group are told apart by them.
+    pub fn have_tasks(&self) -> bool {
+        for change in &self.changes {
+            if let Weighed::Task(_) = change.weighed {
+                return true;
+            }
+        }
+        false
+    }
+
     /// The number of changes.
     pub fn len(&self) -> usize
         ensures { result ≡ length self.now }
@@ -77,7 +85,7 @@ impl Changes {
         self.changes.len()
     }
 
-    /// The groups that have such a weight before the first event, a bit for each change.
+    /// The groups and tasks that have such a weight before the first event, a bit for each change.
     pub fn first(&self) -> u64 {
         let first = self.first;
         first
@@ -88,17 +96,17 @@ impl Changes {
         ensures { result ≡ change_at self.now at }
     {
         match self.changes.get(at) {
-            Some(change) => Some(Event::SetWeight(change.group, change.weight)),
+            Some(change) => Some(event_of(*change)),
             None => None,
         }
     }
 
-    /// The groups that have such a weight, once a group gets a weight.
-    pub fn after(&self, before: u64, group: u32, weight: u32) -> u64 {
+    /// The groups and tasks that have such a weight, once one of them gets a weight.
+    pub fn after(&self, before: u64, weighed: Weighed, weight: u32) -> u64 {
         let mut after = before;
         for at in 0..self.changes.len() {
             let change = self.changes[at];
-            if change.group != group {
+            if change.weighed != weighed {
                 continue;
             }
             if change.weight == weight {
@@ -108,6 +116,24 @@ impl Changes {
             }
         }
         after
+    }
+}
+
+/// The weight of a group or a task before the first event; none where there is no such one.
+fn weight_in(workload: &Workload, weighed: Weighed) -> Option<u32> {
+    match weighed {
+        Weighed::Group(group) => Some(workload.groups().get(group as usize)?.weight),
+        Weighed::Task(task) => workload.own_weights().get(usize::from(task)).copied(),
+    }
+}
+
+/// The event of a change.
+fn event_of(change: Change) -> Event
+    ensures { result ≡ event_of change }
+{
+    match change.weighed {
+        Weighed::Group(group) => Event::SetWeight(group, change.weight),
+        Weighed::Task(task) => Event::SetTaskWeight(task, change.weight),
     }
 }
 

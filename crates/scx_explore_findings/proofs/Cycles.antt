@@ -1,28 +1,32 @@
 -- What a scheduling cycle comes to doesn't depend on what is hidden.
-use Rattle.std.proofs.Common.{◌≡◌, ℕ, zero, suc, ◌==◌, ◌&&◌, not, Bool, true, false, if◌then◌else◌, length, [], ◌∷◌, Option, Some, None, refl, sym, ap, ◌∙◌, subst}
+use Rattle.std.proofs.Common.{◌≡◌, ℕ, zero, suc, ◌==◌, ◌&&◌, not, Bool, true, false, if◌then◌else◌, List, length, [], ◌∷◌, Option, Some, None, refl, sym, ap, ◌∙◌, subst}
 use Rattle.scx_dsq.specs.Queues.{len_of, front_of}
 use Rattle.scx_isa_semantics.specs.declared.callbacks.Callback.{Callback}
 use Rattle.scx_isa_semantics.specs.declared.callbacks.Callback.TheVariants as callback
+use Rattle.scx_sched_world.specs.declared.notes.Note.{Note}
 use Rattle.scx_sched_world.specs.declared.notes.What.TheVariants.{Stop, Run}
 use Rattle.scx_sched_world.specs.Ids.{builtin_queue, local_on}
-use Rattle.scx_sched_world.specs.World.{WorldState, with_cycling, with_kick, without_kick, task_at, running, or_this, this_if, note_now}
+use Rattle.scx_sched_world.specs.World.{WorldState, with_cycling, out_of_cycle, with_kick, without_kick, task_at, running, or_this, this_if, note_now}
 use Rattle.scx_sched_world.specs.CpuSets.{is_in_set}
 use Rattle.scx_sched_world.specs.Pending.{is_pending, pending_below}
 use Rattle.scx_sched_world.specs.Tasks.{local_len, after_stop, started_at, after_run, after_switch, after_keep, to_front}
 use Rattle.scx_sched_world.specs.Ejecting.{after_catch_up, after_charge}
 use Rattle.scx_sched_machine.specs.Policy.{PolicyState, program_of}
 use Rattle.scx_sched_machine.specs.Steps.{State, Stepped, with_world, is_ejected, is_by_linux, stays, one_after_other}
-use Rattle.scx_sched_machine.specs.Callbacks.{call_back, one_task, task_and_number, cpu_and_task}
+use Rattle.scx_sched_machine.specs.Callbacks.{call_back, noted_by, one_task, task_and_number, two_numbers, cpu_and_task}
+use Rattle.scx_sched_machine.specs.Custody.{tells_dequeued, leaver, tells_of, tells_each, moved_as, hears_dequeue, tells_left}
 use Rattle.scx_sched_machine.specs.Put.{enters, put}
 use Rattle.scx_sched_machine.specs.Filling.{fill}
 use Rattle.scx_sched_machine.specs.Parking.{park_fronts, supply}
-use Rattle.scx_sched_machine.specs.Cycle.{has_local, keeps_slice, supply_unless_kept, told_of, after_dispatch, asks_again, tries, stopping_called, after_stopping, after_running, put_back, leave, switched, started_if, start, idle_note, rest, swap, swap_or_rest, builtin_dispatch, builtin_fill, builtin_ask, builtin_cycle, start_or_cycle, refilled, is_local, start_picked, start_picked_or_cycle, picked, pick, pick_or_rest, keep_or_pick, conclude, give_up, ask, seek, look, cycling, cycle}
+use Rattle.scx_sched_machine.specs.Cycle.{has_local, keeps_slice, supply_unless_kept, told_of, dispatch_called, after_dispatch, asks_again, tries, stopping_called, after_stopping, after_running, put_back, leave, switched, started_if, start, hears_idle, tells_idle, idle_note, rest, swap, swap_or_rest, builtin_dispatch, builtin_fill, builtin_ask, builtin_cycle, start_or_cycle, refilled, is_local, start_picked, start_picked_or_cycle, picked, tells_busy, makes_way, pick, pick_or_rest, keep_or_pick, conclude, give_up, ask, seek, look, cycling, falls_idle, notes_idle, idle_or_anew, becomes_idle, concluded, cycle}
 use Rattle.scx_sched_machine.specs.Rounds.{most_rounds, next_to_look, cut_off_if, look_past, look_from, round, round_then, rounds, with_rounds}
 use Rattle.scx_explore_findings.specs.Hidden.{Hidden, hide}
 use Rattle.scx_explore_findings.specs.HiddenStates.{hide_state, hide_step}
 use Rattle.scx_explore_findings.specs.Unread.{IsUnread}
+use Rattle.scx_sched_machine.proofs.Choices.{keeps_if}
+use Rattle.scx_explore_findings.proofs.Records.{alike_if}
 use Rattle.scx_explore_findings.proofs.Worlds.{plain, read, hides_stop, hides_started, hides_run, hides_switch, hides_cycling, hides_cut_off, hides_keep, hides_charge, hides_catch_up}
-use Rattle.scx_explore_findings.proofs.Steps.{Passes, On, in_world, Turns, after_turn, turns_world, turned, turns_if, chain, noted, choose, single, rests, passes_call_back, passes_enters, passes_put, passes_fill, passes_park_fronts, passes_supply}
+use Rattle.scx_explore_findings.proofs.Steps.{Passes, On, in_world, Turns, after_turn, turns_world, turned, turns_if, chain, noted, choose, single, rests, noted_same, passes_call_back, passes_call_by_linux, passes_enters, passes_put, passes_fill, passes_park_fronts, passes_supply}
 
 module _ (h : Hidden) (p : PolicyState) (unread : (b : Callback) → IsUnread h (program_of p b)) where
   -- a part of a step that is the same as another is read alike
@@ -45,12 +49,51 @@ module _ (h : Hidden) (p : PolicyState) (unread : (b : Callback) → IsUnread h 
   passes_supply_unless_kept c o s is =
       choose h p (keeps_slice s o) (keeps_slice (hide_state h s) o) (stays s) (stays (hide_state h s)) (supply s c) (supply (hide_state h s) c) (keeps_same s o) (rests h p s is) (passes_supply h p c s is)
 
+  -- the policy hears that a task left its custody
+  pub passes_dequeued : (t c flags : ℕ) → On h p (λ s. tells_dequeued s t c flags)
+  unfolding tells_dequeued
+  passes_dequeued t c flags s is = passes_call_by_linux h p unread callback.Dequeue (task_and_number t flags) t c s is
+
+  passes_tells_of : (o : Option ℕ) (c : ℕ) → On h p (λ s. tells_of o s c)
+  passes_tells_of None c s is = rests h p s is
+  passes_tells_of (Some t) c s is = passes_dequeued t c 0 s is
+
+  passes_tells_each : (ns : List Note) (c : ℕ) → On h p (λ s. tells_each ns s c)
+  passes_tells_each [] c s is = rests h p s is
+  passes_tells_each (x ∷ ns) c s is =
+      chain h p (tells_of (leaver x.what) s c) (tells_of (leaver x.what) (hide_state h s) c) (λ r. tells_each ns r c) (passes_tells_of (leaver x.what) c s is) (passes_tells_each ns c)
+
+  -- whether dispatch moved a task is as it was
+  turns_moved : (b : Bool) → Turns h p (λ s. moved_as b s)
+  turns_moved b s =
+      let f : WorldState → WorldState = λ w. record w { call = record w.call { has_moved = b } } in (
+        alike_if (hide_state h) (is_ejected s) (is_ejected s) s (hide_state h s) (with_world s (f s.world)) (with_world (hide_state h s) (f (hide h s.world))) refl (ap (λ (u : WorldState). with_world s u) (plain h s.world)) (ap (λ (u : WorldState). with_world s u) (plain h (f s.world))),
+        keeps_if (λ (x : State). x.policy ≡ s.policy) (is_ejected s) s (with_world s (f s.world)) refl refl,
+      )
+
+  passes_tells_left : (ns : List Note) (c : ℕ) → On h p (λ s. tells_left s c ns)
+  unfolding tells_left hears_dequeue
+  passes_tells_left ns c s is =
+      let b = s.world.call.has_moved in
+      let r = tells_each ns s c in
+      let q = tells_each ns (hide_state h s) c in
+      choose h p (hears_dequeue s) (hears_dequeue s) (record r { state = moved_as b r.state }) (record q { state = moved_as b q.state }) (stays s) (stays (hide_state h s)) refl
+      (turned h p (λ x. moved_as b x) (turns_moved b) r q (passes_tells_each ns c s is)) (rests h p s is)
+
+  passes_dispatch_called : (c : ℕ) (o : Option ℕ) → On h p (λ s. dispatch_called s c o)
+  unfolding dispatch_called
+  passes_dispatch_called c o s is =
+      let a = cpu_and_task c (told_of s o) in
+      let r = call_back s callback.Dispatch a 0 c in
+      let q = call_back (hide_state h s) callback.Dispatch a 0 c in
+      let ns = noted_by s callback.Dispatch a 0 c in
+      subst (λ (ms : List Note). Passes h p (one_after_other r (tells_left r.state c ns)) (one_after_other q (tells_left q.state c ms))) (noted_same h p unread s callback.Dispatch a 0 c is)
+      (chain h p r q (λ x. tells_left x c ns) (passes_call_back h p unread callback.Dispatch a 0 c s is) (passes_tells_left ns c))
+
   passes_dispatch : (c : ℕ) (o : Option ℕ) → On h p (λ s. after_dispatch s c o)
   unfolding after_dispatch
   passes_dispatch c o s is =
-      let a = cpu_and_task c (told_of s o) in
-      chain h p (call_back s callback.Dispatch a 0 c) (call_back (hide_state h s) callback.Dispatch a 0 c) (λ r. supply_unless_kept r c o)
-      (passes_call_back h p unread callback.Dispatch a 0 c s is) (passes_supply_unless_kept c o)
+      chain h p (dispatch_called s c o) (dispatch_called (hide_state h s) c o) (λ r. supply_unless_kept r c o) (passes_dispatch_called c o s is) (passes_supply_unless_kept c o)
 
   passes_tries : (n c : ℕ) (o : Option ℕ) → On h p (λ s. tries n s c o)
   unfolding tries
@@ -121,8 +164,23 @@ module _ (h : Hidden) (p : PolicyState) (unread : (b : Callback) → IsUnread h 
   note_same w (Some t) ran c = refl
 
   passes_rest : (c : ℕ) (o : Option ℕ) (ran : Bool) → On h p (λ s. rest s c o ran)
-  unfolding rest
-  passes_rest c o ran s is = single h p s (after_keep s.world o) (after_keep (hide h s.world) o) _ _ (hides_keep h o s.world) (note_same s.world o ran c) is
+  unfolding rest hears_idle
+  passes_rest c o ran s is = single h p s (after_keep s.world o) (after_keep (hide h s.world) o) _ _ (hides_keep h o s.world) (note_same s.world o (ran && not (hears_idle s)) c) is
+
+  -- the policy hears that a processor is idle, or idle no more
+  passes_tells_idle : (c n : ℕ) → On h p (λ s. tells_idle s c n)
+  unfolding tells_idle
+  passes_tells_idle c n s is = passes_call_by_linux h p unread callback.UpdateIdle (two_numbers c n) 0 c s is
+
+  passes_tells_busy : (c : ℕ) (o : Option ℕ) (ran : Bool) → On h p (λ s. tells_busy s c o ran)
+  unfolding tells_busy
+  passes_tells_busy c None false s is = passes_tells_idle c 0 s is
+  passes_tells_busy c None true s is = rests h p s is
+  passes_tells_busy c (Some t) ran s is = rests h p s is
+
+  passes_makes_way : (c : ℕ) (o : Option ℕ) (ran : Bool) → On h p (λ s. makes_way s c o ran)
+  unfolding makes_way
+  passes_makes_way c o ran s is = chain h p (tells_busy s c o ran) (tells_busy (hide_state h s) c o ran) (λ r. leave r c o) (passes_tells_busy c o ran s is) (passes_leave c o)
 
   -- ---- the built-in scheduler
 
@@ -177,8 +235,8 @@ module _ (h : Hidden) (p : PolicyState) (unread : (b : Callback) → IsUnread h 
   unfolding pick picked
   passes_pick c o ran s is =
       let t = picked s c in
-      chain h p (leave (refilled s t) c o) (leave (refilled (hide_state h s) t) c o) (λ r. start_picked_or_cycle t r c ran)
-      (in_world h p (λ r. leave r c o) (passes_leave c o) s (after_keep s.world t) (after_keep (hide h s.world) t) (hides_keep h t s.world) is) (passes_start_picked_or_cycle t c ran)
+      chain h p (makes_way (refilled s t) c o ran) (makes_way (refilled (hide_state h s) t) c o ran) (λ r. start_picked_or_cycle t r c ran)
+      (in_world h p (λ r. makes_way r c o ran) (passes_makes_way c o ran) s (after_keep s.world t) (after_keep (hide h s.world) t) (hides_keep h t s.world) is) (passes_start_picked_or_cycle t c ran)
 
   passes_pick_or_rest : (c : ℕ) (o : Option ℕ) (ran : Bool) → On h p (λ s. pick_or_rest s c o ran)
   unfolding pick_or_rest
@@ -219,13 +277,38 @@ module _ (h : Hidden) (p : PolicyState) (unread : (b : Callback) → IsUnread h 
   turns_cycling : (o : Option ℕ) → Turns h p (λ s. cycling s o)
   turns_cycling o = turns_world h p (λ w. with_cycling w o) (hides_cycling h o)
 
+  -- a processor that falls idle
+  passes_idle_or_anew : (c : ℕ) → On h p (λ s. idle_or_anew s c)
+  unfolding idle_or_anew notes_idle
+  passes_idle_or_anew c s is =
+      let r = builtin_cycle (cycling s (Some c)) c None true in
+      let q = builtin_cycle (cycling (hide_state h s) (Some c)) c None true in
+      choose h p (is_ejected s) (is_ejected s) (record r { state = cycling r.state None }) (record q { state = cycling q.state None }) (notes_idle s c) (notes_idle (hide_state h s) c) refl
+      (turned h p (λ x. cycling x None) (turns_cycling None) r q (after_turn h p (λ x. cycling x (Some c)) (λ x. builtin_cycle x c None true) (turns_cycling (Some c)) (passes_builtin_cycle c None true) s is))
+      (single h p s (with_cycling s.world None) (with_cycling (hide h s.world) None) _ _ (hides_cycling h None s.world) refl is)
+
+  abbrev told_idle : ℕ → State → Stepped
+  told_idle c s = let r = tells_idle s c 1 in one_after_other r (idle_or_anew r.state c)
+
+  passes_told_idle : (c : ℕ) → On h p (told_idle c)
+  passes_told_idle c s is = chain h p (tells_idle s c 1) (tells_idle (hide_state h s) c 1) (λ r. idle_or_anew r c) (passes_tells_idle c 1 s is) (passes_idle_or_anew c)
+
+  passes_becomes_idle : (c : ℕ) → On h p (λ s. becomes_idle s c)
+  unfolding becomes_idle
+  passes_becomes_idle c s is = in_world h p (told_idle c) (passes_told_idle c) s (out_of_cycle s.world) (out_of_cycle (hide h s.world)) (plain h (out_of_cycle s.world)) is
+
+  passes_concluded : (c : ℕ) (ran : Bool) → On h p (λ s. concluded s c ran)
+  unfolding concluded falls_idle hears_idle
+  passes_concluded c ran s is =
+      choose h p (falls_idle s c ran) (falls_idle s c ran) (becomes_idle s c) (becomes_idle (hide_state h s) c) (stays (cycling s None)) (stays (cycling (hide_state h s) None)) refl (passes_becomes_idle c s is)
+      (single h p s (with_cycling s.world None) (with_cycling (hide h s.world) None) [] [] (hides_cycling h None s.world) refl is)
+
   -- what a cycle comes to doesn't depend on what is hidden
   pub passes_cycle : (c : ℕ) (o : Option ℕ) (ran : Bool) → On h p (λ s. cycle s c o ran)
   unfolding cycle
   passes_cycle c o ran s is =
-      let r = look (cycling s (Some c)) c o ran in
-      let q = look (cycling (hide_state h s) (Some c)) c o ran in
-      turned h p (λ x. cycling x None) (turns_cycling None) r q (after_turn h p (λ x. cycling x (Some c)) (λ x. look x c o ran) (turns_cycling (Some c)) (passes_look c o ran) s is)
+      chain h p (look (cycling s (Some c)) c o ran) (look (cycling (hide_state h s) (Some c)) c o ran) (λ r. concluded r c ran)
+      (after_turn h p (λ x. cycling x (Some c)) (λ x. look x c o ran) (turns_cycling (Some c)) (passes_look c o ran) s is) (passes_concluded c ran)
 
   -- ---- rounds
 

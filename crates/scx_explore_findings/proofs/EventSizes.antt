@@ -1,5 +1,6 @@
 -- Events keep how many tasks, processors and groups there are, and which queues.
-use Rattle.std.proofs.Common.{◌≡◌, ℕ, suc, false, length, Option, Some, None, refl, ◌∙◌}
+use Rattle.std.proofs.Common.{◌≡◌, ℕ, suc, false, length, Option, Some, None, refl, sym, ◌∙◌}
+use Rattle.std.proofs.lemmas.List.{length-set}
 use Rattle.scx_isa_semantics.specs.declared.callbacks.Callback.{Callback}
 use Rattle.scx_isa_semantics.specs.declared.callbacks.Callback.TheVariants as callback
 use Rattle.scx_isa_semantics.specs.declared.host_tables.Helper.TheVariants.{CreateDsq}
@@ -30,7 +31,7 @@ use Rattle.scx_sched_machine.proofs.Choices.{keeps_if}
 use Rattle.scx_sched.specs.Sim.{SimState, after_event}
 use Rattle.scx_explore_findings.proofs.Queries.{IsAllowed, stores_allowed, asks_allowed, run_keeps}
 use Rattle.scx_explore_findings.proofs.EventWalk.{IsKeptBySmallSteps, eject_policy, call_back_policy, put_policy, settled_policy, walk_after}
-use Rattle.scx_explore_findings.proofs.WorldSizes.{HasSize, sized_query, sized_evicted, sized_cut, sized_task, sized_homed, sized_entered, sized_put_builtin, sized_brought, sized_put_parked, sized_taken, sized_started, sized_run, sized_kept, sized_stopped, sized_asleep, sized_left, sized_used, sized_reweighed, sized_chosen}
+use Rattle.scx_explore_findings.proofs.WorldSizes.{HasSize, sized_query, sized_evicted, sized_cut, sized_task, sized_homed, sized_entered, sized_put_builtin, sized_brought, sized_put_parked, sized_taken, sized_started, sized_run, sized_kept, sized_stopped, sized_asleep, sized_left, sized_used, sized_reweighed, sized_weighed, sized_chosen}
 
 module _ (v : WorldState) where
   -- ---- a callback but init
@@ -120,6 +121,9 @@ module _ (v : WorldState) where
     at_hand = λ w t h. h;
     kicks = λ w c h. h;
     unkicked = λ w c h. h;
+    counted = λ w b h. h;
+    unstarted = λ w n h. (h.0, h.1, h.2, h.3, h.4, h.5 ∙ sym (length-set w.timers n None));
+    weighed = sized_weighed v;
   }
 
   -- an event keeps all of it, whether it is accepted or not

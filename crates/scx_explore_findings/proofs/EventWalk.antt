@@ -1,6 +1,6 @@
 -- One walk over the events of the machine: what has to be shown of a property of worlds at each small step, so that each
 -- event keeps it, under a policy that stays.
-use Rattle.std.proofs.Common.{◌≡◌, ℕ, zero, suc, Bool, true, false, ◌==◌, ◌&&◌, not, List, [], ◌∷◌, Option, Some, None, is_some, is_none, refl, ◌∙◌, if◌then◌else◌}
+use Rattle.std.proofs.Common.{◌≡◌, ℕ, zero, suc, Bool, true, false, ◌==◌, ◌&&◌, not, List, [], ◌∷◌, length, Option, Some, None, is_some, is_none, refl, ◌∙◌, if◌then◌else◌}
 use Rattle.std.proofs.lemmas.Bool.{and_parts}
 use Rattle.scx_dsq.specs.Queues.{len_of, front_of, behind_of}
 use Rattle.scx_isa_semantics.specs.declared.callbacks.Callback.{Callback}
@@ -11,26 +11,31 @@ use Rattle.scx_vm.specs.declared.arguments.Args.{Args}
 use Rattle.scx_sched_world.specs.declared.call.Insert.{Insert}
 use Rattle.scx_sched_world.specs.declared.eject.Cause.{Cause}
 use Rattle.scx_sched_world.specs.declared.eject.Eject.{Eject}
+use Rattle.scx_sched_world.specs.declared.notes.Note.{Note}
+use Rattle.scx_sched_world.specs.declared.timers.Alarm.{Alarm}
+use Rattle.scx_sched_world.specs.Helpers.{with_timer, after_fire}
 use Rattle.scx_sched_world.specs.Ids.{global, builtin_queue, parked_queue, local_on}
 use Rattle.scx_sched_world.specs.CpuSets.{is_in_set}
 use Rattle.scx_sched_world.specs.World as world
-use Rattle.scx_sched_world.specs.World.{WorldState, are_linux, with_switch, with_slept, with_waker, with_kick, without_kick, task_at, is_throttled, running, cpu_of, is_idle, at_callback}
-use Rattle.scx_sched_world.specs.Tasks.{after_wake, after_sleep, after_leave, homed, after_enter, to_front, brought, fill_front, after_stop, started_at, after_run, after_keep, after_switch, after_cut_off, put_parked, after_take, let_go, after_tick, used_ms, later, begun_periods, after_reweigh}
+use Rattle.scx_sched_world.specs.World.{WorldState, are_linux, with_switch, with_slept, with_waker, with_kick, without_kick, with_timer_at_hand, out_of_cycle, task_at, is_throttled, waits, running, cpu_of, is_idle, at_callback}
+use Rattle.scx_sched_world.specs.Tasks.{after_wake, after_sleep, after_leave, homed, after_enter, to_front, brought, fill_front, after_stop, started_at, after_run, after_keep, after_switch, after_cut_off, put_parked, after_take, let_go, after_tick, used_ms, later, begun_periods, after_reweigh, after_own_weight}
 use Rattle.scx_sched_world.specs.Ejecting.{after_charge, after_catch_up}
 use Rattle.scx_sched_machine.specs.declared.events.Event.{Event}
-use Rattle.scx_sched_machine.specs.declared.events.Event.TheVariants.{Wake, Sleep, Tick, Clock, SetWeight}
+use Rattle.scx_sched_machine.specs.declared.events.Event.TheVariants.{Wake, Sleep, Tick, Clock, SetWeight, SetTaskWeight}
 use Rattle.scx_sched_machine.specs.declared.events.Refused.{Refused}
 use Rattle.scx_sched_machine.specs.Policy.{PolicyState, program_of}
 use Rattle.scx_sched_machine.specs.Steps.{State, Stepped, with_world, stays, is_ejected, is_by_linux, kicked, kicked_if_idle, one_after_other}
 use Rattle.scx_sched_machine.specs.Ejecting.{moves_over, eject, ejected_for}
-use Rattle.scx_sched_machine.specs.Callbacks.{call_ending, after_callback, cause_of, acting, call_back, call_by_linux, answered_by, one_task, task_cpu_and_0, task_and_number, cpu_and_task}
+use Rattle.scx_sched_machine.specs.Callbacks.{call_ending, after_callback, cause_of, acting, call_back, call_by_linux, answered_by, noted_by, one_number, one_task, task_cpu_and_0, task_and_number, two_numbers, cpu_and_task}
+use Rattle.scx_sched_machine.specs.Custody.{is_in_custody, tells_dequeued, leaver, tells_of, tells_each, moved_as, hears_dequeue, tells_left}
+use Rattle.scx_sched_machine.specs.Firing.{due, fires, fire, fire_below, fire_all}
 use Rattle.scx_sched_machine.specs.Put.{enters, enqueue_choice, enters_builtin, comes_in, put}
 use Rattle.scx_sched_machine.specs.Filling.{fill}
 use Rattle.scx_sched_machine.specs.Parking.{park, park_front, throttled_front, park_then, park_fronts, clear, in_reach, supply, let_go_one, let_go_from, let_all_go}
-use Rattle.scx_sched_machine.specs.Cycle.{has_local, keeps_slice, supply_unless_kept, told_of, after_dispatch, asks_again, tries, stopping_called, after_stopping, after_running, put_back, leave, switched, started_if, start as begin, rest, swap, swap_or_rest, builtin_dispatch, builtin_fill, builtin_ask, builtin_cycle, start_or_cycle, picked, refilled, is_local, start_picked, start_picked_or_cycle, pick, pick_or_rest, keep_or_pick, conclude, give_up, ask, seek, look, cycling, cycle}
+use Rattle.scx_sched_machine.specs.Cycle.{has_local, keeps_slice, supply_unless_kept, told_of, dispatch_called, after_dispatch, asks_again, tries, stopping_called, after_stopping, after_running, put_back, leave, switched, started_if, start as begin, tells_idle, rest, swap, swap_or_rest, builtin_dispatch, builtin_fill, builtin_ask, builtin_cycle, start_or_cycle, picked, refilled, is_local, start_picked, start_picked_or_cycle, tells_busy, makes_way, pick, pick_or_rest, keep_or_pick, conclude, give_up, ask, seek, look, cycling, ends, falls_idle, notes_idle, idle_or_anew, becomes_idle, concluded, cycle}
 use Rattle.scx_sched_machine.specs.Rounds.{most_rounds, next_to_look, cut_off_if, look_past, look_from, round, round_then, rounds, with_rounds}
 use Rattle.scx_vm.specs.Programs.{VerifiedProgram}
-use Rattle.scx_sched_machine.specs.Events.{target, insert_or_put, woken, wake_target, comes_to, told_runnable, settle, chosen_by_default, chosen, ask_target, asks_target, select, from_waker, wake, told_of_sleep, falls_asleep, looks_after_sleep, leaves_cpu, sleep_from_cpu, sleep_from, sleep, throttle, ends_slices, expire, use_up, hears_tick, tick_heard, count_down, tick_idle, tick_of, tick, overdue, eject_if_stalled, clock, own_step, event_step}
+use Rattle.scx_sched_machine.specs.Events.{target, insert_or_put, woken, wake_target, comes_to, told_runnable, settle, chosen_by_default, chosen, ask_target, asks_target, select, from_waker, wake, told_of_sleep, falls_asleep, looks_after_sleep, leaves_cpu, leaves_queue, sleep_from_cpu, sleep_from_queue, sleep_from, sleep, throttle, ends_slices, expire, use_up, hears_tick, tick_heard, count_down, tick_idle, tick_of, tick, overdue, eject_if_stalled, watch, timers_and_watchdog, clock, restore_flag, change_flags, takes_weight, changes_weight, reweigh_running, reweigh_waiting, reweigh_off_cpu, reweigh_at, reweigh_by_linux, reweigh, own_step, event_step}
 use Rattle.scx_sched_machine.proofs.Choices.{keeps_if}
 use Rattle.scx_sched.proofs.Marks.{KeepsCycles, kept_switch, kept_cycling}
 use Rattle.scx_sched.specs.Sim.{SimState, stepped_if, refusal, after_event}
@@ -119,6 +124,9 @@ pub record IsKeptBySmallSteps (p : PolicyState) (I : WorldState → Type 0) : Ty
   pub at_hand : (w : WorldState) (t : ℕ) → I w → I (at_callback w callback.SelectCpu t 0)
   pub kicks : (w : WorldState) (c : ℕ) → I w → I (with_kick w c)
   pub unkicked : (w : WorldState) (c : ℕ) → I w → I (without_kick w c)
+  pub counted : (w : WorldState) (b : Bool) → I w → I (record w { call = record w.call { has_moved = b } })
+  pub unstarted : (w : WorldState) (n : ℕ) → I w → I (with_timer w n None)
+  pub weighed : (w : WorldState) (t x : ℕ) → I w → I (after_own_weight w t x)
 
 module _ (old : PolicyState) (I : WorldState → Type 0) (k : IsKeptBySmallSteps old I) where
   abbrev Kept : State → Type 0
@@ -165,12 +173,42 @@ module _ (old : PolicyState) (I : WorldState → Type 0) (k : IsKeptBySmallSteps
   unfolding supply_unless_kept
   walk_supply_unless_kept s c p h = keeps_if Leaves (keeps_slice s p) (stays s) (supply s c) h (walk_supply s c h)
 
+  -- a callback that Linux rules call more
+  walk_called : (s : State) (b : Callback) (a : Args) (t c : ℕ) → is_allowed CreateDsq b ≡ false → Kept s → Leaves (call_by_linux s b a t c)
+  unfolding call_by_linux
+  walk_called s b a t c barred h = keeps_if Leaves (is_by_linux s && is_some (program_of s.policy b)) (call_back s b a t c) (stays s) (k.called_back s b a t c barred h) h
+
+  -- the policy hears that a task left its custody
+  walk_dequeued : (s : State) (t c flags : ℕ) → Kept s → Leaves (tells_dequeued s t c flags)
+  unfolding tells_dequeued
+  walk_dequeued s t c flags h = walk_called s callback.Dequeue (task_and_number t flags) t c refl h
+
+  walk_tells_of : (o : Option ℕ) (s : State) (c : ℕ) → Kept s → Leaves (tells_of o s c)
+  walk_tells_of None s c h = h
+  walk_tells_of (Some t) s c h = walk_dequeued s t c 0 h
+
+  walk_tells_each : (ns : List Note) (s : State) (c : ℕ) → Kept s → Leaves (tells_each ns s c)
+  walk_tells_each [] s c h = h
+  walk_tells_each (x ∷ ns) s c h = walk_tells_each ns (tells_of (leaver x.what) s c).state c (walk_tells_of (leaver x.what) s c h)
+
+  walk_moved_as : (b : Bool) (s : State) → Kept s → Kept (moved_as b s)
+  walk_moved_as b s h = keeps_if Kept (is_ejected s) s (with_world s (record s.world { call = record s.world.call { has_moved = b } })) h (h.0, k.counted s.world b h.1)
+
+  walk_tells_left : (s : State) (c : ℕ) (ns : List Note) → Kept s → Leaves (tells_left s c ns)
+  unfolding tells_left
+  walk_tells_left s c ns h =
+      let r = tells_each ns s c in
+      keeps_if Leaves (hears_dequeue s) (record r { state = moved_as s.world.call.has_moved r.state }) (stays s) (walk_moved_as s.world.call.has_moved r.state (walk_tells_each ns s c h)) h
+
+  walk_dispatch_called : (s : State) (c : ℕ) (p : Option ℕ) → Kept s → Leaves (dispatch_called s c p)
+  unfolding dispatch_called
+  walk_dispatch_called s c p h =
+      let a = cpu_and_task c (told_of s p) in
+      walk_tells_left (call_back s callback.Dispatch a 0 c).state c (noted_by s callback.Dispatch a 0 c) (k.called_back s callback.Dispatch a 0 c refl h)
+
   walk_dispatched : (s : State) (c : ℕ) (p : Option ℕ) → Kept s → Leaves (after_dispatch s c p)
   unfolding after_dispatch
-  walk_dispatched s c p h =
-      let a = cpu_and_task c (told_of s p) in
-      let r = call_back s callback.Dispatch a 0 c in
-      walk_supply_unless_kept r.state c p (k.called_back s callback.Dispatch a 0 c refl h)
+  walk_dispatched s c p h = walk_supply_unless_kept (dispatch_called s c p).state c p (walk_dispatch_called s c p h)
 
   walk_tries : (j : ℕ) (s : State) (c : ℕ) (p : Option ℕ) → Kept s → Leaves (tries j s c p)
   unfolding tries
@@ -259,12 +297,27 @@ module _ (old : PolicyState) (I : WorldState → Type 0) (k : IsKeptBySmallSteps
   walk_picked None s c ran h = walk_begin_or_cycle s c ran h
   walk_picked (Some t) s c ran h = keeps_if Leaves (is_local s c t) (start_picked s c t) (start_or_cycle s c ran) (walk_start_picked s c t h) (walk_begin_or_cycle s c ran h)
 
+  -- the policy hears that a processor is idle, or idle no more
+  walk_tells_idle : (s : State) (c n : ℕ) → Kept s → Leaves (tells_idle s c n)
+  unfolding tells_idle
+  walk_tells_idle s c n h = walk_called s callback.UpdateIdle (two_numbers c n) 0 c refl h
+
+  walk_tells_busy : (s : State) (c : ℕ) (p : Option ℕ) (ran : Bool) → Kept s → Leaves (tells_busy s c p ran)
+  unfolding tells_busy
+  walk_tells_busy s c None false h = walk_tells_idle s c 0 h
+  walk_tells_busy s c None true h = h
+  walk_tells_busy s c (Some t) ran h = h
+
+  walk_makes_way : (s : State) (c : ℕ) (p : Option ℕ) (ran : Bool) → Kept s → Leaves (makes_way s c p ran)
+  unfolding makes_way
+  walk_makes_way s c p ran h = walk_leave (tells_busy s c p ran).state c p (walk_tells_busy s c p ran h)
+
   walk_pick : (s : State) (c : ℕ) (p : Option ℕ) (ran : Bool) → Kept s → Leaves (pick s c p ran)
   unfolding pick
   walk_pick s c p ran h =
       let o = picked s c in
       let u = refilled s o in
-      walk_picked o (leave u c p).state c ran (walk_leave u c p (h.0, k.kept s.world o h.1))
+      walk_picked o (makes_way u c p ran).state c ran (walk_makes_way u c p ran (h.0, k.kept s.world o h.1))
 
   walk_pick_or_rest : (s : State) (c : ℕ) (p : Option ℕ) (ran : Bool) → Kept s → Leaves (pick_or_rest s c p ran)
   unfolding pick_or_rest
@@ -299,21 +352,34 @@ module _ (old : PolicyState) (I : WorldState → Type 0) (k : IsKeptBySmallSteps
   unfolding look
   walk_look s c p ran h = keeps_if Leaves (is_ejected s) (builtin_cycle s c p ran) (seek s c p ran) (walk_builtin_cycle s c p ran h) (walk_seek s c p ran h)
 
+  walk_cycling : (s : State) (o : Option ℕ) → Kept s → Kept (cycling s o)
+  walk_cycling s o h = (h.0, kept_cycling I k.cycles s.world o h.1)
+
+  -- a processor that falls idle
+  walk_idle_or_anew : (s : State) (c : ℕ) → Kept s → Leaves (idle_or_anew s c)
+  unfolding idle_or_anew notes_idle
+  walk_idle_or_anew s c h =
+      let r = builtin_cycle (cycling s (Some c)) c None true in
+      keeps_if Leaves (is_ejected s) (ends r) (notes_idle s c) (walk_cycling r.state None (walk_builtin_cycle (cycling s (Some c)) c None true (walk_cycling s (Some c) h))) (walk_cycling s None h)
+
+  walk_becomes_idle : (s : State) (c : ℕ) → Kept s → Leaves (becomes_idle s c)
+  unfolding becomes_idle
+  walk_becomes_idle s c h =
+      let u = with_world s (out_of_cycle s.world) in
+      walk_idle_or_anew (tells_idle u c 1).state c (walk_tells_idle u c 1 (h.0, k.cycles s.world None s.world.claimed s.world.passing h.1))
+
+  walk_concluded : (s : State) (c : ℕ) (ran : Bool) → Kept s → Leaves (concluded s c ran)
+  unfolding concluded
+  walk_concluded s c ran h = keeps_if Leaves (falls_idle s c ran) (becomes_idle s c) (stays (cycling s None)) (walk_becomes_idle s c h) (walk_cycling s None h)
+
   walk_cycle : (s : State) (c : ℕ) (p : Option ℕ) (ran : Bool) → Kept s → Leaves (cycle s c p ran)
   unfolding cycle
-  walk_cycle s c p ran h =
-      let x = walk_look (cycling s (Some c)) c p ran (h.0, kept_cycling I k.cycles s.world (Some c) h.1) in
-      (x.0, kept_cycling I k.cycles (look (cycling s (Some c)) c p ran).state.world None x.1)
+  walk_cycle s c p ran h = walk_concluded (look (cycling s (Some c)) c p ran).state c ran (walk_look (cycling s (Some c)) c p ran (walk_cycling s (Some c) h))
 
   -- ---- events
 
   walk_kicked_if_idle : (s : State) (c : ℕ) → Kept s → Kept (kicked_if_idle s c)
   walk_kicked_if_idle s c h = keeps_if Kept (is_by_linux s && is_idle s.world c) (kicked s c) s (h.0, k.kicks s.world c h.1) h
-
-  -- a callback that Linux rules call more
-  walk_called : (s : State) (b : Callback) (a : Args) (t c : ℕ) → is_allowed CreateDsq b ≡ false → Kept s → Leaves (call_by_linux s b a t c)
-  unfolding call_by_linux
-  walk_called s b a t c barred h = keeps_if Leaves (is_by_linux s && is_some (program_of s.policy b)) (call_back s b a t c) (stays s) (k.called_back s b a t c barred h) h
 
   -- from which processor a task is woken
   walk_waker : (s : State) (o : Option ℕ) → Kept s → Kept (with_world s (with_waker s.world o))
@@ -423,8 +489,19 @@ module _ (old : PolicyState) (I : WorldState → Type 0) (k : IsKeptBySmallSteps
       let q = falls_asleep r.state t c in
       walk_looks_after_sleep q.state t c (walk_falls_asleep r.state t c (walk_leaves_cpu s c t 0 h))
 
+  walk_leaves_queue : (s : State) (t c flags : ℕ) → Kept s → Leaves (leaves_queue s t c flags)
+  unfolding leaves_queue
+  walk_leaves_queue s t c flags h =
+      let u = with_world s (after_leave s.world t) in
+      let x : Kept u = (h.0, k.left s.world t h.1) in
+      keeps_if Leaves (is_in_custody s.world t) (tells_dequeued u t c flags) (stays u) (walk_dequeued u t c flags x) x
+
+  walk_sleep_from_queue : (s : State) (t c : ℕ) → Kept s → Leaves (sleep_from_queue s t c)
+  unfolding sleep_from_queue
+  walk_sleep_from_queue s t c h = walk_falls_asleep (leaves_queue s t c 1).state t c (walk_leaves_queue s t c 1 h)
+
   walk_sleep_from : (o : Option ℕ) (s : State) (t : ℕ) → Kept s → Leaves (sleep_from o s t)
-  walk_sleep_from None s t h = walk_falls_asleep (with_world s (after_leave s.world t)) t (task_at s.world t).prev_cpu (h.0, k.left s.world t h.1)
+  walk_sleep_from None s t h = walk_sleep_from_queue s t (task_at s.world t).prev_cpu h
   walk_sleep_from (Some c) s t h = walk_sleep_from_cpu s t c h
 
   walk_sleep : (s : State) (t : ℕ) → Kept s → Leaves (sleep s t)
@@ -491,12 +568,84 @@ module _ (old : PolicyState) (I : WorldState → Type 0) (k : IsKeptBySmallSteps
   walk_stalled None s h = h
   walk_stalled (Some t) s h = k.ejected s _ h
 
+  -- timers that are due
+  walk_hand : (s : State) (o : Option ℕ) → Kept s → Kept (with_world s (with_timer_at_hand s.world o))
+  walk_hand s o h = (h.0, k.cycles s.world s.world.cycling s.world.claimed (record s.world.passing { timer = o }) h.1)
+
+  walk_fires : (o : Option Alarm) (s : State) (n : ℕ) → Kept s → Leaves (fires o s n)
+  walk_fires None s n h = h
+  walk_fires (Some a) s n h =
+      let u = with_world s (with_timer s.world n None) in
+      let r = call_by_linux (with_world s (after_fire s.world n)) callback.Timer (one_number n) 0 a.cpu in
+      walk_hand r.state None (walk_called (with_world s (after_fire s.world n)) callback.Timer (one_number n) 0 a.cpu refl (walk_hand u (Some n) (h.0, k.unstarted s.world n h.1)))
+
+  walk_fire : (s : State) (n : ℕ) → Kept s → Leaves (fire s n)
+  unfolding fire
+  walk_fire s n h = walk_fires (due s n) s n h
+
+  walk_fire_below : (j : ℕ) (s : State) → Kept s → Leaves (fire_below j s)
+  walk_fire_below zero s h = h
+  walk_fire_below (suc j) s h = walk_fire (fire_below j s).state j (walk_fire_below j s h)
+
+  walk_fire_all : (s : State) → Kept s → Leaves (fire_all s)
+  unfolding fire_all
+  walk_fire_all s h = walk_fire_below (length s.world.timers) s h
+
+  walk_timers : (s : State) → Kept s → Leaves (timers_and_watchdog s)
+  unfolding timers_and_watchdog watch
+  walk_timers s h = let r = fire_all s in walk_stalled (overdue r.state) r.state (walk_fire_all s h)
+
   walk_clock : (s : State) → Kept s → Leaves (clock s)
   unfolding clock let_all_go
   walk_clock s h =
       let u = with_world s (begun_periods (later s.world)) in
-      let r = let_all_go u in
-      walk_stalled (overdue r.state) r.state (walk_let_go_from (len_of u.world.queues parked_queue) u (front_of u.world.queues parked_queue) (h.0, k.begun s.world h.1))
+      walk_timers (let_all_go u).state (walk_let_go_from (len_of u.world.queues parked_queue) u (front_of u.world.queues parked_queue) (h.0, k.begun s.world h.1))
+
+  -- a task's own weight
+  walk_takes_weight : (s : State) (t c x : ℕ) → Kept s → Leaves (takes_weight s t c x)
+  unfolding takes_weight
+  walk_takes_weight s t c x h = walk_called (with_world s (after_own_weight s.world t x)) callback.SetWeight (task_and_number t x) t c refl (h.0, k.weighed s.world t x h.1)
+
+  walk_changes_weight : (s : State) (t c x : ℕ) → Kept s → Leaves (changes_weight s t c x)
+  unfolding changes_weight
+  walk_changes_weight s t c x h =
+      let q = call_by_linux s callback.Quiescent (task_and_number t change_flags) t c in
+      let u = takes_weight q.state t c x in
+      walk_called u.state callback.Runnable (task_and_number t restore_flag) t c refl
+      (walk_takes_weight q.state t c x (walk_called s callback.Quiescent (task_and_number t change_flags) t c refl h))
+
+  walk_reweigh_running : (s : State) (t c x : ℕ) → Kept s → Leaves (reweigh_running s t c x)
+  unfolding reweigh_running
+  walk_reweigh_running s t c x h =
+      let a = call_by_linux s callback.Stopping (task_and_number t 0) t c in
+      let b = changes_weight a.state t c x in
+      walk_called b.state callback.Running (one_task t) t c refl
+      (walk_changes_weight a.state t c x (walk_called s callback.Stopping (task_and_number t 0) t c refl h))
+
+  walk_reweigh_waiting : (s : State) (t c x : ℕ) → Kept s → Leaves (reweigh_waiting s t c x)
+  unfolding reweigh_waiting
+  walk_reweigh_waiting s t c x h =
+      let a = leaves_queue s t c change_flags in
+      let b = changes_weight a.state t c x in
+      k.puts b.state t c 0 (walk_changes_weight a.state t c x (walk_leaves_queue s t c change_flags h))
+
+  walk_reweigh_off_cpu : (s : State) (t c x : ℕ) → Kept s → Leaves (reweigh_off_cpu s t c x)
+  unfolding reweigh_off_cpu
+  walk_reweigh_off_cpu s t c x h = keeps_if Leaves (waits s.world t) (reweigh_waiting s t c x) (takes_weight s t c x) (walk_reweigh_waiting s t c x h) (walk_takes_weight s t c x h)
+
+  walk_reweigh_at : (o : Option ℕ) (s : State) (t x : ℕ) → Kept s → Leaves (reweigh_at o s t x)
+  walk_reweigh_at None s t x h = walk_reweigh_off_cpu s t (task_at s.world t).prev_cpu x h
+  walk_reweigh_at (Some c) s t x h = walk_reweigh_running s t c x h
+
+  walk_reweigh_by_linux : (s : State) (t x : ℕ) → Kept s → Leaves (reweigh_by_linux s t x)
+  unfolding reweigh_by_linux
+  walk_reweigh_by_linux s t x h =
+      let u = with_world s (with_waker s.world (Some 0)) in
+      walk_waker (reweigh_at (cpu_of s.world t) u t x).state None (walk_reweigh_at (cpu_of s.world t) u t x (walk_waker s (Some 0) h))
+
+  walk_reweigh : (s : State) (t x : ℕ) → Kept s → Leaves (reweigh s t x)
+  unfolding reweigh
+  walk_reweigh s t x h = keeps_if Leaves (is_by_linux s) (reweigh_by_linux s t x) (stays (with_world s (after_own_weight s.world t x))) (walk_reweigh_by_linux s t x h) (h.0, k.weighed s.world t x h.1)
 
   walk_own : (s : State) (e : Event) → Kept s → Leaves (own_step s e)
   walk_own s (Wake t) h = walk_wake s t h
@@ -504,6 +653,7 @@ module _ (old : PolicyState) (I : WorldState → Type 0) (k : IsKeptBySmallSteps
   walk_own s (Tick c) h = walk_tick s c h
   walk_own s Clock h = walk_clock s h
   walk_own s (SetWeight g x) h = (h.0, k.reweighed s.world g x h.1)
+  walk_own s (SetTaskWeight t x) h = walk_reweigh s t x h
 
   -- ---- rounds
 

@@ -6,27 +6,31 @@ use Rattle.scx_isa_semantics.specs.declared.callbacks.Callback.TheVariants as ca
 use Rattle.scx_vm.specs.Programs.{VerifiedProgram}
 use Rattle.scx_sched_world.specs.declared.call.Insert.{Insert}
 use Rattle.scx_sched_world.specs.declared.eject.Eject.TheVariants as cause
+use Rattle.scx_sched_world.specs.declared.timers.Alarm.{Alarm}
 use Rattle.scx_sched_world.specs.declared.notes.What.TheVariants as note
+use Rattle.scx_weights.specs.Refusals.{max_weight, is_outside}
 use Rattle.scx_sched_world.specs.Ids.{parked_queue}
-use Rattle.scx_sched_world.specs.World.{WorldState, with_switch, with_kick, with_slept, with_waker, task_at, is_runnable, is_throttled, running, cpu_of, is_idle, choice, after_claim, at_callback, note_now}
-use Rattle.scx_sched_world.specs.Tasks.{for_cpu, to_local, homed, after_wake, after_sleep, after_leave, after_stop, let_go, after_tick, used_ms, later, begun_periods, after_reweigh}
-use Rattle.scx_sched_world.specs.Helpers.{with_insert}
+use Rattle.scx_sched_world.specs.World.{WorldState, with_switch, with_kick, with_slept, with_waker, with_timer_at_hand, task_at, is_runnable, is_throttled, waits, running, cpu_of, is_idle, choice, after_claim, at_callback, note_now}
+use Rattle.scx_sched_world.specs.Tasks.{for_cpu, to_local, homed, after_wake, after_sleep, after_leave, after_stop, let_go, after_tick, used_ms, later, begun_periods, after_reweigh, after_own_weight}
+use Rattle.scx_sched_world.specs.Helpers.{with_insert, alarm_at, due_now, after_fire}
 use Rattle.scx_sched_machine.specs.declared.events.Event.{Event}
-use Rattle.scx_sched_machine.specs.declared.events.Event.TheVariants.{Wake, Sleep, Tick, Clock, SetWeight}
-use Rattle.scx_sched_machine.specs.declared.events.Refused.TheVariants.{AlreadyRunnable, NotRunnable, UnknownTask}
+use Rattle.scx_sched_machine.specs.declared.events.Event.TheVariants.{Wake, Sleep, Tick, Clock, SetWeight, SetTaskWeight}
+use Rattle.scx_sched_machine.specs.declared.events.Refused.TheVariants.{AlreadyRunnable, NotRunnable, UnknownTask, BadWeight}
 use Rattle.scx_sched_machine.specs.Policy.{PolicyState, program_of}
 use Rattle.scx_sched_machine.specs.Steps.{State, Stepped, with_world, is_ejected, is_by_linux, kicked_if_idle, stays, one_after_other}
-use Rattle.scx_sched_machine.specs.Callbacks.{acting, call_back, call_by_linux, answered_by, one_task, task_cpu_and_0, task_and_number}
+use Rattle.scx_sched_machine.specs.Callbacks.{acting, call_back, call_by_linux, answered_by, one_number, one_task, task_cpu_and_0, task_and_number}
+use Rattle.scx_sched_machine.specs.Custody.{is_in_custody, tells_dequeued}
+use Rattle.scx_sched_machine.specs.Firing.{due, fired, fires, fire, fire_below, fire_all}
 use Rattle.scx_sched_machine.specs.Put.{put}
 use Rattle.scx_sched_machine.specs.Parking.{park, let_go_one, let_go_from, let_all_go}
 use Rattle.scx_sched_machine.specs.Cycle.{after_stopping, cycle}
-use Rattle.scx_sched_machine.specs.Events.{refusal, answered_cpu, target, insert_or_put, woken, wake_target, comes_to, while_in_force, told_runnable, settle, inserted_by_choice, chosen_by_default, chosen, ask_target, asks_target, select, from_waker, wake, told_of_sleep, falls_asleep, looks_after_sleep, leaves_cpu, sleep_from_cpu, sleep_from, sleep, throttle, ends_slices, expire, use_up, hears_tick, tick_heard, count_down, tick_idle, tick_of, tick, overdue, eject_if_stalled, clock, own_step, event_step}
+use Rattle.scx_sched_machine.specs.Events.{refusal, answered_cpu, target, insert_or_put, woken, wake_target, comes_to, while_in_force, told_runnable, settle, inserted_by_choice, chosen_by_default, chosen, ask_target, asks_target, select, from_waker, wake, told_of_sleep, falls_asleep, looks_after_sleep, leaves_cpu, leaves_queue, sleep_from_cpu, sleep_from_queue, sleep_from, sleep, throttle, ends_slices, expire, use_up, hears_tick, tick_heard, count_down, tick_idle, tick_of, tick, overdue, eject_if_stalled, watch, timers_and_watchdog, clock, restore_flag, change_flags, takes_weight, changes_weight, reweigh_running, reweigh_waiting, reweigh_off_cpu, reweigh_at, reweigh_by_linux, reweigh, own_step, event_step}
 use Rattle.scx_explore_findings.specs.Hidden.{Hidden, hide}
-use Rattle.scx_explore_findings.specs.HiddenStates.{hide_state, hide_step, once_later, late_in}
+use Rattle.scx_explore_findings.specs.HiddenStates.{hide_state, once_let_go, once_later, late_in}
 use Rattle.scx_explore_findings.specs.Unread.{IsUnread}
-use Rattle.scx_explore_findings.proofs.Worlds.{Hides, plain, both, by_linux, read, known, throttled_same, chosen_same, choice_same, hides_homed, hides_stop, hides_begin_switch, hides_waker, hides_claim, overdue_same, hides_wake, hides_sleep, hides_let_go, hides_tick, hides_used, hides_reweigh}
+use Rattle.scx_explore_findings.proofs.Worlds.{Hides, plain, both, by_linux, read, known, throttled_same, chosen_same, choice_same, hides_homed, hides_stop, hides_begin_switch, hides_waker, hides_claim, overdue_same, hides_wake, hides_sleep, hides_let_go, hides_tick, hides_used, hides_reweigh, hides_own_weight}
 use Rattle.scx_explore_findings.proofs.Steps.{Passes, On, from, in_world, Turns, after_turn, turns_world, turned, turns_if, chain, noted, choose, single, rests, passes_eject, answered_same, passes_call_back, passes_call_by_linux, passes_enters, passes_put, passes_park}
-use Rattle.scx_explore_findings.proofs.Cycles.{passes_stopping, passes_cycle, passes_with_rounds}
+use Rattle.scx_explore_findings.proofs.Cycles.{passes_dequeued, passes_stopping, passes_cycle, passes_with_rounds}
 
 -- an event of one of two such states is refused for the same cause in the other one
 pub refusal_same : (h : Hidden) (s : State) (e : Event) → refusal s e ≡ refusal (hide_state h s) e
@@ -35,6 +39,7 @@ refusal_same h s (Sleep t) = ap (λ (b : Bool). cond b (cond (is_runnable s.worl
 refusal_same h s (Tick c) = refl
 refusal_same h s Clock = refl
 refusal_same h s (SetWeight g x) = refl
+refusal_same h s (SetTaskWeight t x) = ap (λ (b : Bool). cond b (cond (is_outside max_weight x) (Some BadWeight) None) (Some UnknownTask)) (known h s.world t)
 
 module _ (h : Hidden) (p : PolicyState) (unread : (b : Callback) → IsUnread h (program_of p b)) where
   -- ---- a task wakes
@@ -193,15 +198,28 @@ module _ (h : Hidden) (p : PolicyState) (unread : (b : Callback) → IsUnread h 
       chain h p (leaves_cpu s c t 0) (leaves_cpu (hide_state h s) c t 0) f (passes_leaves_cpu c t 0 s is)
       (λ x there. chain h p (falls_asleep x t c) (falls_asleep (hide_state h x) t c) (λ y. looks_after_sleep y t c) (passes_falls_asleep t c x there) (passes_looks_after_sleep t c))
 
+  -- the task leaves its queue
+  passes_leaves_queue : (t c flags : ℕ) → On h p (λ s. leaves_queue s t c flags)
+  unfolding leaves_queue
+  passes_leaves_queue t c flags s is =
+      let v = after_leave s.world t in
+      let w = after_leave (hide h s.world) t in
+      choose h p (is_in_custody s.world t) (is_in_custody s.world t) (tells_dequeued (with_world s v) t c flags) (tells_dequeued (with_world (hide_state h s) w) t c flags) (stays (with_world s v)) (stays (with_world (hide_state h s) w)) refl
+      (in_world h p (λ r. tells_dequeued r t c flags) (passes_dequeued h p unread t c flags) s v w (plain h v) is) (single h p s v w [] [] (plain h v) refl is)
+
   -- from its queue
   abbrev off_queue : ℕ → State → ℕ → Stepped
-  off_queue t s c = falls_asleep (with_world s (after_leave s.world t)) t c
+  off_queue t s c = sleep_from_queue s t c
+
+  passes_off_queue : (t c : ℕ) → On h p (λ s. off_queue t s c)
+  unfolding sleep_from_queue
+  passes_off_queue t c s is = chain h p (leaves_queue s t c 1) (leaves_queue (hide_state h s) t c 1) (λ y. falls_asleep y t c) (passes_leaves_queue t c 1 s is) (passes_falls_asleep t c)
 
   passes_sleep_from : (o : Option ℕ) (t : ℕ) → On h p (λ s. sleep_from o s t)
   passes_sleep_from None t s is =
       let c = (task_at s.world t).prev_cpu in
       subst (λ (d : ℕ). Passes h p (off_queue t s c) (off_queue t (hide_state h s) d)) (read h (λ x. x.prev_cpu) (λ x. refl) s.world t)
-      (in_world h p (λ r. falls_asleep r t c) (passes_falls_asleep t c) s (after_leave s.world t) (after_leave (hide h s.world) t) (plain h (after_leave s.world t)) is)
+      (passes_off_queue t c s is)
   passes_sleep_from (Some c) t s is = passes_sleep_from_cpu t c s is
 
   passes_sleep : (t : ℕ) → On h p (λ s. sleep s t)
@@ -303,8 +321,46 @@ module _ (h : Hidden) (p : PolicyState) (unread : (b : Callback) → IsUnread h 
   passes_let_all_go s is = passes_let_go_from (len_of s.world.queues parked_queue) (front_of s.world.queues parked_queue) s is
 
   -- the clock has grown, and who may run again was let go
+  passes_once_let_go : On h p once_let_go
+  passes_once_let_go s is = passes_let_all_go (with_world s (begun_periods (later s.world))) is
+
+  -- timers that are due
+  turns_fired : Turns h p fired
+  turns_fired = turns_world h p (λ w. with_timer_at_hand w None) (λ w. plain h (with_timer_at_hand w None))
+
+  passes_fires : (o : Option Alarm) (n : ℕ) → On h p (λ s. fires o s n)
+  passes_fires None n s is = rests h p s is
+  passes_fires (Some a) n s is =
+      let v = after_fire s.world n in
+      let w = after_fire (hide h s.world) n in
+      turned h p fired turns_fired (call_by_linux (with_world s v) callback.Timer (one_number n) 0 a.cpu) (call_by_linux (with_world (hide_state h s) w) callback.Timer (one_number n) 0 a.cpu)
+      (in_world h p (λ r. call_by_linux r callback.Timer (one_number n) 0 a.cpu) (passes_call_by_linux h p unread callback.Timer (one_number n) 0 a.cpu) s v w (plain h v) is)
+
+  due_now_same : (w : WorldState) (o : Option Alarm) → due_now w o ≡ due_now (hide h w) o
+  due_now_same w None = refl
+  due_now_same w (Some a) = refl
+
+  due_same : (s : State) (n : ℕ) → due s n ≡ due (hide_state h s) n
+  unfolding due
+  due_same s n = ap (λ (o : Option Alarm). cond (is_by_linux s) o None) (due_now_same s.world (alarm_at s.world n))
+
+  passes_fire : (n : ℕ) → On h p (λ s. fire s n)
+  unfolding fire
+  passes_fire n s is = subst (λ (o : Option Alarm). Passes h p (fires (due s n) s n) (fires o (hide_state h s) n)) (due_same s n) (passes_fires (due s n) n s is)
+
+  passes_fire_below : (m : ℕ) → On h p (λ s. fire_below m s)
+  passes_fire_below zero s is = rests h p s is
+  passes_fire_below (suc m) s is = chain h p (fire_below m s) (fire_below m (hide_state h s)) (λ y. fire y m) (passes_fire_below m s is) (passes_fire m)
+
+  passes_fire_all : On h p fire_all
+  unfolding fire_all
+  passes_fire_all s is = passes_fire_below (length s.world.timers) s is
+
+  -- and timers that are due have run
   pub passes_once_later : On h p once_later
-  passes_once_later s is = passes_let_all_go (with_world s (begun_periods (later s.world))) is
+  passes_once_later s is =
+      let x = passes_once_let_go s is in
+      from h p fire_all passes_fire_all (once_let_go s).state (once_let_go (hide_state h s)).state (ap (λ (y : Stepped). y.state) x.0) x.1
 
   overdue_is : h.waits ≡ false → (s : State) → overdue s ≡ overdue (hide_state h s)
   overdue_is e s = ap (λ (o : Option ℕ). cond (is_ejected s) None o) (overdue_same h e s.world s.policy.timeout_ms)
@@ -313,19 +369,108 @@ module _ (h : Hidden) (p : PolicyState) (unread : (b : Callback) → IsUnread h 
   passes_stalled None s is = rests h p s is
   passes_stalled (Some t) s is = passes_eject h p (cause.Stall t s.world.clock) s is
 
+  -- timers run, and then the policy is ejected for that task
+  abbrev stalls : Option ℕ → State → Stepped
+  stalls o s = let r = fire_all s in one_after_other r (eject_if_stalled o r.state)
+
+  passes_stalls : (o : Option ℕ) → On h p (stalls o)
+  passes_stalls o s is = chain h p (fire_all s) (fire_all (hide_state h s)) (eject_if_stalled o) (passes_fire_all s is) (passes_stalled o)
+
   -- of two states that are the same, where in both the same task or none waits too long
   passes_clock : (s t : State) → hide_state h s ≡ hide_state h t → s.policy ≡ p → late_in s Clock ≡ late_in t Clock → Passes h p (clock s) (clock t)
-  unfolding clock
+  unfolding clock timers_and_watchdog watch
   passes_clock s t same is late =
-      let r = once_later s in
-      let q = once_later t in
-      subst (λ (o : Option ℕ). Passes h p (one_after_other r (eject_if_stalled (late_in s Clock) r.state)) (one_after_other q (eject_if_stalled o q.state))) late
-      (chain h p r q (eject_if_stalled (late_in s Clock)) (from h p once_later passes_once_later s t same is) (passes_stalled (late_in s Clock)))
+      let r = once_let_go s in
+      let q = once_let_go t in
+      subst (λ (o : Option ℕ). Passes h p (one_after_other r (stalls (late_in s Clock) r.state)) (one_after_other q (stalls o q.state))) late
+      (chain h p r q (stalls (late_in s Clock)) (from h p once_let_go passes_once_let_go s t same is) (passes_stalls (late_in s Clock)))
 
   -- ---- any event
 
   passes_weight : (g x : ℕ) → On h p (λ s. own_step s (SetWeight g x))
   passes_weight g x s is = single h p s (after_reweigh s.world g x) (after_reweigh (hide h s.world) g x) _ _ (hides_reweigh h g x s.world) refl is
+
+  -- ---- a task's own weight
+
+  passes_takes_weight : (t c x : ℕ) → On h p (λ s. takes_weight s t c x)
+  unfolding takes_weight
+  passes_takes_weight t c x s is =
+      let a = task_and_number t x in
+      in_world h p (λ r. call_by_linux r callback.SetWeight a t c) (passes_call_by_linux h p unread callback.SetWeight a t c) s (after_own_weight s.world t x) (after_own_weight (hide h s.world) t x) (hides_own_weight h t x s.world) is
+
+  -- the task is told of as runnable again
+  abbrev weighed_again : ℕ → ℕ → ℕ → State → Stepped
+  weighed_again t c x s =
+      let w = takes_weight s t c x in
+      let r = call_by_linux w.state callback.Runnable (task_and_number t restore_flag) t c in
+      one_after_other w r
+
+  passes_weighed_again : (t c x : ℕ) → On h p (weighed_again t c x)
+  passes_weighed_again t c x s is =
+      let a = task_and_number t restore_flag in
+      chain h p (takes_weight s t c x) (takes_weight (hide_state h s) t c x) (λ y. call_by_linux y callback.Runnable a t c) (passes_takes_weight t c x s is) (passes_call_by_linux h p unread callback.Runnable a t c)
+
+  passes_changes_weight : (t c x : ℕ) → On h p (λ s. changes_weight s t c x)
+  unfolding changes_weight
+  passes_changes_weight t c x s is =
+      let a = task_and_number t change_flags in
+      chain h p (call_by_linux s callback.Quiescent a t c) (call_by_linux (hide_state h s) callback.Quiescent a t c) (weighed_again t c x) (passes_call_by_linux h p unread callback.Quiescent a t c s is) (passes_weighed_again t c x)
+
+  -- a task that runs, and runs on
+  abbrev runs_on : ℕ → ℕ → ℕ → State → Stepped
+  runs_on t c x s =
+      let b = changes_weight s t c x in
+      let r = call_by_linux b.state callback.Running (one_task t) t c in
+      one_after_other b r
+
+  passes_runs_on : (t c x : ℕ) → On h p (runs_on t c x)
+  passes_runs_on t c x s is =
+      chain h p (changes_weight s t c x) (changes_weight (hide_state h s) t c x) (λ y. call_by_linux y callback.Running (one_task t) t c) (passes_changes_weight t c x s is) (passes_call_by_linux h p unread callback.Running (one_task t) t c)
+
+  passes_reweigh_running : (t c x : ℕ) → On h p (λ s. reweigh_running s t c x)
+  unfolding reweigh_running
+  passes_reweigh_running t c x s is =
+      let a = task_and_number t 0 in
+      chain h p (call_by_linux s callback.Stopping a t c) (call_by_linux (hide_state h s) callback.Stopping a t c) (runs_on t c x) (passes_call_by_linux h p unread callback.Stopping a t c s is) (passes_runs_on t c x)
+
+  -- a task that waits, and is put again
+  abbrev waits_on : ℕ → ℕ → ℕ → State → Stepped
+  waits_on t c x s = let b = changes_weight s t c x in one_after_other b (put b.state t c 0)
+
+  passes_waits_on : (t c x : ℕ) → On h p (waits_on t c x)
+  passes_waits_on t c x s is = chain h p (changes_weight s t c x) (changes_weight (hide_state h s) t c x) (λ y. put y t c 0) (passes_changes_weight t c x s is) (passes_put h p unread t c 0)
+
+  passes_reweigh_waiting : (t c x : ℕ) → On h p (λ s. reweigh_waiting s t c x)
+  unfolding reweigh_waiting
+  passes_reweigh_waiting t c x s is = chain h p (leaves_queue s t c change_flags) (leaves_queue (hide_state h s) t c change_flags) (waits_on t c x) (passes_leaves_queue t c change_flags s is) (passes_waits_on t c x)
+
+  passes_reweigh_off_cpu : (t c x : ℕ) → On h p (λ s. reweigh_off_cpu s t c x)
+  unfolding reweigh_off_cpu
+  passes_reweigh_off_cpu t c x s is =
+      choose h p (waits s.world t) (waits s.world t) (reweigh_waiting s t c x) (reweigh_waiting (hide_state h s) t c x) (takes_weight s t c x) (takes_weight (hide_state h s) t c x) refl (passes_reweigh_waiting t c x s is) (passes_takes_weight t c x s is)
+
+  passes_reweigh_at : (o : Option ℕ) (t x : ℕ) → On h p (λ s. reweigh_at o s t x)
+  passes_reweigh_at None t x s is =
+      let c = (task_at s.world t).prev_cpu in
+      subst (λ (d : ℕ). Passes h p (reweigh_off_cpu s t c x) (reweigh_off_cpu (hide_state h s) t d x)) (read h (λ y. y.prev_cpu) (λ y. refl) s.world t) (passes_reweigh_off_cpu t c x s is)
+  passes_reweigh_at (Some c) t x s is = passes_reweigh_running t c x s is
+
+  passes_reweigh_by_linux : (t x : ℕ) → On h p (λ s. reweigh_by_linux s t x)
+  unfolding reweigh_by_linux
+  passes_reweigh_by_linux t x s is =
+      let o = cpu_of s.world t in
+      let v = with_waker s.world (Some 0) in
+      let w = with_waker (hide h s.world) (Some 0) in
+      turned h p woken turns_woken (reweigh_at o (with_world s v) t x) (reweigh_at o (with_world (hide_state h s) w) t x) (in_world h p (λ r. reweigh_at o r t x) (passes_reweigh_at o t x) s v w (plain h v) is)
+
+  passes_reweigh : (t x : ℕ) → On h p (λ s. reweigh s t x)
+  unfolding reweigh
+  passes_reweigh t x s is =
+      choose h p (is_by_linux s) (is_by_linux s) (reweigh_by_linux s t x) (reweigh_by_linux (hide_state h s) t x) (stays (with_world s (after_own_weight s.world t x))) (stays (with_world (hide_state h s) (after_own_weight (hide h s.world) t x))) refl
+      (passes_reweigh_by_linux t x s is) (single h p s (after_own_weight s.world t x) (after_own_weight (hide h s.world) t x) [] [] (hides_own_weight h t x s.world) refl is)
+
+  passes_weighed : (t x : ℕ) → On h p (λ s. own_step s (SetTaskWeight t x))
+  passes_weighed t x s is = noted h p (note_now s.world (note.TaskWeight t x) ∷ []) (reweigh s t x) (reweigh (hide_state h s) t x) (passes_reweigh t x s is)
 
   passes_own : (e : Event) (s t : State) → hide_state h s ≡ hide_state h t → s.policy ≡ p → late_in s e ≡ late_in t e → Passes h p (own_step s e) (own_step t e)
   passes_own (Wake u) s t same is late = from h p (λ r. wake r u) (passes_wake u) s t same is
@@ -333,6 +478,7 @@ module _ (h : Hidden) (p : PolicyState) (unread : (b : Callback) → IsUnread h 
   passes_own (Tick c) s t same is late = from h p (λ r. tick r c) (passes_tick c) s t same is
   passes_own Clock s t same is late = passes_clock s t same is late
   passes_own (SetWeight g x) s t same is late = from h p (λ r. own_step r (SetWeight g x)) (passes_weight g x) s t same is
+  passes_own (SetTaskWeight u x) s t same is late = from h p (λ r. own_step r (SetTaskWeight u x)) (passes_weighed u x) s t same is
 
   -- in two states that are the same an event comes to the same, where the same task or none waits too long in both
   pub passes_event : (e : Event) (s t : State) → hide_state h s ≡ hide_state h t → s.policy ≡ p → late_in s e ≡ late_in t e → Passes h p (event_step s e) (event_step t e)
@@ -350,3 +496,4 @@ module _ (h : Hidden) (p : PolicyState) (unread : (b : Callback) → IsUnread h 
   late_same shown (Tick c) s t same is = refl
   late_same shown Clock s t same is = late_shown shown s t same is
   late_same shown (SetWeight g x) s t same is = refl
+  late_same shown (SetTaskWeight u x) s t same is = refl

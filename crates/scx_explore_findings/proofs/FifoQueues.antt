@@ -18,8 +18,8 @@ use Rattle.scx_isa_semantics.specs.Effects.{Query, Call, Load, Store}
 use Rattle.scx_isa_semantics.specs.Elements.{Maps}
 use Rattle.scx_isa_semantics.specs.Endings.{run_of}
 use Rattle.scx_isa_semantics.specs.Machine.{start}
-use Rattle.scx_weights.specs.Hierarchy.{with_weight}
-use Rattle.scx_weights.specs.Refusals.{weight_fault}
+use Rattle.scx_weights.specs.Hierarchy.{with_weight, with_own_weight}
+use Rattle.scx_weights.specs.Refusals.{weight_fault, own_weight_fault}
 use Rattle.scx_vm.specs.Programs.{VerifiedProgram}
 use Rattle.scx_vm.specs.Arguments.{program_arguments, argument_of}
 use Rattle.scx_vm.specs.declared.arguments.Arg.{Arg}
@@ -31,7 +31,7 @@ use Rattle.scx_sched_world.specs.declared.eject.Eject.{Eject}
 use Rattle.scx_sched_world.specs.declared.faults.Fault.{Fault}
 use Rattle.scx_sched_world.specs.Ids.{parked_queue, local_on}
 use Rattle.scx_sched_world.specs.World.{WorldState, with_queues, with_tree, is_by_linux, with_kick, at_callback, task_at, with_task, running, is_this, choice, after_claim}
-use Rattle.scx_sched_world.specs.Tasks.{with_since, with_slice, with_home, after_leave, homed, local_cpu, homed_at, after_local, task_after_insert, rank_by, after_preempt_of, after_preempt_at, after_preempt, after_enter, for_cpu, to_front, brought, started_at, after_run, after_keep, put_parked, after_take, after_sleep, used_ms, after_reweigh}
+use Rattle.scx_sched_world.specs.Tasks.{with_since, with_slice, with_home, after_leave, homed, local_cpu, homed_at, after_local, task_after_insert, rank_by, after_preempt_of, after_preempt_at, after_preempt, after_enter, for_cpu, to_front, brought, started_at, after_run, after_keep, put_parked, after_take, after_sleep, used_ms, after_reweigh, after_own_weight}
 use Rattle.scx_sched_world.specs.Helpers.{is_dispatch, with_insert, after_release, insert_or_fault, front_moved_to_local, helper_after, world_functions}
 use Rattle.scx_sched_machine.specs.Policy.{PolicyState, program_of}
 use Rattle.scx_sched_machine.specs.Steps.{State, Stepped}
@@ -162,6 +162,10 @@ order_used w t h = keeps_if IsInOrder (nat_lt t (length w.tasks)) _ w h h
 pub order_reweighed : (w : WorldState) (g x : ℕ) → IsInOrder w → IsInOrder (after_reweigh w g x)
 order_reweighed w g x h = keeps_if IsInOrder (is_none (weight_fault w.tree g x)) (with_tree w (with_weight w.tree g x)) w h h
 
+-- a task gets another weight of its own
+pub order_weighed : (w : WorldState) (t x : ℕ) → IsInOrder w → IsInOrder (after_own_weight w t x)
+order_weighed w t x h = keeps_if IsInOrder (is_none (own_weight_fault w.tree t x)) (with_tree w (with_own_weight w.tree t x)) w h h
+
 -- ---- choices
 
 order_claimed : (w : WorldState) (o : Option ℕ) → IsInOrder w → IsInOrder (after_claim w o)
@@ -208,6 +212,7 @@ helped w f a fine h = by_helper (λ (g : Helper). is_by_vtime (Some g) ≡ false
   claimed = λ o. order_claimed w o h;
   kicked = λ c. h;
   preempted = λ c. h;
+  timed = λ n o. h;
 }) f fine a
 
 -- a query that inserts nobody by a virtual time
@@ -335,6 +340,9 @@ module _ (p : PolicyState) (may : InsertInOrder p) where
     at_hand = λ w t h none. ((h none).0, tt);
     kicks = λ w c h. h;
     unkicked = λ w c h. h;
+    counted = λ w b h. h;
+    unstarted = λ w n h. h;
+    weighed = order_weighed;
   }
 
 key_is : (r : Rank) → IsFifo r → key_of r ≡ 0

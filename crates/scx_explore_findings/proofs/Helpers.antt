@@ -1,7 +1,7 @@
 -- One walk over the helpers, for what holds of each world that an allowed call may leave. And what a helper answers and
 -- makes of a world doesn't depend on what is hidden, nor does what is loaded of a field that isn't hidden, or stored to
 -- any.
-use Rattle.std.proofs.Common.{◌≡◌, ℕ, zero, suc, ◌-◌, ◌&&◌, ◌||◌, is_none, Bool, false, cond, nat_lt, nat_le, List, length, map, Option, Some, None, refl, sym, ap, ◌∙◌}
+use Rattle.std.proofs.Common.{◌≡◌, ℕ, zero, suc, ◌-◌, ◌&&◌, ◌||◌, is_none, Bool, false, cond, if◌then◌else◌, nat_lt, nat_le, List, length, map, Option, Some, None, refl, sym, ap, ◌∙◌}
 use Rattle.scx_dsq.specs.Laws.{one_if}
 use Rattle.scx_dsq.specs.Queues.{front_of}
 use Rattle.scx_dsq.specs.Calls.{after_create, after_pop}
@@ -10,7 +10,7 @@ use Rattle.scx_isa_semantics.specs.declared.callbacks.Callback.TheVariants as ca
 use Rattle.scx_isa_semantics.specs.declared.host_tables.Field.{Field}
 use Rattle.scx_isa_semantics.specs.declared.host_tables.Field.TheVariants.{Pid, Weight, Slice, DsqVtime, PrevCpu, Group, RunNs, Cpus}
 use Rattle.scx_isa_semantics.specs.declared.host_tables.Helper.{Helper}
-use Rattle.scx_isa_semantics.specs.declared.host_tables.Helper.TheVariants.{CreateDsq, DsqInsert, DsqInsertVtime, DsqMoveToLocal, SelectCpuDfl, CpuIdle, TaskByPid, DsqNrQueued, KickCpu, Exit, CpuCurr, DsqPeek, TaskRunning, TaskCpu, PickIdle, ClaimIdle}
+use Rattle.scx_isa_semantics.specs.declared.host_tables.Helper.TheVariants.{CreateDsq, DsqInsert, DsqInsertVtime, DsqMoveToLocal, SelectCpuDfl, CpuIdle, TaskByPid, DsqNrQueued, KickCpu, Exit, CpuCurr, DsqPeek, TaskRunning, TaskCpu, PickIdle, ClaimIdle, TimerStart, TimerCancel}
 use Rattle.scx_isa_semantics.specs.declared.values.Value.TheVariants.{Number}
 use Rattle.scx_isa_semantics.specs.Effects.{Query, Call, Load, Store}
 use Rattle.scx_vm.specs.declared.arguments.Arg.{Arg}
@@ -26,10 +26,11 @@ use Rattle.scx_dsq.specs.declared.entries.Rank.TheVariants.{Fifo, Front}
 use Rattle.scx_sched_world.specs.declared.notes.What.TheVariants as notes
 use Rattle.scx_sched_world.specs.World.{WorldState, with_queues, with_kick, with_preemption, is_by_linux, running, is_this, current_in, current, this_if, or_this, is_free, choice, after_claim, with_note}
 use Rattle.scx_sched_world.specs.declared.passing.Switch.{Switch}
+use Rattle.scx_sched_world.specs.declared.timers.Alarm.{Alarm}
 use Rattle.scx_weights.specs.Counting.{any_below}
 use Rattle.scx_weights.specs.Hierarchy.{own_weight}
 use Rattle.scx_sched_world.specs.Tasks.{after_leave, for_cpu}
-use Rattle.scx_sched_world.specs.Helpers.{with_fault, invalid_if, is_there, can_create, is_dispatch, may_insert_in, queue_fault, rank_fault, or_fault, has_preempt, has_head, arrival_rank, flags_fault, insert_fault, is_late, after_late, with_insert, with_move, after_release, insert_or_fault, after_insert, insert_answer, insert_of, insert_of_vtime, can_move, front_moved_to_local, choice_answer, after_choice, kick_of, kick_fault, kicked_or_fault, after_kick, after_exit, task_or_null, is_current_one, cpu_of_task, is_free_in, free_in_below, first_free_in, pick_fault, pick_answer_by, after_pick_by, after_pick, given_number, given_task, helper_answer, helper_after, field_of, stored_in, world_functions}
+use Rattle.scx_sched_world.specs.Helpers.{with_fault, invalid_if, is_there, can_create, is_dispatch, may_insert_in, queue_fault, rank_fault, or_fault, has_preempt, has_head, arrival_rank, flags_fault, insert_fault, is_late, after_late, with_insert, with_move, after_release, insert_or_fault, after_insert, insert_answer, insert_of, insert_of_vtime, can_move, front_moved_to_local, unless_fault, untracked_fault, ask_fault, fault_or, choice_answer, after_choice, kick_of, kick_fault, kicked_or_fault, after_kick, after_exit, task_or_null, is_current_one, cpu_of_task, is_free_in, free_in_below, first_free_in, pick_fault, pick_answer_by, after_pick_by, after_pick, timer_fault, with_timer, alarm_in, given_number, given_task, helper_answer, helper_after, field_of, stored_in, world_functions}
 use Rattle.scx_sched_machine.proofs.Choices.{keeps_if}
 use Rattle.scx_explore_findings.specs.Hidden.{Hidden, hide}
 use Rattle.scx_explore_findings.specs.Unread.{is_hidden}
@@ -40,7 +41,8 @@ use Rattle.scx_explore_findings.proofs.Worlds.{Hides, plain, read, weight_same, 
 -- ---- what a call may leave
 
 -- of what a helper leaves that may be called, the property holds: the world as it is, one with a fault or an exit, with a
--- queue created, with an insert kept, done at once or passed over, with a task moved, a processor claimed or kicked
+-- queue created, with an insert kept, done at once or passed over, with a task moved, a processor claimed or kicked, or
+-- a timer started or cancelled
 pub record HoldsAfter (may : Helper → Type 0) (P : WorldState → Type 0) (w : WorldState) : Type 0 where
   pub same : P w
   pub faulty : (f : Fault) → P (with_fault w f)
@@ -53,6 +55,7 @@ pub record HoldsAfter (may : Helper → Type 0) (P : WorldState → Type 0) (w :
   pub claimed : (o : Option ℕ) → P (after_claim w o)
   pub kicked : (c : ℕ) → P (with_kick w c)
   pub preempted : (c : ℕ) → P (with_preemption w c)
+  pub timed : (n : ℕ) (o : Option Alarm) → P (with_timer w n o)
 
 module _ (may : Helper → Type 0) (P : WorldState → Type 0) (w : WorldState) (h : HoldsAfter may P w) where
   tried : (o : Option Fault) (t : Option ℕ) (i : Insert) → P (insert_or_fault w None t i) → P (insert_or_fault w o t i)
@@ -70,9 +73,14 @@ module _ (may : Helper → Type 0) (P : WorldState → Type 0) (w : WorldState) 
   arrives : (n : ℕ) → IsFifo (arrival_rank n)
   arrives n = keeps_if IsFifo (has_preempt n || has_head n) Front Fifo tt tt
 
+  -- a fault, or what is done without one
+  or_done : (o : Option Fault) (v : WorldState) → P v → P (fault_or w o v)
+  or_done None v done = done
+  or_done (Some f) v done = h.faulty f
+
   chooses : (t : Option ℕ) → P (after_choice w t)
   chooses None = h.same
-  chooses (Some t) = h.claimed (choice w t)
+  chooses (Some t) = or_done (untracked_fault w) (after_claim w (choice w t)) (h.claimed (choice w t))
 
   kicks : (o : Option Fault) (c : ℕ) (k : Option Kick) → P (kicked_or_fault w o c k)
   kicks (Some f) c k = h.faulty f
@@ -91,15 +99,22 @@ module _ (may : Helper → Type 0) (P : WorldState → Type 0) (w : WorldState) 
   by_helper DsqInsert m a = inserts (given_task a 0) (insert_of w a) (given_number a 3) (h.inserted (given_task a 0) (insert_of w a) (arrives (given_number a 3)))
   by_helper DsqInsertVtime m a = inserts (given_task a 0) (insert_of_vtime w a) (given_number a 4) (h.by_vtime m (given_task a 0) (insert_of_vtime w a))
   by_helper DsqMoveToLocal m a = keeps_if P (can_move w (given_number a 0)) (front_moved_to_local w (front_of w.queues (given_number a 0)) (given_number a 0)) (with_fault w NoSuchQueue) (h.moved (front_of w.queues (given_number a 0)) (given_number a 0)) (h.faulty NoSuchQueue)
-  by_helper CpuIdle m a = keeps_if P (nat_lt (given_number a 0) (length w.cpus)) w (with_fault w NoSuchCpu) h.same (h.faulty NoSuchCpu)
+  by_helper CpuIdle m a = or_done (ask_fault w (given_number a 0)) w h.same
   by_helper DsqNrQueued m a = keeps_if P (is_there w (given_number a 0)) w (with_fault w NoSuchQueue) h.same (h.faulty NoSuchQueue)
   by_helper SelectCpuDfl m a = chooses (given_task a 0)
   by_helper KickCpu m a = let k = kick_of (given_number a 1) in kicks (kick_fault w (given_number a 0) k) (given_number a 0) k
   by_helper Exit m a = h.ended (given_number a 0)
   by_helper CpuCurr m a = keeps_if P (nat_lt (given_number a 0) (length w.cpus)) w (with_fault w NoSuchCpu) h.same (h.faulty NoSuchCpu)
   by_helper DsqPeek m a = keeps_if P (is_there w (given_number a 0)) w (with_fault w NoSuchQueue) h.same (h.faulty NoSuchQueue)
-  by_helper PickIdle m a = picks (pick_fault (given_number a 1)) (first_free_in (given_number a 0) w)
-  by_helper ClaimIdle m a = let c = given_number a 0 in keeps_if P (nat_lt c (length w.cpus)) (after_claim w (this_if (is_free w c) c)) (with_fault w NoSuchCpu) (h.claimed (this_if (is_free w c) c)) (h.faulty NoSuchCpu)
+  by_helper PickIdle m a = picks (pick_fault w (given_number a 1)) (first_free_in (given_number a 0) w)
+  by_helper ClaimIdle m a = let c = given_number a 0 in or_done (ask_fault w c) (after_claim w (this_if (is_free w c) c)) (h.claimed (this_if (is_free w c) c))
+  by_helper TimerStart m a =
+      let n = given_number a 0 in
+      let o : Option Alarm = Some (alarm_in w (given_number a 1)) in
+      or_done (timer_fault w n) (with_timer w n o) (h.timed n o)
+  by_helper TimerCancel m a =
+      let n = given_number a 0 in
+      or_done (timer_fault w n) (if is_this n w.passing.timer then w else with_timer w n None) (keeps_if P (is_this n w.passing.timer) w (with_timer w n None) h.same (h.timed n None))
   by_helper f m a = h.same
 
 -- ---- what is hidden
@@ -155,11 +170,19 @@ module _ (h : Hidden) where
 
   chosen : (o : Option ℕ) (w : WorldState) → choice_answer w o ≡ choice_answer (hide h w) o
   chosen None w = refl
-  chosen (Some t) w = choice_same h w t
+  chosen (Some t) w = ap (λ (c : ℕ). unless_fault (untracked_fault w) c) (choice_same h w t)
+
+  -- a fault, or what is done without one
+  hides_fault_or : (o : Option Fault) (f : WorldState → WorldState) → Hides h f → Hides h (λ w. fault_or w o (f w))
+  hides_fault_or None f k w = k w
+  hides_fault_or (Some x) f k w = plain h (with_fault w x)
 
   hides_choice : (t : Option ℕ) → Hides h (λ w. after_choice w t)
   hides_choice None w = plain h w
-  hides_choice (Some t) w = hides_claim h (choice w t) w ∙ ap (λ (o : Option ℕ). hide h (after_claim (hide h w) o)) (chosen_same h w t)
+  hides_choice (Some t) w = hides_fault_or (untracked_fault w) (λ v. after_claim v (choice v t)) chooses w
+    where
+      chooses : Hides h (λ v. after_claim v (choice v t))
+      chooses v = hides_claim h (choice v t) v ∙ ap (λ (o : Option ℕ). hide h (after_claim (hide h v) o)) (chosen_same h v t)
 
   kick_same : (w : WorldState) (c : ℕ) (k : Option Kick) → kick_fault w c k ≡ kick_fault (hide h w) c k
   kick_same w c None = refl
@@ -193,7 +216,7 @@ module _ (h : Hidden) where
 
   hides_pick : (mask flags : ℕ) → Hides h (λ w. after_pick w mask flags)
   hides_pick mask flags w =
-      hides_picked (pick_fault flags) (first_free_in mask w) w ∙ ap (λ (o : Option ℕ). hide h (after_pick_by (pick_fault flags) (hide h w) o)) (picked_same mask w)
+      hides_picked (pick_fault w flags) (first_free_in mask w) w ∙ ap (λ (o : Option ℕ). hide h (after_pick_by (pick_fault w flags) (hide h w) o)) (picked_same mask w)
 
   -- the current task of each processor, and the processor of a task
   current_in_same : (o : Option Switch) (w : WorldState) (c : ℕ) → current_in o w c ≡ current_in o (hide h w) c
@@ -230,7 +253,7 @@ module _ (h : Hidden) where
       ap (λ (o : Option ℕ). cond (nat_lt c (length w.cpus)) (task_or_null o) (answer.Num 0)) (current_at w c)
   helper_same TaskRunning a w = ap (λ (b : Bool). answer.Num (one_if b)) (current_same (given_task a 0) w)
   helper_same TaskCpu a w = ap answer.Num (cpu_same (given_task a 0) w)
-  helper_same PickIdle a w = ap (λ (o : Option ℕ). answer.Num (pick_answer_by (pick_fault (given_number a 1)) o)) (picked_same (given_number a 0) w)
+  helper_same PickIdle a w = ap (λ (o : Option ℕ). answer.Num (pick_answer_by (pick_fault w (given_number a 1)) o)) (picked_same (given_number a 0) w)
   helper_same f a w = refl
 
   -- what it makes of the world
@@ -241,7 +264,7 @@ module _ (h : Hidden) where
   hides_helper DsqMoveToLocal a w =
       let q = given_number a 0 in
       alike_if (hide h) (can_move w q) (can_move w q) _ _ _ _ refl (hides_moved (front_of w.queues q) q w) (plain h (with_fault w NoSuchQueue))
-  hides_helper CpuIdle a w = alike_if (hide h) (nat_lt (given_number a 0) (length w.cpus)) (nat_lt (given_number a 0) (length w.cpus)) w (hide h w) _ _ refl (plain h w) (plain h (with_fault w NoSuchCpu))
+  hides_helper CpuIdle a w = hides_fault_or (ask_fault w (given_number a 0)) (λ v. v) (λ v. plain h v) w
   hides_helper DsqNrQueued a w = alike_if (hide h) (is_there w (given_number a 0)) (is_there w (given_number a 0)) w (hide h w) _ _ refl (plain h w) (plain h (with_fault w NoSuchQueue))
   hides_helper SelectCpuDfl a w = hides_choice (given_task a 0) w
   hides_helper KickCpu a w = hides_kick (given_number a 0) (given_number a 1) w
@@ -251,8 +274,14 @@ module _ (h : Hidden) where
   hides_helper PickIdle a w = hides_pick (given_number a 0) (given_number a 1) w
   hides_helper ClaimIdle a w =
       let c = given_number a 0 in
-      let b = nat_lt c (length w.cpus) in
-      alike_if (hide h) b b _ _ _ _ refl (hides_claim h (this_if (is_free w c) c) w) (plain h (with_fault w NoSuchCpu))
+      hides_fault_or (ask_fault w c) (λ v. after_claim v (this_if (is_free v c) c)) (λ v. hides_claim h (this_if (is_free v c) c) v) w
+  hides_helper TimerStart a w =
+      let n = given_number a 0 in
+      hides_fault_or (timer_fault w n) (λ v. with_timer v n (Some (alarm_in v (given_number a 1)))) (λ v. plain h (with_timer v n (Some (alarm_in v (given_number a 1))))) w
+  hides_helper TimerCancel a w =
+      let n = given_number a 0 in
+      hides_fault_or (timer_fault w n) (λ v. if is_this n v.passing.timer then v else with_timer v n None)
+      (λ v. alike_if (hide h) (is_this n v.passing.timer) (is_this n v.passing.timer) v (hide h v) (with_timer v n None) (with_timer (hide h v) n None) refl (plain h v) (plain h (with_timer v n None))) w
   hides_helper f a w = plain h w
 
   -- ---- queries

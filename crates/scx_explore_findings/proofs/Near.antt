@@ -7,18 +7,18 @@ use Rattle.scx_sched_tasks.specs.Waits.{is_late, is_overdue}
 use Rattle.scx_sched_world.specs.Tasks.{later, begun_periods}
 use Rattle.scx_sched_world.specs.Waits.{first_overdue}
 use Rattle.scx_sched_machine.specs.declared.events.Event.{Event}
-use Rattle.scx_sched_machine.specs.declared.events.Event.TheVariants.{Wake, Sleep, Tick, Clock, SetWeight}
+use Rattle.scx_sched_machine.specs.declared.events.Event.TheVariants.{Wake, Sleep, Tick, Clock, SetWeight, SetTaskWeight}
 use Rattle.scx_sched_machine.specs.declared.events.Refused.{Refused}
 use Rattle.scx_sched_machine.specs.Policy.{PolicyState}
 use Rattle.scx_sched_machine.specs.Steps.{State, with_world, is_ejected}
 use Rattle.scx_sched_machine.specs.Events.{overdue}
 use Rattle.scx_sched_machine.proofs.Choices.{keeps_if}
 use Rattle.scx_sched.specs.Sim.{SimState, refusal, stepped_if, after_event, IsValid}
-use Rattle.scx_sched.proofs.Blaming.{honest_let_all_go}
+use Rattle.scx_sched.proofs.Blaming.{honest_let_all_go, honest_fire_all}
 use Rattle.scx_sched.proofs.Deciding.{accepted, decides}
 use Rattle.scx_sched.proofs.Events.{IsFineNow, fine_step}
 use Rattle.scx_load_driver.specs.Runs.{stepped_all, AreAccepted}
-use Rattle.scx_explore_findings.specs.HiddenStates.{once_later, late_in}
+use Rattle.scx_explore_findings.specs.HiddenStates.{once_let_go, once_later, late_in}
 use Rattle.scx_explore_findings.specs.HiddenLaws.{NobodyIsLate}
 
 -- ---- a clock that no wait can exceed
@@ -48,8 +48,9 @@ none_late s l =
 none_late_then : (s : State) → s.world.clock < s.policy.timeout_ms → overdue (once_later s).state ≡ None
 none_late_then s l =
     let h = honest_let_all_go (with_world s (begun_periods (later s.world))) in
-    let limit : (once_later s).state.policy.timeout_ms ≡ s.policy.timeout_ms = ap (λ (p : PolicyState). p.timeout_ms) h.policy in
-    none_late (once_later s).state (omega (arith, l, h.clock, limit))
+    let g = honest_fire_all (once_let_go s).state in
+    let limit : (once_later s).state.policy.timeout_ms ≡ s.policy.timeout_ms = ap (λ (p : PolicyState). p.timeout_ms) (g.policy ∙ h.policy) in
+    none_late (once_later s).state (omega (arith, l, g.clock, h.clock, limit))
 
 -- ---- after a list of events
 
@@ -89,6 +90,7 @@ late_none n k p s e h few = go e
     go (Tick c) = refl
     go Clock = none_late_then s.state (omega (arith, few, h.fine.clock, limit))
     go (SetWeight g x) = refl
+    go (SetTaskWeight t x) = refl
 
 -- so it is after a list of events
 pub nobody_is_late : NobodyIsLate

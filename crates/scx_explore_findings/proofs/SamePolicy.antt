@@ -13,11 +13,11 @@ use Rattle.scx_explore_findings.proofs.WorldSizes.{HasSize, like_sized}
 use Rattle.scx_explore_findings.proofs.EventSizes.{sized_after}
 
 sized_like : (v w : WorldState) → IsLike v w → HasSize v w
-sized_like v w h = (h.tasks, h.cpus, h.room, h.queues, h.groups)
+sized_like v w h = (h.tasks, h.cpus, h.room, h.queues, h.groups, h.timers)
 
 -- a machine is as itself
 pub as_itself : (s : SimState) → IsAs s s
-as_itself s = record { policy = refl; world = like_sized s.state.world s.state.world (refl, refl, refl, refl, refl) }
+as_itself s = record { policy = refl; world = like_sized s.state.world s.state.world (refl, refl, refl, refl, refl, refl) }
 
 -- and two are as one another that are as a third one
 pub as_one_another : (s t u : SimState) → IsAs s t → IsAs s u → IsAs t u
@@ -30,6 +30,7 @@ as_one_another s t u h k =
         room = sym h.world.room ∙ k.world.room;
         queues = sym h.world.queues ∙ k.world.queues;
         groups = sym h.world.groups ∙ k.world.groups;
+        timers = sym h.world.timers ∙ k.world.timers;
       };
     }
 
@@ -42,7 +43,7 @@ pub as_stepped : (s : SimState) (e : Event) (t : SimState) (r : Result (Unit {0}
 as_stepped s e t r answer state decided =
     record {
       policy = sym (go (refusal s e) state (subst (λ (x : Result (Unit {0}) Refused). OnOk x (EventsDecide s e t)) answer decided));
-      world = subst (λ (x : SimState). IsLike s.state.world x.state.world) (sym state) (like_sized s.state.world (after_event s e).state.world (sized_after s.state.world s e (refl, refl, refl, refl, refl)));
+      world = subst (λ (x : SimState). IsLike s.state.world x.state.world) (sym state) (like_sized s.state.world (after_event s e).state.world (sized_after s.state.world s e (refl, refl, refl, refl, refl, refl)));
     }
   where
     go : (o : Option Refused) → t ≡ stepped_if o s e → OnOk (answer_of o) (EventsDecide s e t) → t.state.policy ≡ s.state.policy

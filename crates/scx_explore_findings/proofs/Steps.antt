@@ -21,7 +21,7 @@ use Rattle.scx_sched_world.specs.Ejecting.{eject_of, put_builtin, put_out, after
 use Rattle.scx_sched_machine.specs.Policy.{PolicyState, program_of}
 use Rattle.scx_sched_machine.specs.Steps.{State, CallMade, Stepped, with_world, is_ejected, is_by_linux, stays, after, one_after_other}
 use Rattle.scx_sched_machine.specs.Ejecting.{moves_over, eject, ejected_for}
-use Rattle.scx_sched_machine.specs.Callbacks.{call_ending, after_callback, calls_of, answer_fault, end_fault, as_cause, or_cause, cause_of, unless_ejected, acting, call_back, call_by_linux, answered_by, task_and_number}
+use Rattle.scx_sched_machine.specs.Callbacks.{call_ending, after_callback, calls_of, answer_fault, end_fault, as_cause, or_cause, cause_of, unless_ejected, acting, call_back, call_by_linux, answered_by, noted_by, task_and_number}
 use Rattle.scx_sched_machine.specs.Put.{enters, enqueue_choice, enters_builtin, comes_in, put}
 use Rattle.scx_sched_machine.specs.Filling.{move_note, fill}
 use Rattle.scx_sched_machine.specs.Parking.{park, park_front, if_throttled, throttled_front, park_then, park_fronts, clear, in_reach, supply}
@@ -167,6 +167,11 @@ module _ (h : Hidden) (p : PolicyState) where
     pub answered_same : (s : State) (b : Callback) (a : Args) (t c : ℕ) → s.policy ≡ p → answered_by s b a t c ≡ answered_by (hide_state h s) b a t c
     unfolding answered_by
     answered_same s b a t c is = ap (λ (e : Ending WorldState). e.answer) (end_same s b a t c is)
+
+    -- and what it notes
+    pub noted_same : (s : State) (b : Callback) (a : Args) (t c : ℕ) → s.policy ≡ p → noted_by s b a t c ≡ noted_by (hide_state h s) b a t c
+    unfolding noted_by
+    noted_same s b a t c is = ap (λ (e : Ending WorldState). e.outside.notes) (end_same s b a t c is)
 
     calls_same : (q : Option VerifiedProgram) (b : Callback) (a : Args) (maps : Maps) (w : WorldState) → map (hide_call h) (calls_of q b a maps w) ≡ map (hide_call h) (calls_of q b a maps (hide h w))
     calls_same None b a maps w = refl

@@ -7,10 +7,11 @@ use Rattle.scx_maps.specs.Lending.{all_bytes}
 use Rattle.scx_sched_tasks.specs.declared.task.Task.{Task}
 use Rattle.scx_sched_tasks.specs.Waits.{time_since}
 use Rattle.scx_sched_world.specs.World.{WorldState, are_linux, task_at, cpu_of}
+use Rattle.scx_sched_world.specs.Helpers.{alarm_at}
 use Rattle.scx_sched.specs.Sim.{SimState}
 use Rattle.scx_explore_states.specs.declared.form.Form.{Form}
 use Rattle.scx_explore_states.specs.Rows.{kept, is_by_vtime, ahead_of, entries_of, place_of, is_idle, spot_of, bit_of, row_of, no_row, task_row, rows_of}
-use Rattle.scx_explore_states.specs.Written.{home_at, task_words, time_words, usage_words, flags_word, flags_words, past_tick, byte_words, state_words, IsWritten, AreKnown}
+use Rattle.scx_explore_states.specs.Written.{home_at, task_words, time_words, usage_words, flags_word, flags_words, alarm_words, timer_words, past_tick, byte_words, state_words, IsWritten, AreKnown}
 use Rattle.scx_explore_findings.specs.Hidden.{Hidden, unless, since_unless, hide}
 use Rattle.scx_explore_findings.specs.HiddenMachines.{hide_machine}
 use Rattle.scx_explore_findings.specs.HiddenLaws.{LeavesOut, WordsDontDepend}
@@ -76,15 +77,21 @@ module _ (h : Hidden) (f : Form) (out : LeavesOut f h) (ids : List ℕ) where
   flags_same w zero = refl
   flags_same w (suc n) = ap (λ (l : List ℕ). l ++ flags_word w n ∷ []) (flags_same w n)
 
+  timers_same : (w : WorldState) (n : ℕ) → timer_words w n ≡ timer_words (hide h w) n
+  timers_same w zero = refl
+  timers_same w (suc n) = ap (λ (l : List ℕ). l ++ alarm_words w.clock (alarm_at w n)) (timers_same w n)
+
   words_same : (order : List ℕ) (s : SimState) → state_words f (rows_of f s.state.world ids) order s ≡ state_words f (rows_of f (hide h s.state.world) ids) order (hide_machine h s)
   words_same order s =
       let w = s.state.world in
-      let rules : List ℕ → List ℕ = λ fs. if are_linux w.rules then past_tick s.state.policy.tick_ms w.clock ∷ fs else [] in
-      let rest : List ℕ → List ℕ = λ fs. time_words f w ++ (usage_words w ++ (rules fs ++ byte_words (all_bytes s.state.maps) ((length (all_bytes s.state.maps) + 7) / 8))) in
+      let rules : List ℕ → List ℕ → List ℕ = λ fs ts. if are_linux w.rules then past_tick s.state.policy.tick_ms w.clock ∷ (fs ++ ts) else [] in
+      let rest : List ℕ → List ℕ → List ℕ = λ fs ts. time_words f w ++ (usage_words w ++ (rules fs ts ++ byte_words (all_bytes s.state.maps) ((length (all_bytes s.state.maps) + 7) / 8))) in
       let flags = flags_words w (length w.cpus) in
-      ap (λ rows. task_words f rows order (min (length w.tasks) 8) ++ rest flags) (rows_same w)
-      ∙ ap (λ (n : ℕ). task_words f (rows_of f (hide h w) ids) order (min n 8) ++ rest flags) (length_same h w.tasks)
-      ∙ ap (λ (fs : List ℕ). task_words f (rows_of f (hide h w) ids) order (min (length (hide h w).tasks) 8) ++ rest fs) (flags_same w (length w.cpus))
+      let timers = timer_words w (length w.timers) in
+      ap (λ rows. task_words f rows order (min (length w.tasks) 8) ++ rest flags timers) (rows_same w)
+      ∙ ap (λ (n : ℕ). task_words f (rows_of f (hide h w) ids) order (min n 8) ++ rest flags timers) (length_same h w.tasks)
+      ∙ ap (λ (fs : List ℕ). task_words f (rows_of f (hide h w) ids) order (min (length (hide h w).tasks) 8) ++ rest fs timers) (flags_same w (length w.cpus))
+      ∙ ap (λ (ts : List ℕ). task_words f (rows_of f (hide h w) ids) order (min (length (hide h w).tasks) 8) ++ rest (flags_words (hide h w) (length w.cpus)) ts) (timers_same w (length w.timers))
 
   -- from one state to another with the same homes, entries and words
   carried : (xs : List ℕ) (s t : SimState) → ((u : ℕ) → home_at s.state.world u ≡ home_at t.state.world u) → entries_of s.state.world ≡ entries_of t.state.world

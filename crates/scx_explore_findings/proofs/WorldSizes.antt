@@ -14,14 +14,14 @@ use Rattle.scx_isa_semantics.specs.Effects.{Query, Call, Load, Store}
 use Rattle.scx_vm.specs.Arguments.{argument_of}
 use Rattle.scx_vm.specs.declared.arguments.Arg.{Arg}
 use Rattle.scx_vm.specs.Host.{after_query}
-use Rattle.scx_weights.specs.Hierarchy.{with_weight}
-use Rattle.scx_weights.specs.Refusals.{weight_fault}
+use Rattle.scx_weights.specs.Hierarchy.{with_weight, with_own_weight}
+use Rattle.scx_weights.specs.Refusals.{weight_fault, own_weight_fault}
 use Rattle.scx_sched_tasks.specs.declared.task.Task.{Task}
 use Rattle.scx_sched_world.specs.declared.call.Insert.{Insert}
 use Rattle.scx_sched_world.specs.declared.faults.Fault.{Fault}
 use Rattle.scx_sched_world.specs.Ids.{builtin_queue, parked_queue, local_on}
 use Rattle.scx_sched_world.specs.World.{WorldState, IsLike, with_queues, with_tree, is_by_linux, with_kick, task_at, with_task, with_cpu, waits, running, is_this, choice, after_claim}
-use Rattle.scx_sched_world.specs.Tasks.{with_since, with_slice, with_home, on_cpu, after_sleep, after_leave, homed, local_cpu, homed_at, after_local, after_preempt_of, after_preempt_at, after_preempt, task_after_insert, rank_by, after_enter, for_cpu, brought, after_stop, started_at, after_run, after_keep, put_parked, after_take, used_ms, after_reweigh}
+use Rattle.scx_sched_world.specs.Tasks.{with_since, with_slice, with_home, on_cpu, after_sleep, after_leave, homed, local_cpu, homed_at, after_local, after_preempt_of, after_preempt_at, after_preempt, task_after_insert, rank_by, after_enter, for_cpu, brought, after_stop, started_at, after_run, after_keep, put_parked, after_take, used_ms, after_reweigh, after_own_weight}
 use Rattle.scx_sched_world.specs.Ejecting.{put_builtin, after_evictions, cut_task, after_cut}
 use Rattle.scx_sched_world.specs.Helpers.{is_dispatch, with_insert, after_release, insert_or_fault, front_moved_to_local, helper_after, world_functions}
 use Rattle.scx_sched_machine.specs.Events.{inserted_by_choice, chosen_by_default}
@@ -29,13 +29,13 @@ use Rattle.scx_sched_machine.proofs.Choices.{keeps_if}
 use Rattle.scx_explore_findings.proofs.Helpers.{by_helper}
 use Rattle.scx_explore_findings.proofs.Queries.{IsAllowed}
 
--- both worlds have the same queues, room for as many, and as many tasks, processors and groups
+-- both worlds have the same queues, room for as many, and as many tasks, processors, groups and timers
 abbrev pub HasSize : WorldState → WorldState → Type 0
-HasSize v w = (length v.tasks ≡ length w.tasks) × (length v.cpus ≡ length w.cpus) × (v.queues.room ≡ w.queues.room) × (v.queues.ids ≡ w.queues.ids) × (length v.tree.groups ≡ length w.tree.groups)
+HasSize v w = (length v.tasks ≡ length w.tasks) × (length v.cpus ≡ length w.cpus) × (v.queues.room ≡ w.queues.room) × (v.queues.ids ≡ w.queues.ids) × (length v.tree.groups ≡ length w.tree.groups) × (length v.timers ≡ length w.timers)
 
 -- that is what makes worlds alike
 pub like_sized : (v w : WorldState) → HasSize v w → IsLike v w
-like_sized v w h = record { tasks = h.0; cpus = h.1; room = h.2; queues = h.3; groups = h.4 }
+like_sized v w h = record { tasks = h.0; cpus = h.1; room = h.2; queues = h.3; groups = h.4; timers = h.5 }
 
 -- those queues are the ones of the world
 abbrev HasQueues : WorldState → QueueState → Type 0
@@ -64,17 +64,17 @@ module _ (v : WorldState) where
   -- ---- small changes of a world
 
   sized_queues : (w : WorldState) (s : QueueState) → HasQueues v s → HasSize v w → HasSize v (with_queues w s)
-  sized_queues w s k h = (h.0, h.1, k.0, k.1, h.4)
+  sized_queues w s k h = (h.0, h.1, k.0, k.1, h.4, h.5)
 
   queues_of : (w : WorldState) → HasSize v w → HasQueues v w.queues
   queues_of w h = (h.2, h.3)
 
   -- another record of a task
   pub sized_task : (w : WorldState) (t : ℕ) (x : Task) → HasSize v w → HasSize v (with_task w t x)
-  sized_task w t x h = (h.0 ∙ sym (length-set w.tasks t x), h.1, h.2, h.3, h.4)
+  sized_task w t x h = (h.0 ∙ sym (length-set w.tasks t x), h.1, h.2, h.3, h.4, h.5)
 
   sized_cpu : (w : WorldState) (c : ℕ) (o : Option ℕ) → HasSize v w → HasSize v (with_cpu w c o)
-  sized_cpu w c o h = (h.0, h.1 ∙ sym (length-set w.cpus c o), h.2, h.3, h.4)
+  sized_cpu w c o h = (h.0, h.1 ∙ sym (length-set w.cpus c o), h.2, h.3, h.4, h.5)
 
   -- a task that leaves its queue
   pub sized_left : (w : WorldState) (t : ℕ) → HasSize v w → HasSize v (after_leave w t)
@@ -174,7 +174,11 @@ module _ (v : WorldState) where
 
   -- another weight of a group
   pub sized_reweighed : (w : WorldState) (g x : ℕ) → HasSize v w → HasSize v (after_reweigh w g x)
-  sized_reweighed w g x h = keeps_if (HasSize v) (is_none (weight_fault w.tree g x)) (with_tree w (with_weight w.tree g x)) w (h.0, h.1, h.2, h.3, h.4 ∙ sym (length-set w.tree.groups g _)) h
+  sized_reweighed w g x h = keeps_if (HasSize v) (is_none (weight_fault w.tree g x)) (with_tree w (with_weight w.tree g x)) w (h.0, h.1, h.2, h.3, h.4 ∙ sym (length-set w.tree.groups g _), h.5) h
+
+  -- another weight of a task itself
+  pub sized_weighed : (w : WorldState) (t x : ℕ) → HasSize v w → HasSize v (after_own_weight w t x)
+  sized_weighed w t x h = keeps_if (HasSize v) (is_none (own_weight_fault w.tree t x)) (with_tree w (with_own_weight w.tree t x)) w h h
 
   -- ---- a callback but init
 
@@ -218,6 +222,7 @@ module _ (v : WorldState) where
     claimed = λ o. sized_claimed w o h;
     kicked = λ c. h;
     preempted = λ c. h;
+    timed = λ n o. (h.0, h.1, h.2, h.3, h.4, h.5 ∙ sym (length-set w.timers n o));
   }) f free a
 
   -- what a program asks in a callback that may create no queue

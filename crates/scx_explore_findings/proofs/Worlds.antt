@@ -5,7 +5,7 @@ use Rattle.scx_dsq.specs.declared.entries.Rank.TheVariants.{Fifo, Front, Vtime}
 use Rattle.scx_dsq.specs.declared.entries.Rank.{Rank}
 use Rattle.scx_weights.specs.Hierarchy as tree
 use Rattle.scx_weights.specs.Limits as limits
-use Rattle.scx_weights.specs.Refusals.{weight_fault}
+use Rattle.scx_weights.specs.Refusals.{weight_fault, own_weight_fault}
 use Rattle.scx_weights.specs.Weights.{task_weight}
 use Rattle.scx_sched_tasks.specs.declared.task.Task.{Task}
 use Rattle.scx_sched_tasks.specs.Tasks.{default_slice}
@@ -14,8 +14,8 @@ use Rattle.scx_sched_world.specs.declared.call.Insert.{Insert}
 use Rattle.scx_sched_world.specs.declared.notes.Note.{Note}
 use Rattle.scx_sched_world.specs.CpuSets.{but_cpu}
 use Rattle.scx_sched_world.specs.Ids.{builtin_queue, parked_queue, local_on}
-use Rattle.scx_sched_world.specs.World.{WorldState, nothing_passes, with_switch, switch_at, cycling_by_linux, with_cycling, with_waker, with_queues, with_tree, task_at, with_task, is_throttled, waits, running, with_cpu, with_kick, is_by_linux, is_this, or_this, this_if, is_free, free_below, first_free, choice, default_choice, after_claim}
-use Rattle.scx_sched_world.specs.Tasks.{with_since, with_slice, with_home, with_builtin, task_after_insert, after_wake, after_sleep, after_leave, homed, local_cpu, homed_at, after_local, rank_by, after_preempt_of, after_preempt_at, after_preempt, after_enter, brought, fill_front, after_fill, after_stop, on_cpu, started_at, after_run, longer, after_switch, after_cut_off, with_new_slice, after_keep, put_parked, let_go, ran_a_tick, after_tick, used_ms, after_reweigh}
+use Rattle.scx_sched_world.specs.World.{WorldState, nothing_passes, with_switch, switch_at, cycling_by_linux, with_cycling, with_waker, with_queues, with_tree, task_at, with_task, is_throttled, waits, running, with_cpu, with_kick, is_by_linux, is_this, or_this, this_if, is_free, free_below, first_free, free_choice, choice, default_choice, after_claim}
+use Rattle.scx_sched_world.specs.Tasks.{with_since, with_slice, with_home, with_builtin, task_after_insert, after_wake, after_sleep, after_leave, homed, local_cpu, homed_at, after_local, rank_by, after_preempt_of, after_preempt_at, after_preempt, after_enter, brought, fill_front, after_fill, after_stop, on_cpu, started_at, after_run, longer, after_switch, after_cut_off, with_new_slice, after_keep, put_parked, let_go, ran_a_tick, after_tick, used_ms, after_reweigh, after_own_weight}
 use Rattle.scx_sched_world.specs.Waits.{first_overdue}
 use Rattle.scx_sched_world.specs.Helpers.{weight_at, group_at}
 use Rattle.scx_sched_world.specs.Ejecting.{builtin_vtime, put_builtin, after_catch_up, at_most_64_bits, after_charge, evict, after_evictions, evict_note, evict_notes, cut_task, after_cut}
@@ -69,11 +69,15 @@ module _ (h : Hidden) where
   free_same zero w = refl
   free_same (suc n) w = ap (λ (o : Option ℕ). or_this o (this_if (is_free w n) n)) (free_same n w)
 
-  -- the processor that is chosen, if one is
-  pub chosen_same : (w : WorldState) (t : ℕ) → choice w t ≡ choice (hide h w) t
-  chosen_same w t =
+  -- the processor that is free for a task, if one is
+  free_choice_same : (w : WorldState) (t : ℕ) → free_choice w t ≡ free_choice (hide h w) t
+  free_choice_same w t =
       ap (λ (c : ℕ). cond (is_free w c) (Some c) (first_free w)) (read (λ x. x.prev_cpu) (λ x. refl) w t)
       ∙ ap (λ (o : Option ℕ). cond (is_free w (task_at (hide h w) t).prev_cpu) (Some (task_at (hide h w) t).prev_cpu) o) (free_same (length w.cpus) w)
+
+  -- the processor that is chosen, if one is
+  pub chosen_same : (w : WorldState) (t : ℕ) → choice w t ≡ choice (hide h w) t
+  chosen_same w t = ap (λ (o : Option ℕ). cond w.tracks_idle o None) (free_choice_same w t)
 
   -- the processor that is chosen by default
   pub choice_same : (w : WorldState) (t : ℕ) → default_choice w t ≡ default_choice (hide h w) t
@@ -231,6 +235,10 @@ module _ (h : Hidden) where
   -- a group gets another weight
   pub hides_reweigh : (g x : ℕ) → Hides (λ w. after_reweigh w g x)
   hides_reweigh g x w = alike_if (hide h) (is_none (weight_fault w.tree g x)) (is_none (weight_fault w.tree g x)) _ _ w (hide h w) refl (plain (with_tree w (tree.with_weight w.tree g x))) (plain w)
+
+  -- a task gets another weight of its own
+  pub hides_own_weight : (t x : ℕ) → Hides (λ w. after_own_weight w t x)
+  hides_own_weight t x w = alike_if (hide h) (is_none (own_weight_fault w.tree t x)) (is_none (own_weight_fault w.tree t x)) _ _ w (hide h w) refl (plain (with_tree w (tree.with_own_weight w.tree t x))) (plain w)
 
   -- ---- the built-in scheduler
 

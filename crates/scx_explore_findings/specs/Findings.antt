@@ -10,7 +10,7 @@ use Rattle.scx_sched_world.specs.declared.eject.Eject.TheVariants as cause
 use Rattle.scx_sched_world.specs.declared.faults.Fault as faults
 use Rattle.scx_sched_world.specs.declared.notes.Note.{Note}
 use Rattle.scx_sched_world.specs.declared.notes.What.{What}
-use Rattle.scx_sched_world.specs.declared.notes.What.TheVariants.{Wake, Sleep, Insert, Move, Run, Stop, Idle, Weight, Stall, Fault, Exit}
+use Rattle.scx_sched_world.specs.declared.notes.What.TheVariants.{Wake, Sleep, Insert, Move, Run, Stop, Idle, Weight, TaskWeight, Stall, Fault, Exit}
 use Rattle.scx_sched_machine.specs.declared.events.Event.{Event}
 use Rattle.scx_sched_machine.specs.declared.events.Event.TheVariants.{Tick}
 use Rattle.scx_sched.specs.Sim.{SimState, refusal, calls_of}
@@ -28,10 +28,10 @@ use Rattle.scx_explore_findings.specs.declared.finding.Finding.TheVariants as fi
 -- the place of a sort among those that are told: faults by their numbers, and four after them
 abbrev pub sort_number : Sort → ℕ
 sort_number (sort.Fault f) = fault_number f
-sort_number sort.Stall = 8
-sort_number sort.Idle = 9
-sort_number sort.Overtaken = 10
-sort_number sort.Exit = 11
+sort_number sort.Stall = 9
+sort_number sort.Idle = 10
+sort_number sort.Overtaken = 11
+sort_number sort.Exit = 12
 
 -- of which sort a finding is, if it is of one
 abbrev pub sort_of : Finding → Option Sort
@@ -131,6 +131,7 @@ begun_after p b (Move t c) = b
 begun_after p b (Stop t c) = b
 begun_after p b (Idle c) = b
 begun_after p b (Weight g x) = b
+begun_after p b (TaskWeight t x) = b
 begun_after p b (Stall t) = b
 begun_after p b (Fault f) = b
 begun_after p b (Exit n) = b

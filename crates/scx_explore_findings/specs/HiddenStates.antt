@@ -3,8 +3,9 @@
 use Rattle.std.specs.Prelude.{ℕ, map, Option, None}
 use Rattle.scx_sched_world.specs.Tasks.{later, begun_periods}
 use Rattle.scx_sched_machine.specs.declared.events.Event.{Event}
-use Rattle.scx_sched_machine.specs.declared.events.Event.TheVariants.{Wake, Sleep, Tick, Clock, SetWeight}
+use Rattle.scx_sched_machine.specs.declared.events.Event.TheVariants.{Wake, Sleep, Tick, Clock, SetWeight, SetTaskWeight}
 use Rattle.scx_sched_machine.specs.Events.{overdue}
+use Rattle.scx_sched_machine.specs.Firing.{fire_all}
 use Rattle.scx_sched_machine.specs.Parking.{let_all_go}
 use Rattle.scx_sched_machine.specs.Steps.{State, CallMade, Stepped, with_world}
 use Rattle.scx_explore_findings.specs.Hidden.{Hidden, hide}
@@ -23,8 +24,12 @@ hide_step h r =
     record { state = hide_state h r.state; notes = r.notes; calls = map (hide_call h) r.calls }
 
 -- once the clock has grown: periods have begun, and who may run again was let go
+abbrev pub once_let_go : State → Stepped
+once_let_go s = let_all_go (with_world s (begun_periods (later s.world)))
+
+-- and timers that are due have run
 abbrev pub once_later : State → Stepped
-once_later s = let_all_go (with_world s (begun_periods (later s.world)))
+once_later s = fire_all (once_let_go s).state
 
 -- who has waited for too long once the clock has grown, while the policy is in force; in other
 -- events nobody looks
@@ -34,3 +39,4 @@ late_in s (Sleep t) = None
 late_in s (Tick c) = None
 late_in s Clock = overdue (once_later s).state
 late_in s (SetWeight g x) = None
+late_in s (SetTaskWeight t x) = None

@@ -47,6 +47,7 @@ fn begun_after(pair: Pair, begun: Option<u64>, what: What) -> Option<u64>
         | What::Stop(_, _)
         | What::Idle(_)
         | What::Weight(_, _)
+        | What::TaskWeight(_, _)
         | What::Stall(_)
         | What::Fault(_)
         | What::Exit(_) => begun,

@@ -28,7 +28,7 @@ pub enum Sort {
 }
 
 /// All sorts, in the order in which they are told.
-pub const SORTS: [Sort; 12] = [
+pub const SORTS: [Sort; 13] = [
     Sort::Fault(Fault::Stuck),
     Sort::Fault(Fault::NoSuchQueue),
     Sort::Fault(Fault::CannotInsert),
@@ -37,6 +37,7 @@ pub const SORTS: [Sort; 12] = [
     Sort::Fault(Fault::NoSuchCpu),
     Sort::Fault(Fault::UnknownFlag),
     Sort::Fault(Fault::CannotCreate),
+    Sort::Fault(Fault::IdleUntracked),
     Sort::Stall,
     Sort::Idle,
     Sort::Overtaken,
@@ -78,10 +79,10 @@ impl Sort {
     {
         match self {
             Sort::Fault(fault) => fault.number(),
-            Sort::Stall => 8,
-            Sort::Idle => 9,
-            Sort::Overtaken => 10,
-            Sort::Exit => 11,
+            Sort::Stall => 9,
+            Sort::Idle => 10,
+            Sort::Overtaken => 11,
+            Sort::Exit => 12,
         }
     }
 }

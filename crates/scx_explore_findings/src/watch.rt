@@ -192,6 +192,7 @@ impl Sink for Watch {
             | What::Stop(_, _)
             | What::Idle(_)
             | What::Weight(_, _)
+            | What::TaskWeight(_, _)
             | What::Stall(_)
             | What::Fault(_)
             | What::Exit(_) => {}

@@ -1,16 +1,18 @@
 -- Words of a state, one part after another.
-use Rattle.std.proofs.Common.{◌≡◌, ℕ, suc, ◌+◌, ◌*◌, ◌<◌, ◌≤◌, List, [], ◌∷◌, ◌++◌, length, drop, get_or, sym, ap, ◌∙◌, append_assoc, arith}
+use Rattle.std.proofs.Common.{◌≡◌, ℕ, suc, ◌+◌, ◌*◌, ◌<◌, ◌≤◌, List, [], ◌∷◌, ◌++◌, length, drop, get_or, Option, sym, ap, ◌∙◌, append_assoc, arith}
 use Rattle.std.proofs.lemmas.List.{drop_all, drop_more}
 use Rattle.std.specs.Prelude.{◌/◌, min}
 use Rattle.scx_maps.specs.Lending.{all_bytes}
 use Rattle.scx_weights.specs.Hierarchy.{Hierarchy}
 use Rattle.scx_weights.specs.Limits.{usage_of}
+use Rattle.scx_sched_world.specs.declared.timers.Alarm.{Alarm}
 use Rattle.scx_sched_world.specs.World.{WorldState}
+use Rattle.scx_sched_world.specs.Helpers.{alarm_at}
 use Rattle.scx_sched.specs.Sim.{SimState}
 use Rattle.scx_explore_states.specs.declared.form.Form.{Form}
 use Rattle.scx_explore_states.specs.declared.rows.Row.{Row}
 use Rattle.scx_explore_states.specs.Rows.{entries_of, rows_of}
-use Rattle.scx_explore_states.specs.Written.{AreKnown, IsFair, IsWritten, byte_words, eight_at, joined, kept_word, row_in, flags_word, flags_words, past_tick, row_words, rows_words, rules_words, spot_words, state_words, task_words, time_words, usage_words, used_words, word_from, word_of}
+use Rattle.scx_explore_states.specs.Written.{AreKnown, IsFair, IsWritten, byte_words, eight_at, joined, kept_word, row_in, flags_word, flags_words, until_due, cpu_of_alarm, alarm_words, timer_words, linux_words, past_tick, row_words, rows_words, rules_words, spot_words, state_words, task_words, time_words, usage_words, used_words, word_from, word_of}
 
 -- a part behind others
 pub behind : (xs ys zs ps qs : List ℕ) → zs ≡ ys ++ qs → ys ≡ xs ++ ps → zs ≡ xs ++ (ps ++ qs)
@@ -97,12 +99,29 @@ flags_more w n k xs ys zs new old is =
     ∙ ap (λ (x : ℕ). xs ++ (flags_words w n ++ x ∷ [])) is
     ∙ ap (λ (x : ℕ). xs ++ flags_words w x) (sym on)
 
--- the clock from tick to tick behind others, and the flags of processors
-pub linux_parts : (w : WorldState) (tick clock t c n m k : ℕ) (old xs new : List ℕ) → k ≡ past_tick t c → t ≡ tick → c ≡ clock → n ≡ m → xs ≡ old ++ k ∷ [] → new ≡ xs ++ flags_words w n → new ≡ old ++ past_tick tick clock ∷ flags_words w m
-linux_parts w tick clock t c n m k old xs new past ticks now many first last =
-    behind old xs new (k ∷ []) (flags_words w n) last first
-    ∙ (ap (λ (x : ℕ). old ++ x ∷ flags_words w n) (past ∙ (ap (λ (x : ℕ). past_tick x c) ticks ∙ ap (λ (x : ℕ). past_tick tick x) now))
-    ∙ ap (λ (x : ℕ). old ++ past_tick tick clock ∷ flags_words w x) many)
+-- a timer: how long it is until it is due, and its processor
+pub alarm_parts : (clock c : ℕ) (o a : Option Alarm) (old xs new : List ℕ) → c ≡ clock → a ≡ o → xs ≡ old ++ until_due c a ∷ [] → new ≡ xs ++ cpu_of_alarm a ∷ [] → new ≡ old ++ alarm_words clock o
+alarm_parts clock c o a old xs new now is first last =
+    behind old xs new (until_due c a ∷ []) (cpu_of_alarm a ∷ []) last first
+    ∙ (ap (λ (x : ℕ). old ++ alarm_words x a) now ∙ ap (λ (x : Option Alarm). old ++ alarm_words clock x) is)
+
+-- one more timer
+pub timers_more : (w : WorldState) (n : ℕ) (xs ys zs : List ℕ) → zs ≡ ys ++ alarm_words w.clock (alarm_at w n) → ys ≡ xs ++ timer_words w n → zs ≡ xs ++ timer_words w (n + 1)
+timers_more w n xs ys zs new old =
+    let on : n + 1 ≡ suc n = omega arith in
+    behind xs ys zs (timer_words w n) (alarm_words w.clock (alarm_at w n)) new old ∙ ap (λ (x : ℕ). xs ++ timer_words w x) (sym on)
+
+-- the flags of processors, and timers
+pub marks_parts : (w : WorldState) (n m : ℕ) (old xs new : List ℕ) → n ≡ length w.cpus → m ≡ length w.timers → xs ≡ old ++ flags_words w n → new ≡ xs ++ timer_words w m → new ≡ old ++ linux_words w
+marks_parts w n m old xs new many all first last =
+    behind old xs new (flags_words w n) (timer_words w m) last first
+    ∙ (ap (λ (x : ℕ). old ++ (flags_words w x ++ timer_words w m)) many ∙ ap (λ (x : ℕ). old ++ (flags_words w (length w.cpus) ++ timer_words w x)) all)
+
+-- the clock from tick to tick behind others, and what is kept of processors and timers
+pub linux_parts : (w : WorldState) (tick clock t c k : ℕ) (old xs new : List ℕ) → k ≡ past_tick t c → t ≡ tick → c ≡ clock → xs ≡ old ++ k ∷ [] → new ≡ xs ++ linux_words w → new ≡ old ++ past_tick tick clock ∷ linux_words w
+linux_parts w tick clock t c k old xs new past ticks now first last =
+    behind old xs new (k ∷ []) (linux_words w) last first
+    ∙ ap (λ (x : ℕ). old ++ x ∷ linux_words w) (past ∙ (ap (λ (x : ℕ). past_tick x c) ticks ∙ ap (λ (x : ℕ). past_tick tick x) now))
 
 -- the clock behind others, and what groups have used
 pub limited_parts : (t : Hierarchy) (clock n m w : ℕ) (old xs new : List ℕ) → w ≡ clock → n ≡ m → xs ≡ old ++ w ∷ [] → new ≡ xs ++ used_words t n → new ≡ old ++ clock ∷ used_words t m

@@ -1,12 +1,13 @@
 -- The words of a state, as a function of the machine's state.
-use Rattle.std.specs.Prelude.{◌≡◌, ℕ, zero, suc, ◌+◌, ◌*◌, ◌/◌, ◌%◌, ◌^◌, ◌<◌, ◌==◌, min, Bool, true, List, [], ◌∷◌, ◌++◌, length, take, drop, bit_or, nat_lt, Contains, slice_index, slice_index_or, All, Option, IfSome, if◌then◌else◌}
+use Rattle.std.specs.Prelude.{◌≡◌, ℕ, zero, suc, ◌+◌, ◌-◌, ◌*◌, ◌/◌, ◌%◌, ◌^◌, ◌<◌, ◌==◌, min, Bool, true, List, [], ◌∷◌, ◌++◌, length, take, drop, bit_or, nat_lt, Contains, slice_index, slice_index_or, All, Option, Some, None, IfSome, if◌then◌else◌}
 use Rattle.scx_dsq.specs.declared.entries.Entry.{Entry}
 use Rattle.scx_maps.specs.Lending.{all_bytes}
 use Rattle.scx_weights.specs.Hierarchy.{Hierarchy}
 use Rattle.scx_weights.specs.Limits.{usage_of, has_quota}
 use Rattle.scx_sched_world.specs.CpuSets.{is_in_set}
 use Rattle.scx_sched_world.specs.World.{WorldState, are_linux, is_free}
-use Rattle.scx_sched_world.specs.Helpers.{group_at}
+use Rattle.scx_sched_world.specs.Helpers.{group_at, alarm_at}
+use Rattle.scx_sched_world.specs.declared.timers.Alarm.{Alarm}
 use Rattle.scx_sched_machine.specs.Steps.{State}
 use Rattle.scx_sched.specs.Sim.{SimState}
 use Rattle.scx_explore_states.specs.declared.form.Form.{Form}
@@ -107,11 +108,34 @@ flags_words w (suc n) = flags_words w n ++ flags_word w n ∷ []
 abbrev pub past_tick : ℕ → ℕ → ℕ
 past_tick tick clock = if tick == 0 then 0 else clock % tick
 
--- under Linux rules the clock from tick to tick, and what is kept of each processor
+-- how many milliseconds are left until a timer is due; 0 where it isn't started
+abbrev pub until_due : ℕ → Option Alarm → ℕ
+until_due clock None = 0
+until_due clock (Some a) = a.due - clock
+
+-- the processor of a timer's callback; 0 where it isn't started
+abbrev pub cpu_of_alarm : Option Alarm → ℕ
+cpu_of_alarm None = 0
+cpu_of_alarm (Some a) = a.cpu
+
+-- what is kept of a timer: how long it is until it is due, and on which processor its callback runs
+abbrev pub alarm_words : ℕ → Option Alarm → List ℕ
+alarm_words clock o = until_due clock o ∷ cpu_of_alarm o ∷ []
+
+-- of each of the first n timers
+abbrev pub timer_words : WorldState → ℕ → List ℕ
+timer_words w zero = []
+timer_words w (suc n) = timer_words w n ++ alarm_words w.clock (alarm_at w n)
+
+-- what is kept of each processor, and of each timer
+abbrev pub linux_words : WorldState → List ℕ
+linux_words w = flags_words w (length w.cpus) ++ timer_words w (length w.timers)
+
+-- under Linux rules the clock from tick to tick, and what is kept of each processor and timer
 abbrev pub rules_words : State → List ℕ
 rules_words s =
     if are_linux s.world.rules
-    then past_tick s.policy.tick_ms s.world.clock ∷ flags_words s.world (length s.world.cpus)
+    then past_tick s.policy.tick_ms s.world.clock ∷ linux_words s.world
     else []
 
 -- eight of the bytes

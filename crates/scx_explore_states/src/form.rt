@@ -8,7 +8,7 @@ use scx_sched::Sim;
 pub const MOST_TASKS: usize = 8;
 
 /// The parts of a state that are kept, beside places of tasks, slices of tasks that run or wait, usages of groups with
-/// quotas, maps and, under Linux rules, the claims and kicks of CPUs and the time since the last tick.
+/// quotas, maps and, under Linux rules, the claims and kicks of CPUs, the time since the last tick, and timers.
 #[derive(Clone, Copy)]
 pub struct Form {
     /// The clock.
@@ -27,8 +27,8 @@ pub struct Form {
     pub run_ns: bool,
     /// The numbers of tasks, by which those of a group are told apart.
     pub names: bool,
-    /// The weights of groups. A machine doesn't tell them: a search whose lists set weights keeps the last ones, in words
-    /// after those of the state.
+    /// The weights of groups and tasks. A machine doesn't tell them: a search whose lists set weights keeps the last ones,
+    /// in words after those of the state.
     pub weights: bool,
 }
 
@@ -79,10 +79,10 @@ fn usage_words(sim: &Sim) -> usize
 
 /// The number of words under Linux rules beside those of plain ones.
 fn rules_words(sim: &Sim) -> usize
-    ensures { result ≤ 4294967296 }
+    ensures { result ≤ 12884901888 }
 {
     match sim.world().rules() {
         Rules::Plain => 0,
-        Rules::Linux => sim.cpus() as usize + 1,
+        Rules::Linux => 1 + sim.cpus() as usize + 2 * sim.world().timers() as usize,
     }
 }

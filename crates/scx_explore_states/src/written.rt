@@ -1,7 +1,8 @@
 ghost use Rattle.std.specs.Prelude.{ℕ, ◌≡◌, ◌+◌, ◌*◌, ◌/◌, ◌<◌, ◌≤◌, ◌∷◌, ◌++◌, [], true, length, Contains, IfSome};
+ghost use Rattle.scx_sched_world.specs.Helpers.{alarm_at};
 ghost use Rattle.scx_explore_states.specs.Rows.{entries_of};
 ghost use Rattle.scx_explore_states.specs.Words.{number_in};
-ghost use Rattle.scx_explore_states.specs.Written.{AreKnown, IsFair, IsWritten, byte_words, eight_at, flags_word, flags_words, home_at, joined, kept_word, own_order, past_tick, row_in, row_words, rows_words, rules_words, spot_words, state_words, task_in, task_words, time_words, usage_words, used_words, word_of};
+ghost use Rattle.scx_explore_states.specs.Written.{AreKnown, IsFair, IsWritten, alarm_words, byte_words, cpu_of_alarm, eight_at, flags_word, flags_words, home_at, joined, kept_word, linux_words, own_order, past_tick, row_in, row_words, rows_words, rules_words, spot_words, state_words, task_in, task_words, time_words, timer_words, until_due, usage_words, used_words, word_of};
 
 use crate::form::{Form, MOST_TASKS};
 use crate::order::Order;
@@ -10,6 +11,7 @@ use crate::rows::{Row, kept_tasks, rows_by, rows_of};
 use crate::words::{Words, put, word_of};
 use scx_isa::{Field, Rules, TaskId};
 use scx_sched::{Entry, Sim};
+use scx_sched_world::Alarm;
 use scx_vm::Env;
 
 /// The task at each place.
@@ -297,7 +299,7 @@ fn put_used(sim: &Sim, groups: u32, words: &mut Vec<u64>) -> bool
     true
 }
 
-/// Under Linux rules: the clock from tick to tick, and the flags of each processor.
+/// Under Linux rules: the clock from tick to tick, the flags of each processor, and each timer.
 fn put_rules(sim: &Sim, words: &mut Vec<u64>) -> bool
     ensures { result ≡ true → words.new.items ≡ words.old.items ++ rules_words sim.now.state }
 {
@@ -307,17 +309,75 @@ fn put_rules(sim: &Sim, words: &mut Vec<u64>) -> bool
     }
 }
 
-/// The clock from tick to tick, and the flags of each processor.
+/// The clock from tick to tick, the flags of each processor, and each timer.
 fn put_by_linux(sim: &Sim, words: &mut Vec<u64>) -> bool
     ensures { result ≡ true → words.new.items ≡ words.old.items
         ++ past_tick sim.now.state.policy.tick_ms sim.now.state.world.clock
-        ∷ flags_words sim.now.state.world (length sim.now.state.world.cpus) }
+        ∷ linux_words sim.now.state.world }
 {
-    let (tick, clock, cpus) = (sim.policy().tick_ms(), sim.clock(), sim.cpus());
+    let (tick, clock) = (sim.policy().tick_ms(), sim.clock());
     if !put(words, past_tick(tick, clock)) {
         return false;
     }
-    put_flags(sim, cpus, words)
+    put_marks(sim, words)
+}
+
+/// The flags of each processor, and each timer.
+fn put_marks(sim: &Sim, words: &mut Vec<u64>) -> bool
+    ensures { result ≡ true → words.new.items
+        ≡ words.old.items ++ linux_words sim.now.state.world }
+{
+    let (cpus, timers) = (sim.cpus(), sim.world().timers());
+    if !put_flags(sim, cpus, words) {
+        return false;
+    }
+    put_timers(sim, timers, words)
+}
+
+/// The first `timers` timers.
+fn put_timers(sim: &Sim, timers: u32, words: &mut Vec<u64>) -> bool
+    ensures { result ≡ true → words.new.items
+        ≡ words.old.items ++ timer_words sim.now.state.world timers }
+{
+    for timer in 0..timers {
+        if !put_timer(sim, timer, words) {
+            return false;
+        }
+    }
+    true
+}
+
+/// The time until a timer is due, and the processor of its callback.
+#[tactic(auto, using(crate::proofs::Putting::alarm_parts))]
+fn put_timer(sim: &Sim, timer: u32, words: &mut Vec<u64>) -> bool
+    ensures { result ≡ true → words.new.items ≡ words.old.items
+        ++ alarm_words sim.now.state.world.clock (alarm_at sim.now.state.world timer) }
+{
+    let (clock, alarm) = (sim.clock(), sim.world().alarm(timer));
+    if !put(words, until_due(clock, alarm)) {
+        return false;
+    }
+    put(words, cpu_of_alarm(alarm))
+}
+
+/// The milliseconds until a timer is due; 0 where it isn't started.
+fn until_due(clock: u64, alarm: Option<Alarm>) -> u64
+    ensures { result ≡ until_due clock alarm }
+{
+    match alarm {
+        Some(alarm) => alarm.due.saturating_sub(clock),
+        None => 0,
+    }
+}
+
+/// The processor of a timer's callback; 0 where it isn't started.
+fn cpu_of_alarm(alarm: Option<Alarm>) -> u64
+    ensures { result ≡ cpu_of_alarm alarm }
+{
+    match alarm {
+        Some(alarm) => u64::from(alarm.cpu),
+        None => 0,
+    }
 }
 
 /// The milliseconds since the last tick; 0 if slices end exactly.

@@ -122,7 +122,7 @@ impl Drafts {
                 }
             }
             Event::Clock => self.clock = now.saturating_add(1),
-            Event::Tick(_) | Event::SetWeight(_, _) => {}
+            Event::Tick(_) | Event::SetWeight(_, _) | Event::SetTaskWeight(_, _) => {}
         }
     }
 }

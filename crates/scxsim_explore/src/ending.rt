@@ -6,10 +6,10 @@ ghost use Rattle.scxsim_explore.specs.Unfound.{misfit_of, reach_of};
 
 use crate::auditing::look_again;
 use crate::beginning::Begun;
-use scx_explore::{Course, End, Form, Mode, SORTS, Search, Sort};
+use scx_explore::{Course, End, Form, Mode, SORTS, Search, Sort, Starts};
 use scx_isa::Rules;
 use scx_load_workloads::Workload;
-use scx_sched::Sim;
+use scx_sched::{Fault, Sim};
 use scxsim_explore_lines::{Reached, Unfound, write_summary};
 use scxsim_output::{Failed, Out};
 
@@ -33,6 +33,7 @@ pub(crate) fn write_end<W: Out>(
     let asked = Asked {
         mode: course.bounds.mode,
         may_exit: may_exit(begun.machines.first()),
+        tracks_idle: tracks_idle(begun.starts, begun.machines.first()),
     };
     let count = gather_unfound(&begun.search, asked, &mut places);
     let unfound = Unfound {
@@ -69,6 +70,8 @@ struct Asked {
     mode: Mode,
     /// True if a callback may end the policy.
     may_exit: bool,
+    /// True if the host tracks idle CPUs, so that no callback asks it in vain.
+    tracks_idle: bool,
 }
 
 /// True if a callback may end the policy: Linux rules alone know that helper.
@@ -77,6 +80,11 @@ fn may_exit(sim: &Sim) -> bool {
         Rules::Plain => false,
         Rules::Linux => true,
     }
+}
+
+/// True if the host tracks idle CPUs: where the policy has no `update_idle`, or wants both.
+fn tracks_idle(starts: Starts, sim: &Sim) -> bool {
+    starts.update_idle.is_none() || sim.policy().keeps_idle()
 }
 
 /// Gathers the sorts that weren't found, without overtaken tasks, and returns their number.
@@ -106,6 +114,7 @@ fn put(places: &mut [Sort], count: usize, sort: Sort) -> usize {
 /// True if the lists are asked about that sort. If clocks are free, each policy has stalls.
 fn is_sought(sort: Sort, asked: Asked) -> bool {
     match sort {
+        Sort::Fault(Fault::IdleUntracked) => !asked.tracks_idle,
         Sort::Fault(_) | Sort::Idle => true,
         Sort::Stall => asked.mode != Mode::Events,
         Sort::Overtaken => false,

@@ -6,7 +6,7 @@ use Rattle.scx_isa_semantics.specs.declared.callbacks.Callback.{Callback}
 use Rattle.scx_isa_semantics.specs.Callbacks.{callback_name}
 use Rattle.scx_sched_world.specs.Faults.{fault_number}
 use Rattle.scx_sched_machine.specs.declared.events.Event.{Event}
-use Rattle.scx_sched_machine.specs.declared.events.Event.TheVariants.{Wake, Sleep, Tick, Clock, SetWeight}
+use Rattle.scx_sched_machine.specs.declared.events.Event.TheVariants.{Wake, Sleep, Tick, Clock, SetWeight, SetTaskWeight}
 use Rattle.scx_sched.specs.Sim.{SimState}
 use Rattle.scx_load_driver.specs.Runs.{notes_of_all}
 use Rattle.scxsim_trace.specs.Lines.{NameLists, task_name, group_name, note_lines}
@@ -59,6 +59,7 @@ is_clock (Sleep t) = false
 is_clock (Tick c) = false
 is_clock Clock = true
 is_clock (SetWeight g w) = false
+is_clock (SetTaskWeight t w) = false
 
 -- the number of milliseconds that a list begins, where its first event begins one or doesn't; an
 -- event after a clock begins one
@@ -86,10 +87,15 @@ found_line x f m depth = finding_words x f ++ (codes " after " ++ decimal depth 
 
 -- ---- the list
 
--- the line of a new weight
+-- the line of a group's new weight
 abbrev pub weight_line : NameLists → ℕ → ℕ → List ℕ
 weight_line x g w =
     (codes "weight " ++ group_name x g ++ codes " ") ++ (codes "" ++ decimal w ++ codes "\n")
+
+-- the line of a task's new weight of its own
+abbrev pub own_weight_line : NameLists → ℕ → ℕ → List ℕ
+own_weight_line x t w =
+    (codes "task_weight " ++ task_name x t ++ codes " ") ++ (codes "" ++ decimal w ++ codes "\n")
 
 -- the line of an event
 abbrev pub event_line : NameLists → Event → List ℕ
@@ -98,6 +104,7 @@ event_line x (Sleep t) = codes "sleep " ++ task_name x t ++ codes "\n"
 event_line x (Tick c) = codes "tick " ++ decimal c ++ codes "\n"
 event_line x Clock = codes "clock\n"
 event_line x (SetWeight g w) = weight_line x g w
+event_line x (SetTaskWeight t w) = own_weight_line x t w
 
 -- a line for each event
 abbrev pub event_lines : NameLists → List Event → List ℕ

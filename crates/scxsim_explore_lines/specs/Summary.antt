@@ -2,7 +2,7 @@
 -- what is in none of the lists.
 use Rattle.std.specs.Prelude.{ℕ, List, [], ◌++◌, Bool, true, false, Option, Some, None, codes, decimal, flat_map}
 use Rattle.scx_isa_semantics.specs.declared.callbacks.Callback.{Callback}
-use Rattle.scx_isa_semantics.specs.declared.callbacks.Callback.TheVariants.{Init, Enable}
+use Rattle.scx_isa_semantics.specs.declared.callbacks.Callback.TheVariants.{Init, Enable, SetWeight, UpdateIdle}
 use Rattle.scx_sched_world.specs.Faults.{fault_number}
 use Rattle.scx_explore_findings.specs.declared.finding.Sort.{Sort}
 use Rattle.scx_explore_findings.specs.declared.finding.Sort.TheVariants as sort
@@ -28,9 +28,14 @@ abbrev pub start_line : Callback → Option ℕ → List ℕ
 start_line b None = []
 start_line b (Some n) = run_line b n
 
--- the lines of both callbacks that may
+-- the lines of those that run for each task
+abbrev pub task_start_lines : Starts → List ℕ
+task_start_lines x = start_line Enable x.enable ++ start_line SetWeight x.set_weight
+
+-- the lines of all callbacks that may
 abbrev pub start_lines : Starts → List ℕ
-start_lines x = start_line Init x.init ++ start_line Enable x.enable
+start_lines x =
+    start_line Init x.init ++ task_start_lines x ++ start_line UpdateIdle x.update_idle
 
 -- ---- how far the search came
 

@@ -3,7 +3,7 @@ ghost use Rattle.std.specs.Io.KnownBytes.{Appends};
 ghost use Rattle.scxsim_output.specs.Output.{Counts};
 ghost use Rattle.scx_load_driver.specs.Runs.{notes_of_all, stepped_all};
 ghost use Rattle.scxsim_trace.specs.Lines.{names_of, note_lines};
-ghost use Rattle.scxsim_explore_lines.specs.Found.{event_line, event_lines, file_text, finding_words, found_line, idle_words, length_in, list_text, most_words, overtaken_words, told_text, unit, wait_words, weight_line, workload_text};
+ghost use Rattle.scxsim_explore_lines.specs.Found.{event_line, event_lines, file_text, finding_words, found_line, idle_words, length_in, list_text, most_words, overtaken_words, own_weight_line, told_text, unit, wait_words, weight_line, workload_text};
 
 use crate::lengths::length_in;
 use crate::listed::Listed;
@@ -176,6 +176,7 @@ fn write_event<W: Out>(about: &Workload, event: Event, out: &mut W) -> Result<()
         Event::Tick(cpu) => write_number(out, "tick ", u64::from(cpu), "\n"),
         Event::Clock => write_text(out, "clock\n"),
         Event::SetWeight(group, weight) => write_weight(about, group, weight, out),
+        Event::SetTaskWeight(task, weight) => write_own_weight(about, task, weight, out),
     }
 }
 
@@ -190,6 +191,20 @@ fn write_weight<W: Out>(
     ensures failures { Counts result (W.failure_count out.old) (W.failure_count out.new) }
 {
     write_named(out, "weight ", Names::group(about, group), " ")?;
+    write_number(out, "", u64::from(weight), "\n")
+}
+
+fn write_own_weight<W: Out>(
+    about: &Workload,
+    task: u16,
+    weight: u32,
+    out: &mut W,
+) -> Result<(), Failed>
+    ensures ok { OnOk result (Appends (W.contents out.old) (W.contents out.new)
+        (own_weight_line (names_of about.now) task weight)) }
+    ensures failures { Counts result (W.failure_count out.old) (W.failure_count out.new) }
+{
+    write_task(about, "task_weight ", task, " ", out)?;
     write_number(out, "", u64::from(weight), "\n")
 }
 

@@ -40,6 +40,10 @@ fn is_clock(event: Event) -> bool
 {
     match event {
         Event::Clock => true,
-        Event::Wake(_) | Event::Sleep(_) | Event::Tick(_) | Event::SetWeight(_, _) => false,
+        Event::Wake(_)
+        | Event::Sleep(_)
+        | Event::Tick(_)
+        | Event::SetWeight(_, _)
+        | Event::SetTaskWeight(_, _) => false,
     }
 }

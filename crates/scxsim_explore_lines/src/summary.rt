@@ -1,7 +1,7 @@
 ghost use Rattle.std.specs.Prelude.{◌≡◌, ◌++◌, IfOk, OnOk, Some, flat_map};
 ghost use Rattle.std.specs.Io.KnownBytes.{Appends};
 ghost use Rattle.scxsim_output.specs.Output.{Counts};
-ghost use Rattle.scxsim_explore_lines.specs.Summary.{again_line, alike_line, depth_lines, depth_unit, depths_of, few_words, kept_line, level_line, memory_line, misfit_end, misfit_line, none_line, none_lines, nones_of, nones_text, overtaken_line, reach_words, run_line, sort_words, start_line, start_lines, summary_text, tried_words, up_to};
+ghost use Rattle.scxsim_explore_lines.specs.Summary.{again_line, alike_line, depth_lines, depth_unit, depths_of, few_words, kept_line, level_line, memory_line, misfit_end, misfit_line, none_line, none_lines, nones_of, nones_text, overtaken_line, reach_words, run_line, sort_words, start_line, start_lines, summary_text, task_start_lines, tried_words, up_to};
 
 use crate::found::write_most;
 use crate::pieces::{write_number, write_text};
@@ -62,7 +62,18 @@ fn write_starts<W: Out>(starts: Starts, out: &mut W) -> Result<(), Failed>
     ensures failures { Counts result (W.failure_count out.old) (W.failure_count out.new) }
 {
     write_start(Callback::Init, starts.init, out)?;
-    write_start(Callback::Enable, starts.enable, out)
+    write_task_starts(starts, out)?;
+    write_start(Callback::UpdateIdle, starts.update_idle, out)
+}
+
+/// Writes them of the callbacks that run for each task.
+fn write_task_starts<W: Out>(starts: Starts, out: &mut W) -> Result<(), Failed>
+    ensures ok { OnOk result
+        (Appends (W.contents out.old) (W.contents out.new) (task_start_lines starts)) }
+    ensures failures { Counts result (W.failure_count out.old) (W.failure_count out.new) }
+{
+    write_start(Callback::Enable, starts.enable, out)?;
+    write_start(Callback::SetWeight, starts.set_weight, out)
 }
 
 /// Writes the most instructions of a callback before any event, if it ran.
