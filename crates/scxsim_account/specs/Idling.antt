@@ -2,7 +2,7 @@
 -- the events and notes of a run come.
 use Rattle.std.specs.Prelude.{ℕ, zero, suc, ◌≡◌, ◌+◌, ◌-◌, ◌^◌, min, ◌==◌, ◌&&◌, ◌||◌, if◌then◌else◌, not, Bool, true, false, List, length, replicate, Option, Some, None, is_some, slice_index_or, slice_set}
 use Rattle.scx_sched_world.specs.declared.notes.What.{What}
-use Rattle.scx_sched_world.specs.declared.notes.What.TheVariants.{Wake, Sleep, Insert, Move, Run, Stop, Weight, Stall, Fault, Exit}
+use Rattle.scx_sched_world.specs.declared.notes.What.TheVariants.{Wake, Sleep, Insert, Move, Run, Stop, Weight, TaskWeight, Stall, Fault, Exit}
 use Rattle.scx_sched_world.specs.declared.notes.What.TheVariants as note
 use Rattle.scx_sched_world.specs.World.{running}
 use Rattle.scx_sched_machine.specs.declared.events.Event.{Event}
@@ -51,6 +51,7 @@ begun_after (Run t c) bs = slice_set bs t true
 begun_after (Stop t c) bs = bs
 begun_after (note.Idle c) bs = bs
 begun_after (Weight g x) bs = bs
+begun_after (TaskWeight t x) bs = bs
 begun_after (Stall t) bs = bs
 begun_after (Fault f) bs = bs
 begun_after (Exit n) bs = bs
@@ -109,6 +110,7 @@ idle_after_event s (event.Wake t) k = k
 idle_after_event s (event.Sleep t) k = k
 idle_after_event s event.Clock k = k
 idle_after_event s (event.SetWeight g x) k = k
+idle_after_event s (event.SetTaskWeight t x) k = k
 
 -- the sums after a note
 abbrev pub idle_after_note : ℕ → What → Idle → Idle

@@ -177,7 +177,11 @@ impl Observer for Account {
         };
         match event {
             Event::Tick(cpu) => self.tick(sim, cpu),
-            Event::Wake(_) | Event::Sleep(_) | Event::Clock | Event::SetWeight(_, _) => {}
+            Event::Wake(_)
+            | Event::Sleep(_)
+            | Event::Clock
+            | Event::SetWeight(_, _)
+            | Event::SetTaskWeight(_, _) => {}
         }
     }
 

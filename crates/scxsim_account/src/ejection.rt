@@ -35,7 +35,7 @@ impl Moment {
     /// The task of the event, or the task that ran as a tick came.
     fn task(self) -> Option<u16> {
         match self.event {
-            Event::Wake(task) | Event::Sleep(task) => Some(task),
+            Event::Wake(task) | Event::Sleep(task) | Event::SetTaskWeight(task, _) => Some(task),
             Event::Tick(_) => self.running,
             Event::Clock | Event::SetWeight(_, _) => None,
         }
@@ -44,7 +44,11 @@ impl Moment {
     fn cpu(self) -> Option<u32> {
         match self.event {
             Event::Tick(cpu) => Some(cpu),
-            Event::Wake(_) | Event::Sleep(_) | Event::Clock | Event::SetWeight(_, _) => None,
+            Event::Wake(_)
+            | Event::Sleep(_)
+            | Event::Clock
+            | Event::SetWeight(_, _)
+            | Event::SetTaskWeight(_, _) => None,
         }
     }
 }

@@ -78,7 +78,11 @@ impl Idling {
                 self.begin_ticks(sim.tasks(), cpu);
                 self.tick(sim.clock(), cpu, sim.runner(cpu).is_none());
             }
-            Event::Wake(_) | Event::Sleep(_) | Event::Clock | Event::SetWeight(_, _) => {}
+            Event::Wake(_)
+            | Event::Sleep(_)
+            | Event::Clock
+            | Event::SetWeight(_, _)
+            | Event::SetTaskWeight(_, _) => {}
         }
     }
 

@@ -153,6 +153,7 @@ pub(crate) fn task_of(what: What) -> Option<u16> {
         | What::Move(task, _)
         | What::Run(task, _)
         | What::Stop(task, _)
+        | What::TaskWeight(task, _)
         | What::Stall(task) => Some(task),
         What::Idle(_) | What::Weight(_, _) | What::Fault(_) | What::Exit(_) => None,
     }

@@ -66,8 +66,12 @@ impl Activities {
             What::Move(task, _) => self.change(task, Some(Activity::Waits), moment),
             What::Run(task, cpu) => self.change(task, Some(Activity::Runs(cpu)), moment),
             What::Stop(task, _) => self.change(task, None, moment),
-            What::Idle(_) | What::Weight(_, _) | What::Stall(_) | What::Fault(_) | What::Exit(_) =>
-                None,
+            What::Idle(_)
+            | What::Weight(_, _)
+            | What::TaskWeight(_, _)
+            | What::Stall(_)
+            | What::Fault(_)
+            | What::Exit(_) => None,
         }
     }
 

@@ -25,7 +25,8 @@ impl Ejection {
             | What::Run(_, _)
             | What::Stop(_, _)
             | What::Idle(_)
-            | What::Weight(_, _) => None,
+            | What::Weight(_, _)
+            | What::TaskWeight(_, _) => None,
         }
     }
 

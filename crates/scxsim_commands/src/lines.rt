@@ -66,7 +66,7 @@ pub(crate) fn callback_line(
 /// The name of a callback, which leaves room in a line.
 pub(crate) fn short_name(callback: Callback) -> &'static str
     ensures name { result.now ≡ name_of callback }
-    ensures short { length result.now ≤ 10 }
+    ensures short { length result.now ≤ 11 }
 {
     callback.name()
 }

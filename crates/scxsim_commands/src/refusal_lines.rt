@@ -95,6 +95,7 @@ fn cause_end(cause: Cause) -> Line
         Cause::Twice => whole_line(": twice\n"),
         Cause::TooMany => whole_line(": too many\n"),
         Cause::NoSuchGroup => whole_line(": no such group\n"),
+        Cause::NoSuchTask => whole_line(": no such task\n"),
         Cause::NotALeaf => whole_line(": not a leaf\n"),
         Cause::TooDeep => whole_line(": too deep\n"),
         Cause::BadHex => whole_line(": bad hex\n"),

@@ -10,7 +10,7 @@ use itoa::Buffer;
 use scx_isa::{CALLBACKS, Callback};
 
 /// The most bytes of the lines of all callbacks, and some more.
-const LINES_CAPACITY: usize = 1280;
+const LINES_CAPACITY: usize = 1792;
 
 /// The lines of a policy's callbacks. They take no memory from the allocator.
 pub(crate) type Lines = ArrayString<LINES_CAPACITY>;
@@ -28,7 +28,7 @@ pub(crate) fn lines_of(verdicts: &Verdicts) -> Lines
 
 /// Appends the line of a callback, if it has a verdict.
 fn push_line(lines: &mut Lines, callback: Callback, verdict: Option<&Verdict>)
-    requires { array_string_len lines.old ≤ 1152 }
+    requires { array_string_len lines.old ≤ 1664 }
     ensures bytes { lines.new.bytes
         ≡ lines.old.bytes ++ line_of callback (option_map (λ v. v.now) verdict.entry) }
     ensures room { array_string_len lines.new ≤ array_string_len lines.old + 128 }

@@ -24,7 +24,7 @@ impl Advice {
             Reason::Value(value) => line.push(self.on_value(value)),
             Reason::Access(access) => line.push(self.on_access(access)),
             Reason::Field(field) => push_advice_on_field(line, self.rules, field),
-            Reason::Call(call) => push_advice_on_call(line, call),
+            Reason::Call(call) => push_advice_on_call(line, self.rules, call),
             Reason::UnknownMap { .. } => line.push("count maps from 0, or define the map"),
         }
     }
@@ -108,23 +108,23 @@ fn push_advice_on_field(line: &mut Text, rules: Rules, field: BadField) {
     }
 }
 
-fn push_advice_on_call(line: &mut Text, call: BadCall) {
+fn push_advice_on_call(line: &mut Text, rules: Rules, call: BadCall) {
     match call {
         BadCall::Unknown(_) => line.push("take the number from the table of helpers"),
-        BadCall::NotHere { number, .. } => push_callbacks(line, number),
+        BadCall::NotHere { number, .. } => push_callbacks(line, rules, number),
         BadCall::Argument { .. } => line.push("put the arguments in r1, r2 and so on"),
     }
 }
 
-/// Appends where a helper may be called.
-fn push_callbacks(line: &mut Text, number: i32) {
+/// Appends the callbacks that these rules know in which a helper may be called.
+fn push_callbacks(line: &mut Text, rules: Rules, number: i32) {
     line.push("call it in ");
     let Some(helper) = Helper::new(number) else {
         return;
     };
     let mut before = "";
     for callback in CALLBACKS {
-        if helper.is_allowed(callback) {
+        if callback.is_known(rules) && helper.is_allowed(callback) {
             line.push(before);
             line.push(callback.name());
             before = ", ";

@@ -88,6 +88,8 @@ module _ (x : Cause) where
     late = λ linux here. h;
     claimed = λ o. has_claimed w o h;
     kicked = λ c k. has_kicked w c k h;
+    started = λ n ns. h;
+    cancelled = λ n. h;
     moved = λ q here low. has_moved w (front_of w.queues q) q h;
   }) x a
 

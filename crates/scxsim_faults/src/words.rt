@@ -12,7 +12,8 @@ use scxsim_trace::Names;
 enum Meaning {
     Task,
     Queue,
-    Slice,
+    /// A time in nanoseconds.
+    Time,
     /// The code of an exit, which has a sign.
     Code,
     Number,
@@ -33,7 +34,8 @@ fn meaning_of_number(helper: Helper, index: usize) -> Meaning {
         (Helper::CreateDsq | Helper::DsqMoveToLocal | Helper::DsqNrQueued | Helper::DsqPeek, 0) =>
             Meaning::Queue,
         (Helper::DsqInsert | Helper::DsqInsertVtime, 1) => Meaning::Queue,
-        (Helper::DsqInsert | Helper::DsqInsertVtime, 2) => Meaning::Slice,
+        (Helper::DsqInsert | Helper::DsqInsertVtime, 2) => Meaning::Time,
+        (Helper::TimerStart, 1) => Meaning::Time,
         (Helper::Exit, 0) => Meaning::Code,
         _ => Meaning::Number,
     }
@@ -57,8 +59,8 @@ pub fn is_local(queue: u64) -> bool {
     LOCAL_ON <= queue && queue - LOCAL_ON <= u64::from(u32::MAX)
 }
 
-/// Writes a slice, in milliseconds if it is a whole number of them; the greatest has no end.
-fn write_slice(ns: u64, said: &mut Text) {
+/// Writes a time, in milliseconds if it is a whole number of them; the greatest has no end.
+fn write_time(ns: u64, said: &mut Text) {
     if ns == u64::MAX {
         said.push("no end");
     } else if ns != 0 && ns % 1_000_000 == 0 {
@@ -122,7 +124,7 @@ fn write_argument<N: Names>(
     match meaning {
         Meaning::Task => write_task(call.task_at(index), names, said),
         Meaning::Queue => write_queue(number, said),
-        Meaning::Slice => write_slice(number, said),
+        Meaning::Time => write_time(number, said),
         Meaning::Code => said.show("", &number.cast_signed()),
         Meaning::Number => said.number("", number),
     }
@@ -164,16 +166,20 @@ fn write_reason_of<N: Names>(
             write_queue(queue, said);
         }
         Fault::NoSuchCpu => write_no_cpu(cpu_of(call), place.cpus, said),
-        Fault::UnknownFlag => said.push(unknown_flags(call)),
+        Fault::UnknownFlag => write_unknown(call, said),
         Fault::CannotCreate => write_no_room(place, queue, said),
+        Fault::IdleUntracked => {
+            said.push("the policy tracks idle CPUs itself: update_idle without keep_idle");
+        }
     }
 }
 
-/// The words for flags that a call doesn't know.
-fn unknown_flags(call: &HelperCall) -> &'static str {
+/// Writes that a call doesn't know its flags, or its timer.
+fn write_unknown(call: &HelperCall, said: &mut Text) {
     match call.helper {
-        Helper::KickCpu => "flags other than 0, 1 and 2",
-        _ => "flags other than 0 and 1",
+        Helper::TimerStart | Helper::TimerCancel => said.number("no timer ", call.number_at(0)),
+        Helper::KickCpu => said.push("flags other than 0, 1 and 2"),
+        _ => said.push("flags other than 0 and 1"),
     }
 }
 

@@ -3,7 +3,7 @@
 use Rattle.std.specs.Prelude.{◌≡◌, ℕ, ◌+◌, ◌-◌, ◌^◌, min, max, Bool, true, false, nat_lt, List, [], ◌∷◌, length, replicate, count_by, Option, None, Some, slice_index_or, slice_set}
 use Rattle.scx_sched_world.specs.declared.notes.Note.{Note}
 use Rattle.scx_sched_world.specs.declared.notes.What.{What}
-use Rattle.scx_sched_world.specs.declared.notes.What.TheVariants.{Wake, Sleep, Insert, Move, Run, Stop, Idle, Weight, Stall, Fault, Exit}
+use Rattle.scx_sched_world.specs.declared.notes.What.TheVariants.{Wake, Sleep, Insert, Move, Run, Stop, Idle, Weight, TaskWeight, Stall, Fault, Exit}
 use Rattle.scx_sched_machine.specs.declared.events.Event.{Event}
 use Rattle.scx_sched.specs.Sim.{SimState, after_event, notes_of}
 use Rattle.scx_load_workloads.specs.Workload.{WorkloadState}
@@ -57,6 +57,7 @@ after_note m (Sleep t) k = turned t (within k.window m) None k
 after_note m (Stop t c) k = turned t (within k.window m) None k
 after_note m (Idle c) k = k
 after_note m (Weight g x) k = k
+after_note m (TaskWeight t x) k = k
 after_note m (Stall t) k = k
 after_note m (Fault f) k = k
 after_note m (Exit n) k = k

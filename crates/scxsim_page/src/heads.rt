@@ -1,4 +1,4 @@
-use scx_load_workloads::Workload;
+use scx_load_workloads::{Change, Weighed, Workload};
 use scxsim_commands::Window;
 use scxsim_output::Text;
 use scxsim_trace::Names;
@@ -115,17 +115,25 @@ fn task_name(contents: &Workload, number: usize) -> &str {
     }
 }
 
-/// The changes of weights that come before the end of what is shown.
+/// The changes of groups' weights that come before the end of what is shown.
 fn push_changes(text: &mut Text, contents: &Workload, window: Window) {
     let mut number = 0usize;
     for change in contents.changes() {
-        if u64::from(change.at) < window.to {
+        if let Some(group) = group_within(*change, window) {
             push_comma(text, number);
             text.number("[", u64::from(change.at));
-            text.number(",", u64::from(change.group));
+            text.number(",", u64::from(group));
             text.number(",", u64::from(change.weight));
             text.push("]");
             number = number.saturating_add(1);
         }
+    }
+}
+
+/// The group whose weight changes, if that comes before the end of what is shown.
+fn group_within(change: Change, window: Window) -> Option<u32> {
+    match change.weighed {
+        Weighed::Group(group) if u64::from(change.at) < window.to => Some(group),
+        Weighed::Group(_) | Weighed::Task(_) => None,
     }
 }

@@ -63,7 +63,7 @@ impl Recording {
                 self.ejection = Ejection::of(moment, what);
                 None
             }
-            What::Idle(_) | What::Weight(_, _) => None,
+            What::Idle(_) | What::Weight(_, _) | What::TaskWeight(_, _) => None,
         };
         self.add(stretch);
     }

@@ -163,8 +163,12 @@ impl Observer for Counting {
             What::Run(task, _) => self.turn(task, now, Some(now)),
             What::Sleep(task) => self.turn(task, now, None),
             What::Stop(task, _) => self.turn(task, now, None),
-            What::Idle(_) | What::Weight(_, _) | What::Stall(_) | What::Fault(_) | What::Exit(_) =>
-                {}
+            What::Idle(_)
+            | What::Weight(_, _)
+            | What::TaskWeight(_, _)
+            | What::Stall(_)
+            | What::Fault(_)
+            | What::Exit(_) => {}
         }
     }
 

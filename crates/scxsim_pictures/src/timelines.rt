@@ -94,7 +94,7 @@ impl TimelineSketch {
                 self.place(moment, task, None);
             }
             What::Stop(_, cpu) => self.stop(moment, cpu),
-            What::Idle(_) | What::Weight(_, _) => {}
+            What::Idle(_) | What::Weight(_, _) | What::TaskWeight(_, _) => {}
             What::Stall(task) => self.lines.second = Some(stall(moment, task)),
             What::Fault(reason) => self.lines.second = Some(fault(moment, reason.number())),
             What::Exit(code) => self.lines.second = Some(exit(moment, code)),

@@ -18,6 +18,7 @@ pub(crate) enum Format {
 enum Table {
     Top,
     Map,
+    Timer,
     /// `code` or `slots`.
     Programs,
     Group,
@@ -65,7 +66,7 @@ pub(crate) fn nearest_key(alloc: Global, format: Format, path: &str) -> Option<&
 /// The keys that the table takes, but for callbacks. None if the format has no such table.
 fn keys_of(format: Format, table: Table) -> &'static [&'static str] {
     match format {
-        Format::Policy(_) => policy_keys(table),
+        Format::Policy(rules) => policy_keys(rules, table),
         Format::Workload(rules) => workload_keys(rules, table),
         Format::Events(rules) => events_keys(rules, table),
     }
@@ -80,11 +81,16 @@ pub(crate) fn is_known_by_linux(format: Format, path: &str) -> bool {
             workload_keys(Rules::Linux, key.table),
         ),
         Format::Events(Rules::Plain) => is_among(key.word, events_keys(Rules::Linux, key.table)),
-        Format::Policy(Rules::Plain) => is_linux_callback(key),
+        Format::Policy(Rules::Plain) => is_linux_key(key),
         Format::Policy(Rules::Linux)
         | Format::Workload(Rules::Linux)
         | Format::Events(Rules::Linux) => { false }
     }
+}
+
+/// True if a policy has the key under Linux rules alone.
+fn is_linux_key(key: Key<'_>) -> bool {
+    is_linux_callback(key) || is_among(key.word, policy_keys(Rules::Linux, key.table))
 }
 
 /// True if the key names a callback that Linux rules alone know.
@@ -104,9 +110,19 @@ fn is_among(word: &str, keys: &[&str]) -> bool {
     keys.iter().any(|key| *key == word)
 }
 
-fn policy_keys(table: Table) -> &'static [&'static str] {
+fn policy_keys(rules: Rules, table: Table) -> &'static [&'static str] {
     match table {
-        Table::Top => &[
+        Table::Top => top_policy_keys(rules),
+        Table::Map => &["entries", "value_size"],
+        Table::Timer => timer_keys(rules),
+        Table::Programs | Table::Group | Table::Task | Table::Change => &[],
+    }
+}
+
+/// The keys at the top of a policy.
+fn top_policy_keys(rules: Rules) -> &'static [&'static str] {
+    match rules {
+        Rules::Plain => &[
             "name",
             "timeout_ms",
             "rules",
@@ -115,8 +131,25 @@ fn policy_keys(table: Table) -> &'static [&'static str] {
             "code",
             "slots",
         ],
-        Table::Map => &["entries", "value_size"],
-        Table::Programs | Table::Group | Table::Task | Table::Change => &[],
+        Rules::Linux => &[
+            "name",
+            "timeout_ms",
+            "rules",
+            "tick_ms",
+            "keep_idle",
+            "map",
+            "timer",
+            "code",
+            "slots",
+        ],
+    }
+}
+
+/// The keys of a timer of a policy.
+fn timer_keys(rules: Rules) -> &'static [&'static str] {
+    match rules {
+        Rules::Plain => &[],
+        Rules::Linux => &["name"],
     }
 }
 
@@ -125,8 +158,16 @@ fn workload_keys(rules: Rules, table: Table) -> &'static [&'static str] {
         Table::Top => &["cpus", "ms", "group", "task", "change"],
         Table::Group => &["name", "weight", "parent", "cpu_max"],
         Table::Task => task_keys(rules),
-        Table::Change => &["at", "group", "weight"],
-        Table::Map | Table::Programs => &[],
+        Table::Change => change_keys(rules),
+        Table::Map | Table::Timer | Table::Programs => &[],
+    }
+}
+
+/// The keys of a change of a workload.
+fn change_keys(rules: Rules) -> &'static [&'static str] {
+    match rules {
+        Rules::Plain => &["at", "group", "weight"],
+        Rules::Linux => &["at", "group", "task", "weight"],
     }
 }
 
@@ -143,7 +184,7 @@ fn events_keys(rules: Rules, table: Table) -> &'static [&'static str] {
         Table::Top => &["cpus", "ms", "group", "task", "events"],
         Table::Group => &["name", "weight", "parent", "cpu_max"],
         Table::Task => listed_task_keys(rules),
-        Table::Map | Table::Programs | Table::Change => &[],
+        Table::Map | Table::Timer | Table::Programs | Table::Change => &[],
     }
 }
 
@@ -202,6 +243,8 @@ fn top(word: &str) -> Key<'_> {
 fn array_of(key: &str) -> Option<Table> {
     if key == "map" {
         Some(Table::Map)
+    } else if key == "timer" {
+        Some(Table::Timer)
     } else if key == "group" {
         Some(Table::Group)
     } else if key == "task" {

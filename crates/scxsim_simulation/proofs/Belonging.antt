@@ -1,6 +1,5 @@
 -- The machine of a run is that of the two texts, as it begins and after each event.
 use Rattle.std.proofs.Common.{◌≡◌, ℕ, ◌<◌, ◌≤◌, ◌⊎◌, inl, inr, Bool, true, false, eqb, cond, List, [], ◌∷◌, length, set, Option, None, Some, is_none, Ok, refl, sym, ap, subst, ◌∙◌, arith}
-use Rattle.std.specs.List.{AllByRecursion}
 use Rattle.std.proofs.lemmas.Bool.{cases_eq, cases_lt, le-ltb}
 use Rattle.std.proofs.lemmas.List.{length-set, get_or-set_same, get_or-set_other, set_past}
 use Rattle.scx_weights.specs.declared.group.Group.{Group}
@@ -23,10 +22,10 @@ use Rattle.scx_load_policies.specs.Policies.{PolicyFile}
 use Rattle.scx_load_policies.specs.Building.{IsBuilt}
 use Rattle.scx_load_workloads.specs.Workload.{WorkloadState, first_tree}
 use Rattle.scx_load_driver.proofs.Alike.{IsLike, Times, times_of, like_first, like_rounds}
-use Rattle.scx_load_driver.proofs.Happening.{like_clock, like_tick, like_wake, like_sleep}
+use Rattle.scx_load_driver.proofs.Happening.{like_clock, like_tick, like_wake, like_sleep, like_weighed_task}
 use Rattle.scxsim_headline.specs.Headline.{Run, states_from, run_from, run_if, machine_run}
 use Rattle.scxsim_trace.specs.Runs.{StaysInOrder}
-use Rattle.scxsim_simulation.specs.Machines.{HasGroups, IsMachineOf}
+use Rattle.scxsim_simulation.specs.Machines.{HasGroups, IsMachineOf, weights_given, weights_after, AreMachinesOf}
 
 -- ---- how many tasks and processors there are
 
@@ -70,6 +69,9 @@ stays_as_large (event.SetWeight g x) s accepted =
     let v = with_tree s.world (with_weight s.world.tree g x) in
     let alike : IsLike own.state.world.tree (times s) (length s.world.cpus) own.state.world = keeps_if (λ (w : WorldState). IsLike w.tree (times s) (length s.world.cpus) w) b v s.world ((refl, refl, refl, refl), (refl, λ u. omega arith), refl) ((refl, refl, refl, refl), (refl, λ u. omega arith), refl) in
     let y = like_rounds own.state.world.tree (times s) (length s.world.cpus) own alike in
+    (y.1.0, y.2)
+stays_as_large (event.SetTaskWeight t x) s accepted =
+    let y = like_weighed_task s.world.tree (times s) (length s.world.cpus) s t x (like_now s) in
     (y.1.0, y.2)
 
 by_machine : (b : Bool) (o : Option Refused) → cond b (Some RunOver) o ≡ None → o ≡ None
@@ -129,25 +131,27 @@ module _ (groups : List Group) (homes : List ℕ) where
   has_groups_after (event.Tick c) w h = has_groups_used (running w c) w.tree h
   has_groups_after event.Clock w h = has_groups_still w.tree _ refl refl h
   has_groups_after (event.SetWeight g x) w h = has_groups_reweighed w.tree _ g x refl refl h
+  has_groups_after (event.SetTaskWeight t x) w h = has_groups_still w.tree _ refl refl h
 
 -- a tick leaves tasks their own weights
 used_weights : (o : Option ℕ) (t : Hierarchy) → (used_at_tick o t).own_weights ≡ t.own_weights
 used_weights None t = refl
 used_weights (Some k) t = refl
 
--- an event leaves tasks their own weights
-weights_after : (e : Event) (w : WorldState) → (tree_after e w).own_weights ≡ w.tree.own_weights
-weights_after (event.Wake t) w = refl
-weights_after (event.Sleep t) w = refl
-weights_after (event.Tick c) w = used_weights (running w c) w.tree
-weights_after event.Clock w = refl
-weights_after (event.SetWeight g x) w = refl
+-- an event leaves tasks their own weights, but for the task to which it gives another
+weights_told : (e : Event) (w : WorldState) (own : List ℕ) → w.tree.own_weights ≡ own → (tree_after e w).own_weights ≡ weights_given own e
+weights_told (event.Wake t) w own is = is
+weights_told (event.Sleep t) w own is = is
+weights_told (event.Tick c) w own is = used_weights (running w c) w.tree ∙ is
+weights_told event.Clock w own is = is
+weights_told (event.SetWeight g x) w own is = is
+weights_told (event.SetTaskWeight t x) w own is = ap (λ xs. set xs t x) is
 
 -- ---- a run
 
 module _ (p : PolicyFile) (w : WorkloadState) where
   -- as it begins
-  begins_as : (q : PolicyState) (s : SimState) → IsBuilt p q → first_state q (first_tree w) w.cpus ≡ Ok s.state → IsMachineOf p w s
+  begins_as : (q : PolicyState) (s : SimState) → IsBuilt p q → first_state q (first_tree w) w.cpus ≡ Ok s.state → IsMachineOf p w w.own_weights s
   begins_as q s built first =
       let tree = first_tree w in
       let x = like_first q tree w.cpus s.state first in
@@ -160,28 +164,29 @@ module _ (p : PolicyFile) (w : WorkloadState) where
       }
 
   -- after an event
-  goes_on_as : (o : Option Refused) (s : SimState) (e : Event) (t : SimState) → (o ≡ None → HasSize s.state t.state) → Follows o s e t → IsMachineOf p w s → IsMachineOf p w t
-  goes_on_as None s e t large h m =
+  goes_on_as : (o : Option Refused) (own : List ℕ) (s : SimState) (e : Event) (t : SimState) → (o ≡ None → HasSize s.state t.state) → Follows o s e t → IsMachineOf p w own s → IsMachineOf p w (weights_after o own e) t
+  goes_on_as None own s e t large h m =
       let size = large refl in
       record {
         policy = subst (IsBuilt p) (sym h.0.policy) m.policy;
         cpus = size.1 ∙ m.cpus;
         tasks = size.0 ∙ m.tasks;
         tree = subst (HasGroups w.groups w.homes) (sym h.0.tree) (has_groups_after w.groups w.homes e s.state.world m.tree);
-        weights = ap (λ (t : Hierarchy). t.own_weights) h.0.tree ∙ weights_after e s.state.world ∙ m.weights;
+        weights = ap (λ (t : Hierarchy). t.own_weights) h.0.tree ∙ weights_told e s.state.world own m.weights;
       }
-  goes_on_as (Some r) s e t large h m = subst (IsMachineOf p w) (sym h) m
+  goes_on_as (Some r) own s e t large h m = subst (IsMachineOf p w own) (sym h) m
 
   -- as it begins and after each of these events
-  stays_as : (s : SimState) (events : List Event) → IsMachineOf p w s → StaysInOrder s events → AllByRecursion (IsMachineOf p w) (states_from s events)
-  stays_as s [] m h = (m, tt)
-  stays_as s (e ∷ es) m (now, well, more) =
-      (m, stays_as (after_event s e) es (goes_on_as (refusal s e) s e (after_event s e) (stays_as_large_counted e s) well.1 m) more)
+  stays_as : (own : List ℕ) (s : SimState) (events : List Event) → IsMachineOf p w own s → StaysInOrder s events → AreMachinesOf p w own events (states_from s events)
+  stays_as own s [] m h = m
+  stays_as own s (e ∷ es) m (now, well, more) =
+      let next = goes_on_as (refusal s e) own s e (after_event s e) (stays_as_large_counted e s) well.1 m in
+      (m, stays_as (weights_after (refusal s e) own e) (after_event s e) es next more)
 
   -- in its whole run
-  pub is_that_machine : (q : PolicyState) (s : SimState) (events : List Event) → IsBuilt p q → IsFirstState q (first_tree w) w.cpus s → StaysInOrder s events → AllByRecursion (IsMachineOf p w) (machine_run q (first_tree w) w.cpus events).states
+  pub is_that_machine : (q : PolicyState) (s : SimState) (events : List Event) → IsBuilt p q → IsFirstState q (first_tree w) w.cpus s → StaysInOrder s events → AreMachinesOf p w w.own_weights events (machine_run q (first_tree w) w.cpus events).states
   is_that_machine q s events built first h =
       let tree = first_tree w in
       let from_state : ℕ → Run = λ n. run_from (start_calls q tree w.cpus) (record { state = s.state; events = n }) events in
       let same : machine_run q tree w.cpus events ≡ run_from (start_calls q tree w.cpus) s events = ap (λ r. run_if r (start_calls q tree w.cpus) events) first.0 ∙ ap from_state (sym first.1) in
-      subst (λ (r : Run). AllByRecursion (IsMachineOf p w) r.states) (sym same) (stays_as s events (begins_as q s built first.0) h)
+      subst (λ (r : Run). AreMachinesOf p w w.own_weights events r.states) (sym same) (stays_as w.own_weights s events (begins_as q s built first.0) h)

@@ -1,7 +1,6 @@
 -- What the texts of a policy file and of a workload file say together: a run, with its trace and
 -- its report, or why they are refused.
 use Rattle.std.specs.Prelude.{◌≡◌, ℕ, ℤ, false, List, [], ◌∷◌, ◌++◌, Option, ⊤, Ok, Err, string_bytes}
-use Rattle.std.specs.List.{AllByRecursion}
 use Rattle.scx_isa_semantics.specs.declared.callbacks.Callback as callbacks
 use Rattle.scx_isa_semantics.specs.declared.rules.Rules.{Rules}
 use Rattle.scx_verify.specs.declared.faults.Fault.{Fault}
@@ -27,7 +26,7 @@ use Rattle.scxsim_trace.specs.Runs.{IsCutIn}
 use Rattle.scxsim_trace.specs.Report as reports
 use Rattle.scxsim_commands.specs.declared.refusal.Refusal.{Refusal}
 use Rattle.scxsim_commands.specs.declared.refusal.Refusal.TheVariants.{NoMemory, Policy, Workload, Callback, Init}
-use Rattle.scxsim_simulation.specs.Machines.{IsMachineOf}
+use Rattle.scxsim_simulation.specs.Machines.{AreMachinesOf}
 
 -- the policy of the text begins with that state, on these processors and with these
 -- groups and tasks; no callback got stuck before the first event
@@ -98,7 +97,7 @@ pub record IsOfHeadline {policy : List ℕ} {w : WorkloadState} {s : SimState}
   pub shape : is_bad_shape (first_tree w) w.cpus ≡ false
   pub limit : IsTimeout x.file.timeout_ms
   pub programs : AreAs x.machine.callbacks
-  pub machine : AllByRecursion (IsMachineOf x.file w) (run_of x events).states
+  pub machine : AreMachinesOf x.file w w.own_weights events (run_of x events).states
 
 -- The machine took these events up to the first one of which a line wasn't written whole, and
 -- none after it.

@@ -175,7 +175,7 @@ fn workload_in(alloc: Global, rules: Rules, text: &str) -> Result<Workload, Refu
     or_refusal(FileKind::Workload, read_workload_by(alloc, rules, text))
 }
 
-/// What was read of a file of that kind, or its refusal: its fault where one was found.
+/// The contents of a file of that kind, or its refusal: its fault where one was found.
 pub(crate) fn or_refusal<T>(kind: FileKind, read: Result<T, LoadError>) -> Result<T, Refusal>
     ensures { result ≡ or_refusal (file_refusal kind) read }
 {

@@ -5,7 +5,7 @@ use Rattle.std.proofs.lemmas.List.{length-set}
 use Rattle.std.proofs.lemmas.List.Sums.{sum_by-cons}
 use Rattle.scx_sched_world.specs.declared.notes.Note.{Note}
 use Rattle.scx_sched_world.specs.declared.notes.What.{What}
-use Rattle.scx_sched_world.specs.declared.notes.What.TheVariants.{Wake, Sleep, Insert, Move, Run, Stop, Idle, Weight, Stall, Fault, Exit}
+use Rattle.scx_sched_world.specs.declared.notes.What.TheVariants.{Wake, Sleep, Insert, Move, Run, Stop, Idle, Weight, TaskWeight, Stall, Fault, Exit}
 use Rattle.scx_sched_world.specs.World.{task_at}
 use Rattle.scx_sched_machine.specs.declared.events.Event.{Event}
 use Rattle.scx_sched_machine.specs.declared.events.Event.TheVariants as event
@@ -69,6 +69,7 @@ note_one (Run u c) clock xs t within = refl
 note_one (Stop u c) clock xs t within = refl
 note_one (Idle c) clock xs t within = refl
 note_one (Weight g x) clock xs t within = refl
+note_one (TaskWeight u x) clock xs t within = refl
 note_one (Stall u) clock xs t within = refl
 note_one (Fault f) clock xs t within = refl
 note_one (Exit n) clock xs t within = refl
@@ -82,6 +83,7 @@ note_keeps_ran (Run u c) clock xs t within = refl
 note_keeps_ran (Stop u c) clock xs t within = refl
 note_keeps_ran (Idle c) clock xs t within = refl
 note_keeps_ran (Weight g x) clock xs t within = refl
+note_keeps_ran (TaskWeight u x) clock xs t within = refl
 note_keeps_ran (Stall u) clock xs t within = refl
 note_keeps_ran (Fault f) clock xs t within = refl
 note_keeps_ran (Exit n) clock xs t within = refl
@@ -95,6 +97,7 @@ length_noted (Run u c) clock xs = refl
 length_noted (Stop u c) clock xs = refl
 length_noted (Idle c) clock xs = refl
 length_noted (Weight g x) clock xs = refl
+length_noted (TaskWeight t x) clock xs = refl
 length_noted (Stall u) clock xs = refl
 length_noted (Fault f) clock xs = refl
 length_noted (Exit n) clock xs = refl
@@ -144,6 +147,7 @@ event_told t s (event.Wake u) k within = record { there = within; same = refl; r
 event_told t s (event.Tick c) k within = record { there = within; same = refl; ran = refl }
 event_told t s event.Clock k within = record { there = within; same = refl; ran = refl }
 event_told t s (event.SetWeight g x) k within = record { there = within; same = refl; ran = refl }
+event_told t s (event.SetTaskWeight u x) k within = record { there = within; same = refl; ran = refl }
 
 row_all_append : (t : ℕ) (ns ms : List Note) (r : Row) → row_all t (ns ++ ms) r ≡ row_all t ms (row_all t ns r)
 row_all_append t [] ms r = refl

@@ -93,6 +93,7 @@ event_told s (event.Wake t) k = record { there = refl; doing = refl; lost = λ c
 event_told s (event.Sleep t) k = record { there = refl; doing = refl; lost = λ c within. refl; anywhere = refl }
 event_told s event.Clock k = record { there = refl; doing = refl; lost = λ c within. refl; anywhere = refl }
 event_told s (event.SetWeight g x) k = record { there = refl; doing = refl; lost = λ c within. refl; anywhere = refl }
+event_told s (event.SetTaskWeight t x) k = record { there = refl; doing = refl; lost = λ c within. refl; anywhere = refl }
 
 -- notes change what tasks do, and nothing of what is lost
 pub record AreNoted (ns : List Note) (k j : RunCounts) : Type 0 where

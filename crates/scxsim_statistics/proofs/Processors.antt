@@ -4,7 +4,7 @@ use Rattle.std.specs.Option.{is_some}
 use Rattle.std.proofs.lemmas.List.{length-set}
 use Rattle.scx_sched_world.specs.declared.notes.Note.{Note}
 use Rattle.scx_sched_world.specs.declared.notes.What.{What}
-use Rattle.scx_sched_world.specs.declared.notes.What.TheVariants.{Wake, Sleep, Insert, Move, Run, Stop, Idle, Weight, Stall, Fault, Exit}
+use Rattle.scx_sched_world.specs.declared.notes.What.TheVariants.{Wake, Sleep, Insert, Move, Run, Stop, Idle, Weight, TaskWeight, Stall, Fault, Exit}
 use Rattle.scx_sched_world.specs.World.{running}
 use Rattle.scx_sched_machine.specs.declared.events.Event.{Event}
 use Rattle.scx_sched_machine.specs.declared.events.Event.TheVariants as event
@@ -32,6 +32,7 @@ note_keeps (Insert t queue) cpus c within = (refl, refl)
 note_keeps (Move t b) cpus c within = (refl, refl)
 note_keeps (Idle b) cpus c within = (refl, refl)
 note_keeps (Weight g x) cpus c within = (refl, refl)
+note_keeps (TaskWeight t x) cpus c within = (refl, refl)
 note_keeps (Stall t) cpus c within = (refl, refl)
 note_keeps (Fault f) cpus c within = (refl, refl)
 note_keeps (Exit n) cpus c within = (refl, refl)
@@ -45,6 +46,7 @@ length_noted (Insert t queue) cpus = refl
 length_noted (Move t b) cpus = refl
 length_noted (Idle b) cpus = refl
 length_noted (Weight g x) cpus = refl
+length_noted (TaskWeight t x) cpus = refl
 length_noted (Stall t) cpus = refl
 length_noted (Fault f) cpus = refl
 length_noted (Exit n) cpus = refl
@@ -98,6 +100,7 @@ is_ticked c s (event.Wake t) k within = untouched c s (event.Wake t) k refl refl
 is_ticked c s (event.Sleep t) k within = record { there = refl; busy = refl; idle = refl }
 is_ticked c s event.Clock k within = untouched c s event.Clock k refl refl
 is_ticked c s (event.SetWeight g x) k within = untouched c s (event.SetWeight g x) k refl refl
+is_ticked c s (event.SetTaskWeight t x) k within = untouched c s (event.SetTaskWeight t x) k refl refl
 
 -- ---- a run
 
@@ -141,3 +144,4 @@ cpus_stay (e ∷ es) s k = cpus_stay es (after_event s e) (noted_all counts_afte
     at_event (event.Sleep t) = refl
     at_event event.Clock = refl
     at_event (event.SetWeight g x) = refl
+    at_event (event.SetTaskWeight t x) = refl

@@ -5,7 +5,7 @@ use Rattle.std.proofs.lemmas.List.{length-set, get_or-set_same, get_or-set_other
 use Rattle.scx_sched_world.specs.Ids.{parked_queue}
 use Rattle.scx_sched_world.specs.declared.notes.Note.{Note}
 use Rattle.scx_sched_world.specs.declared.notes.What.{What}
-use Rattle.scx_sched_world.specs.declared.notes.What.TheVariants.{Wake, Sleep, Insert, Move, Run, Stop, Idle, Weight, Stall, Fault, Exit}
+use Rattle.scx_sched_world.specs.declared.notes.What.TheVariants.{Wake, Sleep, Insert, Move, Run, Stop, Idle, Weight, TaskWeight, Stall, Fault, Exit}
 use Rattle.scx_sched_machine.specs.declared.events.Event.{Event}
 use Rattle.scx_sched_machine.specs.declared.events.Event.TheVariants as event
 use Rattle.scx_sched.specs.Sim.{SimState, after_event, notes_of}
@@ -59,6 +59,7 @@ of_ended now u (Insert t queue) d =
 of_ended now u (Move t c) d = tt
 of_ended now u (Idle c) d = tt
 of_ended now u (Weight g x) d = tt
+of_ended now u (TaskWeight t x) d = tt
 of_ended now u (Stall t) d = tt
 of_ended now u (Fault f) d = tt
 of_ended now u (Exit n) d = tt
@@ -123,6 +124,7 @@ count_one (Insert u queue) ds tasks t within = same_either (eqb t u) (figures_at
 count_one (Move u c) ds tasks t within = refl
 count_one (Idle c) ds tasks t within = refl
 count_one (Weight g x) ds tasks t within = refl
+count_one (TaskWeight u x) ds tasks t within = refl
 count_one (Stall u) ds tasks t within = refl
 count_one (Fault f) ds tasks t within = refl
 count_one (Exit n) ds tasks t within = refl
@@ -146,6 +148,7 @@ length_counted (Insert u queue) ds tasks = refl
 length_counted (Move u c) ds tasks = refl
 length_counted (Idle c) ds tasks = refl
 length_counted (Weight g x) ds tasks = refl
+length_counted (TaskWeight t x) ds tasks = refl
 length_counted (Stall u) ds tasks = refl
 length_counted (Fault f) ds tasks = refl
 length_counted (Exit n) ds tasks = refl
@@ -222,6 +225,7 @@ same_rows t s (event.Sleep u) k there = (record { tasks = there.tasks; doing = t
 same_rows t s (event.Tick c) k there = (record { tasks = there.tasks; doing = there.doing }, refl)
 same_rows t s event.Clock k there = (there, refl)
 same_rows t s (event.SetWeight g x) k there = (there, refl)
+same_rows t s (event.SetTaskWeight u x) k there = (there, refl)
 
 -- the notes of two lists change a row as those of one and then those of the other do
 pub row_all_append : (t : ℕ) (ns ms : List Note) (r : Row) → row_all t (ns ++ ms) r ≡ row_all t ms (row_all t ns r)
@@ -254,6 +258,7 @@ event_keeps s (event.Sleep u) k = refl
 event_keeps s (event.Tick c) k = refl
 event_keeps s event.Clock k = refl
 event_keeps s (event.SetWeight g x) k = refl
+event_keeps s (event.SetTaskWeight t x) k = refl
 
 -- what is counted of a run has as many tasks as before it
 pub tasks_kept : (es : List Event) (s : SimState) (k : RunCounts) → length (kept_of_all counts_after_event counts_after_note s es k).tasks ≡ length k.tasks

@@ -11,7 +11,7 @@ use Rattle.scx_sched_machine.specs.Events as machine
 use Rattle.scx_sched.specs.Sim.{SimState, max_events, refusal, after_event, stepped_if}
 use Rattle.scx_load_driver.specs.Runs.{stepped_all, AreAccepted}
 use Rattle.scx_load_driver.proofs.Alike.{IsLike, Times, times_of, like_rounds}
-use Rattle.scx_load_driver.proofs.Happening.{like_clock, like_tick, like_wake, like_sleep}
+use Rattle.scx_load_driver.proofs.Happening.{like_clock, like_tick, like_wake, like_sleep, like_weighed_task}
 
 -- as many tasks as now, which have run as long
 abbrev times : State → Times
@@ -34,6 +34,7 @@ as_many (event.Sleep t) s accepted = go (cases_lt t (length s.world.tasks))
         let wrong : Some UnknownTask ≡ None = sym (not_there s t past) ∙ accepted in
         absurd (cc)
 as_many (event.Tick c) s accepted = (like_tick s.world.tree (times s) (length s.world.cpus) s c (like_now s)).1.0
+as_many (event.SetTaskWeight t x) s accepted = (like_weighed_task s.world.tree (times s) (length s.world.cpus) s t x (like_now s)).1.0
 as_many event.Clock s accepted = (like_clock s.world.tree (times s) (length s.world.cpus) s (like_now s)).1.0
 as_many (event.SetWeight g x) s accepted =
     (like_rounds own.state.world.tree (times s) (length s.world.cpus) own (go (is_none (weight_fault s.world.tree g x)) refl)).1.0

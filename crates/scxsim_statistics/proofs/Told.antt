@@ -3,7 +3,7 @@ use Rattle.std.proofs.Common.{◌≡◌, ℕ, ◌+◌, ◌-◌, ◌^◌, min, ma
 use Rattle.std.specs.List.{filter}
 use Rattle.scx_sched_world.specs.declared.notes.Note.{Note}
 use Rattle.scx_sched_world.specs.declared.notes.What.{What}
-use Rattle.scx_sched_world.specs.declared.notes.What.TheVariants.{Wake, Sleep, Insert, Move, Run, Stop, Idle, Weight, Stall, Fault, Exit}
+use Rattle.scx_sched_world.specs.declared.notes.What.TheVariants.{Wake, Sleep, Insert, Move, Run, Stop, Idle, Weight, TaskWeight, Stall, Fault, Exit}
 use Rattle.scxsim_views.specs.declared.pauses.Doing.{Doing}
 use Rattle.scxsim_views.specs.declared.pauses.Doing.TheVariants.{Sleeps, Waits, Runs, IsParked}
 use Rattle.scxsim_views.specs.declared.pauses.Pause.{Pause}
@@ -74,6 +74,7 @@ wakes_one now t (Insert u queue) d x = other_wakes (eqb t u) now t (Insert u que
 wakes_one now t (Move u c) d x = refl
 wakes_one now t (Idle c) d x = refl
 wakes_one now t (Weight g v) d x = refl
+wakes_one now t (TaskWeight u v) d x = refl
 wakes_one now t (Stall u) d x = refl
 wakes_one now t (Fault f) d x = refl
 wakes_one now t (Exit n) d x = refl
@@ -111,6 +112,7 @@ stops_one now t (Insert u queue) d x = other_stops (eqb t u) now t (Insert u que
 stops_one now t (Move u c) d x = refl
 stops_one now t (Idle c) d x = refl
 stops_one now t (Weight g v) d x = refl
+stops_one now t (TaskWeight u v) d x = refl
 stops_one now t (Stall u) d x = refl
 stops_one now t (Fault f) d x = refl
 stops_one now t (Exit n) d x = refl
@@ -166,6 +168,7 @@ count_keeps_waits (Insert u queue) d x = refl
 count_keeps_waits (Move u c) d x = refl
 count_keeps_waits (Idle c) d x = refl
 count_keeps_waits (Weight g v) d x = refl
+count_keeps_waits (TaskWeight t v) d x = refl
 count_keeps_waits (Stall u) d x = refl
 count_keeps_waits (Fault f) d x = refl
 count_keeps_waits (Exit n) d x = refl

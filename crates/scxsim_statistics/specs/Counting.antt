@@ -205,6 +205,7 @@ counts_after_event s (event.Wake t) k = k
 counts_after_event s (event.Sleep t) k = sleep_counted s.state.world t k
 counts_after_event s event.Clock k = k
 counts_after_event s (event.SetWeight g x) k = k
+counts_after_event s (event.SetTaskWeight t x) k = k
 
 -- as the run ends, the pauses that go on end for the tasks below that number, and each has
 -- run as long as it has

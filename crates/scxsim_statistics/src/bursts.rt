@@ -88,6 +88,7 @@ pub(crate) fn note_burst(
         | What::Stop(_, _)
         | What::Idle(_)
         | What::Weight(_, _)
+        | What::TaskWeight(_, _)
         | What::Stall(_)
         | What::Fault(_)
         | What::Exit(_) => Ok(()),

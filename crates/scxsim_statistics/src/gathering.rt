@@ -213,7 +213,8 @@ impl<'a> Gathering<'a> {
                 }
             }
             What::Weight(group, weight) => self.dues.shares.weigh(group, weight),
-            What::Insert(_, _)
+            What::TaskWeight(_, _)
+            | What::Insert(_, _)
             | What::Move(_, _)
             | What::Run(_, _)
             | What::Stop(_, _)
@@ -246,7 +247,7 @@ impl Observer for Gathering<'_> {
             Event::Tick(cpu) => self.tick(sim, cpu),
             Event::Sleep(task) => self.sleep(sim, task),
             Event::Clock => self.dues.pass(sim.clock().saturating_add(1)),
-            Event::Wake(_) | Event::SetWeight(_, _) => {}
+            Event::Wake(_) | Event::SetWeight(_, _) | Event::SetTaskWeight(_, _) => {}
         }
     }
 

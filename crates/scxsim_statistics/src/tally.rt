@@ -209,6 +209,7 @@ impl RunTally {
             | What::Move(_, _)
             | What::Idle(_)
             | What::Weight(_, _)
+            | What::TaskWeight(_, _)
             | What::Stall(_)
             | What::Fault(_)
             | What::Exit(_) => {}

@@ -148,5 +148,10 @@ fn push_event(names: &Workload, event: Event, text: &mut Text) {
             text.push(names.group(group));
             text.number(": ", u64::from(weight));
         }
+        Event::SetTaskWeight(task, weight) => {
+            text.push("weight of ");
+            text.push(names.task(task));
+            text.number(": ", u64::from(weight));
+        }
     }
 }

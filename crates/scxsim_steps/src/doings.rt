@@ -21,6 +21,8 @@ pub(crate) struct Before {
     notes: usize,
     /// True if it has had a fault, or has ended the policy.
     has_cause: bool,
+    /// The CPU that a call of `kick_cpu` names.
+    kick: Option<u64>,
 }
 
 impl Before {
@@ -31,7 +33,34 @@ impl Before {
             source: source_of(insn, core),
             notes: world.notes().len(),
             has_cause: world.cause().is_some(),
+            kick: kick_of(insn, core),
         }
+    }
+
+    /// The CPU that it has kicked, as the world is after it.
+    pub(crate) fn kicked(self, world: &World) -> Option<u64> {
+        if world.cause().is_some() == self.has_cause {
+            self.kick
+        } else {
+            None
+        }
+    }
+}
+
+fn kick_of(insn: Insn, core: &Core) -> Option<u64> {
+    let Insn::Call(number) = insn else {
+        return None;
+    };
+    match Helper::new(number)? {
+        Helper::KickCpu => number_of(core.read(Register::R1)),
+        _ => None,
+    }
+}
+
+fn number_of(value: Value) -> Option<u64> {
+    match value {
+        Value::Number(n) => Some(n),
+        Value::Unset | Value::Pointer(_) => None,
     }
 }
 

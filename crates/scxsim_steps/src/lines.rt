@@ -5,6 +5,7 @@ use scx_asm_text::Canonical;
 use scx_isa::{Callback, Program};
 use scx_load_workloads::Workload;
 use scx_sched_world::World;
+use scx_vm::Arg;
 use scx_vm_tagged::{Core, Watch};
 use scxsim_output::Text;
 use std::alloc::Global;
@@ -20,6 +21,8 @@ pub(crate) struct Lines<'a, 'b> {
     /// The instruction whose line isn't in the text yet, and what is said of it so far.
     before: Option<Before>,
     words: Text,
+    /// The CPUs that the run has kicked.
+    kicked: Text,
 }
 
 impl<'a, 'b> Lines<'a, 'b> {
@@ -36,15 +39,41 @@ impl<'a, 'b> Lines<'a, 'b> {
             text,
             before: None,
             words: Text::new(alloc),
+            kicked: Text::new(alloc),
         }
     }
 
-    /// Ends the run, with its answer and the world after it.
-    pub(crate) fn end(&mut self, callback: Callback, answer: u64, world: &World) {
+    /// Ends the run of a callback that was given that first, with its answer and the world after it.
+    pub(crate) fn end(&mut self, callback: Callback, first: Arg, answer: u64, world: &World) {
         if callback.answers() {
             push_answer(answer, &mut self.words);
         }
         self.finish(None, world);
+        if callback == Callback::Timer {
+            self.push_timer(first);
+        }
+    }
+
+    /// Tells that a timer ran, and the CPUs that it kicked.
+    fn push_timer(&mut self, timer: Arg) {
+        let Arg::Num(timer) = timer else {
+            return;
+        };
+        self.text.number("  timer ", timer);
+        self.text.push(" ran");
+        if !self.kicked.is_empty() {
+            self.text.push(" and kicked cpu ");
+            self.text.append(&self.kicked);
+        }
+        self.text.push("\n");
+    }
+
+    /// Keeps the CPU that the instruction kicked, if it kicked one.
+    fn keep_kick(&mut self, before: Before, world: &World) {
+        if let Some(cpu) = before.kicked(world) {
+            let comma = if self.kicked.is_empty() { "" } else { ", " };
+            self.kicked.number(comma, cpu);
+        }
     }
 
     /// Finishes the line of the instruction before, as the one at that slot comes next.
@@ -64,6 +93,7 @@ impl<'a, 'b> Lines<'a, 'b> {
             return;
         };
         push_after(before, next, world, self.names, &mut self.words);
+        self.keep_kick(before, world);
         self.before = None;
         self.text.push("  ");
         self.text.number_right(before.slot as u64, 4);

@@ -156,7 +156,7 @@ impl Sink for Stepper<'_> {
         let text = &mut self.account.text;
         let mut lines = Lines::new(alloc, self.names, program.program(), text);
         let ran = run_seen(program, arguments, maps, world, &mut lines);
-        lines.end(program.callback(), ran.answer, world);
+        lines.end(program.callback(), arguments.first, ran.answer, world);
         ran.answer
     }
 }

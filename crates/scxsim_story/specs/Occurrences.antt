@@ -3,10 +3,10 @@ use Rattle.std.specs.Prelude.{◌≡◌, ℕ, ◌==◌, Bool, true, false, List,
 use Rattle.std.specs.List.{filter}
 use Rattle.scx_sched_world.specs.declared.notes.Note.{Note}
 use Rattle.scx_sched_world.specs.declared.notes.What.{What}
-use Rattle.scx_sched_world.specs.declared.notes.What.TheVariants.{Wake, Sleep, Insert, Move, Run, Stop, Idle, Weight, Stall, Fault, Exit}
+use Rattle.scx_sched_world.specs.declared.notes.What.TheVariants.{Wake, Sleep, Insert, Move, Run, Stop, Idle, Weight, TaskWeight, Stall, Fault, Exit}
 use Rattle.scxsim_story.specs.declared.subject.Subject.{Subject}
 
--- true for a note of the task, of its group's weight, or of the policy's ejection
+-- true for a note of the task, of its own or its group's weight, or of the policy's ejection
 abbrev pub concerns : Subject → What → Bool
 concerns x (Wake t) = t == x.task
 concerns x (Sleep t) = t == x.task
@@ -16,6 +16,7 @@ concerns x (Run t c) = t == x.task
 concerns x (Stop t c) = t == x.task
 concerns x (Idle c) = false
 concerns x (Weight g weight) = g == x.group
+concerns x (TaskWeight t weight) = t == x.task
 concerns x (Stall t) = true
 concerns x (Fault f) = true
 concerns x (Exit n) = true

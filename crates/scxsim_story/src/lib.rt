@@ -1,4 +1,4 @@
-//! The story of one task in a run: a line for each note of the task, of its group's weight and of the policy's
+//! The story of one task in a run: a line for each note of the task, of its own and its group's weight and of the policy's
 //! ejection, with the reason, in the order of the notes.
 //!
 //! A line is made when the next such note comes, or the next event, so that its outcome is known: queues are told as

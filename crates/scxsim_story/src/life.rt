@@ -23,8 +23,8 @@ pub(crate) struct Life {
     pub(crate) idle_cpus: u32,
     /// The rest of its slice once the event has taken its time, in nanoseconds.
     pub(crate) left: u64,
-    /// True if it may be stopped before its slice is used up, for another task or by a kick: under Linux rules it may.
-    pub(crate) is_preemptible: bool,
+    /// True while a policy by Linux rules is in force.
+    is_by_linux: bool,
 }
 
 impl Life {
@@ -39,7 +39,7 @@ impl Life {
             is_leaving: false,
             idle_cpus: 0,
             left: 0,
-            is_preemptible: false,
+            is_by_linux: false,
         }
     }
 
@@ -52,7 +52,7 @@ impl Life {
         Life {
             idle_cpus,
             left: left_after(sim, event, task),
-            is_preemptible: sim.world().is_by_linux(),
+            is_by_linux: sim.world().is_by_linux(),
             ..self
         }
     }
@@ -84,10 +84,38 @@ impl Life {
                 is_leaving: false,
                 ..self
             },
+            What::TaskWeight(_, _) => self.reweighed(),
             What::Idle(_) | What::Weight(_, _) | What::Stall(_) | What::Fault(_) | What::Exit(_) =>
                 self,
         }
     }
+
+    /// True if the task may be stopped before its slice is used up, for another task or by a kick.
+    pub(crate) fn is_preemptible(self) -> bool {
+        self.is_by_linux
+    }
+
+    /// The queue that the task leaves as it gets another weight: each one, but that of parked tasks. By plain rules it
+    /// leaves none.
+    pub(crate) fn left_for_weight(self) -> Option<u64> {
+        if self.is_by_linux && self.queue != Some(PARKED) {
+            self.queue
+        } else {
+            None
+        }
+    }
+
+    /// The state after the task has got another weight.
+    fn reweighed(self) -> Life {
+        match self.left_for_weight() {
+            Some(_) => Life {
+                queue: None,
+                ..self
+            },
+            None => self,
+        }
+    }
+
     /// The state after the task comes into that queue. A task that was parked waits from then on.
     fn entering(self, clock: u64, queue: u64) -> Life {
         let was_parked = self.queue == Some(PARKED);

@@ -107,7 +107,7 @@ impl<'w> Storyteller<'w> {
         Ok(())
     }
 
-    /// True for a note of the task, of its group's weight, or of the policy's ejection.
+    /// True for a note of the task, of its own or its group's weight, or of the policy's ejection.
     fn concerns(&self, what: What) -> bool
         ensures { result ≡ concerns self.now.subject what }
     {
@@ -118,7 +118,8 @@ impl<'w> Storyteller<'w> {
             | What::Insert(of, _)
             | What::Move(of, _)
             | What::Run(of, _)
-            | What::Stop(of, _) => of == task,
+            | What::Stop(of, _)
+            | What::TaskWeight(of, _) => of == task,
             What::Weight(of, _) => of == group,
             What::Stall(_) | What::Fault(_) | What::Exit(_) => true,
             What::Idle(_) => false,

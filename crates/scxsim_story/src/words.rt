@@ -32,6 +32,7 @@ pub(crate) fn write_words(workload: &Workload, of: Occurrence<'_>, words: &mut T
         What::Run(_, cpu) => write_run(of, cpu, words),
         What::Stop(_, cpu) => write_stop(of, cpu, words),
         What::Weight(group, weight) => write_weight(workload, group, weight, words),
+        What::TaskWeight(_, weight) => write_own_weight(of.life, weight, words),
         What::Stall(task) => write_stall(workload, of.task, task, words),
         What::Fault(fault) => write_fault(fault, words),
         What::Exit(code) => words.show("the policy is ejected: exit ", &code),
@@ -182,7 +183,7 @@ fn write_stop(of: Occurrence<'_>, cpu: u32, words: &mut Text) {
 
 /// True if the task stops since a group of its may not run, and not since its slice is used up or taken.
 fn is_spent_at(of: Occurrence<'_>) -> bool {
-    let may_not_run = 0 < of.life.left && !of.life.is_preemptible;
+    let may_not_run = 0 < of.life.left && !of.life.is_preemptible();
     match of.next {
         Some(What::Insert(_, queue)) => queue == PARKED || may_not_run,
         Some(_) | None => may_not_run,
@@ -194,6 +195,16 @@ fn write_weight(workload: &Workload, group: u32, weight: u32, words: &mut Text) 
     words.push(workload.group(group));
     words.number(" weighs ", u64::from(weight));
     words.push(" from now on");
+}
+
+/// Writes the task's own weight. A task that waits in a queue leaves it and is put again.
+fn write_own_weight(life: Life, weight: u32, words: &mut Text) {
+    words.number("weighs ", u64::from(weight));
+    words.push(" from now on");
+    if let Some(queue) = life.left_for_weight() {
+        words.show(", and leaves ", &QueueName(queue));
+        words.push(" to be put again");
+    }
 }
 
 fn write_stall(workload: &Workload, own: u16, task: u16, words: &mut Text) {

@@ -124,8 +124,12 @@ impl Gathering {
                 self.idles.stop(cpu);
                 self.gathered.shares.stop();
             }
-            What::Idle(_) | What::Weight(_, _) | What::Stall(_) | What::Fault(_) | What::Exit(_) =>
-                self.gathered.note(self.now.mark.moment, what),
+            What::Idle(_)
+            | What::Weight(_, _)
+            | What::TaskWeight(_, _)
+            | What::Stall(_)
+            | What::Fault(_)
+            | What::Exit(_) => self.gathered.note(self.now.mark.moment, what),
         }
     }
 

@@ -1,5 +1,5 @@
 //! The text that all pages of `scxsim_page` have, before the data of a run and after it. `tools/page` makes it from
-//! `web/page.html`, `web/page.css` and `web/page.js`; edit those.
+//! the files of `web/`; edit those.
 #![tactic(auto)]
 
 mod template;

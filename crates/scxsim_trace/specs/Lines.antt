@@ -6,7 +6,7 @@ use Rattle.scx_sched_world.specs.Faults.{fault_number}
 use Rattle.scx_sched_world.specs.Ids.{policy_end, global, held_queue, builtin_queue, parked_queue}
 use Rattle.scx_sched_world.specs.declared.notes.Note.{Note}
 use Rattle.scx_sched_world.specs.declared.notes.What.{What}
-use Rattle.scx_sched_world.specs.declared.notes.What.TheVariants.{Wake, Sleep, Insert, Move, Run, Stop, Idle, Weight, Stall, Fault, Exit}
+use Rattle.scx_sched_world.specs.declared.notes.What.TheVariants.{Wake, Sleep, Insert, Move, Run, Stop, Idle, Weight, TaskWeight, Stall, Fault, Exit}
 use Rattle.scx_load_workloads.specs.Workload.{WorkloadState}
 
 -- the names of all tasks and of all groups
@@ -49,6 +49,7 @@ verb (Run t c) = codes "run "
 verb (Stop t c) = codes "stop "
 verb (Idle c) = codes "idle cpu "
 verb (Weight g w) = codes "weight "
+verb (TaskWeight t w) = codes "weight "
 verb (Stall t) = codes "eject stall "
 verb (Fault f) = codes "eject fault "
 verb (Exit n) = codes "eject exit "
@@ -63,6 +64,7 @@ subject x (Run t c) = task_name x t
 subject x (Stop t c) = task_name x t
 subject x (Idle c) = []
 subject x (Weight g w) = group_name x g
+subject x (TaskWeight t w) = task_name x t
 subject x (Stall t) = task_name x t
 subject x (Fault f) = []
 subject x (Exit n) = []
@@ -77,6 +79,7 @@ object (Run t c) = codes " cpu " ++ decimal c
 object (Stop t c) = codes " cpu " ++ decimal c
 object (Idle c) = decimal c
 object (Weight g w) = codes " " ++ decimal w
+object (TaskWeight t w) = codes " " ++ decimal w
 object (Stall t) = []
 object (Fault f) = decimal (fault_number f)
 object (Exit n) = signed_decimal n

@@ -3,7 +3,7 @@ use Rattle.std.specs.Prelude.{◌≡◌, ℕ, ◌+◌, ◌-◌, ◌^◌, min, Bo
 use Rattle.scx_sched_world.specs.declared.notes.Note.{Note}
 use Rattle.scx_sched_world.specs.declared.notes.What.{What}
 use Rattle.scx_sched_machine.specs.declared.events.Event.{Event}
-use Rattle.scx_sched_machine.specs.declared.events.Event.TheVariants.{Wake, Sleep, Tick, Clock, SetWeight}
+use Rattle.scx_sched_machine.specs.declared.events.Event.TheVariants.{Wake, Sleep, Tick, Clock, SetWeight, SetTaskWeight}
 use Rattle.scx_sched_machine.specs.Notes.{Takes}
 use Rattle.scx_sched.specs.Sim.{SimState, after_event, notes_of}
 use Rattle.scx_load_driver.specs.Runs.{stepped_all}
@@ -15,6 +15,7 @@ is_at_end (Sleep t) = true
 is_at_end (Tick c) = true
 is_at_end Clock = false
 is_at_end (SetWeight g w) = false
+is_at_end (SetTaskWeight t w) = false
 
 -- the moment of a note of this clock
 abbrev pub moment : Bool → ℕ → ℕ

@@ -125,6 +125,7 @@ fn is_at_end(event: Event) -> bool
 {
     match event {
         Event::Tick(_) | Event::Sleep(_) => true,
-        Event::Wake(_) | Event::SetWeight(_, _) | Event::Clock => false,
+        Event::Wake(_) | Event::SetWeight(_, _) | Event::SetTaskWeight(_, _) | Event::Clock =>
+            false,
     }
 }

@@ -3,7 +3,7 @@
 use Rattle.std.specs.Prelude.{ℕ, ◌==◌, if◌then◌else◌, Bool, true, false, List, Option, Some, None, slice_index_or, slice_set}
 use Rattle.scx_sched_world.specs.Ids.{parked_queue}
 use Rattle.scx_sched_world.specs.declared.notes.What.{What}
-use Rattle.scx_sched_world.specs.declared.notes.What.TheVariants.{Wake, Sleep, Insert, Move, Run, Stop, Idle, Weight, Stall, Fault, Exit}
+use Rattle.scx_sched_world.specs.declared.notes.What.TheVariants.{Wake, Sleep, Insert, Move, Run, Stop, Idle, Weight, TaskWeight, Stall, Fault, Exit}
 use Rattle.scxsim_views.specs.declared.pauses.Doing.{Doing}
 use Rattle.scxsim_views.specs.declared.pauses.Doing.TheVariants.{Sleeps, Waits, Runs, IsParked}
 use Rattle.scxsim_views.specs.declared.pauses.Pause.{Pause}
@@ -53,6 +53,7 @@ of_task (Insert t queue) = Some t
 of_task (Move t c) = None
 of_task (Idle c) = None
 of_task (Weight g x) = None
+of_task (TaskWeight t x) = None
 of_task (Stall t) = None
 of_task (Fault f) = None
 of_task (Exit n) = None
@@ -77,6 +78,7 @@ does now (Insert t queue) d = doing_after_insert now queue d
 does now (Move t c) d = d
 does now (Idle c) d = d
 does now (Weight g x) d = d
+does now (TaskWeight t x) d = d
 does now (Stall t) d = d
 does now (Fault f) d = d
 does now (Exit n) d = d
@@ -114,6 +116,7 @@ ending_pause now t (Insert u queue) d = ended_by_insert now t queue d
 ending_pause now t (Move u c) d = None
 ending_pause now t (Idle c) d = None
 ending_pause now t (Weight g x) d = None
+ending_pause now t (TaskWeight u x) d = None
 ending_pause now t (Stall u) d = None
 ending_pause now t (Fault f) d = None
 ending_pause now t (Exit n) d = None

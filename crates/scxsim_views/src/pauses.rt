@@ -127,6 +127,7 @@ impl Pauses {
             What::Move(_, _)
             | What::Idle(_)
             | What::Weight(_, _)
+            | What::TaskWeight(_, _)
             | What::Stall(_)
             | What::Fault(_)
             | What::Exit(_) => None,

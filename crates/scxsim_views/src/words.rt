@@ -36,5 +36,6 @@ pub fn fault_words(fault: Fault) -> &'static str {
         Fault::NoSuchCpu => "no such processor",
         Fault::UnknownFlag => "flags other than 0 and 1",
         Fault::CannotCreate => "the queue can't be created",
+        Fault::IdleUntracked => "the policy tracks idle CPUs itself",
     }
 }

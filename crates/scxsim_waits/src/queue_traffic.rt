@@ -69,6 +69,7 @@ impl QueueTraffic {
             | What::Stop(_, _)
             | What::Idle(_)
             | What::Weight(_, _)
+            | What::TaskWeight(_, _)
             | What::Stall(_)
             | What::Fault(_)
             | What::Exit(_) => {}

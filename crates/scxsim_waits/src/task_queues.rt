@@ -60,6 +60,7 @@ impl TaskQueues {
             | What::Stop(_, _)
             | What::Idle(_)
             | What::Weight(_, _)
+            | What::TaskWeight(_, _)
             | What::Stall(_)
             | What::Fault(_)
             | What::Exit(_) => {}
@@ -86,6 +87,7 @@ impl TaskQueues {
             | What::Stop(_, _)
             | What::Idle(_)
             | What::Weight(_, _)
+            | What::TaskWeight(_, _)
             | What::Stall(_)
             | What::Fault(_)
             | What::Exit(_) => None,

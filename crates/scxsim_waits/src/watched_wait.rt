@@ -159,6 +159,7 @@ impl WatchedWait {
             | What::Stop(_, _)
             | What::Idle(_)
             | What::Weight(_, _)
+            | What::TaskWeight(_, _)
             | What::Stall(_)
             | What::Fault(_)
             | What::Exit(_) => Ok(()),

@@ -51,6 +51,11 @@ pub fn write_event(workload: &Workload, event: Event, page: &mut Text) {
         Event::Tick(cpu) => page.number("at a tick of processor ", u64::from(cpu)),
         Event::Clock => page.push("as the clock grew"),
         Event::SetWeight(_, _) => page.push("as a weight changed"),
+        Event::SetTaskWeight(task, _) => {
+            page.push("as the weight of ");
+            page.push(workload.task(task));
+            page.push(" changed");
+        }
     }
 }
 

@@ -10,6 +10,7 @@ mod ending;
 mod finding;
 mod half_progress;
 mod idle;
+mod messages;
 mod page;
 mod queues;
 mod runners;

@@ -1,4 +1,5 @@
 use crate::finding::Findings;
+use crate::messages::write_message;
 use crate::{
     Ejected, write_calls, write_event, write_idle, write_last_lines, write_never, write_queues,
     write_stall, write_stretches, write_undrained, write_unplaced, write_unplaced_exit,
@@ -7,17 +8,17 @@ use crate::{
 use scx_isa::Callback;
 use scx_load_workloads::Workload;
 use scx_sched::Event;
-use scxsim_account::{Account, Cause, Ejection};
+use scxsim_account::{Account, Cause};
 use scxsim_faults::{FaultPlace, write_call, write_policy_queues, write_reason};
 use scxsim_output::Text;
 use std::alloc::{AllocError, Global};
 
-/// Makes the page after its first word.
-pub(crate) fn write_page(alloc: Global, found: &Findings, page: &mut Text) {
+/// Makes the page after its first word, of that policy's text.
+pub(crate) fn write_page(alloc: Global, policy: &str, found: &Findings, page: &mut Text) {
     let account = &found.account;
     let workload = &found.figures.workload;
     let has_dispatch = found.programs.get(Callback::Dispatch).is_some();
-    write_ending(workload, account.ejection, found.place, page);
+    write_ending(alloc, policy, found, page);
     write_worst(alloc, workload, &account.waits, found.idle.has_waited, page);
     let rules = account.waits.rules;
     write_idle(workload, found.idle.lost, rules, &account.stretches, page);
@@ -37,13 +38,10 @@ pub(crate) fn write_page(alloc: Global, found: &Findings, page: &mut Text) {
     write_queues(workload, &account.queues, page);
 }
 
-fn write_ending(
-    workload: &Workload,
-    ejection: Option<Ejection>,
-    place: Option<FaultPlace>,
-    page: &mut Text,
-) {
-    let Some(ejection) = ejection else {
+/// Writes how the run ended.
+fn write_ending(alloc: Global, policy: &str, found: &Findings, page: &mut Text) {
+    let workload = &found.figures.workload;
+    let Some(ejection) = found.account.ejection else {
         page.number("in force to the end, at ", u64::from(workload.ms()));
         page.push(" ms\n");
         return;
@@ -54,15 +52,22 @@ fn write_ending(
         Cause::Stall(task) => write_stall(workload, task, page),
         Cause::Fault(fault, event) => {
             page.number("fault ", u64::from(fault.number()));
-            match place {
-                Some(place) => write_place(workload, place, event, page),
+            match found.place {
+                Some(place) => {
+                    write_place(workload, place, event, page);
+                    page.push("\n");
+                }
                 None => write_unplaced(workload, fault, event, page),
             }
         }
         Cause::Exit(code, event) => {
             page.show("exit ", &code);
-            match place {
-                Some(place) => write_place(workload, place, event, page),
+            match found.place {
+                Some(place) => {
+                    write_place(workload, place, event, page);
+                    write_message(alloc, policy, place, page);
+                    page.push("\n");
+                }
                 None => write_unplaced_exit(workload, event, page),
             }
         }
@@ -81,7 +86,6 @@ fn write_place(workload: &Workload, place: FaultPlace, event: Event, page: &mut 
     page.push(": ");
     write_reason(&place, workload, page);
     write_policy_queues(&place, page);
-    page.push("\n");
 }
 
 /// The tasks that ran for 0 ms.

@@ -63,11 +63,11 @@ fn rest_of_page<L: Listener>(
     ensures { IfErr result (IsCause policy.now workload.now) }
 {
     let found = examine(alloc, policy, workload, listener)?;
-    Ok(page_of(alloc, &found)?)
+    Ok(page_of(alloc, policy, &found)?)
 }
 
-fn page_of(alloc: Global, found: &Findings) -> Result<String, AllocError> {
+fn page_of(alloc: Global, policy: &str, found: &Findings) -> Result<String, AllocError> {
     let mut page = Text::new(alloc);
-    write_page(alloc, found, &mut page);
+    write_page(alloc, policy, found, &mut page);
     page.finish()
 }
