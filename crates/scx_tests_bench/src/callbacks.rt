@@ -120,7 +120,7 @@ fn given(callback: Callback) -> Args
 {
     let first = match callback {
         Callback::Init => return Args::NONE,
-        Callback::Dispatch => Arg::Num(0),
+        Callback::Dispatch | Callback::UpdateIdle | Callback::Timer => Arg::Num(0),
         _ => Arg::Task(TaskId(3)),
     };
     Args {

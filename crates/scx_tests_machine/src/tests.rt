@@ -3,4 +3,5 @@ mod files;
 mod largest;
 mod refusals;
 mod steps;
+mod timers;
 mod turns;

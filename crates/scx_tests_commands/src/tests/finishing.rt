@@ -78,7 +78,7 @@ fn faults_of_programs_are_named(rt: HostRuntime) {
     refuse_unsafe(&rt);
 }
 
-const CAUSES: [(Cause, &str); 14] = [
+const CAUSES: [(Cause, &str); 15] = [
     (Cause::NotToml, "not TOML"),
     (Cause::Unknown, "unknown"),
     (Cause::Missing, "missing"),
@@ -88,6 +88,7 @@ const CAUSES: [(Cause, &str); 14] = [
     (Cause::Twice, "twice"),
     (Cause::TooMany, "too many"),
     (Cause::NoSuchGroup, "no such group"),
+    (Cause::NoSuchTask, "no such task"),
     (Cause::NotALeaf, "not a leaf"),
     (Cause::TooDeep, "too deep"),
     (Cause::BadHex, "bad hex"),

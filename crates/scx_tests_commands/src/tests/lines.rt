@@ -19,7 +19,7 @@ fn expect<R: AllocGlobal + Abort>(rt: &R, names: &Workload, note: Note, line: &s
 }
 
 /// A clock, what is noted then, and its line.
-const LINES: [(u64, What, &str); 21] = [
+const LINES: [(u64, What, &str); 23] = [
     (0, What::Wake(0), "0 wake a\n"),
     (1, What::Sleep(1), "1 sleep b\n"),
     (0, What::Insert(0, 0), "0 insert a queue 0\n"),
@@ -53,6 +53,7 @@ const LINES: [(u64, What, &str); 21] = [
     (1, What::Stop(0, 0), "1 stop a cpu 0\n"),
     (1, What::Idle(0), "1 idle cpu 0\n"),
     (1, What::Weight(0, 200), "1 weight g 200\n"),
+    (1, What::TaskWeight(1, 300), "1 weight b 300\n"),
     (6, What::Stall(1), "6 eject stall b\n"),
     (
         u64::MAX,
@@ -69,11 +70,12 @@ const LINES: [(u64, What, &str); 21] = [
     // Numbers that name nothing.
     (2, What::Wake(2), "2 wake \n"),
     (2, What::Weight(1, 1), "2 weight  1\n"),
+    (2, What::TaskWeight(2, 1), "2 weight  1\n"),
     (2, What::Stall(2), "2 eject stall \n"),
 ];
 
 /// Each fault, by its number.
-const FAULTS: [(u64, What, &str); 8] = [
+const FAULTS: [(u64, What, &str); 9] = [
     (3, What::Fault(Fault::Stuck), "3 eject fault 0\n"),
     (3, What::Fault(Fault::NoSuchQueue), "3 eject fault 1\n"),
     (3, What::Fault(Fault::CannotInsert), "3 eject fault 2\n"),
@@ -82,6 +84,7 @@ const FAULTS: [(u64, What, &str); 8] = [
     (3, What::Fault(Fault::NoSuchCpu), "3 eject fault 5\n"),
     (3, What::Fault(Fault::UnknownFlag), "3 eject fault 6\n"),
     (3, What::Fault(Fault::CannotCreate), "3 eject fault 7\n"),
+    (3, What::Fault(Fault::IdleUntracked), "3 eject fault 8\n"),
 ];
 
 fn expect_lines<R: AllocGlobal + Abort>(rt: &R, rows: &[(u64, What, &str)]) {

@@ -153,6 +153,8 @@ fn milliseconds_that_arent_whole(rt: HostRuntime) {
     expect_none(&rt, &[TICK, A, MS]);
     // A weight changes.
     expect_none(&rt, &[Event::SetWeight(0, 50), TICK, MS]);
+    // That of a task changes.
+    expect_none(&rt, &[Event::SetTaskWeight(0, 50), TICK, MS]);
 }
 
 #[test]

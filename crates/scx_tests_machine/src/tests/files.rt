@@ -3,7 +3,7 @@
 use crate::same::expect_same;
 use scx_isa::Callback;
 use scx_load::{
-    Cause, Change, Group, LoadError, PolicyText, Timing, Workload, build, read_policy,
+    Cause, Change, Group, LoadError, PolicyText, Timing, Weighed, Workload, build, read_policy,
     read_workload,
 };
 use scx_maps::Shape;
@@ -151,8 +151,12 @@ fn timing_of(timing: &Timing) -> (u32, u32, u32) {
     (timing.start, timing.run, timing.sleep)
 }
 
-fn change_of(change: &Change) -> (u32, u32, u32) {
-    (change.at, change.group, change.weight)
+/// The group of a change, unless it is a task's.
+fn change_of(change: &Change) -> (u32, Option<u32>, u32) {
+    match change.weighed {
+        Weighed::Group(group) => (change.at, Some(group), change.weight),
+        Weighed::Task(_) => (change.at, None, change.weight),
+    }
 }
 
 fn expect_groups(rt: &impl Abort, workload: &Workload) {
@@ -183,7 +187,7 @@ fn expect_workload(rt: &impl Abort, workload: &Workload) {
     expect_same(
         rt,
         changes.first().map(change_of),
-        Some((7, 0, 1)),
+        Some((7, Some(0), 1)),
         "change",
     );
 }

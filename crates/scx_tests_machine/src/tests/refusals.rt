@@ -82,8 +82,11 @@ const REFUSES: [Step; 2] = [
         (Event::SetWeight(1, 0), Refused::UnknownGroup),
         (Event::SetWeight(0, 0), Refused::BadWeight),
         (Event::SetWeight(0, 10_001), Refused::BadWeight),
+        (Event::SetTaskWeight(2, 0), Refused::UnknownTask),
+        (Event::SetTaskWeight(1, 0), Refused::BadWeight),
+        (Event::SetTaskWeight(1, 10_001), Refused::BadWeight),
     ]),
-    Step::Run(&[Event::SetWeight(0, 10_000)]),
+    Step::Run(&[Event::SetWeight(0, 10_000), Event::SetTaskWeight(1, 10_000)]),
 ];
 
 #[test]
@@ -122,7 +125,7 @@ fn event_of(number: usize) -> Event {
 }
 
 /// Events that are refused, and the range of places in the list where they are.
-const REFUSALS: [(Event, Refused, usize, usize); 10] = [
+const REFUSALS: [(Event, Refused, usize, usize); 12] = [
     (Event::Wake(0), Refused::AlreadyRunnable, 1, 57),
     (Event::Wake(1), Refused::AlreadyRunnable, 2, 57),
     (Event::Sleep(0), Refused::NotRunnable, 0, 1),
@@ -133,6 +136,8 @@ const REFUSALS: [(Event, Refused, usize, usize); 10] = [
     (Event::SetWeight(1, 0), Refused::UnknownGroup, 0, 57),
     (Event::SetWeight(0, 0), Refused::BadWeight, 0, 57),
     (Event::SetWeight(0, 10_001), Refused::BadWeight, 0, 57),
+    (Event::SetTaskWeight(2, 0), Refused::UnknownTask, 0, 57),
+    (Event::SetTaskWeight(0, 0), Refused::BadWeight, 0, 57),
 ];
 
 fn run_between(rt: &impl Abort, session: &mut Session, from: usize, to: usize) {
