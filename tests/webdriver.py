@@ -11,7 +11,7 @@ from pathlib import Path
 PORT = 9517
 ELEMENT = "element-6066-11e4-a52e-4f735466cecf"
 KEYS = {"Tab": "\ue004", "Enter": "\ue007", "Home": "\ue011", "Left": "\ue012", "Up": "\ue013", "Right": "\ue014",
-        "Down": "\ue015", "Escape": "\ue00c"}
+        "Down": "\ue015", "Escape": "\ue00c", "Shift": "\ue008"}
 
 
 def is_there():
@@ -19,7 +19,7 @@ def is_there():
 
 
 class Browser:
-    """One window, so wide and high, in light or dark."""
+    """One window of a width and a height, in light or dark."""
 
     def __init__(self, wide, high, is_dark):
         self.folder = tempfile.TemporaryDirectory()
@@ -28,6 +28,9 @@ class Browser:
             assert self.driver.poll() is None, "chromedriver ended"
         self.address = f"http://127.0.0.1:{PORT}/session"
         self.address += "/" + self.post("", {"capabilities": {"alwaysMatch": self.capabilities(wide, high)}})["sessionId"]
+        self.resize(wide, high, is_dark)
+
+    def resize(self, wide, high, is_dark):
         self.protocol("Emulation.setDeviceMetricsOverride",
                       {"width": wide, "height": high, "deviceScaleFactor": 1, "mobile": False})
         theme = {"name": "prefers-color-scheme", "value": "dark" if is_dark else "light"}
@@ -48,16 +51,20 @@ class Browser:
         """A command of the DevTools protocol."""
         return self.post("/goog/cdp/execute", {"cmd": command, "params": words or {}})
 
-    def open(self, path):
-        self.post("/url", {"url": "file://" + str(Path(path).resolve())})
+    def open(self, path, link=""):
+        """Opens a file anew, with a link into it, such as `#10-20`."""
+        self.post("/url", {"url": "about:blank"})
+        self.post("/url", {"url": "file://" + str(Path(path).resolve()) + link})
 
     def run(self, code, *words):
-        """What the code answers, as a function's body."""
+        """The answer of the code, as a function's body."""
         return self.post("/execute/sync", {"script": code, "args": list(words)})
 
     def settle(self):
-        """Waits until what was asked for is drawn."""
-        code = "const done = arguments[0]; requestAnimationFrame(() => requestAnimationFrame(() => done()));"
+        """Waits until the page has started and all it was asked for is drawn."""
+        code = """const done = arguments[0], wait = () => requestAnimationFrame(() => window.scxsim ? draw() : wait()),
+            draw = () => requestAnimationFrame(() => requestAnimationFrame(() => done()));
+            wait();"""
         self.post("/execute/async", {"script": code, "args": []})
 
     def press(self, *keys):
@@ -86,7 +93,7 @@ class Browser:
         self.settle()
 
     def console(self):
-        """What stands on the console since it was last asked."""
+        """The lines of the console since the last call."""
         return [line["message"] for line in self.post("/se/log", {"type": "browser"})]
 
     def picture(self, path):

@@ -1,0 +1,218 @@
+// Sums up to each moment: run, waited and parked time, of tasks, CPUs and groups, and all waits.
+// Sums up to each stretch, and for each millisecond the time before it in which a task waited.
+function sumStretches(run) {
+  const { count, duration, from, length, cpu, queue } = run, runs = run.cpuFrom.length;
+  for (const before of ["ranBefore", "waitedBefore", "parkedBefore", "wakesBefore"]) run[before] = new Uint32Array(count + 1);
+  const change = new Int32Array(duration + 2), wakes = [];
+  for (let i = 0; i < count; i++) {
+    const ran = cpu[i] !== NOWHERE, parked = !ran && queue[i] === PARKED;
+    run.ranBefore[i + 1] = run.ranBefore[i] + (ran ? length[i] : 0);
+    run.parkedBefore[i + 1] = run.parkedBefore[i] + (parked ? length[i] : 0);
+    run.waitedBefore[i + 1] = run.waitedBefore[i] + (ran || parked ? 0 : length[i]);
+    if (isWake(run, i)) wakes.push(from[i]);
+    run.wakesBefore[i + 1] = wakes.length;
+    if (!ran && !parked) { change[from[i]]++; change[from[i] + length[i]]--; }
+  }
+  run.wakeTimes = Uint32Array.from(wakes);
+  run.someWaited = new Uint32Array(duration + 2);
+  for (let ms = 0, waiting = 0; ms <= duration; ms++) {
+    waiting += change[ms];
+    run.someWaited[ms + 1] = run.someWaited[ms] + (waiting > 0 && ms < duration ? 1 : 0);
+  }
+  for (const before of ["cpuBefore", "cpuWaitedBefore"]) run[before] = new Uint32Array(runs + 1);
+  for (let i = 0; i < runs; i++) {
+    const { cpuBefore, cpuWaitedBefore, someWaited } = run, from = run.cpuFrom[i], until = from + run.cpuLength[i];
+    cpuBefore[i + 1] = cpuBefore[i] + until - from;
+    cpuWaitedBefore[i + 1] = cpuWaitedBefore[i] + someWaited[until] - someWaited[from];
+  }
+  run.idle = Array.from({ length: run.processors }, (_, cpu) => figuresOfCpu(run, cpu, 0, duration).waits);
+  sumGroups(run);
+  sumQueues(run);
+  listWaits(run);
+  findWaits(run);
+}
+
+// For each group the time that its tasks ran, waited and were parked before each cell, and what was due.
+function sumGroups(run) {
+  const { groups, tasks, duration } = run;
+  let cell = 1;
+  while (groups.length * (duration / cell) > 4e6) cell *= 2;
+  const cells = Math.ceil(duration / cell), row = cells + 1, all = groups.length * row;
+  const sums = { cell, cells, row, ran: new Uint32Array(all), waited: new Uint32Array(all), parked: new Uint32Array(all),
+    due: new Float64Array(all), busy: new Uint32Array(row) };
+  linkGroups(groups, tasks);
+  for (let g = groups.length - 1; g >= 0; g--) {
+    const slices = [sums.ran, sums.waited, sums.parked].map((sum) => sum.subarray(g * row, (g + 1) * row));
+    if (groups[g].tasks.length) sumLeaf(run, groups[g], sums, slices);
+    const above = groups[g].parent;
+    [sums.ran, sums.waited, sums.parked].forEach((sum, kind) => {
+      const target = above >= 0 ? sum.subarray(above * row, (above + 1) * row) : kind === 0 ? sums.busy : null;
+      if (target) for (let k = 0; k < row; k++) target[k] += slices[kind][k];
+    });
+  }
+  sumDue(run, sums);
+  run.sums = sums;
+}
+
+// Each group's own tasks, its children, how many tasks lie in it, and its place among groups with tasks.
+function linkGroups(groups, tasks) {
+  for (const group of groups) Object.assign(group, { tasks: [], children: [], all: 0 });
+  groups.forEach(({ parent }, g) => groups[parent]?.children.push(g));
+  tasks.forEach(({ group }, number) => groups[group].tasks.push(number));
+  for (const { group } of tasks) for (let g = group; g >= 0; g = groups[g].parent) groups[g].all++;
+  groups.filter((group) => group.tasks.length).forEach((group, leaf) => { group.leaf = leaf; });
+  for (const group of groups) {
+    let leaf = group;
+    while (leaf.children.length) leaf = groups[leaf.children[0]];
+    group.first = leaf.tasks[0] ?? 0;
+  }
+}
+
+function sumLeaf(run, group, { cell, row }, slices) {
+  const kinds = slices.map(() => ({ offsets: new Int32Array(row + 1), counts: new Int32Array(row + 1) }));
+  for (const task of group.tasks) {
+    for (let i = run.taskStart[task]; i < run.taskStart[task + 1]; i++) {
+      const kind = run.cpu[i] !== NOWHERE ? 0 : run.queue[i] === PARKED ? 2 : 1;
+      addInterval(kinds[kind], cell, run.from[i], run.from[i] + run.length[i]);
+    }
+  }
+  slices.forEach((slice, kind) => {
+    const { offsets, counts } = kinds[kind];
+    for (let k = 0, sum = 0, count = 0; k < row; count += counts[k], k++) slice[k] = sum += cell * count + offsets[k];
+  });
+}
+
+function sumDue({ groups, changes }, { cell, cells, row, ran, waited, parked, due, busy }) {
+  const weights = groups.map((group) => group.weight), totals = new Float64Array(groups.length + 1);
+  const part = new Float64Array(groups.length), left = changes.slice();
+  for (let k = 0; k < cells; k++) {
+    while (left.length && left[0][0] <= k * cell) { const [, g, weight] = left.shift(); weights[g] = weight; }
+    totals.fill(0);
+    for (let g = 0; g < groups.length; g++) {
+      const at = g * row + k;
+      part[g] = ran[at + 1] > ran[at] || waited[at + 1] > waited[at] || parked[at + 1] > parked[at] ? weights[g] : 0;
+      totals[groups[g].parent + 1] += part[g];
+    }
+    const ranNow = busy[k + 1] - busy[k];
+    for (let g = 0; g < groups.length; g++) {
+      const above = groups[g].parent;
+      part[g] = part[g] && part[g] / totals[above + 1] * (above < 0 ? 1 : part[above]);
+      due[g * row + k] = part[g] * ranNow;
+    }
+  }
+  groups.forEach((group, g) => {
+    let sum = 0;
+    for (let k = 0; k < row; k++) [due[g * row + k], sum] = [sum, sum + due[g * row + k]];
+    group.share = ran[g * row + cells] / (busy[cells] || 1);
+    group.due = sum / (busy[cells] || 1);
+    group.isCapped = parked[g * row + cells] > 0;
+  });
+}
+
+// The queues in which tasks waited: for each the sum of their waits before each cell. The CPUs' own queues are one.
+function sumQueues(run) {
+  const { duration, count, from, length, cpu, queue } = run, used = new Map();
+  for (let i = 0; i < count; i++) if (cpu[i] === NOWHERE && queue[i] !== PARKED) used.set(Math.min(queue[i], LOCAL), null);
+  let cell = 1;
+  while (used.size * (duration / cell) > 4e6) cell *= 2;
+  const cells = Math.ceil(duration / cell), row = cells + 1;
+  run.tracks = [...used.keys()].sort((one, other) => one - other).map((queue) => ({ queue, name: trackName(run, queue), cell, cells,
+    sums: new Uint32Array(row), offsets: new Int32Array(row + 1), counts: new Int32Array(row + 1) }));
+  for (const track of run.tracks) used.set(track.queue, track);
+  for (let i = 0; i < count; i++) {
+    if (cpu[i] === NOWHERE && queue[i] !== PARKED) addInterval(used.get(Math.min(queue[i], LOCAL)), cell, from[i], from[i] + length[i]);
+  }
+  for (const track of run.tracks) sumTrack(track, row);
+}
+
+// Adds an interval to differences from which the sums before each cell are made.
+function addInterval({ offsets, counts }, cell, from, until) {
+  const first = Math.ceil(from / cell), last = Math.ceil(until / cell);
+  offsets[first] += first * cell - from; counts[first]++;
+  offsets[last] -= last * cell - until; counts[last]--;
+}
+
+function sumTrack(track, row) {
+  const { cell, sums, offsets, counts } = track;
+  for (let k = 0, sum = 0, count = 0; k < row; count += counts[k], k++) sums[k] = sum += cell * count + offsets[k];
+  track.most = 0;
+  for (let k = 1; k < row; k++) track.most = Math.max(track.most, (sums[k] - sums[k - 1]) / cell);
+  delete track.offsets;
+  delete track.counts;
+}
+
+const trackName = (run, queue) => queue < LOCAL ? queueName(run, queue) : "CPUs' own queues";
+
+const isWake = ({ why }, i) => (why[i] & 48) === 16;
+// True if the next stretch of a task follows at once. A task that was let go in between begins anew.
+const goesOn = ({ from, length, why }, i) => from[i] + length[i] === from[i + 1] && (why[i + 1] & 48) !== 48;
+const isWait = ({ cpu, queue }, i) => cpu[i] === NOWHERE && queue[i] !== PARKED;
+const clockFrom = ({ from, why }, i) => from[i] - (why[i] >> 6 & 1);
+const clockUntil = ({ from, length, why }, i) => from[i] + length[i] - (why[i] >> 7);
+
+// Calls `act` with the first and last stretch of each wait of a task: of stretches of waiting one after another.
+function eachWait(run, task, act) {
+  const end = run.taskStart[task + 1];
+  for (let i = run.taskStart[task], first = -1; i < end; i++) {
+    if (!isWait(run, i)) continue;
+    if (first < 0) first = i;
+    if (i + 1 < end && isWait(run, i + 1) && goesOn(run, i)) continue;
+    act(first, i);
+    first = -1;
+  }
+}
+
+// All waits, task by task, by ticks and by the clock.
+function listWaits(run) {
+  const most = run.from.length, waits = { from: new Uint32Array(most), length: new Uint32Array(most),
+    clockFrom: new Uint32Array(most), clockUntil: new Uint32Array(most) };
+  let count = 0;
+  run.waitStart = new Uint32Array(run.tasks.length + 1);
+  run.tasks.forEach((_, task) => {
+    eachWait(run, task, (first, last) => {
+      waits.from[count] = run.from[first];
+      waits.length[count] = run.from[last] + run.length[last] - run.from[first];
+      waits.clockFrom[count] = clockFrom(run, first);
+      waits.clockUntil[count++] = clockUntil(run, last);
+    });
+    run.waitStart[task + 1] = count;
+  });
+  run.waits = Object.fromEntries(Object.entries(waits).map(([key, values]) => [key, values.slice(0, count)]));
+}
+
+// Adds up all waits by the clock, keeps the longest ones, and finds those that stand out: at least a twentieth of what is
+// shown, and four times as long as the others on average; and the one that ended in a stall.
+function findWaits(run) {
+  const worst = [], long = [], { tasks, duration, ended } = run;
+  run.longest = new Uint32Array(tasks.length);
+  run.waited = new Uint32Array(tasks.length);
+  let total = 0, number = 0;
+  const { waits, waitStart } = run, keep = (task, k) => {
+    const from = waits.from[k], until = from + waits.length[k], clock = waits.clockFrom[k], length = waits.clockUntil[k] - clock;
+    total += length; number++;
+    run.waited[task] += length;
+    run.longest[task] = Math.max(run.longest[task], length);
+    const isStall = task === ended.task && from < ended.at && until >= ended.at;
+    const isAmong = length > 0 && (worst.length < 20 || length > worst[19].length);
+    if (!isStall && !isAmong && length * 20 < duration) return;
+    const wait = { task, from, until, clock, length, isStall };
+    if (isStall || length * 20 >= duration) long.push(wait);
+    if (isAmong) worst.push(wait) && worst.sort((one, other) => other.length - one.length).splice(20);
+  };
+  for (let task = 0; task < tasks.length; task++) for (let k = waitStart[task]; k < waitStart[task + 1]; k++) keep(task, k);
+  run.worst = worst;
+  frameWaits(run, long.filter(({ length, isStall }) => isStall || number > 4 && length > 0 && length * (number + 3) >= 4 * total));
+}
+
+// The waits that have frames, by task and by group.
+function frameWaits(run, waits) {
+  run.framed = new Map();
+  run.framedOfGroup = new Map();
+  for (const wait of waits) {
+    wait.alarming = true;
+    run.framed.set(wait.task, [...run.framed.get(wait.task) ?? [], wait]);
+    for (let g = run.tasks[wait.task].group; g >= 0; g = run.groups[g].parent) {
+      if (!(run.framedOfGroup.get(g)?.length >= wait.length)) run.framedOfGroup.set(g, wait);
+    }
+  }
+}
