@@ -5,6 +5,7 @@ from pathlib import Path
 
 import pytest
 from hypothesis import settings
+from scxlab.clusters import client_of
 
 TOP = Path(__file__).resolve().parent.parent.parent
 os.environ.setdefault("SCXSIM", str(TOP / "bin/scxsim"))
@@ -22,3 +23,9 @@ def policies():
 @pytest.fixture
 def workloads():
     return TOP / "examples/workloads"
+
+
+@pytest.fixture(scope="session")
+def two_workers():
+    with client_of(local=2) as client:
+        yield client

@@ -7,12 +7,14 @@ import sys
 from pathlib import Path
 
 import pytest
-from scxlab.account import account_of, account_of_wait, longest_wait
+from scxlab.account import account_of
 from scxlab.checks import Failed, read_checks, reading_of
-from scxlab.compare import compare
+from scxlab.comparison import compare
+from scxlab.program import find_program
+from scxlab.sources import sources_of
 from scxlab.errors import LabError
 from scxlab.figures import figure_of
-from scxlab.runs import run
+from scxlab.api import run
 
 SOURCES = Path(__file__).resolve().parent.parent / "src"
 
@@ -44,11 +46,6 @@ def test_a_line_that_fails_shows_figure_bound_and_what_happened(one):
     assert lines[1:] == account_of(one, figure_of("longest_wait_ms(a)")) != []
 
 
-def test_what_happened_in_the_longest_wait(one):
-    assert account_of_wait(one, longest_wait(one, "a")) == [
-        "a waited for 2 ms by the clock, in the picture from 2 to 4. Meanwhile:", "  cpu 0: b ran 2 ms"]
-
-
 def test_shares_and_ejections_that_fail(policies, workloads):
     fair = run(policies / "simple.toml", workloads / "three_to_one.toml")
     assert told(fair, "share(web) within 24.9 of due").startswith(
@@ -61,7 +58,8 @@ def test_shares_and_ejections_that_fail(policies, workloads):
 
 
 def test_what_became_slower_is_named(policies, workloads, tmp_path):
-    table = compare([policies / "short_slices.toml"], workloads / "two_tasks.toml").table
+    table = compare(sources_of(policies / "short_slices.toml", "policy"),
+                    sources_of(workloads / "two_tasks.toml", "workload"), find_program()).judged()
     table.to_csv(tmp_path / "main.csv", index=False)
     one = run(policies / "short_slices.toml", workloads / "two_tasks.toml")
     assert told(one, "not slower than main.csv by 5 %", tmp_path) is None
@@ -97,6 +95,6 @@ def test_the_command_is_pytest(policies, workloads, tmp_path):
                           capture_output=True, text=True, env=os.environ | {"PYTHONPATH": str(SOURCES)}, cwd=tmp_path)
     assert done.returncode == 1
     assert "longest_wait_ms(b) is 4, and the bound is <= 1\n" in done.stdout
-    assert re.search("^b waited (for )?4 ms", done.stdout, re.M)
+    assert re.search("^b waited 4 ms", done.stdout, re.M)
     assert "1 failed, 1 passed" in done.stdout
     assert 'tests="2"' in report.read_text() and 'failures="1"' in report.read_text()

@@ -2,19 +2,20 @@
 
 import json
 import os
+import signal
 import subprocess
 import sys
 import time
-from functools import partial
 from pathlib import Path
 
 import pytest
-from scxlab.clusters import client_of
+from scxlab.clusters import Workers, client_of
+from scxlab.command import main
 from scxlab.errors import LabError
 from scxlab.experiment import read_experiment
 from scxlab.program import Program
 from scxlab.store import Store
-from scxlab.sweep import plan, sweep, table
+from scxlab.sweeps import plan, sweep, table
 
 LAB = Path(__file__).resolve().parent.parent
 EXPERIMENT = f"""policies = ["{LAB}/examples/slices.policy.toml"]
@@ -69,16 +70,16 @@ def test_nothing_is_lost_with_a_worker_that_is_killed_in_the_middle(cluster, tmp
     experiment, program = read_experiment(tmp_path / "e.toml"), Program(os.environ["SCXSIM"])
     store, done = Store(tmp_path / "r.sqlite"), []
 
-    def tell(count, due):
+    def tell(count):
         done.append(count)
         if len(done) == 3:
             workers[0].kill()
 
     with client_of(scheduler=address) as client:
         client.wait_for_workers(2, timeout=60)
-    outcome = sweep(plan(experiment, program, store), program, store, partial(client_of, scheduler=address), tell)
+    outcome = sweep(plan(experiment, program, store), program, store, Workers(scheduler=address), tell)
     assert (outcome.due, outcome.done, outcome.faults) == (RUNS, RUNS, [])
-    assert done[2] < RUNS and workers[0].wait() != 0 and workers[1].poll() is None
+    assert sum(done[:3]) < RUNS and workers[0].wait() != 0 and workers[1].poll() is None
     rows = table(plan(experiment, program, store), store)
     assert len(rows) == RUNS and rows.longest.notna().all()
 
@@ -88,3 +89,36 @@ def test_a_scheduler_that_does_not_answer_is_named(monkeypatch):
     with pytest.raises(LabError, match="no scheduler answers at 127.0.0.1:9"):
         with client_of(scheduler="127.0.0.1:9"):
             pass
+
+
+@pytest.mark.slow
+def test_ctrl_c_is_one_line(tmp_path):
+    # A terminal sends it to all processes of the command.
+    (tmp_path / "e.toml").write_text(EXPERIMENT.replace("to = 75", "to = 1000"))
+    command = [sys.executable, "-m", "scxlab", "sweep", str(tmp_path / "e.toml"), "--local", "2"]
+    with subprocess.Popen(command, env=os.environ | {"PYTHONPATH": str(LAB / "src")}, stdout=subprocess.DEVNULL,
+                          stderr=subprocess.PIPE, text=True, start_new_session=True) as process:
+        results = tmp_path / "e.sqlite"
+        for _ in range(600):
+            time.sleep(0.1)
+            if results.is_file() and len(Store(results).keys()) > 20:
+                break
+        os.killpg(process.pid, signal.SIGINT)
+        told = process.communicate(timeout=60)[1]
+    assert (process.returncode, told) == (130, f"scxlab: interrupted; what was done is kept in {results}\n")
+
+
+@pytest.mark.slow
+def test_a_scheduler_without_workers_is_named_at_once(cluster, tmp_path, capfd, monkeypatch):
+    address, workers = cluster
+    for worker in workers:
+        worker.kill()
+    (tmp_path / "e.toml").write_text(EXPERIMENT)
+    monkeypatch.setattr("scxlab.batches.SECONDS_WITHOUT_WORKERS", 3)
+    with client_of(scheduler=address) as client:
+        while client.nthreads():
+            time.sleep(0.1)
+    assert main(["sweep", str(tmp_path / "e.toml"), "--scheduler", address]) == 1
+    told = capfd.readouterr().err.splitlines()
+    assert told[0] == f"scxlab: no workers at {address}; waiting for one"
+    assert told[-1].startswith(f"scxlab: no worker came to {address} in 3 s: start one with `dask worker")

@@ -3,12 +3,15 @@
 import os
 import re
 import tomllib
+import tracemalloc
+from itertools import chain
 
 import pytest
 from scxlab.command import main
 from scxlab.errors import LabError
-from scxlab.fit import fit
+from scxlab.fitting import fit
 from scxlab.program import Program
+from scxlab.timelines import read_timeline
 
 PROGRAM = Program(os.environ["SCXSIM"])
 HEAD = '{"ph":"M","pid":0,"tid":0,"name":"thread_name","args":{"name":"cpu 0"}}'
@@ -91,7 +94,6 @@ def test_changes_of_weights_are_events(tmp_path, policies, workloads):
     assert f"{first['at']} weight {first['group']} {first['weight']}" in lines
 
 
-@pytest.mark.skipif("replay-csv" not in PROGRAM.commands, reason="this program has no replay-csv")
 def test_events_of_a_run_make_the_same_run(policies, workloads, tmp_path):
     for policy, workload in pairs(policies, workloads):
         (tmp_path / "t.json").write_text(PROGRAM.call("timeline", policy, workload))
@@ -113,10 +115,41 @@ def run_times(*words):
     return [line for line in PROGRAM.call(*words).splitlines() if ",run_ms," in line]
 
 
+def test_a_change_of_a_task_is_an_event(tmp_path):
+    path = timeline(tmp_path, ("wake", "a", 0), ("run", "a", 0, 9))
+    (tmp_path / "w.toml").write_text('cpus = 1\nms = 9\n[[group]]\nname = "g"\n[[task]]\nname = "a"\ngroup = "g"\n'
+                                     '[[change]]\nat = 4\ntask = "a"\nweight = 300\n')
+    plan = tomllib.loads(fit(path, tmp_path / "w.toml", as_events=True))
+    assert plan["events"] == "0 wake a\n4 task_weight a 300\n"
+
+
+def test_a_timeline_is_not_kept_while_it_is_read():
+    # 20,000 slices of one burst: 1.3 MB of lines, and 10 MB or more as objects. Threads of dask may hold memory too.
+    lines = (f'{{"ph":"X","pid":0,"tid":0,"ts":{at * 1000},"dur":1000,"name":"a"}},\n' for at in range(20_000))
+    wake = '{"ph":"i","pid":1,"tid":0,"ts":0,"s":"t","name":"a"},\n'
+    tracemalloc.start()
+    recording = read_timeline("t", chain([HEAD, wake], lines))
+    most = tracemalloc.get_traced_memory()[1]
+    tracemalloc.stop()
+    assert recording.ran("a") == 20_000 and most < 4_000_000
+
+
+def test_a_task_that_ends_is_told(tmp_path):
+    path = timeline(tmp_path, ("wake", "a", 0), ("run", "a", 0, 2), ("wake", "a", 4), ("run", "a", 4, 2), ("wake", "b", 0),
+                    ("run", "b", 6, 14))
+    assert "# lost: a: didn't wake again after 6 ms; here it does\n" in fit(path)
+
+
 def test_a_file_that_is_no_timeline_is_named(tmp_path, workloads, capsys):
     (tmp_path / "t.json").write_text("[]")
     assert main(["fit", str(tmp_path / "t.json")]) == 1
     assert "t.json: is no timeline of scxsim" in capsys.readouterr().err
+    (tmp_path / "t.json").write_text('{"displayTimeUnit":"ms","traceEvents":[\n{"ph":"X","pid":0,"tid":0,"ts":0\n]}')
+    with pytest.raises(LabError, match='t.json: is no timeline of scxsim: {"ph":"X","pid":0,"tid":0,"ts":0$'):
+        fit(tmp_path / "t.json")
+    (tmp_path / "t.json").write_text('{"displayTimeUnit":"ms","traceEvents":[\n]}')
+    with pytest.raises(LabError, match="or nothing wakes in it"):
+        fit(tmp_path / "t.json")
     path = timeline(tmp_path, ("wake", "z", 0), ("run", "z", 0, 2))
     with pytest.raises(LabError, match="has no task z"):
         fit(path, workloads / "two_tasks.toml")

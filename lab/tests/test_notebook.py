@@ -1,4 +1,4 @@
-"""The notebook of the course's runs: each cell runs, and answers the texts that stand below it."""
+"""The notebooks: each cell runs, and answers the text below it."""
 
 import ast
 import json
@@ -6,7 +6,7 @@ from pathlib import Path
 
 import pytest
 
-NOTEBOOK = Path(__file__).resolve().parent.parent / "examples/course.ipynb"
+EXAMPLES = Path(__file__).resolve().parent.parent / "examples"
 
 
 def answer_of(source, names):
@@ -25,12 +25,13 @@ def told_in(cell):
 
 
 @pytest.mark.filterwarnings("ignore")
-def test_each_cell_answers_what_stands_below_it(monkeypatch):
-    monkeypatch.chdir(NOTEBOOK.parent)
+@pytest.mark.parametrize("name, most", [("course", 40), ("compare", 4)])
+def test_each_cell_answers_the_text_below_it(monkeypatch, name, most):
+    monkeypatch.chdir(EXAMPLES)
     names = {}
-    cells = [cell for cell in json.loads(NOTEBOOK.read_text())["cells"] if cell["cell_type"] == "code"]
+    cells = [cell for cell in json.loads((EXAMPLES / f"{name}.ipynb").read_text())["cells"] if cell["cell_type"] == "code"]
     for cell in cells:
         answer = answer_of("".join(cell["source"]), names)
         if answer is not None and "picture of" not in repr(answer):
             assert repr(answer) == told_in(cell), cell["source"]
-    assert len(cells) > 20
+    assert most / 2 < len(cells) <= most

@@ -1,14 +1,18 @@
 """Texts of `perf sched script`: a few lines counted by hand, and a recording of three tasks that perf itself has summed up."""
 
+import os
+import subprocess
+import sys
 import tomllib
 from pathlib import Path
 
 import pytest
 from scxlab.command import main
 from scxlab.errors import LabError
-from scxlab.fit import fit
+from scxlab.fitting import fit
 from scxlab.perf import name_of, read_perf
 
+SOURCES = Path(__file__).resolve().parent.parent / "src"
 TYPISTS = Path(__file__).parent / "data/typists.perf.txt"
 
 # a (8) runs from the beginning for 2 ms and sleeps; b (9) is woken and runs for 3 ms, then is stopped for 1 ms by a, which
@@ -26,10 +30,8 @@ a 8 [000] 5.007000: sched:sched_switch: prev_comm=a prev_pid=8 prev_prio=120 pre
 BEGIN = "b 7 [000] 5.000000: sched:sched_waking: comm=c pid=6 prio=120 target_cpu=000\n"
 
 
-def recorded(tmp_path, text, unit=1000):
-    path = tmp_path / "perf.txt"
-    path.write_text(text)
-    return read_perf(path, unit)
+def recorded(text, unit=1000):
+    return read_perf("perf.txt", text.splitlines(True), unit)
 
 
 def bursts(recording, task):
@@ -37,20 +39,20 @@ def bursts(recording, task):
              each.slept and pytest.approx(each.slept, abs=1e-6)) for each in recording.bursts[task]]
 
 
-def test_bursts_go_from_a_wake_to_a_switch_in_another_state_than_running(tmp_path):
-    recording = recorded(tmp_path, BEGIN + LINES)
+def test_bursts_go_from_a_wake_to_a_switch_in_another_state_than_running():
+    recording = recorded(BEGIN + LINES)
     assert bursts(recording, "a_8") == [(0, 2, 2), (5, 1, 7)]
     assert bursts(recording, "web_content_9") == [(2, 6, 10)]
     assert (recording.cpus, recording.end) == (2, pytest.approx(10))
     assert "1 tasks that woke and didn't run aren't here" in recording.losses
 
 
-def test_another_unit_makes_other_milliseconds(tmp_path):
-    assert bursts(recorded(tmp_path, BEGIN + LINES, unit=100), "a_8") == [(0, 20, 20), (50, 10, 70)]
+def test_another_unit_makes_other_milliseconds():
+    assert bursts(recorded(BEGIN + LINES, unit=100), "a_8") == [(0, 20, 20), (50, 10, 70)]
 
 
-def test_the_short_form_of_perf_is_read_too(tmp_path):
-    recording = recorded(tmp_path, """\
+def test_the_short_form_of_perf_is_read_too():
+    recording = recorded("""\
 swapper 0 [000] 5.000000: sched:sched_wakeup: x:1:9 [120] success=1 CPU:000
 swapper 0 [000] 5.001000: sched:sched_switch: swapper/0:0 [120] R ==> x:1:9 [120]
 x:1 9 [000] 5.004000: sched:sched_switch: x:1:9 [120] S ==> swapper/0:0 [120]
@@ -58,9 +60,9 @@ x:1 9 [000] 5.004000: sched:sched_switch: x:1:9 [120] S ==> swapper/0:0 [120]
     assert bursts(recording, "x_1_9") == [(0, 3, 4)]
 
 
-def test_perf_begins_and_ends_with_one_processor_after_another(tmp_path):
+def test_perf_begins_and_ends_with_one_processor_after_another():
     # Processor 1 is recorded from 3 to 6: x ran there from 3 to 5 and y from 5 to 6, though processor 0 goes on to 9.
-    recording = recorded(tmp_path, BEGIN + """\
+    recording = recorded(BEGIN + """\
 x 1 [001] 5.003000: sched:sched_stat_runtime: comm=x pid=1 runtime=2000000 [ns]
 x 1 [001] 5.005000: sched:sched_switch: prev_comm=x prev_pid=1 prev_prio=120 prev_state=S ==> next_comm=y next_pid=2 next_prio=120
 y 2 [001] 5.006000: sched:sched_stat_runtime: comm=y pid=2 runtime=1000000 [ns]
@@ -71,15 +73,15 @@ z 3 [000] 5.009000: sched:sched_stat_runtime: comm=z pid=3 runtime=1000000 [ns]
     assert recording.end == pytest.approx(9)
 
 
-def test_lines_that_were_lost_make_no_burst_longer(tmp_path):
+def test_lines_that_were_lost_make_no_burst_longer():
     # a is seen to stop at 7 though it slept at 2: what it ran in between isn't known.
     lost = "".join(line for line in LINES.splitlines(True) if "next_comm=a " not in line and "comm=a pid=8 prio" not in line)
-    assert bursts(recorded(tmp_path, BEGIN + lost), "a_8") == [(0, 2, 2), (7, 0, 7)]
+    assert bursts(recorded(BEGIN + lost), "a_8") == [(0, 2, 2), (7, 0, 7)]
 
 
 def test_tasks_ran_as_long_as_perf_says():
     # The column run-time of `perf sched timehist -s` of the same recording.
-    recording = read_perf(TYPISTS, 1000)
+    recording = read_perf("typists", TYPISTS.read_text().splitlines(True), 1000)
     ran = {name: round(recording.ran(name), 2) for name in recording.bursts if not name.startswith("other")}
     assert ran == {"typist_21770": 30.69, "typist_21771": pytest.approx(53.385, abs=0.005), "builder_21775": 62.21}
 
@@ -135,3 +137,19 @@ def test_files_and_tasks_that_are_not_there_are_named(tmp_path, capsys):
     (tmp_path / "perf.txt").write_text("s 0 [000] 1.0: sched:sched_process_fork: comm=sh pid=5 child_comm=sh child_pid=6\n")
     with pytest.raises(LabError, match="has no line of sched_switch"):
         fit(tmp_path / "perf.txt")
+    (tmp_path / "perf.data").write_bytes(b"PERFILE2\xff\xfe" + bytes(200))
+    with pytest.raises(LabError, match="perf.data: is no timeline of scxsim, no text of perf sched script, and no file"):
+        fit(tmp_path / "perf.data")
+
+
+@pytest.mark.slow
+def test_a_pipe_and_standard_input_are_read_whole(tmp_path):
+    # A pipe can't be read twice, and its beginning is as much a part of the recording as the rest.
+    whole = fit(TYPISTS)
+    os.mkfifo(tmp_path / "pipe")
+    for path in ("-", tmp_path / "pipe"):
+        fitting = subprocess.Popen([sys.executable, "-m", "scxlab", "fit", str(path)], stdin=subprocess.PIPE,
+                                   stdout=subprocess.PIPE, text=True, env=os.environ | {"PYTHONPATH": str(SOURCES)})
+        with fitting.stdin if path == "-" else open(path, "w") as target:
+            target.write(TYPISTS.read_text())
+        assert fitting.stdout.read() == whole and fitting.wait() == 0

@@ -11,7 +11,8 @@ from scxlab.command import main
 from scxlab.errors import LabError, Refused
 from scxlab.figures import KNOWN
 from scxlab.program import Program
-from scxlab.search import goal_of, moved, report, search
+from scxlab.searches import goal_of, moved, report, search
+from scxlab.sources import source_of
 
 TEMPLATE = """cpus = 1
 ms = [80, 200]
@@ -38,36 +39,38 @@ def template(tmp_path):
 
 
 def found(policy, template, goal, **more):
-    return search(Program(os.environ["SCXSIM"]), policy, template, goal_of(goal), **more)
+    return search(Program(os.environ["SCXSIM"]), source_of(policy, "policy"), source_of(template, "template"), goal_of(goal),
+                  **more)
 
 
 def test_the_longest_wait_behind_slices_of_20_ms_is_found_and_made_smallest(policies, template):
     # Three others never sleep and use 20 ms each, at best from the millisecond on in which a wakes: it runs with the tick
     # of the 60th millisecond. A task of 5 ms at most is never stopped, so no wait is longer.
-    best, space = found(policies / "fifo.toml", template, "max longest_wait_ms(a)", runs=150)
+    worst = found(policies / "fifo.toml", template, "max longest_wait_ms(a)", runs=150)
+    best = worst.best
     assert best.score == 59
     assert best.numbers == {"ms": 80, "task.0.count": 3, "task.1.start": 0, "task.1.run": 1, "task.1.sleep": 0}
-    text = report(best, space)
+    text = report(worst)
     assert "# max longest_wait_ms(a) is 59 under fifo.toml.\n" in text
     assert re.search("^# a waited (for )?59 ms", text, re.M)
     assert [task["name"] for task in tomllib.loads(text)["task"]] == ["w1", "w2", "w3", "a"]
 
 
 def test_the_least_is_found_too(policies, template):
-    best, _ = found(policies / "fifo.toml", template, "min longest_wait_ms(a)", runs=60)
+    best = found(policies / "fifo.toml", template, "min longest_wait_ms(a)", runs=60).best
     assert (best.score, best.numbers["task.0.count"]) == (0, 0)
 
 
 def test_the_same_seed_finds_the_same(policies, template):
     def text(seed):
-        return report(*found(policies / "sticky.toml", template, "max mean_wait_ms(*)", runs=40, seed=seed))
+        return report(found(policies / "sticky.toml", template, "max mean_wait_ms(*)", runs=40, seed=seed))
 
     assert text(5) == text(5)
 
 
 def test_figures_that_are_counted_from_traces_can_be_a_goal(policies, template):
     # One burst of r ms takes the longest behind three slices: 60 ms and its own r, by r, so 61 with r = 1.
-    best, _ = found(policies / "fifo.toml", template, "max slowdown(a)", runs=60)
+    best = found(policies / "fifo.toml", template, "max slowdown(a)", runs=60).best
     assert best.score == 61 and best.numbers["task.1.run"] == 1
 
 

@@ -3,21 +3,19 @@
 import os
 import signal
 import sqlite3
-from contextlib import contextmanager
-from functools import partial
 
 import pytest
 from hypothesis import given
 from hypothesis import strategies as some
 from scxlab import templates
-from scxlab.clusters import client_of
+from scxlab.clusters import Workers, client_of
 from scxlab.command import main
 from scxlab.errors import LabError
 from scxlab.experiment import read_experiment
 from scxlab.figures import figure_of, values_of
 from scxlab.program import Program
-from scxlab.store import Store
-from scxlab.sweep import plan, sweep, table
+from scxlab.store import Result, Store
+from scxlab.sweeps import plan, sweep, table
 
 POLICY = '''name = "slices"
 [code]
@@ -58,21 +56,10 @@ def folder(tmp_path):
     return tmp_path
 
 
-@pytest.fixture(scope="module")
-def two_workers():
-    with client_of(local=2) as client:
-        yield client
-
-
-@contextmanager
-def lent(client):
-    yield client
-
-
 def run_all(folder, client, store=None):
     experiment, program = read_experiment(folder / "e.toml"), Program(os.environ["SCXSIM"])
     store = store or Store(folder / "r.sqlite")
-    outcome = sweep(plan(experiment, program, store), program, store, partial(lent, client))
+    outcome = sweep(plan(experiment, program, store), program, store, Workers(client=client))
     return outcome, table(plan(experiment, program, store), store)
 
 
@@ -96,11 +83,19 @@ def test_what_is_there_is_not_done_again(folder, two_workers):
 def test_figures_that_are_asked_for_later_are_there_too(folder, two_workers):
     run_all(folder, two_workers)
     (folder / "e.toml").write_text(EXPERIMENT + 'bursts = "sum bursts(t*)"\n')
-    outcome, rows = run_all(folder, two_workers)
-    # Where the program has these figures nothing is done again. No task sleeps, so no burst was finished.
-    assert outcome.due == outcome.done and outcome.due in (0, 4)
+    outcome, rows = run_all(folder, None)
+    # No task sleeps, so no burst was finished.
+    assert outcome.due == 0
     assert list(rows.longest) == [2, 6, 5, 15] and list(rows.bursts) == [0, 0, 0, 0]
-    assert run_all(folder, None)[0].due == 0
+
+
+def test_sql_asks_for_a_figure(folder, two_workers):
+    run_all(folder, two_workers)
+    with sqlite3.connect(folder / "r.sqlite") as base:
+        rows = base.execute("SELECT state, max(longest_wait_ms) FROM runs JOIN tasks ON run = id GROUP BY id ORDER BY 2")
+        assert rows.fetchall() == [("in force", 2), ("in force", 5), ("in force", 6), ("in force", 15)]
+        # The one processor ran for all 40 ms.
+        assert base.execute("SELECT DISTINCT name, busy_ms, idle_ms FROM cpus").fetchall() == [("0", 40, 0)]
 
 
 def test_a_worker_that_is_ended_loses_nothing(folder):
@@ -121,28 +116,53 @@ def test_a_worker_that_is_ended_loses_nothing(folder):
     assert (outcome.due, outcome.done, len(rows)) == (200, 200, 200)
 
 
-def test_an_interrupted_sweep_keeps_what_was_done(folder, two_workers, monkeypatch, capsys):
+def test_an_interrupted_sweep_keeps_what_was_done(folder, monkeypatch, capsys):
+    monkeypatch.setattr("scxlab.batches.SECONDS_HERE", float("inf"))
+    monkeypatch.setattr("scxlab.batches.SECONDS_BETWEEN_RESULTS", -1.0)
     (folder / "e.toml").write_text(EXPERIMENT.replace("[2, 5]", "{ from = 1, to = 10 }")
-                                   .replace("[2, 4]", "{ from = 2, to = 11 }"))
+                                   .replace("[2, 4]", "{ from = 2, to = 5 }"))
+    kept = []
 
-    def interrupt(progress, done, due):
-        raise KeyboardInterrupt
+    class Interrupted(Store):
+        def add(self, program, results):
+            super().add(program, results)
+            kept.extend(results)
+            raise KeyboardInterrupt
 
-    monkeypatch.setattr("scxlab.clusters.client_of", lambda *where: lent(two_workers))
     with monkeypatch.context() as within:
-        within.setattr("scxlab.sweep.Progress.__call__", interrupt)
+        within.setattr("scxlab.store.Store", Interrupted)
         assert main(["sweep", str(folder / "e.toml")]) == 130
     assert capsys.readouterr().err == f"scxlab: interrupted; what was done is kept in {folder / 'e.sqlite'}\n"
     assert main(["sweep", str(folder / "e.toml")]) == 0
-    assert "100 points, 75 runs were due, 75 done" in capsys.readouterr().out
+    due = 40 - len(kept)
+    assert 0 < due < 40 and f"40 points, {due} runs were due, {due} done" in capsys.readouterr().out
 
 
 def test_a_refused_point_is_named_and_the_others_are_kept(folder, capsys):
     (folder / "e.toml").write_text(EXPERIMENT.replace("[2, 4]", "[2, 1024, 0]").replace("[2, 5]", "[2]"))
-    assert main(["sweep", str(folder / "e.toml"), "--local", "1"]) == 1
+    assert main(["sweep", str(folder / "e.toml")]) == 1
     told = capsys.readouterr()
     assert told.err == "scxlab: refused: workload task: missing (1 points)\n"
     assert "3 points, 3 runs were due, 3 done" in told.out
+
+
+def test_a_sweep_over_seeds_prints_its_spread_and_draws_a_chart(folder, capsys):
+    (folder / "w.toml").write_text("seed = {seed}\n" + WORKLOAD)
+    (folder / "e.toml").write_text(EXPERIMENT.replace("tasks = [2, 4]", "tasks = [2]\nseed = [1, 2]"))
+    assert main(["sweep", str(folder / "e.toml"), "--csv", str(folder / "t.csv"), "--plot", "slice", "longest", "policy"]) == 0
+    told = capsys.readouterr().out.splitlines()
+    assert told[0].startswith("4 points, 2 runs were due, 2 done")
+    assert told[1].split() == ["policy", "slice", "tasks", "runs", "longest", "longest_interval"]
+    # Two tasks in turn wait for one slice, whatever the seed.
+    assert [line.split()[1:] for line in told[2:4]] == [["p", "2", "2", "2", "2.00", "0.00"], ["p", "5", "2", "2", "5.00", "0.00"]]
+    assert told[4] == f"chart in {folder / 'e.svg'}" and (folder / "e.svg").read_text().startswith("<svg")
+    assert len((folder / "t.csv").read_text().splitlines()) == 5
+
+
+def test_a_parameter_may_have_fractions(folder, tmp_path):
+    (folder / "w.toml").write_text(WORKLOAD + "# {part}\n")
+    (folder / "e.toml").write_text(EXPERIMENT.replace("[2, 4]", "[2]\npart = [1, 2.5]"))
+    assert [str(values["part"]) for _, values in read_experiment(folder / "e.toml").points()] == ["1", "2.5"] * 2
 
 
 @pytest.mark.parametrize("was, becomes, told", [
@@ -170,15 +190,36 @@ def test_a_figure_that_no_run_has_is_named(folder, two_workers):
         run_all(folder, two_workers)
 
 
+# The tables of version 1, in which the figures were a text.
+OLDER = """
+CREATE TABLE version (version TEXT);
+CREATE TABLE file (hash TEXT PRIMARY KEY, text TEXT);
+CREATE TABLE run (
+    key TEXT PRIMARY KEY, program TEXT, policy TEXT, workload TEXT, state TEXT, figures TEXT, counted INTEGER);
+INSERT INTO version VALUES ('1');
+"""
+
+
 def test_files_of_results_of_another_version_or_none_are_named(tmp_path):
-    Store(tmp_path / "a").close()
     with sqlite3.connect(tmp_path / "a") as base:
-        base.execute("UPDATE version SET version = '0'")
-    with pytest.raises(LabError, match="is of version 0 of results"):
+        base.executescript(OLDER)
+    before = (tmp_path / "a").read_bytes()
+    with pytest.raises(LabError, match="a is of version 1 of results, and this scxlab reads version 2"):
         Store(tmp_path / "a")
+    assert (tmp_path / "a").read_bytes() == before
     (tmp_path / "b").write_text("no data base, but long enough to be looked at as one")
     with pytest.raises(LabError, match="b is no file of results"):
         Store(tmp_path / "b")
+
+
+def test_a_figure_that_is_not_known_is_named_and_nothing_of_its_batch_is_kept(tmp_path):
+    store = Store(tmp_path / "r.sqlite")
+    known = Result("1", "p", "w", "in force", "kind,name,figure,value\ntask,a,waits,3\n")
+    with pytest.raises(LabError, match="the program writes mood of a task"):
+        store.add("hash", [known, Result("2", "p", "w", "in force", "kind,name,figure,value\ntask,a,mood,3\n")])
+    assert store.keys() == set() and store.get("1") is None
+    store.add("hash", [known, known])
+    assert store.get("1") == ("in force", {("waits", "a"): 3})
 
 
 def test_another_program_is_told_from_this_one(folder, two_workers):
@@ -186,8 +227,8 @@ def test_another_program_is_told_from_this_one(folder, two_workers):
     other = Program(str(folder / "w.toml"))
     other.__dict__["hash"] = program.hash
     store = Store(folder / "r.sqlite")
-    outcome = sweep(plan(experiment, other, store), other, store, partial(lent, two_workers))
-    assert (outcome.done, outcome.faults) == (0, [f"a worker has another program at {other.path}"])
+    outcome = sweep(plan(experiment, other, store), other, store, Workers(client=two_workers))
+    assert (outcome.done, set(outcome.faults)) == (0, {f"a worker has another program at {other.path}"})
 
 
 def test_a_sample_has_each_point_once_and_is_the_same_each_time(folder):
@@ -228,7 +269,8 @@ def test_a_text_in_a_workload_is_read_back_as_it_was(text):
         text.encode()
     except UnicodeEncodeError:
         return
-    assert tomllib.loads(f"key = {templates.literal(text)}") == {"key": text}
+    assert tomllib.loads(templates.written({"key": text, "task": [{"name": text}]})) == {
+        "key": text, "task": [{"name": text}]}
 
 
 def test_a_figure_over_several_names():

@@ -1,81 +1,120 @@
-"""Waits, bursts and idle processors of traces that were written and counted by hand."""
+"""Slices, waits and bursts: of pages that were written and counted by hand, and of runs beside the program's figures."""
+
+import json
+import os
+import struct
+from base64 import encodebytes
 
 import pandas
 import pytest
 from scxlab import traces
+from scxlab.errors import LabError
+from scxlab.figures import values_of
+from scxlab.program import Program
+from scxlab.runs import Run
+
+PROGRAM = Program(os.environ["SCXSIM"])
+WAIT = 255
+OVER, STOPPED, SLEPT, PARKED, RAN, WENT_ON, LET_GO = range(7)
+GOES_ON, WOKE, WAS_STOPPED, WAS_LET_GO = range(0, 64, 16)
+# The stretch began, or ended, as a millisecond ended.
+LATE, TO_LATE = 64, 128
+
+
+def page(names, ms, *rows):
+    """A page with stretches: since, length, the task's number, the CPU, how it ended and began, the queue."""
+    told = encodebytes(b"".join(struct.pack("<IIHBBHH", *row, 0) for row in rows)).decode()
+    head = json.dumps({"ms": ms, "tasks": [{"name": name, "group": 0} for name in names]})
+    return (f'<script id="head" type="application/json">{head}</script>\n'
+            f'<script id="stretches" type="text/plain">\n{told}</script>\n')
+
+
+def rows_of(table):
+    return list(table.astype(object).itertuples(index=False, name=None))
+
 
 # a runs for 2 ms between sleeps; b never sleeps; one processor, 6 ms. By millisecond: a a b b b a.
-ONE_PROCESSOR = """\
-0 wake a
-0 insert a queue 0
-0 run a cpu 0
-0 wake b
-0 insert b queue 0
-1 sleep a
-1 stop a cpu 0
-1 run b cpu 0
-3 wake a
-3 insert a queue 0
-4 stop b cpu 0
-4 insert b queue 0
-4 run a cpu 0
-"""
-
-
-def slices(*rows):
-    return pandas.DataFrame(rows, columns=["kind", "task", "cpu", "since_ms", "length_ms"])
+ONE_PROCESSOR = traces.stretches_of(page(
+    "ab", 6, (0, 2, 0, 0, SLEPT | WOKE | TO_LATE, 0), (0, 2, 1, WAIT, RAN | WOKE | TO_LATE, 0),
+    (2, 3, 1, 0, STOPPED | LATE | TO_LATE, 0), (3, 2, 0, WAIT, RAN | WOKE | TO_LATE, 0), (5, 1, 0, 0, OVER | LATE, 0),
+    (5, 1, 1, WAIT, OVER | WAS_STOPPED | LATE, 0)))
 
 
 def test_waits_begin_with_a_wake_or_a_stop_and_end_with_a_run_or_the_end():
-    waits = traces.waits_of(ONE_PROCESSOR, 6)
-    assert list(waits.itertuples(index=False, name=None)) == [
-        ("a", 0, 0), ("b", 0, 1), ("a", 3, 1), ("b", 4, 2)]
-
-
-def test_a_task_that_sleeps_while_it_waits_waits_no_longer():
-    waits = traces.waits_of("0 wake a\n0 run a cpu 0\n2 stop a cpu 0\n2 insert a queue 0\n2 sleep a\n", 9)
-    assert list(waits.itertuples(index=False, name=None)) == [("a", 0, 0), ("a", 2, 0)]
-
-
-def test_a_parked_task_waits_for_no_processor():
-    trace = "0 wake a\n0 run a cpu 0\n3 stop a cpu 0\n3 insert a parked\n10 insert a queue 0\n12 run a cpu 0\n"
-    waits = traces.waits_of(trace, 20)
-    assert list(waits.itertuples(index=False, name=None)) == [("a", 0, 0), ("a", 3, 0), ("a", 10, 2)]
+    assert rows_of(traces.waits_of(ONE_PROCESSOR, "")) == [("a", 0, 0), ("b", 0, 1), ("a", 3, 1), ("b", 4, 2)]
 
 
 def test_a_burst_goes_from_the_begin_of_its_wake_to_the_end_of_its_sleep():
-    bursts = traces.bursts_of("0 wake a\n1 sleep a\n5 wake a\n9 sleep a\n12 wake a\n", {"a": 2})
-    # Milliseconds 0 and 1, alone; then 5 to 9, of which it ran in two; the third isn't finished.
-    assert list(bursts.itertuples(index=False, name=None)) == [("a", 0, 2, 1.0), ("a", 5, 5, 2.5)]
+    stretches = traces.stretches_of(page(
+        "a", 20, (0, 2, 0, 0, SLEPT | WOKE | TO_LATE, 0), (5, 3, 0, WAIT, RAN | WOKE | TO_LATE, 0),
+        (8, 2, 0, 0, SLEPT | LATE | TO_LATE, 0), (12, 1, 0, WAIT, SLEPT | WOKE | TO_LATE, 0), (15, 5, 0, 0, OVER | WOKE, 0)))
+    # Milliseconds 0 and 1, alone; then 5 to 9, of which it ran in two; then 12 without a run; the last isn't finished.
+    bursts = traces.bursts_of(stretches, "")
+    assert rows_of(bursts.iloc[:2]) == [("a", 0, 2, 1.0), ("a", 5, 5, 2.5)]
+    assert rows_of(bursts.iloc[2:, :3]) == [("a", 12, 1)] and bursts.slowdown.isna().tolist() == [False, False, True]
 
 
-def test_a_processor_is_idle_while_somebody_waits():
-    trace = "0 wake a\n0 wake b\n2 sleep a\n4 wake a\n"
-    ran = slices(("run", "a", 0, 0, 3), ("run", "b", 0, 3, 3))
-    # Processor 1 is idle all the time; b waits in 0 to 2, nobody in 3, a in 4 and 5.
-    assert traces.idle_while_waiting(trace, ran, 2, 6) == ([0, 5], 5)
+def test_slices_are_when_a_task_ran_or_was_parked():
+    stretches = traces.stretches_of(page(
+        "a", 20, (2, 3, 0, 1, PARKED | WOKE | TO_LATE, 0), (5, 1, 0, WAIT, LET_GO | WAS_STOPPED | LATE, 19),
+        (6, 1, 0, WAIT, RAN | WAS_LET_GO | TO_LATE, 0), (7, 13, 0, 0, OVER | LATE, 0)))
+    slices = traces.slices_of(stretches)
+    assert rows_of(slices) == [("run", "a", 1, 2, 3), ("parked", "a", pandas.NA, 5, 1), ("run", "a", 0, 7, 13)]
+    assert slices.cpu.dtype == "Int64"
+    # It ran as it woke; it was parked as it stopped, and waits for no processor then; the third wait is of 6 alone.
+    assert rows_of(traces.waits_of(stretches, "")) == [("a", 2, 0), ("a", 4, 0), ("a", 6, 0)]
 
 
-def test_a_parked_task_leaves_a_processor_idle_for_good_cause():
-    trace = "0 wake a\n"
-    ran = slices(("run", "a", 0, 0, 2), ("parked", "a", -1, 2, 3))
-    # It runs in 0 and 1, is parked in 2 to 4, and waits in 5.
-    assert traces.idle_while_waiting(trace, ran, 1, 6) == ([1], 1)
+def test_a_task_that_is_let_go_and_parked_again_at_once_waited_twice():
+    stretches = traces.stretches_of(page(
+        "a", 20, (0, 2, 0, 0, PARKED | WOKE | TO_LATE, 0), (2, 8, 0, WAIT, LET_GO | WAS_STOPPED | LATE, 19),
+        (10, 10, 0, WAIT, OVER | WAS_LET_GO, 19)))
+    assert rows_of(traces.waits_of(stretches, "")) == [("a", 0, 0), ("a", 1, 0), ("a", 10, 0)]
 
 
-def test_slices_are_read_from_a_timeline():
-    timeline = """{"displayTimeUnit":"ms","traceEvents":[
-{"ph":"M","pid":0,"tid":0,"name":"process_name","args":{"name":"processors"}},
-{"ph":"i","pid":1,"tid":0,"ts":0,"s":"t","name":"a"},
-{"ph":"X","pid":0,"tid":1,"ts":2000,"dur":3000,"name":"a"},
-{"ph":"X","pid":3,"tid":0,"ts":5000,"dur":1000,"name":"a"}
-]}"""
-    assert list(traces.slices_of(timeline).itertuples(index=False, name=None)) == [
-        ("run", "a", 1, 2, 3), ("parked", "a", -1, 5, 1)]
+@pytest.mark.parametrize("lines, wait, finished", [
+    ("3 stop a cpu 0\n3 insert a queue 0\n", 1, False),
+    ("3 stop a cpu 0\n3 insert a queue 0\n3 run a cpu 0\n", 0, False),
+    ("3 stop a cpu 0\n3 insert a queue 0\n3 sleep a\n", 0, True),
+    ("3 stop a cpu 0\n3 insert a parked\n", 0, False)])
+def test_what_comes_of_the_last_tick_is_in_the_trace(lines, wait, finished):
+    stretches = traces.stretches_of(page("a", 4, (0, 4, 0, 0, STOPPED | WOKE | TO_LATE, 0)))
+    trace = "0 wake a\n0 run a cpu 0\n" + lines
+    assert rows_of(traces.waits_of(stretches, trace)) == [("a", 0, 0), ("a", 3, wait)]
+    assert rows_of(traces.bursts_of(stretches, trace)) == ([("a", 0, 4, 1.0)] if finished else [])
 
 
-@pytest.mark.parametrize("percent, least", [(50, 3), (90, 8), (99, 9), (100, 9), (1, 1)])
-def test_percentiles_of_lengths_are_the_least_that_so_many_do_not_exceed(percent, least):
-    from scxlab.traces import part_of
+def test_a_page_without_stretches_has_empty_tables():
+    stretches = traces.stretches_of(page("a", 9))
+    for table in (traces.slices_of(stretches), traces.waits_of(stretches, ""), traces.bursts_of(stretches, "")):
+        assert table.empty and "task" in table
 
-    assert part_of([1, 1, 2, 2, 3, 4, 5, 7, 8, 9], percent) == least
+
+def test_a_page_of_another_version_is_named():
+    with pytest.raises(LabError, match="the page of the run isn't of this version"):
+        traces.stretches_of("<html></html>")
+
+
+def test_tables_have_what_stats_says(policies, workloads):
+    for policy in policies.glob("*.toml"):
+        for workload in ("limited", "urgent"):
+            one = Run(PROGRAM, policy, workloads / f"{workload}.toml")
+            values = values_of(one.stats)
+            for name in one.names("task"):
+                waits = one.waits[one.waits.task == name]
+                bursts = one.bursts[one.bursts.task == name]
+                assert (len(waits), len(bursts)) == (values["waits", name], values["bursts", name])
+                if len(waits):
+                    longest = waits[waits.wait_ms == values["longest_wait_ms", name]]
+                    assert longest.since_ms.min() == values["longest_wait_since_ms", name], (policy, workload, name)
+                    assert waits.wait_ms.mean() == pytest.approx(values["mean_wait_ms", name], abs=0.0101)
+                if len(bursts):
+                    assert bursts.burst_ms.max() == values["longest_burst_ms", name], (policy, workload, name)
+            assert slices_of_timeline(policy, workloads / f"{workload}.toml") == sorted(rows_of(one.slices.fillna(-1)))
+
+
+def slices_of_timeline(policy, workload):
+    """The slices that the program draws in a timeline."""
+    events = json.loads(PROGRAM.call("timeline", policy, workload))["traceEvents"]
+    return sorted(("run" if event["pid"] == 0 else "parked", event["name"], -1 if event["pid"] else event["tid"],
+                   event["ts"] // 1000, event["dur"] // 1000) for event in events if event["ph"] == "X" and event["pid"] != 4)

@@ -1,28 +1,31 @@
-"""Figures: the lines of `stats-csv`, and single ones by name, as experiments and goals ask for them:
+"""Metrics: the lines of `stats-csv`, and single ones by name, as experiments and goals ask for them:
 `longest_wait_ms(a)`, `max mean_wait_ms(w*)`."""
 
 import csv
 import re
+from collections.abc import Callable, Mapping, Sequence
 from dataclasses import dataclass
 from fnmatch import fnmatchcase
 
 from scxlab.errors import LabError
 
+Values = Mapping[tuple[str, str], float]
+Row = tuple[str, str, str, float]
+
 COLUMNS = ["kind", "name", "figure", "value"]
 OF_STATS = {
     "task": ["run_ms", "waits", "mean_wait_ms", "wait_99_percent_ms", "longest_wait_ms", "longest_wait_since_ms",
-             "wakes", "stopped", "parked_ms"],
-    "cpu": ["busy_ms", "idle_ms", "changes"],
+             "wakes", "stopped", "parked_ms", "bursts", "mean_burst_ms", "burst_50_percent_ms", "burst_90_percent_ms",
+             "burst_99_percent_ms", "longest_burst_ms", "slowdown"],
+    "cpu": ["busy_ms", "idle_ms", "changes", "idle_while_waiting_ms"],
     "group": ["share_percent", "due_percent", "quota_ms", "period_ms", "most_in_a_period_ms", "periods",
               "throttled_periods", "throttled_ms"],
-    "policy": ["ejected_at_ms"],
+    "policy": ["ejected_at_ms", "idle_while_waiting_ms"],
 }
-# Those that an older program lacks; they are then counted from its traces.
-COUNTED = ["bursts", "mean_burst_ms", "burst_50_percent_ms", "burst_90_percent_ms", "burst_99_percent_ms",
-           "longest_burst_ms", "slowdown", "idle_while_waiting_ms"]
-KNOWN = [figure for figures in OF_STATS.values() for figure in figures] + COUNTED
+KNOWN = list(dict.fromkeys(figure for figures in OF_STATS.values() for figure in figures))
 
-OVER = {"max": max, "min": min, "sum": sum, "mean": lambda values: sum(values) / len(values)}
+OVER: dict[str, Callable[[Sequence[float]], float]] = {
+    "max": max, "min": min, "sum": sum, "mean": lambda values: sum(values) / len(values)}
 FORM = re.compile(r"(?:(max|min|sum|mean) +)?([a-z0-9_]+)\(([a-z0-9_*?]+)\)")
 ENDED = re.compile(r"^policy,[^,]*,ended,(.+)$", re.M)
 EJECTED_AT = re.compile(r"^policy,[^,]*,ejected_at_ms,(.+)$", re.M)
@@ -31,26 +34,24 @@ NOTHING = float("nan")
 
 @dataclass(frozen=True)
 class Figure:
-    """A figure of one task, processor or group, or over all whose names fit a pattern with `*`."""
+    """A metric of one task, CPU or group, or over all whose names fit a pattern with `*`."""
 
     over: str | None
     figure: str
     name: str
 
     @property
-    def text(self):
+    def text(self) -> str:
+        """The metric as an experiment writes it."""
         return f"{self.over + ' ' if self.over else ''}{self.figure}({self.name})"
 
-    @property
-    def is_counted(self):
-        return self.figure in COUNTED
-
-    def matches(self, values):
+    def matches(self, values: Values) -> list[float]:
+        """The values of all names that fit."""
         return [value for (figure, name), value in values.items()
                 if figure == self.figure and fnmatchcase(name, self.name)]
 
-    def value(self, values):
-        """Its value among those of a run, by figure and name; nothing where the run has none."""
+    def value(self, values: Values) -> float:
+        """Its value among those of a run, by figure and name; NaN if the run has none."""
         found = self.matches(values)
         if not found:
             return NOTHING
@@ -59,8 +60,8 @@ class Figure:
         return OVER[self.over or "max"](found)
 
 
-def figure_of(text):
-    """Reads a figure as it is written in an experiment or a goal."""
+def figure_of(text: str) -> Figure:
+    """Reads a metric as it is written in an experiment or a goal."""
     match = FORM.fullmatch(text.strip())
     if not match:
         raise LabError(f"{text!r} is no figure: write one as longest_wait_ms(a), or as max longest_wait_ms(w*)")
@@ -69,9 +70,9 @@ def figure_of(text):
     return Figure(*match.groups())
 
 
-def rows_of(text):
-    """The lines of `stats-csv` that hold numbers, as kind, name, figure and value. What is of the policy has the name
-    `policy`, whatever its file calls it."""
+def rows_of(text: str) -> list[Row]:
+    """The lines of `stats-csv` that hold numbers, as kind, name, figure and value. The policy has the name `policy`,
+    whatever its file calls it."""
     lines = list(csv.reader(text.splitlines()))
     if lines[:1] != [COLUMNS]:
         raise LabError(f"the figures aren't of this version: their first line isn't {','.join(COLUMNS)}")
@@ -79,19 +80,14 @@ def rows_of(text):
             for kind, name, figure, value in lines[1:] if figure != "ended"]
 
 
-def values_of(text):
+def values_of(text: str) -> dict[tuple[str, str], float]:
     """The values of the lines of `stats-csv`, by figure and name."""
     return {(figure, name): value for _, name, figure, value in rows_of(text)}
 
 
-def state_of(text):
-    """What became of the policy, in the words of a report; None where the lines don't say it."""
-    ended = ENDED.search(text)
-    if not ended or ended[1] == "in force":
-        return ended and ended[1]
-    return f"ejected {ended[1]} at {EJECTED_AT.search(text)[1]}"
-
-
-def has_counted(text):
-    """Whether lines of `stats-csv` have the figures that an older program lacks."""
-    return ",bursts," in text
+def state_of(text: str) -> str:
+    """The state of the policy at the end, in the words of a report."""
+    ended, at = ENDED.search(text), EJECTED_AT.search(text)
+    if not ended:
+        raise LabError("the figures aren't of this version: no line says how the run ended")
+    return f"ejected {ended[1]} at {at[1]}" if at else ended[1]

@@ -1,12 +1,15 @@
 """Files of the lab's own: TOML with known keys."""
 
 import tomllib
+from collections.abc import Collection
+from os import PathLike
 from pathlib import Path
+from typing import Any
 
 from scxlab.errors import LabError
 
 
-def known_table(path, keys):
+def known_table(path: str | PathLike[str], keys: Collection[str]) -> dict[str, Any]:
     """The table of a file; what is no TOML and a key that isn't one of these is named."""
     try:
         told = tomllib.loads(Path(path).read_text())

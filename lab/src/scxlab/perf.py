@@ -1,6 +1,7 @@
 """Reads what `perf sched script` writes of a recording that `perf sched record` made."""
 
 import re
+from collections.abc import Iterable
 from dataclasses import dataclass, field
 
 from scxlab.errors import LabError
@@ -19,6 +20,8 @@ SHORT_WAKE = re.compile(r"(?P<comm>.*):(?P<pid>\d+) \[\d+\]")
 WAKES = {"sched_waking", "sched_wakeup", "sched_wakeup_new"}
 IDLE = "0"
 LONGEST_NAME = 16
+# The beginning of a line, up to its event, is shorter.
+LONGEST_HEAD = 500
 
 
 @dataclass
@@ -26,28 +29,28 @@ class Task:
     """One task of a kernel: its bursts so far, and since when it runs and where."""
 
     comm: str
-    bursts: list = field(default_factory=list)
+    bursts: list[Burst] = field(default_factory=list)
     since: float | None = None
-    cpu: int | None = None
+    cpu: int = 0
 
     @property
-    def is_awake(self):
+    def is_awake(self) -> bool:
         return bool(self.bursts) and self.bursts[-1].slept is None
 
-    def wake(self, at):
+    def wake(self, at: float) -> None:
         if not self.is_awake:
             self.bursts.append(Burst(at))
 
-    def run(self, at, cpu):
+    def run(self, at: float, cpu: int) -> None:
         """It begins to run, and so it is awake, though nothing told of it."""
         self.wake(at)
         self.since, self.cpu = at, cpu
 
-    def stop(self, at):
-        self.bursts[-1].ran += at - self.since
+    def stop(self, at: float) -> None:
+        self.bursts[-1].ran += at - (at if self.since is None else self.since)
         self.since = None
 
-    def sleep(self, at):
+    def sleep(self, at: float) -> None:
         self.bursts[-1].slept = at
 
 
@@ -55,12 +58,13 @@ class Reader:
     """Takes the lines one after another. Times are in milliseconds from the first line on. perf begins and ends with
     one processor after another."""
 
-    def __init__(self, unit):
-        self.unit, self.tasks = unit, {}
-        self.begin, self.at, self.cpu, self.unread = None, 0, None, 0
-        self.first, self.last = {}, {}
+    def __init__(self, unit: int) -> None:
+        self.unit, self.tasks = unit, dict[str, Task]()
+        self.begin: float | None = None
+        self.at, self.cpu, self.unread = 0.0, 0, 0
+        self.first, self.last = dict[int, float](), dict[int, float]()
 
-    def line(self, text):
+    def line(self, text: str) -> None:
         match = LINE.match(text)
         if not match:
             self.unread += 1
@@ -76,7 +80,7 @@ class Reader:
         elif match["event"] in WAKES:
             self.wake(match["told"])
 
-    def switch(self, told):
+    def switch(self, told: str) -> None:
         match = SWITCH.match(told) or SHORT_SWITCH.match(told)
         if not match:
             self.unread += 1
@@ -86,7 +90,7 @@ class Reader:
         if match["next_pid"] != IDLE:
             self.task(match["next_pid"], match["next_comm"]).run(self.at, self.cpu)
 
-    def stop(self, task, state):
+    def stop(self, task: Task, state: str) -> None:
         """A task stops. One of which nothing was seen before has run since the recording of its processor began; of
         another that wasn't seen to begin the lines were lost. In a state that begins with R it would run on."""
         if task.since is None:
@@ -95,38 +99,34 @@ class Reader:
         if not state.startswith("R"):
             task.sleep(self.at)
 
-    def wake(self, told):
+    def wake(self, told: str) -> None:
         match = WAKE.match(told) or SHORT_WAKE.match(told)
         if match:
             self.task(match["pid"], match["comm"]).wake(self.at)
         else:
             self.unread += 1
 
-    def task(self, pid, comm):
+    def task(self, pid: str, comm: str) -> Task:
         known = self.tasks.setdefault(pid, Task(comm))
         known.comm = comm
         return known
 
-    def finish(self):
+    def finish(self) -> None:
         """Who runs at the end has run until its processor's recording ended."""
         for task in self.tasks.values():
             if task.since is not None:
                 task.stop(max(task.since, self.last[task.cpu]))
 
 
-def read_perf(path, unit):
-    """The recording of a text of `perf sched script`. So many microseconds of it are a millisecond."""
+def read_perf(name: str, lines: Iterable[str], unit: int) -> Recording:
+    """The recording of a text of `perf sched script`; `unit` microseconds of it are a millisecond."""
     reader = Reader(unit)
-    try:
-        with open(path) as lines:
-            for text in lines:
-                if text.strip():
-                    reader.line(text)
-    except UnicodeDecodeError as error:
-        raise LabError(f"{path}: is no text of perf sched script") from error
+    for text in lines:
+        if text.strip():
+            reader.line(text)
     reader.finish()
     if not reader.tasks:
-        raise LabError(f"{path}: has no line of sched_switch as perf sched script writes them")
+        raise LabError(f"{name}: has no line of sched_switch as perf sched script writes them")
     bursts = {name_of(task.comm, pid): task.bursts for pid, task in reader.tasks.items()}
     recording = Recording(len(reader.last), reader.at, bursts)
     idle = [name for name in bursts if not recording.ran(name)]
@@ -138,14 +138,13 @@ def read_perf(path, unit):
     return recording.without(idle)
 
 
-def name_of(comm, pid):
+def name_of(comm: str, pid: str) -> str:
     """A name as workloads have them: the command's, as far as that can be, and the number of the process."""
     plain = re.sub(r"[^a-z0-9]+", "_", comm.lower()).strip("_")
     plain = plain if plain[:1].isalpha() else f"t_{plain}"
     return f"{plain[: LONGEST_NAME - len(pid) - 1].rstrip('_')}_{pid}"
 
 
-def is_perf(path):
-    """Whether a file is a text of perf: one of its first lines is an event of the scheduler."""
-    with open(path, errors="replace") as lines:
-        return any(LINE.match(text) for text, _ in zip(lines, range(100)))
+def is_perf(lines: Iterable[str]) -> bool:
+    """Whether one of these lines is an event of the scheduler."""
+    return any(LINE.match(text[:LONGEST_HEAD]) for text in lines)

@@ -1,20 +1,28 @@
 """The plugin of pytest that collects files of checks: those that end with `.check.toml`, and those that are named."""
 
+from collections.abc import Iterator
+from pathlib import Path
+from typing import Any
+
 import pytest
 
-from scxlab.checks import Failed, read_checks
+from scxlab.checks import Check, Failed, read_checks
 from scxlab.errors import LabError
 
 
-def pytest_collect_file(file_path, parent):
+def pytest_collect_file(file_path: Path, parent: pytest.Collector) -> "CheckFile | None":
+    """Collects a file of checks."""
     named = parent.session.isinitpath(file_path)
     if file_path.name.endswith(".check.toml") or named and file_path.suffix == ".toml":
-        return CheckFile.from_parent(parent, path=file_path)
+        file: CheckFile = CheckFile.from_parent(parent, path=file_path)
+        return file
     return None
 
 
 class CheckFile(pytest.File):
-    def collect(self):
+    """A file of checks."""
+
+    def collect(self) -> Iterator["CheckItem"]:
         try:
             checks = read_checks(self.path)
         except LabError as error:
@@ -24,17 +32,19 @@ class CheckFile(pytest.File):
 
 
 class CheckItem(pytest.Item):
-    def __init__(self, *, check, **more):
+    """A line for one policy and one workload."""
+
+    def __init__(self, *, check: Check, **more: Any) -> None:
         super().__init__(**more)
         self.check = check
 
-    def runtest(self):
+    def runtest(self) -> None:
         self.check.run()
 
-    def repr_failure(self, excinfo):
+    def repr_failure(self, excinfo: pytest.ExceptionInfo[BaseException], style: Any = None) -> Any:
         if isinstance(excinfo.value, (Failed, LabError)):
             return str(excinfo.value)
         return super().repr_failure(excinfo)
 
-    def reportinfo(self):
+    def reportinfo(self) -> tuple[Path, None, str]:
         return self.path, None, self.name

@@ -1,51 +1,61 @@
-"""One run of a workload under a policy, as tables of pandas."""
+"""One run of a workload under a policy, as DataFrames."""
 
 import tomllib
 from functools import cached_property
+from html import escape
+from os import PathLike
 from pathlib import Path
+from typing import Any
 
 import pandas
 
 from scxlab import traces
-from scxlab.errors import LabError
-from scxlab.figures import COLUMNS, has_counted, rows_of, state_of
+from scxlab.errors import LabError, Refused
+from scxlab.figures import COLUMNS, rows_of, state_of
+from scxlab.frames import BURSTS, SLICES, TEXT, WAITS, WHOLE, dtype_of_metric, typed
 from scxlab.pictures import Picture
-from scxlab.program import find_program
+from scxlab.program import Program
 
 
 class Run:
-    """A run of a workload file under a policy file. Each part is computed when it is first asked for; a file that the
-    program refuses raises `Refused` then."""
+    """A run of a workload under a policy. Each part is computed when it is first asked for; a file that the program
+    refuses raises `Refused` then."""
 
-    def __init__(self, program, policy, workload):
+    def __init__(self, program: Program, policy: str | PathLike[str], workload: str | PathLike[str],
+                 title: str | None = None) -> None:
         self.program, self.policy, self.workload = program, str(policy), str(workload)
+        self.title = title or f"{Path(self.policy).stem}, {Path(self.workload).stem}"
 
-    def _told(self, command):
+    def __repr__(self) -> str:
+        return f"<run of {self.title}>"
+
+    def _repr_html_(self) -> str:
+        """The run in a notebook: its state, its tasks, and its picture."""
+        head = f"<p><b>{escape(self.title)}</b>: "
+        try:
+            return f"{head}{escape(self.state)}</p>{self.tasks.to_html()}{self.picture._repr_html_()}"
+        except Refused as refusal:
+            return f"{head}{escape(str(refusal))}</p>"
+
+    def _told(self, command: str) -> str:
         return self.program.call(command, self.policy, self.workload)
 
     @cached_property
-    def stats(self):
+    def stats(self) -> str:
         """What `stats-csv` writes."""
         return self._told("stats-csv")
 
     @cached_property
-    def all_stats(self):
-        """The same, and behind it the figures of bursts and idle processors where the program has none."""
-        if has_counted(self.stats):
-            return self.stats
-        return self.stats + "".join(f"{kind},{name},{figure},{value}\n" for kind, name, figure, value in self.counted)
+    def state(self) -> str:
+        """`in force`, or for what and when the policy was ejected."""
+        return state_of(self.stats)
 
-    @cached_property
-    def state(self):
-        """`in force`, or for what and when the policy was ejected. Of an older program only `report` says it."""
-        return state_of(self.stats) or self._told("report").splitlines()[-1].removeprefix("policy ")
-
-    def names(self, kind):
-        """The names of its tasks, groups or processors, in the order of the workload."""
+    def names(self, kind: str) -> list[str]:
+        """The names of its tasks, groups or CPUs, in the order of the workload."""
         return list(dict.fromkeys(name for each, name, *_ in rows_of(self.stats) if each == kind))
 
     @cached_property
-    def plan(self):
+    def plan(self) -> dict[str, Any]:
         """The workload as its file has it."""
         try:
             return tomllib.loads(Path(self.workload).read_text())
@@ -53,76 +63,70 @@ class Run:
             raise LabError(f"{self.workload}: Python reads TOML 1.0 alone: {error}") from error
 
     @cached_property
-    def trace(self):
+    def trace(self) -> str:
+        """What `run` writes: a line for each event."""
         return self._told("run")
 
     @cached_property
-    def slices(self):
-        return traces.slices_of(self._told("timeline"))
-
-    @cached_property
-    def picture(self):
+    def picture(self) -> Picture:
         """The run as SVG."""
         return Picture(self._told("picture"))
 
     @cached_property
-    def why(self):
-        """What `why` says of the run, where the program has that command."""
+    def why(self) -> str:
+        """What `why` says of the run."""
         return self._told("why")
 
     @cached_property
-    def waits(self):
-        return traces.waits_of(self.trace, self.plan["ms"])
+    def _stretches(self) -> traces.Stretches:
+        return traces.stretches_of(self._told("view"))
 
     @cached_property
-    def bursts(self):
-        trace = self.trace
-        return traces.bursts_of(trace, {task["name"]: task.get("run") for task in self.plan["task"]})
+    def _end(self) -> str:
+        """The end of the trace."""
+        return self.program.end_of_trace(self.policy, self.workload)
 
     @cached_property
-    def counted(self):
-        """The figures of bursts and of idle processors, counted from trace and timeline: kind, name, figure, value."""
-        return self._counted_of_tasks() + self._counted_of_processors()
-
-    def _counted_of_tasks(self):
-        rows = []
-        for name in self.names("task"):
-            mine = self.bursts[self.bursts.task == name]
-            rows += [("task", name, figure, value) for figure, value in traces.figures_of_bursts(mine).items()]
-        return rows
-
-    def _counted_of_processors(self):
-        cpus = self.names("cpu")
-        lost, anywhere = traces.idle_while_waiting(self.trace, self.slices, len(cpus), self.plan["ms"])
-        rows = [("cpu", cpu, "idle_while_waiting_ms", value) for cpu, value in zip(cpus, lost)]
-        return [*rows, ("policy", "policy", "idle_while_waiting_ms", anywhere)]
+    def slices(self) -> pandas.DataFrame:
+        """Each stretch in which a task ran or was parked: `kind` (string: `run` or `parked`), `task` (string), `cpu`
+        (Int64, missing if parked), `since_ms` and `length_ms` (Int64)."""
+        found = typed(traces.slices_of(self._stretches), SLICES)
+        return found.assign(cpu=found.cpu.where(found.kind == "run"))
 
     @cached_property
-    def figures(self):
-        """All figures: a row each, with its kind, name, figure and value."""
-        return pandas.DataFrame(rows_of(self.all_stats), columns=COLUMNS)
+    def waits(self) -> pandas.DataFrame:
+        """Each wait: `task` (string), `since_ms` and `wait_ms` (Int64)."""
+        return typed(traces.waits_of(self._stretches, self._end), WAITS)
 
-    def _table(self, kind):
+    @cached_property
+    def bursts(self) -> pandas.DataFrame:
+        """Each finished burst: `task` (string), `wake_ms` and `burst_ms` (Int64), `slowdown` (Float64)."""
+        return typed(traces.bursts_of(self._stretches, self._end), BURSTS)
+
+    @cached_property
+    def figures(self) -> pandas.DataFrame:
+        """All metrics: a row each, with its kind, name, figure and value."""
+        return pandas.DataFrame(rows_of(self.stats), columns=COLUMNS)
+
+    def _table(self, kind: str) -> pandas.DataFrame:
         mine = self.figures[self.figures.kind == kind]
         table = mine.pivot(index="name", columns="figure", values="value")
-        return table.reindex(index=self.names(kind), columns=mine.figure.drop_duplicates())
+        table = table.reindex(index=self.names(kind), columns=mine.figure.drop_duplicates())
+        table.index = pandas.Index(table.index, dtype=WHOLE if kind == "cpu" else TEXT, name=kind)
+        table.columns = pandas.Index(list(table.columns))
+        return table.astype({metric: dtype_of_metric(metric) for metric in table})
 
-    @property
-    def tasks(self):
+    @cached_property
+    def tasks(self) -> pandas.DataFrame:
+        """A row for each task, by its name, and a column for each metric."""
         return self._table("task")
 
-    @property
-    def cpus(self):
+    @cached_property
+    def cpus(self) -> pandas.DataFrame:
+        """A row for each CPU, by its number, and a column for each metric."""
         return self._table("cpu")
 
-    @property
-    def groups(self):
+    @cached_property
+    def groups(self) -> pandas.DataFrame:
+        """A row for each group, by its name, and a column for each metric."""
         return self._table("group")
-
-
-def run(policy, workload, program=None):
-    """A run of a workload file under a policy file."""
-    for path in (policy, workload):
-        if not Path(path).is_file():
-            raise LabError(f"{path} is no file")
-    return Run(find_program(program), policy, workload)

@@ -1,24 +1,31 @@
-"""Policies and workloads with places for numbers: `{slice}` in a text, a `count` of a sort of tasks, and numbers that
-are drawn from a range."""
+"""Templates: places for parameters in policies and workloads, and in workloads also numbers of tasks and ranges."""
 
 import re
 import tomllib
+from collections.abc import Callable, Iterator, Mapping
 from hashlib import sha256
+from typing import Any
+
+import tomli_w
 
 from scxlab.errors import LabError
 
+Choose = Callable[[str, int, int], int]
+Table = dict[str, Any]
+
 PLACE = re.compile(r"\{([a-z][a-z0-9_]*)\}")
+MOST_TASKS = 1024
 
 
-def places(text):
+def places(text: str) -> set[str]:
     """The names of the parameters in a text."""
     return set(PLACE.findall(text))
 
 
-def filled(text, values, path):
+def filled(text: str, values: Mapping[str, object], path: str) -> str:
     """The text with each `{name}` replaced by its value."""
 
-    def value(match):
+    def value(match: re.Match[str]) -> str:
         if match[1] not in values:
             line = text.count("\n", 0, match.start()) + 1
             raise LabError(f"{path}: line {line}: {{{match[1]}}} is no parameter")
@@ -27,44 +34,62 @@ def filled(text, values, path):
     return PLACE.sub(value, text)
 
 
-def workload_of(text, path, choose=None):
-    """The workload that a filled template stands for. One without `seed`, `count` and ranges goes as it stands, and so
-    does one that isn't TOML, for the program to refuse."""
-    try:
-        plan = tomllib.loads(text)
-    except tomllib.TOMLDecodeError:
-        return text
-    if "seed" not in plan and not any(is_open(table) for table in tables_of(plan)):
+def workload_of(text: str, path: str, choose: Choose | None = None) -> str:
+    """The workload of a filled template. One without `seed`, `count` and ranges stays as it is, and so does one that
+    isn't TOML, for the program to refuse."""
+    plan = plan_of(text)
+    if plan is None or not has_choice(plan):
         return text
     return written(expanded(plan, path, choose or drawn_by(plan.get("seed", 0))))
 
 
-def tables_of(plan):
+def plan_of(text: str) -> Table | None:
+    """The workload as a table; None if it isn't TOML."""
+    try:
+        return tomllib.loads(text)
+    except tomllib.TOMLDecodeError:
+        return None
+
+
+def has_choice(plan: Table) -> bool:
+    """Returns whether a workload has a `seed`, a `count` or a range."""
+    return "seed" in plan or any(is_open(table) for table in tables_of(plan))
+
+
+def is_drawn(text: str) -> bool:
+    """Returns whether a template depends on a seed: by a place for it, or by a range."""
+    plan = plan_of(PLACE.sub("0", text))
+    return "seed" in places(text) or bool(plan) and any(
+        is_range(value) for table in tables_of(plan or {}) for value in table.values())
+
+
+def tables_of(plan: Table) -> list[Table]:
     """The top of a workload and all tables in its arrays."""
     lists = [value for value in plan.values() if isinstance(value, list)]
     return [plan, *(table for each in lists for table in each if isinstance(table, dict))]
 
 
-def is_open(table):
+def is_open(table: Table) -> bool:
+    """Returns whether a table has a `count` or a range."""
     return "count" in table or any(is_range(value) for value in table.values())
 
 
-def is_range(value):
-    """Whether a value is `[least, greatest]`."""
+def is_range(value: object) -> bool:
+    """Returns whether a value is `[least, greatest]`."""
     return isinstance(value, list) and len(value) == 2 and all(type(each) is int for each in value)
 
 
-def drawn_by(seed):
+def drawn_by(seed: int) -> Choose:
     """Chooses numbers by a seed and the place of each, so that a place more or less changes no other number."""
 
-    def choose(place, least, greatest):
+    def choose(place: str, least: int, greatest: int) -> int:
         number = int.from_bytes(sha256(f"{seed} {place}".encode()).digest()[:8], "big")
         return least + number % (greatest - least + 1)
 
     return choose
 
 
-def expanded(plan, path, choose):
+def expanded(plan: Table, path: str, choose: Choose) -> Table:
     """The plan with a number chosen for each range, and each sort of tasks with a `count` N written out as N tasks."""
     top = {key: chosen(value, key, path, choose) for key, value in plan.items() if key != "seed"}
     for key, tables in top.items():
@@ -74,19 +99,24 @@ def expanded(plan, path, choose):
     return top
 
 
-def copies(table, place, path, choose):
+def copies(table: Any, place: str, path: str, choose: Choose) -> Iterator[Any]:
+    """The tables that a table with a `count` is written out as; one without stays one."""
     if not isinstance(table, dict):
-        return [table]
+        yield table
+        return
     if "count" not in table:
-        return [{key: chosen(value, f"{place}.{key}", path, choose) for key, value in table.items()}]
+        yield {key: chosen(value, f"{place}.{key}", path, choose) for key, value in table.items()}
+        return
     count = chosen(table["count"], f"{place}.count", path, choose)
-    if type(count) is not int or not 0 <= count <= 1024:
+    if type(count) is not int or not 0 <= count <= MOST_TASKS:
         raise LabError(f"{path}: {place}.count: out of range")
-    return [{key: f"{value}{number}" if key == "name" else chosen(value, f"{place}.{number}.{key}", path, choose)
-             for key, value in table.items() if key != "count"} for number in range(1, count + 1)]
+    for number in range(1, count + 1):
+        yield {key: f"{value}{number}" if key == "name" else chosen(value, f"{place}.{number}.{key}", path, choose)
+               for key, value in table.items() if key != "count"}
 
 
-def chosen(value, place, path, choose):
+def chosen(value: Any, place: str, path: str, choose: Choose) -> Any:
+    """The value, or a number of its range."""
     if not is_range(value):
         return value
     if value[0] > value[1]:
@@ -94,31 +124,14 @@ def chosen(value, place, path, choose):
     return choose(place, *value)
 
 
-def written(plan):
-    """A workload as TOML: the numbers of its top, and then its tables."""
-    lines = [f"{key} = {literal(value)}" for key, value in plan.items() if not is_array(value)]
-    arrays = [(key, table) for key, value in plan.items() if is_array(value) for table in value]
-    for key, table in arrays:
-        lines += ["", f"[[{key}]]", *(f"{name} = {literal(value)}" for name, value in table.items())]
-    return "\n".join(lines) + "\n"
+def written(plan: Table) -> str:
+    """A workload as TOML: the numbers of its top, and then its tables, each under a line of its own."""
+    top = {key: value for key, value in plan.items() if not is_array(value)}
+    tables = [f"\n[[{key}]]\n{tomli_w.dumps(table)}" for key, value in plan.items() if is_array(value)
+              for table in value]
+    return tomli_w.dumps(top, multiline_strings=True) + "".join(tables)
 
 
-def is_array(value):
+def is_array(value: object) -> bool:
+    """Returns whether a value is an array of tables."""
     return isinstance(value, list) and all(isinstance(each, dict) for each in value)
-
-
-def literal(value):
-    """A number, a text or a truth value as TOML; anything else is for the program to refuse."""
-    if isinstance(value, bool):
-        return str(value).lower()
-    if isinstance(value, str):
-        lines = ["".join(map(escaped, line)) for line in value.split("\n")]
-        return f'"{lines[0]}"' if len(lines) == 1 else '"""\n' + "\n".join(lines) + '"""'
-    if isinstance(value, list):
-        return "[" + ", ".join(map(literal, value)) + "]"
-    return str(value)
-
-
-def escaped(letter):
-    code = ord(letter)
-    return f"\\u{code:04x}" if letter in '"\\' or code < 32 or code == 127 else letter

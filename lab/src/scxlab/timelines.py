@@ -1,77 +1,88 @@
-"""Reads a timeline as scxsim writes it."""
+"""Reads a timeline as scxsim writes it, event by event."""
 
 import json
-from collections import defaultdict
+from collections.abc import Iterable
 from dataclasses import dataclass, field
-from pathlib import Path
+from typing import Any
 
 from scxlab.errors import LabError
 from scxlab.recording import Burst, Recording
 
-# The tracks of waits, which inserts and slices say too.
-WAITS = 4
-# An event's sort, its process and its track, as docs/FILES.md has them.
-WAKE, INSERT, EJECTION = ("i", 1, 0), ("i", 1, 1), ("i", 1, 3)
+# The events that are read, by how their lines begin (docs/FILES.md, Timeline and picture): a task ran or was parked,
+# or it woke, came to a queue or was moved, or the policy was ejected.
+READ = ('{"ph":"X","pid":0,', '{"ph":"X","pid":3,', '{"ph":"i","pid":1,')
+A_CPU = '{"ph":"M","pid":0,'
+RUNS, WAKE, INSERT, EJECTION = ("X", 0), ("i", 0), ("i", 1), ("i", 3)
 
 
 @dataclass
 class Seen:
-    """What a timeline shows of one task, in milliseconds: when it woke, when it came to wait or was parked, and its
-    slices as begin and length."""
+    """The bursts of one task so far, when the last slice ended, and when it last came to a queue or was parked."""
 
-    wakes: list = field(default_factory=list)
-    inserts: list = field(default_factory=list)
-    slices: list = field(default_factory=list)
+    bursts: list[Burst] = field(default_factory=list)
+    last: int = 0
+    inserted: int = 0
 
+    def wake(self, at: int) -> None:
+        """It woke, and so the burst before was finished with its last slice."""
+        self.finish()
+        self.bursts.append(Burst(at))
+        self.last, self.inserted = at, -1
 
-def read_timeline(path):
-    """The recording of a timeline."""
-    events = events_of(path)
-    tracks = {track_of(event) for event in events}
-    tasks, end = tasks_of(events)
-    cpus = sum(event["ph"] == "M" and event["pid"] == 0 and event["name"] == "thread_name" for event in events)
-    if not tasks or not cpus or not all(seen.wakes for seen in tasks.values()):
-        raise LabError(f"{path}: is no timeline of scxsim, or nothing wakes in it")
-    losses = ["the policy was ejected in this run"] if EJECTION in tracks else []
-    if not any(at + length == end for seen in tasks.values() for at, length in seen.slices):
-        losses.append(f"no processor was busy at {end} ms, so the run may have been longer")
-    return Recording(cpus, end, {name: bursts_of(seen, end) for name, seen in tasks.items()}, losses)
+    def run(self, at: int, length: int) -> None:
+        self.bursts[-1].ran += length
+        self.last = at + length
 
+    def finish(self) -> None:
+        if self.bursts:
+            self.bursts[-1].slept = self.last
 
-def events_of(path):
-    try:
-        events = json.loads(Path(path).read_text())["traceEvents"]
-        return [event for event in events if event["ph"] in "MXiC" and event["pid"] != WAITS]
-    except (ValueError, KeyError, TypeError) as error:
-        raise LabError(f"{path}: is no timeline of scxsim") from error
+    def end(self, end: int) -> None:
+        """The timeline ends: the last burst goes on if the task has not run in it, came to wait, or ran at the end."""
+        if self.bursts and self.bursts[-1].ran and self.last < end and self.inserted < self.last:
+            self.finish()
 
 
-def track_of(event):
-    return event["ph"], event["pid"], event.get("tid")
+class Reader:
+    """Takes the events one after another. Times are in milliseconds."""
 
+    def __init__(self) -> None:
+        self.tasks: dict[str, Seen] = {}
+        self.cpus, self.at, self.is_ejected = 0, 0, False
 
-def tasks_of(events):
-    """What is seen of each task, in the order in which they woke first, and the end of the last event."""
-    tasks, end = defaultdict(Seen), 0
-    for event in events:
-        at, track = event.get("ts", 0) // 1000, track_of(event)
-        end = max(end, at + event.get("dur", 0) // 1000)
+    def line(self, text: str) -> None:
+        if text.startswith(READ):
+            event = json.loads(text.rstrip(",\n"))
+            self.event(event, event["ts"] // 1000, event.get("dur", 0) // 1000)
+        elif text.startswith(A_CPU):
+            self.cpus += '"thread_name"' in text
+
+    def event(self, event: dict[str, Any], at: int, length: int) -> None:
+        self.at = max(self.at, at + length)
+        track = event["ph"], event["pid"] if event["ph"] == "X" else event["tid"]
         if track == WAKE:
-            tasks[event["name"]].wakes.append(at)
+            self.tasks.setdefault(event["name"], Seen()).wake(at)
         elif track == INSERT:
-            tasks[event["name"].split()[0]].inserts.append(at)
-        elif track[:2] == ("X", 0):
-            tasks[event["name"]].slices.append((at, event["dur"] // 1000))
-    return dict(tasks), end
+            self.tasks[event["name"].split()[0]].inserted = at
+        elif track == RUNS:
+            self.tasks[event["name"]].run(at, length)
+        elif track == EJECTION:
+            self.is_ejected = True
 
 
-def bursts_of(seen, end):
-    """The bursts of a task. Where it woke again the one before was finished. The last one was where the task then
-    neither came to wait nor ran at the end."""
-    bursts = []
-    for wake, following in zip(seen.wakes, [*seen.wakes[1:], None]):
-        mine = [(at, length) for at, length in seen.slices if wake <= at and (following is None or at < following)]
-        last = max((at + length for at, length in mine), default=wake)
-        under_way = following is None and (not mine or last >= end or any(at >= last for at in seen.inserts))
-        bursts.append(Burst(wake, sum(length for _, length in mine), None if under_way else last))
-    return bursts
+def read_timeline(name: str, lines: Iterable[str]) -> Recording:
+    """The recording of a timeline."""
+    reader = Reader()
+    try:
+        for text in lines:
+            reader.line(text)
+    except (ValueError, KeyError, TypeError) as error:
+        raise LabError(f"{name}: is no timeline of scxsim: {text.strip()[:80]}") from error
+    if not reader.tasks or not reader.cpus:
+        raise LabError(f"{name}: is no timeline of scxsim, or nothing wakes in it")
+    losses = ["the policy was ejected in this run"] if reader.is_ejected else []
+    if not any(seen.last == reader.at and seen.bursts[-1].ran for seen in reader.tasks.values()):
+        losses.append(f"no processor was busy at {reader.at} ms, so the run may have been longer")
+    for seen in reader.tasks.values():
+        seen.end(reader.at)
+    return Recording(reader.cpus, reader.at, {task: seen.bursts for task, seen in reader.tasks.items()}, losses)

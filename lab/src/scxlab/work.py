@@ -1,14 +1,15 @@
-"""What a worker of a sweep does: runs of policies and workloads that are given as texts."""
+"""What a worker does: runs of policies and workloads that are given as texts."""
 
 import tempfile
 from dataclasses import dataclass
 from functools import cache
 from pathlib import Path
+from threading import get_ident
 
 from scxlab.errors import LabError, Refused
 from scxlab.program import Program
 from scxlab.runs import Run
-from scxlab.store import Result, hash_of
+from scxlab.store import Result, hash_of, key_of
 
 
 @dataclass(frozen=True)
@@ -20,28 +21,39 @@ class Job:
     workload: str
 
 
+def job_of(program: Program, policy: str, workload: str) -> Job:
+    """The job of a program, a policy and a workload."""
+    return Job(key_of(program.hash, hash_of(policy), hash_of(workload)), policy, workload)
+
+
 @cache
-def folder():
+def folder() -> "tempfile.TemporaryDirectory[str]":
     """A folder of this process for the files that the program reads."""
     return tempfile.TemporaryDirectory(prefix="scxlab-")
 
 
+def thread_file(name: str) -> Path:
+    """The path of a file that no other thread of this process writes."""
+    return Path(folder().name) / f"{get_ident()}-{name}.toml"
+
+
 @cache
-def policy_file(text):
-    path = Path(folder().name) / f"{hash_of(text)}.toml"
+def file_of(text: str) -> Path:
+    """A file with the text, as long as this process lives."""
+    path, own = Path(folder().name) / f"{hash_of(text)}.toml", thread_file("new")
+    own.write_text(text)
+    return own.replace(path)
+
+
+def workload_file(text: str) -> Path:
+    """A file with the text, until this thread calls it again."""
+    path = thread_file("workload")
     path.write_text(text)
     return path
 
 
-def workload_file(text):
-    """A file with the text, until the next call."""
-    path = Path(folder().name) / "workload.toml"
-    path.write_text(text)
-    return path
-
-
 @cache
-def checked(path, wanted):
+def checked(path: str, wanted: str) -> Program:
     """The program at the path, which has to be the one with that hash."""
     program = Program(path)
     try:
@@ -53,18 +65,11 @@ def checked(path, wanted):
     return program
 
 
-def run_job(program, job, counted):
-    """The state and the figures of a run, with those that are counted if they are wanted. A refusal is a state, without
-    figures."""
-    one = Run(program, policy_file(job.policy), workload_file(job.workload))
+def run_job(path: str, wanted: str, job: Job) -> Result:
+    """The state and the metrics of a run with the program at the path. A refusal is a state, without metrics."""
+    one = Run(checked(path, wanted), file_of(job.policy), workload_file(job.workload))
     try:
-        state, figures = one.state, one.all_stats if counted else one.stats
+        state, figures = one.state, one.stats
     except Refused as refusal:
         state, figures = str(refusal), ""
     return Result(job.key, job.policy, job.workload, state, figures)
-
-
-def run_batch(path, wanted, jobs, counted):
-    """Does the jobs with the program at the path, which has to have the wanted hash."""
-    program = checked(path, wanted)
-    return [run_job(program, job, counted) for job in jobs]
