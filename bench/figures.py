@@ -1,38 +1,22 @@
 #!/usr/bin/env python3
-"""How many slots a second are decoded, encoded, assembled, disassembled and verified, how many numbers of
-an array map are loaded and stored, how many pushes, pops and removals a queue takes, how many callbacks
-are verified, how many lines of a trace are written, and how many instructions a millisecond of a whole run and a
-run of a program take, beside plain Rust that does the same work.
+"""Figures of bin/scxsim beside Rust that does the same work, of bench/plain.rs; docs/BENCHMARKS.md has them.
 
-Straight-line, branching and stack-heavy programs of 40, 400 and 4000 slots are worked on by the program of
-crates/scx_tests_bench and by bench/plain.rs, in turn; for `asm` their text, in which jumps go to labels.
-Verified are programs of 4096 slots, once, 10 and 100 times: straight-line code, a ladder of 1023 diamonds
-(two sides of one slot each that meet again), and stores all over the stack. A figure is of the processor
-time of the best of some runs, of which the start of the process is taken off; from a verification also the
-decoding, since each takes a program of its own. Two more programs that are verified load 1000 times from a
-value of 64 bytes, as far on as a number says that was masked, or tested. The callbacks are the six of
-scx_simple with one map of one element, each in its turn; to verify one counts as decoding it and verifying
-it, and to run one as a run over a host of one task. The ratio is our time to that of plain Rust.
+`slots`: instructions for each slot that is decoded, assembled, disassembled and verified, of programs of 4096 slots, and
+for each instruction that is run. Those of one function and of all that it calls are counted by callgrind, in both
+programs. Jumps of texts go to labels. `masked` and `tested` load 1000 times from a value of 64 bytes, as far on as a
+number says that was masked, or tested.
 
-`runs` and `growth` are of whole runs by `scxsim run` and `scxsim report` beside a plain simulator that reads the same
-files and writes the same bytes: bench/runs.py says which they are. `traces` are the lines of `run` that are written to
-/dev/null in a second, under a policy of one queue and slices of 2 ms. `files` of nearly 1 MB are read by ours alone:
-each belongs to a run that is refused as soon as both files are read.
+`runs` and `growth`: whole runs, which bench/runs.py describes. `times`: the processor time of these runs, and the lines of
+`run` that are written to /dev/null in a second, under a policy of one queue and slices of 2 ms; it wants a quiet machine,
+and takes some minutes. `files`: files of nearly 1 MB, each of a run that is refused as soon as both files are read, by
+bin/scxsim alone. `queues`: instructions for each push, pop and removal, by the program of crates/scx_tests_bench.
+`same`: both programs on N random programs and pairs of files (`--pairs N`), which have to do the same.
 
-Runs of programs are short, so their figures are instructions of the processor, counted by callgrind: for each
-instruction of the program that is done, or for each callback. Beside ours stand two interpreters in plain
-Rust, one with a tag on each value, which tests all that could go wrong, and one over programs that were
-decoded once and that tests nothing. The work `counts` gives the same for each slot that is decoded,
-encoded, assembled, disassembled and verified, of the programs that are verified, and for each callback
-that is verified.
+  bench/figures.py [--only WORK] [--scxsim PATH] [--plain PATH] [--bench PATH] [--pairs N]
 
-  bench/figures.py [--only WORK] [--scxsim PATH] [--bench PATH]
-
-Without --only all work is done. --scxsim is bin/scxsim where none is named; scx_tests_bench is built where none is
-named and one is needed. Wants rustc, and valgrind for what is counted.
+Without --only all works but `times` and `queues` are done. Wants rustc, and valgrind for what is counted.
 """
 import argparse
-import functools
 import os
 import re
 import subprocess
@@ -41,7 +25,8 @@ import tempfile
 
 sys.dont_write_bytecode = True
 from counting import TOP, compiled_plain, counted, seconds, write
-from runs import measure_growth, measure_runs
+from runs import measure_growth, measure_runs, measure_times
+from same import measure_same
 
 EXIT = [("9500000000000000", "exit")]
 START = [("b700000007000000", "r0 = 7"), ("b701000003000000", "r1 = 3")]
@@ -98,7 +83,7 @@ VERIFIED = {
         for back in range(8, 513, 8)
     ],
 }
-# a number is masked, or tested, and a byte or eight are loaded from that far on in the value
+# A number is masked, or tested, and a byte or eight are loaded from that far on in the value
 ARRAYS = {
     "masked": [
         ("5703000038000000", "r3 &= 56"),
@@ -114,22 +99,21 @@ ARRAYS = {
     ],
 }
 ACCESSES = 1000
-SIZES = [40, 400, 4000]
 MOST = 4096  # slots of a program
-TIMES = [1, 10, 100]
 TASKS = [1, 16, 256, 1024]
 CALLS = 4  # of a queue: a pop, a removal and two pushes
-QUEUE_TIMES = {"queues_fifo": 10_000_000, "queues_vtime": 2_000_000}
-CALLBACKS = 6
-CALLBACK_TIMES = 100_000
-COUNTING_STEPS = 32  # instructions that the program that counts in a map does
-SHAPES = {"small": (1, 2), "middle": (8, 64), "large": (64, 1024)}  # processors and tasks
-LONG = {"small": 1_000_000, "middle": 300_000, "large": 40_000}  # for times by the clock
-LINES = 2  # of a trace under slices of 2 ms, for each processor and millisecond
-UNITS = {"decode": 10_000_000, "encode": 10_000_000, "asm": 1_000_000, "dis": 2_000_000}
+# The functions that do each work, of scxsim and of plain Rust, and the command. That of scxsim for dis also decodes.
+DECODE = ("scx_isa::decoding::decode", "plain::plain_slots::decode")
+FUNCTIONS = {
+    "decode": (*DECODE, "dis"),
+    "asm": ("scx_asm::assembling::assemble", "plain::plain_text::assemble", "asm"),
+    "dis": ("scxsim_commands::disassembling::text_of", "plain::plain_text::disassemble", "dis"),
+}
+VERIFY = ("scx_verify::programs::verify_by", "plain::plain_verify::verify")
+RUN = ("scx_vm_run::running::walk_counted*", "plain::execute")
 
 
-def program(slots, body, start=START):
+def some_program(slots, body, start=START):
     """The start values, the body over and over, moves of r0 for what is left, and an exit."""
     times, left = divmod(slots - len(start) - 1, len(body))
     parts = [start] + times * [body] + left * [START[:1]] + [EXIT]
@@ -139,7 +123,7 @@ def program(slots, body, start=START):
 
 
 def verified_program(name):
-    return program(MOST, VERIFIED[name], UNKNOWN if name == "ladder" else START)
+    return some_program(MOST, VERIFIED[name], UNKNOWN if name == "ladder" else START)
 
 
 def array_program(body):
@@ -148,181 +132,59 @@ def array_program(body):
     return bytes.fromhex("".join(slot for part in parts for slot, _ in part))
 
 
-def build():
-    with tempfile.NamedTemporaryFile() as file:
-        file.write(bytes.fromhex(EXIT[0][0]))
-        file.flush()
-        folder = os.path.join(TOP, "crates", "scx_tests_bench")
-        subprocess.run(["rt", "run", "--", "decode", file.name, "1"], cwd=folder, check=True, capture_output=True)
-        return os.path.join(folder, "out", "scx_tests_bench")
+def show(work, name, slots, ours, plain):
+    print("%-8s %-10s %6s %9.1f %8.1f %7.2f" % (work, name, slots, ours, plain, ours / plain), flush=True)
 
 
-def compare(binaries, path, work, before, runs):
-    """How many seconds each takes for the work, a word and a number, without what is done before."""
-    best, start = [9e9, 9e9], [9e9, 9e9]
-    for _ in range(runs):
-        sums = []
-        for i, binary in enumerate(binaries):
-            start[i] = min(start[i], seconds([binary, before[0], path, str(before[1])])[0])
-            taken, total = seconds([binary, work[0], path, str(work[1])])
-            best[i] = min(best[i], taken)
-            sums.append(total)
-        assert sums[0] == sums[1], (work, path, sums)
-    return [best[i] - start[i] for i in (0, 1)]
+def show_functions(work, name, slots, units, commands, functions):
+    """The instructions of a function of each program, for each unit."""
+    ours, plain = (counted(words, inside=inside) for words, inside in zip(commands, functions))
+    if work == "dis":
+        ours -= counted(commands[0], inside=DECODE[0])
+    show(work, name, slots, ours / units, plain / units)
 
 
-def show(work, name, slots, units, taken):
-    a, b = taken
-    print("%-8s %-14s %6s %15.0f %15.0f %7.2f" % (work, name, slots, units / a, units / b, a / b), flush=True)
-
-
-def show_counts(work, name, size, counts, taken):
-    """How many instructions both take, and the ratios of these and of the times."""
-    figures = (*counts, counts[0] / counts[1], taken[0] / taken[1])
-    print("%-8s %-14s %6s %12.1f %12.1f %7.2f %8.2f" % (work, name, size, *figures), flush=True)
-
-
-def measure(work, binaries, path):
+def measure_slots(scxsim, plain, folder):
+    for work, (*functions, command) in FUNCTIONS.items():
+        for name in VERIFIED:
+            path = write(folder, name, verified_program(name)[command == "asm"])
+            show_functions(work, name, MOST, MOST, [[program, command, path] for program in (scxsim, plain)], functions)
+    spelled = {name: verified_program(name)[0] for name in VERIFIED}
+    for name, code in (spelled | {name: array_program(body) for name, body in ARRAYS.items()}).items():
+        policy_path = write(folder, "policy", "[[map]]\nentries = 1\nvalue_size = 64\n[slots]\ninit = '%s'\n" % code.hex())
+        commands = [[scxsim, "verify", policy_path], [plain, "verify", write(folder, name, code)]]
+        show_functions("verify", name, len(code) // 8, len(code) // 8, commands, VERIFY)
     for name, body in PROGRAMS.items():
-        for slots in SIZES:
-            spelled, text = program(slots, body)
-            with open(path, "wb") as file:
-                file.write(text if work == "asm" else spelled)
-            times = UNITS[work] // slots
-            show(work, name, slots, times * slots, compare(binaries, path, (work, times), (work, 1), 5))
+        for slots in (40, 4000):
+            commands = [[program, "exec", write(folder, name, some_program(slots, body)[0])] for program in (scxsim, plain)]
+            lines = [subprocess.run(words, capture_output=True, text=True, check=True).stdout for words in commands]
+            assert lines[0] == lines[1], lines
+            steps = int(re.search(r"in (\d+) steps", lines[0])[1])
+            show_functions("run", name, slots, steps, commands, RUN)
 
 
-def measure_verify(binaries, path):
-    programs = {name: verified_program(name)[0] for name in VERIFIED}
-    programs |= {name: array_program(body) for name, body in ARRAYS.items()}
-    for name, spelled in programs.items():
-        with open(path, "wb") as file:
-            file.write(spelled)
-        for times in TIMES:
-            taken = compare(binaries, path, ("verify", times), ("decode", times), 10)
-            slots = times * (len(spelled) // 8)
-            show("verify", name, slots, slots, taken)
-
-
-def measure_maps(binaries, _):
-    times = 20_000_000
-    show("maps", "add one", "", times, compare(binaries, "-", ("maps", times), ("maps", 1), 5))
-
-
-def measure_callbacks(binaries, _):
-    times = CALLBACK_TIMES
-    taken = compare(binaries, "-", ("verify_callbacks", times), ("verify_callbacks", 1), 5)
-    show("callback", "verify", "", CALLBACKS * times, taken)
-
-
-def measure_queues(binaries, _):
-    """Instructions for each call."""
-    for work, times in QUEUE_TIMES.items():
-        for tasks in TASKS:
-            counts = [instructions(binary, work, str(tasks), 10_000) / CALLS for binary in binaries]
-            taken = compare(binaries, str(tasks), (work, times), (work, 1), 5)
-            show_counts("queues", work.split("_")[1], tasks, counts, taken)
-
-
-def instructions(binary, work, path, more=100):
-    """How many instructions of the processor one more piece of the work takes."""
-    counts = [counted([binary, work, path, str(times)]) for times in (1, 1 + more)]
+def instructions(binary, work, tasks, more=10_000):
+    """The instructions of one more turn."""
+    counts = [counted([binary, work, str(tasks), str(times)]) for times in (1, 1 + more)]
     return (counts[1] - counts[0]) / more
 
 
-def show_run(work, name, slots, binaries, words, path, units):
-    """`words` name the work to us, to the interpreter with tags and to the one of predecoded programs."""
-    ours, tagged, predecoded = (
-        instructions(binaries[min(i, 1)], word, path) / units for i, word in enumerate(words)
-    )
-    figures = (ours, tagged, predecoded, ours / tagged, ours / predecoded)
-    print("%-8s %-10s %6s %12.1f %12.1f %12.1f %8.2f %8.2f" % (work, name, slots, *figures), flush=True)
-
-
-def measure_run(binaries, path):
-    for name, body in PROGRAMS.items():
-        for slots in SIZES:
-            with open(path, "wb") as file:
-                file.write(program(slots, body)[0])
-            line = subprocess.run([binaries[1], "exec", path], capture_output=True, text=True, check=True).stdout
-            steps = int(re.search(r"in (\d+) steps", line)[1])
-            show_run("run", name, slots, binaries, ("run", "run", "predecoded"), path, steps)
-    words = ("run_counting", "run_counting", "predecoded_counting")
-    show_run("run", "map", "", binaries, words, "-", COUNTING_STEPS)
-    words = ("run_callbacks", "run_callbacks", "predecoded_callbacks")
-    show_run("callback", "run", "", binaries, words, "-", CALLBACKS)
-
-
-def show_count(work, name, ours, *others):
-    """Beside ours what plain Rust takes, one figure or more, and the ratios."""
-    figures = "".join(" %9.1f" % count for count in (ours, *others))
-    ratios = "".join(" %7.2f" % (ours / count) for count in others)
-    print("%-8s %-8s%s%s" % (work, name, figures, ratios), flush=True)
-
-
-def count_verify(binaries, path, name, spelled):
-    """For each slot. Beside our verifier stand a plain one, and one that keeps operations as ours does, all
-    without what decoding takes."""
-    ours, plain = binaries
-    with open(path, "wb") as file:
-        file.write(spelled)
-    counts = []
-    for binary, work in ((ours, "verify"), (plain, "verify"), (plain, "prepare")):
-        whole, before = (instructions(binary, word, path, 10) for word in (work, "decode"))
-        counts.append((whole - before) / (len(spelled) // 8))
-    show_count("verify", name, *counts)
-
-
-def measure_counts(binaries, path):
-    """For each slot, and for each callback that is verified."""
-    for work in UNITS:
-        for name in VERIFIED:
-            spelled, text = verified_program(name)
-            with open(path, "wb") as file:
-                file.write(text if work == "asm" else spelled)
-            show_count(work, name, *(instructions(binary, work, path, 10) / MOST for binary in binaries))
-    for name in VERIFIED:
-        count_verify(binaries, path, name, verified_program(name)[0])
-    for name, body in ARRAYS.items():
-        count_verify(binaries, path, name, array_program(body))
-    show_count("callback", "verify", *(instructions(binary, "verify_callbacks", "-") / CALLBACKS for binary in binaries))
+def measure_queues(bench, plain, _):
+    """Instructions for each call."""
+    for order in ("fifo", "vtime"):
+        for tasks in TASKS:
+            work = "queues_" + order
+            show("queues", order, tasks, *(instructions(binary, work, tasks) / CALLS for binary in (bench, plain)))
 
 
 def policy(texts):
     return "[code]\n" + "".join('%s = """\n%s"""\n' % item for item in texts.items())
 
 
-def two_ms():
-    """The text of a policy of one queue and slices of 2 ms."""
-    with open(os.path.join(TOP, "examples", "policies", "short_slices.toml")) as file:
-        return file.read()
-
-
 def workload(cpus, tasks, ms, padding=""):
-    """A file of so many tasks t0, t1 .. in one group, with `padding` behind each."""
+    """A file of tasks t0, t1 .. in one group, with `padding` after each."""
     head = "cpus = %d\nms = %d\n[[group]]\nname = 'g'\n" % (cpus, ms)
     return head + "".join("[[task]]\nname = 't%d'\ngroup = 'g'\n%s" % (n, padding) for n in range(tasks))
-
-
-def times_of(heads, policy, paths, runs=3):
-    """Seconds of a trace of the longer of two workloads, by both programs, without what the shorter takes."""
-    taken = []
-    for path in paths:
-        commands = [[*head, "run", policy, path] for head in heads]
-        found = [[seconds(words, subprocess.DEVNULL)[0] for words in commands] for _ in range(runs)]
-        taken.append([min(times) for times in zip(*found)])
-    return [after - before for before, after in zip(*taken)]
-
-
-def measure_traces(scxsim, plain, folder):
-    """Lines of a trace a second."""
-    heads = [[scxsim], [plain, "simulate"]]
-    policy_path = write(folder, "two_ms", two_ms())
-    for shape, (cpus, tasks) in SHAPES.items():
-        paths = [write(folder, "workload.%d" % ms, workload(cpus, tasks, ms)) for ms in (1, LONG[shape])]
-        texts = [seconds([*head, "run", policy_path, paths[0]])[1] for head in heads]
-        assert texts[0] == texts[1], shape
-        show("trace", shape, tasks, LINES * cpus * LONG[shape], times_of(heads, policy_path, paths))
 
 
 def measure_files(scxsim, _, folder):
@@ -351,48 +213,35 @@ def measure_files(scxsim, _, folder):
         print("read     %-18s %7d bytes %6.1f a byte %6.1f ms" % (work, size, count / size, 1000 * spent), flush=True)
 
 
-# Works of scx_tests_bench, by what does them with it and plain Rust, and a path for a program.
-OF_BENCH = {work: functools.partial(measure, work) for work in UNITS} | {
-    "verify": measure_verify,
-    "maps": measure_maps,
-    "callbacks": measure_callbacks,
-    "queues": measure_queues,
-    "counts": measure_counts,
-    "run": measure_run,
-}
-# Works of scxsim, by what does them with it and plain Rust, and a folder for files.
-OF_SCXSIM = {"runs": measure_runs, "growth": measure_growth, "traces": measure_traces, "files": measure_files}
-
-
-RATES = "work     program          size scxsim a second  plain a second   ratio"
-COUNTS = "work     program          size       scxsim        plain   ratio  by time"
-HEADS = {work: RATES for work in (*UNITS, "verify", "maps", "callbacks", "traces")} | {
-    "queues": COUNTS,
-    "runs": "command  policy   workload    scxsim        plain   ratio  by time",
-    "growth": "work     what grows               size       scxsim        plain",
-    "counts": "work     program     scxsim     plain   ratio",
-    "run": "work     program     slots       scxsim       tagged   predecoded    ratio    ratio",
-    "files": "work     file                            instructions    time",
+WORKS = {
+    "slots": (measure_slots, "work     program     slots    scxsim    plain   ratio"),
+    "runs": (measure_runs, "command  policy   workload    scxsim        plain   ratio"),
+    "growth": (measure_growth, "work     what grows               size       scxsim        plain"),
+    "files": (measure_files, "work     file                            instructions    time"),
+    "times": (measure_times, "command  policy   workload scxsim ns plain ns   ratio"),
+    "queues": (measure_queues, "work     program     tasks    scxsim    plain   ratio"),
 }
 
 
 def main():
     parser = argparse.ArgumentParser(description=__doc__, formatter_class=argparse.RawDescriptionHelpFormatter)
-    parser.add_argument("--only", metavar="WORK", choices=[*OF_BENCH, *OF_SCXSIM])
+    parser.add_argument("--only", metavar="WORK", choices=[*WORKS, "same"])
     parser.add_argument("--scxsim", metavar="PATH", default=os.path.join(TOP, "bin", "scxsim"))
-    parser.add_argument("--bench", metavar="PATH")
+    parser.add_argument("--bench", metavar="PATH", default=os.path.join(TOP, "crates/scx_tests_bench/out/scx_tests_bench"))
+    parser.add_argument("--plain", metavar="PATH", help="bench/plain.rs as it was built")
+    parser.add_argument("--pairs", metavar="N", type=int, default=1000)
     words = parser.parse_args()
-    names = [words.only] if words.only else [*OF_BENCH, *OF_SCXSIM]
+    names = [words.only] if words.only else ["slots", "runs", "growth", "files"]
     with tempfile.TemporaryDirectory() as folder:
-        plain, path = compiled_plain(folder), os.path.join(folder, "program")
-        bench = words.bench
+        plain = words.plain or compiled_plain(folder)
+        if words.only == "same":
+            sys.exit(measure_same(words.scxsim, plain, folder, words.pairs))
+        if words.only == "queues" and not os.path.exists(words.bench):
+            sys.exit("%s isn't there: build crates/scx_tests_bench, or name it by --bench" % words.bench)
         for name in names:
-            print(HEADS[name], flush=True)
-            if name in OF_SCXSIM:
-                OF_SCXSIM[name](words.scxsim, plain, folder)
-            else:
-                bench = bench or build()
-                OF_BENCH[name]([bench, plain], path)
+            measure, head = WORKS[name]
+            print(head, flush=True)
+            measure(words.bench if name == "queues" else words.scxsim, plain, folder)
 
 
 main()

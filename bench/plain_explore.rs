@@ -8,7 +8,7 @@
 //! without slices that an insert sets anew before they count) or `alike` (also without who is who in a group; in
 //! `events` alone). No list has more than K wakes and sleeps, if K is given.
 
-use crate::plain_core::CALLBACKS;
+use crate::plain_verify::CALLBACKS;
 use crate::plain_files::{Policy, Workload};
 use crate::plain_machine::Machine;
 use crate::plain_notes::{GLOBAL, HELD};
@@ -64,13 +64,13 @@ pub struct Words {
 }
 
 impl Words {
-    fn new(words: &[String]) -> Option<Words> {
-        let ms = match words.first()?.as_str() {
+    fn new(words: &[&str]) -> Option<Words> {
+        let ms = match *words.first()? {
             "events" => false,
             "ms" => true,
             _ => return None,
         };
-        let form = words.get(2).map_or("read", String::as_str).to_string();
+        let form = words.get(2).unwrap_or(&"read").to_string();
         let few = match words.get(3) {
             Some(few) => Some(few.parse().ok()?),
             None => None,
@@ -351,7 +351,7 @@ impl Search<'_> {
 }
 
 /// Writes what `scxsim explore` is compared with.
-pub fn explore(policy: &str, workload: &str, words: &[String]) -> Result<(), String> {
+pub fn explore(policy: &str, workload: &str, words: &[&str]) -> Result<(), String> {
     let policy = Policy::read(policy).map_err(|fault| format!("policy line {}: {}", fault.line, fault.why))?;
     let workload = Workload::read(workload).map_err(|fault| format!("workload line {}: {}", fault.line, fault.why))?;
     let words = Words::new(words).ok_or("events or ms, a depth, a form and a number are wanted")?;

@@ -1,21 +1,26 @@
 //! A whole simulator in plain Rust: it reads a policy and a workload file, and writes the trace or the report as
-//! `scxsim run` and `scxsim report` do, byte for byte. It is meant to be as fast as can be, event by event: its
-//! programs are predecoded, and a step takes no memory, but for rare lines of a trace.
+//! `scxsim run` and `scxsim report` do, byte for byte. Its programs are verified and threaded, a step takes no memory but
+//! for rare lines of a trace, and ticks that change nothing are left out.
 
-use crate::plain_core::{CALLBACKS, Callback, Callback::*, Op, predecode};
 use crate::plain_driver::Driver;
 use crate::plain_files::{Policy, Workload};
 use crate::plain_notes::{BUILTIN, GLOBAL, HELD, LOCAL, Notes, PARKED, Silence, Trace};
 use crate::plain_tasks::{DEFAULT_SLICE, NEVER, NOBODY, NOWHERE};
+use crate::plain_run::{Op, run};
+use crate::plain_slots::{CALL, Slot, WIDE};
+use crate::plain_verify::{CALLBACKS, Callback, Callback::*, verify};
 use crate::plain_world::{Eject, Insert, NO_CPU, NONE, World};
-use crate::{Insn, flow, plain_text};
+use crate::plain_text;
 use std::io::{self, Write};
 
 const TICK: u64 = 1_000_000;
 
 /// The programs of a policy, empty where there is none, and the world that they see.
 pub struct Machine<N> {
-    programs: [Vec<Op>; 7],
+    code: [Vec<Slot>; 7],
+    programs: [Vec<Op<World<N>>>; 7],
+    /// Dispatch finds nothing where no task waits.
+    only_moves: bool,
     pub world: World<N>,
 }
 
@@ -24,50 +29,42 @@ fn pid(task: u16) -> u64 {
     task.wrapping_add(1).into()
 }
 
-/// Such a map is none: it stands for a number of 64 bits, while a text is assembled.
-const NUMBERS: i32 = 1 << 16;
+/// The slots and the operations of each program of a policy.
+type Programs<N> = ([Vec<Slot>; 7], [Vec<Op<World<N>>>; 7]);
 
-/// The program of a text. The plain assembler, which is measured itself, reads no numbers of 64 bits.
-fn assembled(text: &str) -> Option<Vec<Option<Insn>>> {
-    let mut numbers: Vec<u64> = Vec::new();
-    let mut plain = String::new();
-    for line in text.lines() {
-        let line = line.split('#').next().unwrap_or("").trim_end();
-        match line.strip_suffix(" ll").and_then(|rest| rest.split_once(" = ")) {
-            Some((register, digits)) => {
-                plain += &format!("{register} = map {}\n", NUMBERS as usize + numbers.len());
-                numbers.push(digits.parse().ok()?);
-            }
-            None => plain += &format!("{line}\n"),
-        }
-    }
-    let mut code = plain_text::assemble(&plain).filter(|code| flow(code))?;
-    for insn in code.iter_mut().flatten() {
-        if let Insn::LoadMapReference { destination, map: map @ NUMBERS.. } = *insn {
-            let number = *numbers.get((map - NUMBERS) as usize)?;
-            *insn = Insn::LoadImmediate { destination, low: number as i32, high: (number >> 32) as i32 };
-        }
-    }
-    Some(code)
-}
-
-fn programs(policy: &Policy) -> Result<[Vec<Op>; 7], String> {
-    let mut programs = [const { Vec::new() }; 7];
+fn programs<N: Notes>(policy: &Policy) -> Result<Programs<N>, String> {
+    let (mut code, mut ops) = ([const { Vec::new() }; 7], [const { Vec::new() }; 7]);
+    let sizes: Vec<u16> = policy.maps.iter().map(|map| map.value_size as u16).collect();
     for (key, text) in &policy.texts {
         let known = CALLBACKS.iter().find(|(_, name)| name == key);
-        let (callback, _) = known.ok_or_else(|| format!("policy code.{key}: unknown"))?;
-        let code = assembled(text).ok_or_else(|| format!("policy code.{key}: a program that isn't known here"))?;
-        let ops = predecode(&code, *callback, &policy.maps);
-        programs[*callback as usize] = ops.map_err(|slot| format!("policy code.{key}: slot {slot} isn't known here"))?;
+        let (callback, _) = *known.ok_or_else(|| format!("policy code.{key}: unknown"))?;
+        let slots = plain_text::assemble(text).ok_or_else(|| format!("policy code.{key}: no program"))?;
+        let found = verify(&slots, callback, &sizes);
+        ops[callback as usize] = found.map_err(|(why, slot)| format!("policy code.{key}: {why:?} at {slot}"))?;
+        code[callback as usize] = slots;
     }
-    Ok(programs)
+    Ok((code, ops))
+}
+
+/// True if what the slot does depends on registers and lengths of queues alone.
+fn is_of_moves(slot: Slot) -> bool {
+    match slot.opcode() {
+        CALL => matches!(slot.immediate(), 1004 | 1008),
+        WIDE => slot.source() == 0,
+        opcode => slot.is_second_half() || matches!(opcode & 7, 4..=7),
+    }
 }
 
 impl<N: Notes> Machine<N> {
     /// After init, and after enable of each task.
     pub fn new(notes: N, policy: &Policy, workload: &Workload) -> Result<Machine<N>, String> {
         let world = World::new(notes, policy, workload);
-        let mut machine = Machine { programs: programs(policy)?, world };
+        let (code, programs) = programs(policy)?;
+        let only_moves = code[Dispatch as usize].iter().all(|slot| is_of_moves(*slot));
+        let mut machine = Machine { code, programs, only_moves, world };
+        if machine.programs[Dispatch as usize].is_empty() {
+            machine.world.asked = u64::MAX;
+        }
         let answer = machine.begin_with(Init, 0);
         if answer != 0 {
             return Err(format!("init {}", answer as i64));
@@ -81,18 +78,26 @@ impl<N: Notes> Machine<N> {
         Ok(machine)
     }
 
-    /// The operations of all programs.
-    pub fn ops(&self) -> impl Iterator<Item = (Callback, &Op)> {
+    /// The slots of all programs.
+    pub fn slots(&self) -> impl Iterator<Item = (Callback, Slot)> + use<'_, N> {
         let callbacks = CALLBACKS.iter().map(|(callback, _)| *callback);
-        callbacks.zip(&self.programs).flat_map(|(callback, program)| program.iter().map(move |op| (callback, op)))
+        callbacks.zip(&self.code).flat_map(|(callback, code)| code.iter().map(move |slot| (callback, *slot)))
+    }
+
+    /// Runs a program, if there is one, and answers its r0.
+    #[inline(always)]
+    fn run(&mut self, callback: Callback, given: [u64; 3]) -> u64 {
+        let program = &self.programs[callback as usize];
+        let (answer, instructions) = run(program, given, &mut self.world);
+        self.world.notes.ran(callback, instructions);
+        answer
     }
 
     /// What a callback answers before the policy is in force; -22 where it has a fault.
     fn begin_with(&mut self, callback: Callback, task: u16) -> u64 {
         self.world.begin(callback, task, 0);
-        self.world.registers.set(1, pid(task));
-        let program = &self.programs[callback as usize];
-        let answer = if program.is_empty() { 0 } else { self.world.run(program) };
+        let is_there = !self.programs[callback as usize].is_empty();
+        let answer = if is_there { self.run(callback, [pid(task), 0, 0]) } else { 0 };
         if self.world.call.fault == NONE { answer } else { -22i64 as u64 }
     }
 
@@ -100,14 +105,10 @@ impl<N: Notes> Machine<N> {
     #[inline(always)]
     fn call_back(&mut self, callback: Callback, given: [u64; 3], task: u16, cpu: u32) -> u64 {
         self.world.begin(callback, task, cpu);
-        let program = &self.programs[callback as usize];
-        if program.is_empty() || self.world.ejected.is_some() {
+        if self.programs[callback as usize].is_empty() || self.world.ejected.is_some() {
             return 0;
         }
-        for (register, number) in (1..).zip(given) {
-            self.world.registers.set(register, number);
-        }
-        let answer = self.world.run(program);
+        let answer = self.run(callback, given);
         if callback == SelectCpu && self.world.call.fault == NONE && answer >= self.world.cpus.into() {
             self.world.call.fault = NO_CPU;
         }
@@ -134,6 +135,7 @@ impl<N: Notes> Machine<N> {
         }
         world.ejected = Some(why);
         (world.call.insert, world.call.has_moved) = (None, false);
+        world.asked = u64::MAX;
         for task in 0..world.count {
             let queue = world.tasks.of(task).queue;
             if queue != NOWHERE && usize::from(queue) != PARKED {
@@ -144,8 +146,10 @@ impl<N: Notes> Machine<N> {
         for cpu in 0..world.cpus as usize {
             let task = world.running[cpu & 63];
             if task != NOBODY {
+                world.catch_up(cpu as u32);
                 let record = world.tasks.at(task);
                 record.slice = record.slice.min(DEFAULT_SLICE);
+                world.plan(cpu as u32);
             }
         }
     }
@@ -250,6 +254,7 @@ impl<N: Notes> Machine<N> {
         } else {
             self.call_back(Running, [pid(task), 0, 0], task, cpu);
         }
+        self.world.plan(cpu);
     }
 
     /// Nobody comes: the task before stays, or the processor is idle.
@@ -291,13 +296,18 @@ impl<N: Notes> Machine<N> {
         }
     }
 
-    /// Asks dispatch as long as it moves somebody, and nobody comes, at most 32 times.
+    /// Asks dispatch as long as it moves a task, and none comes, at most 32 times.
     #[inline(always)]
     fn dispatch(&mut self, cpu: u32, before: u16) {
         for _ in 0..32 {
             self.call_back(Dispatch, [cpu.into(), pid(before), 0], 0, cpu);
             self.supply(cpu);
-            if self.has_local(cpu) || !self.world.call.has_moved {
+            if self.has_local(cpu) {
+                return;
+            }
+            if !self.world.call.has_moved {
+                let found_nothing = before == NOBODY && self.world.waiting == 0;
+                self.world.asked |= u64::from(found_nothing) << (cpu & 63);
                 return;
             }
         }
@@ -384,11 +394,12 @@ impl<N: Notes> Machine<N> {
             }
             return None;
         }
-        let record = self.world.tasks.at(task);
-        if record.slice != NEVER {
-            record.slice = record.slice.saturating_sub(TICK);
+        if N::IS_DRIVEN {
+            self.world.catch_up(cpu);
+        } else {
+            self.world.tasks.at(task).run(1);
         }
-        record.run_ns += TICK;
+        let record = self.world.tasks.of(task);
         let (slice, is_enough) = (record.slice, record.run_ns >= record.ends);
         if self.world.is_limited {
             self.world.use_ms(task);
@@ -398,19 +409,43 @@ impl<N: Notes> Machine<N> {
         } else if slice == 0 {
             self.cycle(cpu, task, true);
         }
+        if self.world.running[cpu as usize & 63] == task {
+            self.world.plan(cpu);
+        }
         is_enough.then_some(task)
     }
 
-    /// Whether an idle processor has nobody to ask.
+    /// True if an idle CPU has no queue and no program to ask.
     #[inline(always)]
     fn is_quiet(&self, cpu: u32) -> bool {
         let asks = !self.programs[Dispatch as usize].is_empty() || self.world.ejected.is_some();
         !asks && !self.has_local(cpu) && self.world.length(GLOBAL) == 0
     }
 
+    /// Bits for the CPUs that tick although none of their tasks is due.
+    #[inline(always)]
+    pub fn asking(&self) -> u64 {
+        let world = &self.world;
+        let idle = !world.busy;
+        if world.is_limited {
+            u64::MAX >> (64 - world.cpus)
+        } else if world.waiting > 0 || !self.only_moves && world.ejected.is_none() {
+            idle
+        } else {
+            idle & (world.supplied | !world.asked)
+        }
+    }
+
+    /// The last millisecond, from this one on, before which no clock counts.
+    pub fn quiet_until(&self) -> u64 {
+        let world = &self.world;
+        if world.ejected.is_some() { NEVER } else { world.oldest + world.timeout_ms }
+    }
+
     #[inline(always)]
     pub fn clock(&mut self) {
         self.world.clock += 1;
+        self.world.ticked = 0;
         self.world.notes.clock(self.world.clock);
         if self.world.is_limited && self.world.begin_periods() {
             self.let_go();
@@ -459,6 +494,9 @@ pub fn simulate(command: &str, policy: &str, workload: &str) -> Result<(), Strin
         go(trace, &policy, &workload)?.world.notes.flush();
         return Ok(());
     }
-    let machine = go(Silence, &policy, &workload)?;
+    let mut machine = go(Silence, &policy, &workload)?;
+    for cpu in (0..machine.world.cpus).filter(|cpu| machine.world.running[*cpu as usize] != NOBODY).collect::<Vec<u32>>() {
+        machine.world.catch_up(cpu);
+    }
     io::stdout().write_all(&report(&machine, &workload)).map_err(failed)
 }

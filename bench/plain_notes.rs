@@ -2,7 +2,7 @@
 //! is kept until the clock grows, a word, a name, and what stands behind it, each of which is kept as a text of a
 //! fixed size and copied whole.
 
-use crate::plain_core::Callback;
+use crate::plain_verify::Callback;
 use std::fs::File;
 use std::io::{self, Write};
 use std::os::fd::AsFd;
@@ -19,8 +19,14 @@ pub trait Notes {
     fn weight(&mut self, group: usize, weight: u32);
     fn stall(&mut self, task: u16);
     fn fault(&mut self, fault: u8);
-    /// The clock is that one from now on.
+    /// Ticks come once in a millisecond, the first CPU's first, so those that change nothing may be left out.
+    const IS_DRIVEN: bool = true;
+    /// The clock grew by 1.
     fn clock(&mut self, ms: u64);
+    /// The clock grew by more.
+    fn jump(&mut self, ms: u64) {
+        self.clock(ms);
+    }
     /// A queue of the policy has that id.
     fn queue(&mut self, queue: usize, id: u64);
     /// A program of that callback came to its end after so many instructions.
@@ -239,6 +245,10 @@ impl Notes for Trace {
         } else {
             self.carry(ms);
         }
+    }
+
+    fn jump(&mut self, ms: u64) {
+        self.carry(ms);
     }
 
     fn queue(&mut self, queue: usize, id: u64) {

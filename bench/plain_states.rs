@@ -1,11 +1,12 @@
 //! What is looked at while all lists of events are gone through, and which states of a machine are the same.
 
-use crate::plain_core::{Callback, Op, STACK};
 use crate::plain_explore::Words;
 use crate::plain_files::{Policy, Workload};
 use crate::plain_machine::Machine;
 use crate::plain_notes::{HELD, Notes, PARKED};
+use crate::plain_slots::{CALL, Slot};
 use crate::plain_tasks::{NEVER, NOWHERE};
+use crate::plain_verify::Callback;
 
 /// What a list has shown so far, by the notes that its machine takes.
 #[derive(Clone)]
@@ -46,6 +47,8 @@ impl Watch {
 }
 
 impl Notes for Watch {
+    const IS_DRIVEN: bool = false;
+
     fn wake(&mut self, _: u16) {
         self.choices += 1;
     }
@@ -116,25 +119,25 @@ pub struct Form {
 
 impl Form {
     pub fn new(machine: &Machine<Watch>, policy: &Policy, workload: &Workload, words: &Words) -> Form {
-        let has = |is: fn(&Op) -> bool| machine.ops().any(|(_, op)| is(op));
-        let loads = |offset: i16, size: u8| machine.ops().any(|(_, op)| is_load(op, offset, size));
+        let calls = |helper: i32| machine.slots().any(|(_, slot)| slot.opcode() == CALL && slot.immediate() == helper);
+        let loads = |offset: i16, size: u8| machine.slots().any(|(_, slot)| is_load(slot, offset, size));
         let all = words.form == "all";
         let is_limited = machine.world.is_limited;
-        let by_pid = has(|op| matches!(op, Op::TaskByPid));
+        let by_pid = calls(1007);
         let late = |callback| matches!(callback, Callback::Running | Callback::Stopping);
-        let early = |(callback, op): (Callback, &Op)| is_load(op, 8, 8) && (by_pid || !late(callback));
+        let early = |(callback, slot): (Callback, Slot)| is_load(slot, 8, 8) && (by_pid || !late(callback));
         let shortened = matches!(words.form.as_str(), "slices" | "alike");
         Form {
-            clock: all || is_limited || has(|op| matches!(op, Op::KtimeGetNs)),
+            clock: all || is_limited || calls(5),
             pushes: all,
             waits: all || words.ms || policy.timeout_ms < words.depth,
             run: all || loads(32, 8),
             vtime: all || loads(16, 8),
-            keys: all || has(|op| matches!(op, Op::DsqInsertVtime)),
+            keys: all || calls(1003),
             weights: !workload.changes.is_empty(),
             usages: is_limited,
             choices: words.few.is_some(),
-            slices: !shortened || machine.ops().any(early),
+            slices: !shortened || machine.slots().any(early),
             alike: words.form == "alike" && !words.ms && !by_pid && !loads(0, 4),
         }
     }
@@ -160,7 +163,7 @@ impl Form {
         if self.usages {
             numbers.extend(world.usages());
         }
-        numbers.extend(world.memory[STACK..].iter().map(|byte| u64::from(*byte)));
+        numbers.extend(world.maps.bytes.iter().map(|byte| u64::from(*byte)));
         numbers
     }
 
@@ -221,16 +224,8 @@ impl Form {
 }
 
 /// Whether it is a load of so many bytes at that offset, of a task or not.
-fn is_load(op: &Op, at: i16, bytes: u8) -> bool {
-    match *op {
-        Op::LoadPid(..) => (at, bytes) == (0, 4),
-        Op::LoadSlice(..) => (at, bytes) == (8, 8),
-        Op::LoadVtime(..) => (at, bytes) == (16, 8),
-        Op::LoadRun(..) => (at, bytes) == (32, 8),
-        Op::LoadWhole { offset, .. } => (at, bytes) == (offset, 8),
-        Op::Load { size, offset, .. } => (at, bytes) == (offset, size),
-        _ => false,
-    }
+fn is_load(slot: Slot, at: i16, bytes: u8) -> bool {
+    slot.opcode() & 7 == 1 && (slot.offset(), slot.size()) == (at, bytes)
 }
 
 /// All orders of the tasks in which each is in the place of one of its group, as they are the first.

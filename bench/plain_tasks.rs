@@ -28,6 +28,17 @@ pub struct Task {
     pub is_runnable: bool,
 }
 
+impl Task {
+    /// It ran for that long.
+    #[inline(always)]
+    pub fn run(&mut self, ms: u64) {
+        if self.slice != NEVER {
+            self.slice = self.slice.saturating_sub(1_000_000 * ms);
+        }
+        self.run_ns += 1_000_000 * ms;
+    }
+}
+
 /// As many records as there may be tasks, so that ten bits always name one.
 pub struct Tasks(Box<[Task; 1024]>);
 
@@ -248,5 +259,44 @@ impl Set {
             self.some &= self.some.wrapping_sub(1);
         }
         (block as u16) << 6 | bits.trailing_zeros() as u16
+    }
+}
+
+/// A bit for each of the next 256 milliseconds at which something is due, by its remainder.
+#[derive(Clone)]
+pub struct Calendar {
+    bits: [u64; 4],
+}
+
+impl Calendar {
+    pub const DAYS: u64 = 256;
+    pub const EMPTY: Calendar = Calendar { bits: [0; 4] };
+
+    #[inline(always)]
+    pub fn mark(&mut self, ms: u64) {
+        self.bits[ms as usize >> 6 & 3] |= 1 << (ms & 63);
+    }
+
+    #[inline(always)]
+    pub fn clear(&mut self, ms: u64) {
+        self.bits[ms as usize >> 6 & 3] &= !(1 << (ms & 63));
+    }
+
+    /// The first millisecond from that one on that has a bit, or one within the next 256.
+    #[inline(always)]
+    pub fn next(&self, ms: u64) -> u64 {
+        let first = self.bits[ms as usize >> 6 & 3] >> (ms & 63);
+        if first != 0 {
+            return ms + u64::from(first.trailing_zeros());
+        }
+        let mut from = (ms | 63) + 1;
+        for _ in 0..3 {
+            let bits = self.bits[from as usize >> 6 & 3];
+            if bits != 0 {
+                return from + u64::from(bits.trailing_zeros());
+            }
+            from += 64;
+        }
+        from
     }
 }

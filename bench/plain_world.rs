@@ -1,10 +1,11 @@
 //! The clock, tasks, processors, queues and groups that the programs of a policy see, and what their helper
 //! calls do (docs/POLICIES.md). All memory is taken at the start.
 
-use crate::plain_core::{Callback, Registers, STACK};
 use crate::plain_files::{self, Policy, Workload};
 use crate::plain_notes::{BUILTIN, GLOBAL, HELD, LOCAL, Notes, PARKED};
-use crate::plain_tasks::{DEFAULT_SLICE, NEVER, NOBODY, NOWHERE, Queue, Task, Tasks};
+use crate::plain_run::{Host, Maps};
+use crate::plain_tasks::{Calendar, DEFAULT_SLICE, NEVER, NOBODY, NOWHERE, Queue, Task, Tasks};
+use crate::plain_verify::{Callback, Field};
 
 pub const NO_QUEUE: u8 = 1;
 pub const CANNOT_INSERT: u8 = 2;
@@ -32,6 +33,15 @@ pub struct Insert {
 }
 
 const LOCAL_HERE: usize = 127;
+
+/// Nanoseconds up to which a CPU is planned, within the days of a calendar.
+const LONGEST_PLAN: u64 = 200_000_000;
+
+/// True for a queue that an idle CPU may take tasks from.
+#[inline(always)]
+fn is_open(queue: usize) -> bool {
+    queue <= GLOBAL || queue == BUILTIN
+}
 
 impl Insert {
     pub fn for_cpu(self, cpu: u32) -> Insert {
@@ -85,8 +95,7 @@ pub enum Eject {
 pub struct World<N> {
     pub notes: N,
     pub clock: u64,
-    pub registers: Registers,
-    pub memory: Vec<u8>,
+    pub maps: Maps,
     pub tasks: Tasks,
     pub count: u16,
     pub cpus: u32,
@@ -109,8 +118,21 @@ pub struct World<N> {
     pub ejected: Option<Eject>,
     pub builtin_clock: u64,
     /// Nobody waits since before that clock.
-    oldest: u64,
-    timeout_ms: u64,
+    pub oldest: u64,
+    pub timeout_ms: u64,
+    /// Bits for the CPUs that are due at a millisecond of that remainder, and the milliseconds that have any.
+    pub due: [u64; Calendar::DAYS as usize],
+    pub days: Calendar,
+    /// The ticks of each CPU that its task was given.
+    accounted: [u64; 64],
+    /// The CPUs that ticked in this millisecond.
+    pub ticked: u32,
+    /// Bits for the CPUs whose own queues have tasks.
+    pub supplied: u64,
+    /// Tasks in queues that an idle CPU may take them from.
+    pub waiting: usize,
+    /// Bits for the CPUs whose programs found nothing while no task waited.
+    pub asked: u64,
 }
 
 /// All that events change of a world with a policy in force.
@@ -144,7 +166,6 @@ fn common_divisor(a: u64, b: u64) -> u64 {
 
 impl<N: Notes> World<N> {
     pub fn new(notes: N, policy: &Policy, workload: &Workload) -> World<N> {
-        let bytes: usize = policy.maps.iter().map(|map| map.entries as usize * map.value_size as usize).sum();
         let mut tasks = Tasks::new();
         for (number, task) in workload.tasks.iter().enumerate() {
             tasks.at(number as u16).group = task.group as u16;
@@ -152,8 +173,7 @@ impl<N: Notes> World<N> {
         World {
             notes,
             clock: 0,
-            registers: Registers::new(),
-            memory: vec![0; STACK + bytes],
+            maps: Maps::new(policy.maps.iter().map(|map| (map.entries, map.value_size as u16))),
             tasks,
             count: workload.tasks.len() as u16,
             cpus: workload.cpus,
@@ -172,6 +192,13 @@ impl<N: Notes> World<N> {
             builtin_clock: 0,
             oldest: 0,
             timeout_ms: policy.timeout_ms,
+            due: [0; Calendar::DAYS as usize],
+            days: Calendar::EMPTY,
+            accounted: [0; 64],
+            ticked: 0,
+            supplied: 0,
+            waiting: 0,
+            asked: 0,
         }
     }
 
@@ -179,18 +206,40 @@ impl<N: Notes> World<N> {
 
     #[inline(always)]
     pub fn push(&mut self, queue: usize, task: u16) {
+        self.entered(queue);
         self.queues[queue & 127].push(&mut self.tasks, task, queue as u8);
+    }
+
+    #[inline(always)]
+    fn entered(&mut self, queue: usize) {
+        if queue >= LOCAL {
+            self.supplied |= 1 << ((queue - LOCAL) & 63);
+        } else {
+            self.waiting += usize::from(is_open(queue));
+        }
+    }
+
+    #[inline(always)]
+    fn left(&mut self, queue: usize) {
+        if queue < LOCAL {
+            self.waiting -= usize::from(is_open(queue));
+        } else if self.length(queue) == 0 {
+            self.supplied &= !(1 << ((queue - LOCAL) & 63));
+        }
     }
 
     pub fn push_by_vtime(&mut self, queue: usize, task: u16, vtime: u64) {
         self.pushes += 1;
+        self.entered(queue);
         self.queues[queue & 127].push_by_vtime(&mut self.tasks, task, queue as u8, vtime, self.pushes);
     }
 
     /// The front of a queue that isn't empty leaves it.
     #[inline(always)]
     pub fn pop(&mut self, queue: usize) -> u16 {
-        self.queues[queue & 127].pop(&mut self.tasks)
+        let task = self.queues[queue & 127].pop(&mut self.tasks);
+        self.left(queue);
+        task
     }
 
     #[inline(always)]
@@ -202,6 +251,7 @@ impl<N: Notes> World<N> {
         let queue = self.tasks.of(task).queue;
         if queue != NOWHERE {
             self.queues[usize::from(queue) & 127].remove(&mut self.tasks, task);
+            self.left(queue.into());
         }
     }
 
@@ -363,6 +413,7 @@ impl<N: Notes> World<N> {
     #[inline(always)]
     pub fn stop(&mut self, task: u16, cpu: u32) {
         self.notes.stop(task, cpu);
+        self.catch_up(cpu);
         self.tasks.at(task).since = self.clock;
         self.running[cpu as usize & 63] = NOBODY;
         self.busy &= !(1 << (cpu & 63));
@@ -376,8 +427,55 @@ impl<N: Notes> World<N> {
         (record.since, record.prev_cpu) = (NEVER, cpu as u16);
         self.running[cpu as usize & 63] = task;
         self.busy |= 1 << (cpu & 63);
+        self.accounted[cpu as usize & 63] = self.ticks(cpu);
         self.notes.run(task, cpu);
         task
+    }
+
+    // ---- ticks
+
+    /// The ticks that a CPU had.
+    #[inline(always)]
+    fn ticks(&self, cpu: u32) -> u64 {
+        self.clock + u64::from(cpu < self.ticked)
+    }
+
+    /// The task of a CPU is given the ticks that were left out.
+    #[inline(always)]
+    pub fn catch_up(&mut self, cpu: u32) {
+        if N::IS_DRIVEN {
+            let ticks = self.ticks(cpu);
+            let ran = ticks - std::mem::replace(&mut self.accounted[cpu as usize & 63], ticks);
+            self.tasks.at(self.running[cpu as usize & 63]).run(ran);
+        }
+    }
+
+    /// The same of a task that may run.
+    #[inline(always)]
+    fn account(&mut self, task: u16) {
+        let cpu = self.tasks.of(task).prev_cpu;
+        if self.running[usize::from(cpu) & 63] == task {
+            self.catch_up(cpu.into());
+        }
+    }
+
+    pub fn set_slice(&mut self, task: u16, slice: u64) {
+        self.account(task);
+        self.tasks.at(task).slice = slice;
+        let cpu = self.tasks.of(task).prev_cpu;
+        if self.running[usize::from(cpu) & 63] == task {
+            self.plan(cpu.into());
+        }
+    }
+
+    /// Files a CPU whose task has all its ticks under the millisecond of the next one that counts.
+    #[inline(always)]
+    pub fn plan(&mut self, cpu: u32) {
+        let record = self.tasks.of(self.running[cpu as usize & 63]);
+        let rest = record.slice.min(record.ends.saturating_sub(record.run_ns)).min(LONGEST_PLAN);
+        let ms = self.accounted[cpu as usize & 63] + u64::from(rest.saturating_sub(1) as u32 / 1_000_000);
+        self.due[(ms % Calendar::DAYS) as usize] |= 1 << (cpu & 63);
+        self.days.mark(ms);
     }
 
     // ---- saved states
@@ -403,7 +501,7 @@ impl<N: Notes> World<N> {
         Saved {
             notes: self.notes.clone(),
             clock: self.clock,
-            maps: self.memory[STACK..].to_vec(),
+            maps: self.maps.bytes.clone(),
             tasks: (0..self.count).map(|task| *self.tasks.of(task)).collect(),
             running: self.running[..self.cpus as usize].to_vec(),
             busy: self.busy,
@@ -422,7 +520,7 @@ impl<N: Notes> World<N> {
     {
         self.notes.clone_from(&saved.notes);
         self.clock = saved.clock;
-        self.memory[STACK..].copy_from_slice(&saved.maps);
+        self.maps.bytes.copy_from_slice(&saved.maps);
         for (number, task) in saved.tasks.iter().enumerate() {
             *self.tasks.at(number as u16) = *task;
         }
@@ -436,6 +534,8 @@ impl<N: Notes> World<N> {
         self.sums.clone_from(&saved.sums);
         self.oldest = saved.oldest;
         (self.ejected, self.builtin_clock) = (None, 0);
+        let waiting = (0..LOCAL).filter(|queue| is_open(*queue));
+        self.waiting = waiting.map(|queue| self.length(queue)).sum();
     }
 
     // ---- helper calls
@@ -446,17 +546,13 @@ impl<N: Notes> World<N> {
     }
 
     #[inline(always)]
-    fn answer(&mut self, answer: Result<u64, u8>) {
-        let number = match answer {
-            Ok(number) => number,
-            Err(fault) => {
-                if self.call.fault == NONE {
-                    self.call.fault = fault;
-                }
-                INVALID
+    fn answer(&mut self, answer: Result<u64, u8>) -> u64 {
+        answer.unwrap_or_else(|fault| {
+            if self.call.fault == NONE {
+                self.call.fault = fault;
             }
-        };
-        self.registers.set(0, number);
+            INVALID
+        })
     }
 
     /// The place of a queue of the policy.
@@ -489,8 +585,9 @@ impl<N: Notes> World<N> {
     }
 
     #[inline(always)]
-    fn insert(&mut self, vtime: Option<u64>, flags: u64) -> Result<u64, u8> {
-        let (task, id, slice) = (self.registers.task(1), self.registers.get(2), self.registers.get(3));
+    fn insert(&mut self, given: &[u64; 11], vtime: Option<u64>, flags: u64) -> Result<u64, u8> {
+        let [_, pointer, id, slice, ..] = *given;
+        let task = task_of(pointer);
         if !self.may_insert(task) {
             return Err(CANNOT_INSERT);
         }
@@ -516,61 +613,88 @@ impl<N: Notes> World<N> {
         Ok(0)
     }
 
-    pub fn insert_in_order(&mut self) {
-        let answer = self.insert(None, self.registers.get(4));
-        self.answer(answer);
-    }
-
-    pub fn insert_by_vtime(&mut self) {
-        let answer = self.insert(Some(self.registers.get(4)), self.registers.get(5));
-        self.answer(answer);
-    }
-
-    pub fn create(&mut self) {
-        let id = self.registers.get(1);
+    fn create(&mut self, id: u64) -> Result<u64, u8> {
         let is_free = id < OWN_END && self.own < GLOBAL && self.own(id).is_err();
-        if is_free {
-            self.queues[self.own].id = id;
-            self.notes.queue(self.own, id);
-            self.own += 1;
+        if !is_free {
+            return Err(CANNOT_CREATE);
         }
-        self.answer(if is_free { Ok(0) } else { Err(CANNOT_CREATE) });
+        self.queues[self.own].id = id;
+        self.notes.queue(self.own, id);
+        self.own += 1;
+        Ok(0)
     }
 
     #[inline(always)]
-    pub fn move_to_local(&mut self) {
-        let answer = match self.own(self.registers.get(1)) {
-            Ok(queue) if self.length(queue) == 0 => Ok(0),
-            Ok(queue) => {
-                let (task, cpu) = (self.pop(queue), self.call.cpu);
-                self.push(LOCAL + cpu as usize, task);
-                self.call.has_moved = true;
-                self.notes.moved(task, cpu);
-                Ok(1)
-            }
-            Err(fault) => Err(fault),
+    fn move_to_local(&mut self, id: u64) -> Result<u64, u8> {
+        let queue = self.own(id)?;
+        if self.length(queue) == 0 {
+            return Ok(0);
+        }
+        let (task, cpu) = (self.pop(queue), self.call.cpu);
+        self.push(LOCAL + cpu as usize, task);
+        self.call.has_moved = true;
+        self.notes.moved(task, cpu);
+        Ok(1)
+    }
+
+    fn ask_idle(&self, cpu: u64) -> Result<u64, u8> {
+        if cpu < self.cpus.into() { Ok(self.is_idle(cpu as u32).into()) } else { Err(NO_CPU) }
+    }
+}
+
+/// The number of the task to which a pointer points.
+#[inline(always)]
+fn task_of(pointer: u64) -> u16 {
+    (pointer as u16).wrapping_sub(1)
+}
+
+impl<N: Notes> Host for World<N> {
+    #[inline(always)]
+    fn load(&mut self, pointer: u64, field: Field) -> u64 {
+        let task = task_of(pointer);
+        if matches!(field, Field::Slice | Field::RunNs) {
+            self.account(task);
+        }
+        let record = self.tasks.of(task);
+        match field {
+            Field::Pid => pointer,
+            Field::Weight => self.weight(task),
+            Field::Slice => record.slice,
+            Field::Vtime => record.vtime,
+            Field::PrevCpu => record.prev_cpu.into(),
+            Field::Group => record.group.into(),
+            Field::RunNs => record.run_ns,
+        }
+    }
+
+    #[inline(always)]
+    fn store(&mut self, pointer: u64, field: Field, number: u64) {
+        let task = task_of(pointer);
+        if field == Field::Vtime {
+            self.tasks.at(task).vtime = number;
+        } else {
+            self.set_slice(task, number);
+        }
+    }
+
+    #[inline(always)]
+    fn call(&mut self, helper: i32, given: &[u64; 11]) -> u64 {
+        let answer = match helper {
+            5 => Ok(self.clock * 1_000_000),
+            1001 => self.create(given[1]),
+            1002 => self.insert(given, None, given[4]),
+            1003 => self.insert(given, Some(given[4]), given[5]),
+            1004 => self.move_to_local(given[1]),
+            1005 => Ok(self.default_choice(task_of(given[1])).into()),
+            1006 => self.ask_idle(given[1]),
+            1007 => Ok(if given[1] <= self.count.into() { given[1] } else { 0 }),
+            _ => self.own(given[1]).map(|queue| self.length(queue) as u64),
         };
-        self.answer(answer);
+        self.answer(answer)
     }
 
-    pub fn choose(&mut self) {
-        let cpu = self.default_choice(self.registers.task(1));
-        self.registers.set(0, cpu.into());
-    }
-
-    pub fn ask_idle(&mut self) {
-        let cpu = self.registers.get(1);
-        let known = cpu < self.cpus.into();
-        self.answer(if known { Ok(self.is_idle(cpu as u32).into()) } else { Err(NO_CPU) });
-    }
-
-    pub fn find_task(&mut self) {
-        let pid = self.registers.get(1);
-        self.registers.set(0, if pid <= self.count.into() { pid } else { 0 });
-    }
-
-    pub fn count_queued(&mut self) {
-        let answer = self.own(self.registers.get(1)).map(|queue| self.length(queue) as u64);
-        self.answer(answer);
+    #[inline(always)]
+    fn look_up(&mut self, map: u64, key: u32) -> u64 {
+        self.maps.look_up(map, key)
     }
 }

@@ -3,8 +3,9 @@
 `runs`: three policies with three workloads, each as `run` and as `report`. The workloads of bench/workloads have 1
 processor and 2 tasks (w1), 8 and 64 (w8), 64 and 1024 (w64), some of which sleep. `simple` is scx_simple by virtual
 time, with slices of 20 ms, `short` the same with 1 ms, `fifo` its FIFO form. Instructions are those of one further
-millisecond, as the difference of two lengths; the last column is the ratio of processor times. Before that both have
-to write the same bytes, of these files and of all pairs of examples/policies and examples/workloads.
+millisecond, as the difference of two lengths. Before that both have to write the same bytes, of these files and of all
+pairs of examples/policies and examples/workloads. `times`: nanoseconds of processor time of one further millisecond, and
+lines of a trace a second.
 
 `growth`: what one further millisecond of `report` takes as one thing grows, and the exponent: by which power of it
 the instructions grow, of the line through all points where both are logarithms, and between the last two. Of tasks
@@ -21,8 +22,10 @@ from counting import TOP, counted, seconds, write
 
 COMMANDS = ("run", "report")
 LENGTHS = {"w1": (4000, 12000), "w8": (1000, 3000), "w64": (200, 600)}
-LONG = {"w1": 400_000, "w8": 40_000, "w64": 4_000}  # milliseconds for times by the clock
+LONG = {"w1": 1_000_000, "w8": 100_000, "w64": 10_000}  # milliseconds for times
 TIMES = 3
+TRACED = {(1, 2): 1_000_000, (8, 64): 300_000, (64, 1024): 40_000}  # CPUs and tasks, and milliseconds
+LINES = 2  # of a trace under slices of 2 ms, for each CPU and millisecond
 ASLEEP = 1_000_000  # a start that isn't reached
 
 
@@ -42,7 +45,7 @@ def policies():
 
 
 def lasting(workload, ms):
-    """The text of a workload, for so many milliseconds."""
+    """The text of a workload that lasts that long."""
     return "".join("ms = %d\n" % ms if line.startswith("ms = ") else line for line in workload.splitlines(keepends=True))
 
 
@@ -72,7 +75,7 @@ class Programs:
         return [(long - short) / (lengths[1] - lengths[0]) for short, long in zip(*found)]
 
     def times(self, command, policy, workload, ms):
-        """The seconds of so many milliseconds, of both: the best of some runs, without their start."""
+        """The seconds of a workload that lasts that long, of both: the best of some runs, without their start."""
         taken = []
         for length in (1, ms):
             commands = self.commands(command, policy, lasting(workload, length))
@@ -103,26 +106,39 @@ def measure_runs(scxsim, plain, folder):
             for command in COMMANDS:
                 programs.check(command, policy, lasting(workload, lengths[1]))
                 ours, others = programs.counts(command, policy, workload, lengths)
-                times = programs.times(command, policy, workload, LONG[shape])
-                figures = (command, name, shape, ours, others, ours / others, times[0] / times[1])
-                print("%-8s %-8s %-5s %12.0f %12.0f %7.2f %8.2f" % figures, flush=True)
+                print("%-8s %-8s %-5s %12.0f %12.0f %7.2f" % (command, name, shape, ours, others, ours / others), flush=True)
 
 
-def crowd(cpus, tasks, behind=""):
-    """A workload of so many tasks that never sleep; `behind` stands behind all but the first."""
+def measure_times(scxsim, plain, folder):
+    programs = Programs(scxsim, plain, folder)
+    for name, policy in policies().items():
+        for shape, ms in LONG.items():
+            workload = text_of("bench", "workloads", shape + ".toml")
+            for command in COMMANDS:
+                ours, others = (1e9 * taken / ms for taken in programs.times(command, policy, workload, ms))
+                print("%-8s %-8s %-5s %12.0f %8.0f %7.2f" % (command, name, shape, ours, others, ours / others), flush=True)
+    policy = text_of("examples", "policies", "short_slices.toml")
+    for (cpus, tasks), ms in TRACED.items():
+        taken = programs.times("run", policy, crowd(cpus, tasks), ms)
+        figures = [LINES * cpus * ms / time for time in taken]
+        print("lines a second %3d CPUs %12.0f %12.0f %7.2f" % (cpus, *figures, figures[1] / figures[0]), flush=True)
+
+
+def crowd(cpus, tasks, others=""):
+    """A workload of tasks that never sleep, with `others` after each but the first."""
     lines = ["cpus = %d\nms = 1\n[[group]]\nname = \"g\"\n" % cpus]
     for number in range(tasks):
-        lines.append("[[task]]\nname = \"t%d\"\ngroup = \"g\"\n%s" % (number, behind if number else ""))
+        lines.append("[[task]]\nname = \"t%d\"\ngroup = \"g\"\n%s" % (number, others if number else ""))
     return "".join(lines)
 
 
-def nobody(cpus):
-    """A workload in which nobody wakes."""
+def asleep(cpus):
+    """A workload in which no task wakes."""
     return crowd(cpus, 1) + "start = %d\n" % ASLEEP
 
 
 def turns(slots):
-    """Two tasks take turns, a millisecond each, and as one stops a program of so many slots is done."""
+    """Two tasks take turns, a millisecond each, and as one stops a program of that size is done."""
     return """[code]
 enqueue = '''
 r2 = 9223372036854775809 ll
@@ -146,8 +162,8 @@ def growths():
         "tasks waiting": [(n, fifo, crowd(1, n), (400, 2400)) for n in tasks],
         "tasks taking turns": [(n, short, crowd(8, n), (200, 1000)) for n in tasks],
         "processors busy": [(n, fifo, crowd(n, n), (400, 1600)) for n in cpus],
-        "processors that ask": [(n, fifo, nobody(n), (400, 1600)) for n in cpus],
-        "processors idle": [(n, turns(1), nobody(n), (400, 1600)) for n in cpus],
+        "processors that ask": [(n, fifo, asleep(n), (400, 1600)) for n in cpus],
+        "processors idle": [(n, turns(1), asleep(n), (400, 1600)) for n in cpus],
         "milliseconds": [
             (n, fifo, text_of("bench", "workloads", "w1.toml"), (3 * n // 5, n)) for n in (1000, 10_000, 100_000, 1_000_000)
         ],
@@ -170,7 +186,7 @@ def measure_growth(scxsim, plain, folder):
         for size, policy, workload, lengths in points:
             programs.check("report", policy, lasting(workload, lengths[0]))
             found.append(programs.counts("report", policy, workload, lengths))
-            print("growth   %-20s %8d %12.0f %12.0f" % (name, size, *found[-1]), flush=True)
+            print("growth   %-20s %8d %12.1f %12.1f" % (name, size, *found[-1]), flush=True)
         sizes = [point[0] for point in points]
         exponents = [exponent(sizes, counts) for counts in zip(*found)]
         last = [exponent(sizes[-2:], counts[-2:]) for counts in zip(*found)]
