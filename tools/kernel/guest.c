@@ -6,9 +6,11 @@
  *   case NAME                           begins a policy with its workload
  *   ops TYPE SIZE OF                    type of the struct_ops map's value, its size, and the type of sched_ext_ops
  *   map ENTRIES SIZE                    an array map; programs name it by its place, and the last is that of exit
+ *   timers COUNT                        an array map whose values are timers
  *   set OFFSET SIZE NUMBER              a field of the value
  *   name OFFSET TEXT                    the policy's name, in the value
  *   program CALLBACK MEMBER OFFSET SLEEPS HEX
+ *   behind SLOT                         that program has a second function, which begins at that slot
  *   group PARENT WEIGHT                 a cgroup; PARENT is the place of another, or -1
  *   task NAME GROUP NICE START RUN SLEEP       a process; times in milliseconds
  *   go CPUS MS                          loads, attaches, runs and writes
@@ -37,7 +39,7 @@
 #include <unistd.h>
 
 #define MAPS 20
-#define PROGRAMS 10
+#define PROGRAMS 20
 #define GROUPS 64
 #define TASKS 64
 #define SCHED_EXT 7
@@ -81,7 +83,7 @@ union request {
 
 struct program {
 	char callback[24];
-	int member, offset, sleeps, count, file;
+	int member, offset, sleeps, count, file, behind;
 	uint64_t *slots;
 };
 struct group {
@@ -161,10 +163,9 @@ static uint64_t *from_hex(const char *hex, int *count)
 	*count = strlen(hex) / 16;
 	slots = malloc(*count * 8 + 8);
 	for (int at = 0; at < *count * 8; at++) {
-		unsigned byte;
+		char pair[3] = { hex[2 * at], hex[2 * at + 1], 0 };
 
-		sscanf(hex + 2 * at, "%2x", &byte);
-		((unsigned char *)slots)[at] = byte;
+		((unsigned char *)slots)[at] = strtoul(pair, 0, 16);
 	}
 	return slots;
 }
@@ -201,6 +202,55 @@ static const char *reason_of(char *log)
 	return reason;
 }
 
+/*
+ * Types for timers, by their numbers: 5 is a map's value that is one, 7 and 8 are the functions of a program that has
+ * a second one.
+ */
+enum { OF_INT = 1, OF_TIMER_VALUE = 5, OF_FIRST = 7, OF_SECOND = 8 };
+static int load_timer_types(void)
+{
+	static const char texts[] = "\0int\0__u64\0bpf_timer\0__opaque\0value\0timer\0main_fn\0timer_fn";
+	enum { INT = 1, U64 = 5, TIMER = 11, OPAQUE = 21, VALUE = 30, MEMBER = 36, FIRST = 42, SECOND = 50 };
+	static const uint32_t all[] = {
+		INT, 1 << 24, 4, 0x01000020, U64, 1 << 24, 8, 64, 0, 3 << 24, 0, 2, 1, 2,
+		TIMER, 4 << 24 | 1, 16, OPAQUE, 3, 0, VALUE, 4 << 24 | 1, 16, MEMBER, 4, 0,
+		0, 13 << 24, 1, FIRST, 12 << 24, 6, SECOND, 12 << 24, 6,
+	};
+	static struct {
+		uint16_t magic;
+		uint8_t version, flags;
+		uint32_t head, types, types_size, texts, texts_size;
+		char content[sizeof(all) + sizeof(texts)];
+	} types = { 0xeb9f, 1, 0, 24, 0, sizeof(all), sizeof(all), sizeof(texts), "" };
+	union request request;
+	int file;
+
+	memcpy(types.content, all, sizeof(all));
+	memcpy(types.content + sizeof(all), texts, sizeof(texts));
+	memset(&request, 0, sizeof(request));
+	request.btf.btf = (uintptr_t)&types;
+	request.btf.size = 24 + sizeof(all) + sizeof(texts);
+	file = bpf(BTF_LOAD, &request);
+	if (file < 0)
+		fprintf(out, "error no types for timers: %s\n", strerror(errno));
+	return file;
+}
+
+/* Says where the second function of a program begins. */
+static void name_functions(const struct program *program, union request *request)
+{
+	static uint32_t functions[4];
+
+	functions[0] = 0;
+	functions[1] = OF_FIRST;
+	functions[2] = program->behind;
+	functions[3] = OF_SECOND;
+	request->program.btf = load_timer_types();
+	request->program.function_size = 8;
+	request->program.functions = (uintptr_t)functions;
+	request->program.function_count = 2;
+}
+
 static int load_program(struct program *program)
 {
 	union request request;
@@ -213,6 +263,8 @@ static int load_program(struct program *program)
 	request.program.flags = program->sleeps ? FLAG_SLEEPS : 0;
 	request.program.member = program->member;
 	request.program.kernel_type = ops_type;
+	if (program->behind)
+		name_functions(program, &request);
 	program->file = bpf(PROGRAM_LOAD, &request);
 	if (program->file < 0) {
 		request.program.log = (uintptr_t)log_text;
@@ -240,6 +292,23 @@ static int load_types(void)
 	request.btf.btf = (uintptr_t)&types;
 	request.btf.size = 24 + 16 + 5;
 	return bpf(BTF_LOAD, &request);
+}
+
+static void make_timers(int count)
+{
+	union request request;
+
+	memset(&request, 0, sizeof(request));
+	request.map.type = TYPE_ARRAY;
+	request.map.key_size = 4;
+	request.map.value_size = 16;
+	request.map.entries = count;
+	request.map.btf = load_timer_types();
+	request.map.btf_key = OF_INT;
+	request.map.btf_value = OF_TIMER_VALUE;
+	maps[map_count] = bpf(MAP_CREATE, &request);
+	if (maps[map_count++] < 0)
+		fprintf(out, "error no map of %d timers: %s\n", count, strerror(errno));
 }
 
 static void make_map(int entries, int size)
@@ -574,6 +643,10 @@ static void take_line(const char *word, const char *rest)
 		sscanf(rest, "%u %u %u", &value_type, &value_size, &ops_type);
 	} else if (!strcmp(word, "map") && sscanf(rest, "%d %d", &offset, &size) == 2) {
 		make_map(offset, size);
+	} else if (!strcmp(word, "timers") && sscanf(rest, "%d", &size) == 1) {
+		make_timers(size);
+	} else if (!strcmp(word, "behind") && sscanf(rest, "%d", &offset) == 1) {
+		programs[program_count - 1].behind = offset;
 	} else if (!strcmp(word, "set") && sscanf(rest, "%d %d %llu", &offset, &size, &number) == 3) {
 		memcpy(value + offset, &number, size);
 	} else if (!strcmp(word, "name") && sscanf(rest, "%d %n", &offset, &length) == 1) {

@@ -9,13 +9,14 @@ HERE = Path(__file__).resolve().parent
 SCXSIM = os.environ.get("SCXSIM") or HERE.parents[1] / "scxsim"
 QEMU = "qemu-system-x86_64"
 PACKAGES = {QEMU: "qemu-system-x86", "gcc": "gcc libc6-dev", "zstd": "zstd"}
-# The guest's clock goes by instructions, so that nothing depends on how busy this machine is. Without cx16, as
-# with it qemu 7.2 corrupts lists of the guest's memory.
-MACHINE = ["-accel", "tcg", "-cpu", "max,-cx16,-la57", "-icount", "shift=2,sleep=off", "-m", "512"]
-MACHINE += ["-display", "none", "-no-reboot", "-nic", "none", "-serial", "stdio"]
-# The guest programs the clock of the machine to 4096 interrupts a second. Without them qemu lets each of its processors
-# run up to the next timer of any, which may be many milliseconds.
-MACHINE += ["-rtc", "clock=vm"]
+# The guest's clock goes by instructions and its random numbers by a seed, so that nothing depends on how busy this
+# machine is. Without cx16, as with it qemu 7.2 corrupts lists of the guest's memory.
+MODEL = "max"
+MACHINE = ["-accel", "tcg,thread=single", "-cpu", f"{MODEL},-cx16,-la57", "-icount", "shift=2,sleep=off", "-m", "512"]
+MACHINE += ["-nodefaults", "-display", "none", "-no-reboot", "-serial", "stdio"]
+# The guest programs this clock to 4096 interrupts a second. Without them qemu lets each CPU run up to the next timer of
+# any, which may be many milliseconds.
+MACHINE += ["-rtc", "base=2026-01-01,clock=vm"]
 WORDS = "console=ttyS0 quiet panic=-1 mitigations=off rdinit=/init nokaslr tsc=reliable no_timer_check audit=0"
 
 
@@ -55,15 +56,28 @@ def archive(program, cases):
     return gzip.compress(folders + console + files + entry(0, "TRAILER!!!", 0), 1)
 
 
-def boot(kernel, version, cases, cpus, work):
-    """The lines that the guest wrote. There is one processor more, for its own program."""
+def cpus_of(count):
+    """The words for qemu that give the guest this number of CPUs, in one socket.
+
+    As a CPU has run up to the next timer, qemu before 8.1 leaves no instruction for the CPU after it, time and again:
+    seconds passed until that one ran. So a CPU of another socket, which Linux doesn't use, comes before each but the first.
+    """
+    words = ["-smp", f"cpus=1,maxcpus={2 * count},sockets=2,cores={count},threads=1"]
+    for cpu in range(1, count):
+        for socket in (1, 0):
+            words += ["-device", f"{MODEL}-x86_64-cpu,socket-id={socket},core-id={cpu},thread-id=0"]
+    return words
+
+
+def boot(kernel, cases, cpus, work, seed=1):
+    """The lines that the guest wrote. There is one CPU more, for its own program."""
     made = subprocess.run(["gcc", "-O2", "-static", "-o", work / "init", HERE / "guest.c"], stderr=subprocess.PIPE, text=True)
     if made.returncode != 0:
         raise Failed(f"gcc can't make the guest's program: {made.stderr.strip()}")
     (work / "archive").write_bytes(archive((work / "init").read_bytes(), cases))
-    # On 7.x a processor that halts is woken late where the clock goes by instructions, so it has to poll.
-    more = " idle=poll" if not version.startswith("6.") else ""
-    words = [QEMU, *MACHINE, "-smp", str(cpus + 1), "-kernel", kernel / "vmlinuz", "-initrd", work / "archive"]
+    # Without cx16 a timer gets its memory only where the kernel looks after its lists.
+    more = f" nr_cpus={cpus + 1}" + (" slab_debug=F" if "\ntimers " in cases else "")
+    words = [QEMU, *MACHINE, *cpus_of(cpus + 1), "-seed", str(seed), "-kernel", kernel / "vmlinuz", "-initrd", work / "archive"]
     words += ["-append", WORDS + more, "-serial", f"file:{work / 'out'}"]
     try:
         console = subprocess.run(words, stdin=subprocess.DEVNULL, stdout=subprocess.PIPE, stderr=subprocess.STDOUT, timeout=1800)

@@ -112,9 +112,10 @@ def mended(scxsim, path):
     """The text of a policy file that both verifiers take, as far as is known."""
     policy, listings = tomllib.loads(Path(path).read_text()), callbacks_of(explained(scxsim, path))
     found = list(findings(listings))
-    keys = [key for key in ("name", "timeout_ms", "rules", "tick_ms") if key in policy]
+    keys = [key for key in ("name", "timeout_ms", "rules", "tick_ms", "keep_idle") if key in policy]
     lines = [f'{key} = "{policy[key]}"' if key in ("name", "rules") else f"{key} = {policy[key]}" for key in keys]
-    lines += [f"[[map]]\nentries = {entries}\nvalue_size = {size}" for entries, size in shapes_of_maps(policy)] + ["[slots]"]
+    lines += [f"[[map]]\nentries = {entries}\nvalue_size = {size}" for entries, size in shapes_of_maps(policy)]
+    lines += [*(["[[timer]]"] * len(policy.get("timer", []))), "[slots]"]
     for callback in ARGUMENTS:
         code = code_of(scxsim, policy, callback)
         if code is not None:

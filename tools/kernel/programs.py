@@ -8,7 +8,7 @@ from random import Random
 
 from kernel_types import NoCounterpart
 from mending import callbacks_of, explained, findings, mended
-from translate import code_of, known, ops_lines, program_line, rules_of, shapes_of_maps, translated
+from translate import callback_lines, code_of, known, ops_lines, rules_of
 
 sys.path.append(str(Path(__file__).resolve().parents[2] / "tests"))
 from generator.pairs import SORTS
@@ -60,8 +60,9 @@ class Program:
 def case_lines(types, scxsim, path, callback):
     """The lines that ask the guest for its verdict on one callback."""
     policy = tomllib.loads(Path(path).read_text())
-    program = translated(types, callback, code_of(scxsim, policy, callback), known(scxsim, path), rules_of(policy))
-    return "\n".join(["case -", *ops_lines(types, policy, shapes_of_maps(policy)), program_line(types, callback, program), "load"]) + "\n"
+    policy |= {"timer": policy.get("timer", [{}])} if callback == "timer" else {}
+    codes = {callback: code_of(scxsim, policy, callback)}
+    return "\n".join(["case -", *ops_lines(types, policy), *callback_lines(types, callback, codes, known(scxsim, path), policy), "load"]) + "\n"
 
 
 def reasons_here(scxsim, path):
@@ -80,8 +81,9 @@ def verdicts_here(scxsim, path):
 def alone(path, callback, folder, number):
     """The policy file with that one callback."""
     policy = tomllib.loads(Path(path).read_text())
-    lines = ['rules = "linux"'] * (rules_of(policy) == "linux")
+    lines = ['rules = "linux"'] * (rules_of(policy) == "linux") + [f"keep_idle = {number}" for number in [policy.get("keep_idle")] if number]
     lines += [f"[[map]]\nentries = {one['entries']}\nvalue_size = {one['value_size']}" for one in policy.get("map", [])]
+    lines += ["[[timer]]"] * len(policy.get("timer", []))
     table = "code" if callback in policy.get("code", {}) else "slots"
     lines += [f"[{table}]", f"{callback} = '''", policy[table][callback].strip("\n"), "'''"]
     target = folder / f"{number:05}.toml"

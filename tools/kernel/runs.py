@@ -12,9 +12,10 @@ from translate import policy_lines, rules_of, workload_lines
 ERRORS = 1024		# exits of this kind and above are errors
 
 
-def here(policy, workload):
-    """What scxsim does: milliseconds and turns of each task, and how the policy ended. No tasks where it is refused."""
-    report = subprocess.run([SCXSIM, "report", policy, workload], stdout=subprocess.PIPE, text=True)
+def here(policy, workload, said=None):
+    """What scxsim does: milliseconds and turns of each task, and how the policy ended. No tasks where it is refused. Its
+    words on standard error go to the file said."""
+    report = subprocess.run([SCXSIM, "report", policy, workload], stdout=subprocess.PIPE, stderr=said, text=True)
     # What is said on standard error was said by report.
     trace = subprocess.run([SCXSIM, "run", policy, workload], capture_output=True, text=True).stdout
     if report.returncode == 1 and report.stdout.startswith("refused"):
@@ -62,12 +63,12 @@ def cases_of(types, pairs, by_groups):
     return cases
 
 
-def there(version, by_groups, pairs):
+def there(version, by_groups, pairs, seed=1):
     """What the kernel does: the policy, the workload and the result of each pair. Each has a boot of its own, as 6.18
-    doesn't end a second one after the guest has programmed the clock."""
+    doesn't end a second one after the guest has programmed the clock. The same seed gives the same result."""
     folder = kernel_folder(version)
     cases = cases_of(KernelTypes(folder / "types"), pairs, by_groups)
     for (policy, workload), (cpus, lines) in zip(pairs, cases):
         with tempfile.TemporaryDirectory() as work:
-            results = results_of(boot(folder, version, lines, cpus, Path(work)))
+            results = results_of(boot(folder, lines, cpus, Path(work), seed))
         yield policy, workload, results[0]

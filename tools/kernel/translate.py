@@ -11,12 +11,13 @@ import tempfile
 import tomllib
 from pathlib import Path
 
+from kernel_timers import Timers
 from kernel_types import KernelTypes, NoCounterpart
 from kernel import slots
 from kernel.registers import Registers
 
 ARGUMENTS = {"init": 0, "enable": 1, "select_cpu": 3, "enqueue": 2, "dispatch": 2, "running": 1, "stopping": 2,
-             "tick": 1, "runnable": 2, "quiescent": 2}
+             "tick": 1, "dequeue": 2, "runnable": 2, "quiescent": 2, "update_idle": 2, "set_weight": 2, "timer": 1}
 ANSWERED = ("init", "select_cpu")
 LOADS = (0x61, 0x69, 0x71, 0x79, 0x81, 0x89, 0x91)
 FIELDS = {0: "pid", 4: "scx.weight", 8: "scx.slice", 16: "scx.dsq_vtime", 24: "thread_info.cpu", 32: "se.sum_exec_runtime"}
@@ -26,6 +27,8 @@ NICE = [88761, 71755, 56483, 46273, 36291, 29154, 23254, 18705, 14949, 11916, 95
         1586, 1277, 1024, 820, 655, 526, 423, 335, 272, 215, 172, 137, 110, 87, 70, 56, 45, 36, 29, 23, 18, 15]
 EXIT_VALUE = 24		# bytes that the exit callback keeps: kind, code and time
 INSERT_FLAGS = {"SCX_ENQ_PREEMPT": 32, "SCX_ENQ_HEAD": 48}	# the bits that these have here
+LOST_BY_CALLS = re.compile(r"\br[0-5](?:\.\.r[0-5])? [^,]*(?:, )?")	# what explain says of r0 to r5
+ANSWERS_0 = slots.move_number(0, 0).bytes() + slots.Instruction(slots.EXIT).bytes()
 
 
 def output_of(*words):
@@ -33,19 +36,22 @@ def output_of(*words):
 
 
 def known(scxsim, policy):
-    """Of each callback that is accepted here: of each slot the registers that point to tasks, and how deep the stack is used."""
+    """Of each callback that is accepted here: of each slot the registers that point to tasks, the slots at which a task is
+    kept beyond a call, and how deep the stack is used."""
     found, callback = {}, None
     for line in output_of(scxsim, "explain", policy).splitlines():
         if verdict := re.match(r"(\w+) (ok|refused) \d+", line):
             callback = verdict[1] if verdict[2] == "ok" else None
             if callback:
-                found[callback] = ({}, 0)
+                found[callback] = ({}, set(), 0)
         elif callback and (instruction := re.match(r" *(\d+)  (\S.*?)(?:  +(.*))?$", line)):
-            tasks, depth = found[callback]
-            facts = instruction[3] or ""
-            tasks[int(instruction[1])] = task_registers(facts)
+            tasks, keeps, depth = found[callback]
+            slot, facts = int(instruction[1]), instruction[3] or ""
+            tasks[slot] = task_registers(facts)
+            if re.search(r"\btask\b", LOST_BY_CALLS.sub("", facts)):
+                keeps.add(slot)
             deepest = max([0, *(int(number) for number in re.findall(r"stack -(\d+)", facts))])
-            found[callback] = (tasks, max(depth, -(-deepest // 8) * 8))
+            found[callback] = (tasks, keeps, max(depth, -(-deepest // 8) * 8))
     return found
 
 
@@ -53,7 +59,7 @@ def guessed(callback, code):
     """The same of one callback without explain, as of one that is refused."""
     instructions, numbers = slots.read(code)
     found = Registers(callback, instructions)
-    return {slot: found.tasks(at) for at, slot in enumerate(numbers)}, found.depth
+    return {slot: found.tasks(at) for at, slot in enumerate(numbers)}, set(numbers), found.depth
 
 
 def task_registers(facts):
@@ -69,18 +75,23 @@ def rules_of(policy):
 
 
 class Callback:
-    def __init__(self, types, name, code, facts, rules):
-        self.types, self.name, self.rules = types, name, rules
-        self.tasks, self.used = facts
+    def __init__(self, types, name, code, facts, policy):
+        self.types, self.name, self.rules, self.timers = types, name, rules_of(policy), Timers(policy)
+        self.tasks, self.keeps, self.used = facts
         self.read, self.slots = slots.read(code)
         calls = [one.number for one in self.read if one.code == slots.CALL]
         self.chooses, self.asks = 1005 in calls, 1006 in calls
         self.claimed, self.chosen = (self.cell(), self.cell()) if self.chooses else (None, None)
         self.previous, self.flags = (self.cell(), self.cell()) if self.chooses and name == "select_cpu" else (None, None)
         self.asked, self.mask, self.bit = (self.cell(), self.cell(), self.cell()) if self.asks else (None, None, None)
-        self.held = [self.cell() for number in calls if number == 1007]
+        self.held = self.cells_of_tasks()
+        self.pid = self.cell() if len(self.held) > len(set(self.held)) else None
         self.answer = self.cell() if self.held and name in ANSWERED else None
         self.text = self.cell() if 1010 in calls else None
+        self.makes_timers = name == "init" and self.timers.count > 0
+        wants_timer = self.makes_timers or 1017 in calls or 1018 in calls
+        self.timer, self.ns = (self.cell(), self.cell()) if wants_timer else (None, None)
+        self.behind = 0
         if self.used > 512:
             raise NoCounterpart(f"{name}: 512 bytes of stack don't hold what the kernel's form keeps there")
 
@@ -88,6 +99,17 @@ class Callback:
         """The offset of eight bytes below all that is used."""
         self.used += 8
         return -self.used
+
+    def cells_of_tasks(self):
+        """The cell of each task that is asked for by its pid. Calls share a cell where no earlier task is kept."""
+        shared, cells = None, []
+        for one, slot in zip(self.read, self.slots):
+            if one.code != slots.CALL or one.number != 1007:
+                continue
+            if slot not in self.keeps:
+                shared = shared or self.cell()
+            cells.append(self.cell() if slot in self.keeps else shared)
+        return cells
 
     def kernel_call(self, name):
         return slots.Instruction(slots.CALL, 0, 2, 0, self.types.function(name))
@@ -98,13 +120,17 @@ class Callback:
         return self.types.offset("task_struct", FIELDS[offset])
 
     def prologue(self):
-        """Arguments come in the context; a truth value in one byte of eight."""
+        """Arguments come in the context; a truth value in one byte of eight. Of a timer the key is its number."""
         before = [slots.load(number, 1, 8 * number - 8) for number in range(ARGUMENTS[self.name], 0, -1)]
-        if self.name == "stopping":
+        if self.name == "timer":
+            before = [slots.Instruction(0x61, 1, 2, 0)]
+        if self.makes_timers:
+            before = self.timers.made(self.timer, self.behind)
+        if self.name in ("stopping", "update_idle"):
             before.append(slots.Instruction(0x54, 2, 0, 0, 1))
         if self.previous:
             before += [slots.store(10, self.previous, 2), slots.store(10, self.flags, 3)]
-        for cell in [self.claimed] * self.chooses + self.held:
+        for cell in [self.claimed] * self.chooses + sorted(set(self.held)):
             before.append(slots.Instruction(0x7a, 10, 0, cell, 0))
         return before
 
@@ -118,7 +144,7 @@ class Callback:
         if one.code == slots.CALL:
             return self.helper(one.number, held)
         if one.code == slots.EXIT:
-            return self.release() + [one]
+            return self.release() + [slots.move_number(0, 0)] * (self.name == "timer") + [one]
         if one.code in LOADS and one.src in tasks:
             return self.load_field(one)
         if kind in (2, 3) and one.dst in tasks:
@@ -137,9 +163,19 @@ class Callback:
     def release(self):
         """Gives tasks that were asked for by their pids back."""
         lines = [slots.store(10, self.answer, 0)] if self.answer else []
-        for cell in self.held:
-            lines += [slots.load(1, 10, cell), slots.Instruction(0x15, 1, 0, 1, 0), self.kernel_call("bpf_task_release")]
+        for cell in sorted(set(self.held)):
+            lines += self.release_cell(cell)
         return lines + ([slots.load(0, 10, self.answer)] if self.answer else [])
+
+    def release_cell(self, cell):
+        return [slots.load(1, 10, cell), slots.Instruction(0x15, 1, 0, 1, 0), self.kernel_call("bpf_task_release")]
+
+    def ask_task(self, cell):
+        """The task with a pid. The task that was in its cell before is given back."""
+        lines = []
+        if self.held.count(cell) > 1:
+            lines = [slots.store(10, self.pid, 1), *self.release_cell(cell), slots.load(1, 10, self.pid)]
+        return [*lines, self.kernel_call("bpf_task_from_pid"), slots.store(10, cell, 0)]
 
     def helper(self, number, held):
         if number in (1, 5):
@@ -156,7 +192,7 @@ class Callback:
         if number == 1006:
             return self.ask_idle()
         if number == 1007:
-            return [self.kernel_call("bpf_task_from_pid"), slots.store(10, next(held), 0)]
+            return self.ask_task(next(held))
         if number == 1008:
             return [self.kernel_call("scx_bpf_dsq_nr_queued"), slots.Instruction(0xbf, 0, 0, 32)]
         return self.linux_helper(number) if self.rules == "linux" else [slots.call(number)]
@@ -180,6 +216,10 @@ class Callback:
             raise NoCounterpart(f"{self.name}: a kernel's mask of CPUs is no number, as pick_idle takes one")
         if number == 1016:
             return [self.kernel_call("scx_bpf_test_and_clear_cpu_idle"), is_true]
+        if number == 1017:
+            return self.timers.start(self.timer, self.ns)
+        if number == 1018:
+            return self.timers.cancel(self.timer)
         return [slots.call(number)]
 
     def no_text(self):
@@ -241,16 +281,23 @@ def code_of(scxsim, policy, callback):
         return subprocess.run([scxsim, "asm", file.name], stdout=subprocess.PIPE).stdout
 
 
-def ops_lines(types, policy, maps):
-    """The lines for a policy before its programs, with these maps."""
+def ops_lines(types, policy, more=()):
+    """The lines for a policy before its programs, with its maps, that of its timers and more maps."""
     start = types.offset("bpf_struct_ops_sched_ext_ops", "data")
     members = dict(types.members("sched_ext_ops"))
     yield f"ops {types.struct('bpf_struct_ops_sched_ext_ops')} {types.size('bpf_struct_ops_sched_ext_ops')} {types.struct('sched_ext_ops')}"
-    for entries, size in maps:
-        yield f"map {entries} {size}"
-    yield f"set {start + members['flags']} 8 {types.flag('SCX_OPS_SWITCH_PARTIAL')}"
+    yield from map_lines(shapes_of_maps(policy))
+    if "timer" in policy:
+        yield f"timers {len(policy['timer'])}"
+    yield from map_lines(more)
+    flags = types.flag("SCX_OPS_SWITCH_PARTIAL") | (types.flag("SCX_OPS_KEEP_BUILTIN_IDLE") if policy.get("keep_idle") else 0)
+    yield f"set {start + members['flags']} 8 {flags}"
     yield f"set {start + members['timeout_ms']} 4 {policy.get('timeout_ms', 0)}"
     yield f"name {start + members['name']} {policy.get('name', 'policy')}"
+
+
+def map_lines(shapes):
+    return [f"map {entries} {size}" for entries, size in shapes]
 
 
 def shapes_of_maps(policy):
@@ -259,28 +306,47 @@ def shapes_of_maps(policy):
 
 def program_line(types, callback, code):
     """The line for a program that is in the kernel's form."""
-    start = types.offset("bpf_struct_ops_sched_ext_ops", "data")
-    number, offset = next((number, offset) for number, (name, offset) in enumerate(types.members("sched_ext_ops")) if name == callback)
-    return f"program {callback} {number} {start + offset} {int(callback == 'init')} {code.hex()}"
+    start, member = types.offset("bpf_struct_ops_sched_ext_ops", "data"), "init" if callback == "timer" else callback
+    number, offset = next((number, offset) for number, (name, offset) in enumerate(types.members("sched_ext_ops")) if name == member)
+    return f"program {callback} {number} {start + offset} {int(member == 'init')} {code.hex()}"
 
 
-def translated(types, callback, code, facts, rules):
+def translated(types, callback, code, facts, policy, behind=0):
     """A callback for the kernel. Where jumps lead to nothing it stays as it is, as a kernel looks at jumps first."""
     try:
-        return Callback(types, callback, code, facts.get(callback) or guessed(callback, code), rules).code()
+        made = Callback(types, callback, code, facts.get(callback) or guessed(callback, code), policy)
+        made.behind = behind
+        return made.code()
     except slots.JumpToNothing:
         return code
+
+
+def init_lines(types, name, codes, facts, policy):
+    """The lines for the program of init and the function of timers behind it, by these codes of init and of timer."""
+    init, timer = codes.get("init") or ANSWERS_0, codes.get("timer") or ANSWERS_0
+    behind = len(translated(types, "init", init, facts, policy)) // 8
+    first = translated(types, "init", init, facts, policy, behind)
+    yield program_line(types, name, first + translated(types, "timer", timer, facts, policy))
+    yield f"behind {behind}"
+
+
+def callback_lines(types, callback, codes, facts, policy):
+    """The lines for a callback; those for init and timer are of one program where there are timers."""
+    if "timer" in policy and callback in ("init", "timer"):
+        return list(init_lines(types, callback, codes, facts, policy))
+    return [program_line(types, callback, translated(types, callback, codes[callback], facts, policy))]
 
 
 def policy_lines(types, scxsim, path):
     """The lines for a policy with all its callbacks."""
     policy, facts = tomllib.loads(Path(path).read_text()), known(scxsim, path)
-    yield from ops_lines(types, policy, [*shapes_of_maps(policy), (1, EXIT_VALUE)])
+    yield from ops_lines(types, policy, [(1, EXIT_VALUE)])
+    has_timers, codes = "timer" in policy, {callback: code_of(scxsim, policy, callback) for callback in ARGUMENTS}
     for callback in ARGUMENTS:
-        code = code_of(scxsim, policy, callback)
-        if code is not None:
-            yield program_line(types, callback, translated(types, callback, code, facts, rules_of(policy)))
-    yield program_line(types, "exit", exit_code(types, len(shapes_of_maps(policy))))
+        is_there = codes[callback] is not None or callback == "init" and has_timers
+        if is_there and callback != "timer":
+            yield from callback_lines(types, callback, codes, facts, policy)
+    yield program_line(types, "exit", exit_code(types, len(shapes_of_maps(policy)) + has_timers))
 
 
 def nice_of(weight):
