@@ -20,6 +20,12 @@ UNKNOWN = [
 ]
 SIGNED = "a signed division or remainder: divide unsigned numbers, as (u32)p->pid % 64, or take CLANG=clang-19 CFLAGS=-mcpu=v4"
 
+# What clang refuses with advice for others, and what to say instead.
+REFUSED = [
+    (r"cannot assign to non-static data member '(\w+)' with const-qualified type", r"\1 can't be stored: the host alone sets it"),
+    (r"BPF stack limit", "the callback wants more than 512 bytes of stack: keep arrays in a map"),
+]
+
 
 class NoClang(Exception):
     pass
@@ -109,6 +115,12 @@ def breakdown(source, said):
     return f"{source}: clang can't compile this: {what}"
 
 
+def in_words_of_build(one):
+    """A message of clang that build says otherwise, or None."""
+    found = ((re.search(form, one.text), text) for form, text in REFUSED)
+    return next((f"{one.place}: {match.expand(text)}" for match, text in found if match and one.place), None)
+
+
 def refusals_of(source, said, found):
     """What build says where there is no object: of unknown names nothing, as they are listed by themselves."""
     if places := signed_divisions(source, said):
@@ -116,7 +128,7 @@ def refusals_of(source, said, found):
     if same := list(same_as_section(source, said)):
         return same
     errors = [one for one in found if one.kind != "warning" and not one.unknown()]
-    refusals = ["\n".join(one.lines) for one in errors if "error in backend" not in one.text]
+    refusals = [in_words_of_build(one) or "\n".join(one.lines) for one in errors if "error in backend" not in one.text]
     is_broken = "error in backend" in said or not errors and not unknown_names(found)
     return refusals + ([breakdown(source, said)] if is_broken else [])
 

@@ -1,8 +1,8 @@
 /*
  * A feedback queue: tasks have levels. One that uses up its slice sinks by a level, where slices are longer
- * and whose turn comes when nobody waits above; one that goes to sleep rises by one. So a task that works
- * for a short time between sleeps goes before those that never sleep, and nobody has to say which is which.
- * The levels stand in one value of a map, a byte for each task, and so do the slices of the levels.
+ * and whose turn comes when no task waits above; one that goes to sleep rises by one. So a task that works
+ * for a short time between sleeps goes before those that never sleep: the policy finds out which is which.
+ * The levels are in one value of a map, a byte for each task, and so are the slices of the levels.
  */
 #include "scx.h"
 

@@ -13,7 +13,7 @@ typedef int s32;
 typedef long long s64;
 
 /*
- * A callback stands in a section that has its name:
+ * A callback is in a section that has its name:
  *
  *   SEC("init")       u64 NAME(void)
  *   SEC("enable")     void NAME(struct task *task)
@@ -25,9 +25,13 @@ typedef long long s64;
  *
  * By Linux rules also:
  *
- *   SEC("tick")       void NAME(struct task *task)
- *   SEC("runnable")   void NAME(struct task *task, u64 flags)
- *   SEC("quiescent")  void NAME(struct task *task, u64 flags)
+ *   SEC("tick")        void NAME(struct task *task)
+ *   SEC("dequeue")     void NAME(struct task *task, u64 flags)
+ *   SEC("runnable")    void NAME(struct task *task, u64 flags)
+ *   SEC("quiescent")   void NAME(struct task *task, u64 flags)
+ *   SEC("update_idle") void NAME(u64 cpu, u64 idle)
+ *   SEC("set_weight")  void NAME(struct task *task, u64 weight)
+ *   SEC("timer")       void NAME(u64 timer)
  *
  * NAME is free, but for the section's own name.
  */
@@ -60,7 +64,7 @@ struct task {
 /* By Linux rules alone, for which build --rules linux makes a policy. */
 #define SCX_ENQ_PREEMPT (1ull << 32)	/* in flags of an insert: the task that runs there loses its slice */
 #define SCX_ENQ_HEAD (1ull << 48)	/* in flags of an insert: at the front */
-#define SCX_KICK_IDLE 1ull		/* in flags of a kick: only if the processor is idle */
+#define SCX_KICK_IDLE 1ull		/* in flags of a kick: only if the CPU is idle */
 #define SCX_KICK_PREEMPT 2ull		/* in flags of a kick: the task that runs there loses its slice */
 
 /* The helpers, at their numbers. */
@@ -84,14 +88,24 @@ static u64 (*const task_running)(struct task *task) = (void *)1013;
 static u64 (*const task_cpu)(struct task *task) = (void *)1014;
 static s64 (*const pick_idle)(u64 mask, u64 flags) = (void *)1015;
 static s64 (*const claim_idle)(u64 cpu) = (void *)1016;
+static s64 (*const timer_start)(u64 timer, u64 ns) = (void *)1017;
+static s64 (*const timer_cancel)(u64 timer) = (void *)1018;
 
-/* Map NUMBER of the policy, counted from 0, has so many elements of that type. */
+/* Map NUMBER of the policy, counted from 0, with this number of values of that type. */
 #define DEFINE_MAP(number, entries, type) \
 	SEC("maps") static const u32 map_##number[3] = { number, entries, sizeof(type) }
 
-/* A task may wait so many milliseconds; where nothing is said, 30000. */
+/* The milliseconds that a task may wait; 30000 if nothing is said. */
 #define DEFINE_TIMEOUT(ms) \
 	SEC("timeout_ms") static const u32 policy_timeout = ms
+
+/* By Linux rules: the number of the policy's timers, which are counted from 0. */
+#define DEFINE_TIMERS(count) \
+	SEC("timers") static const u32 policy_timers = count
+
+/* By Linux rules: the host knows which CPUs are idle though there is update_idle. */
+#define DEFINE_KEEP_IDLE() \
+	SEC("keep_idle") static const u32 policy_keep_idle = 1
 
 /*
  * A reference to a map. The instruction is written in bytes, so no loader has to put the number in,

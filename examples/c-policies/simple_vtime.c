@@ -37,7 +37,7 @@ SEC("select_cpu") u64 vtime_select_cpu(struct task *task, u64 prev_cpu, u64 flag
 	return cpu;
 }
 
-/* A task waits by its virtual time, which is no more than a slice behind that of now. */
+/* A task waits by its virtual time, which is at least that of now less a slice. */
 SEC("enqueue") void vtime_enqueue(struct task *task, u64 flags)
 {
 	u64 *now = LOOKUP(NOW, 0);

@@ -1,6 +1,6 @@
 /*
- * As per_cpu, but a task that wakes goes to an idle processor, and a processor whose queue is empty takes from the
- * other one. The counts, for each processor, are those of tasks that were taken.
+ * As per_cpu, but a task that wakes goes to an idle CPU, and a CPU whose queue is empty takes from the
+ * other one. The counts, for each CPU, are those of tasks that were taken.
  */
 #include <scx/common.bpf.h>
 

@@ -1,6 +1,6 @@
 /*
- * One processor decides for two: enqueue puts no task anywhere; dispatch on processor 0 hands them out, one to each.
- * The pids of those who wait stand in a ring. For tasks that never sleep.
+ * One CPU decides for two: enqueue puts no task anywhere; dispatch on CPU 0 hands them out, one to each.
+ * The pids of waiting tasks are in a ring. For tasks that never sleep.
  */
 #include <scx/common.bpf.h>
 

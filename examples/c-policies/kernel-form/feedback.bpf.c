@@ -1,6 +1,6 @@
 /*
  * A feedback queue: a task that uses up its slice sinks by a level, where slices are longer and whose turn comes when
- * nobody waits above; one that goes to sleep rises by one.
+ * no task waits above; one that goes to sleep rises by one.
  * Built with --set tasks=4.
  */
 #include <scx/common.bpf.h>

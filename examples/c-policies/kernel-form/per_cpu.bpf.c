@@ -1,4 +1,4 @@
-/* A queue for each of two processors: a task waits in that of the processor on which it ran last. */
+/* A queue for each of two CPUs: a task waits in that of the CPU on which it ran last. */
 #include <scx/common.bpf.h>
 
 char _license[] SEC("license") = "GPL";
@@ -25,7 +25,7 @@ s32 BPF_STRUCT_OPS_SLEEPABLE(per_cpu_init)
 	bpf_for(cpu, 0, CPUS) {
 		error = scx_bpf_create_dsq(cpu, -1);
 		if (error) {
-			scx_bpf_error("no queue for processor %d: %d", cpu, error);
+			scx_bpf_error("no queue for CPU %d: %d", cpu, error);
 			return error;
 		}
 	}

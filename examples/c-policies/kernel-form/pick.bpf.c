@@ -1,5 +1,5 @@
 /*
- * Tasks in the order in which they come, 2 ms at a time; one that wakes gets an idle processor by a kick, if there is one.
+ * Tasks in the order in which they come, 2 ms at a time; one that wakes gets an idle CPU by a kick, if there is one.
  * By Linux rules alone. Runs as linux/pick.toml.
  */
 #include <scx/common.bpf.h>

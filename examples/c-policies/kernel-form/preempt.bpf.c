@@ -1,5 +1,5 @@
 /*
- * Tasks in the order in which they come, 20 ms at a time; one that wakes takes the processor from the one that runs.
+ * Tasks in the order in which they come, 20 ms at a time; one that wakes takes the CPU from the one that runs.
  * By Linux rules alone. Runs as linux/preempt.toml.
  */
 #include <scx/common.bpf.h>

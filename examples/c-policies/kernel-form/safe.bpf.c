@@ -1,4 +1,4 @@
-/* A long slice where nobody waits, and a short one where somebody does. */
+/* A long slice if no task waits, and a short one if one does. */
 #include <scx/common.bpf.h>
 
 char _license[] SEC("license") = "GPL";

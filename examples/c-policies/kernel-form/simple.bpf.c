@@ -1,6 +1,6 @@
 /*
- * Tasks in the order in which they come, from one queue; one that wakes goes to an idle processor at once. With the
- * names of Linux 6.12, and a count for each processor.
+ * Tasks in the order in which they come, from one queue; one that wakes goes to an idle CPU at once. With the
+ * names of Linux 6.12, and a count for each CPU.
  */
 #include <scx/common.bpf.h>
 

@@ -1,5 +1,5 @@
 /*
- * A task that has run goes back to where it was; one that never ran goes to an idle processor.
+ * A task that has run goes back to where it was; one that never ran goes to an idle CPU.
  * Built with --set cpus=2.
  */
 #include <scx/common.bpf.h>

@@ -54,6 +54,11 @@ class Types:
     def of_variable(self, name):
         return next((size for kind, text, size, _ in self.all if kind == VARIABLE and text == name), None)
 
+    def is_integer(self, name):
+        """Whether a variable is an integer."""
+        number = self.of_variable(name)
+        return number is not None and self.plain(number)[0] == INTEGER
+
     def members(self, number):
         return self.plain(number)[3]
 

@@ -1,11 +1,16 @@
 """Turns a callback of the kernel's form into one of the host's, instruction by instruction."""
 from . import names, slots
+from .addresses import variable_addresses
+from .all_cpus import follow_masks
+from .copies import Copies, tested
 from .globals import holds_variables
 from .registers import Registers
+from .timers import numbers_of_timers
 
 VARIABLES = 0	# the map that has them, if any does
 SIGNED_LOAD = 0x81	# of 32 bits, from version 4 on; of a task the host takes unsigned loads alone
 ACCESSES = (0x61, 0x62, 0x63, 0x69, 0x6a, 0x6b, 0x71, 0x72, 0x73, 0x79, 0x7a, 0x7b, SIGNED_LOAD)
+KEEPS = (0x63, 0x7b)	# stores of 4 and 8 bytes
 CPU_AT_HAND = "bpf_get_smp_processor_id"
 NEVER_THERE = (1 << 63) + 16	# the number of a queue that no policy can have; that of message 0
 
@@ -45,7 +50,7 @@ def go_on_if_zero(target, place, rules):
     """Behind init_task: enable comes next if it answered 0. Else the policy is refused, as in a kernel: by Linux rules with
     that answer, by plain rules by a call with a fault."""
     jump = slots.Instruction(0x16, 0, 0, 0, 0, place, target)
-    with_answer = [slots.move(1, 0), slots.move_number(2, 0), slots.call(1010)]
+    with_answer = [slots.move(1, 0), *slots.sign_extended(1), slots.move_number(2, 0), slots.call(1010)]
     with_fault = [slots.wide_number(1, 1 << 63), slots.call(1008)]
     failed = [*(with_answer if rules == "linux" else with_fault), slots.Instruction(slots.EXIT)]
     return [jump, *slots.noted("init_task didn't answer 0, so the policy is refused", failed)]
@@ -64,13 +69,19 @@ class Callback:
         self.globals_cell = self.cell() if self.uses_globals else None
         self.task_cell = self.cell() if has_init_task else None
         self.first_cell = self.cell() if self.asks_for_cpu() and name != "init" else None
+        self.key_cell = self.cell() if name == "init" and policy.timers else None
+        self.pid_cell = None
         wants_arguments = has_init_task and reads_second_argument([one for one, _ in self.read[0]])
         self.arguments_cell = self.cells(2) if wants_arguments else None
-        if self.used > 512:
-            self.refuse(instructions[0], f"{self.used} bytes of stack are wanted, with those for the address of the variables; there are 512")
+        if instructions:
+            self.look_at_stack(instructions[0])
 
     def refuse(self, one, text):
         self.policy.refuse(f"{one.place}: {self.name}: {text}")
+
+    def look_at_stack(self, one):
+        if self.used > 512:
+            self.refuse(one, f"{self.used} bytes of stack are wanted, with those for the address of the variables; there are 512")
 
     def cell(self):
         """Eight bytes below all that is used, as their distance below r10."""
@@ -90,14 +101,23 @@ class Callback:
         read, loop = slots.forward(read)
         if loop:
             self.refuse(loop, "a loop that clang didn't write out: take bpf_for or bpf_repeat, or a constant number of rounds")
-        registers = Registers(self.name, [one for one, _ in read])
+        instructions = [one for one, _ in read]
+        registers, copies, variables = Registers(self.name, instructions), Copies(instructions), variable_addresses(read)
+        masks = {at for at, one in enumerate(instructions) if one.code == 0x79 and self.field_name(one) == "cpus_ptr"}
         for at, (one, symbol) in enumerate(read):
-            changed.append(self.instead(one, symbol, registers.tasks(at)))
+            others, tasks = copies.of_tested(one, at), registers.tasks(at)
+            if others:
+                changed.append(tested(one, others))
+            elif one.code in KEEPS and one.src in tasks and self.is_number(variables[at].get(one.dst), one.offset):
+                changed.append(self.kept_pid(one))
+            else:
+                changed.append(self.instead(one, symbol, tasks))
             for new in changed[-1]:
                 new.place = one.place
             if is_error(one, symbol):
                 changed[-1] = slots.noted(self.message_before(changed, [one.target for one, _ in read], at), changed[-1])
-        return changed
+        targets = {one.target for one in instructions if one.target is not None}
+        return follow_masks(changed, targets, masks, names.CONSTANTS["cpus_ptr"][0]) if masks else changed
 
     def message_before(self, lists, targets, at):
         """The message of a call of scx_bpf_error: that in r1, as far back as only one way leads."""
@@ -127,13 +147,18 @@ class Callback:
             return self.address(one, symbol)
         if one.code == slots.CALL and (symbol or one.src == 1):
             return self.kernel_call(one, symbol)
+        if one.code == slots.CALL and one.number == names.KICK and self.name in names.WITHOUT_KICKS:
+            self.policy.warn(f"{one.place}: warning: scx_bpf_kick_cpu in {self.name} is left out: no task runs or waits yet", f"kick in {self.name}")
+            return [slots.move_number(0, 0)]
         if one.code == slots.GOTO and one.target is None:
             return self.note(one)
         if one.code in slots.ATOMIC:
-            self.refuse(one, "an atomic operation: of these __sync_fetch_and_add is here; write a load, arithmetic and a store")
+            self.refuse(one, "an atomic operation on a type: call a function, as __sync_fetch_and_add")
         if one.code in ACCESSES or one.code == 0x07 and one.dst in tasks:
             return self.field(one)
-        if one.code == slots.EXIT and self.name in names.ANSWERED:
+        if one.code == slots.EXIT and self.name == "init":
+            return [*slots.sign_extended(0), one]	# a kernel takes 32 bits
+        if one.code == slots.EXIT and self.name == "select_cpu":
             return [slots.Instruction(0xbc, 0, 0), one]	# w0 = w0, as a kernel takes 32 bits
         return [one]
 
@@ -151,6 +176,9 @@ class Callback:
             return [slots.load(one.dst, 10, -self.globals_cell), slots.add_number(one.dst, start)]
         else:
             function = self.policy.function_at(symbol, one.number)
+            if function in self.policy.timer_functions:
+                number = self.policy.number_of_function(function)
+                return slots.noted(f"the number of {function.name}", [slots.wide_number(one.dst, number)])
             self.refuse(one, f"the address of '{function.name}': nothing here calls a function that it is given")
         return [one]
 
@@ -161,7 +189,7 @@ class Callback:
         if symbol and symbol.section is None and name in names.HELPERS:
             return [slots.call(names.HELPERS[name])]
         if symbol and symbol.section is None:
-            self.refuse(one, f"{names.SHOWN.get(name, name)} isn't here: {names.advice_for(name)}")
+            self.refuse(one, f"{names.SHOWN.get(name, name)} isn't here: {names.advice_for(name, names.in_file(self.policy.source))}")
         else:
             self.refuse(one, "a call of a function that clang didn't put in its place; declare it 'static __always_inline'")
         return [one]
@@ -179,6 +207,27 @@ class Callback:
             said = names.NOTES[one.number].format(rounds=self.policy.rounds)
             self.policy.warn(f"{one.place}: warning: {said}", one.number)
         return []
+
+    def is_number(self, variable, distance):
+        """Whether a store at a distance from a symbol is one to a variable that is a number."""
+        if variable is None:
+            return False
+        symbol, start = variable[0], variable[0].value + variable[1] + distance
+        found = next((one for one in self.policy.elf.objects_in(symbol.section) if one.value == start), None)
+        return found is not None and self.policy.types.is_integer(found.name)
+
+    def kept_pid(self, one):
+        """Keeps the pid of a task, or 0, where the C keeps its address as a number."""
+        self.policy.warn(f"{one.place}: warning: the address of a task that is kept as a number is its pid", "address of a task")
+        self.pid_cell = self.pid_cell or self.cell()
+        self.look_at_stack(one)
+        pid = [slots.Instruction(0x15, one.src, 0, 1, 0), slots.Instruction(0x61, one.src, one.src, names.FIELDS["pid"])]
+        return [slots.store(10, -self.pid_cell, one.src), *pid, one, slots.load(one.src, 10, -self.pid_cell)]
+
+    def field_name(self, one):
+        """The name of the field of a task that an instruction loads or stores, or None."""
+        found = self.policy.field_at(one.offset)
+        return found and found[0]
 
     def field(self, one):
         """A load, a store, or a sum that may make the address of a field."""
@@ -226,6 +275,8 @@ class Callback:
             if self.name == "init":
                 before += slots.noted("by build: values of variables at the start", self.policy.globals.stores())
             before += slots.noted("by build: the arguments again", [slots.move(1 + at, 6 + at) for at in range(count)])
+        if self.key_cell:
+            before += slots.noted("by build: the numbers of timers", list(numbers_of_timers(self.policy, self.key_cell)))
         if self.first_cell:
             before += slots.noted("by build: keeps the first argument", [slots.store(10, -self.first_cell, 1)])
         if self.arguments_cell:

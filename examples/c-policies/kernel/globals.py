@@ -1,7 +1,7 @@
 """Variables of a policy as one element of a map, and their values at the start."""
 import struct
 
-from . import slots
+from . import names, slots
 
 GREATEST = 4096		# bytes of an element
 
@@ -32,7 +32,8 @@ class Globals:
         """Another value at the start. Answers why there can't be one, or None."""
         symbol = next((one for one in self.variables() if one.name == name), None)
         if symbol is None:
-            return f"--set {name}: no such variable, or none that clang kept; declare it 'const volatile'"
+            likely = names.likely(name, [one.name for one in self.variables()], "declare it 'const volatile'")
+            return f"--set {name}: no such variable, or none that clang kept; {likely}"
         if symbol.size not in (1, 2, 4, 8) or not -(1 << 8 * symbol.size - 1) <= number < 1 << 8 * symbol.size:
             return f"--set {name}: {number} is no number of {symbol.size} bytes"
         value = (number % (1 << 8 * symbol.size)).to_bytes(symbol.size, "little")

@@ -11,6 +11,7 @@ from .policy import Policy
 PLACE = "running"	# the callback in whose place it is verified
 STRUCT = 8		# cells of a struct
 TASK_BY_PID = 1007
+CREATE_DSQ, NR_QUEUED = 1001, 1008	# both take a number and answer one
 
 
 class OfLeftOut(Callback):
@@ -29,6 +30,11 @@ class OfLeftOut(Callback):
         for register, kind in enumerate(self.arguments, 1):
             before += self.argument(register, kind)
         return before
+
+    def instead(self, one, symbol, tasks):
+        if one.code == slots.CALL and symbol is None and one.number == CREATE_DSQ and self.policy.member in names.SLEEPING:
+            one.number = NR_QUEUED
+        return super().instead(one, symbol, tasks)
 
     def argument(self, register, kind):
         if kind == "struct":

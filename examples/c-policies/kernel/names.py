@@ -7,9 +7,11 @@ from functools import lru_cache
 FOLDER = os.path.dirname(os.path.dirname(os.path.realpath(__file__)))
 
 CALLBACKS = {"init": 0, "enable": 1, "select_cpu": 3, "enqueue": 2, "dispatch": 2, "running": 1, "stopping": 2,
-             "tick": 1, "runnable": 2, "quiescent": 2}
-OF_LINUX = ("tick", "runnable", "quiescent")	# callbacks that plain rules don't have
-ANSWERED = ("init", "select_cpu")
+             "tick": 1, "dequeue": 2, "runnable": 2, "quiescent": 2, "update_idle": 2, "set_weight": 2, "timer": 1}
+# Callbacks that plain rules don't have.
+OF_LINUX = ("tick", "dequeue", "runnable", "quiescent", "update_idle", "set_weight", "timer")
+KICK, WITHOUT_KICKS = 1009, ("init", "enable")	# nothing runs yet in these callbacks
+TIMERS = 16	# the most of a policy
 
 # Callbacks that no run here would call, and why.
 LEFT_OUT = {
@@ -19,17 +21,17 @@ LEFT_OUT = {
     "dump_task": "the trace says what the policy did",
     "exit_task": "tasks stay to the end of the workload",
     "disable": "tasks stay to the end of the workload",
-    "set_cpumask": "each task may run on all processors",
+    "set_cpumask": "each task may run on all CPUs",
     "cgroup_exit": "groups stay to the end of the workload",
     "cgroup_prep_move": "a task stays in its group",
     "cgroup_move": "a task stays in its group",
     "cgroup_cancel_move": "a task stays in its group",
-    "cpu_acquire": "no other scheduler takes a processor",
-    "cpu_release": "no other scheduler takes a processor",
-    "cpu_online": "processors stay",
-    "cpu_offline": "processors stay",
+    "cpu_acquire": "no other scheduler takes a CPU",
+    "cpu_release": "no other scheduler takes a CPU",
+    "cpu_online": "CPUs stay",
+    "cpu_offline": "CPUs stay",
     "yield": "tasks here don't yield",
-    "core_sched_before": "processors here have no siblings",
+    "core_sched_before": "CPUs here have no siblings",
     "cgroup_set_bandwidth": "the host keeps to cpu_max by itself",
     "cgroup_set_idle": "groups here are never idle ones",
 }
@@ -52,14 +54,17 @@ ARGUMENTS = {
     "core_sched_before": ["task", "task"],
 }
 
+# Of these, in a kernel, some may make queues.
+SLEEPING = ("exit", "cpu_online", "cpu_offline")
+
 # What to write instead of a callback that isn't here.
 NO_CALLBACK = {
-    "dequeue": "a task that sleeps is taken from its queue by the host; keep no list of tasks of your own",
+    "dequeue": "by plain rules the host takes a task that sleeps from its queue; Linux rules have it",
     "tick": "by plain rules give shorter slices; Linux rules have it",
     "runnable": "by plain rules do it in enqueue, whose flags are 1 after a wake; Linux rules have it",
     "quiescent": "by plain rules do it in stopping, where runnable is 0; Linux rules have it",
-    "set_weight": "read p->scx.weight where it is used",
-    "update_idle": "ask in select_cpu or enqueue, by scx_bpf_select_cpu_dfl",
+    "set_weight": "by plain rules read p->scx.weight where it is used; Linux rules have it",
+    "update_idle": "by plain rules ask in select_cpu or enqueue, by scx_bpf_select_cpu_dfl; Linux rules have it",
     "cgroup_init": "an array map by p->group, the number of the task's group in the workload",
     "cgroup_set_weight": "read p->scx.weight where it is used: it follows the weights of the groups",
 }
@@ -69,13 +74,13 @@ FLAGS = ["SCX_OPS_KEEP_BUILTIN_IDLE", "SCX_OPS_ENQ_LAST", "SCX_OPS_ENQ_EXITING",
          "SCX_OPS_ENQ_MIGRATION_DISABLED", "SCX_OPS_ALLOW_QUEUED_WAKEUP", "SCX_OPS_BUILTIN_IDLE_PER_NODE"]
 FLAGS += [f"flag {bit}" for bit in range(7, 16)] + ["SCX_OPS_HAS_CGROUP_WEIGHT"]
 FLAGS_OF_NO_MEANING = {
-    "SCX_OPS_KEEP_BUILTIN_IDLE": "the host always knows which processors are idle",
+    "SCX_OPS_KEEP_BUILTIN_IDLE": "the host always knows which CPUs are idle",
     "SCX_OPS_ENQ_LAST": "a task to whom nobody comes goes on by itself, and enqueue isn't called for it",
     "SCX_OPS_ENQ_EXITING": "tasks stay to the end of the workload",
     "SCX_OPS_SWITCH_PARTIAL": "all tasks of a workload are under the policy",
-    "SCX_OPS_ENQ_MIGRATION_DISABLED": "each task may run on all processors",
+    "SCX_OPS_ENQ_MIGRATION_DISABLED": "each task may run on all CPUs",
     "SCX_OPS_ALLOW_QUEUED_WAKEUP": "a wake is one step",
-    "SCX_OPS_BUILTIN_IDLE_PER_NODE": "all processors are alike",
+    "SCX_OPS_BUILTIN_IDLE_PER_NODE": "all CPUs are alike",
     "SCX_OPS_HAS_CGROUP_WEIGHT": "p->scx.weight follows the weights of the groups",
 }
 
@@ -97,10 +102,10 @@ def said(table, name, rules):
 HELPERS = {"scx_bpf_error": 1008, "scx_bpf_exit": 1010}
 
 NOTES = {
-    1: "__sync_fetch_and_add is a plain addition, since no other callback runs beside this one",
+    1: "an atomic function is a load, arithmetic and a store, since no other callback runs beside this one",
     2: "bpf_spin_lock is nothing, since no other callback runs beside this one",
-    3: "scx_bpf_kick_cpu is nothing, since an idle processor looks for a task each millisecond",
-    4: "scx_bpf_test_and_clear_cpu_idle asks and claims nothing: the processor is idle for the next who asks, too",
+    3: "scx_bpf_kick_cpu is nothing, since an idle CPU looks for a task each millisecond",
+    4: "scx_bpf_test_and_clear_cpu_idle asks and claims nothing: the CPU is idle for the next who asks, too",
     5: "task storage is an array by pid: it is there for each task from the start, as zeros",
     7: "printk and dump are left out: scxsim run writes what the policy does",
     8: "the mask of a task has all CPUs, and an idle one isn't claimed: it is idle for the next who asks, too",
@@ -110,16 +115,19 @@ NOTES = {
     12: "scx_bpf_dispatch_nr_slots is 32: dispatch inserts at once, as many tasks as it likes",
     13: "by plain rules scx_bpf_exit ends the policy as scx_bpf_error does, by a fault; Linux rules keep its code",
     14: "the mask of a task has all CPUs",
+    15: "scx_bpf_dsq_nr_queued of a CPU's own queue is 0: the host counts queues of the policy alone",
+    16: "SCX_KICK_WAIT is nothing: what is kicked looks as the event ends, which takes no time",
+    17: "tasks have no names here: p->comm is compared as an empty text",
 }
 NOTE_ERROR = 6
 ROUNDS = 8	# of a loop whose bounds aren't constant
 
 NOT_HERE = [
     ("bpf_map_delete_elem", "write zeros into the element"),
-    ("bpf_map_lookup_percpu_elem", "use a map of type ARRAY, with an index for each processor"),
+    ("bpf_map_lookup_percpu_elem", "use a map of type ARRAY, with an index for each CPU"),
     ("bpf_task_storage_delete", "write zeros into the element"),
     ("bpf_cgrp_storage_get", "an array map by p->group, the number of the task's group in the workload"),
-    ("bpf_timer_.*", "there are no timers; do it in a callback, by scx_bpf_now()"),
+    ("bpf_timer_.*", "by plain rules do it in a callback, by scx_bpf_now(); Linux rules have timers"),
     ("bpf_loop", "bpf_for or bpf_repeat"),
     ("bpf_for_each|bpf_iter_scx_dsq_.*", "queues can't be looked through; use queues of their own, or one by virtual time"),
     ("bpf_get_current_task.*", "the task that the callback is given"),
@@ -129,48 +137,60 @@ NOT_HERE = [
     ("scx_bpf_task_cgroup|bpf_cgroup_.*", "p->group, the number of the task's group in the workload"),
     ("scx_bpf_destroy_dsq", "queues stay"),
     ("scx_bpf_dispatch_cancel", "dispatch inserts at once, as many tasks as it likes"),
-    ("scx_bpf_dsq_move.*", "scx_bpf_dsq_move_to_local, or hold tasks in enqueue and insert them in dispatch"),
+    ("scx_bpf_dsq_move.*|scx_bpf_dispatch(_vtime)?_from_dsq.*", "use scx_bpf_dsq_move_to_local, or hold tasks in enqueue and insert them in dispatch"),
     ("scx_bpf_dsq_peek", "by plain rules ask scx_bpf_dsq_nr_queued; Linux rules have it"),
     ("scx_bpf_pick_.*|bpf_cpumask_(test_cpu|first|empty|weight)", "say how many there are, as build --set cpus=4"),
-    ("bpf_cpumask.*", "each task may run on all processors; scx_bpf_select_cpu_dfl finds an idle one"),
+    ("bpf_cpumask.*", "each task may run on all CPUs; scx_bpf_select_cpu_dfl finds an idle one"),
     ("scx_bpf_task_running", "by plain rules keep it in a variable, which running and stopping write; Linux rules have it"),
     ("scx_bpf_cpu_curr", "by plain rules keep the pid in an array, which running and stopping write; Linux rules have it"),
     ("scx_bpf_cpu_rq", "the current task is scx_bpf_cpu_curr by Linux rules; else keep the pid in an array, which running writes"),
-    ("scx_bpf_cpuperf_.*", "processors are all as fast"),
+    ("scx_bpf_cpuperf_.*", "CPUs are all as fast"),
     ("scx_bpf_kick_cpu_with_flags", "by plain rules nothing stops a task before its slice ends: take --rules linux, or give shorter slices"),
-    ("scx_bpf_kick_cpu_and_wait", "no CPU waits for another; leave the flag out"),
     ("scx_bpf_nr_cpu_ids", "say how many there are, as build --set cpus=4"),
-    ("scx_bpf_reenqueue_local", "tasks stay in the queue of a processor"),
+    ("scx_bpf_reenqueue_local", "tasks stay in the queue of a CPU"),
     ("bpf_strncmp", "tasks have no names here; p->pid is the number in the workload"),
+    ("PF_IDLE", "an idle CPU has no task here, and scx_bpf_cpu_curr is NULL for it"),
     ("SCX_ENQ_(HEAD|PREEMPT)", "by plain rules inserts go to the end of a queue, and nothing stops a task before its slice ends; take --rules linux"),
 ]
 
 
-
 @lru_cache(None)
+def in_file(path):
+    """The names in a file."""
+    with open(path, errors="replace") as file:
+        return sorted(set(re.findall(r"\b[A-Za-z_]\w{3,}\b", file.read())))
+
+
 def of_header(header):
     """The names in a header of this project."""
-    for path in (os.path.join(FOLDER, header), os.path.join(FOLDER, "include", header)):
-        if os.path.exists(path):
-            with open(path) as file:
-                return sorted(set(re.findall(r"\b[A-Za-z_]\w{3,}\b", file.read())))
-    return []
+    paths = [os.path.join(folder, header) for folder in (FOLDER, os.path.join(FOLDER, "include"))]
+    return next((in_file(path) for path in paths if os.path.exists(path)), [])
 
 
-def likely(name, known):
+def is_slip(name, other):
+    """True if one letter is missing, added or another, or two letters have changed places."""
+    start = len(os.path.commonprefix([name, other]))
+    end = len(os.path.commonprefix([name[start:][::-1], other[start:][::-1]]))
+    left, right = name[start:len(name) - end], other[start:len(other) - end]
+    return left != right and (len(left) < 2 > len(right) or len(left) == 2 and left == right[::-1])
+
+
+def likely(name, known, otherwise="the host has nothing like it"):
     """What may be meant by a name that isn't known."""
     close = difflib.get_close_matches(name, known, 1, 0.8)
-    return f"did you mean {close[0]}?" if close else "the host has nothing like it"
+    return f"did you mean {close[0]}?" if close else otherwise
 
 
-def advice_for(name):
-    """What to write in place of a function or a number of the kernel that isn't here."""
+def advice_for(name, more=()):
+    """What to write in place of a name of the kernel that isn't here; it may be a slip for a name of the source, too."""
+    known = [one for one in [*of_header("scx/common.bpf.h"), *more] if one != name]
+    here = [one for one in known if not any(re.fullmatch(form, one) for form, _ in NOT_HERE)]
+    slips = [one for one in known if is_slip(name, one)]
     advice = next((advice for form, advice in NOT_HERE if re.fullmatch(form, name)), None)
-    here = [one for one in of_header("scx/common.bpf.h") if not any(re.fullmatch(form, one) for form, _ in NOT_HERE)]
-    return advice or likely(name, [one for one in here if one != name])
+    return advice if advice and not slips else likely(name, slips or here)
 
 
-SHOWN = {"scx_bpf_kick_cpu_with_flags": "scx_bpf_kick_cpu with these flags", "scx_bpf_kick_cpu_and_wait": "scx_bpf_kick_cpu with SCX_KICK_WAIT"}
+SHOWN = {"scx_bpf_kick_cpu_with_flags": "scx_bpf_kick_cpu with these flags"}
 
 # Fields of a task, at the host's offsets. Notes are of plain rules.
 FIELDS = {"pid": 0, "scx.weight": 4, "scx.slice": 8, "scx.dsq_vtime": 16, "thread_info.cpu": 24, "group": 28, "se.sum_exec_runtime": 32}
@@ -178,11 +198,11 @@ FIRST_FIELD = 16384
 MEMBERS = ["pid", "scx", "weight", "slice", "dsq_vtime", "se", "sum_exec_runtime", "group", "flags"]
 CONSTANTS = {
     "flags": (0, "a workload has no kernel threads, and its tasks stay to the end"),
-    "migration_disabled": (0, "each task may run on all processors"),
-    "cpus_ptr": (1, "each task may run on all processors"),
+    "migration_disabled": (0, "each task may run on all CPUs"),
+    "cpus_ptr": (1, "each task may run on all CPUs"),
 }
 FIELD_NOTES = {
-    "scx.weight": "the task's part of the processor time, 10000 for all of it; in a kernel 100 is that of any task",
+    "scx.weight": "the task's part of the CPU time, 10000 for all of it; in a kernel 100 is that of any task",
 }
 NO_FIELD = {
     "nr_cpus_allowed": "say how many there are, as build --set cpus=4",

@@ -8,6 +8,8 @@ from .btf import Types, read_lines
 from .callback import Callback, NEVER_THERE
 from .elf import FUNCTION, Elf, text_at
 from .globals import GREATEST, Globals, holds_variables
+from .timer_callback import OfTimers
+from .timers import FIRST_FUNCTION, TimerMap, timer_offset
 from listing import tables, with_text
 
 PARTS = {"enable": ["init_task", "enable"]}
@@ -26,13 +28,14 @@ class Policy:
 
     header = "scx/common.bpf.h"
 
-    def __init__(self, source, data, settings, rules):
-        self.source, self.settings, self.rules = source, dict(settings), rules
+    def __init__(self, source, data, settings, rules, ops=None):
+        self.source, self.settings, self.rules, self.ops = source, dict(settings), rules, ops
         self.refusals, self.warnings, self.warned = [], [], set()
         self.elf = Elf(data)
         self.messages, self.maps, self.callbacks, self.instructions = [], [], {}, {}
         self.name, self.timeout, self.has_enq_last = "", 0, False
         self.left_out = {}
+        self.keeps_idle, self.timers, self.timer_functions = False, [], []
         self.cpus = self.settings.pop("cpus", None)
         self.tasks = self.settings.pop("tasks", names.TASKS)
         self.rounds = self.settings.pop("loops", names.ROUNDS)
@@ -69,26 +72,68 @@ class Policy:
             return
         functions = self.read_ops(ops)
         self.look_at_sections(functions)
-        for function in functions.values():
-            for _, symbol in self.read_function(function):
-                if symbol and symbol.section and holds_variables(symbol.section):
-                    self.globals.add(symbol.section)
+        self.find_timers()
+        self.follow([*functions.values()])
         if self.globals.size > GREATEST:
             self.refuse(f"{self.source}: variables of {self.globals.size} bytes; an element of a map holds {GREATEST}: put arrays into a map")
         else:
             self.translate(functions)
 
+    def follow(self, functions):
+        """Finds the variables that functions use, and the functions that timers get, whose variables count too."""
+        for function in functions:
+            for one, symbol in self.read_function(function):
+                if symbol and symbol.section and holds_variables(symbol.section):
+                    self.globals.add(symbol.section)
+                elif self.timers and symbol and one.code == slots.WIDE and symbol.section and symbol.section.name != ".maps":
+                    found = self.function_at(symbol, one.number)
+                    if found.kind == FUNCTION and found not in self.timer_functions:
+                        self.timer_functions.append(found)
+                        functions.append(found)
+
+    def find_timers(self):
+        """Gives the elements of maps that are timers their numbers."""
+        section = self.elf.named(".maps")
+        for symbol in self.elf.objects_in(section) if section and self.rules == "linux" else []:
+            pointed, numbers = self.said_of_map(symbol)
+            offset = timer_offset(self.types, pointed.get("value", 0))
+            if offset is None:
+                continue
+            first, place, entries = sum(one.count for one in self.timers), self.place_of_text(symbol.name), numbers.get("max_entries", 0)
+            if names.MAP_KINDS.get(numbers.get("type")) != "ARRAY" or first + entries > names.TIMERS:
+                self.refuse(f"{place}: {symbol.name}: timers are in values of array maps, and a policy has {names.TIMERS} of them at most")
+            else:
+                self.timers.append(TimerMap(symbol, first, entries, offset))
+
+    def said_of_map(self, symbol):
+        """What the definition of a map says: its types and its numbers, by their names."""
+        types = self.types
+        pointed = {name: types.plain(of)[2] for name, of, _ in types.members(types.of_variable(symbol.name))}
+        return pointed, {name: types.plain(of)[3][0][2] for name, of in pointed.items() if types.plain(of)[0] == 3}
+
+    def number_of_function(self, function):
+        return FIRST_FUNCTION + self.timer_functions.index(function)
+
     # What the policy is.
 
     def find_ops(self):
         found = [one for section in self.elf.sections if section.name in (".struct_ops", ".struct_ops.link") for one in self.elf.objects_in(section)]
-        if len(found) == 1:
-            return found[0]
+        if other := next((one for one in found if self.type_of(one) != "sched_ext_ops"), None):
+            self.refuse(f"{self.place_of_text(other.name)}: {other.name} is no policy of sched_ext, but a {self.type_of(other)}")
+            return None
+        chosen = [one for one in found if self.ops in (None, one.name)]
+        if len(chosen) == 1:
+            return chosen[0]
         if found:
-            self.refuse(f"{self.place_of_text(found[1].name)}: {' and '.join(one.name for one in found)} are both struct_ops; build makes one policy of a file")
+            last = self.place_of_text(found[-1].name)
+            self.refuse(f"{last}: {' and '.join(one.name for one in found)} are struct_ops; build makes one policy of a file: say which, as --ops {found[0].name}")
         else:
             self.refuse(f"{self.source}: no struct_ops: SCX_OPS_DEFINE says which function is which callback")
         return None
+
+    def type_of(self, ops):
+        """The name of the type of a struct_ops."""
+        return self.types.plain(self.types.of_variable(ops.name))[1]
 
     def read_ops(self, ops):
         """The functions that are callbacks here, by their names."""
@@ -103,7 +148,7 @@ class Policy:
                 self.take_name(ops, text_at(content + b"\0", offset))
             else:
                 number = int.from_bytes(content[offset:offset + self.types.size(of)], "little")
-                self.take_number(ops, member, number)
+                self.take_number(ops, functions, member, number)
         if self.has_enq_last and "enqueue" not in functions:
             self.refuse(f"{self.place_of_text(ops.name)}: flags: SCX_OPS_ENQ_LAST wants enqueue, as in a kernel")
         return functions
@@ -138,7 +183,7 @@ class Policy:
         elif name:
             self.warn(f"{self.place_of_text(ops.name)}: warning: the name {quoted(name)} is left out: here it has 1 to 16 characters, a to z, 0 to 9 and _, a letter first")
 
-    def take_number(self, ops, member, number):
+    def take_number(self, ops, functions, member, number):
         place = self.place_of_text(ops.name)
         if member == "timeout_ms":
             self.timeout = number
@@ -148,7 +193,9 @@ class Policy:
         for bit in range(64):
             if member == "flags" and number >> bit & 1:
                 name = names.FLAGS[bit] if bit < len(names.FLAGS) else f"flag {bit}"
-                if name in names.FLAGS_OF_NO_MEANING:
+                if name == "SCX_OPS_KEEP_BUILTIN_IDLE" and "update_idle" in functions:
+                    self.keeps_idle = True
+                elif name in names.FLAGS_OF_NO_MEANING:
                     self.warn(f"{place}: warning: {name} means nothing here: {names.said(names.FLAGS_OF_NO_MEANING, name, self.rules)}")
                 else:
                     self.refuse(f"{place}: flags: {name} isn't here")
@@ -160,7 +207,9 @@ class Policy:
             if one.kind != FUNCTION or one.section is None or one.section.name == ".text":
                 continue
             is_callback = one.section.name.startswith("struct_ops")
-            if one.section.name in FOR_USER_SPACE:
+            if not is_callback and does_nothing(one):
+                self.warn(f"{self.place_of_text(one.name)}: warning: '{one.name}' is in the section {one.section.name}, and left out: it does nothing")
+            elif one.section.name in FOR_USER_SPACE:
                 self.warn(f"{self.place_of_text(one.name)}: warning: '{one.name}' is in the section {one.section.name}, and left out: nothing here runs it")
             elif not is_callback:
                 self.refuse(f"{self.place_of_text(one.name)}: '{one.name}' is in the section {one.section.name}, which nothing here would run")
@@ -204,6 +253,11 @@ class Policy:
     def place(self, callback, slot):
         one = self.instruction_at(callback, slot)
         return f"{one.place if one and one.place else self.source}: {callback}"
+
+    def note(self, callback, slot):
+        """Why build wrote an instruction, or the message of scx_bpf_error; nothing if it is clang's alone."""
+        one = self.instruction_at(callback, slot)
+        return one.note if one else ""
 
     def comment(self, callback, slot):
         """What an instruction is for: its line of C, or why build wrote it."""
@@ -258,17 +312,22 @@ class Policy:
 
     def map_number(self, symbol, one):
         start = symbol.value + (one.number if symbol.kind != 1 else 0)
-        found = next((each for each in self.elf.objects_in(symbol.section) if each.value == start), symbol)
+        return self.number_of_map(next((each for each in self.elf.objects_in(symbol.section) if each.value == start), symbol))
+
+    def number_of_map(self, found):
         if found.name not in [name for name, _, _ in self.maps]:
             self.maps.append((found.name, *self.read_map(found)))
         return [name for name, _, _ in self.maps].index(found.name) + (self.globals.size > 0)
 
+    def name_of_map(self, number):
+        """The name of a map, as words that follow its number."""
+        known = ["the variables"] * (self.globals.size > 0) + [name for name, _, _ in self.maps]
+        return f" ({known[number]})" if number < len(known) else ""
+
     def read_map(self, symbol):
         """How many elements a map has, and of how many bytes."""
         types, place = self.types, self.place_of_text(symbol.name)
-        members = {name: of for name, of, _ in types.members(types.of_variable(symbol.name))}
-        pointed = {name: types.plain(of)[2] for name, of in members.items()}
-        numbers = {name: types.plain(of)[3][0][2] for name, of in pointed.items() if types.plain(of)[0] == 3}
+        pointed, numbers = self.said_of_map(symbol)
         kind = names.MAP_KINDS.get(numbers.get("type"), f"of the number {numbers.get('type')}")
         entries, size = numbers.get("max_entries", 0), numbers.get("value_size") or types.size(pointed.get("value", 0))
         key = numbers.get("key_size") or types.size(pointed.get("key", 0))
@@ -277,7 +336,7 @@ class Policy:
         elif kind in ("QUEUE", "STACK"):
             entries, size, key = entries + 1, max(8, -(-size // 8) * 8), 4	# element 0 has the counts
         elif kind == "PERCPU_ARRAY":
-            self.warn(f"{place}: warning: {symbol.name} is an array of one copy, which all processors share")
+            self.warn(f"{place}: warning: {symbol.name} is an array of one copy, which all CPUs share")
         elif kind != "ARRAY":
             self.refuse(f"{place}: {symbol.name}: a map of type {kind} isn't here: {names.NO_MAP.get(kind, 'use an array map')}")
             return 1, 8
@@ -292,12 +351,17 @@ class Policy:
     def has_values(self):
         return any(True for _ in self.globals.stores())
 
+    def is_wanted(self, name):
+        """Whether a callback is there though the policy names no function for it."""
+        return name == "init" and (self.has_values() or bool(self.timers)) or name == "timer" and bool(self.timer_functions)
+
     def translate(self, functions):
         for name in names.CALLBACKS:
             parts = [part for part in PARTS.get(name, [name]) if part in functions]
-            if not parts and not (name == "init" and self.has_values()):
+            if not parts and not self.is_wanted(name):
                 continue
-            callback = Callback(self, name, [functions[part] for part in parts], "init_task" in parts)
+            of_functions = [functions[part] for part in parts]
+            callback = OfTimers(self) if name == "timer" else Callback(self, name, of_functions, "init_task" in parts)
             code, instructions = slots.written(callback.prologue(), callback.all_lists())
             self.callbacks[name], self.instructions[name] = code, instructions
             if len(code) > 8 * 4096:
@@ -316,10 +380,18 @@ class Policy:
             lines.append(f"timeout_ms = {self.timeout}")
         if self.rules == "linux":
             lines.append('rules = "linux"')
+        if self.keeps_idle:
+            lines.append("keep_idle = 1")
         maps = [("", 1, self.globals.size)] * (self.globals.size > 0) + self.maps
         lines += [f"\n[[map]]\nentries = {entries}\nvalue_size = {size}" for _, entries, size in maps]
+        lines += [f"\n[[timer]]{named(name)}" for shape in self.timers for name in shape.names()]
         codes = {callback: self.callbacks[callback] for callback in names.CALLBACKS if callback in self.callbacks}
         return "\n".join([*lines, "", *tables(codes, self.comment, program)]) + "\n"
+
+
+def named(name):
+    """The line that names a timer, if a policy file may have that name."""
+    return f'\nname = "{name}"' if re.fullmatch(r"[a-z][a-z0-9_]{0,15}", name) else ""
 
 
 def quoted(message):

@@ -5,7 +5,7 @@ Control is followed forward once, as jumps here go forward. Where two ways meet,
 from . import slots
 
 TASKS = {"enable": 1, "select_cpu": 1, "enqueue": 1, "running": 1, "stopping": 1, "dispatch": 2, "tick": 1, "runnable": 1,
-         "quiescent": 1}
+         "dequeue": 1, "quiescent": 1, "set_weight": 1}
 TASK = "task"
 TASK_ANSWERS = (1007, 1011, 1012)	# helpers that answer a task, or 0
 LOADS, NUMBER_STORES, STORES, ALU, LONG_ALU = 1, 2, 3, 4, 7

@@ -148,6 +148,11 @@ def move_number(dst, number):
     return Instruction(0xb7, dst, 0, 0, number)
 
 
+def sign_extended(dst):
+    """The lower half of a register, with its sign."""
+    return [Instruction(0x67, dst, 0, 0, 32), Instruction(0xc7, dst, 0, 0, 32)]
+
+
 def add_number(dst, number):
     return Instruction(0x07, dst, 0, 0, number)
 

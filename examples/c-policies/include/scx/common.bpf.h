@@ -73,6 +73,9 @@ typedef _Bool bool;
 #define NOTE_SLOTS 12
 #define NOTE_EXIT 13
 #define NOTE_ALL_CPUS 14
+#define NOTE_LOCAL 15
+#define NOTE_NO_WAIT 16
+#define NOTE_NO_NAMES 17
 
 /* A number or pointer of which clang knows nothing. So it tests this one and no copy of it. */
 #define FORGOTTEN(value) \
@@ -115,6 +118,7 @@ enum bpf_map_type {
 #define EPERM 1
 #define ENOENT 2
 #define ESRCH 3
+#define EIO 5
 #define E2BIG 7
 #define EAGAIN 11
 #define ENOMEM 12
@@ -122,6 +126,7 @@ enum bpf_map_type {
 #define EEXIST 17
 #define EINVAL 22
 #define ENOSPC 28
+#define EDEADLK 35
 
 struct kernfs_node {
 	u64 id;
@@ -142,6 +147,14 @@ struct bpf_list_node {
 struct bpf_list_head {
 	u64 numbers[2];
 };
+/* What a kernel has for other things than schedulers: build refuses one of these. */
+struct tcp_congestion_ops {
+	void *ssthresh;
+	void *cong_avoid;
+	void *undo_cwnd;
+	char name[16];
+};
+struct sock;
 struct cpumask;
 struct bpf_cpumask;
 struct rq;
@@ -163,8 +176,10 @@ struct user_exit_info;
 struct bpf_spin_lock {
 	u32 number;
 };
+/* A timer is an element of an array map. build writes its number before the policy begins. */
 struct bpf_timer {
-	u64 numbers[2];
+	u64 host_number;	/* counted from 1 */
+	u64 host_function;	/* 0 before bpf_timer_init, 1 before bpf_timer_set_callback */
 };
 struct scx_cgroup_init_args {
 	u32 weight;
@@ -215,12 +230,16 @@ struct task_struct {
 	struct task_struct *volatile real_parent;
 	struct task_struct *volatile parent;
 	void *volatile mm;
-	char comm[16];
+	volatile char comm[16];
 };
-#define PF_IDLE 0x2
+/* A CPU that is idle has no task here. */
+extern u32 PF_IDLE(void);
+#define PF_IDLE PF_IDLE()
 #define PF_EXITING 0x4
 #define PF_KTHREAD 0x200000
 #define CLOCK_MONOTONIC 1
+#define CLOCK_BOOTTIME 7
+#define BPF_F_TIMER_ABS 1
 #define BPF_F_TIMER_CPU_PIN 2
 #define BPF_MAX_LOOPS (8 * 1024 * 1024)
 #define NR_CPUS 1024
@@ -347,6 +366,8 @@ static struct task_struct *(*const host_dsq_peek)(u64 queue) = (void *)1012;
 static u64 (*const host_task_running)(const struct task_struct *p) = (void *)1013;
 static s64 (*const host_pick_idle)(u64 mask, u64 flags) = (void *)1015;
 static s64 (*const host_claim_idle)(u64 cpu) = (void *)1016;
+static s64 (*const host_timer_start)(u64 timer, u64 ns) = (void *)1017;
+static s64 (*const host_timer_cancel)(u64 timer) = (void *)1018;
 
 INSTEAD void *bpf_map_lookup_elem(void *map, const void *key)
 {
@@ -463,8 +484,15 @@ extern bool scx_bpf_task_running(const struct task_struct *p);
 #endif
 #define __COMPAT_scx_bpf_dsq_peek scx_bpf_dsq_peek
 
+/* The host counts queues of the policy, and not what waits on a CPU. */
 INSTEAD s32 scx_bpf_dsq_nr_queued(u64 dsq_id)
 {
+	bool is_local = dsq_id == SCX_DSQ_LOCAL || (dsq_id & SCX_DSQ_LOCAL_ON) == SCX_DSQ_LOCAL_ON;
+
+	if (__builtin_constant_p(is_local) && is_local) {
+		NOTE(NOTE_LOCAL);
+		return 0;
+	}
 	return host_dsq_nr_queued(dsq_id);
 }
 
@@ -495,17 +523,20 @@ INSTEAD bool scx_bpf_task_set_dsq_vtime(struct task_struct *p, u64 vtime)
 }
 
 #ifdef HOST_LINUX
-/* Flags that aren't constant are looked at by the helper. */
-extern void scx_bpf_kick_cpu_and_wait(s32 cpu, u64 flags);
+/*
+ * What is kicked looks as the event ends, which takes no time, so there is nothing to wait for. Flags that aren't constant
+ * are looked at by the helper.
+ */
 INSTEAD void scx_bpf_kick_cpu(s32 cpu, u64 flags)
 {
-	if (__builtin_constant_p(flags) && flags & SCX_KICK_WAIT)
-		scx_bpf_kick_cpu_and_wait(cpu, flags);
-	else
-		host_kick_cpu((u32)cpu, flags);
+	if (__builtin_constant_p(flags) && flags & SCX_KICK_WAIT) {
+		NOTE(NOTE_NO_WAIT);
+		flags &= ~SCX_KICK_WAIT;
+	}
+	host_kick_cpu((u32)cpu, flags);
 }
 #else
-/* By plain rules an idle processor looks for a task each millisecond, so no policy has to wake it. */
+/* By plain rules an idle CPU looks for a task each millisecond, so no policy has to wake it. */
 extern void scx_bpf_kick_cpu_with_flags(s32 cpu, u64 flags);
 INSTEAD void scx_bpf_kick_cpu(s32 cpu, u64 flags)
 {
@@ -514,6 +545,50 @@ INSTEAD void scx_bpf_kick_cpu(s32 cpu, u64 flags)
 	else
 		NOTE(NOTE_NO_KICK);
 }
+#endif
+
+/* A timer runs on the CPU of the callback that started it, so a pinned one is like any other. */
+#ifdef HOST_LINUX
+INSTEAD long bpf_timer_init(struct bpf_timer *timer, void *map, u64 clock)
+{
+	if (timer->host_function)
+		return -EBUSY;
+	timer->host_function = 1;
+	return 0;
+}
+
+/* build makes a number of the address. */
+INSTEAD long bpf_timer_set_callback(struct bpf_timer *timer, void *callback)
+{
+	if (!timer->host_function)
+		return -EINVAL;
+	timer->host_function = (u64)callback;
+	return 0;
+}
+
+INSTEAD bool host_timer_is_ready(struct bpf_timer *timer)
+{
+	return timer->host_number && timer->host_function > 1;
+}
+
+INSTEAD long bpf_timer_start(struct bpf_timer *timer, u64 nsecs, u64 flags)
+{
+	u64 now = flags & BPF_F_TIMER_ABS ? scx_bpf_now() : 0;
+
+	if (flags & ~(BPF_F_TIMER_ABS | BPF_F_TIMER_CPU_PIN) || !host_timer_is_ready(timer))
+		return -EINVAL;
+	return host_timer_start(timer->host_number - 1, nsecs > now ? nsecs - now : 0);
+}
+
+INSTEAD long bpf_timer_cancel(struct bpf_timer *timer)
+{
+	return host_timer_is_ready(timer) ? host_timer_cancel(timer->host_number - 1) : -EINVAL;
+}
+#else
+extern long bpf_timer_init(struct bpf_timer *timer, void *map, u64 flags);
+extern long bpf_timer_set_callback(struct bpf_timer *timer, void *callback);
+extern long bpf_timer_start(struct bpf_timer *timer, u64 nsecs, u64 flags);
+extern long bpf_timer_cancel(struct bpf_timer *timer);
 #endif
 
 /* A callback is one step here, and no other runs beside it. */
@@ -563,6 +638,24 @@ INSTEAD void bpf_rcu_read_unlock(void)
 	({ \
 		__typeof__(*(pointer)) old_ = (old); \
 		__sync_val_compare_and_swap(pointer, old_, new) == old_; \
+	})
+
+/* Their newer names, for any order of memory. */
+#define __atomic_load_n(pointer, order) (*(pointer))
+#define __atomic_store_n(pointer, number, order) ((void)(*(pointer) = (number)))
+#define __atomic_exchange_n(pointer, number, order) HOST_PLAIN(pointer, number)
+#define __atomic_fetch_add(pointer, number, order) __sync_fetch_and_add(pointer, number)
+#define __atomic_fetch_sub(pointer, number, order) __sync_fetch_and_sub(pointer, number)
+#define __atomic_fetch_or(pointer, number, order) __sync_fetch_and_or(pointer, number)
+#define __atomic_fetch_and(pointer, number, order) __sync_fetch_and_and(pointer, number)
+#define __atomic_fetch_xor(pointer, number, order) __sync_fetch_and_xor(pointer, number)
+#define __atomic_add_fetch(pointer, number, order) __sync_add_and_fetch(pointer, number)
+#define __atomic_sub_fetch(pointer, number, order) __sync_sub_and_fetch(pointer, number)
+#define __atomic_compare_exchange_n(pointer, expected, number, weak, order, failed) \
+	({ \
+		__typeof__(*(pointer)) wanted_ = *(expected); \
+		*(expected) = __sync_val_compare_and_swap(pointer, wanted_, number); \
+		*(expected) == wanted_; \
 	})
 
 /* A number that follows from the one before it, so each run has the same ones. */
@@ -630,10 +723,10 @@ struct host_any_map {
 #define bpf_map_pop_elem(map, value) HOST_FRONT(map, value, 1)
 #define bpf_map_peek_elem(map, value) HOST_FRONT(map, value, 0)
 
-/* An array that user space makes as long as there are processors: here as long as there are at most. */
+/* An array that user space makes as long as there are CPUs: here as long as there are at most. */
 #define RESIZABLE_ARRAY(section, array) array[64]
 
-/* Nothing keeps a task on a processor here. */
+/* Nothing keeps a task on a CPU here. */
 INSTEAD bool is_migration_disabled(const struct task_struct *p)
 {
 	return false;
@@ -649,7 +742,7 @@ INSTEAD u64 scale_by_task_weight_inverse(const struct task_struct *p, u64 value)
 	return value * 100 / p->scx.weight;
 }
 
-/* How many processors there are: build --set cpus=N says it. */
+/* How many CPUs there are: build --set cpus=N says it. */
 #ifdef HOST_CPUS
 INSTEAD u32 scx_bpf_nr_cpu_ids(void)
 {
@@ -790,8 +883,7 @@ extern u32 bpf_cpumask_weight(const struct cpumask *mask);
 #endif
 
 /* One node has all CPUs. */
-#define __COMPAT_SCX_PICK_IDLE_IN_NODE 0
-#define scx_bpf_cpu_node(cpu) 0
+#define scx_bpf_cpu_node(cpu) ((void)(cpu), 0)
 #define scx_bpf_nr_node_ids() 1u
 #define scx_bpf_get_idle_cpumask_node(node) scx_bpf_get_idle_cpumask()
 #define scx_bpf_get_idle_smtmask_node(node) scx_bpf_get_idle_smtmask()
@@ -811,10 +903,25 @@ INSTEAD u32 scx_bpf_dispatch_nr_slots(void)
 	return 32;
 }
 
+/* Tasks have no names, so p->comm, which alone is volatile, is compared as an empty text. */
+extern int host_strncmp(const char *text, u32 size, const char *other) asm("bpf_strncmp");
+#define HOST_IS(text, type) __builtin_types_compatible_p(__typeof__(&(text)[0]), type)
+#define HOST_IS_NAME(text) (HOST_IS(text, volatile char *) || HOST_IS(text, const volatile char *))
+#define bpf_strncmp(text, size, other) \
+	({ \
+		int order_ = -(u8)(other)[0]; \
+		if (HOST_IS_NAME(text)) \
+			NOTE(NOTE_NO_NAMES); \
+		else \
+			order_ = host_strncmp((const char *)(text), size, other); \
+		order_; \
+	})
+
 /* What a kernel may have or not isn't here. */
 #define bpf_ksym_exists(name) 0
 #define bpf_core_field_exists(field) 0
 #define bpf_core_type_exists(type) 0
+#define BPF_CORE_READ(source, member) ((source)->member)
 
 /* The values are looked at by the compiler alone, so that their variables are used. */
 #define LOOKED_AT(values...) \
@@ -886,13 +993,17 @@ extern void host_error(const char *message) asm("scx_bpf_error");
 
 /*
  * A pointer to an element of an array of a known length, or NULL. Clang knows nothing of the index before the test, nor
- * that it is the same behind it, so it adds the tested one, and behind the test.
+ * that it is the same behind it, so it adds the tested one, and behind the test. A length that is a variable is tested
+ * first, and then that of the array, which the host knows.
  */
 #define ARRAY_ELEM_PTR(array, index, length) \
 	({ \
 		u64 index_ = FORGOTTEN((u64)(index)); \
 		__typeof__(&(array)[0]) element_ = NULL; \
-		if (index_ < (length)) { \
+		bool is_inside_ = __builtin_constant_p(length) || index_ < (length); \
+		if (!__builtin_constant_p(length)) \
+			asm volatile("" : "+r"(index_)); \
+		if (is_inside_ && index_ < (__builtin_constant_p(length) ? (length) : ARRAY_SIZE(array))) { \
 			asm volatile("" : "+r"(index_)); \
 			element_ = &(array)[index_]; \
 		} \
@@ -916,10 +1027,6 @@ extern long bpf_map_delete_elem(void *map, const void *key);
 extern void *bpf_map_lookup_percpu_elem(void *map, const void *key, u32 cpu);
 extern long bpf_task_storage_delete(void *map, struct task_struct *p);
 extern void *bpf_cgrp_storage_get(void *map, struct cgroup *cgrp, void *value, u64 flags);
-extern long bpf_timer_init(struct bpf_timer *timer, void *map, u64 flags);
-extern long bpf_timer_set_callback(struct bpf_timer *timer, void *callback);
-extern long bpf_timer_start(struct bpf_timer *timer, u64 nsecs, u64 flags);
-extern long bpf_timer_cancel(struct bpf_timer *timer);
 extern long bpf_loop(u32 rounds, void *callback, void *context, u64 flags);
 extern struct task_struct *bpf_get_current_task_btf(void);
 extern void *bpf_kptr_xchg(void *to, void *pointer);
@@ -948,7 +1055,6 @@ extern void scx_bpf_dsq_move_set_vtime(struct bpf_iter_scx_dsq *iterator, u64 vt
 extern int bpf_iter_scx_dsq_new(struct bpf_iter_scx_dsq *iterator, u64 dsq_id, u64 flags);
 extern struct task_struct *bpf_iter_scx_dsq_next(struct bpf_iter_scx_dsq *iterator);
 extern void bpf_iter_scx_dsq_destroy(struct bpf_iter_scx_dsq *iterator);
-extern int bpf_strncmp(const char *text, u32 size, const char *other);
 extern void bpf_cpumask_set_cpu(u32 cpu, struct bpf_cpumask *mask);
 extern void bpf_cpumask_clear_cpu(u32 cpu, struct bpf_cpumask *mask);
 extern struct bpf_cpumask *bpf_cpumask_create(void);

@@ -9,6 +9,10 @@ void BPF_STRUCT_OPS(fields_enqueue, struct task_struct *p, u64 enq_flags)
 
 	if (p->flags & PF_KTHREAD)	/* warned: p->flags is 0 */
 		queue = SCX_DSQ_GLOBAL;
+	if (!bpf_strncmp(p->comm, 4, "make"))	/* warned: tasks have no names here: p->comm is compared as an empty text */
+		queue = SCX_DSQ_GLOBAL;
+	if (p->flags & PF_IDLE)	/* refused: enqueue: PF_IDLE isn't here: an idle CPU has no task here */
+		queue = SCX_DSQ_GLOBAL;
 	if (p->nr_cpus_allowed == 1)	/* refused: enqueue: p->nr_cpus_allowed isn't here: say how many there are */
 		queue = SCX_DSQ_GLOBAL;
 	if (p->comm[0] == 'k')	/* refused: enqueue: p->comm isn't here: tasks have no names */
