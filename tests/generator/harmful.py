@@ -1,13 +1,17 @@
 """Policies by Linux rules that do as much harm as they can: they kick in every callback, preempt each other, hold
-claims, give and take slices, and some end themselves or have a fault; and what a trace has to be, whatever they do."""
+claims, give and take slices, start all timers each millisecond, and some end themselves or have a fault; and what a trace
+has to be, whatever they do."""
 import json
 import re
 
 MS = 10**6
 LOCAL, GLOBAL, LOCAL_ON = 2**63 + 2, 2**63 + 1, 3 * 2**62
 PREEMPT, HEAD = 2**32, 2**48
-CALLBACKS = ["enable", "select_cpu", "enqueue", "dispatch", "running", "stopping", "tick", "runnable", "quiescent"]
-RUNS = CALLBACKS[1:]  # those in which a CPU may be kicked and claimed
+CALLBACKS = ["enable", "select_cpu", "enqueue", "dispatch", "running", "stopping", "tick", "dequeue",
+             "runnable", "quiescent", "update_idle", "set_weight", "timer"]
+RUNS = [callback for callback in CALLBACKS if callback not in ("enable", "set_weight")]  # in which CPUs may be kicked
+BEGINNING = ("enable", "update_idle", "set_weight")  # also called as a policy begins, when its end is a refusal
+WITHOUT_TASK = ("init", "dispatch", "update_idle", "timer")
 
 
 class Harm:
@@ -17,6 +21,9 @@ class Harm:
         self.random, self.cpus = random, cpus
         self.calm = random.choice([0, 0, 0.002, 0.02])
         self.labels = 0
+        self.timers = random.choice([0, 0, 1, 3, 16])
+        self.keeps_idle = random.choice([None, False, True, True])
+        self.tracks = True  # whether the host tracks idle CPUs
 
     def cpu(self):
         return self.random.randrange(self.cpus)
@@ -27,6 +34,13 @@ class Harm:
     def kick_all(self):
         flags = self.random.choice([0, 1, 2])
         return [line for cpu in range(min(self.cpus, 8)) for line in (f"r1 = {cpu}", f"r2 = {flags}", "call 1009")]
+
+    def start_all(self):
+        """Starts all timers for the next millisecond."""
+        return [line for timer in range(self.timers) for line in (f"r1 = {timer}", "r2 = 0", "call 1017")]
+
+    def cancel(self):
+        return [f"r1 = {self.random.randrange(self.timers)}", "call 1018"] if self.timers else self.read()
 
     def claim(self):
         return [f"r1 = {self.cpu()}", "call 1016"]
@@ -63,18 +77,27 @@ class Harm:
         over = f"over{self.labels}"
         return ["call 5", f"r0 /= {MS}", f"r0 &= {self.random.choice([1, 3, 7, 15])}", f"if r0 != 0 goto {over}", *lines, f"{over}:"]
 
+    def later(self, lines):
+        """These lines once the policy has begun, seldom."""
+        self.labels += 1
+        over = f"over{self.labels}"
+        return ["call 5", f"if r0 == 0 goto {over}", *self.seldom(lines), f"{over}:"]
+
     def steps(self, callback):
         kinds = [self.read, self.read]
         if callback in RUNS:
-            kinds += [self.kick, self.kick, self.kick_all, self.claim, self.claim_all, self.pick]
-        if callback not in ("dispatch", "init"):
+            kinds += [self.kick, self.kick, self.kick_all, self.start_all, self.cancel]
+        if callback in RUNS and self.tracks:
+            kinds += [self.claim, self.claim_all, self.pick]
+        if callback not in WITHOUT_TASK:
             kinds += [self.read_task, self.change_task]
         lines = []
         for _ in range(self.random.randrange(4)):
             made = self.random.choice(kinds)()
             lines += made if self.random.random() < 0.6 else self.seldom(made)
-        if callback in RUNS and self.random.random() < self.calm * 10:
-            lines += self.seldom(self.random.choice([self.end, self.fault])())
+        if callback not in ("enable", "init") and self.random.random() < self.calm * 10:
+            ending = self.end if callback == "set_weight" else self.random.choice([self.end, self.fault])
+            lines += (self.later if callback in BEGINNING else self.seldom)(ending())
         return lines
 
     def insert(self):
@@ -105,16 +128,25 @@ class Harm:
             for _ in range(self.random.randrange(3)):
                 lines += self.hand_out(tasks)
             lines += ["r1 = 0", "call 1004"] + self.steps(callback)
+        if callback == "timer":
+            lines += self.start_all() + (self.kick_all() if self.random.random() < 0.7 else [])
         return lines + ["exit"]
 
     def policy(self, tasks):
         random = self.random
         self.by_vtime = random.random() < 0.3
-        code = {"init": ["r1 = 0", "call 1001", "r0 = 0", "exit"]}
-        code |= {callback: self.program(callback, tasks) for callback in CALLBACKS if random.random() < 0.75}
+        has = [callback for callback in CALLBACKS if random.random() < 0.75]
+        # A policy may ask the host for idle CPUs that it doesn't track, which is a fault.
+        self.tracks = "update_idle" not in has or bool(self.keeps_idle)
+        code = {"init": ["r1 = 0", "call 1001", *self.start_all(), "r0 = 0", "exit"]}
+        code |= {callback: self.program(callback, tasks) for callback in has}
         if random.random() < 0.9 and "dispatch" not in code:
             code["dispatch"] = self.program("dispatch", tasks)
         head = f'rules = "linux"\ntimeout_ms = {random.choice([3, 50, 30000])}\ntick_ms = {random.choice([0, 0, 1, 4, 100])}\n'
+        if self.keeps_idle is not None:
+            head += f"keep_idle = {int(self.keeps_idle)}\n"
+        if self.timers:
+            head += f"timer = [{', '.join(['{}'] * self.timers)}]\n"
         order = sorted(code, key=lambda callback: (["init"] + CALLBACKS).index(callback))
         return head + "[code]\n" + "".join(f'{name} = """\n' + "\n".join(code[name]) + '\n"""\n' for name in order)
 
@@ -133,11 +165,15 @@ def harmful(random, most_cpus=64):
     lines = [f"cpus = {cpus}", f"ms = {ms}", "[[group]]", *(f"{key} = {json.dumps(value)}" for key, value in group.items())]
     for task in tasks:
         lines += ["[[task]]", *(f"{key} = {json.dumps(value)}" for key, value in task.items())]
+    for _ in range(random.choice([0, 0, 1, 4])):
+        lines += ["[[change]]", f"at = {random.randrange(ms + 1)}", f'task = "{random.choice(tasks)["name"]}"',
+                  f"weight = {random.choice([1, 100, 10000])}"]
     return Harm(random, cpus).policy(len(tasks)), "\n".join(lines) + "\n"
 
 
 LINE = re.compile(r"(\d+) (?:(wake|sleep) (\S+)|insert (\S+) ((?:queue|local) \d+|global|held|builtin|parked)|move (\S+) local (\d+)"
-                  r"|(run|stop) (\S+) cpu (\d+)|idle cpu (\d+)|eject (?:fault \d+|exit -?\d+|stall \S+))")
+                  r"|(run|stop) (\S+) cpu (\d+)|idle cpu (\d+)|weight (\S+) \d+|eject (?:fault \d+|exit -?\d+|stall \S+))")
+QUEUES = ("queue", "local", "global", "held")
 
 
 def fault_of(trace):
@@ -147,11 +183,11 @@ def fault_of(trace):
         found = LINE.fullmatch(line)
         if not found:
             return f"no line of a trace: {line}"
-        now, woken, who, comes, queue, moved, to, turn, turned, cpu, idle = found.groups()
+        now, woken, who, comes, queue, moved, to, turn, turned, cpu, idle, weighed = found.groups()
         if int(now) < clock or int(now) > clock and (sleeping or "hand" in at.values()):
             return f"a task is nowhere before: {line}"
         clock = int(now)
-        place = at.get(who or comes or moved or turned, "asleep")
+        place = at.get(who or comes or moved or turned or weighed, "asleep")
         if woken == "wake":
             good, at[who] = place == "asleep", "hand"
         elif woken == "sleep":
@@ -175,6 +211,10 @@ def fault_of(trace):
             sleeping.discard(turned)
         elif idle:
             good = idle not in on
+        elif weighed:
+            good = True
+            if place.startswith(QUEUES) and not ejected:  # it leaves its queue, and is put again
+                at[weighed] = "hand"
         else:
             good, ejected = not ejected, True
         if not good:

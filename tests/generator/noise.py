@@ -1,6 +1,6 @@
 """Code that does nothing of use. Each function adds some lines."""
 from . import workloads
-from .host import CALLBACKS, FIELDS, IMMEDIATES, INSERTING, MAYBE, NUMBER, NUMBERS, TASK, WITH_TASK
+from .host import CALLBACKS, FIELDS, IMMEDIATES, INSERTING, LINUX_CALLBACKS, MAYBE, NUMBER, NUMBERS, TASK, WITH_TASK
 from .assembler import CONDITIONS, OPERATORS, SWAPS
 from .programs import look_up, null_tested
 
@@ -170,6 +170,8 @@ def ask_length(code):
 
 
 def ask_idle(code):
+    if not code.policy.tracks_idle:
+        return read_clock(code)
     code.set(1, code.random.randrange(code.plan.processors))
     code.call(1006)
 
@@ -181,6 +183,8 @@ def kick(code):
 
 
 def ask_choice(code):
+    if not code.policy.tracks_idle:
+        return read_clock(code)
     code.fetch(code.task, 1)
     code.call(1005)
 
@@ -248,22 +252,20 @@ def jump_over(code):
     code.add(f"{over}:")
 
 
-ANY = CALLBACKS + ["plain"]
+POLICY = CALLBACKS + LINUX_CALLBACKS
+ANY = POLICY + ["plain"]
 NOISE = [
     (4, set_number, ANY), (10, compute, ANY), (4, convert, ANY),
     (3, turn, ANY), (4, store_cell, ANY), (4, load_cell, ANY),
     (2, store_by_pointer, ANY), (1, store_pointer, ANY), (5, branch, ANY),
-    (1, jump_over, ANY), (4, read_field, WITH_TASK), (1, write_field, ["enable", "stopping"]),
-    (6, work_on_map, CALLBACKS), (2, read_clock, CALLBACKS), (2, ask_length, CALLBACKS), (2, ask_idle, INSERTING),
-    (1, ask_choice, ["select_cpu", "enqueue"]), (2, ask_task, CALLBACKS[1:]), (3, use_before, ["dispatch"]),
+    (1, jump_over, ANY), (4, read_field, WITH_TASK), (1, write_field, ["enable", "stopping", "tick", "runnable", "quiescent"]),
+    (6, work_on_map, POLICY), (2, read_clock, POLICY), (2, ask_length, POLICY), (2, ask_idle, INSERTING),
+    (1, ask_choice, ["select_cpu", "enqueue"]), (2, ask_task, POLICY[1:]), (3, use_before, ["dispatch"]),
 ]
 
 
-KICKS = [(3, kick, ["select_cpu", "enqueue", "dispatch", "running", "stopping"])]
-
-
 def add_noise(code, count):
-    noise = NOISE + KICKS if workloads.LINUX else NOISE
+    noise = NOISE + workloads.LINUX_NOISE
     usable = [(weight, add) for weight, add, callbacks in noise if code.callback in callbacks]
     for add in code.random.choices([add for _, add in usable], [weight for weight, _ in usable], k=count):
         add(code)

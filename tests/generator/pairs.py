@@ -7,6 +7,7 @@ from . import workloads
 from .host import CALLBACKS, INSERTING
 from .assembler import slots_of
 from .programs import Code
+from .linux import add_calls
 from .noise import add_noise
 from .steps import finish
 from .policies import (
@@ -39,8 +40,13 @@ def workable(generate, shape=None):
     return pair
 
 
+def adorn(policy):
+    """Adds what a policy may have besides, by the rules that it goes by."""
+    return ornament(add_calls(policy) if workloads.LINUX else policy)
+
+
 def some_policy(random, plan):
-    return ornament(random.choice([fifo, fair, ordered, assorted, built_in, selecting, ring, marked])(random, plan))
+    return adorn(random.choice([fifo, fair, ordered, assorted, built_in, selecting, ring, marked])(random, plan))
 
 
 def faulting(*generators):
@@ -48,7 +54,7 @@ def faulting(*generators):
 
 
 def ornamented(generate):
-    return workable(lambda random, plan: ornament(generate(random, plan)))
+    return workable(lambda random, plan: adorn(generate(random, plan)))
 
 
 def faulty_policy(first):

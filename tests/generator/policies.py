@@ -1,6 +1,6 @@
 """Policies: maps, queues, and the steps of each callback."""
 from . import workloads
-from .host import CALLBACKS, GLOBAL, GROUP, LOCAL, LOCAL_ON, PID, PREVIOUS, RUN, SLICE, VTIME, WEIGHT
+from .host import CALLBACKS, GLOBAL, GROUP, LINUX_CALLBACKS, LOCAL, LOCAL_ON, PID, PREVIOUS, RUN, SLICE, VTIME, WEIGHT
 from .programs import Code
 from .noise import add_noise, write_field
 from .steps import (
@@ -14,6 +14,7 @@ class Policy:
     def __init__(self, random, plan):
         self.random, self.plan = random, plan
         self.maps, self.queues, self.steps, self.timeout = [], [], {}, None
+        self.timers, self.keeps_idle, self.tracks_idle = 0, None, True
         self.noise = random.choice([0, 0, 0, 1, 2, 4])
 
     def map(self, entries, value_size):
@@ -44,7 +45,8 @@ class Policy:
         return code.lines
 
     def programs(self):
-        return {callback: self.program(callback) for callback in CALLBACKS if callback in self.steps}
+        return {callback: self.program(callback) for callback in CALLBACKS + LINUX_CALLBACKS
+                if callback in self.steps}
 
 
 MS = 10**6

@@ -136,6 +136,10 @@ def policy_values(random, policy):
         values["timeout_ms"] = policy.timeout or random.choice([30000, 1000, 50])
     if policy.maps:
         values["map"] = [{"entries": entries, "value_size": size} for entries, size in policy.maps]
+    if policy.keeps_idle is not None:
+        values["keep_idle"] = int(policy.keeps_idle)
+    if policy.timers:
+        values["timer"] = [random.choice([{}, {}, {"name": f"timer{number}"}]) for number in range(policy.timers)]
     values["code"], values["slots"] = programs_values(random, policy.programs())
     return {key: value for key, value in values.items() if value != {} or random.random() < 0.1}
 

@@ -1,4 +1,4 @@
-"""Workloads that can be run. A caller may set SHAPES, QUOTAS and LINUX."""
+"""Workloads that can be run. A caller may set SHAPES, QUOTAS, and LINUX with LINUX_NOISE."""
 
 
 class Plan:
@@ -17,6 +17,7 @@ SHAPES = [  # weight; the most processors, tasks, groups and milliseconds
 
 QUOTAS = False  # whether groups have quotas
 LINUX = False  # whether policies go by Linux rules, and tasks have weights
+LINUX_NOISE = []  # what their programs do besides, as NOISE has it
 
 
 def some_quota(random):
@@ -82,6 +83,10 @@ def some_workload(random, shape=None):
     count = random.choice([tasks, random.randrange(1, tasks + 1), random.randrange(1, tasks + 1)])
     values["task"] = some_tasks(random, count, leaves_of(values["group"]), ms)
     values["change"] = some_changes(random, values["group"], ms)
+    for change in values["change"]:
+        if LINUX and random.random() < 0.5:
+            del change["group"]
+            change["task"] = random.choice(values["task"])["name"]
     if not values["change"] and random.random() < 0.9:
         del values["change"]
     return values
