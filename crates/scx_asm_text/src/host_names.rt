@@ -24,6 +24,8 @@ pub fn helper_name(helper: Helper) -> &'static str {
         Helper::ClaimIdle => "claim_idle",
         Helper::TimerStart => "timer_start",
         Helper::TimerCancel => "timer_cancel",
+        Helper::PrandomU32 => "get_prandom_u32",
+        Helper::MayRun => "may_run",
     }
 }
 

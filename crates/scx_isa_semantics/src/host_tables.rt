@@ -53,6 +53,8 @@ pub enum Helper {
     ClaimIdle,
     TimerStart,
     TimerCancel,
+    PrandomU32,
+    MayRun,
 }
 
 /// The most arguments that a helper takes, in r1 to r5.
@@ -143,6 +145,8 @@ impl Helper {
             1016 => Some(Helper::ClaimIdle),
             1017 => Some(Helper::TimerStart),
             1018 => Some(Helper::TimerCancel),
+            7 => Some(Helper::PrandomU32),
+            1019 => Some(Helper::MayRun),
             _ => None,
         }
     }
@@ -208,9 +212,11 @@ impl Helper {
                 | Helper::DsqInsertVtime
                 | Helper::SelectCpuDfl
                 | Helper::TaskRunning
-                | Helper::TaskCpu,
+                | Helper::TaskCpu
+                | Helper::MayRun,
                 0,
             ) => Some(Parameter::Task),
+            (Helper::MayRun, 1) => Some(Parameter::Number),
             (Helper::DsqInsert, 1..=3) | (Helper::DsqInsertVtime, 1..=4) => Some(Parameter::Number),
             (Helper::KickCpu | Helper::Exit | Helper::PickIdle | Helper::TimerStart, 0..=1) => {
                 Some(Parameter::Number)
