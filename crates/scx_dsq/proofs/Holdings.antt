@@ -25,12 +25,12 @@ use Rattle.scx_dsq.proofs.Standing.{is_in_from, another, count-set, Changed, thi
 -- ---- tasks in an array
 
 -- an item of the array, and its task
-record Found (items : List Item) (t : ℕ) : Type 0 where
+pub record Found (items : List Item) (t : ℕ) : Type 0 where
   pub item : Item
   pub contained : Contains items item
   pub is : item.task ≡ t
 
-found : (items : List Item) (t : ℕ) → IsIn items t → Found items t
+pub found : (items : List Item) (t : ℕ) → IsIn items t → Found items t
 found [] t h = let inside = h.inside in absurd (omega arith)
 found (x ∷ xs) t h =
     let item = slice_index_or (x ∷ xs) h.position x in

@@ -25,4 +25,5 @@ pub mod Counted
 pub mod Spots
 pub mod Shifts
 pub mod Behind
+pub mod Among
 pub mod Copies

@@ -1,6 +1,6 @@
 -- Queues by virtual time as heaps in an array (Williams, Algorithm 232): no task leaves before the
 -- one at its parent's position.
-use Rattle.std.specs.Prelude.{◌≡◌, ◌≢◌, ℕ, ◌+◌, ◌-◌, ◌*◌, ◌/◌, ◌^◌, ◌<◌, ◌≤◌, Bool, false, ◌==◌, ◌&&◌, ◌||◌, true, nat_lt, List, [], ◌∷◌, length, slice_index_or, slice_set, Option, Some, None}
+use Rattle.std.specs.Prelude.{◌≡◌, ◌≢◌, ℕ, ◌+◌, ◌-◌, ◌*◌, ◌/◌, ◌^◌, ◌<◌, ◌≤◌, Bool, false, ◌==◌, ◌&&◌, ◌||◌, true, nat_lt, List, [], ◌∷◌, length, slice_index_or, slice_set, Option, Some, None, MatchOption, IsTrue, if◌then◌else◌}
 use Rattle.std.specs.List.{list_any}
 use Rattle.scx_dsq.specs.declared.priority.Priority.{Priority}
 use Rattle.scx_dsq.specs.declared.heap.Item.{Item}
@@ -76,6 +76,35 @@ IsAbsent items t = list_any (λ x. x.task == t) items ≡ false
 pub record KeepsOthers (items : List Item) (old new : List ℕ) : Type 0 where
   pub long : length new ≡ length old
   pub same : (t e : ℕ) → IsAbsent items t → slice_index_or new t e ≡ slice_index_or old t e
+
+-- ---- the item of some tasks that leaves first
+
+-- whether an item of that priority leaves before another, if there is one
+abbrev pub leads : Priority → Option Item → Bool
+leads p None = true
+leads p (Some x) = comes_before p x.priority
+
+-- the item if its task is one of them and it leaves before the other one, else the other one
+abbrev pub with_leader : (ℕ → Bool) → Item → Option Item → Option Item
+with_leader p x other = if p x.task && leads x.priority other then Some x else other
+
+-- the item is at a position below n, its task is one of them, and none of theirs there leaves
+-- before it
+pub record LeadsBelow (p : ℕ → Bool) (items : List Item) (n : ℕ) (x : Item) : Type 0 where
+  pub position : ℕ
+  pub inside : position < n
+  pub there : (d : Item) → slice_index_or items position d ≡ x
+  pub among : IsTrue (p x.task)
+  pub first : (k : ℕ) (d : Item)
+      → k < n → IsTrue (p (slice_index_or items k d).task)
+      → comes_before (slice_index_or items k d).priority x.priority ≡ false
+
+-- that item leads those at positions below n, or none there is of those tasks
+abbrev pub HasLeader : (ℕ → Bool) → List Item → ℕ → Option Item → Type 0
+HasLeader p items n first =
+    MatchOption first
+    ((k : ℕ) (d : Item) → k < n → p (slice_index_or items k d).task ≡ false)
+    (LeadsBelow p items n)
 
 -- the items with another one at a position, and the spots with that of its task
 abbrev pub with_item : List Item → Item → ℕ → List Item

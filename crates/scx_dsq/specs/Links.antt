@@ -102,6 +102,16 @@ ends_unlinked links ends t = record {
 abbrev pub In : Entries → ℕ → ℕ → Entry → Type 0
 In entries id t p = (entry_at entries t ≡ Some p) × (p.queue ≡ id)
 
+-- the task waits in the queue, in order of arrival
+pub record WaitsInOrder (entries : Entries) (id t : ℕ) : Type 0 where
+  pub entry : Entry
+  pub waits : In entries id t entry
+  pub fifo : IsTrue (same_sort entry.rank Fifo)
+
+-- all that wait in the queue wait in order of arrival
+abbrev pub AreInOrder : Entries → ℕ → Type 0
+AreInOrder entries id = (t : ℕ) (p : Entry) → In entries id t p → IsTrue (same_sort p.rank Fifo)
+
 -- no task waits in the queue
 abbrev pub NobodyIsIn : Entries → ℕ → Type 0
 NobodyIsIn entries id = (t : ℕ) (p : Entry) → In entries id t p → ⊥
@@ -140,4 +150,4 @@ pub record IsThreaded (entries : Entries) (links : List Link) (id : ℕ) (ends :
       → In entries id t p
       → MatchOption (link_at links t).behind (IsLast entries id t) (IsNext entries id t)
   pub count : ends.count ≡ count_by (is_in id) entries
-  pub sort : (t : ℕ) (p : Entry) → In entries id t p → IsTrue (same_sort p.rank Fifo)
+  pub sort : AreInOrder entries id

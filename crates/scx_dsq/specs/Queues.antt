@@ -1,7 +1,7 @@
 -- Dispatch queues as sets (sched-ext.rst, "Dispatch Queues"). They are described by where each task
 -- waits: a task has one entry or none, so it is in at most one queue. A queue is the set of the
 -- tasks that wait in it, and its front is the one whose entry comes before every other there.
-use Rattle.std.specs.Prelude.{◌≡◌, ◌≢◌, ℕ, ◌<◌, Bool, false, ◌==◌, ◌&&◌, not, List, length, slice_index_or, Option, Some, None, IsTrue, HoldsAt, count_by, position, option_map}
+use Rattle.std.specs.Prelude.{◌≡◌, ◌≢◌, ℕ, zero, suc, ◌<◌, Bool, false, ◌==◌, ◌&&◌, not, if◌then◌else◌, List, [], ◌∷◌, length, slice_index_or, Option, Some, None, IsTrue, HoldsAt, count_by, position, option_map}
 use Rattle.std.specs.List.{list_any, list_all}
 use Rattle.scx_dsq.specs.declared.entries.Rank.{Rank}
 use Rattle.scx_dsq.specs.declared.entries.Rank.TheVariants.{Fifo, Front, Vtime}
@@ -76,6 +76,15 @@ is_first entries id (Some p) =
 -- the front of a queue; `IsFront` says what it is
 unfoldable pub front_of : QueueState → ℕ → Option ℕ
 front_of s id = position (is_first s.entries id) s.entries
+
+-- the entries of those tasks alone; the first entry is that of the task of this number
+abbrev pub entries_of : (ℕ → Bool) → ℕ → Entries → Entries
+entries_of p n [] = []
+entries_of p n (e ∷ entries) = (if p n then e else None) ∷ entries_of p (suc n) entries
+
+-- the queues as if those tasks alone waited
+abbrev pub only : (ℕ → Bool) → QueueState → QueueState
+only p s = record s { entries = entries_of p 0 s.entries }
 
 -- whether an entry is one in the same queue that comes after it
 abbrev pub is_behind : Entry → Option Entry → Bool

@@ -69,6 +69,13 @@ impl Heap {
         self.items.len()
     }
 
+    /// The items, in the order of the array.
+    pub fn items(&self) -> &[Item]
+        ensures { result.now ≡ self.now.items }
+    {
+        &self.items
+    }
+
     pub fn front(&self) -> Option<u32>
         ensures { result ≡ first_item self.now.items }
     {

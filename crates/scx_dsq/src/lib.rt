@@ -19,6 +19,7 @@
 //! ```
 #![tactic(auto)]
 
+mod choosing;
 mod entries;
 mod errors;
 mod heap;
@@ -30,9 +31,11 @@ mod priority;
 mod queue;
 mod queues;
 mod steps;
+mod task_set;
 
 pub use entries::{Entry, Rank};
 pub use errors::QueueError;
 pub use laws::{appearances_are_conserved, front_pushes_lead, fronts_are_unique};
 pub use queues::Queues;
 pub use steps::Steps;
+pub use task_set::TaskSet;

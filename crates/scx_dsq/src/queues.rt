@@ -33,14 +33,14 @@ const HASHES: usize = 256;
 /// of the queues by virtual time. Tasks are numbered from 0.
 #[derive(Drop)]
 pub struct Queues {
-    live: Vec<Queue>,
+    pub(crate) live: Vec<Queue>,
     /// The indices of the queues in `live`, those of lesser ids first.
     order: Vec<usize>,
     /// Empty heaps for queues to come.
     spare: Vec<Heap>,
     entries: Vec<Option<KeptEntry>>,
     /// For each task, its neighbours in a FIFO queue.
-    links: Vec<Link>,
+    pub(crate) links: Vec<Link>,
     /// For each task, its index in the array of a queue by virtual time.
     spots: Vec<usize>,
     /// For each hash of an id, the index of its queue in `live`, or of another id's.
@@ -251,6 +251,7 @@ impl Queues {
         ensures known { IfSome result (λ t. t < task_count self.old.state) }
         ensures first { IfSome result (IsFront self.old.state id) }
         ensures state { self.new.state ≡ after_pop self.old.state id }
+        ensures left { IfSome result (λ t. self.new.state ≡ after_remove self.old.state t) }
         ensures cost { IsPaid self.old self.new id (steps.new - steps.old) }
         ensures more { steps.old ≤ steps.new }
         ensures tasks { task_count self.new.state ≡ task_count self.old.state }
@@ -352,6 +353,7 @@ impl Queues {
         ensures known { IfSome result (λ t. t < task_count self.old.state) }
         ensures first { IfSome result (IsFront self.old.state id) }
         ensures state { self.new.state ≡ after_pop self.old.state id }
+        ensures left { IfSome result (λ t. self.new.state ≡ after_remove self.old.state t) }
         ensures cost { IsPaid self.old self.new id (steps.new - steps.old) }
         ensures more { steps.old ≤ steps.new }
         ensures tasks { task_count self.new.state ≡ task_count self.old.state }

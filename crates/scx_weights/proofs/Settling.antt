@@ -276,6 +276,7 @@ pub tree_reweighed : (t u : Hierarchy) (used pending : List ℕ) (g w : ℕ) (ha
       groups = set t.groups g (record { parent = had.parent; weight = w; quota_ms = had.quota_ms; period_ms = had.period_ms });
       homes = t.homes;
       own_weights = t.own_weights;
+      masks = t.masks;
       active = t.active;
       usages = usages_in (set t.groups g (record { parent = had.parent; weight = w; quota_ms = had.quota_ms; period_ms = had.period_ms })) used pending;
     } ≡ with_weight u g w
@@ -285,6 +286,7 @@ tree_reweighed t u used pending g w had view usages lt read =
       groups = set t.groups g (record { parent = had.parent; weight = w; quota_ms = had.quota_ms; period_ms = had.period_ms });
       homes = t.homes;
       own_weights = t.own_weights;
+      masks = t.masks;
       active = t.active;
       usages = us;
     }) (usages_reweighed t.groups g w used pending had lt read ∙ sym usages)
@@ -292,6 +294,7 @@ tree_reweighed t u used pending g w had view usages lt read =
       groups = set t.groups g (record { parent = x.parent; weight = w; quota_ms = x.quota_ms; period_ms = x.period_ms });
       homes = t.homes;
       own_weights = t.own_weights;
+      masks = t.masks;
       active = t.active;
       usages = t.usages;
     }) had_is

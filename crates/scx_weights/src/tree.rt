@@ -1,6 +1,6 @@
 ghost use Rattle.std.specs.Prelude.{◌≡◌, ℕ, ◌^◌, ◌<◌, ◌≤◌, true, false, length, IfOk, IfErr, OnOk, OnErr};
 
-use crate::admission::{first_fault, has_bad_own_weight};
+use crate::admission::{first_fault, has_bad_own_weight, has_empty_mask};
 use crate::error::TreeError;
 use crate::group::{DEFAULT_OWN_WEIGHT, Group, MAX_GROUPS, MAX_TASKS, is_weight};
 use crate::share::weight_in;
@@ -12,41 +12,47 @@ use std::marker::Model;
 /// Groups with weights and limits, tasks in them, which tasks are active, and what groups have used.
 ///
 /// Groups and tasks go by their numbers in the lists that the tree was made of. In a contract a tree is
-/// those two lists, the weight of each task itself, whether it is active, and the usage of each group.
+/// those two lists, the weight of each task itself, where it may run, whether it is active, and the usage of each
+/// group.
 #[derive(Drop)]
 pub struct Tree {
     groups: Vec<Group>,
     homes: Vec<u32>,
     own_weights: Vec<u32>,
+    /// For each task the processors on which it may run, one bit each, where tasks are bound.
+    masks: Vec<u64>,
+    bound: bool,
     active: Vec<bool>,
     sums: Sums,
     usages: Usages,
 }
 
 impl Model for Tree {
-    ghost use Rattle.scx_weights.specs.Hierarchy.{Hierarchy};
+    ghost use Rattle.std.specs.Prelude.{◌≡◌, length};
+    ghost use Rattle.scx_weights.specs.Hierarchy.{Hierarchy, masks_in};
     ghost use Rattle.scx_weights.specs.Pending.{usages_in, AreUsages};
     ghost use Rattle.scx_weights.specs.RunningSums.{HasRunningSums, KnowsLimits, HasOwnWeights};
 
     ghost Value = { Hierarchy };
 
-    ghost view = { λ t. record { groups = t.groups.items; homes = t.homes.items; own_weights = t.own_weights.items; active = t.active.items; usages = usages_in t.groups.items t.usages.used.items t.usages.pending.items } };
+    ghost view = { λ t. record { groups = t.groups.items; homes = t.homes.items; own_weights = t.own_weights.items; masks = masks_in t.bound t.masks.items; active = t.active.items; usages = usages_in t.groups.items t.usages.used.items t.usages.pending.items } };
 
     ghost invariant = { λ t.
         HasRunningSums
-        (record { groups = t.groups.items; homes = t.homes.items; own_weights = t.own_weights.items; active = t.active.items; usages = usages_in t.groups.items t.usages.used.items t.usages.pending.items })
+        (record { groups = t.groups.items; homes = t.homes.items; own_weights = t.own_weights.items; masks = masks_in t.bound t.masks.items; active = t.active.items; usages = usages_in t.groups.items t.usages.used.items t.usages.pending.items })
         t.sums.tasks.items t.sums.weights.items
         × KnowsLimits t.groups.items t.usages.beat t.usages.since t.usages.next t.usages.limited
         × AreUsages t.groups.items t.usages.used.items t.usages.pending.items t.usages.limited
-        × HasOwnWeights t.homes.items t.own_weights.items };
+        × HasOwnWeights t.homes.items t.own_weights.items
+        × (length t.masks.items ≡ length t.homes.items) };
 }
 
 impl Tree {
-    ghost use Rattle.scx_weights.specs.Hierarchy.{home_of, is_active_task, with_task, with_weight, own_weight, with_own_weight, with_own_weights, idle};
+    ghost use Rattle.scx_weights.specs.Hierarchy.{home_of, is_active_task, with_task, with_weight, own_weight, with_own_weight, with_own_weights, binds, mask_of, is_in_mask, with_masks, idle};
     ghost use Rattle.scx_weights.specs.Weights.{active_tasks, task_weight};
     ghost use Rattle.scx_weights.specs.Limits.{usage_of, has_quota, is_throttled, with_use, with_turn, frees};
     ghost use Rattle.scx_weights.specs.Hierarchy.{lies_in};
-    ghost use Rattle.scx_weights.specs.Refusals.{max_tasks, max_weight, first_fault, weight_fault, own_weight_fault, own_weights_fault, Names};
+    ghost use Rattle.scx_weights.specs.Refusals.{max_tasks, max_weight, first_fault, weight_fault, own_weight_fault, own_weights_fault, masks_fault, Names};
 
     /// A tree of these groups, and of tasks in the groups that `tasks` names; no task is active, and each has the
     /// default weight itself.
@@ -65,6 +71,8 @@ impl Tree {
             groups: Vec::from_slice(alloc, groups)?,
             homes: Vec::from_slice(alloc, tasks)?,
             own_weights: vec![in alloc; DEFAULT_OWN_WEIGHT; tasks.len()]?,
+            masks: vec![in alloc; 0; tasks.len()]?,
+            bound: false,
             active: vec![in alloc; false; tasks.len()]?,
             sums: Sums::new(alloc, groups.len())?,
             usages: Usages::new(alloc, groups)?,
@@ -171,6 +179,54 @@ impl Tree {
         Ok(())
     }
 
+    /// Binds tasks to processors: to each task a mask, one bit a processor. `UnknownTask` if there isn't one for each
+    /// task, `OutOfRange` if a mask is 0.
+    pub fn bind(&mut self, masks: &[u64]) -> Result<(), TreeError>
+        ensures set { OnOk result (self.new ≡ with_masks self.old masks.now) }
+        ensures valid { OnOk result (masks_fault self.old masks.now ≡ None) }
+        ensures refused { IfErr result (λ error. masks_fault self.old masks.now ≡ Some error) }
+        ensures kept { OnErr result (self.new ≡ self.old) }
+    {
+        if masks.len() != self.homes.len() {
+            return Err(TreeError::UnknownTask);
+        }
+        if has_empty_mask(masks) {
+            return Err(TreeError::OutOfRange);
+        }
+        self.masks.copy_from_slice(masks);
+        self.bound = true;
+        Ok(())
+    }
+
+    /// True if tasks are bound to processors.
+    #[inline(always)]
+    pub fn binds(&self) -> bool
+        ensures { result ≡ binds self.now }
+    {
+        let bound = self.bound;
+        bound
+    }
+
+    /// The processors on which a bound task may run, one bit each: none if there is no such task.
+    pub fn mask_of(&self, task: u32) -> u64
+        ensures { result ≡ mask_of self.now task }
+    {
+        if self.bound && (task as usize) < self.masks.len() {
+            self.masks[task as usize]
+        } else {
+            0
+        }
+    }
+
+    /// True if the processor is in the task's mask.
+    #[tactic(auto, using(crate::proofs::Masks::has_here, crate::proofs::Masks::has_past))]
+    pub fn is_in_mask(&self, task: u32, cpu: u32) -> bool
+        ensures { result ≡ is_in_mask self.now task cpu }
+    {
+        let mask = self.mask_of(task);
+        cpu < 64 && mask >> cpu & 1 == 1
+    }
+
     /// The task is active from now on; nothing changes if it is already.
     pub fn activate(&mut self, task: u32)
         requires { task < length self.old.homes }
@@ -260,6 +316,8 @@ impl Tree {
         self.groups.copy_from_slice(&other.groups);
         self.homes.copy_from_slice(&other.homes);
         self.own_weights.copy_from_slice(&other.own_weights);
+        self.masks.copy_from_slice(&other.masks);
+        self.bound = other.bound;
         self.active.copy_from_slice(&other.active);
         self.sums.copy_from(&other.sums);
         self.usages.copy_from(&other.usages);
@@ -273,6 +331,8 @@ impl Tree {
             groups: Vec::from_slice(alloc, &self.groups)?,
             homes: Vec::from_slice(alloc, &self.homes)?,
             own_weights: Vec::from_slice(alloc, &self.own_weights)?,
+            masks: Vec::from_slice(alloc, &self.masks)?,
+            bound: self.bound,
             active: Vec::from_slice(alloc, &self.active)?,
             sums: self.sums.duplicate(alloc)?,
             usages: self.usages.duplicate(alloc)?,
