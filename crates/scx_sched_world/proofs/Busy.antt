@@ -1,15 +1,14 @@
 -- The set of processors on which a task runs, as bits.
-use Rattle.std.proofs.Common.{◌≡◌, ◌≢◌, ℕ, zero, suc, ◌&&◌, not, Bool, ◌+◌, ◌-◌, ◌*◌, ◌%◌, ◌<◌, ◌≤◌, ◌^◌, max, ◌==◌, true, false, ◌⊎◌, inl, inr, List, length, set, get_or, replicate, Option, Some, None, is_none, is_some, refl, subst, sym, ◌∙◌, ap, arith}
-use Rattle.std.specs.Int.{w64, bit_at, bit_not, trailing_zeros, trailing_ones}
+use Rattle.std.proofs.Common.{◌≡◌, ◌≢◌, ℕ, ◌&&◌, not, Bool, ◌*◌, ◌%◌, ◌<◌, ◌≤◌, ◌^◌, max, ◌==◌, true, false, ◌⊎◌, inl, inr, List, length, set, get_or, replicate, Option, Some, None, is_none, is_some, refl, subst, ◌∙◌, ap, arith}
+use Rattle.std.specs.Int.{w64, bit_at, bit_not}
 use Rattle.std.specs.Int.Bits.{bit_or, bit_and}
-use Rattle.std.specs.Int.Count.{count_trailing_zeros, trailing_of_zero}
-use Rattle.std.proofs.lemmas.Bool.{cases_eq, cases_lt, eq-eqb, ne_eqb, lt-ltb}
+use Rattle.std.proofs.lemmas.Bool.{cases_eq, eq-eqb, ne_eqb, lt-ltb}
 use Rattle.std.proofs.lemmas.List.{length-replicate, get_or-replicate, get_or-set_same, get_or-set_other, length-set}
-use Rattle.std.proofs.lemmas.Nat.Bits.{bit_at-zero, bit_at_ones, bit_at-trailing_ones, bit_at_set_same, bit_at_set_other, bit_at_clear_same, bit_at_clear_other, bit_at_or, bit_at-lt}
+use Rattle.std.proofs.lemmas.Nat.Bits.{bit_at-zero, bit_at_set_same, bit_at_set_other, bit_at_clear_same, bit_at_clear_other, bit_at_or, bit_at-lt}
 use Rattle.scx_dsq.specs.Laws.{one_if}
 use Rattle.scx_sched_world.specs.CpuSets.{is_in_set}
 use Rattle.scx_sched_world.specs.Kept.{AreBusy, AreOccupied, AreTaken}
-use Rattle.scx_sched_world.specs.World.{WorldState, running, is_this, is_idle, is_by_linux, is_free, this_if, or_this, free_below, first_free}
+use Rattle.scx_sched_world.specs.World.{WorldState, running, is_this, is_idle, is_by_linux}
 
 -- ---- one bit set or cleared
 
@@ -47,23 +46,6 @@ busy_set bits bits' k o cpus within few here others h c l = go (cases_eq c k)
     go : (c ≡ k) ⊎ (c ≡ k → ⊥) → bit_at bits' c ≡ one_if (is_some (get_or (set cpus k o) c None))
     go (inl e) = rw (e, get_or-set_same cpus k o None within) here
     go (inr d) = rw (get_or-set_other cpus k c o None d) (others c (omega (arith, known, few)) d ∙ h c known)
-
--- ---- the lowest one on which nothing runs
-
-record IsLowestClear (bits t : ℕ) : Type 0 where
-  most : t ≤ 64
-  clear : t < 64 → bit_at bits t ≡ 0
-  below : (i : ℕ) → i < t → bit_at bits i ≡ 1
-
-lowest_clear : (bits : ℕ) → bits < 2 ^ 64 → IsLowestClear bits (trailing_ones w64 bits)
-lowest_clear bits fits = go (cases_lt (bits + 1) (2 ^ 64))
-  where
-    go : (bits + 1 < 2 ^ 64) ⊎ (2 ^ 64 ≤ bits + 1) → IsLowestClear bits (trailing_ones w64 bits)
-    go (inl l) = let h = bit_at-trailing_ones w64 bits l in record { most = omega (arith, h.0); clear = λ x. h.1; below = h.2 }
-    go (inr past) =
-        let all : bits ≡ 0xffff_ffff_ffff_ffff = omega (arith, fits, past) in
-        let end : trailing_ones w64 bits ≡ 64 = ap (λ n. count_trailing_zeros 64 (0xffff_ffff_ffff_ffff - n)) all ∙ trailing_of_zero 64 in
-        record { most = omega (arith, end); clear = λ x. absurd (omega (arith, x, end)); below = λ i l. ap (λ n. bit_at n i) all ∙ bit_at_ones 64 i (omega (arith, l, end)) }
 
 -- ---- processors that aren't idle
 
@@ -124,40 +106,3 @@ taken_alone a false linux claimed off e = e
 -- and nobody else is
 pub taken_unclaimed : (bits : ℕ) (w : WorldState) → is_by_linux w ≡ false → AreOccupied bits w → AreTaken bits w
 taken_unclaimed bits w off h c l = taken_alone (bit_at bits c) (is_idle w c) (is_by_linux w) (is_in_set w.claimed c) off (h c l)
-
--- ---- the lowest free one
-
-must_be : (b : Bool) → one_if (not b) ≡ 0 → b ≡ true
-must_be true e = refl
-must_be false e = absurd (omega (arith, e))
-
-cant_be : (b : Bool) → one_if (not b) ≡ 1 → b ≡ false
-cant_be true e = absurd (omega (arith, e))
-cant_be false e = refl
-
--- none so far is free
-pub none_below : (n : ℕ) (w : WorldState) → ((k : ℕ) → k < n → is_free w k ≡ false) → free_below n w ≡ None
-none_below zero w all = refl
-none_below (suc n) w all = rw (none_below n w (λ k l. all k (omega (arith, l))), all n (omega arith)) refl
-
--- the first that is
-pub one_below : (n i : ℕ) (w : WorldState) → i < n → is_free w i ≡ true → ((k : ℕ) → k < i → is_free w k ≡ false) → free_below n w ≡ Some i
-one_below zero i w l free all = absurd (omega (arith, l))
-one_below (suc n) i w l free all = go (cases_eq i n) (λ d. one_below n i w (omega (arith, l, d)) free all)
-  where
-    go : (i ≡ n) ⊎ (i ≡ n → ⊥) → ((i ≡ n → ⊥) → free_below n w ≡ Some i) → or_this (free_below n w) (this_if (is_free w n) n) ≡ Some i
-    go (inl e) f = rw (← e, none_below i w all, free) refl
-    go (inr d) f = rw (f d) refl
-
--- the lowest clear bit is the first free processor
-pub lowest_free : (bits : ℕ) (w : WorldState) → bits < 2 ^ 64 → length w.cpus ≤ 64 → AreTaken bits w → trailing_zeros w64 (bit_not w64 bits) < length w.cpus → first_free w ≡ Some (trailing_zeros w64 (bit_not w64 bits))
-lowest_free bits w fits few h l =
-    let low = lowest_clear bits fits in
-    one_below (length w.cpus) (trailing_ones w64 bits) w l (must_be _ (sym (h (trailing_ones w64 bits) l) ∙ low.clear (omega (arith, l, few))))
-    (λ k m. cant_be _ (sym (h k (omega (arith, m, l))) ∙ low.below k m))
-
--- where it is past the last, none is free
-pub none_free : (bits : ℕ) (w : WorldState) → bits < 2 ^ 64 → length w.cpus ≤ 64 → AreTaken bits w → length w.cpus ≤ trailing_zeros w64 (bit_not w64 bits) → first_free w ≡ None
-none_free bits w fits few h past =
-    let low = lowest_clear bits fits in
-    none_below (length w.cpus) w (λ k l. cant_be _ (sym (h k l) ∙ low.below k (omega (arith, l, past))))

@@ -1,16 +1,18 @@
 -- Who stands at the front of a queue, and whom a task has right behind it there.
-use Rattle.std.proofs.Common.{◌≡◌, ℕ, Bool, true, false, nat_lt, ◌==◌, ◌&&◌, cond, if◌then◌else◌, Option, Some, None, option_map, refl, sym, ap, ◌∙◌, subst}
+use Rattle.std.proofs.Common.{◌≡◌, ℕ, Bool, true, false, nat_lt, ◌==◌, ◌&&◌, cond, if◌then◌else◌, Option, Some, None, IfNone, option_map, refl, sym, ap, ◌∙◌, subst}
 use Rattle.std.proofs.lemmas.Bool.{and_parts, eqb-true, both_ways}
 use Rattle.std.proofs.lemmas.List.Quantifiers.{position-Some}
 use Rattle.scx_dsq.specs.declared.entries.Entry.{Entry}
 use Rattle.scx_dsq.specs.declared.entries.Rank.{Rank}
 use Rattle.scx_dsq.specs.declared.entries.Rank.TheVariants.{Fifo, Front, Vtime}
 use Rattle.scx_dsq.specs.Entries.{is_before}
-use Rattle.scx_dsq.specs.Queues.{QueueState, entry_of, queue_of, is_first, front_of, is_right_behind, next_by, right_behind, behind_of}
+use Rattle.scx_dsq.specs.Queues.{QueueState, only, entry_of, queue_of, is_first, front_of, is_right_behind, next_by, right_behind, behind_of}
+use Rattle.scx_dsq.specs.Calls.{without}
 use Rattle.scx_dsq.proofs.Orders.{before-asym}
+use Rattle.scx_weights.specs.Hierarchy.{is_in_mask}
 use Rattle.scx_sched_world.specs.Ids.{parked_queue}
-use Rattle.scx_sched_world.specs.World.{WorldState}
-use Rattle.scx_sched_world.specs.Tasks.{local_len, fill_front}
+use Rattle.scx_sched_world.specs.World.{WorldState, with_queues, binds}
+use Rattle.scx_sched_world.specs.Tasks.{local_len, next_for, fill_front, unbound_front, after_take}
 
 -- the front of a queue stands there
 pub front_in : (s : QueueState) (q t : ℕ) → front_of s q ≡ Some t → queue_of s t ≡ Some q
@@ -26,13 +28,30 @@ pub none_either : (b : Bool) → cond {A = Option ℕ} b None None ≡ None
 none_either true = refl
 none_either false = refl
 
+-- where tasks are bound, others than those that may run there are passed over
+pub bound_next : (w : WorldState) (q c : ℕ) → binds w ≡ true → next_for w q c ≡ front_of (only (λ t. is_in_mask w.tree t c) w.queues) q
+bound_next w q c bound = rw bound refl
+
+-- where tasks aren't bound, the first of a queue that may run somewhere is its front
+pub unbound_next : (w : WorldState) (q c : ℕ) → binds w ≡ false → next_for w q c ≡ front_of w.queues q
+unbound_next w q c free = rw free refl
+
+-- and so is the one that comes to a local queue
+pub unbound_fill : (w : WorldState) (q c : ℕ) → binds w ≡ false → unbound_front w q c ≡ fill_front w q c
+unbound_fill w q c free = rw free refl
+
 -- from an empty queue nobody comes
-pub nobody_comes : (w : WorldState) (q c : ℕ) → front_of w.queues q ≡ None → fill_front w q c ≡ None
+pub nobody_comes : (w : WorldState) (q c : ℕ) → front_of w.queues q ≡ None → unbound_front w q c ≡ None
 nobody_comes w q c e = go (nat_lt 0 (local_len w c))
   where
     go : (b : Bool) → (if b then None else front_of w.queues q) ≡ None
     go true = refl
     go false = e
+
+-- nor does anybody leave it
+pub nobody_leaves : (w v : WorldState) (q : ℕ) (o : Option ℕ) → o ≡ front_of w.queues q → v ≡ after_take w q → IfNone o (v ≡ w)
+nobody_leaves w v q None e h = h ∙ ap (λ o. with_queues w (without w.queues o)) (sym e)
+nobody_leaves w v q (Some t) e h = tt
 
 -- ---- whom a task has right behind it
 

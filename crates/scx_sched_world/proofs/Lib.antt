@@ -12,3 +12,4 @@ mod Settled
 mod Keeping
 mod Entering
 mod Picks
+mod Randoms

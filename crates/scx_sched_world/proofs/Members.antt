@@ -1,11 +1,11 @@
 -- Who is in a set of processors.
-use Rattle.std.proofs.Common.{◌≡◌, ◌≢◌, ℕ, true, false, ◌==◌, ◌+◌, ◌-◌, ◌*◌, ◌/◌, ◌%◌, ◌<◌, ◌≤◌, ◌^◌, min, ◌⊎◌, inl, inr, refl, ◌∙◌, ap, arith}
+use Rattle.std.proofs.Common.{◌≡◌, ◌≢◌, ℕ, true, false, ◌==◌, ◌+◌, ◌-◌, ◌*◌, ◌%◌, ◌<◌, ◌≤◌, ◌^◌, min, ◌⊎◌, inl, inr, refl, ◌∙◌, ap, arith}
 use Rattle.std.specs.Int.{w64, bit_at, bit_not}
 use Rattle.std.specs.Int.Bits.{bit_or, bit_and, or_zero_r}
 use Rattle.std.proofs.Math.Nat.{one-mul, mul-mod_left, zero-min}
 use Rattle.std.proofs.lemmas.Bool.{cases_eq, cases_lt}
 use Rattle.std.proofs.lemmas.Nat.{pow-add}
-use Rattle.std.proofs.lemmas.Nat.Bits.{shr_and_one, same_from_bits, bit_at_and, bit_at-lt, bit_at_above, bit_at_ones, bit_at_set_same, bit_at_set_other, bit_at_clear_same, bit_at_clear_other}
+use Rattle.std.proofs.lemmas.Nat.Bits.{same_from_bits, bit_at_and, bit_at-lt, bit_at_above, bit_at_ones, bit_at_set_same, bit_at_set_other, bit_at_clear_same, bit_at_clear_other}
 
 -- past the last bit nothing is set
 shifted_out : (c : ℕ) → 64 ≤ c → 1 * 2 ^ c % 2 ^ 64 ≡ 0
@@ -14,14 +14,6 @@ shifted_out c past =
     ap (λ n. 1 * 2 ^ n % 2 ^ 64) same
     ∙ ap (λ n. n % 2 ^ 64) (one-mul (2 ^ (c - 64 + 64)) ∙ pow-add 2 (c - 64) 64)
     ∙ mul-mod_left (2 ^ (c - 64)) (2 ^ 64)
-
--- one that there is
-pub has_here : (s c : ℕ) → (bit_and (s / 2 ^ c) 1 == 1) ≡ (bit_at s c == 1)
-has_here s c = rw (shr_and_one s c) refl
-
--- and one past the last
-pub has_past : (s c : ℕ) → s < 2 ^ 64 → 64 ≤ c → (bit_at s c == 1) ≡ false
-has_past s c fits past = rw (bit_at_above s 64 c fits past) refl
 
 -- ---- one more
 

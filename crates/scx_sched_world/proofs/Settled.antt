@@ -165,14 +165,21 @@ marked_one bits new k here others c l clear = go (cases_eq c k)
 pub marked_none : (bits c : ℕ) → bit_at bits c ≡ 0 → (bit_at bits c ≡ 0) × (None ≢ Some c)
 marked_none bits c clear = (clear, λ e. let bad : None ≡ Some c = e in absurd (cc))
 
--- nor for one past the last
-pub marked_past : (bits k : ℕ) → 64 ≤ k → (c : ℕ) → c < 64 → bit_at bits c ≡ 0 → (bit_at bits c ≡ 0) × (Some k ≢ Some c)
-marked_past bits k past c l clear = (clear, λ e. omega (arith, past, l, same_some k c e))
+-- the bit of its lowest digits is that of a processor
+pub marked_low : (bits new k : ℕ) → bit_at new (k % 64) ≡ 1 → ((i : ℕ) → i < 64 → i ≢ k % 64 → bit_at new i ≡ bit_at bits i) → (c : ℕ) → c < 64 → bit_at new c ≡ 0 → (bit_at bits c ≡ 0) × (Some k ≢ Some c)
+marked_low bits new k here others c l clear =
+    let mark = marked_one bits new (k % 64) here others c l clear in
+    (mark.0, λ e. mark.1 (ap (λ n. Some n) (low (same_some k c e))))
+  where
+    low : k ≡ c → k % 64 ≡ c
+    low e = omega (arith, e, l)
 
--- that of a queue is that of its processor
-pub marked_queue : (bits marked q : ℕ) (o : Option ℕ) → ((c : ℕ) → c < 64 → q ≡ local_on c → o ≡ Some c)
-    → ((c : ℕ) → c < 64 → bit_at marked c ≡ 0 → (bit_at bits c ≡ 0) × (o ≢ Some c)) → AreMarked bits marked q
-marked_queue bits marked q o is marks c l clear = let mark = marks c l clear in (mark.0, λ e. mark.1 (is c l e))
+-- that of a local queue is that of its processor
+pub marked_queue : (bits marked q : ℕ) → local_on 0 ≤ q
+    → ((c : ℕ) → c < 64 → bit_at marked c ≡ 0 → (bit_at bits c ≡ 0) × (Some ((q - local_on 0) % 64) ≢ Some c)) → AreMarked bits marked q
+marked_queue bits marked q local marks c l clear =
+    let mark = marks c l clear in
+    (mark.0, λ e. mark.1 (ap (λ n. Some n) (omega (arith, e, l))))
 
 -- a number without one of its bits is less
 pub cleared_less : (bits k : ℕ) → k < 64 → bit_at bits k ≡ 1 → bit_and bits (bit_not w64 (1 * 2 ^ k % 2 ^ 64)) < bits

@@ -1,5 +1,5 @@
 -- The first world: nobody runs or waits, and the machine's own queues are there.
-use Rattle.std.specs.Prelude.{ℕ, zero, suc, ◌+◌, true, [], length, replicate, None}
+use Rattle.std.specs.Prelude.{ℕ, zero, suc, ◌+◌, true, [], length, replicate, if◌then◌else◌, None}
 use Rattle.scx_dsq.specs.Queues.{QueueState}
 use Rattle.scx_dsq.specs.Calls.{after_create, empty}
 use Rattle.scx_weights.specs.Hierarchy.{Hierarchy}
@@ -7,7 +7,8 @@ use Rattle.scx_isa_semantics.specs.declared.rules.Rules.TheVariants.{Plain}
 use Rattle.scx_sched_tasks.specs.Tasks.{new_task}
 use Rattle.scx_sched_world.specs.CpuSets.{no_cpus}
 use Rattle.scx_sched_world.specs.Ids.{global, held_queue, builtin_queue, parked_queue, local_on}
-use Rattle.scx_sched_world.specs.World.{WorldState, nothing_passes, no_call}
+use Rattle.scx_sched_world.specs.World.{WorldState, nothing_passes, no_call, task_at, with_task, binds, first_home}
+use Rattle.scx_sched_world.specs.Tasks.{with_home}
 
 -- a local queue for each processor
 abbrev pub with_locals : ℕ → QueueState → QueueState
@@ -40,6 +41,7 @@ first_world tree cpus = record {
   preempted = no_cpus;
   tracks_idle = true;
   timers = [];
+  random = 0;
   queues = first_queues cpus (length tree.homes);
   tree = tree;
   call = no_call;
@@ -47,3 +49,18 @@ first_world tree cpus = record {
   ejected = None;
   notes = [];
 }
+
+-- ---- where bound tasks begin
+
+-- the record of a task that was last on the lowest processor on which it may run
+abbrev pub with_first_home : WorldState → ℕ → WorldState
+with_first_home w t = with_task w t (with_home (task_at w t) (first_home w t))
+
+-- the tasks below that number
+abbrev pub with_homes_below : ℕ → WorldState → WorldState
+with_homes_below zero w = w
+with_homes_below (suc n) w = with_first_home (with_homes_below n w) n
+
+-- tasks that are bound were last on the lowest processor on which they may run
+abbrev pub at_first_homes : WorldState → WorldState
+at_first_homes w = if binds w then with_homes_below (length w.tasks) w else w

@@ -1,6 +1,6 @@
 -- What each helper answers, and what it makes of the world. A call with a fault answers that it is
 -- invalid, and changes nothing but that the fault is kept, if it is the first one of the callback.
-use Rattle.std.specs.Prelude.{ℕ, zero, suc, Bool, true, false, ◌&&◌, ◌==◌, nat_lt, nat_le, not, ◌||◌, ◌+◌, ◌-◌, ◌*◌, ◌/◌, ◌%◌, ◌^◌, min, max, List, length, if◌then◌else◌, Option, Some, None, is_none, slice_index_or, slice_set}
+use Rattle.std.specs.Prelude.{ℕ, Bool, true, false, ◌&&◌, ◌==◌, nat_lt, nat_le, not, ◌||◌, ◌+◌, ◌-◌, ◌*◌, ◌/◌, ◌%◌, ◌^◌, min, max, List, length, if◌then◌else◌, Option, Some, None, is_none, slice_index_or, slice_set}
 use Rattle.std.specs.Int.{w64, bit_at, cast_signed}
 use Rattle.std.specs.List.{list_any}
 use Rattle.scx_dsq.specs.Queues.{exists, entry_of, is_in, front_of, len_of}
@@ -8,12 +8,12 @@ use Rattle.scx_dsq.specs.Calls.{create_refusal, after_create, clashes}
 use Rattle.scx_dsq.specs.Laws.{one_if}
 use Rattle.scx_dsq.specs.declared.entries.Rank.{Rank}
 use Rattle.scx_dsq.specs.declared.entries.Rank.TheVariants.{Fifo, Front, Vtime}
-use Rattle.scx_weights.specs.Hierarchy.{home_of, own_weight}
+use Rattle.scx_weights.specs.Hierarchy.{home_of, own_weight, mask_of}
 use Rattle.scx_weights.specs.Weights.{task_weight}
 use Rattle.scx_isa_semantics.specs.declared.callbacks.Callback.{Callback}
 use Rattle.scx_isa_semantics.specs.declared.callbacks.Callback.TheVariants as callback
 use Rattle.scx_isa_semantics.specs.declared.host_tables.Helper.{Helper}
-use Rattle.scx_isa_semantics.specs.declared.host_tables.Helper.TheVariants.{MapLookupElem, KtimeGetNs, CreateDsq, DsqInsert, DsqInsertVtime, DsqMoveToLocal, SelectCpuDfl, CpuIdle, TaskByPid, DsqNrQueued, KickCpu, SmpProcessorId, Exit, CpuCurr, DsqPeek, TaskRunning, TaskCpu, PickIdle, ClaimIdle, TimerStart, TimerCancel}
+use Rattle.scx_isa_semantics.specs.declared.host_tables.Helper.TheVariants.{MapLookupElem, KtimeGetNs, CreateDsq, DsqInsert, DsqInsertVtime, DsqMoveToLocal, SelectCpuDfl, CpuIdle, TaskByPid, DsqNrQueued, KickCpu, SmpProcessorId, Exit, CpuCurr, DsqPeek, TaskRunning, TaskCpu, PickIdle, ClaimIdle, TimerStart, TimerCancel, PrandomU32, MayRun}
 use Rattle.scx_isa_semantics.specs.declared.host_tables.TaskId.{TaskId}
 use Rattle.scx_isa_semantics.specs.declared.host_tables.Field.{Field}
 use Rattle.scx_isa_semantics.specs.declared.host_tables.Field.TheVariants.{Pid, Weight, Slice, DsqVtime, PrevCpu, Group, RunNs, Cpus}
@@ -26,16 +26,16 @@ use Rattle.scx_sched_tasks.specs.declared.task.Task.{Task}
 use Rattle.scx_sched_world.specs.declared.eject.Cause.{Cause}
 use Rattle.scx_sched_world.specs.declared.eject.Cause.TheVariants as reason
 use Rattle.scx_sched_world.specs.declared.faults.Fault.{Fault}
-use Rattle.scx_sched_world.specs.declared.faults.Fault.TheVariants.{NoSuchQueue, CannotInsert, NoSuchCpu, UnknownFlag, CannotCreate, BuiltinVtime, Mixed, IdleUntracked}
+use Rattle.scx_sched_world.specs.declared.faults.Fault.TheVariants.{NoSuchQueue, CannotInsert, NoSuchCpu, UnknownFlag, CannotCreate, BuiltinVtime, Mixed, IdleUntracked, NotAllowed}
 use Rattle.scx_sched_world.specs.declared.call.Insert.{Insert}
 use Rattle.scx_sched_world.specs.declared.kicks.Kick.{Kick}
 use Rattle.scx_sched_world.specs.declared.kicks.Kick.TheVariants.{Any, IfIdle, Preempt}
 use Rattle.scx_sched_world.specs.declared.timers.Alarm.{Alarm}
 use Rattle.scx_sched_world.specs.declared.notes.What.TheVariants as notes
 use Rattle.scx_sched_world.specs.Ids.{policy_end, global, local, held_queue, local_on}
-use Rattle.scx_sched_world.specs.World.{WorldState, with_queues, with_kick, with_preemption, is_by_linux, task_at, with_task, running, is_this, current, is_current, is_idle, this_if, or_this, is_claimed, is_free, choice, default_choice, after_claim, with_timer_at_hand, here, with_note}
+use Rattle.scx_sched_world.specs.World.{WorldState, with_queues, with_kick, with_preemption, is_by_linux, task_at, with_task, running, is_this, current, is_current, is_idle, this_if, lowest_cpu, is_claimed, is_free, choice, default_choice, after_claim, with_timer_at_hand, here, with_note, binds, may_run, with_random}
 use Rattle.scx_sched_world.specs.CpuSets.{is_in_set}
-use Rattle.scx_sched_world.specs.Tasks.{with_slice, with_vtime, after_leave, after_enter, after_take, after_local, for_cpu}
+use Rattle.scx_sched_world.specs.Tasks.{with_slice, with_vtime, after_leave, after_enter, local_cpu, after_local, for_cpu, next_for}
 
 -- -22 as a number of 64 bits
 abbrev pub invalid : ℕ
@@ -204,14 +204,33 @@ arrival_rank n = if has_preempt n || has_head n then Front else Fifo
 abbrev pub flags_fault : WorldState → ℕ → Option Fault
 flags_fault w n = if are_known w n then None else Some UnknownFlag
 
+-- ---- inserts where a task may not run
+
+-- the processor to whose local queue an insert into that queue brings a task, if that is known by
+-- now: LOCAL is one in dispatch alone
+abbrev pub cpu_meant : WorldState → ℕ → Option ℕ
+cpu_meant w q = if (q == local) && is_dispatch w.call.callback then Some w.call.cpu else local_cpu w q
+
+-- whether the task may run there; true where one of both isn't given
+abbrev pub may_go : WorldState → Option ℕ → Option ℕ → Bool
+may_go w (Some t) (Some c) = may_run w t c
+may_go w o p = true
+
+-- a task isn't put into the local queue of a processor on which it may not run (ext.c,
+-- `task_can_run_on_remote_rq`)
+abbrev pub placing_fault : WorldState → Option ℕ → ℕ → Option Fault
+placing_fault w t q = if may_go w t (cpu_meant w q) then None else Some NotAllowed
+
 -- ---- inserts that come to something
 
--- what is wrong with an insert: first with its task, then its flags, its queue and its rank
+-- what is wrong with an insert: first with its task, then its flags, its queue, its rank, and where
+-- the task may run
 abbrev pub insert_fault : WorldState → Option ℕ → Insert → ℕ → Option Fault
 insert_fault w t i flags =
     if may_insert w t
     then or_fault (flags_fault w flags)
-    (or_fault (queue_fault w i.queue) (rank_fault w i.queue i.rank))
+    (or_fault (queue_fault w i.queue)
+    (or_fault (rank_fault w i.queue i.rank) (placing_fault w t i.queue)))
     else Some CannotInsert
 
 -- under Linux rules an insert in dispatch of a task that isn't held is passed over, but for its
@@ -293,20 +312,21 @@ abbrev pub moved_here : WorldState → ℕ → WorldState
 moved_here w t =
     with_note (with_move (after_local w w.call.cpu t)) (notes.Move t w.call.cpu)
 
--- the front of a queue goes to the local queue of the processor at hand
-abbrev pub front_moved_to_local : WorldState → Option ℕ → ℕ → WorldState
-front_moved_to_local w None q = w
-front_moved_to_local w (Some t) q = moved_here (after_take w q) t
+-- a task goes from its queue to the local queue of the processor at hand, if there is one
+abbrev pub moved_to_local : WorldState → Option ℕ → WorldState
+moved_to_local w None = w
+moved_to_local w (Some t) = moved_here (after_leave w t) t
 
 -- what a move to the local queue makes of the world; where none may be moved, it is a fault
 abbrev pub after_move : WorldState → ℕ → WorldState
 after_move w q =
-    if can_move w q then front_moved_to_local w (front_of w.queues q) q
+    if can_move w q then moved_to_local w (next_for w q w.call.cpu)
     else with_fault w NoSuchQueue
 
--- what a move answers: 1, 0 where the queue is empty, or -22 where none may be moved
+-- what a move answers: 1, 0 where no task waits that may run on the processor, or -22 where none may
+-- be moved
 abbrev pub move_answer : WorldState → ℕ → ℕ
-move_answer w q = if can_move w q then one_if_some (front_of w.queues q) else invalid
+move_answer w q = if can_move w q then one_if_some (next_for w q w.call.cpu) else invalid
 
 -- ---- processors and tasks
 
@@ -436,21 +456,38 @@ abbrev pub cpu_of_task : WorldState → Option ℕ → ℕ
 cpu_of_task w None = 0
 cpu_of_task w (Some t) = (task_at w t).prev_cpu
 
+-- whether a helper was given a task that may run on the processor
+abbrev pub may_run_there : WorldState → Option ℕ → ℕ → Bool
+may_run_there w None c = false
+may_run_there w (Some t) c = may_run w t c
+
+-- 1 where the task may run on the processor, else 0; -22 where there is no such processor
+abbrev pub may_run_answer : WorldState → Option ℕ → ℕ → ℕ
+may_run_answer w t c = unless_fault (cpu_fault w c) (one_if (may_run_there w t c))
+
+-- ---- random numbers (Knuth, The Art of Computer Programming 2, 3.3.4)
+
+-- the number from which the next one is made
+abbrev pub next_random : ℕ → ℕ
+next_random n = (n * 6364136223846793005 + 1442695040888963407) % 2 ^ 64
+
+-- a random number of 32 bits: the upper half of the next one
+abbrev pub random_answer : WorldState → ℕ
+random_answer w = next_random w.random / 2 ^ 32
+
+-- after a random number was made
+abbrev pub after_random : WorldState → WorldState
+after_random w = with_random w (next_random w.random)
+
 -- ---- claims (ext/idle.c, `scx_bpf_pick_idle_cpu`, `scx_bpf_test_and_clear_cpu_idle`)
 
 -- whether the processor is in the mask, a bit for each, and may be chosen
 abbrev pub is_free_in : ℕ → WorldState → ℕ → Bool
 is_free_in mask w c = (bit_at mask c == 1) && is_free w c
 
--- the lowest one of the first so many processors that is in the mask and may be chosen
-abbrev pub free_in_below : ℕ → ℕ → WorldState → Option ℕ
-free_in_below zero mask w = None
-free_in_below (suc n) mask w =
-    or_this (free_in_below n mask w) (this_if (is_free_in mask w n) n)
-
 -- the lowest processor of the mask that may be chosen
 abbrev pub first_free_in : ℕ → WorldState → Option ℕ
-first_free_in mask w = free_in_below (length w.cpus) mask w
+first_free_in mask w = lowest_cpu w (is_free_in mask w)
 
 -- the flag 1 of such a choice asks for a whole core, which is any processor here
 abbrev pub pick_flags_fault : ℕ → Option Fault
@@ -581,6 +618,9 @@ helper_answer w PickIdle a = answer.Num (pick_answer w (given_number a 0) (given
 helper_answer w ClaimIdle a = answer.Num (claim_answer w (given_number a 0))
 helper_answer w TimerStart a = answer.Num (timer_start_answer w (given_number a 0))
 helper_answer w TimerCancel a = answer.Num (timer_cancel_answer w (given_number a 0))
+helper_answer w PrandomU32 a = answer.Num (random_answer w)
+helper_answer w MayRun a =
+    answer.Num (may_run_answer w (given_task a 0) (given_number a 1))
 helper_answer w MapLookupElem a = answer.Num 0
 
 -- the world that a helper call with these arguments leaves
@@ -601,6 +641,8 @@ helper_after w PickIdle a = after_pick w (given_number a 0) (given_number a 1)
 helper_after w ClaimIdle a = after_claim_of w (given_number a 0)
 helper_after w TimerStart a = after_timer_start w (given_number a 0) (given_number a 1)
 helper_after w TimerCancel a = after_timer_cancel w (given_number a 0)
+helper_after w PrandomU32 a = after_random w
+helper_after w MayRun a = after_asking_cpu w (given_number a 1)
 helper_after w h a = w
 
 -- ---- the record of a task
@@ -618,9 +660,13 @@ weight_told w t = if is_by_linux w then own_weight w.tree t else weight_at w t
 abbrev pub group_at : WorldState → ℕ → ℕ
 group_at w t = if nat_lt t (length w.tasks) then home_of w.tree t else 0
 
--- the processors on which a task may run, one bit each: all of them
+-- all processors, one bit each
 abbrev pub all_cpus : WorldState → ℕ
 all_cpus w = 2 ^ length w.cpus - 1
+
+-- the processors on which a task may run, one bit each
+abbrev pub cpus_of : WorldState → ℕ → ℕ
+cpus_of w t = if binds w then mask_of w.tree t else all_cpus w
 
 -- what stands in a field of a task's record; where there is no such task, 0 in all but the pid
 abbrev pub field_of : WorldState → ℕ → Field → ℕ
@@ -631,7 +677,7 @@ field_of w t DsqVtime = (task_at w t).vtime
 field_of w t PrevCpu = (task_at w t).prev_cpu
 field_of w t Group = group_at w t
 field_of w t RunNs = (task_at w t).run_ns
-field_of w t Cpus = all_cpus w
+field_of w t Cpus = cpus_of w t
 
 -- the record of a task, stored to at a field; only its slice and its virtual time change so
 abbrev pub stored_in : Task → Field → ℕ → Task

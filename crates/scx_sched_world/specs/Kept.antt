@@ -1,5 +1,5 @@
 -- What the fields of a world mean, and what always holds of them.
-use Rattle.std.specs.Prelude.{◌≡◌, ◌≢◌, ℕ, zero, suc, true, false, ◌+◌, ◌^◌, ◌<◌, ◌≤◌, ◌&&◌, not, ◌==◌, if◌then◌else◌, List, [], ◌∷◌, ◌++◌, take, length, Option, Some, None, is_none, is_some, slice_index_or, vec_capacity}
+use Rattle.std.specs.Prelude.{◌≡◌, ◌≢◌, ℕ, zero, suc, Bool, true, false, ◌+◌, ◌^◌, ◌<◌, ◌≤◌, ◌&&◌, not, ◌==◌, if◌then◌else◌, List, [], ◌∷◌, ◌++◌, take, length, Option, Some, None, is_none, is_some, slice_index_or, vec_capacity}
 use Rattle.std.specs.Int.{w64, bit_at, trailing_zeros}
 use Rattle.scx_dsq.specs.Laws.{one_if}
 use Rattle.scx_dsq.specs.Queues.{QueueState, task_count, queue_of}
@@ -9,6 +9,7 @@ use Rattle.scx_sched_world.specs.Ids.{global, held_queue, builtin_queue, parked_
 use Rattle.scx_sched_world.specs.declared.world.World.TheInside.{Inside}
 use Rattle.scx_sched_world.specs.World.{WorldState, are_linux, is_this, is_idle, is_free, is_throttled}
 use Rattle.scx_sched_world.specs.Pending.{is_pending}
+use Rattle.scx_sched_world.specs.Calls.{call_of}
 
 -- the state for which a world's fields stand, without what is kept beside to find answers sooner
 abbrev pub state_of : Inside → WorldState
@@ -24,9 +25,10 @@ state_of w = record {
   preempted = w.preempted;
   tracks_idle = w.tracks_idle;
   timers = w.timers.items;
+  random = w.random;
   queues = w.queues.state;
   tree = w.tree;
-  call = w.call;
+  call = call_of w.call;
   builtin_clock = w.builtin_clock;
   ejected = w.ejected;
   notes = w.notes.items;
@@ -54,6 +56,10 @@ AreOccupied bits w = (c : ℕ) → c < length w.cpus → bit_at bits c ≡ one_i
 -- these bits are set where a processor isn't free
 abbrev pub AreTaken : ℕ → WorldState → Type 0
 AreTaken bits w = (c : ℕ) → c < length w.cpus → bit_at bits c ≡ one_if (not (is_free w c))
+
+-- these bits are set where the test holds, one bit a processor
+abbrev pub AreSetFor : ℕ → WorldState → (ℕ → Bool) → Type 0
+AreSetFor bits w p = (c : ℕ) → c < length w.cpus → c < 64 → bit_at bits c ≡ one_if (p c)
 
 -- each processor that is to look for work is among these, one bit a processor
 abbrev pub HoldPending : ℕ → WorldState → Type 0

@@ -8,4 +8,5 @@ pub mod Helpers
 pub mod Waits
 pub mod Ejecting
 pub mod First
+pub mod Calls
 pub mod Kept

@@ -12,7 +12,7 @@ has_local w c = not (local_len w c == 0)
 abbrev pub is_pending : WorldState → ℕ → Bool
 is_pending w c = is_in_set w.kicked c || (is_idle w c && has_local w c)
 
--- the lowest pending one of the first so many processors
+-- the lowest pending one of the processors below that number
 unfoldable pub pending_below : ℕ → WorldState → Option ℕ
 pending_below zero w = None
 pending_below (suc n) w = or_this (pending_below n w) (this_if (is_pending w n) n)

@@ -1,17 +1,18 @@
 -- What an event does to tasks, one step at a time.
 use Rattle.std.specs.Prelude.{ℕ, true, false, ◌==◌, ◌&&◌, nat_lt, nat_le, ◌+◌, ◌-◌, ◌%◌, ◌^◌, length, if◌then◌else◌, Option, Some, None, is_none}
-use Rattle.scx_dsq.specs.Queues.{front_of, len_of}
+use Rattle.scx_dsq.specs.Queues.{QueueState, only, front_of, len_of}
 use Rattle.scx_dsq.specs.Calls.{after_push, after_pop, after_remove}
 use Rattle.scx_dsq.specs.declared.entries.Rank.{Rank}
 use Rattle.scx_dsq.specs.declared.entries.Rank.TheVariants.{Fifo, Front, Vtime}
 use Rattle.scx_weights.specs.Hierarchy as tree
+use Rattle.scx_weights.specs.Hierarchy.{is_in_mask}
 use Rattle.scx_weights.specs.Limits as limits
 use Rattle.scx_weights.specs.Refusals.{weight_fault, own_weight_fault}
 use Rattle.scx_sched_world.specs.declared.call.Insert.{Insert}
 use Rattle.scx_sched_tasks.specs.declared.task.Task.{Task}
 use Rattle.scx_sched_tasks.specs.Tasks.{default_slice}
 use Rattle.scx_sched_world.specs.Ids.{global, local, held_queue, parked_queue, local_on}
-use Rattle.scx_sched_world.specs.World.{WorldState, with_queues, with_tree, with_kick, is_by_linux, task_at, with_task, is_throttled, running, with_cpu, is_this}
+use Rattle.scx_sched_world.specs.World.{WorldState, with_queues, with_tree, with_kick, is_by_linux, task_at, with_task, is_throttled, running, with_cpu, is_this, binds}
 
 -- ---- one field of a task changed
 
@@ -197,18 +198,32 @@ to_front c = record {
 abbrev pub local_len : WorldState → ℕ → ℕ
 local_len w c = len_of w.queues (local_on c)
 
--- the front of a queue goes to a local queue
-abbrev pub brought : Option ℕ → WorldState → ℕ → ℕ → WorldState
-brought None w q c = w
-brought (Some t) w q c = after_local (with_queues w (after_pop w.queues q)) c t
+-- the queues as that processor sees them: who may not run there is passed over (ext.c,
+-- `scx_consume_dispatch_q`)
+abbrev pub seen_from : WorldState → ℕ → QueueState
+seen_from w c = if binds w then only (λ t. is_in_mask w.tree t c) w.queues else w.queues
+
+-- the first task of a queue that may run on that processor
+abbrev pub next_for : WorldState → ℕ → ℕ → Option ℕ
+next_for w q c = front_of (seen_from w c) q
+
+-- a task goes from its queue to a local one, if there is one
+abbrev pub brought : Option ℕ → WorldState → ℕ → WorldState
+brought None w c = w
+brought (Some t) w c = after_local (after_leave w t) c t
 
 -- the task that comes to the local queue, where that is empty
 abbrev pub fill_front : WorldState → ℕ → ℕ → Option ℕ
-fill_front w q c = if nat_lt 0 (local_len w c) then None else front_of w.queues q
+fill_front w q c = if nat_lt 0 (local_len w c) then None else next_for w q c
 
--- the front of a queue goes to a local queue that is empty; else nothing is changed
+-- that task where tasks aren't bound: the front
+abbrev pub unbound_front : WorldState → ℕ → ℕ → Option ℕ
+unbound_front w q c = if nat_lt 0 (local_len w c) then None else front_of w.queues q
+
+-- the first task of a queue that may run on the processor goes to its local queue, where that is
+-- empty; else nothing is changed
 abbrev pub after_fill : WorldState → ℕ → ℕ → WorldState
-after_fill w q c = brought (fill_front w q c) w q c
+after_fill w q c = brought (fill_front w q c) w c
 
 -- ---- on and off processors
 

@@ -1,7 +1,8 @@
 -- The world that a policy's programs see and change, and its parts.
-use Rattle.std.specs.Prelude.{◌≡◌, ℕ, zero, suc, Bool, true, false, ◌==◌, ◌&&◌, not, nat_lt, List, [], ◌∷◌, ◌++◌, length, if◌then◌else◌, Option, Some, None, is_none, unwrap_or, slice_index_or, slice_set, position, replicate}
+use Rattle.std.specs.Prelude.{◌≡◌, ℕ, zero, suc, Bool, true, false, ◌==◌, ◌&&◌, ◌||◌, not, nat_lt, List, [], ◌∷◌, ◌++◌, length, if◌then◌else◌, Option, Some, None, is_none, unwrap_or, slice_index_or, slice_set, position, replicate}
 use Rattle.scx_dsq.specs.Queues.{QueueState, queue_of}
-use Rattle.scx_weights.specs.Hierarchy.{Hierarchy, is_active_task}
+use Rattle.scx_weights.specs.Hierarchy.{Hierarchy, is_active_task, is_in_mask}
+use Rattle.scx_weights.specs.Hierarchy as tree
 use Rattle.scx_weights.specs.Counting.{any_below}
 use Rattle.scx_weights.specs.Limits as limits
 use Rattle.scx_isa_semantics.specs.declared.callbacks.Callback.{Callback}
@@ -35,6 +36,7 @@ pub record WorldState : Type 0 where
   pub preempted : CpuSet  -- those on which the task that runs loses its slice then
   pub tracks_idle : Bool  -- whether the host tells the policy which processors are idle
   pub timers : List (Option Alarm)  -- of each timer of the policy when it is due, if it was started
+  pub random : ℕ  -- the number from which the next random one is made
   pub queues : QueueState
   pub tree : Hierarchy
   pub call : Call  -- the callback at hand, or the last one
@@ -73,6 +75,10 @@ with_tracking w b = record w { tracks_idle = b }
 -- the world with that number of timers, none of which was started
 abbrev pub with_timers : WorldState → ℕ → WorldState
 with_timers w n = record w { timers = replicate n None }
+
+-- the world whose random numbers are made from that one
+abbrev pub with_random : WorldState → ℕ → WorldState
+with_random w n = record w { random = n }
 
 -- ---- one part changed
 
@@ -230,24 +236,55 @@ or_this (Some c) o = Some c
 abbrev pub is_claimed : WorldState → ℕ → Bool
 is_claimed w c = is_by_linux w && is_in_set w.claimed c
 
--- whether the processor may be chosen for a task
+-- whether no task runs on the processor, and none is on its way to it
 abbrev pub is_free : WorldState → ℕ → Bool
 is_free w c = is_idle w c && not (is_claimed w c)
 
--- the lowest free one of the first so many processors
-abbrev pub free_below : ℕ → WorldState → Option ℕ
-free_below zero w = None
-free_below (suc n) w = or_this (free_below n w) (this_if (is_free w n) n)
+-- ---- where tasks may run
 
--- the lowest processor that is free, if one is
-abbrev pub first_free : WorldState → Option ℕ
-first_free w = free_below (length w.cpus) w
+-- whether tasks are bound to processors: under Linux rules, also once the policy is out of force
+abbrev pub binds : WorldState → Bool
+binds w = are_linux w.rules && tree.binds w.tree
 
--- the processor of the task if it is free, else the lowest free one, if there is one
+-- whether a task may run on a processor (core.c, `is_cpu_allowed`)
+abbrev pub may_run : WorldState → ℕ → ℕ → Bool
+may_run w t c = not (binds w) || is_in_mask w.tree t c
+
+-- the lowest processor below that number for which the test holds
+abbrev pub lowest_below : ℕ → (ℕ → Bool) → Option ℕ
+lowest_below zero p = None
+lowest_below (suc n) p = or_this (lowest_below n p) (this_if (p n) n)
+
+-- the lowest processor for which the test holds, if there is one
+abbrev pub lowest_cpu : WorldState → (ℕ → Bool) → Option ℕ
+lowest_cpu w p = lowest_below (length w.cpus) p
+
+-- the lowest processor on which a bound task may run; 0 for others
+abbrev pub first_home : WorldState → ℕ → ℕ
+first_home w t = if binds w then unwrap_or (lowest_cpu w (is_in_mask w.tree t)) 0 else 0
+
+-- whether a bound task may run on the last processor, which isn't the one before
+abbrev pub is_in_mask_but : WorldState → ℕ → ℕ → ℕ → Bool
+is_in_mask_but w t c d = is_in_mask w.tree t d && not (d == c)
+
+-- whether there is one processor alone on which the task may run
+abbrev pub has_one_cpu : WorldState → ℕ → Bool
+has_one_cpu w t =
+    if binds w then is_none (lowest_cpu w (is_in_mask_but w t (first_home w t)))
+    else length w.cpus == 1
+
+-- ---- the choice of a processor
+
+-- whether the processor may be chosen for that task
+abbrev pub is_free_for : WorldState → ℕ → ℕ → Bool
+is_free_for w t c = may_run w t c && is_free w c
+
+-- the processor of the task if it is free, else the lowest free one, of those on which it may run,
+-- if there is one
 abbrev pub free_choice : WorldState → ℕ → Option ℕ
 free_choice w t =
     let prev = (task_at w t).prev_cpu in
-    if is_free w prev then Some prev else first_free w
+    if is_free_for w t prev then Some prev else lowest_cpu w (is_free_for w t)
 
 -- the processor that the host chooses for a task, if one is free; none where it doesn't track which
 -- are (ext/idle.c, `check_builtin_idle_enabled`)

@@ -25,6 +25,7 @@ impl World {
         self.preempted = other.preempted;
         self.tracks_idle = other.tracks_idle;
         self.timers.copy_from_slice(&other.timers);
+        self.random = other.random;
         self.queues.copy_from(&other.queues);
         self.tree.copy_from(&other.tree);
         self.call = other.call;
@@ -63,6 +64,7 @@ impl World {
                     preempted: self.preempted,
                     tracks_idle: self.tracks_idle,
                     timers,
+                    random: self.random,
                     queues,
                     tree,
                     call: self.call,

@@ -1,9 +1,9 @@
 ghost use Rattle.std.specs.Prelude.{◌≡◌, ◌+◌, ◌^◌, ◌<◌, ◌≤◌, is_some, IfSome};
-ghost use Rattle.scx_dsq.specs.Queues.{IsQueueAt, task_count, entry_of, front_of};
+ghost use Rattle.scx_dsq.specs.Queues.{IsQueueAt, task_count, entry_of, front_of, only};
 ghost use Rattle.scx_dsq.specs.declared.entries.Rank.TheVariants.{Vtime};
 ghost use Rattle.scx_dsq.specs.Calls.{after_push, after_pop, after_remove};
 
-use scx_dsq::{Entry, Queues, Rank, Steps};
+use scx_dsq::{Entry, Queues, Rank, Steps, TaskSet};
 use std::marker::Brand;
 use std::sync::ledger::{Blank, Ledger};
 
@@ -47,6 +47,7 @@ pub fn pop(queues: &mut Queues, id: u64) -> Option<u32>
     ensures answer { result ≡ front_of queues.old.state id }
     ensures known { IfSome result (λ t. t < task_count queues.old.state) }
     ensures state { queues.new.state ≡ after_pop queues.old.state id }
+    ensures left { IfSome result (λ t. queues.new.state ≡ after_remove queues.old.state t) }
     ensures tasks { task_count queues.new.state ≡ task_count queues.old.state }
     ensures pushes { queues.new.state.pushes ≡ queues.old.state.pushes }
 {
@@ -60,6 +61,7 @@ fn pop_counted<L: Ledger>(queues: &mut Queues, id: u64, blank: Blank) -> Option<
     ensures answer { result ≡ front_of queues.old.state id }
     ensures known { IfSome result (λ t. t < task_count queues.old.state) }
     ensures state { queues.new.state ≡ after_pop queues.old.state id }
+    ensures left { IfSome result (λ t. queues.new.state ≡ after_remove queues.old.state t) }
     ensures tasks { task_count queues.new.state ≡ task_count queues.old.state }
     ensures pushes { queues.new.state.pushes ≡ queues.old.state.pushes }
 {
@@ -77,6 +79,7 @@ pub fn pop_at(queues: &mut Queues, place: usize, id: u64) -> Option<u32>
     ensures answer { result ≡ front_of queues.old.state id }
     ensures known { IfSome result (λ t. t < task_count queues.old.state) }
     ensures state { queues.new.state ≡ after_pop queues.old.state id }
+    ensures left { IfSome result (λ t. queues.new.state ≡ after_remove queues.old.state t) }
     ensures tasks { task_count queues.new.state ≡ task_count queues.old.state }
     ensures pushes { queues.new.state.pushes ≡ queues.old.state.pushes }
 {
@@ -97,6 +100,7 @@ fn pop_at_counted<L: Ledger>(
     ensures answer { result ≡ front_of queues.old.state id }
     ensures known { IfSome result (λ t. t < task_count queues.old.state) }
     ensures state { queues.new.state ≡ after_pop queues.old.state id }
+    ensures left { IfSome result (λ t. queues.new.state ≡ after_remove queues.old.state t) }
     ensures tasks { task_count queues.new.state ≡ task_count queues.old.state }
     ensures pushes { queues.new.state.pushes ≡ queues.old.state.pushes }
 {
@@ -104,6 +108,32 @@ fn pop_at_counted<L: Ledger>(
     let front = queues.pop_at(place, id, &mut steps);
     drop(steps);
     front
+}
+
+/// The first of those tasks in the queue. Nobody asks for the comparisons.
+pub fn first_among<S: TaskSet>(queues: &Queues, id: u64, tasks: &S) -> Option<u32>
+    ensures answer { result ≡ front_of (only (S.has tasks.now) queues.now.state) id }
+    ensures known { IfSome result (λ t. t < task_count queues.now.state) }
+{
+    first_among_counted::<S, Brand>(queues, id, tasks, Blank::new(1))
+}
+
+fn first_among_counted<S: TaskSet, L: Ledger>(
+    queues: &Queues,
+    id: u64,
+    tasks: &S,
+    blank: Blank,
+) -> Option<u32>
+    requires name { blank.name ≡ L.name }
+    requires parts { blank.parts ≡ L.parts }
+    requires some { 0 < blank.parts }
+    ensures answer { result ≡ front_of (only (S.has tasks.now) queues.now.state) id }
+    ensures known { IfSome result (λ t. t < task_count queues.now.state) }
+{
+    let mut steps = Steps::<L>::new(blank);
+    let first = queues.first_among(id, tasks, &mut steps);
+    drop(steps);
+    first
 }
 
 /// Takes the task out of the queue in which it waits. Nobody asks for the comparisons.

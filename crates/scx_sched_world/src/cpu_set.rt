@@ -12,7 +12,7 @@ impl CpuSet {
 
     /// True if the CPU is in the set.
     #[inline(always)]
-    #[tactic(auto, using(crate::proofs::Members::has_here, crate::proofs::Members::has_past))]
+    #[tactic(auto, using(scx_weights::proofs::Masks::has_here, scx_weights::proofs::Masks::has_past))]
     pub fn has(self, cpu: u32) -> bool
         ensures { result ≡ is_in_set self cpu }
     {
@@ -36,7 +36,7 @@ impl CpuSet {
 
     /// The set but for that CPU.
     #[inline(always)]
-    #[tactic(auto, using(crate::proofs::Members::but_past, crate::proofs::Members::but_lacks, crate::proofs::Members::but_others, crate::proofs::Members::has_past))]
+    #[tactic(auto, using(crate::proofs::Members::but_past, crate::proofs::Members::but_lacks, crate::proofs::Members::but_others, scx_weights::proofs::Masks::has_past))]
     pub fn but(self, cpu: u32) -> CpuSet
         ensures set { result ≡ but_cpu self cpu }
         ensures gone { is_in_set result cpu ≡ false }

@@ -1,6 +1,6 @@
 ghost use Rattle.std.specs.Prelude.{◌≡◌, ◌+◌, ◌^◌, ◌<◌, ◌≤◌, length, is_some};
 ghost use Rattle.scx_sched_world.specs.World.{running};
-ghost use Rattle.scx_sched_world.specs.Ejecting.{put_builtin, after_catch_up, used_vtime, after_charge, put_out, evict, cut_task, after_cut};
+ghost use Rattle.scx_sched_world.specs.Ejecting.{builtin_vtime, put_builtin, after_catch_up, used_vtime, after_charge, put_out, evict, cut_task, after_cut};
 
 use crate::eject::Eject;
 use crate::ids::BUILTIN;
@@ -33,7 +33,7 @@ impl World {
         ensures few { self.new.queues.pushes ≡ self.old.queues.pushes }
     {
         self.ejected = Some(why);
-        self.call.insert = None;
+        self.call.has_insert = false;
         self.call.has_moved = false;
         self.passing = Passing::NOTHING;
         self.tracks_idle = true;
@@ -81,13 +81,21 @@ impl World {
         ensures few { self.new.queues.pushes ≤ self.old.queues.pushes + 1 }
     {
         if (task as usize) < self.tasks.len() {
+            let vtime = self.builtin_vtime(task);
             let mut facts = self.task(task);
-            let earliest = self.builtin_clock.saturating_sub(DEFAULT_SLICE);
-            facts.builtin = cmp::max(facts.builtin, earliest);
+            facts.builtin = vtime;
             facts.slice = DEFAULT_SLICE;
             self.set_task(task, facts);
-            self.push(BUILTIN, task, Rank::Vtime(facts.builtin));
+            self.push(BUILTIN, task, Rank::Vtime(vtime));
         }
+    }
+
+    /// The virtual time by which the task waits for the built-in scheduler.
+    fn builtin_vtime(&self, task: u16) -> u64
+        ensures { result ≡ builtin_vtime self.now task }
+    {
+        let earliest = self.builtin_clock.saturating_sub(DEFAULT_SLICE);
+        cmp::max(self.task(task).builtin, earliest)
     }
 
     /// The task runs under the built-in scheduler, whose clock is no earlier from now on.

@@ -22,10 +22,12 @@ pub enum Fault {
     CannotCreate,
     /// The host was asked which CPUs are idle, and the policy keeps track of them itself.
     IdleUntracked,
+    /// The task may not run on the processor to which it was to go.
+    NotAllowed,
 }
 
 impl Fault {
-    /// Its number, 0 to 8 in the order above.
+    /// Its number, 0 to 9 in the order above.
     pub fn number(self) -> u8
         ensures { result ≡ fault_number self }
     {
@@ -39,6 +41,7 @@ impl Fault {
             Fault::UnknownFlag => 6,
             Fault::CannotCreate => 7,
             Fault::IdleUntracked => 8,
+            Fault::NotAllowed => 9,
         }
     }
 }

@@ -1,10 +1,11 @@
-ghost use Rattle.std.specs.Prelude.{◌≡◌, ◌+◌, ◌-◌, ◌*◌, ◌^◌, ◌<◌, ◌≤◌, length, is_some, IfSome};
+ghost use Rattle.std.specs.Prelude.{◌≡◌, ◌+◌, ◌-◌, ◌*◌, ◌^◌, ◌<◌, ◌≤◌, length, is_some, IfSome, IfNone};
 ghost use Rattle.scx_dsq.specs.Queues.{IsQueueAt, front_of};
 ghost use Rattle.scx_sched_world.specs.Ids.{policy_end};
 ghost use Rattle.scx_sched_world.specs.World.{with_note};
+ghost use Rattle.scx_sched_world.specs.Tasks.{after_leave, next_for};
 ghost use Rattle.scx_sched_world.specs.declared.kicks.Kick.TheVariants.{IfIdle};
 ghost use Rattle.scx_isa_semantics.specs.HostTables.{field_width};
-ghost use Rattle.scx_sched_world.specs.Helpers.{invalid, with_cause, with_fault, after_exit, task_or_null, current_answer, after_asking_cpu, peek_answer, is_current_one, cpu_of_task, invalid_if, is_there, create_answer, after_create_dsq, queued_answer, after_queued, is_held, may_insert, queue_fault, rank_fault, or_fault, are_known, flags_fault, insert_fault, is_late, after_late, insert_or_fault, with_move, insert_answer, after_insert, after_release, pid_answer, moved_here, move_answer, after_move, kicked_so, kick_answer, after_kick, weight_at, weight_told, group_at, all_cpus, field_of};
+ghost use Rattle.scx_sched_world.specs.Helpers.{invalid, with_cause, with_fault, after_exit, task_or_null, current_answer, after_asking_cpu, peek_answer, is_current_one, cpu_of_task, invalid_if, is_there, create_answer, after_create_dsq, queued_answer, after_queued, is_held, may_insert, queue_fault, rank_fault, or_fault, are_known, flags_fault, insert_fault, is_late, after_late, insert_or_fault, with_move, insert_answer, after_insert, after_release, pid_answer, placing_fault, moved_here, move_answer, after_move, kicked_so, kick_answer, after_kick, weight_at, weight_told, group_at, all_cpus, field_of};
 
 use crate::call::Insert;
 use crate::eject::Cause;
@@ -25,8 +26,8 @@ impl World {
         ensures world { self.new ≡ with_cause self.old cause }
         ensures few { self.new.queues.pushes ≡ self.old.queues.pushes }
     {
-        if self.call.cause.is_none() {
-            self.call.cause = Some(cause);
+        if self.call.cause().is_none() {
+            self.call.keep_cause(cause);
         }
     }
 
@@ -102,7 +103,7 @@ impl World {
     {
         match self.call.callback {
             Callback::SelectCpu | Callback::Enqueue => {
-                self.call.insert.is_none() && task == Some(self.call.task)
+                self.call.insert().is_none() && task == Some(self.call.task)
             }
             Callback::Dispatch => self.is_held(task),
             _ => false,
@@ -186,9 +187,23 @@ impl World {
         if insert.queue < POLICY_END {
             return self.policy_fault(insert.queue, insert.rank);
         }
-        match self.queue_fault(insert.queue) {
+        self.own_fault(task, insert)
+    }
+
+    /// Why the task may not be put into a queue of the machine's own.
+    #[inline(always)]
+    fn own_fault(&self, task: Option<u16>, insert: &Insert) -> Option<Fault>
+        requires { policy_end ≤ insert.now.queue }
+        ensures { result ≡ or_fault (queue_fault self.now insert.now.queue)
+            (or_fault (rank_fault self.now insert.now.queue insert.now.rank)
+            (placing_fault self.now task insert.now.queue)) }
+    {
+        if let Some(fault) = self.queue_fault(insert.queue) {
+            return Some(fault);
+        }
+        match self.rank_fault(insert.queue, insert.rank) {
             Some(fault) => Some(fault),
-            None => self.rank_fault(insert.queue, insert.rank),
+            None => self.placing_fault(task, insert.queue),
         }
     }
 
@@ -298,11 +313,29 @@ impl World {
         let Some(place) = self.place(queue) else {
             return self.fault(Fault::NoSuchQueue);
         };
-        let Some(task) = self.pop_at(place, queue) else {
+        let Some(task) = self.take_next(place, queue) else {
             return 0;
         };
         self.bring_here(task);
         1
+    }
+
+    /// Takes the first task out of the queue of that id, which is at that place, that may run on the CPU at hand.
+    #[inline(always)]
+    fn take_next(&mut self, place: usize, queue: u64) -> Option<u16>
+        requires { IsQueueAt self.old.queues place queue }
+        ensures answer { result ≡ next_for self.old queue self.old.call.cpu }
+        ensures known { IfSome result (λ t. t < length self.old.tasks) }
+        ensures left { IfSome result (λ t. self.new ≡ after_leave self.old t) }
+        ensures stays { IfNone result (self.new ≡ self.old) }
+        ensures few { self.new.queues.pushes ≡ self.old.queues.pushes }
+    {
+        if !self.binds() {
+            return self.pop_at(place, queue);
+        }
+        let task = self.next_for(queue, self.call.cpu)?;
+        self.leave_queue(task);
+        Some(task)
     }
 
     /// The task comes to the local queue of the CPU at hand.
@@ -440,12 +473,12 @@ impl World {
             Field::PrevCpu => u64::from(self.task(task).prev_cpu),
             Field::Group => self.group(task),
             Field::RunNs => self.task(task).run_ns,
-            Field::Cpus => self.all_cpus(),
+            Field::Cpus => self.cpus_of(task),
         }
     }
 
-    /// The CPUs on which a task may run, one bit each.
-    fn all_cpus(&self) -> u64
+    /// All CPUs, one bit each.
+    pub(crate) fn all_cpus(&self) -> u64
         ensures { result ≡ all_cpus self.now }
     {
         first_bits(self.cpus.len())

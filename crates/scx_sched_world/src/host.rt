@@ -56,6 +56,11 @@ impl Env for World {
                 Answer::Num(self.start_timer(first, given_number(arguments[1])))
             }
             Helper::TimerCancel => Answer::Num(self.cancel_timer(first)),
+            Helper::PrandomU32 => Answer::Num(u64::from(self.next_random())),
+            Helper::MayRun => Answer::Num(self.ask_may_run(
+                given_task(arguments[0]),
+                given_number(arguments[1]),
+            )),
             // A run looks up elements itself.
             Helper::MapLookupElem => Answer::Num(0),
         }

@@ -1,6 +1,6 @@
 ghost use Rattle.std.specs.Prelude.{◌≡◌, Some, None, IfOk, IfErr, OnOk};
 ghost use Rattle.scx_sched_world.specs.Kept.{AreOccupied, AreTaken};
-ghost use Rattle.scx_sched_world.specs.World.{is_idle, is_claimed, is_free, first_free, with_tracking, free_choice, choice, default_choice, this_if, after_claim};
+ghost use Rattle.scx_sched_world.specs.World.{is_idle, is_claimed, is_free, lowest_cpu, is_free_for, with_tracking, free_choice, choice, default_choice, this_if, after_claim};
 ghost use Rattle.scx_sched_world.specs.Helpers.{choice_answer, after_choice, seems_idle, ask_fault, idle_answer, after_idle, pick_fault, first_free_in, pick_answer, after_pick, claim_answer, after_claim_of};
 
 use crate::faults::Fault;
@@ -52,15 +52,22 @@ impl World {
         }
     }
 
-    /// The CPU of the task if it is free, else the lowest free one, if there is one.
+    /// True if the CPU may be chosen for that task.
+    fn is_free_for(&self, task: u16, cpu: u32) -> bool
+        ensures { result ≡ is_free_for self.now task cpu }
+    {
+        self.may_run(task, cpu) && self.is_free(cpu)
+    }
+
+    /// The CPU of the task if it is free, else the lowest free one, of those on which it may run, if there is one.
     fn free_choice(&self, task: u16) -> Option<u32>
         ensures { result ≡ free_choice self.now task }
     {
         let prev = self.task(task).prev_cpu;
-        if self.is_free(prev) {
+        if self.is_free_for(task, prev) {
             Some(prev)
         } else {
-            self.first_free()
+            self.first_free(task)
         }
     }
 
@@ -74,17 +81,11 @@ impl World {
         }
     }
 
-    /// The lowest processor that is free.
-    #[tactic(auto, using(crate::proofs::Busy::lowest_free, crate::proofs::Busy::none_free))]
-    fn first_free(&self) -> Option<u32>
-        ensures { result ≡ first_free self.now }
+    /// The lowest free CPU on which the task may run.
+    fn first_free(&self, task: u16) -> Option<u32>
+        ensures { result ≡ lowest_cpu self.now (is_free_for self.now task) }
     {
-        let cpu = (!self.taken()).trailing_zeros();
-        if (cpu as usize) < self.cpus.len() {
-            Some(cpu)
-        } else {
-            None
-        }
+        self.lowest_of(self.homes(task) & !self.taken())
     }
 
     /// The processors that aren't free, one bit each.
@@ -125,7 +126,7 @@ impl World {
         if let Some(cpu) = cpu {
             if self.is_by_linux() {
                 self.claimed = self.claimed.and(cpu);
-                self.call.claims = self.call.claims.and(cpu);
+                self.call.claim(cpu);
             }
         }
     }
@@ -154,7 +155,7 @@ impl World {
     fn seems_idle(&self, cpu: u32) -> bool
         ensures { result ≡ seems_idle self.now cpu }
     {
-        self.is_idle(cpu) && (!self.is_claimed(cpu) || self.call.claims.has(cpu))
+        self.is_idle(cpu) && (!self.is_claimed(cpu) || self.call.claims().has(cpu))
     }
 
     /// The CPU of that number, if the host can be asked whether it is idle.
@@ -214,16 +215,10 @@ impl World {
     }
 
     /// The lowest free CPU of the mask.
-    #[tactic(auto, using(crate::proofs::Picks::lowest_in, crate::proofs::Picks::none_in_mask))]
     fn first_free_in(&self, mask: u64) -> Option<u32>
         ensures { result ≡ first_free_in mask self.now }
     {
-        let cpu = (mask & !self.taken()).trailing_zeros();
-        if (cpu as usize) < self.cpus.len() {
-            Some(cpu)
-        } else {
-            None
-        }
+        self.lowest_of(mask & !self.taken())
     }
 
     /// Claims the CPU if it is free, and answers 1 if it was.

@@ -4,6 +4,7 @@
 //! Each step of a world is a function of what it was, and the machine above is made of such steps.
 #![tactic(auto)]
 
+mod allowed;
 mod call;
 mod copying;
 mod counting;
@@ -20,6 +21,7 @@ mod kicks;
 mod notes;
 mod passing;
 mod pending;
+mod random;
 mod steps;
 mod timers;
 mod world;

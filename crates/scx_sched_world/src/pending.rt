@@ -82,37 +82,37 @@ impl World {
 
 /// Under Linux rules the CPU, if there is one, may be idle with a task in its local queue from now on.
 #[inline(always)]
+#[tactic(auto, using(crate::proofs::Settled::marked_none))]
 pub fn unsettle(bits: &mut u64, linux: bool, cpu: Option<u32>)
     ensures { linux ≡ true → (c : ℕ) → c < 64 → bit_at bits.new c ≡ 0
         → (bit_at bits.old c ≡ 0) × (cpu ≢ Some c) }
 {
     if linux {
-        *bits = marked(*bits, cpu);
+        if let Some(cpu) = cpu {
+            *bits = marked(*bits, cpu);
+        }
     }
 }
 
 /// Under Linux rules the CPU of that queue, if it is a local one, may be idle with a task in it from now on.
 #[inline(always)]
-#[tactic(auto, using(crate::proofs::Settled::marked_queue))]
+#[tactic(auto, using(crate::proofs::Settled::marked_queue, crate::proofs::Settled::marked_apart))]
 pub fn unsettle_at(bits: &mut u64, linux: bool, queue: u64)
     ensures { linux ≡ true → (c : ℕ) → c < 64 → bit_at bits.new c ≡ 0
         → (bit_at bits.old c ≡ 0) × (queue ≢ local_on c) }
 {
-    if linux {
-        *bits = marked(*bits, cpu_of_queue(queue));
+    if linux && queue >= LOCAL_ON {
+        *bits = marked(*bits, ((queue - LOCAL_ON) % 64) as u32);
     }
 }
 
-/// The bits with that of the CPU set.
+/// The bits with that of the CPU set. One past the last CPU sets another, so that nothing is asked.
 #[inline(always)]
-#[tactic(auto, using(crate::proofs::Settled::marked_none, crate::proofs::Settled::marked_past, crate::proofs::Settled::marked_one))]
-fn marked(bits: u64, cpu: Option<u32>) -> u64
-    ensures { (c : ℕ) → c < 64 → bit_at result c ≡ 0 → (bit_at bits c ≡ 0) × (cpu ≢ Some c) }
+#[tactic(auto, using(crate::proofs::Settled::marked_low))]
+fn marked(bits: u64, cpu: u32) -> u64
+    ensures { (c : ℕ) → c < 64 → bit_at result c ≡ 0 → (bit_at bits c ≡ 0) × (Some cpu ≢ Some c) }
 {
-    match cpu {
-        Some(cpu) if cpu < 64 => with_bit(bits, cpu, true),
-        Some(_) | None => bits,
-    }
+    with_bit(bits, cpu % 64, true)
 }
 
 /// The bits without that one.
@@ -125,16 +125,4 @@ fn without(bits: u64, at: u32) -> u64
     ensures others { (i : ℕ) → i < 64 → i ≢ at → bit_at result i ≡ bit_at bits i }
 {
     bits & !(1 << at)
-}
-
-/// The CPU of a local queue.
-#[inline(always)]
-fn cpu_of_queue(queue: u64) -> Option<u32>
-    ensures { (c : ℕ) → c < 64 → queue ≡ local_on c → result ≡ Some c }
-{
-    if queue >= LOCAL_ON && queue - LOCAL_ON < 64 {
-        Some((queue - LOCAL_ON) as u32)
-    } else {
-        None
-    }
 }

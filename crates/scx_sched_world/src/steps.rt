@@ -7,7 +7,7 @@ ghost use Rattle.scx_weights.specs.Limits.{usage_of, with_use};
 ghost use Rattle.scx_weights.specs.Refusals.{max_weight};
 ghost use Rattle.scx_sched_world.specs.Ids.{global, parked_queue, local_on};
 ghost use Rattle.scx_sched_world.specs.World.{task_at, with_task, with_queues, with_tree};
-ghost use Rattle.scx_sched_world.specs.Tasks.{after_wake, after_sleep, after_leave, homed, local_cpu, homed_at, after_local, given_slice, task_after_insert, key_by, rank_by, after_preempt_of, after_preempt_at, after_preempt, queued_by, after_enter, local_len, fill_front, after_fill, after_stop, after_run, after_start, after_keep, after_cut_off, longer, after_switch, put_parked, after_take, let_go, ran_a_tick, after_tick, later, used_ms, slice_left, begun_periods, after_reweigh, after_own_weight};
+ghost use Rattle.scx_sched_world.specs.Tasks.{after_wake, after_sleep, after_leave, homed, local_cpu, homed_at, after_local, given_slice, task_after_insert, key_by, rank_by, after_preempt_of, after_preempt_at, after_preempt, queued_by, after_enter, local_len, brought, next_for, fill_front, unbound_front, after_fill, after_stop, after_run, after_start, after_keep, after_cut_off, longer, after_switch, put_parked, after_take, let_go, ran_a_tick, after_tick, later, used_ms, slice_left, begun_periods, after_reweigh, after_own_weight};
 
 use crate::call::Insert;
 use crate::counting;
@@ -66,6 +66,7 @@ impl World {
         ensures answer { result ≡ front_of self.old.queues queue }
         ensures known { IfSome result (λ t. t < length self.old.tasks) }
         ensures world { self.new ≡ after_take self.old queue }
+        ensures left { IfSome result (λ t. self.new ≡ after_leave self.old t) }
         ensures few { self.new.queues.pushes ≡ self.old.queues.pushes }
     {
         let task = counting::pop(&mut self.queues, queue)?;
@@ -80,6 +81,7 @@ impl World {
         ensures answer { result ≡ front_of self.old.queues queue }
         ensures known { IfSome result (λ t. t < length self.old.tasks) }
         ensures world { self.new ≡ after_take self.old queue }
+        ensures left { IfSome result (λ t. self.new ≡ after_leave self.old t) }
         ensures few { self.new.queues.pushes ≡ self.old.queues.pushes }
     {
         let task = counting::pop_at(&mut self.queues, place, queue)?;
@@ -93,6 +95,7 @@ impl World {
         ensures answer { result ≡ front_of self.old.queues global }
         ensures known { IfSome result (λ t. t < length self.old.tasks) }
         ensures world { self.new ≡ after_take self.old global }
+        ensures left { IfSome result (λ t. self.new ≡ after_leave self.old t) }
         ensures few { self.new.queues.pushes ≡ self.old.queues.pushes }
     {
         let task = counting::pop_at(&mut self.queues, GLOBAL_PLACE, GLOBAL)?;
@@ -233,7 +236,7 @@ impl World {
 
     /// The processor of a local queue.
     #[inline(always)]
-    fn local_cpu(&self, queue: u64) -> Option<u32>
+    pub(crate) fn local_cpu(&self, queue: u64) -> Option<u32>
         ensures { result ≡ local_cpu self.now queue }
     {
         if queue >= LOCAL_ON && queue < LOCAL_ON + self.cpus.len() as u64 {
@@ -360,10 +363,22 @@ impl World {
 
     /// True if a task waits in the global queue.
     #[inline(always)]
-    pub fn has_global(&self) -> bool
+    fn has_global(&self) -> bool
         ensures { result ≡ is_some (front_of self.now.queues global) }
     {
         self.queues.front_at(GLOBAL_PLACE, GLOBAL).is_some()
+    }
+
+    /// True if a task waits in the global queue that may run on the CPU.
+    #[inline(always)]
+    pub fn has_global_for(&self, cpu: u32) -> bool
+        ensures { result ≡ is_some (next_for self.now global cpu) }
+    {
+        if self.binds() {
+            self.next_for(GLOBAL, cpu).is_some()
+        } else {
+            self.has_global()
+        }
     }
 
     /// Who was parked first.
@@ -375,33 +390,47 @@ impl World {
         Some(task as u16)
     }
 
-    /// Where the local queue is empty the front of another comes to it, and is answered.
+    /// Where the local queue is empty the first task of another that may run on the CPU comes to it, and is answered.
     #[inline(always)]
-    #[tactic(auto, using(crate::proofs::Fronts::nobody_comes, crate::proofs::Fronts::none_either))]
+    #[tactic(auto, using(crate::proofs::Fronts::none_either))]
     pub fn fill(&mut self, queue: u64, cpu: u32) -> Option<u16>
         requires few { self.old.queues.pushes < 2 ^ 63 }
         ensures answer { result ≡ fill_front self.old queue cpu }
         ensures world { self.new ≡ after_fill self.old queue cpu }
         ensures few { self.new.queues.pushes ≤ self.old.queues.pushes + 1 }
     {
-        if self.front(queue).is_none() {
-            return None;
-        }
         if self.local_len(cpu) > 0 {
             return None;
         }
-        let task = self.pop(queue)?;
-        self.push_local(cpu, task);
-        Some(task)
+        let first = self.next_for(queue, cpu)?;
+        self.leave_queue(first);
+        self.push_local(cpu, first);
+        Some(first)
     }
 
-    /// Where the local queue is empty the front of the queue of all processors comes to it, and is answered.
+    /// Where the local queue is empty the first task of the queue of all CPUs that may run on this one comes to it, and
+    /// is answered.
     #[inline(always)]
-    #[tactic(auto, using(crate::proofs::Fronts::nobody_comes, crate::proofs::Fronts::none_either))]
     pub fn fill_global(&mut self, cpu: u32) -> Option<u16>
         requires few { self.old.queues.pushes < 2 ^ 63 }
         ensures answer { result ≡ fill_front self.old global cpu }
         ensures world { self.new ≡ after_fill self.old global cpu }
+        ensures few { self.new.queues.pushes ≤ self.old.queues.pushes + 1 }
+    {
+        if self.binds() {
+            self.fill(GLOBAL, cpu)
+        } else {
+            self.fill_from_front(cpu)
+        }
+    }
+
+    /// Where the local queue is empty the front of the queue of all CPUs comes to it, and is answered.
+    #[inline(always)]
+    #[tactic(auto, using(crate::proofs::Fronts::nobody_comes, crate::proofs::Fronts::none_either))]
+    fn fill_from_front(&mut self, cpu: u32) -> Option<u16>
+        requires few { self.old.queues.pushes < 2 ^ 63 }
+        ensures answer { result ≡ unbound_front self.old global cpu }
+        ensures world { self.new ≡ brought (unbound_front self.old global cpu) self.old cpu }
         ensures few { self.new.queues.pushes ≤ self.old.queues.pushes + 1 }
     {
         if !self.has_global() {
@@ -502,6 +531,7 @@ impl World {
     pub fn take(&mut self, queue: u64) -> Option<u16>
         ensures answer { result ≡ front_of self.old.queues queue }
         ensures world { self.new ≡ after_take self.old queue }
+        ensures left { IfSome result (λ t. self.new ≡ after_leave self.old t) }
         ensures few { self.new.queues.pushes ≡ self.old.queues.pushes }
     {
         self.pop(queue)
@@ -510,6 +540,15 @@ impl World {
     /// The front of the queue.
     pub fn front(&self, queue: u64) -> Option<u16>
         ensures { result ≡ front_of self.now.queues queue }
+    {
+        self.known_front(queue)
+    }
+
+    /// The front of the queue, a task that there is.
+    #[inline(always)]
+    pub(crate) fn known_front(&self, queue: u64) -> Option<u16>
+        ensures answer { result ≡ front_of self.now.queues queue }
+        ensures known { IfSome result (λ t. t < length self.now.tasks) }
     {
         let task = self.queues.front(queue)?;
         Some(task as u16)

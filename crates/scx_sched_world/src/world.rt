@@ -11,7 +11,7 @@ ghost use Rattle.scx_sched_world.specs.Waits.{first_overdue};
 ghost use Rattle.scx_weights.specs.Limits.{usage_of};
 ghost use Rattle.scx_sched_world.specs.World.{task_at, wait, with_task, is_runnable, is_throttled, waits, running, with_cpu, with_switch, cycling_by_linux, with_cycling, out_of_cycle, with_timers, with_slept, with_waker, is_this, cpu_of, current_in, current, is_current, with_kick, with_preemption, without_kick, without_marks, are_linux, is_by_linux, with_rules, at_callback, quiet, here, note_now};
 
-use crate::call::{Call, Insert};
+use crate::call::{Insert, KeptCall};
 use crate::counting;
 use crate::cpu_set::CpuSet;
 use crate::eject::{Cause, Eject};
@@ -57,9 +57,11 @@ pub struct World {
     pub(crate) tracks_idle: bool,
     /// For each timer of the policy its alarm, if it was started.
     pub(crate) timers: Vec<Option<Alarm>>,
+    /// The number from which the next random one is made.
+    pub(crate) random: u64,
     pub(crate) queues: Queues,
     pub(crate) tree: Tree,
-    pub(crate) call: Call,
+    pub(crate) call: KeptCall,
     /// The virtual time of the built-in scheduler.
     pub(crate) builtin_clock: u64,
     /// Why and when the policy was put out of force.
@@ -117,9 +119,10 @@ impl World {
                 preempted: CpuSet::EMPTY,
                 tracks_idle: true,
                 timers,
+                random: 0,
                 queues,
                 tree,
-                call: Call::NONE,
+                call: KeptCall::NONE,
                 builtin_clock: 0,
                 ejected: None,
                 notes,
@@ -615,15 +618,7 @@ impl World {
         ensures { self.new ≡ at_callback self.old callback task cpu }
     {
         self.notes.clear();
-        self.call = Call {
-            callback,
-            task,
-            cpu,
-            insert: None,
-            has_moved: false,
-            cause: None,
-            claims: CpuSet::EMPTY,
-        };
+        self.call.begin(callback, task, cpu);
     }
 
     /// Forgets the notes.
@@ -654,7 +649,7 @@ impl World {
     pub fn insert(&self) -> Option<Insert>
         ensures { result ≡ self.now.call.insert }
     {
-        self.call.insert
+        self.call.insert()
     }
 
     /// The task at hand is to wait there.
@@ -663,7 +658,7 @@ impl World {
         ensures world { self.new ≡ with_insert self.old insert }
         ensures few { self.new.queues.pushes ≡ self.old.queues.pushes }
     {
-        self.call.insert = Some(insert);
+        self.call.keep_insert(insert);
     }
 
     /// The callback at hand moved a task, or didn't.
@@ -687,7 +682,7 @@ impl World {
     pub fn cause(&self) -> Option<Cause>
         ensures { result ≡ self.now.call.cause }
     {
-        self.call.cause
+        self.call.cause()
     }
 
     /// The CPU on which the callback at hand runs.
