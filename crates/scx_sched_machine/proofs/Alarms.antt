@@ -1,5 +1,5 @@
 -- Timers that are due, one after another.
-use Rattle.std.proofs.Common.{◌≡◌, ℕ, ◌+◌, ◌≤◌, length, Option, Some, None, refl, ap, add-one}
+use Rattle.std.proofs.Common.{◌≡◌, ℕ, ◌+◌, length, refl, ap, add-one}
 use Rattle.scx_sched_machine.specs.Steps.{State, stays, one_after_other}
 use Rattle.scx_sched_machine.specs.Firing.{fire, fire_below, fire_all}
 

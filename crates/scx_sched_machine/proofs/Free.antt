@@ -1,19 +1,20 @@
 -- Where no group has a quota nobody is parked.
-use Rattle.std.proofs.Common.{arith, ◌≡◌, ℕ, zero, suc, ◌<◌, ◌&&◌, Bool, true, false, cond, ltb, [], ◌∷◌, ◌++◌, length, get_or, Option, Some, None, refl, sym, ap, ◌∙◌}
+use Rattle.std.proofs.Common.{arith, ◌≡◌, ℕ, zero, suc, ◌<◌, ◌&&◌, Bool, true, false, if◌then◌else◌, cond, ltb, [], ◌∷◌, ◌++◌, length, get_or, Option, Some, None, refl, sym, ap, ◌∙◌}
 use Rattle.std.specs.List.{count_by}
 use Rattle.std.proofs.lemmas.List.{length-set}
 use Rattle.std.proofs.lemmas.List.Sums.{sum_by-cons}
-use Rattle.scx_dsq.specs.Queues.{Entries, QueueState, is_in, len_of, is_first, front_of}
-use Rattle.scx_dsq.specs.Calls.{after_push, after_pop}
+use Rattle.scx_dsq.specs.Queues.{Entries, QueueState, is_in, len_of, is_first, front_of, entries_of, only}
+use Rattle.scx_dsq.specs.Calls.{after_push}
 use Rattle.scx_dsq.specs.declared.entries.Entry.{Entry}
 use Rattle.scx_dsq.specs.declared.entries.Rank.TheVariants.{Fifo}
 use Rattle.scx_dsq.proofs.Positions.{no_position}
+use Rattle.scx_weights.specs.Hierarchy.{is_in_mask}
 use Rattle.scx_weights.specs.Limits as limits
 use Rattle.scx_weights.specs.Limits.{has_quota}
 use Rattle.scx_weights.proofs.KnownLimits.{none_throttled}
 use Rattle.scx_sched_world.specs.Ids.{global, local_on}
-use Rattle.scx_sched_world.specs.World.{WorldState, with_queues, is_by_linux, task_at, with_task, is_throttled}
-use Rattle.scx_sched_world.specs.Tasks.{with_home, homed, local_len, brought, fill_front, after_fill}
+use Rattle.scx_sched_world.specs.World.{WorldState, with_queues, is_by_linux, task_at, with_task, is_throttled, binds}
+use Rattle.scx_sched_world.specs.Tasks.{with_home, after_leave, homed, local_len, next_for, brought, fill_front, after_fill}
 use Rattle.scx_sched_machine.specs.Steps.{State, stays}
 use Rattle.scx_sched_machine.specs.Filling.{move_note, fill}
 use Rattle.scx_sched_machine.specs.Parking.{if_throttled, clear, in_reach, supply}
@@ -38,6 +39,24 @@ empty_front : (s : QueueState) (id : ℕ) → len_of s id ≡ 0 → front_of s i
 unfolding front_of
 empty_front s id none = no_position (is_first s.entries id) s.entries (λ k d lt. first_in id s.entries (get_or s.entries k d) (none_in (is_in id) s.entries k d none lt))
 
+-- nor do some of its tasks alone
+none_of_those : (id : ℕ) (p : ℕ → Bool) (n : ℕ) (xs : Entries) → count_by (is_in id) xs ≡ 0 → count_by (is_in id) (entries_of p n xs) ≡ 0
+none_of_those id p n [] none = refl
+none_of_those id p n (x ∷ xs) none =
+    let kept : Option Entry = if p n then x else None in
+    let parts = sum_by-cons (λ y. cond {A = ℕ} (is_in id y) 1 0) x xs in
+    let more = sum_by-cons (λ y. cond {A = ℕ} (is_in id y) 1 0) kept (entries_of p (suc n) xs) in
+    let rest = none_of_those id p (suc n) xs (omega (arith, parts, none)) in
+    let here : cond {A = ℕ} (is_in id kept) 1 0 ≡ 0 = keeps_if (λ (o : Option Entry). cond {A = ℕ} (is_in id o) 1 0 ≡ 0) (p n) x None (omega (arith, parts, none)) refl in
+    omega (arith, more, rest, here)
+
+-- and no processor sees a task in it
+empty_next : (w : WorldState) (q c : ℕ) → len_of w.queues q ≡ 0 → next_for w q c ≡ None
+empty_next w q c none =
+    let allowed : ℕ → Bool = λ t. is_in_mask w.tree t c in
+    keeps_if (λ (s : QueueState). front_of s q ≡ None) (binds w) (only allowed w.queues) w.queues
+    (empty_front (only allowed w.queues) q (none_of_those q allowed 0 w.queues.entries none)) (empty_front w.queues q none)
+
 -- ---- a local queue is filled, and no more
 
 free_front : (w : WorldState) (o : Option ℕ) → ((t : ℕ) → is_throttled w t ≡ false) → if_throttled w o ≡ None
@@ -49,11 +68,11 @@ throttled_homed w x c t =
     let y = with_home (task_at w x) c in
     keeps_if (λ (u : WorldState). is_throttled u t ≡ is_throttled w t) (is_by_linux w) (with_task w x y) w (ap (λ n. ltb t n && limits.is_throttled w.tree t) (length-set w.tasks x y)) refl
 
-throttled_brought : (o : Option ℕ) (w : WorldState) (q c t : ℕ) → is_throttled (brought o w q c) t ≡ is_throttled w t
-throttled_brought None w q c t = refl
-throttled_brought (Some x) w q c t =
-    let popped = with_queues w (after_pop w.queues q) in
-    throttled_homed (with_queues popped (after_push popped.queues (local_on c) x Fifo)) x c t
+throttled_brought : (o : Option ℕ) (w : WorldState) (c t : ℕ) → is_throttled (brought o w c) t ≡ is_throttled w t
+throttled_brought None w c t = refl
+throttled_brought (Some x) w c t =
+    let left = after_leave w x in
+    throttled_homed (with_queues left (after_push left.queues (local_on c) x Fifo)) x c t
 
 no_more : (o : Option ℕ) (w : WorldState) (c : ℕ) → move_note w o c ++ [] ≡ move_note w o c
 no_more None w c = refl
@@ -81,16 +100,16 @@ unfolding supply clear fill
 supply_free s c none = go (in_reach s c) refl
   where
     free : (t : ℕ) → is_throttled (after_fill s.world global c) t ≡ false
-    free t = throttled_brought (fill_front s.world global c) s.world global c t ∙ free_tasks s.world none t
+    free t = throttled_brought (fill_front s.world global c) s.world c t ∙ free_tasks s.world none t
 
     go : (n : ℕ) → in_reach s c ≡ n → clear n s c ≡ fill s global c
     go zero e =
         let empty : len_of s.world.queues global ≡ 0 = omega (arith, e) in
-        sym (fill_nobody s c (nobody_comes (ltb 0 (local_len s.world c)) (front_of s.world.queues global) (empty_front s.world.queues global empty)))
+        sym (fill_nobody s c (nobody_comes (ltb 0 (local_len s.world c)) (next_for s.world global c) (empty_next s.world global c empty)))
     go (suc n) e =
         rw (free_front (after_fill s.world global c) (front_of (after_fill s.world global c).queues (local_on c)) free)
         (ap (λ notes. record { state = (fill s global c).state; notes = notes; calls = [] }) (no_more (fill_front s.world global c) s.world c))
 
--- and where that is empty, nobody comes
-pub supply_nobody : (s : State) (c : ℕ) → has_quota s.world.tree.groups ≡ false → front_of s.world.queues global ≡ None → supply s c ≡ stays s
-supply_nobody s c none e = supply_free s c none ∙ fill_nobody s c (nobody_comes (ltb 0 (local_len s.world c)) (front_of s.world.queues global) e)
+-- and where that has no task that may run on the processor, nobody comes
+pub supply_nobody : (s : State) (c : ℕ) → has_quota s.world.tree.groups ≡ false → next_for s.world global c ≡ None → supply s c ≡ stays s
+supply_nobody s c none e = supply_free s c none ∙ fill_nobody s c (nobody_comes (ltb 0 (local_len s.world c)) (next_for s.world global c) e)

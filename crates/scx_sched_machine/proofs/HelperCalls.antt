@@ -4,12 +4,12 @@ use Rattle.std.proofs.Common.{◌≡◌, ℕ, zero, suc, ◌≤◌, ◌<◌, Boo
 use Rattle.std.proofs.lemmas.Bool.{and_parts}
 use Rattle.std.proofs.lemmas.Bool.Decides.{nat_tests}
 use Rattle.std.specs.List.{list_any}
-use Rattle.scx_dsq.specs.Queues.{exists, front_of}
+use Rattle.scx_dsq.specs.Queues.{exists}
 use Rattle.scx_dsq.specs.Calls.{after_create, clashes}
 use Rattle.scx_dsq.specs.declared.entries.Rank.{Rank}
 use Rattle.scx_dsq.specs.declared.entries.Rank.TheVariants.{Front}
 use Rattle.scx_isa_semantics.specs.declared.host_tables.Helper.{Helper}
-use Rattle.scx_isa_semantics.specs.declared.host_tables.Helper.TheVariants.{CreateDsq, DsqInsert, DsqInsertVtime, DsqMoveToLocal, SelectCpuDfl, CpuIdle, DsqNrQueued, KickCpu, Exit, CpuCurr, DsqPeek, PickIdle, ClaimIdle, TimerStart, TimerCancel}
+use Rattle.scx_isa_semantics.specs.declared.host_tables.Helper.TheVariants.{CreateDsq, DsqInsert, DsqInsertVtime, DsqMoveToLocal, SelectCpuDfl, CpuIdle, DsqNrQueued, KickCpu, Exit, CpuCurr, DsqPeek, PickIdle, ClaimIdle, TimerStart, TimerCancel, PrandomU32, MayRun}
 use Rattle.scx_vm.specs.declared.arguments.Arg.{Arg}
 use Rattle.scx_sched_world.specs.declared.call.Insert.{Insert}
 use Rattle.scx_sched_world.specs.declared.faults.Fault.{Fault}
@@ -17,7 +17,8 @@ use Rattle.scx_sched_world.specs.declared.kicks.Kick.{Kick}
 use Rattle.scx_sched_world.specs.declared.faults.Fault.TheVariants.{Stuck, NoSuchQueue, CannotInsert, NoSuchCpu, UnknownFlag, CannotCreate}
 use Rattle.scx_sched_world.specs.Ids.{policy_end, global, local, local_on}
 use Rattle.scx_sched_world.specs.World.{WorldState, with_queues, is_by_linux, is_this, this_if, is_free, choice, after_claim}
-use Rattle.scx_sched_world.specs.Helpers.{is_there, can_create, with_fault, is_dispatch, is_held, may_insert, is_vtime, queue_fault, rank_fault, or_fault, are_linux_flags, are_known, arrival_rank, flags_fault, insert_fault, is_late, insert_or_fault, with_move, after_late, after_insert, after_move, insert_of, insert_of_vtime, front_moved_to_local, after_choice, kick_of, kick_fault, kicked_so, kicked_or_fault, after_kick, after_exit, untracked_fault, cpu_fault, ask_fault, fault_or, first_free_in, pick_flags_fault, pick_fault, after_pick_by, after_pick, timer_fault, with_timer, alarm_in, given_number, given_task, helper_after}
+use Rattle.scx_sched_world.specs.Tasks.{next_for}
+use Rattle.scx_sched_world.specs.Helpers.{is_there, can_create, with_fault, is_dispatch, may_insert, is_vtime, queue_fault, rank_fault, or_fault, are_linux_flags, are_known, arrival_rank, flags_fault, cpu_meant, may_go, placing_fault, insert_fault, is_late, insert_or_fault, with_move, after_late, after_insert, after_move, insert_of, insert_of_vtime, moved_to_local, after_choice, kick_of, kick_fault, kicked_so, kicked_or_fault, after_kick, after_exit, untracked_fault, cpu_fault, ask_fault, fault_or, first_free_in, pick_flags_fault, pick_fault, after_pick_by, after_pick, timer_fault, with_timer, alarm_in, after_random, given_number, given_task, helper_after}
 use Rattle.scx_sched_machine.proofs.Choices.{keeps_if}
 
 -- ---- the fault of a helper call
@@ -50,10 +51,14 @@ other_rank w q r = other_if (is_vtime r && nat_le policy_end q) _ _ (λ e. absur
 other_flags : (w : WorldState) (flags : ℕ) → IsOther (flags_fault w flags)
 other_flags w flags = other_if (are_known w flags) _ _ no_fault (λ e. absurd (cc))
 
+other_place : (w : WorldState) (t : Option ℕ) (q : ℕ) → IsOther (placing_fault w t q)
+other_place w t q = other_if (may_go w t (cpu_meant w q)) _ _ no_fault (λ e. absurd (cc))
+
 other_insert : (w : WorldState) (t : Option ℕ) (i : Insert) (flags : ℕ) → IsOther (insert_fault w t i flags)
 other_insert w t i flags =
     other_if (may_insert w t) _ _
-    (other_or (flags_fault w flags) _ (other_flags w flags) (other_or (queue_fault w i.queue) (rank_fault w i.queue i.rank) (other_queue w i.queue) (other_rank w i.queue i.rank)))
+    (other_or (flags_fault w flags) _ (other_flags w flags) (other_or (queue_fault w i.queue) _ (other_queue w i.queue)
+    (other_or (rank_fault w i.queue i.rank) (placing_fault w t i.queue) (other_rank w i.queue i.rank) (other_place w t i.queue))))
     (λ e. absurd (cc))
 
 other_untracked : (w : WorldState) → IsOther (untracked_fault w)
@@ -84,7 +89,7 @@ plain_flags (suc (suc n)) few e = absurd (omega (arith, few))
 flags_fine : (w : WorldState) (t : Option ℕ) (i : Insert) (flags : ℕ) → insert_fault w t i flags ≡ None → flags_fault w flags ≡ None
 flags_fine w t i flags e = go (may_insert w t) (flags_fault w flags) refl e
   where
-    go : (b : Bool) (o : Option Fault) → flags_fault w flags ≡ o → (if b then or_fault o (or_fault (queue_fault w i.queue) (rank_fault w i.queue i.rank)) else Some CannotInsert) ≡ None → flags_fault w flags ≡ None
+    go : (b : Bool) (o : Option Fault) → flags_fault w flags ≡ o → (if b then or_fault o (or_fault (queue_fault w i.queue) (or_fault (rank_fault w i.queue i.rank) (placing_fault w t i.queue))) else Some CannotInsert) ≡ None → flags_fault w flags ≡ None
     go true None x y = x
     go true (Some f) x y = absurd (cc)
     go false o x y = absurd (cc)
@@ -101,7 +106,7 @@ arrives w flags fine plain = go (nat_le flags 1) refl (subst (λ b. (if (if b th
 
 -- what a helper call may leave has the property: the world as it is, one with a fault that helpers have or with an
 -- end of the policy's own, with a queue created, with an insert kept or done at once, or too late, with a task moved
--- in dispatch, with a processor claimed or kicked, with a timer started or cancelled
+-- in dispatch, with a processor claimed or kicked, with a timer started or cancelled, with a random number drawn
 pub record HoldsAfterCalls (P : WorldState → Type 0) (w : WorldState) : Type 0 where
   pub same : P w
   pub faulty : (f : Fault) → IsOther (Some f) → P (with_fault w f)
@@ -113,7 +118,8 @@ pub record HoldsAfterCalls (P : WorldState → Type 0) (w : WorldState) : Type 0
   pub kicked : (c : ℕ) (k : Kick) → P (kicked_so w c k)
   pub started : (n ns : ℕ) → P (with_timer w n (Some (alarm_in w ns)))
   pub cancelled : (n : ℕ) → P (with_timer w n None)
-  pub moved : (q : ℕ) → is_dispatch w.call.callback ≡ true → q < policy_end → P (front_moved_to_local w (front_of w.queues q) q)
+  pub drawn : P (after_random w)
+  pub moved : (q : ℕ) → is_dispatch w.call.callback ≡ true → q < policy_end → P (moved_to_local w (next_for w q w.call.cpu))
 
 module _ (P : WorldState → Type 0) (w : WorldState) (h : HoldsAfterCalls P w) where
   inserts : (t : Option ℕ) (i : Insert) (flags : ℕ) → (flags_fault w flags ≡ None → is_by_linux w ≡ false → IsBehind i.rank) → P (after_insert w t i flags)
@@ -136,7 +142,7 @@ module _ (P : WorldState → Type 0) (w : WorldState) (h : HoldsAfterCalls P w) 
   moves : (q : ℕ) → P (after_move w q)
   moves q = go (is_dispatch w.call.callback) (nat_lt q policy_end) (exists w.queues q) refl refl
     where
-      go : (b c d : Bool) → is_dispatch w.call.callback ≡ b → nat_lt q policy_end ≡ c → P (if b && (c && d) then front_moved_to_local w (front_of w.queues q) q else with_fault w NoSuchQueue)
+      go : (b c d : Bool) → is_dispatch w.call.callback ≡ b → nat_lt q policy_end ≡ c → P (if b && (c && d) then moved_to_local w (next_for w q w.call.cpu) else with_fault w NoSuchQueue)
       go true true true here low = h.moved q here (grind (arith, nat_tests, low))
       go true true false here low = h.faulty NoSuchQueue (λ e. absurd (cc))
       go true false d here low = h.faulty NoSuchQueue (λ e. absurd (cc))
@@ -193,4 +199,6 @@ module _ (P : WorldState → Type 0) (w : WorldState) (h : HoldsAfterCalls P w) 
   by_helper TimerCancel a =
       let n = given_number a 0 in
       or_done (timer_fault w n) (if is_this n w.passing.timer then w else with_timer w n None) (other_timer w n) (keeps_if P (is_this n w.passing.timer) w (with_timer w n None) h.same (h.cancelled n))
+  by_helper PrandomU32 a = h.drawn
+  by_helper MayRun a = keeps_if P (nat_lt (given_number a 1) (length w.cpus)) w (with_fault w NoSuchCpu) h.same (h.faulty NoSuchCpu (λ e. absurd (cc)))
   by_helper f a = h.same

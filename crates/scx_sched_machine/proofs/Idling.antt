@@ -1,15 +1,17 @@
 -- A processor on which nobody runs stays idle where nobody waits for it and there is no dispatch.
 use Rattle.std.proofs.Common.{arith, ◌≡◌, ℕ, ◌==◌, ◌&&◌, not, Bool, true, false, if◌then◌else◌, is_some, is_none, [], Option, Some, None, refl, ap, ◌∙◌}
 use Rattle.std.proofs.lemmas.Bool.{and_parts, eqb-true}
-use Rattle.scx_dsq.specs.Queues.{QueueState, len_of, front_of}
+use Rattle.scx_dsq.specs.Queues.{QueueState, only, len_of, front_of}
 use Rattle.scx_isa_semantics.specs.declared.callbacks.Callback.TheVariants as callback
 use Rattle.scx_vm.specs.Programs.{VerifiedProgram}
-use Rattle.scx_weights.specs.Hierarchy.{Hierarchy}
+use Rattle.scx_isa_semantics.specs.declared.rules.Rules.{Rules}
+use Rattle.scx_weights.specs.Hierarchy as tree
+use Rattle.scx_weights.specs.Hierarchy.{Hierarchy, is_in_mask}
 use Rattle.scx_weights.specs.Limits.{has_quota}
 use Rattle.scx_sched_world.specs.Ids.{global, local_on}
 use Rattle.scx_sched_world.specs.World as world
-use Rattle.scx_sched_world.specs.World.{WorldState, with_switch, cycling_by_linux, with_cycling, at_callback}
-use Rattle.scx_sched_world.specs.Tasks.{local_len}
+use Rattle.scx_sched_world.specs.World.{WorldState, are_linux, with_switch, cycling_by_linux, with_cycling, at_callback}
+use Rattle.scx_sched_world.specs.Tasks.{local_len, next_for}
 use Rattle.scx_sched_machine.specs.Policy.{program_of}
 use Rattle.scx_sched_machine.specs.Steps.{State, Stepped, with_world, is_ejected, is_by_linux, kicked, stays, one_after_other}
 use Rattle.scx_sched_machine.specs.Ejecting.{ejected_for}
@@ -25,13 +27,13 @@ and_false : (b : Bool) → (b && false) ≡ false
 and_false true = refl
 and_false false = refl
 
--- nobody waits for the processor, or for any, and there is no dispatch to ask
+-- nobody waits for the processor, or for any and may run on it, and there is no dispatch to ask
 record Rests (s : State) (c : ℕ) : Type 0 where
   force : s.world.ejected ≡ None
   unasked : program_of s.policy callback.Dispatch ≡ None
   free : has_quota s.world.tree.groups ≡ false
   empty : local_len s.world c ≡ 0
-  nobody : front_of s.world.queues global ≡ None
+  nobody : next_for s.world global c ≡ None
 
 -- the state once dispatch would have been asked
 abbrev called : State → ℕ → State
@@ -68,7 +70,7 @@ moved_already s = go (is_ejected s)
     go true = refl
     go false = refl
 
--- where nothing was noted nobody left custody
+-- where nothing was noted no task left custody
 nobody_left : (s : State) (c : ℕ) → tells_left s c [] ≡ stays s
 unfolding tells_left
 nobody_left s c = go (hears_dequeue s)
@@ -134,21 +136,32 @@ is_false : (b : Bool) → not b ≡ true → b ≡ false
 is_false true e = absurd (cc)
 is_false false e = refl
 
--- the queues, the tree and why the policy was put out of force are the same
+-- the queues, the tree, the rules and why the policy was put out of force are the same
 record LooksAlike (v w : WorldState) : Type 0 where
   queues : w.queues ≡ v.queues
   tree : w.tree ≡ v.tree
+  rules : w.rules ≡ v.rules
   ejected : w.ejected ≡ v.ejected
 
 -- as a cycle begins they are as they were
 begins_alike : (w : WorldState) (c : ℕ) → LooksAlike w (with_cycling w (Some c))
-begins_alike w c = keeps_if (LooksAlike w) (world.is_by_linux w) (cycling_by_linux w (Some c)) _ by_linux (record { queues = refl; tree = refl; ejected = refl })
+begins_alike w c = keeps_if (LooksAlike w) (world.is_by_linux w) (cycling_by_linux w (Some c)) _ by_linux (record { queues = refl; tree = refl; rules = refl; ejected = refl })
   where
     switched : LooksAlike w (with_switch w c)
-    switched = keeps_if (LooksAlike w) (world.is_by_linux w) _ w (record { queues = refl; tree = refl; ejected = refl }) (record { queues = refl; tree = refl; ejected = refl })
+    switched = keeps_if (LooksAlike w) (world.is_by_linux w) _ w (record { queues = refl; tree = refl; rules = refl; ejected = refl }) (record { queues = refl; tree = refl; rules = refl; ejected = refl })
 
     by_linux : LooksAlike w (cycling_by_linux w (Some c))
-    by_linux = record { queues = switched.queues; tree = switched.tree; ejected = switched.ejected }
+    by_linux = record { queues = switched.queues; tree = switched.tree; rules = switched.rules; ejected = switched.ejected }
+
+-- the first task of a queue that may run on a processor, by the parts of a world that say it
+abbrev next_in : Rules → Hierarchy → QueueState → ℕ → ℕ → Option ℕ
+next_in r h s q c = front_of (if are_linux r && tree.binds h then only (λ t. is_in_mask h t c) s else s) q
+
+next_alike : (v w : WorldState) (q c : ℕ) → LooksAlike v w → next_for w q c ≡ next_for v q c
+next_alike v w q c h =
+    ap (λ r. next_in r w.tree w.queues q c) h.rules
+    ∙ ap (λ x. next_in v.rules x w.queues q c) h.tree
+    ∙ ap (λ s. next_in v.rules v.tree s q c) h.queues
 
 -- where the processor stays idle, a cycle comes to nothing
 pub idle_cycle : (s : State) (c : ℕ) → stays_idle s c ≡ true → cycle s c None false ≡ idles s c
@@ -166,7 +179,7 @@ idle_cycle s c e =
       unasked = none_is (program_of s.policy callback.Dispatch) first.0;
       free = ap (λ (t : Hierarchy). has_quota t.groups) alike.tree ∙ is_false (has_quota s.world.tree.groups) third.0;
       empty = ap (λ (q : QueueState). len_of q (local_on c)) alike.queues ∙ eqb-true (local_len s.world c) 0 fourth.0;
-      nobody = ap (λ (q : QueueState). front_of q global) alike.queues ∙ none_is (front_of s.world.queues global) fourth.1;
+      nobody = next_alike s.world begun.world global c alike ∙ none_is (next_for s.world global c) fourth.1;
     } in
     let nothing : look begun c None false ≡ stays (called begun c) =
     ap (λ b. if b then builtin_cycle begun c None false else seek begun c None false) (ap is_some force) ∙ no_seek begun c h in

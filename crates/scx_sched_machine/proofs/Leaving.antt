@@ -15,7 +15,7 @@ use Rattle.scx_sched_world.specs.World.{WorldState, are_linux, quiet, at_callbac
 use Rattle.scx_sched_world.specs.Tasks.{after_leave}
 use Rattle.scx_sched_world.specs.Ejecting.{eject_of}
 use Rattle.scx_sched_machine.specs.Policy.{PolicyState, program_of}
-use Rattle.scx_sched_machine.specs.Steps.{State, Stepped, with_world, stays, one_after_other, is_ejected, is_by_linux}
+use Rattle.scx_sched_machine.specs.Steps.{State, Stepped, with_world, stays, one_after_other, is_by_linux}
 use Rattle.scx_sched_machine.specs.Budgets.{eject_pushes, eject_left, pushes_due}
 use Rattle.scx_sched_machine.specs.Ejecting.{moves_over, eject, ejected_for}
 use Rattle.scx_sched_machine.specs.Callbacks.{acting, call_ending, calls_of, cause_of, after_callback, call_back, call_by_linux, noted_by, cpu_and_task, task_and_number}

@@ -1,5 +1,5 @@
 -- Processors that look for work, one after another.
-use Rattle.std.proofs.Common.{arith, ◌≡◌, ℕ, zero, suc, ◌-◌, ◌<◌, Option, Some, None, refl, sub-one}
+use Rattle.std.proofs.Common.{arith, ◌≡◌, ℕ, zero, suc, ◌-◌, ◌<◌, Some, None, refl, sub-one}
 use Rattle.scx_sched_machine.specs.Steps.{State, stays, one_after_other}
 use Rattle.scx_sched_machine.specs.Rounds.{next_to_look, round, rounds}
 

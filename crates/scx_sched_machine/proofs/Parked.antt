@@ -2,34 +2,36 @@
 use Rattle.std.proofs.Common.{arith, ◌≡◌, ℕ, zero, suc, ◌-◌, ◌<◌, Option, Some, None, true, false, refl, sub-one}
 use Rattle.scx_dsq.specs.Queues.{front_of, behind_of}
 use Rattle.scx_sched_world.specs.World.{is_throttled}
+use Rattle.scx_sched_world.specs.Tasks.{after_leave}
 use Rattle.scx_sched_world.specs.Kept.{NobodyIsFree}
 use Rattle.scx_sched_world.proofs.Fronts.{AtParked, at_front, at_behind}
 use Rattle.scx_sched_world.specs.Ids.{global, local_on, parked_queue}
-use Rattle.scx_sched_machine.specs.Steps.{State, stays, one_after_other}
+use Rattle.scx_sched_machine.specs.Steps.{State, with_world, stays, one_after_other}
 use Rattle.scx_sched_machine.specs.Filling.{fill}
-use Rattle.scx_sched_machine.specs.Parking.{park_front, throttled_front, park_fronts, clear, let_go_one, let_go_from}
+use Rattle.scx_sched_machine.specs.Parking.{park, throttled_front, throttled_next, park_next, clear, let_go_one, let_go_from}
 
--- ---- fronts of a queue
+-- ---- the first tasks of a queue that may run on a processor
 
 -- none is left to look at
-pub fronts_none : (n q : ℕ) (s : State) → n ≡ 0 → park_fronts n s q ≡ stays s
-unfolding park_fronts
-fronts_none zero q s e = refl
-fronts_none (suc n) q s e = absurd (omega (arith, e))
+pub next_none : (n q c : ℕ) (s : State) → n ≡ 0 → park_next n s q c ≡ stays s
+unfolding park_next
+next_none zero q c s e = refl
+next_none (suc n) q c s e = absurd (omega (arith, e))
 
--- the front may run, or there is none
-pub fronts_last : (n q : ℕ) (s : State) → throttled_front s q ≡ None → park_fronts n s q ≡ stays s
-unfolding park_fronts
-fronts_last zero q s e = refl
-fronts_last (suc n) q s e = rw e refl
+-- the first of them isn't throttled, or there is none
+pub next_last : (n q c : ℕ) (s : State) → throttled_next s q c ≡ None → park_next n s q c ≡ stays s
+unfolding park_next
+next_last zero q c s e = refl
+next_last (suc n) q c s e = rw e refl
 
--- the front is parked
-pub fronts_more : (n q t : ℕ) (s : State) → 0 < n → throttled_front s q ≡ Some t → park_fronts n s q ≡ one_after_other (park_front s q t) (park_fronts (n - 1) (park_front s q t).state q)
-unfolding park_fronts
-fronts_more zero q t s l e = absurd (omega (arith, l))
-fronts_more (suc n) q t s l e = rw (e, sub-one) refl
+-- the first of them is parked
+pub next_more : (n q c t : ℕ) (s : State) → 0 < n → throttled_next s q c ≡ Some t
+    → park_next n s q c ≡ one_after_other (park (with_world s (after_leave s.world t)) t) (park_next (n - 1) (park (with_world s (after_leave s.world t)) t).state q c)
+unfolding park_next
+next_more zero q c t s l e = absurd (omega (arith, l))
+next_more (suc n) q c t s l e = rw (e, sub-one) refl
 
-pub ruleset park_fronts_steps = (fronts_none, fronts_last, fronts_more)
+pub ruleset park_next_steps = (next_none, next_last, next_more)
 
 -- ---- fronts of a local queue, which is filled
 
@@ -47,7 +49,10 @@ clear_last (suc n) c s l e = rw e refl
 
 -- a front that may not run after a fill is parked, and one round less is left
 pub clear_more : (n c t : ℕ) (s : State) → 0 < n → throttled_front (fill s global c).state (local_on c) ≡ Some t
-    → clear n s c ≡ one_after_other (fill s global c) (one_after_other (park_front (fill s global c).state (local_on c) t) (clear (n - 1) (park_front (fill s global c).state (local_on c) t).state c))
+    → clear n s c ≡ (
+    let v = (fill s global c).state in
+    let p = park (with_world v (after_leave v.world t)) t in
+    one_after_other (fill s global c) (one_after_other p (clear (n - 1) p.state c)))
 unfolding clear
 clear_more zero c t s l e = absurd (omega (arith, l))
 clear_more (suc n) c t s l e = rw (e, sub-one) refl

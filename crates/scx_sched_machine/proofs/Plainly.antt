@@ -1,5 +1,5 @@
 -- By plain rules less is asked: what steps come to where the machine doesn't go by Linux rules.
-use Rattle.std.proofs.Common.{◌≡◌, ℕ, ◌-◌, ◌<◌, Bool, true, false, ◌==◌, ◌&&◌, not, if◌then◌else◌, is_some, length, [], ◌∷◌, Option, Some, None, refl, ap, ◌∙◌}
+use Rattle.std.proofs.Common.{◌≡◌, ℕ, ◌-◌, ◌<◌, Bool, true, false, ◌==◌, ◌&&◌, not, if◌then◌else◌, is_some, [], ◌∷◌, Option, Some, None, refl, ap, ◌∙◌}
 use Rattle.scx_dsq.specs.Queues.{front_of}
 use Rattle.scx_isa_semantics.specs.declared.callbacks.Callback.TheVariants as callback
 use Rattle.scx_vm.specs.Programs.{VerifiedProgram}
@@ -7,7 +7,7 @@ use Rattle.scx_sched_world.specs.declared.call.Insert.{Insert}
 use Rattle.scx_sched_world.specs.declared.notes.What.TheVariants.{Stop}
 use Rattle.scx_sched_world.specs.Ids.{local_on}
 use Rattle.scx_sched_world.specs.World as world
-use Rattle.scx_sched_world.specs.World.{WorldState, with_task, with_waker, task_at, is_idle, choice, after_claim, at_callback, note_now}
+use Rattle.scx_sched_world.specs.World.{WorldState, with_task, with_waker, task_at, first_home, has_one_cpu, is_idle, choice, after_claim, note_now}
 use Rattle.scx_sched_world.specs.Tasks.{with_home, homed, after_stop, for_cpu, to_front}
 use Rattle.scx_sched_world.specs.Ejecting.{after_charge}
 use Rattle.scx_sched_machine.specs.Steps.{State, Stepped, with_world, stays, after, one_after_other, is_ejected, is_by_linux, kicked, kicked_if_idle}
@@ -17,7 +17,7 @@ use Rattle.scx_sched_machine.specs.Custody.{hears_dequeue}
 use Rattle.scx_sched_machine.specs.Put.{enters, enters_builtin, enqueue_choice, comes_in, put}
 use Rattle.scx_sched_machine.specs.Parking.{supply}
 use Rattle.scx_sched_machine.specs.Cycle.{keeps_slice, supply_unless_kept, told_of, after_dispatch, moved_in_vain, asks_again, tries, after_stopping, put_back, leave, builtin_cycle, start_or_cycle, picked, refilled, start_picked_or_cycle, tells_idle, tells_busy, makes_way, pick, pick_or_rest, keep_or_pick, conclude, give_up, cycle}
-use Rattle.scx_sched_machine.specs.Events.{target, insert_or_put, woken, wake_target, comes_to, told_runnable, settle, inserted_by_choice, chosen, ask_target, select, from_waker}
+use Rattle.scx_sched_machine.specs.Events.{target, insert_or_put, woken, wake_target, comes_to, told_runnable, settle, settle_at_home, inserted_by_choice, chosen, ask_target, select, from_waker}
 use Rattle.scx_sched_machine.proofs.Choices.{keeps_if}
 use Rattle.scx_sched_machine.proofs.Leaving.{dispatch_unheard}
 use Rattle.scx_sched_machine.proofs.Steady.{steady, steady_entered, steady_builtin, plain_as, plain_called, plain_supplied}
@@ -96,7 +96,7 @@ waker_plainly s t plain = ap (λ b. if b then with_world s (with_waker s.world (
 asked_plainly : (s : State) (t : ℕ) → is_by_linux s ≡ false → select s t ≡ ask_target s t
 unfolding select
 asked_plainly s t plain =
-    ap (λ b. if not (b && (length s.world.cpus == 1)) then ask_target s t else settle (with_world s (at_callback s.world callback.SelectCpu t 0)) t 0) plain
+    ap (λ b. if not (b && has_one_cpu s.world t) then ask_target s t else settle_at_home s t (first_home s.world t)) plain
 
 -- no processor is claimed, and select_cpu is asked
 pub selects : (s : State) (t : ℕ) → is_by_linux s ≡ false → select (from_waker s t) t ≡ (

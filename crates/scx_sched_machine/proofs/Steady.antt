@@ -1,7 +1,7 @@
 -- What no callback changes as it runs: the tree of groups, the rules, and why the policy was put out of force, if it
 -- was.
 use Rattle.std.proofs.Common.{◌≡◌, ℕ, zero, suc, Bool, true, false, ◌||◌, ◌&&◌, nat_lt, List, length, map, Option, Some, None, is_none, refl, ap, ◌∙◌}
-use Rattle.scx_dsq.specs.Calls.{after_create, after_push, after_pop}
+use Rattle.scx_dsq.specs.Calls.{after_create, after_push}
 use Rattle.scx_dsq.specs.declared.entries.Rank.TheVariants.{Fifo}
 use Rattle.scx_isa_semantics.specs.declared.callbacks.Callback.{Callback}
 use Rattle.scx_isa_semantics.specs.declared.host_tables.Helper.{Helper}
@@ -19,18 +19,17 @@ use Rattle.scx_vm.specs.Host.{answer_to, after_query}
 use Rattle.scx_sched_world.specs.declared.call.Insert.{Insert}
 use Rattle.scx_sched_world.specs.declared.eject.Cause.{Cause}
 use Rattle.scx_sched_world.specs.declared.eject.Eject.{Eject}
-use Rattle.scx_sched_world.specs.declared.faults.Fault.{Fault}
 use Rattle.scx_sched_world.specs.declared.kicks.Kick.{Kick}
 use Rattle.scx_sched_world.specs.declared.kicks.Kick.TheVariants.{Any, IfIdle, Preempt}
 use Rattle.scx_sched_world.specs.Ids.{global, local_on}
 use Rattle.scx_sched_world.specs.World.{WorldState, with_queues, with_task, are_linux, is_by_linux, task_at, waits, running, is_this, with_kick, after_claim, at_callback}
-use Rattle.scx_sched_world.specs.Tasks.{after_leave, homed, homed_at, local_cpu, task_after_insert, rank_by, after_preempt_of, after_preempt_at, after_preempt, after_enter, for_cpu, after_local, brought, fill_front, put_parked, after_take}
+use Rattle.scx_sched_world.specs.Tasks.{after_leave, homed, homed_at, local_cpu, task_after_insert, rank_by, after_preempt_of, after_preempt_at, after_preempt, after_enter, for_cpu, after_local, brought, fill_front, put_parked}
 use Rattle.scx_sched_world.specs.Ejecting.{eject_of, put_out, put_builtin, after_evictions, after_cut, cut_task}
-use Rattle.scx_sched_world.specs.Helpers.{with_fault, is_dispatch, with_insert, insert_or_fault, after_release, with_move, front_moved_to_local, kicked_so, after_exit, with_timer, alarm_in, helper_after, stored_in, world_functions}
-use Rattle.scx_sched_machine.specs.Steps.{State, Stepped}
+use Rattle.scx_sched_world.specs.Helpers.{with_fault, is_dispatch, with_insert, after_release, with_move, moved_to_local, kicked_so, after_exit, after_random, with_timer, alarm_in, helper_after, stored_in, world_functions}
+use Rattle.scx_sched_machine.specs.Steps.{State, with_world}
 use Rattle.scx_sched_machine.specs.Ejecting.{moves_over, eject, ejected_for}
 use Rattle.scx_sched_machine.specs.Filling.{fill}
-use Rattle.scx_sched_machine.specs.Parking.{park, park_front, throttled_front, park_then, clear, in_reach, supply}
+use Rattle.scx_sched_machine.specs.Parking.{park, throttled_front, park_then, clear, in_reach, supply}
 use Rattle.scx_sched_machine.specs.Callbacks.{call_ending, call_back, acting, cause_of, after_callback}
 use Rattle.scx_sched_machine.proofs.Choices.{keeps_if}
 use Rattle.scx_sched_machine.proofs.HelperCalls.{by_helper}
@@ -89,18 +88,18 @@ module _ (v : WorldState) where
 
   -- ---- queues
 
-  steady_filled : (w : WorldState) (o : Option ℕ) (q c : ℕ) → IsSteady v w → IsSteady v (brought o w q c)
-  steady_filled w None q c h = h
-  steady_filled w (Some t) q c h =
-      let popped = with_queues w (after_pop w.queues q) in
-      let pushed = with_queues popped (after_push popped.queues (local_on c) t Fifo) in
+  steady_filled : (w : WorldState) (o : Option ℕ) (c : ℕ) → IsSteady v w → IsSteady v (brought o w c)
+  steady_filled w None c h = h
+  steady_filled w (Some t) c h =
+      let left = after_leave w t in
+      let pushed = with_queues left (after_push left.queues (local_on c) t Fifo) in
       steady_homed pushed t c (steady_as w pushed refl refl refl h)
 
   steady_parked : (w : WorldState) (t : ℕ) → IsSteady v w → IsSteady v (put_parked w t)
   steady_parked w t h = keeps_if (IsSteady v) (nat_lt t (length w.tasks)) _ w (steady_as w _ refl refl refl h) h
 
   steady_cleared : (n : ℕ) (s : State) (c : ℕ) → IsSteady v s.world → IsSteady v (clear n s c).state.world
-  unfolding clear fill park_front park
+  unfolding clear fill park
   steady_cleared zero s c h = h
   steady_cleared (suc n) s c h = go (throttled_front filled (local_on c)) (λ r k. steady_cleared n r c k)
     where
@@ -108,13 +107,13 @@ module _ (v : WorldState) where
       filled = (fill s global c).state
 
       kept : IsSteady v filled.world
-      kept = steady_filled s.world (fill_front s.world global c) global c h
+      kept = steady_filled s.world (fill_front s.world global c) c h
 
-      go : (o : Option ℕ) → ((r : State) → IsSteady v r.world → IsSteady v (clear n r c).state.world) → IsSteady v (park_then (λ r. clear n r c) filled (local_on c) o).state.world
+      go : (o : Option ℕ) → ((r : State) → IsSteady v r.world → IsSteady v (clear n r c).state.world) → IsSteady v (park_then (λ r. clear n r c) filled o).state.world
       go None next = kept
       go (Some t) next =
-          let taken = after_take filled.world (local_on c) in
-          next (park_front filled (local_on c) t).state (steady_parked taken t (steady_as filled.world taken refl refl refl kept))
+          let left = after_leave filled.world t in
+          next (park (with_world filled left) t).state (steady_parked left t (steady_as filled.world left refl refl refl kept))
 
   -- ---- helper calls
 
@@ -133,12 +132,12 @@ module _ (v : WorldState) where
   steady_kicked w c IfIdle h = keeps_if (IsSteady v) (is_none (running w c) || is_this c w.cycling) (with_kick w c) w (steady_as w (with_kick w c) refl refl refl h) h
   steady_kicked w c Preempt h = steady_as w (kicked_so w c Preempt) refl refl refl h
 
-  steady_moved : (w : WorldState) (o : Option ℕ) (q : ℕ) → IsSteady v w → IsSteady v (front_moved_to_local w o q)
-  steady_moved w None q h = h
-  steady_moved w (Some t) q h =
-      let taken = after_take w q in
-      let pushed = with_queues taken (after_push taken.queues (local_on w.call.cpu) t Fifo) in
-      steady_as (after_local taken w.call.cpu t) _ refl refl refl (steady_homed pushed t w.call.cpu (steady_as w pushed refl refl refl h))
+  steady_moved : (w : WorldState) (o : Option ℕ) → IsSteady v w → IsSteady v (moved_to_local w o)
+  steady_moved w None h = h
+  steady_moved w (Some t) h =
+      let left = after_leave w t in
+      let pushed = with_queues left (after_push left.queues (local_on w.call.cpu) t Fifo) in
+      steady_as (after_local left w.call.cpu t) _ refl refl refl (steady_homed pushed t w.call.cpu (steady_as w pushed refl refl refl h))
 
   steady_helper : (w : WorldState) (f : Helper) (a : List Arg) → IsSteady v w → IsSteady v (helper_after w f a)
   steady_helper w f a h = by_helper (IsSteady v) w (record {
@@ -152,7 +151,8 @@ module _ (v : WorldState) where
     kicked = λ c k. steady_kicked w c k h;
     started = λ n ns. steady_as w (with_timer w n (Some (alarm_in w ns))) refl refl refl h;
     cancelled = λ n. steady_as w (with_timer w n None) refl refl refl h;
-    moved = λ q here low. steady_moved w _ q h;
+    drawn = steady_as w (after_random w) refl refl refl h;
+    moved = λ q here low. steady_moved w _ h;
   }) f a
 
   steady_query : (w : WorldState) (q : Query) → IsSteady v w → IsSteady v (after_query world_functions w q)

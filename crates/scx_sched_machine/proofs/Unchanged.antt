@@ -1,6 +1,6 @@
 -- What a callback that isn't dispatch leaves as it was: it moves nobody, and so no more is pushed than an
 -- ejection pushes.
-use Rattle.std.proofs.Common.{◌≡◌, ℕ, zero, suc, ◌+◌, ◌≤◌, Bool, true, false, ◌||◌, cond, nat_lt, List, length, map, Option, Some, None, is_some, is_none, refl, sym, ap, ◌∙◌, subst, arith}
+use Rattle.std.proofs.Common.{◌≡◌, ℕ, suc, ◌+◌, ◌≤◌, Bool, true, false, ◌||◌, cond, List, map, Option, Some, None, is_some, is_none, refl, sym, ap, ◌∙◌, subst, arith}
 use Rattle.scx_dsq.specs.Queues.{QueueState}
 use Rattle.scx_dsq.specs.Calls.{create_refusal, with_queue, after_create}
 use Rattle.scx_isa_semantics.specs.declared.callbacks.Callback.{Callback}
@@ -25,7 +25,7 @@ use Rattle.scx_sched_world.specs.declared.kicks.Kick.{Kick}
 use Rattle.scx_sched_world.specs.declared.kicks.Kick.TheVariants.{Any, IfIdle, Preempt}
 use Rattle.scx_sched_world.specs.World.{WorldState, with_queues, with_task, is_by_linux, task_at, running, is_this, with_kick, after_claim, at_callback}
 use Rattle.scx_sched_world.specs.Ejecting.{eject_of}
-use Rattle.scx_sched_world.specs.Helpers.{with_fault, is_dispatch, with_insert, insert_or_fault, with_move, kicked_so, after_exit, with_timer, alarm_in, helper_after, stored_in, world_functions}
+use Rattle.scx_sched_world.specs.Helpers.{with_fault, is_dispatch, with_insert, insert_or_fault, with_move, kicked_so, after_exit, after_random, with_timer, alarm_in, helper_after, stored_in, world_functions}
 use Rattle.scx_sched_machine.specs.Steps.{State, Stepped, is_ejected}
 use Rattle.scx_sched_machine.specs.Ejecting.{ejected_for}
 use Rattle.scx_sched_machine.specs.Budgets.{eject_pushes, enter_pushes, eject_left, pushes_due}
@@ -95,6 +95,7 @@ module _ (v : WorldState) where
     kicked = λ c k. calm_kicked w c k h;
     started = λ n ns. calm_as w (with_timer w n (Some (alarm_in w ns))) refl refl refl refl h;
     cancelled = λ n. calm_as w (with_timer w n None) refl refl refl refl h;
+    drawn = calm_as w (after_random w) refl refl refl refl h;
     moved = λ q here low. absurd (is_not here);
   }) f a
     where

@@ -77,7 +77,7 @@ builtin_dispatch_pushes = enter_pushes * most_tasks + fill_pushes
 
 -- ---- a cycle
 
--- callbacks that move nobody are called, of which one may eject the policy
+-- callbacks that move no task are called, of which one may eject the policy
 abbrev pub calm_pushes : ℕ
 calm_pushes = eject_pushes + callback_pushes
 

@@ -9,7 +9,7 @@ use Rattle.scx_weights.specs.Limits.{has_quota}
 use Rattle.scx_sched_world.specs.Ids.{global, builtin_queue, local_on}
 use Rattle.scx_sched_world.specs.World.{WorldState, or_this, with_cycling, out_of_cycle, task_at, running, at_callback, note_now}
 use Rattle.scx_sched_world.specs.Pending as world
-use Rattle.scx_sched_world.specs.Tasks.{local_len, after_stop, started_at, after_run, after_switch, after_keep, to_front}
+use Rattle.scx_sched_world.specs.Tasks.{local_len, after_stop, started_at, after_run, after_switch, after_keep, to_front, next_for}
 use Rattle.scx_sched_world.specs.Ejecting.{after_catch_up, after_charge}
 use Rattle.scx_sched_machine.specs.Steps.{State, Stepped, with_world, stays, after, one_after_other, is_ejected, is_by_linux, kicked}
 use Rattle.scx_sched_machine.specs.Callbacks.{call_back, call_by_linux, noted_by, one_task, task_and_number, two_numbers, cpu_and_task}
@@ -17,7 +17,7 @@ use Rattle.scx_sched_machine.specs.Custody.{tells_left}
 use Rattle.scx_sched_machine.specs.Policy.{program_of}
 use Rattle.scx_sched_machine.specs.Put.{enters, put}
 use Rattle.scx_sched_machine.specs.Filling.{fill}
-use Rattle.scx_sched_machine.specs.Parking.{park_fronts, supply}
+use Rattle.scx_sched_machine.specs.Parking.{park_next, supply}
 
 -- whether a task waits in the local queue of the processor
 abbrev pub has_local : State → ℕ → Bool
@@ -155,11 +155,11 @@ swap s c p = let l = leave s c p in one_after_other l (start l.state c)
 unfoldable pub swap_or_rest : State → ℕ → Option ℕ → Bool → Stepped
 swap_or_rest s c p ran = if has_local s c then swap s c p else rest s c p ran
 
--- its dispatch: the front of its queue comes to the local queue, once those that may
--- not run are parked
+-- its dispatch: the first of its queue that may run on the processor comes to the local queue, once
+-- those that are throttled are parked
 unfoldable pub builtin_dispatch : State → ℕ → Stepped
 builtin_dispatch s c =
-    let p = park_fronts (len_of s.world.queues builtin_queue) s builtin_queue in
+    let p = park_next (len_of s.world.queues builtin_queue) s builtin_queue c in
     one_after_other p (fill p.state builtin_queue c)
 
 -- it is asked where the local queue is empty
@@ -270,7 +270,7 @@ stays_idle s c =
     is_none (program_of s.policy callback.Dispatch)
     && (not (is_ejected s)
     && (not (has_quota s.world.tree.groups)
-    && ((local_len s.world c == 0) && is_none (front_of s.world.queues global))))
+    && ((local_len s.world c == 0) && is_none (next_for s.world global c))))
 
 -- a cycle that comes to nothing: dispatch would be asked, and nobody runs
 unfoldable pub idles : State → ℕ → Stepped

@@ -6,7 +6,7 @@ use Rattle.scx_sched_world.specs.declared.notes.What.TheVariants as note
 use Rattle.scx_vm.specs.Programs.{VerifiedProgram}
 use Rattle.scx_sched_world.specs.declared.call.Insert.{Insert}
 use Rattle.scx_sched_world.specs.World as world
-use Rattle.scx_sched_world.specs.World.{WorldState, with_switch, with_slept, with_waker, task_at, is_runnable, is_throttled, waits, running, cpu_of, is_idle, choice, default_choice, after_claim, at_callback, note_now}
+use Rattle.scx_sched_world.specs.World.{WorldState, with_switch, with_slept, with_waker, task_at, is_runnable, may_run, first_home, has_one_cpu, is_throttled, waits, running, cpu_of, is_idle, choice, default_choice, after_claim, at_callback, note_now}
 use Rattle.scx_sched_world.specs.declared.eject.Eject.TheVariants as cause
 use Rattle.scx_sched_world.specs.Tasks.{for_cpu, to_local, homed, after_wake, after_sleep, after_leave, after_stop, after_tick, used_ms, later, begun_periods, after_reweigh, after_own_weight}
 use Rattle.scx_sched_world.specs.Helpers.{with_insert}
@@ -51,10 +51,16 @@ refusal s (SetTaskWeight t x) =
 
 -- ---- what each event does
 
+-- a processor, or the lowest one on which the task may run, where it may not run on that (core.c,
+-- `select_fallback_rq`)
+abbrev pub cpu_or_home : WorldState → ℕ → ℕ → ℕ
+cpu_or_home w t c = if may_run w t c then c else first_home w t
+
 -- the processor that select_cpu answers; one that isn't there has ejected the policy
 abbrev pub answered_cpu : WorldState → ℕ → Option ℕ → ℕ
 answered_cpu w t None = default_choice w t
-answered_cpu w t (Some n) = if nat_lt n (length w.cpus) then n else default_choice w t
+answered_cpu w t (Some n) =
+    if nat_lt n (length w.cpus) then cpu_or_home w t n else default_choice w t
 
 -- the processor for which a task that wakes is put; the default choice where no program answered,
 -- or no policy is in force
@@ -127,16 +133,19 @@ ask_target s t =
     (answered_by s callback.SelectCpu (task_cpu_and_0 t c) t c) in
     one_after_other r (settle (chosen (acting r.state callback.SelectCpu) r.state t) t n)
 
--- under Linux rules nobody is asked where there is one processor alone (ext/idle.c,
--- `scx_select_cpu_dfl`)
-abbrev pub asks_target : State → Bool
-asks_target s = not (is_by_linux s && (length s.world.cpus == 1))
+-- under Linux rules nobody is asked where the task may run on one processor alone (core.c,
+-- `select_task_rq`)
+abbrev pub asks_target : State → ℕ → Bool
+asks_target s t = not (is_by_linux s && has_one_cpu s.world t)
 
--- the target of a task that wakes is asked for, or is the only processor
+-- that processor is the target
+unfoldable pub settle_at_home : State → ℕ → ℕ → Stepped
+settle_at_home s t c = settle (with_world s (at_callback s.world callback.SelectCpu t c)) t c
+
+-- the target of a task that wakes is asked for, or is the only processor on which it may run
 unfoldable pub select : State → ℕ → Stepped
 select s t =
-    if asks_target s then ask_target s t
-    else settle (with_world s (at_callback s.world callback.SelectCpu t 0)) t 0
+    if asks_target s t then ask_target s t else settle_at_home s t (first_home s.world t)
 
 -- under Linux rules callbacks of a wake run on the processor on which the task was last
 unfoldable pub from_waker : State → ℕ → State

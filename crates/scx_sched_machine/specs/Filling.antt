@@ -11,7 +11,8 @@ abbrev pub move_note : WorldState → Option ℕ → ℕ → List Note
 move_note w None c = []
 move_note w (Some t) c = note_now w (Move t c) ∷ []
 
--- where the local queue is empty, the front of another comes to it
+-- where the local queue is empty, the first task of another that may run on its processor comes to
+-- it
 unfoldable pub fill : State → ℕ → ℕ → Stepped
 fill s q c = record {
   state = with_world s (after_fill s.world q c);

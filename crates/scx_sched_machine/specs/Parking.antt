@@ -5,7 +5,7 @@ use Rattle.scx_dsq.specs.Queues.{front_of, len_of, behind_of}
 use Rattle.scx_sched_world.specs.declared.notes.What.TheVariants as note
 use Rattle.scx_sched_world.specs.Ids.{global, parked_queue, local_on}
 use Rattle.scx_sched_world.specs.World.{WorldState, task_at, is_throttled, note_now}
-use Rattle.scx_sched_world.specs.Tasks.{put_parked, after_take, let_go}
+use Rattle.scx_sched_world.specs.Tasks.{put_parked, after_leave, next_for, let_go}
 use Rattle.scx_sched_machine.specs.Steps.{State, Stepped, with_world, stays, one_after_other, kicked_if_idle}
 use Rattle.scx_sched_machine.specs.Filling.{fill}
 use Rattle.scx_sched_machine.specs.Put.{put}
@@ -18,30 +18,32 @@ park s t = record {
   calls = [];
 }
 
--- the front of a queue leaves it, and is parked
-unfoldable pub park_front : State → ℕ → ℕ → Stepped
-park_front s q t = park (with_world s (after_take s.world q)) t
-
--- that task, if it may not run
+-- that task, if it is throttled
 abbrev pub if_throttled : WorldState → Option ℕ → Option ℕ
 if_throttled w None = None
 if_throttled w (Some t) = if is_throttled w t then Some t else None
 
--- the front of a queue, if it may not run
+-- the front of a queue, if it is throttled
 abbrev pub throttled_front : State → ℕ → Option ℕ
 throttled_front s q = if_throttled s.world (front_of s.world.queues q)
 
+-- the first task of a queue that may run on that processor, if it is throttled
+abbrev pub throttled_next : State → ℕ → ℕ → Option ℕ
+throttled_next s q c = if_throttled s.world (next_for s.world q c)
+
 -- ---- before a front is picked
 
--- the front of a queue is parked, if it may not run, and what follows that
-abbrev pub park_then : (State → Stepped) → State → ℕ → Option ℕ → Stepped
-park_then next s q None = stays s
-park_then next s q (Some t) = let p = park_front s q t in one_after_other p (next p.state)
+-- a task leaves its queue and is parked, if there is one, and what follows that
+abbrev pub park_then : (State → Stepped) → State → Option ℕ → Stepped
+park_then next s None = stays s
+park_then next s (Some t) =
+    let p = park (with_world s (after_leave s.world t)) t in one_after_other p (next p.state)
 
--- as long as the front of a queue may not run, it is parked, at most so often
-unfoldable pub park_fronts : ℕ → State → ℕ → Stepped
-park_fronts zero s q = stays s
-park_fronts (suc n) s q = park_then (λ r. park_fronts n r q) s q (throttled_front s q)
+-- as long as the first task of a queue that may run on that processor is throttled, it is parked, at
+-- most so often
+unfoldable pub park_next : ℕ → State → ℕ → ℕ → Stepped
+park_next zero s q c = stays s
+park_next (suc n) s q c = park_then (λ r. park_next n r q c) s (throttled_next s q c)
 
 -- wherever the local queue is empty it is filled from that of all processors, and as long as its
 -- front may not run, that is parked, at most so often
@@ -50,7 +52,7 @@ clear zero s c = stays s
 clear (suc n) s c =
     let f = fill s global c in
     one_after_other f
-    (park_then (λ r. clear n r c) f.state (local_on c) (throttled_front f.state (local_on c)))
+    (park_then (λ r. clear n r c) f.state (throttled_front f.state (local_on c)))
 
 -- how many tasks wait in the two queues
 abbrev pub in_reach : State → ℕ → ℕ

@@ -19,7 +19,7 @@ Programs = PerCallback (Option VerifiedProgram)
 -- a policy: the shapes of its maps, how many milliseconds a task may wait, by whose rules the
 -- machine goes while it is in force, how many milliseconds there are from tick to tick (0 where
 -- slices end exactly), whether the host tracks idle processors beside `update_idle`, how many timers
--- it has, and its programs
+-- it has, where its random numbers begin, and its programs
 pub record PolicyState : Type 0 where
   pub shapes : List Shape
   pub timeout_ms : ℕ
@@ -27,10 +27,12 @@ pub record PolicyState : Type 0 where
   pub tick_ms : ℕ
   pub keeps_idle : Bool
   pub timers : ℕ
+  pub seed : ℕ
   pub callbacks : Programs
 
 -- the policy by these rules, with these shapes of maps, that timeout in milliseconds, and these
--- programs; its slices end exactly, and it has no timers
+-- programs; its slices end exactly, it has no timers, and its random numbers
+-- begin at 0
 abbrev pub policy_by : Rules → List Shape → ℕ → Programs → PolicyState
 policy_by rules shapes timeout callbacks = record {
   shapes = shapes;
@@ -39,6 +41,7 @@ policy_by rules shapes timeout callbacks = record {
   tick_ms = 0;
   keeps_idle = false;
   timers = 0;
+  seed = 0;
   callbacks = callbacks;
 }
 
@@ -54,6 +57,10 @@ with_idle_kept p = record p { keeps_idle = true }
 -- the policy with that number of timers
 abbrev pub with_timers : PolicyState → ℕ → PolicyState
 with_timers p n = record p { timers = n }
+
+-- the policy whose random numbers begin there
+abbrev pub with_seed : PolicyState → ℕ → PolicyState
+with_seed p n = record p { seed = n }
 
 -- the policy by plain rules
 abbrev pub policy_of : List Shape → ℕ → Programs → PolicyState

@@ -1,9 +1,9 @@
 -- The first state: after init, enable and `set_weight` of each task, and `update_idle` of each
 -- processor.
-use Rattle.std.specs.Prelude.{◌≡◌, ℕ, ⊤, zero, suc, ℤ, negsuc, Bool, true, false, ◌&&◌, ◌||◌, ◌==◌, nat_lt, List, [], ◌++◌, length, if◌then◌else◌, Option, Some, None, is_some, is_none, Result, Ok, Err}
+use Rattle.std.specs.Prelude.{◌≡◌, ℕ, ⊤, zero, suc, ℤ, negsuc, Bool, true, false, ◌&&◌, ◌||◌, not, ◌==◌, nat_lt, List, [], ◌++◌, length, if◌then◌else◌, Option, Some, None, is_some, Result, Ok, Err}
 use Rattle.std.specs.Int.{w64, cast_signed}
 use Rattle.scx_maps.specs.Contents.{zeros}
-use Rattle.scx_weights.specs.Hierarchy.{Hierarchy, is_active_task, own_weight}
+use Rattle.scx_weights.specs.Hierarchy.{Hierarchy, is_active_task, own_weight, binds, is_in_mask}
 use Rattle.scx_weights.specs.Counting.{any_below}
 use Rattle.scx_isa_semantics.specs.declared.callbacks.Callback.{Callback}
 use Rattle.scx_isa_semantics.specs.declared.callbacks.Callback.TheVariants as callback
@@ -11,8 +11,8 @@ use Rattle.scx_isa_semantics.specs.Endings.{Ending}
 use Rattle.scx_sched_world.specs.declared.eject.Cause.{Cause}
 use Rattle.scx_sched_world.specs.declared.eject.Cause.TheVariants as reason
 use Rattle.scx_vm.specs.declared.arguments.Args.{Args}
-use Rattle.scx_sched_world.specs.World.{WorldState, with_rules, with_tracking, with_timers, without_marks, at_callback}
-use Rattle.scx_sched_world.specs.First.{first_world}
+use Rattle.scx_sched_world.specs.World.{WorldState, with_rules, with_tracking, with_timers, with_random, without_marks, at_callback}
+use Rattle.scx_sched_world.specs.First.{first_world, at_first_homes}
 use Rattle.scx_sched_world.specs.Tasks.{begun_periods}
 use Rattle.scx_sched_machine.specs.declared.start.NewError.{NewError}
 use Rattle.scx_sched_machine.specs.declared.start.NewError.TheVariants.{InitFailed, BadShape, OutOfMemory}
@@ -20,21 +20,30 @@ use Rattle.scx_sched_machine.specs.Policy.{PolicyState, program_of, tracks_idle}
 use Rattle.scx_sched_machine.specs.Steps.{State, CallMade, with_world, is_by_linux}
 use Rattle.scx_sched_machine.specs.Callbacks.{acting, call_ending, calls_of, after_callback, AreAnswered, no_arguments, one_task, task_and_number, two_numbers}
 
--- the number of processors is out of range, or a task is active
+-- whether a task is bound, and to none of the first so many processors
+abbrev pub is_nowhere : Hierarchy → ℕ → ℕ → Bool
+is_nowhere tree cpus t = binds tree && not (any_below cpus (is_in_mask tree t))
+
+-- the number of processors is out of range, a task is active, or one may run nowhere
 abbrev pub is_bad_shape : Hierarchy → ℕ → Bool
 is_bad_shape tree cpus =
-    nat_lt cpus 1 || (nat_lt 64 cpus || any_below (length tree.homes) (λ t. is_active_task tree t))
+    nat_lt cpus 1
+    || (nat_lt 64 cpus
+    || any_below (length tree.homes) (λ t. is_active_task tree t || is_nowhere tree cpus t))
 
--- the world of a policy: its rules, its timers, and whether the host tracks idle processors
+-- the world of a policy: its rules, its timers, whether the host tracks idle processors, and where
+-- its random numbers begin
 abbrev pub by_policy : PolicyState → WorldState → WorldState
-by_policy p w = with_timers (with_tracking (with_rules w p.rules) (tracks_idle p)) p.timers
+by_policy p w =
+    with_random (with_timers (with_tracking (with_rules w p.rules) (tracks_idle p)) p.timers) p.seed
 
--- before any callback, by the policy's rules; periods of all groups begin
+-- before any callback, by the policy's rules; periods of all groups begin, and bound tasks are where
+-- they may run
 abbrev pub blank : PolicyState → Hierarchy → ℕ → State
 blank p tree cpus = record {
   policy = p;
   maps = zeros p.shapes;
-  world = begun_periods (by_policy p (first_world tree cpus));
+  world = at_first_homes (begun_periods (by_policy p (first_world tree cpus)));
 }
 
 -- ---- init

@@ -151,7 +151,7 @@ impl Machine {
             (builtin_dispatch self.old cpu) self.old hearer.old self.new hearer.new }
     {
         let left = self.world.len(BUILTIN);
-        self.park_fronts(left, BUILTIN, hearer);
+        self.park_next(left, BUILTIN, cpu, hearer);
         self.fill(BUILTIN, cpu, hearer);
     }
 
@@ -449,7 +449,7 @@ impl Machine {
             && !self.is_ejected()
             && !self.world.is_limited()
             && self.world.local_len(cpu) == 0
-            && !self.world.has_global()
+            && !self.world.has_global_for(cpu)
     }
 
     /// A cycle that comes to nothing.

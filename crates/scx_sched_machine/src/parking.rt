@@ -2,7 +2,9 @@
 ghost use Rattle.std.specs.Prelude.{◌≡◌, ℕ, ◌+◌, ◌*◌, ◌≤◌};
 ghost use Rattle.scx_sched_machine.specs.Budgets.{HasRoom, CanLetGo, clear_pushes, pushes_due, eject_pushes, enter_pushes, let_go_pushes, put_pushes, supply_pushes};
 ghost use Rattle.scx_sched_machine.specs.Does.{Goes};
-ghost use Rattle.scx_sched_machine.specs.Parking.{park, park_front, throttled_front, park_fronts, clear, supply, let_go_one, let_go_from, let_all_go};
+ghost use Rattle.scx_sched_machine.specs.Steps.{with_world};
+ghost use Rattle.scx_sched_world.specs.Tasks.{after_leave};
+ghost use Rattle.scx_sched_machine.specs.Parking.{park, if_throttled, park_next, clear, supply, let_go_one, let_go_from, let_all_go};
 
 use crate::machine::Machine;
 use crate::sink::Hearer;
@@ -20,22 +22,23 @@ impl Machine {
         self.world.park(task);
     }
 
-    /// The front of the queue leaves it, and is parked.
-    #[tactic(auto, unfolding(crate::specs::Parking::park_front), using(crate::proofs::Taking::takings))]
-    fn park_front<H: Hearer>(&mut self, queue: u64, task: u16, hearer: &mut H)
+    /// The task leaves its queue, and is parked.
+    #[tactic(auto, using(crate::proofs::Taking::takings))]
+    fn park_from_queue<H: Hearer>(&mut self, task: u16, hearer: &mut H)
         requires { HasRoom enter_pushes self.old }
-        ensures { Goes H.noted H.takes H.told H.hears enter_pushes (park_front self.old queue task)
+        ensures { Goes H.noted H.takes H.told H.hears enter_pushes
+            (park (with_world self.old (after_leave self.old.world task)) task)
             self.old hearer.old self.new hearer.new }
     {
-        let _front = self.world.take(queue);
+        self.world.leave_queue(task);
         self.park(task, hearer);
     }
 
-    /// The front of the queue, if it may not run.
-    fn throttled_front(&self, queue: u64) -> Option<u16>
-        ensures { result ≡ throttled_front self.now queue }
+    /// That task, if it is throttled.
+    fn if_throttled(&self, task: Option<u16>) -> Option<u16>
+        ensures { result ≡ if_throttled self.now.world task }
     {
-        let task = self.world.front(queue)?;
+        let task = task?;
         if self.world.is_throttled(task) {
             Some(task)
         } else {
@@ -43,19 +46,19 @@ impl Machine {
         }
     }
 
-    /// As long as the front of the queue may not run, it is parked, at most so often.
-    #[tactic(auto, using(crate::proofs::Taking::takings, crate::proofs::Parked::park_fronts_steps))]
-    pub(crate) fn park_fronts<H: Hearer>(&mut self, left: usize, queue: u64, hearer: &mut H)
+    /// As long as the first task of the queue that may run on the CPU is throttled, it is parked, at most so often.
+    #[tactic(auto, using(crate::proofs::Taking::takings, crate::proofs::Parked::park_next_steps))]
+    pub(crate) fn park_next<H: Hearer>(&mut self, left: usize, queue: u64, cpu: u32, hearer: &mut H)
         requires { HasRoom (enter_pushes * left) self.old }
         ensures { Goes H.noted H.takes H.told H.hears (enter_pushes * left)
-            (park_fronts left self.old queue) self.old hearer.old self.new hearer.new }
+            (park_next left self.old queue cpu) self.old hearer.old self.new hearer.new }
     {
         if left == 0 {
             return;
         }
-        if let Some(task) = self.throttled_front(queue) {
-            self.park_front(queue, task, hearer);
-            self.park_fronts(left - 1, queue, hearer);
+        if let Some(task) = self.if_throttled(self.world.next_for(queue, cpu)) {
+            self.park_from_queue(task, hearer);
+            self.park_next(left - 1, queue, cpu, hearer);
         }
     }
 
@@ -72,8 +75,8 @@ impl Machine {
         }
         self.fill_global(cpu, hearer);
         let local = LOCAL_ON + u64::from(cpu);
-        if let Some(task) = self.throttled_front(local) {
-            self.park_front(local, task, hearer);
+        if let Some(task) = self.if_throttled(self.world.front(local)) {
+            self.park_from_queue(task, hearer);
             self.clear(left - 1, cpu, hearer);
         }
     }

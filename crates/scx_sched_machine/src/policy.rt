@@ -1,5 +1,5 @@
 ghost use Rattle.std.specs.Prelude.{◌≡◌, ◌↔◌, option_map, is_some, IsTrue, IfOk, OnOk, IfErr, None, IfSome};
-ghost use Rattle.scx_sched_machine.specs.Policy.{IsTimeout, IsAs, HasMaps, AreAs, HaveMaps, AreBy, IsFault, program_of, policy_of, policy_by, with_ticks, with_idle_kept, with_timers, tracks_idle};
+ghost use Rattle.scx_sched_machine.specs.Policy.{IsTimeout, IsAs, HasMaps, AreAs, HaveMaps, AreBy, IsFault, program_of, policy_of, policy_by, with_ticks, with_idle_kept, with_timers, with_seed, tracks_idle};
 ghost use Rattle.scx_isa_semantics.specs.declared.rules.Rules.TheVariants.{Plain};
 ghost use Rattle.scx_sched_world.specs.World.{are_linux};
 
@@ -40,6 +40,7 @@ pub struct Policy {
     tick_ms: u32,
     keeps_idle: bool,
     timers: u8,
+    seed: u64,
     callbacks: Callbacks,
 }
 
@@ -55,6 +56,7 @@ impl Model for Policy {
       tick_ms = p.tick_ms;
       keeps_idle = p.keeps_idle;
       timers = p.timers;
+      seed = p.seed;
       callbacks = p.callbacks;
     } };
 
@@ -75,7 +77,8 @@ impl Policy {
         Policy::new_by(Rules::Plain, defs, timeout_ms, callbacks)
     }
 
-    /// A policy of these programs, by those rules. Slices end exactly, and it has no timers.
+    /// A policy of these programs, by those rules. Slices end exactly, it has no timers, and random numbers begin
+    /// at 0.
     pub fn new_by(
         rules: Rules,
         defs: MapDefs,
@@ -97,6 +100,7 @@ impl Policy {
                 tick_ms: 0,
                 keeps_idle: false,
                 timers: 0,
+                seed: 0,
                 callbacks,
             }),
             Some(fault) => {
@@ -131,6 +135,14 @@ impl Policy {
         self
     }
 
+    /// The policy whose random numbers begin at that seed.
+    pub fn with_seed(mut self, seed: u64) -> Policy
+        ensures { result ≡ with_seed self seed }
+    {
+        self.seed = seed;
+        self
+    }
+
     /// A copy of the policy, in memory of its own.
     pub fn duplicate(&self, alloc: Global) -> Result<Policy, AllocError>
         ensures { IfOk result (λ copy. copy ≡ self.now) }
@@ -143,6 +155,7 @@ impl Policy {
             tick_ms: self.tick_ms,
             keeps_idle: self.keeps_idle,
             timers: self.timers,
+            seed: self.seed,
             callbacks,
         })
     }
@@ -190,6 +203,13 @@ impl Policy {
         ensures { result ≡ self.now.timers }
     {
         self.timers
+    }
+
+    /// The seed of its random numbers.
+    pub fn seed(&self) -> u64
+        ensures { result ≡ self.now.seed }
+    {
+        self.seed
     }
 
     /// True if the host tracks idle CPUs: under Linux rules a policy with `update_idle` does so itself.

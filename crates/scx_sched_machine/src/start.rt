@@ -1,15 +1,15 @@
-ghost use Rattle.std.specs.Prelude.{◌≡◌, ◌+◌, ◌≤◌, ◌<◌, ◌^◌, ◌++◌, true, false, Some, None, Ok, Err, length, IfOk, IfErr, OnOk};
+ghost use Rattle.std.specs.Prelude.{◌≡◌, ◌+◌, ◌≤◌, ◌<◌, ◌^◌, ◌++◌, ◌||◌, true, false, Some, None, Ok, Err, length, IfOk, IfErr, OnOk};
 ghost use Rattle.scx_isa_semantics.specs.Arguments.{FitsCallback};
 ghost use Rattle.scx_isa_semantics.specs.declared.callbacks.Callback.TheVariants.{Enable};
 ghost use Rattle.scx_vm.specs.Arguments.{program_arguments};
 ghost use Rattle.scx_weights.specs.Counting.{any_below};
-ghost use Rattle.scx_weights.specs.Hierarchy.{is_active_task};
+ghost use Rattle.scx_weights.specs.Hierarchy.{is_active_task, is_in_mask};
 ghost use Rattle.scx_sched_machine.specs.declared.start.NewError.TheVariants.{OutOfMemory};
 ghost use Rattle.scx_sched_machine.specs.Policy.{IsTimeout, AreAs};
 ghost use Rattle.scx_sched_machine.specs.Budgets.{HasRoom, enable_pushes, idle_pushes, program_pushes, start_pushes};
 ghost use Rattle.scx_sched_machine.specs.Callbacks.{AreAnswered, one_task};
 ghost use Rattle.scx_sched_machine.specs.Hearing.{Hears};
-ghost use Rattle.scx_sched_machine.specs.Start.{is_bad_shape, blank, cause_answer, after_init, begin_with, has_by_linux, begin_by_linux, enable, then_weigh, then_enable, after_enables, then_idle, after_idles, all_idle, all_enabled, first_state, IsRefusal, init_calls, begin_calls, begin_calls_by_linux, weigh_calls, enable_calls, calls_below, idle_calls, idle_calls_below, calls_after_enables, calls_after_init, start_calls, calls_before, AreAnsweredBefore};
+ghost use Rattle.scx_sched_machine.specs.Start.{is_nowhere, is_bad_shape, blank, cause_answer, after_init, begin_with, has_by_linux, begin_by_linux, enable, then_weigh, then_enable, after_enables, then_idle, after_idles, all_idle, all_enabled, first_state, IsRefusal, init_calls, begin_calls, begin_calls_by_linux, weigh_calls, enable_calls, calls_below, idle_calls, idle_calls_below, calls_after_enables, calls_after_init, start_calls, calls_before, AreAnsweredBefore};
 
 use crate::callbacks::{one_task, run_callback, task_and_number, two_numbers};
 use crate::machine::Machine;
@@ -30,7 +30,7 @@ pub enum NewError {
     /// init answered that number, or a callback called `exit` with it as the policy began; -22 if one had a fault.
     #[error("init answered {0}")]
     InitFailed(i64),
-    /// The number of CPUs is out of range, or a task is active before anything has happened.
+    /// The number of CPUs is out of range, a task is active before anything has happened, or may run on no CPU.
     #[error("there must be 1 to 64 processors, and no task may be active")]
     BadShape,
     /// Memory ran out, after the shape was looked at and before any callback ran.
@@ -106,7 +106,9 @@ impl Machine {
             (Ok(maps), Ok(mut world)) => {
                 world.set_rules(policy.rules());
                 world.set_tracking(policy.tracks_idle());
+                world.set_seed(policy.seed());
                 world.begin_periods();
+                world.place_at_first_homes();
                 Ok(Machine {
                     policy,
                     maps,
@@ -408,16 +410,46 @@ fn cause_answer(cause: Cause) -> i64
 fn is_bad_shape(tree: &Tree, cpus: usize) -> bool
     ensures { result ≡ is_bad_shape tree.now cpus }
 {
-    cpus < 1 || cpus > 64 || has_active(tree)
+    cpus < 1 || cpus > 64 || has_bad_task(tree, cpus as u32)
 }
 
-/// True if a task is active.
+/// True if a task is active, or may run on none of the CPUs.
 #[tactic(auto, using(crate::proofs::Active::none_below_next))]
-fn has_active(tree: &Tree) -> bool
-    ensures { result ≡ any_below (length tree.now.homes) (λ t. is_active_task tree.now t) }
+fn has_bad_task(tree: &Tree, cpus: u32) -> bool
+    ensures { result
+        ≡ any_below (length tree.now.homes)
+        (λ t. is_active_task tree.now t || is_nowhere tree.now cpus t) }
 {
     for task in 0..tree.tasks() {
-        if tree.is_active(task) {
+        if is_bad_task(tree, cpus, task) {
+            return true;
+        }
+    }
+    false
+}
+
+/// True if the task is active, or may run on none of the CPUs.
+fn is_bad_task(tree: &Tree, cpus: u32, task: u32) -> bool
+    requires { task < length tree.now.homes }
+    ensures { result ≡ (is_active_task tree.now task || is_nowhere tree.now cpus task) }
+{
+    tree.is_active(task) || is_nowhere(tree, cpus, task)
+}
+
+/// True if the task is bound, and to none of the CPUs.
+fn is_nowhere(tree: &Tree, cpus: u32, task: u32) -> bool
+    ensures { result ≡ is_nowhere tree.now cpus task }
+{
+    tree.binds() && !is_somewhere(tree, cpus, task)
+}
+
+/// True if one of the CPUs is in the task's mask.
+#[tactic(auto, using(crate::proofs::Active::none_below_next))]
+fn is_somewhere(tree: &Tree, cpus: u32, task: u32) -> bool
+    ensures { result ≡ any_below cpus (is_in_mask tree.now task) }
+{
+    for cpu in 0..cpus {
+        if tree.is_in_mask(task, cpu) {
             return true;
         }
     }

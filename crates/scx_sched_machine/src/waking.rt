@@ -5,7 +5,7 @@ ghost use Rattle.scx_sched_machine.specs.Budgets.{HasRoom, cycle_pushes, put_pus
 ghost use Rattle.scx_sched_machine.specs.Does.{Goes};
 ghost use Rattle.scx_sched_machine.specs.Steps.{is_by_linux};
 ghost use Rattle.scx_sched_machine.specs.Callbacks.{acting};
-ghost use Rattle.scx_sched_machine.specs.Events.{target, insert_or_put, wake_target, comes_to, while_in_force, told_runnable, settle, chosen, ask_target, select, from_waker, wake};
+ghost use Rattle.scx_sched_machine.specs.Events.{cpu_or_home, target, insert_or_put, wake_target, comes_to, while_in_force, told_runnable, settle, settle_at_home, chosen, ask_target, select, from_waker, wake};
 
 use crate::callbacks::{task_and_number, task_cpu_and_0};
 use crate::machine::Machine;
@@ -22,9 +22,20 @@ impl Machine {
             return self.world.default_choice(task);
         }
         if answer < u64::from(self.world.cpus()) {
-            answer as u32
+            self.cpu_or_home(task, answer as u32)
         } else {
             self.world.default_choice(task)
+        }
+    }
+
+    /// The CPU, or the lowest one on which the task may run, if it may not run on that.
+    fn cpu_or_home(&self, task: u16, cpu: u32) -> u32
+        ensures { result ≡ cpu_or_home self.now.world task cpu }
+    {
+        if self.world.may_run(task, cpu) {
+            cpu
+        } else {
+            self.world.first_home(task)
         }
     }
 
@@ -201,7 +212,7 @@ impl Machine {
         self.settle_plainly(task, cpu, hearer);
     }
 
-    /// Asks for the target of a task that wakes by Linux rules, unless there is only one CPU.
+    /// Asks for the target of a task that wakes by Linux rules, unless it may run on one CPU alone.
     #[inline(never)]
     #[tactic(auto, unfolding(crate::specs::Events::select, crate::specs::Events::from_waker), using(crate::proofs::Taking::takings))]
     fn select_by_linux<H: Hearer>(&mut self, task: u16, hearer: &mut H)
@@ -212,12 +223,23 @@ impl Machine {
     {
         let prev = self.world.task(task).prev_cpu;
         self.world.tell_waker(Some(prev));
-        if self.world.cpus() == 1 {
-            self.world.begin(Callback::SelectCpu, task, 0);
-            self.settle(task, 0, hearer);
+        if self.world.has_one_cpu(task) {
+            let home = self.world.first_home(task);
+            self.settle_at_home(task, home, hearer);
         } else {
             self.ask_target(task, hearer);
         }
+    }
+
+    /// A task that woke comes to wait for that CPU, the only one on which it may run, and nobody is asked.
+    #[tactic(auto, unfolding(crate::specs::Events::settle_at_home), using(crate::proofs::Taking::takings))]
+    fn settle_at_home<H: Hearer>(&mut self, task: u16, cpu: u32, hearer: &mut H)
+        requires { HasRoom runnable_pushes self.old }
+        ensures { Goes H.noted H.takes H.told H.hears runnable_pushes
+            (settle_at_home self.old task cpu) self.old hearer.old self.new hearer.new }
+    {
+        self.world.begin(Callback::SelectCpu, task, cpu);
+        self.settle(task, cpu, hearer);
     }
 
     /// A task wakes.

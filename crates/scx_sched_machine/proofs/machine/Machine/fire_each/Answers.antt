@@ -1,4 +1,4 @@
-use Rattle.std.proofs.Common.{◌≡◌, ◌+◌, ◌≤◌, length, ap, ◌∙◌, refl, sym, subst, arith}
+use Rattle.std.proofs.Common.{◌≡◌, length, ap, ◌∙◌, refl, subst, arith}
 use Rattle.scx_sched_machine.specs.Notes.{Takes}
 use Rattle.scx_sched_machine.specs.Hearing.{Hears}
 use Rattle.scx_sched_machine.specs.Steps.{State}
