@@ -4,7 +4,6 @@ use Rattle.std.proofs.Common.{◌≡◌, ℕ, zero, suc, ◌+◌, ◌<◌, ◌�
 use Rattle.std.proofs.lemmas.Bool.{cases_eq, cases_lt}
 use Rattle.std.proofs.lemmas.Bool.Decides.{nat_tests}
 use Rattle.std.proofs.lemmas.List.{length-set, length-replicate, get_or-set_same, get_or-set_other, get_or_past, set_past}
-use Rattle.scx_dsq.specs.Queues.{front_of}
 use Rattle.scx_isa_semantics.specs.declared.callbacks.Callback.TheVariants as callback
 use Rattle.scx_isa_semantics.specs.declared.host_tables.Helper.{Helper}
 use Rattle.scx_isa_semantics.specs.Effects.{Query, Call, Load, Store}
@@ -21,8 +20,8 @@ use Rattle.scx_sched_world.specs.declared.faults.Fault.{Fault}
 use Rattle.scx_sched_world.specs.declared.timers.Alarm.{Alarm}
 use Rattle.scx_sched_world.specs.World as world
 use Rattle.scx_sched_world.specs.World.{WorldState, are_linux, with_tree, with_task, task_at, waits}
-use Rattle.scx_sched_world.specs.Tasks.{with_home, with_slice, after_take, task_after_insert, after_leave, after_enter, for_cpu, brought, fill_front, used_ms, later, begun_periods, after_own_weight}
-use Rattle.scx_sched_world.specs.Helpers.{is_dispatch, with_insert, after_release, insert_or_fault, front_moved_to_local, helper_after, delay_ms, with_timer, alarm_in, alarm_at, due_now, after_fire, world_functions}
+use Rattle.scx_sched_world.specs.Tasks.{with_home, with_slice, task_after_insert, after_leave, after_enter, for_cpu, brought, fill_front, used_ms, later, begun_periods, after_own_weight, next_for}
+use Rattle.scx_sched_world.specs.Helpers.{is_dispatch, with_insert, after_release, insert_or_fault, moved_to_local, helper_after, delay_ms, with_timer, alarm_in, alarm_at, due_now, after_fire, world_functions}
 use Rattle.scx_sched_world.specs.Ejecting.{put_builtin}
 use Rattle.scx_sched_machine.specs.declared.events.Event.{Event}
 use Rattle.scx_sched_machine.specs.Policy.{PolicyState}
@@ -107,13 +106,13 @@ module _ (n k j : ℕ) where
   due_inserted w None t i h = keeps_if (AreDue n k j) (is_dispatch w.call.callback) (after_release w t (for_cpu w.call.cpu i)) (with_insert w i) (due_released w t (for_cpu w.call.cpu i) h) h
   due_inserted w (Some f) t i h = h
 
-  due_moved : (w : WorldState) (o : Option ℕ) (q : ℕ) → AreDue n k j w → AreDue n k j (front_moved_to_local w o q)
-  due_moved w None q h = h
-  due_moved w (Some t) q h = let x = kept_local Anywhere (AreDue n k j) due_marks (after_take w q) w.call.cpu t tt h in (x.0, x.1, x.2)
+  due_moved : (w : WorldState) (o : Option ℕ) → AreDue n k j w → AreDue n k j (moved_to_local w o)
+  due_moved w None h = h
+  due_moved w (Some t) h = let x = kept_local Anywhere (AreDue n k j) due_marks (after_leave w t) w.call.cpu t tt h in (x.0, x.1, x.2)
 
-  due_brought : (o : Option ℕ) (w : WorldState) (q c : ℕ) → AreDue n k j w → AreDue n k j (brought o w q c)
-  due_brought None w q c h = h
-  due_brought (Some t) w q c h = kept_local Anywhere (AreDue n k j) due_marks (after_take w q) c t tt h
+  due_brought : (o : Option ℕ) (w : WorldState) (c : ℕ) → AreDue n k j w → AreDue n k j (brought o w c)
+  due_brought None w c h = h
+  due_brought (Some t) w c h = kept_local Anywhere (AreDue n k j) due_marks (after_leave w t) c t tt h
 
   due_helper : (w : WorldState) (f : Helper) (a : List Arg) → AreDue n k j w → AreDue n k j (helper_after w f a)
   due_helper w f a h = by_helper (AreDue n k j) w (record {
@@ -127,7 +126,8 @@ module _ (n k j : ℕ) where
     kicked = λ c x. kept_kicked_so Anywhere (AreDue n k j) due_marks w c x h;
     started = λ i ns. due_started w i ns h;
     cancelled = λ i. due_cancelled w i h;
-    moved = λ q here low. due_moved w (front_of w.queues q) q h;
+    drawn = h;
+    moved = λ q here low. due_moved w (next_for w q w.call.cpu) h;
   }) f a
 
   due_query : (w : WorldState) (q : Query) → AreDue n k j w → AreDue n k j (after_query world_functions w q)
@@ -153,16 +153,16 @@ module _ (n k j : ℕ) where
     cancelled = λ m hand on w i h. due_cancelled w i h;
     cycling = λ m hand on w o h. kept_cycling (AreDue n k j) (λ v p a x r. r) w o h;
     sets = λ m hand on w a b c d o h. h;
-    homed = λ m hand on w t c l h. due_task w t _ h;
+    homed = λ m hand on w t c l may h. due_task w t _ h;
     sliced = λ m hand on w t x h. due_task w t _ h;
-    wants = λ m hand on w c l calm h. h;
-    entered = λ m on w t i l x h. due_entered w t i h;
-    filled = λ m on w q c apart l h. due_brought (fill_front w q c) w q c h;
+    wants = λ m hand on w c l calm may h. h;
+    entered = λ m on w t i l x may h. due_entered w t i h;
+    filled = λ m on w q c apart l h. due_brought (fill_front w q c) w c h;
     stopped = λ m on w c t l within runs h. due_task w t _ h;
     started = λ m on w c t l free front may h. due_task w t _ h;
     ran = λ m on w c t l free here may h. due_task w t _ h;
     put_parked = λ m on w t l may-not h. keeps_if (AreDue n k j) (nat_lt t (length w.tasks)) _ w (due_task w t _ h) h;
-    taken = λ m on w q t apart front h. h;
+    left = λ m on w q t apart there h. h;
     kept = λ m on w t h. due_task w t _ h;
     asleep = λ m on w t l h. keeps_if (AreDue n k j) (nat_lt t (length w.tasks)) _ w (due_task w t _ h) h;
     put_out = λ m hand on w x h. (h.0, h.1, λ linux. absurd (not_linux (are_linux w.rules) linux));
@@ -183,6 +183,7 @@ due_events : (n e k j : ℕ) → IsKeptByEvents n (IsRightAndDue n e k j)
 due_events n e k j = record {
   steps = both_steps n (IsFine n e) (λ m hand on w. AreDue n k j w) (fine_steps n e) (due_steps n k j);
   sound = λ m hand on w h. h.one.sound;
+  allowed = λ m hand on w h. h.one.allowed;
   woken = λ m on w t within resting h. record { one = (fine_events n e).woken m on w t within resting h.one; two = due_task n k j w t _ h.two };
   let_go = λ m on w t within there h. record { one = (fine_events n e).let_go m on w t within there h.one; two = due_task n k j w t _ h.two };
   left = λ m on w t within runnable off h. record { one = (fine_events n e).left m on w t within runnable off h.one; two = (due_steps n k j).asleep m on (after_leave w t) t within h.two };
@@ -352,4 +353,4 @@ pub timers_first : (p : PolicyState) (tree : Hierarchy) (cpus : ℕ) (t : State)
 timers_first p tree cpus t shape e =
     let n = length tree.homes in
     let k = p.timers in
-    later_of n k t.world (steps_started (λ m hand on w. AreDue n k k w) p tree cpus t (due_steps n k k) shape e (length-replicate n new_task, length-replicate {A = Option Alarm} k None, λ linux i a x. absurd (no_alarm a (sym (none_started k i) ∙ x))))
+    later_of n k t.world (steps_started (λ m hand on w. AreDue n k k w) p tree cpus t (due_steps n k k) (λ v u c x. due_task n k k v u _ x) shape e (length-replicate n new_task, length-replicate {A = Option Alarm} k None, λ linux i a x. absurd (no_alarm a (sym (none_started k i) ∙ x))))

@@ -1,7 +1,6 @@
 -- What holds before any callback, and each callback keeps, holds once a machine is made.
 use Rattle.std.proofs.Common.{◌≡◌, ℕ, zero, suc, ◌<◌, ◌≤◌, Bool, true, false, if◌then◌else◌, ◌⊎◌, inl, inr, List, length, map, Option, Some, None, Result, Ok, Err, ℤ, subst, refl, ap, ◌∙◌, arith}
 use Rattle.std.proofs.lemmas.List.{length-replicate}
-use Rattle.scx_dsq.specs.Queues.{front_of}
 use Rattle.scx_isa_semantics.specs.declared.callbacks.Callback.{Callback}
 use Rattle.scx_isa_semantics.specs.declared.callbacks.Callback.TheVariants as callback
 use Rattle.scx_isa_semantics.specs.declared.host_tables.Helper.{Helper}
@@ -20,15 +19,17 @@ use Rattle.scx_weights.specs.Hierarchy.{Hierarchy, own_weight}
 use Rattle.scx_sched_world.specs.declared.call.Insert.{Insert}
 use Rattle.scx_sched_world.specs.declared.faults.Fault.{Fault}
 use Rattle.scx_sched_world.specs.World.{WorldState, without_marks, at_callback}
-use Rattle.scx_sched_world.specs.Tasks.{after_take, after_leave, for_cpu}
-use Rattle.scx_sched_world.specs.Helpers.{is_dispatch, with_insert, after_release, insert_or_fault, front_moved_to_local, helper_after, world_functions}
+use Rattle.scx_sched_world.specs.Tasks.{after_leave, for_cpu, next_for, begun_periods}
+use Rattle.scx_sched_world.specs.Helpers.{is_dispatch, with_insert, after_release, insert_or_fault, moved_to_local, helper_after, world_functions}
 use Rattle.scx_sched_machine.specs.Policy.{PolicyState}
 use Rattle.scx_sched_machine.specs.Steps.{State, with_world}
 use Rattle.scx_sched_machine.specs.Callbacks.{call_ending, acting, after_callback, no_arguments, one_task, task_and_number, two_numbers}
-use Rattle.scx_sched_machine.specs.Start.{blank, init_ending, bad_answer, ok_unless, after_init, begin_ending, failure, begin_with, has_by_linux, begin_by_linux, enable, then_weigh, then_enable, after_enables, then_idle, after_idles, unmarked, all_idle, then_all_idle, all_enabled, first_state}
+use Rattle.scx_sched_machine.specs.Start.{blank, init_ending, bad_answer, ok_unless, after_init, begin_ending, failure, begin_with, has_by_linux, begin_by_linux, enable, then_weigh, then_enable, after_enables, then_idle, after_idles, unmarked, all_idle, then_all_idle, all_enabled, first_state, by_policy}
 use Rattle.scx_sched_machine.proofs.Choices.{keeps_if}
 use Rattle.scx_sched_machine.proofs.HelperCalls.{by_helper}
 use Rattle.scx_sched.proofs.Marks.{KeepsMarks, Anywhere, kept_kicked_so, kept_claim, kept_local, kept_entered}
+use Rattle.scx_sched.proofs.Homes.{keeps_homes}
+use Rattle.scx_sched_world.specs.First.{first_world}
 
 -- ---- who runs where
 
@@ -48,9 +49,9 @@ module _ (v : WorldState) where
   run_inserted w None t i h = keeps_if (RunTheSame v) (is_dispatch w.call.callback) (after_release w t (for_cpu w.call.cpu i)) (with_insert w i) (run_released w t (for_cpu w.call.cpu i) h) h
   run_inserted w (Some f) t i h = h
 
-  run_moved : (w : WorldState) (o : Option ℕ) (q : ℕ) → RunTheSame v w → RunTheSame v (front_moved_to_local w o q)
-  run_moved w None q h = h
-  run_moved w (Some t) q h = kept_local Anywhere (RunTheSame v) run_marks (after_take w q) w.call.cpu t tt h
+  run_moved : (w : WorldState) (o : Option ℕ) → RunTheSame v w → RunTheSame v (moved_to_local w o)
+  run_moved w None h = h
+  run_moved w (Some t) h = kept_local Anywhere (RunTheSame v) run_marks (after_leave w t) w.call.cpu t tt h
 
   run_helper : (w : WorldState) (f : Helper) (a : List Arg) → RunTheSame v w → RunTheSame v (helper_after w f a)
   run_helper w f a h = by_helper (RunTheSame v) w (record {
@@ -64,7 +65,8 @@ module _ (v : WorldState) where
     kicked = λ c k. kept_kicked_so Anywhere (RunTheSame v) run_marks w c k h;
     started = λ t ns. h;
     cancelled = λ t. h;
-    moved = λ q here low. run_moved w (front_of w.queues q) q h;
+    drawn = h;
+    moved = λ q here low. run_moved w (next_for w q w.call.cpu) h;
   }) f a
 
   run_query : (w : WorldState) (q : Query) → RunTheSame v w → RunTheSame v (after_query world_functions w q)
@@ -165,4 +167,4 @@ module _ (cpus : ℕ) (I : State → Type 0) (keeps : (s : State) (b : Callback)
 
   -- a machine that is made
   pub keeps_started : (p : PolicyState) (tree : Hierarchy) (t : State) → first_state p tree cpus ≡ Ok t → I (blank p tree cpus) → I t
-  keeps_started p tree t e h = let x = keeps_all (after_init (blank p tree cpus)) t e (λ s y. keeps_initialized (blank p tree cpus) s y (h, length-replicate {A = Option ℕ} cpus None)) in x.0
+  keeps_started p tree t e h = let x = keeps_all (after_init (blank p tree cpus)) t e (λ s y. keeps_initialized (blank p tree cpus) s y (h, keeps_homes (λ v. length v.cpus ≡ cpus) (λ v t c l same. same) (begun_periods (by_policy p (first_world tree cpus))) (length-replicate {A = Option ℕ} cpus None))) in x.0

@@ -26,8 +26,8 @@ use Rattle.scx_sched_world.specs.declared.passing.Passing.{Passing}
 use Rattle.scx_sched_world.specs.Ids.{global, builtin_queue, parked_queue, local_on}
 use Rattle.scx_sched_world.specs.CpuSets.{is_in_set}
 use Rattle.scx_sched_world.specs.World as world
-use Rattle.scx_sched_world.specs.World.{WorldState, are_linux, with_kick, without_kick, with_cycling, with_switch, with_slept, with_waker, choice, after_claim, with_tree, with_task as set_task, task_at, is_throttled, running, cpu_of, is_idle, at_callback, quiet, note_now, waits, out_of_cycle, with_timer_at_hand}
-use Rattle.scx_sched_world.specs.Tasks.{to_front, homed, after_run, after_switch, after_cut_off, with_since, after_wake, after_sleep, after_leave, after_enter, for_cpu, fill_front, after_fill, after_stop, started_at, after_keep, put_parked, after_take, let_go, after_tick, used_ms, after_reweigh, after_own_weight}
+use Rattle.scx_sched_world.specs.World.{WorldState, are_linux, with_kick, without_kick, with_cycling, with_switch, with_slept, with_waker, choice, after_claim, with_tree, with_task as set_task, task_at, is_throttled, running, cpu_of, is_idle, at_callback, quiet, note_now, waits, out_of_cycle, with_timer_at_hand, first_home}
+use Rattle.scx_sched_world.specs.Tasks.{to_front, homed, after_run, after_switch, after_cut_off, with_since, after_wake, after_sleep, after_leave, after_enter, for_cpu, fill_front, after_fill, after_stop, started_at, after_keep, put_parked, let_go, after_tick, used_ms, after_reweigh, after_own_weight}
 use Rattle.scx_sched_world.specs.Helpers.{alarm_at, due_now, after_fire}
 use Rattle.scx_sched_world.specs.Ejecting.{eject_of, put_builtin, after_charge, after_catch_up}
 use Rattle.scx_sched_machine.specs.Policy.{program_of}
@@ -36,11 +36,11 @@ use Rattle.scx_sched_machine.specs.Ejecting.{moves_over, eject, ejected_for}
 use Rattle.scx_sched_machine.specs.Callbacks.{call_ending, after_callback, answer_fault, as_cause, cause_of, unless_ejected, acting, call_back, call_by_linux, answered_by, one_task, task_cpu_and_0, task_and_number, cpu_and_task, noted_by, one_number, two_numbers}
 use Rattle.scx_sched_machine.specs.Put.{enters, enqueue_choice, enters_builtin, comes_in, put}
 use Rattle.scx_sched_machine.specs.Filling.{fill}
-use Rattle.scx_sched_machine.specs.Parking.{park, park_front, throttled_front, park_fronts, clear, in_reach, supply, let_go_one, let_go_from, let_all_go}
+use Rattle.scx_sched_machine.specs.Parking.{park, throttled_front, throttled_next, park_next, clear, in_reach, supply, let_go_one, let_go_from, let_all_go}
 use Rattle.scx_sched_machine.specs.Custody.{is_in_custody, tells_dequeued, leaver, tells_of, tells_each, moved_as, hears_dequeue, tells_left}
 use Rattle.scx_sched_machine.specs.Cycle.{has_local, keeps_slice, supply_unless_kept, told_of, after_dispatch, asks_again, tries, stopping_called, after_stopping, switched, after_running, put_back, leave, started_if, start, rest, swap, swap_or_rest, builtin_dispatch, builtin_fill, builtin_ask, builtin_cycle, start_or_cycle, picked, refilled, is_local, start_picked, start_picked_or_cycle, give_up, pick, pick_or_rest, keep_or_pick, conclude, ask, seek, look, cycling, cycle, dispatch_called, tells_idle, tells_busy, makes_way, ends, falls_idle, notes_idle, idle_or_anew, becomes_idle, concluded}
 use Rattle.scx_sched_machine.specs.Firing.{due, fired, fires, fire, fire_below, fire_all}
-use Rattle.scx_sched_machine.specs.Events.{target, insert_or_put, woken, wake_target, comes_to, while_in_force, told_runnable, settle, inserted_by_choice, chosen_by_default, chosen, ask_target, asks_target, select, from_waker, wake, told_of_sleep, falls_asleep, looks_after_sleep, leaves_cpu, sleep_from_cpu, sleep_from, sleep, throttle, ends_slices, expire, use_up, hears_tick, tick_heard, count_down, tick_idle, tick_of, tick, leaves_queue, sleep_from_queue, restore_flag, change_flags, takes_weight, changes_weight, reweigh_running, reweigh_waiting, reweigh_off_cpu, reweigh_at, reweigh_by_linux, reweigh}
+use Rattle.scx_sched_machine.specs.Events.{target, insert_or_put, woken, wake_target, comes_to, while_in_force, told_runnable, settle, inserted_by_choice, chosen_by_default, chosen, ask_target, asks_target, select, from_waker, wake, told_of_sleep, falls_asleep, looks_after_sleep, leaves_cpu, sleep_from_cpu, sleep_from, sleep, throttle, ends_slices, expire, use_up, hears_tick, tick_heard, count_down, tick_idle, tick_of, tick, leaves_queue, sleep_from_queue, restore_flag, change_flags, takes_weight, changes_weight, reweigh_running, reweigh_waiting, reweigh_off_cpu, reweigh_at, reweigh_by_linux, reweigh, settle_at_home}
 use Rattle.scx_sched_machine.specs.Rounds.{most_rounds, next_to_look, cut_off_if, look_past, look_from, round, round_then, rounds, with_rounds}
 use Rattle.scx_sched_machine.proofs.Choices.{keeps_if}
 use Rattle.scx_sched.specs.Kept.{with_moved}
@@ -48,7 +48,7 @@ use Rattle.scx_sched.specs.Causes.{IsLast}
 use Rattle.scx_sched.specs.Decided.{used_at_tick}
 use Rattle.scx_sched.proofs.Marks.{Anywhere, kept_homed, kept_claim}
 use Rattle.scx_sched.proofs.Unchanged.{IsAsBefore, same_marks, same_entered, same_put_builtin, same_put_parked, same_called, eject_sets, same_brought, same_kept, IsAsRuled, ruled_switch, ruled_cycling, IsTidy, tidy_linux, tidy_same, tidy_switch, tidy_cycling}
-use Rattle.scx_sched.proofs.Supplying.{park_fronts_from, clear_from}
+use Rattle.scx_sched.proofs.Supplying.{park_left, park_next_from, clear_from}
 use Rattle.scx_sched.proofs.Leaving.{run_back}
 
 -- of these calls the last one had that reason, for which the policy was ejected at that time
@@ -320,7 +320,8 @@ honest_call_back s b a t c some = go (acting s b) refl
     go (Some p) e = honest_run s b a t c p (in_force s b p e)
 
 -- Linux rules call some callbacks more
-honest_call_by_linux : (s : State) (b : Callback) (a : Args) (t c : ℕ) → (b ≡ callback.SelectCpu → 0 < length s.world.cpus) → IsHonest s (call_by_linux s b a t c)
+-- so does one that Linux rules call more
+pub honest_call_by_linux : (s : State) (b : Callback) (a : Args) (t c : ℕ) → (b ≡ callback.SelectCpu → 0 < length s.world.cpus) → IsHonest s (call_by_linux s b a t c)
 unfolding call_by_linux
 honest_call_by_linux s b a t c some = keeps_if (IsHonest s) (is_by_linux s && is_some (program_of s.policy b)) (call_back s b a t c) (stays s) (honest_call_back s b a t c some) (honest_stays s)
 
@@ -350,25 +351,24 @@ honest_put s t c flags =
 
 honest_fill : (s : State) (q c : ℕ) → IsHonest s (fill s q c)
 unfolding fill
-honest_fill s q c = honest_plain s (after_fill s.world q c) _ (same_brought (fill_front s.world q c) s.world q c)
+honest_fill s q c = honest_plain s (after_fill s.world q c) _ (same_brought (fill_front s.world q c) s.world c)
 
 -- the task at hand is parked
 pub honest_park : (s : State) (t : ℕ) → IsHonest s (park s t)
 unfolding park
 honest_park s t = honest_plain s (put_parked s.world t) _ (same_put_parked s.world s.world t (refl, refl, refl, refl, refl, refl))
 
-honest_park_front : (s : State) (q t : ℕ) → IsHonest s (park_front s q t)
-unfolding park_front
-honest_park_front s q t = honest_from s (after_take s.world q) (park (with_world s (after_take s.world q)) t) (refl, refl, refl, refl, refl, refl) (honest_park (with_world s (after_take s.world q)) t)
+honest_park_left : (s : State) (t : ℕ) → IsHonest s (park_left s t)
+honest_park_left s t = honest_from s (after_leave s.world t) (park_left s t) (refl, refl, refl, refl, refl, refl) (honest_park (with_world s (after_leave s.world t)) t)
 
-honest_park_fronts : (j : ℕ) (s : State) (q : ℕ) → IsHonest s (park_fronts j s q)
-unfolding park_fronts
-honest_park_fronts zero s q = honest_stays s
-honest_park_fronts (suc j) s q = go (throttled_front s q) (λ t. honest_park_fronts j (park_front s q t).state q)
+honest_park_next : (j : ℕ) (s : State) (q c : ℕ) → IsHonest s (park_next j s q c)
+unfolding park_next
+honest_park_next zero s q c = honest_stays s
+honest_park_next (suc j) s q c = go (throttled_next s q c) (λ t. honest_park_next j (park_left s t).state q c)
   where
-    go : (o : Option ℕ) → ((t : ℕ) → IsHonest (park_front s q t).state (park_fronts j (park_front s q t).state q)) → IsHonest s (park_fronts_from j s q o)
+    go : (o : Option ℕ) → ((t : ℕ) → IsHonest (park_left s t).state (park_next j (park_left s t).state q c)) → IsHonest s (park_next_from j s q c o)
     go None more = honest_stays s
-    go (Some t) more = let p = park_front s q t in honest_joined s p (park_fronts j p.state q) (honest_park_front s q t) (more t)
+    go (Some t) more = let p = park_left s t in honest_joined s p (park_next j p.state q c) (honest_park_left s t) (more t)
 
 honest_clear : (j : ℕ) (s : State) (c : ℕ) → IsHonest s (clear j s c)
 unfolding clear
@@ -379,7 +379,7 @@ honest_clear (suc j) s c =
   where
     go : (v : State) (o : Option ℕ) → ((u : State) → IsHonest u (clear j u c)) → IsHonest v (clear_from j v c o)
     go v None more = honest_stays v
-    go v (Some t) more = let p = park_front v (local_on c) t in honest_joined v p (clear j p.state c) (honest_park_front v (local_on c) t) (more p.state)
+    go v (Some t) more = let p = park_left v t in honest_joined v p (clear j p.state c) (honest_park_left v t) (more p.state)
 
 -- supplying a local queue does no more to the policy than a step may
 pub honest_supply : (s : State) (c : ℕ) → IsHonest s (supply s c)
@@ -499,9 +499,9 @@ honest_swap_or_rest s c p ran = keeps_if (IsHonest s) (has_local s c) (swap s c 
 pub honest_builtin_fill : (s : State) (c : ℕ) → IsHonest s (builtin_fill s c)
 unfolding builtin_fill builtin_dispatch
 honest_builtin_fill s c =
-    let p = park_fronts (len_of s.world.queues builtin_queue) s builtin_queue in
+    let p = park_next (len_of s.world.queues builtin_queue) s builtin_queue c in
     keeps_if (IsHonest s) (has_local s c) (stays s) (one_after_other p (fill p.state builtin_queue c)) (honest_stays s)
-    (honest_joined s p (fill p.state builtin_queue c) (honest_park_fronts (len_of s.world.queues builtin_queue) s builtin_queue) (honest_fill p.state builtin_queue c))
+    (honest_joined s p (fill p.state builtin_queue c) (honest_park_next (len_of s.world.queues builtin_queue) s builtin_queue c) (honest_fill p.state builtin_queue c))
 
 honest_builtin_ask : (s : State) (c : ℕ) (p : Option ℕ) (ran : Bool) → IsHonest s (builtin_ask s c p ran)
 unfolding builtin_ask
@@ -735,12 +735,17 @@ honest_ask_target s t some =
     let y = settle (chosen p r.state t) t d in
     honest_joined s r y (honest_call_back s callback.SelectCpu (task_cpu_and_0 t c) t c (λ e. some)) (honest_chosen p r.state t y (honest_settle (chosen p r.state t) t d))
 
+honest_settle_at_home : (s : State) (t c : ℕ) → IsHonest s (settle_at_home s t c)
+unfolding settle_at_home
+honest_settle_at_home s t c =
+    let w = at_callback s.world callback.SelectCpu t c in
+    honest_from s w (settle (with_world s w) t c) (refl, refl, refl, refl, refl, refl) (honest_settle (with_world s w) t c)
+
 honest_select : (s : State) (t : ℕ) → 0 < length s.world.cpus → IsHonest s (select s t)
 unfolding select
 honest_select s t some =
-    let w = at_callback s.world callback.SelectCpu t 0 in
-    let r = settle (with_world s w) t 0 in
-    keeps_if (IsHonest s) (asks_target s) (ask_target s t) r (honest_ask_target s t some) (honest_from s w r (refl, refl, refl, refl, refl, refl) (honest_settle (with_world s w) t 0))
+    let c = first_home s.world t in
+    keeps_if (IsHonest s) (asks_target s t) (ask_target s t) (settle_at_home s t c) (honest_ask_target s t some) (honest_settle_at_home s t c)
 
 -- what is honest once the task is woken from a processor
 honest_from_waker : (s : State) (t : ℕ) (r : Stepped) → IsHonest (from_waker s t) r → IsHonest s r

@@ -15,7 +15,7 @@ use Rattle.scx_sched_world.specs.declared.faults.Fault.{Fault}
 use Rattle.scx_sched_world.specs.declared.timers.Alarm.{Alarm}
 use Rattle.scx_sched_world.specs.World.{WorldState, with_queues}
 use Rattle.scx_sched_world.specs.Tasks.{for_cpu}
-use Rattle.scx_sched_world.specs.Helpers.{with_cause, is_dispatch, with_insert, after_release, insert_or_fault, helper_after, world_functions}
+use Rattle.scx_sched_world.specs.Helpers.{with_cause, is_dispatch, with_insert, after_release, insert_or_fault, helper_after, world_functions, after_random}
 use Rattle.scx_sched_machine.proofs.Choices.{keeps_if}
 use Rattle.scx_sched_machine.proofs.HelperCalls.{by_helper}
 use Rattle.scx_sched.proofs.Marks.{KeepsMarks, Anywhere, kept_kicked_so, kept_claim}
@@ -37,6 +37,9 @@ module _ (v : WorldState) where
 
   calm_caused : (w : WorldState) (x : Cause) → IsCalm v w → IsCalm v (with_cause w x)
   calm_caused w x h = record { entries = h.entries; pushes = h.pushes; tree = h.tree; ejected = h.ejected; callback = h.callback }
+
+  calm_drawn : (w : WorldState) → IsCalm v w → IsCalm v (after_random w)
+  calm_drawn w h = record { entries = h.entries; pushes = h.pushes; tree = h.tree; ejected = h.ejected; callback = h.callback }
 
   calm_timed : (w : WorldState) (ts : List (Option Alarm)) → IsCalm v w → IsCalm v (record w { timers = ts })
   calm_timed w ts h = record { entries = h.entries; pushes = h.pushes; tree = h.tree; ejected = h.ejected; callback = h.callback }
@@ -61,6 +64,7 @@ module _ (v : WorldState) where
     kicked = λ c k. kept_kicked_so Anywhere (IsCalm v) calm_marks w c k h;
     started = λ t ns. calm_timed w _ h;
     cancelled = λ t. calm_timed w _ h;
+    drawn = calm_drawn w h;
     moved = λ q here low. absurd (is_not here);
   }) f a
     where

@@ -4,23 +4,22 @@ use Rattle.std.proofs.Common.{◌≡◌, ℕ, zero, suc, ◌+◌, ◌==◌, ◌<
 use Rattle.std.proofs.lemmas.Bool.{ne_eqb, eq-eqb, and_parts}
 use Rattle.std.proofs.lemmas.Bool.Decides.{nat_tests}
 use Rattle.std.proofs.lemmas.List.{length-set, get_or-set_same}
-use Rattle.scx_dsq.proofs.Facts.{front_is_known}
 use Rattle.scx_dsq.specs.Queues.{entry_of, is_in, len_of, front_of}
 use Rattle.scx_dsq.specs.declared.entries.Entry.{Entry}
 use Rattle.scx_isa_semantics.specs.declared.callbacks.Callback.TheVariants as callback
 use Rattle.scx_weights.specs.Limits.{is_throttled}
 use Rattle.scx_sched_world.specs.Ids.{global, builtin_queue, parked_queue, local_on}
-use Rattle.scx_sched_world.specs.World.{WorldState, task_at, out_of_cycle, running, note_now}
+use Rattle.scx_sched_world.specs.World.{WorldState, task_at, out_of_cycle, running, note_now, may_run}
 use Rattle.scx_sched_world.specs.declared.eject.Eject.{Eject}
 use Rattle.scx_sched_world.specs.declared.notes.What.TheVariants.{Idle}
 use Rattle.scx_sched_world.specs.declared.notes.Note.{Note}
-use Rattle.scx_sched_world.specs.Tasks.{local_len, to_front, after_stop, started_at, after_run, after_take}
+use Rattle.scx_sched_world.specs.Tasks.{local_len, to_front, after_stop, started_at, after_run, after_leave}
 use Rattle.scx_sched_world.proofs.Fronts.{front_in}
 use Rattle.scx_sched_machine.specs.Steps.{State, Stepped, one_after_other, stays, with_world, is_ejected, is_by_linux, kicked}
 use Rattle.scx_sched_machine.specs.Callbacks.{call_back, cpu_and_task, call_by_linux, noted_by, task_and_number, two_numbers}
 use Rattle.scx_sched_machine.specs.Put.{enters, put}
 use Rattle.scx_sched_machine.specs.Filling.{fill}
-use Rattle.scx_sched_machine.specs.Parking.{park, park_front, throttled_front, park_fronts, clear, in_reach, supply}
+use Rattle.scx_sched_machine.specs.Parking.{park, throttled_front, throttled_next, park_next, clear, in_reach, supply}
 use Rattle.scx_sched_machine.specs.Custody.{tells_dequeued, leaver, tells_of, tells_each, moved_as, hears_dequeue, tells_left}
 use Rattle.scx_sched_machine.specs.Cycle.{has_local, keeps_slice, supply_unless_kept, told_of, after_dispatch, asks_again, tries, after_stopping, switched, put_back, leave, started_if, start as run_front, rest, swap, swap_or_rest, builtin_dispatch, builtin_fill, builtin_ask, builtin_cycle, start_or_cycle, picked, refilled, is_local, start_picked, start_picked_or_cycle, give_up, pick, pick_or_rest, keep_or_pick, conclude, ask, seek, look, cycling, cycle, dispatch_called, hears_idle, tells_idle, tells_busy, makes_way, ends, falls_idle, notes_idle, idle_or_anew, becomes_idle, concluded}
 use Rattle.scx_sched_machine.proofs.Choices.{keeps_if}
@@ -29,15 +28,19 @@ use Rattle.scx_sched.specs.Once.{IsSound}
 use Rattle.scx_sched.proofs.Clear.{IsClear, MayStart, IsPicked, tree_used_up, clear_of}
 use Rattle.scx_sched.proofs.Firsts.{no_front_is_empty}
 use Rattle.scx_sched.proofs.Leaving.{LeavesPlainly, out_is_plain}
-use Rattle.scx_sched.proofs.Blaming.{plain_on, honest_supply, honest_builtin_fill, way_plain, honest_makes_way}
+use Rattle.scx_sched.proofs.Blaming.{plain_on, honest_stopping, honest_supply, honest_builtin_fill, way_plain, honest_makes_way}
 use Rattle.scx_sched.proofs.Ready.{ready_leave, picked_makes_way, linux_in_force}
-use Rattle.scx_sched.proofs.Supplying.{park_fronts_from, clear_from, throttled_is, supply_clears, builtin_clears}
+use Rattle.scx_sched.proofs.Supplying.{park_left, park_next_from, clear_from, IsThrottledIn, throttled_is, throttled_next_is, supply_clears, builtin_clears}
 use Rattle.scx_sched.proofs.Skeleton.{IsKnown, once_for, keeps_call_back, keeps_stopping, keeps_running_on, keeps_put, keeps_kicked, keeps_switched, keeps_call_by_linux, keeps_out_of_cycle}
+use Rattle.scx_sched.proofs.Sound.{place_known}
+use Rattle.scx_sched.specs.Allowed.{IsAllowedIn}
+use Rattle.scx_sched.proofs.Placing.{may_as, may_put}
 
 -- whoever keeps each small step knows where each task is
 pub record IsKeptInside (n : ℕ) (I : ℕ → Option ℕ → List (Option ℕ) → WorldState → Type 0) : Type 0 where
   pub steps : IsKeptBySteps n I
   pub sound : (m : ℕ) (hand : Option ℕ) (on : List (Option ℕ)) (w : WorldState) → I m hand on w → IsSound hand on n w
+  pub allowed : (m : ℕ) (hand : Option ℕ) (on : List (Option ℕ)) (w : WorldState) → I m hand on w → IsAllowedIn on n w
 
 pub not_kept : (b d : Bool) → (not b && d) ≡ true → b ≡ false
 not_kept true d e = absurd (cc)
@@ -60,21 +63,19 @@ module _ (n : ℕ) (I : ℕ → Option ℕ → List (Option ℕ) → WorldState 
     unfolding park
     keeps_park s t within throttled h = k.steps.put_parked m on s.world t within throttled h
 
-    -- a front is parked
-    pub keeps_park_front : (s : State) (q t : ℕ) → (q == parked_queue) ≡ false → throttled_front s q ≡ Some t → I m None on s.world → I m None on (park_front s q t).state.world
-    unfolding park_front
-    keeps_park_front s q t apart e h =
-        let x = throttled_is s q t e in
-        keeps_park (with_world s (after_take s.world q)) t (omega (arith, front_is_known s.world.queues q (Some t) (sym x.front), (k.sound m None on s.world h).even)) (tree_used_up s.world t x.throttled) (k.steps.taken m on s.world q t apart x.front h)
+    -- a throttled task of another queue is parked
+    pub keeps_park_left : (s : State) (q t : ℕ) → (q == parked_queue) ≡ false → IsThrottledIn s q t → I m None on s.world → I m None on (park_left s t).state.world
+    keeps_park_left s q t apart x h =
+        keeps_park (with_world s (after_leave s.world t)) t (omega (arith, (place_known s.world.queues q t x.there).0, (k.sound m None on s.world h).even)) (tree_used_up s.world t x.throttled) (k.steps.left m on s.world q t apart x.there h)
 
-    pub keeps_park_fronts : (j : ℕ) (s : State) (q : ℕ) → (q == parked_queue) ≡ false → I m None on s.world → I m None on (park_fronts j s q).state.world
-    unfolding park_fronts
-    keeps_park_fronts zero s q apart h = h
-    keeps_park_fronts (suc j) s q apart h = go (throttled_front s q) refl (λ t x. keeps_park_fronts j (park_front s q t).state q apart x)
+    pub keeps_park_next : (j : ℕ) (s : State) (q c : ℕ) → (q == parked_queue) ≡ false → I m None on s.world → I m None on (park_next j s q c).state.world
+    unfolding park_next
+    keeps_park_next zero s q c apart h = h
+    keeps_park_next (suc j) s q c apart h = go (throttled_next s q c) refl (λ t x. keeps_park_next j (park_left s t).state q c apart x)
       where
-        go : (o : Option ℕ) → throttled_front s q ≡ o → ((t : ℕ) → I m None on (park_front s q t).state.world → I m None on (park_fronts j (park_front s q t).state q).state.world) → I m None on (park_fronts_from j s q o).state.world
+        go : (o : Option ℕ) → throttled_next s q c ≡ o → ((t : ℕ) → I m None on (park_left s t).state.world → I m None on (park_next j (park_left s t).state q c).state.world) → I m None on (park_next_from j s q c o).state.world
         go None e more = h
-        go (Some t) e more = more t (keeps_park_front s q t apart e h)
+        go (Some t) e more = more t (keeps_park_left s q t apart (throttled_next_is s q c t e) h)
 
     -- a local queue that is filled
     pub keeps_fill : (s : State) (q c : ℕ) → (q == parked_queue) ≡ false → c < length on → I m None on s.world → I m None on (fill s q c).state.world
@@ -85,12 +86,12 @@ module _ (n : ℕ) (I : ℕ → Option ℕ → List (Option ℕ) → WorldState 
     keeps_clear : (j : ℕ) (s : State) (c : ℕ) → c < length on → I m None on s.world → I m None on (clear j s c).state.world
     unfolding clear
     keeps_clear zero s c l h = h
-    keeps_clear (suc j) s c l h = go (fill s global c).state (keeps_fill s global c refl l h) (throttled_front (fill s global c).state (local_on c)) refl (λ t x. keeps_clear j (park_front (fill s global c).state (local_on c) t).state c l x)
+    keeps_clear (suc j) s c l h = go (fill s global c).state (keeps_fill s global c refl l h) (throttled_front (fill s global c).state (local_on c)) refl (λ t x. keeps_clear j (park_left (fill s global c).state t).state c l x)
       where
         go : (f : State) → I m None on f.world → (o : Option ℕ) → throttled_front f (local_on c) ≡ o
-            → ((t : ℕ) → I m None on (park_front f (local_on c) t).state.world → I m None on (clear j (park_front f (local_on c) t).state c).state.world) → I m None on (clear_from j f c o).state.world
+            → ((t : ℕ) → I m None on (park_left f t).state.world → I m None on (clear j (park_left f t).state c).state.world) → I m None on (clear_from j f c o).state.world
         go f x None e more = x
-        go f x (Some t) e more = more t (keeps_park_front f (local_on c) t (ne_eqb (local_on c) parked_queue (λ y. omega (arith, y))) e x)
+        go f x (Some t) e more = more t (keeps_park_left f (local_on c) t (ne_eqb (local_on c) parked_queue (λ y. omega (arith, y))) (throttled_is f (local_on c) t e) x)
 
     pub keeps_supply : (s : State) (c : ℕ) → c < length on → I m None on s.world → I m None on (supply s c).state.world
     unfolding supply
@@ -172,7 +173,7 @@ module _ (n : ℕ) (I : ℕ → Option ℕ → List (Option ℕ) → WorldState 
   pub clear_now : (m : ℕ) (on : List (Option ℕ)) (s : State) (c : ℕ) → I m None on s.world → MayStart c s.world → IsClear c s.world
   clear_now m on s c h may = clear_of None on n c s.world (k.sound m None on s.world h) may
 
-  -- somebody runs where, and the processor is there
+  -- a task runs on that processor, which is there
   abbrev pub Some-on : ℕ → ℕ → WorldState → Type 0
   Some-on c m w = (on : List (Option ℕ)) × (c < length on) × I m None on w
 
@@ -192,15 +193,21 @@ module _ (n : ℕ) (I : ℕ → Option ℕ → List (Option ℕ) → WorldState 
   keeps_rest m on s c None ran l h = (on, l, h)
   keeps_rest m on s c (Some t) ran l h = (on, l, k.steps.more m None on _ (k.steps.kept m on s.world t h))
 
+  -- a task is put for a processor on which it may run
+  pub keeps_put_at : (m : ℕ) (on : List (Option ℕ)) (s : State) (t c flags : ℕ) → t < n → c < length on → may_run s.world t c ≡ true → I m (Some t) on s.world → I m None on (put s t c flags).state.world
+  keeps_put_at m on s t c flags within l may h =
+      let r = (call_back s callback.Enqueue (task_and_number t flags) t c).state in
+      keeps_put n I k.steps m on s t c flags within l (may_put on n s t c flags may (k.allowed m (Some t) on r.world (keeps_call_back n I k.steps m (Some t) on s callback.Enqueue (task_and_number t flags) t c l h))) h
+
   -- a task that was stopped is put, or goes to the front
-  keeps_put_back : (m : ℕ) (on : List (Option ℕ)) (s : State) (c t : ℕ) → t < n → c < length on → I m (Some t) on s.world → I m None on (put_back s c t).state.world
+  keeps_put_back : (m : ℕ) (on : List (Option ℕ)) (s : State) (c t : ℕ) → t < n → c < length on → may_run s.world t c ≡ true → I m (Some t) on s.world → I m None on (put_back s c t).state.world
   unfolding put_back enters
-  keeps_put_back m on s c t within l h = go (is_by_linux s) (not ((task_at s.world t).slice == 0)) refl
+  keeps_put_back m on s c t within l may h = go (is_by_linux s) (not ((task_at s.world t).slice == 0)) refl
     where
       go : (b x : Bool) → is_by_linux s ≡ b → I m None on (if b && x then enters s t (to_front c) else put s t c 0).state.world
-      go true true e = k.steps.entered m on s.world t (to_front c) within (InFront c l e refl) h
-      go true false e = keeps_put n I k.steps m on s t c 0 within l h
-      go false x e = keeps_put n I k.steps m on s t c 0 within l h
+      go true true e = k.steps.entered m on s.world t (to_front c) within (InFront c l e refl) (λ d v e. let same : c ≡ d = omega (arith, e) in subst (λ x. may_run s.world t x ≡ true) same may) h
+      go true false e = keeps_put_at m on s t c 0 within l may h
+      go false x e = keeps_put_at m on s t c 0 within l may h
 
   abbrev pub Left : ℕ → ℕ → WorldState → Type 0
   Left m c w = (on : List (Option ℕ)) × I m None on w × (c < length on) × (get_or on c None ≡ None)
@@ -213,8 +220,10 @@ module _ (n : ℕ) (I : ℕ → Option ℕ → List (Option ℕ) → WorldState 
       let off = with_world s (after_stop s.world c t) in
       let l' : c < length (set on c None) = rw (length-set on c None) l in
       let r = after_stopping off c t 1 in
+      let still = honest_stopping off c t 1 in
+      let may = may_as off.world r.state.world still.rules (ap (λ y. y.masks) still.tree) t c ((k.allowed m None on s.world h).runs c t runs) in
       let x : I (m + 1) (Some t) (set on c None) r.state.world = keeps_stopping n I k.steps m (Some t) (set on c None) off c t 1 l' (k.steps.stopped m on s.world c t l known runs h) in
-      (set on c None, keeps_put_back (m + 1) (set on c None) r.state c t known l' x, l', get_or-set_same on c None None l)
+      (set on c None, keeps_put_back (m + 1) (set on c None) r.state c t known l' may x, l', get_or-set_same on c None None l)
 
   -- and leaves the front of the local queue, or nobody in it
   pub ready_left : (m : ℕ) (on : List (Option ℕ)) (s : State) (c : ℕ) (p : Option ℕ) → LeavesPlainly p s → c < length on → IsKnown n p → get_or on c None ≡ p → has_local s c ≡ true → IsClear c s.world → I m None on s.world → IsClear c (leave s c p).state.world
@@ -239,8 +248,8 @@ module _ (n : ℕ) (I : ℕ → Option ℕ → List (Option ℕ) → WorldState 
   pub keeps_builtin_fill : (m : ℕ) (on : List (Option ℕ)) (s : State) (c : ℕ) → c < length on → I m None on s.world → I m None on (builtin_fill s c).state.world
   unfolding builtin_fill builtin_dispatch
   keeps_builtin_fill m on s c l h =
-      let p = park_fronts (len_of s.world.queues builtin_queue) s builtin_queue in
-      keeps_if (λ (r : Stepped). I m None on r.state.world) (has_local s c) (stays s) (one_after_other p (fill p.state builtin_queue c)) h (keeps_fill m on p.state builtin_queue c refl l (keeps_park_fronts m on (len_of s.world.queues builtin_queue) s builtin_queue refl h))
+      let p = park_next (len_of s.world.queues builtin_queue) s builtin_queue c in
+      keeps_if (λ (r : Stepped). I m None on r.state.world) (has_local s c) (stays s) (one_after_other p (fill p.state builtin_queue c)) h (keeps_fill m on p.state builtin_queue c refl l (keeps_park_next m on (len_of s.world.queues builtin_queue) s builtin_queue c refl h))
 
   pub keeps_builtin_cycle : (m : ℕ) (on : List (Option ℕ)) (s : State) (c : ℕ) (p : Option ℕ) (ran : Bool) → LeavesPlainly p s → c < length on → IsKnown n p → get_or on c None ≡ p → I m None on s.world → Some-on c (once_for p m) (builtin_cycle s c p ran).state.world
   unfolding builtin_cycle builtin_ask

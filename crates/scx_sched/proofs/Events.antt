@@ -16,7 +16,7 @@ use Rattle.scx_vm.specs.Programs.{VerifiedProgram}
 use Rattle.scx_sched_world.specs.Ids.{policy_end, held_queue, parked_queue}
 use Rattle.scx_sched_world.specs.CpuSets.{is_in_set, and_cpu, but_cpu}
 use Rattle.scx_sched_world.specs.World as world
-use Rattle.scx_sched_world.specs.World.{WorldState, with_tree, switch_at, with_switch, task_at, is_this, is_runnable, is_throttled, running, cpu_of, without_kick, with_slept, with_waker, is_idle, is_free, this_if, or_this, free_below, first_free, choice, default_choice, after_claim, at_callback, waits_in, waits, free_choice}
+use Rattle.scx_sched_world.specs.World.{WorldState, with_tree, switch_at, with_switch, task_at, is_this, is_runnable, is_throttled, running, cpu_of, without_kick, with_slept, with_waker, is_idle, this_if, or_this, choice, default_choice, after_claim, at_callback, waits_in, waits, free_choice, first_home, may_run, lowest_cpu, is_free_for}
 use Rattle.scx_sched_world.specs.declared.call.Insert.{Insert}
 use Rattle.scx_sched_world.specs.declared.timers.Alarm.{Alarm}
 use Rattle.scx_sched_world.specs.Pending.{is_pending, pending_below, first_pending}
@@ -32,7 +32,7 @@ use Rattle.scx_sched_machine.specs.Policy.{program_of}
 use Rattle.scx_sched_machine.specs.Custody.{is_custody, is_in_custody, tells_dequeued, tells_dequeued_if}
 use Rattle.scx_sched_machine.specs.Cycle.{cycle}
 use Rattle.scx_sched_machine.specs.Firing.{due, fires, fire, fire_below, fire_all}
-use Rattle.scx_sched_machine.specs.Events.{refusal, target, insert_or_put, woken, wake_target, comes_to, while_in_force, told_runnable, settle, inserted_by_choice, chosen, ask_target, asks_target, select, from_waker, wake, told_of_sleep, falls_asleep, looks_after_sleep, leaves_cpu, sleep_from_cpu, sleep_from, sleep, throttle, ends_slices, expire, use_up, hears_tick, tick_heard, count_down, tick_idle, tick_of, tick, overdue, eject_if_stalled, clock, own_step, event_step, leaves_queue, sleep_from_queue, watch, timers_and_watchdog, restore_flag, change_flags, takes_weight, changes_weight, reweigh_running, reweigh_waiting, reweigh_off_cpu, reweigh_at, reweigh_by_linux, reweigh}
+use Rattle.scx_sched_machine.specs.Events.{refusal, target, insert_or_put, woken, wake_target, comes_to, while_in_force, told_runnable, settle, inserted_by_choice, chosen, ask_target, asks_target, select, from_waker, wake, told_of_sleep, falls_asleep, looks_after_sleep, leaves_cpu, sleep_from_cpu, sleep_from, sleep, throttle, ends_slices, expire, use_up, hears_tick, tick_heard, count_down, tick_idle, tick_of, tick, overdue, eject_if_stalled, clock, own_step, event_step, leaves_queue, sleep_from_queue, watch, timers_and_watchdog, restore_flag, change_flags, takes_weight, changes_weight, reweigh_running, reweigh_waiting, reweigh_off_cpu, reweigh_at, reweigh_by_linux, reweigh, settle_at_home, cpu_or_home}
 use Rattle.scx_sched_machine.specs.Rounds.{most_rounds, next_to_look, cut_off_if, look_past, look_from, round, round_then, rounds, with_rounds}
 use Rattle.scx_sched_machine.proofs.Choices.{keeps_if}
 use Rattle.scx_sched.specs.Once.{runs, GoesSomewhere, IsSound}
@@ -42,21 +42,27 @@ use Rattle.scx_sched.specs.Kept.{IsKeptBySteps, IsWanted, Inserted, Before}
 use Rattle.scx_sched.proofs.Sound.{sound_woken, sound_left, sound_stopped, sound_ticked, sound_later, sound_with_weight, sound_removed, sound_own_weight}
 use Rattle.scx_sched.proofs.Parking.{sound_let_go, sound_used_ms, sound_begun_periods}
 use Rattle.scx_sched.proofs.Bounded.{within_used, within_used_up, within_turned, within_reweighed, most_used, most_turned, within_own}
-use Rattle.scx_sched.proofs.Skeleton.{keeps_eject, keeps_call_back, keeps_call_by_linux, keeps_waker, keeps_stopping, keeps_settled, keeps_homed, keeps_kicked_if_idle, keeps_timer, keeps_timer_called, keeps_put}
+use Rattle.scx_sched.proofs.Homes.{home_is_there, lowest_is_there, home_may, choice_may, target_may}
+use Rattle.scx_sched.proofs.Skeleton.{keeps_eject, keeps_call_back, keeps_call_by_linux, keeps_waker, keeps_stopping, keeps_settled, keeps_homed, keeps_kicked_if_idle, keeps_timer, keeps_timer_called}
 use Rattle.scx_sched.proofs.Clear.{tree_free, tree_used_up}
 use Rattle.scx_sched.proofs.Ready.{calm_call_back, linux_in_force, not_out}
 use Rattle.scx_sched.proofs.Remembering.{remembers}
 use Rattle.scx_sched.proofs.Unchanged.{same_linux}
-use Rattle.scx_sched.proofs.Blaming.{honest_call_back, honest_leaves_cpu, honest_heard}
-use Rattle.scx_sched.proofs.Cycles.{IsKeptInside, keeps_park, keeps_cycle}
+use Rattle.scx_sched.proofs.Blaming.{honest_call_back, honest_leaves_cpu, honest_heard, IsHonest, honest_call_by_linux, honest_leaves_queue}
+use Rattle.scx_sched.proofs.Cycles.{IsKeptInside, keeps_park, keeps_cycle, keeps_put_at}
 use Rattle.scx_sched.proofs.Letting.{LetsGo, keeps_let_all_go}
 use Rattle.scx_sched.proofs.Fine.{IsRange, range_of, range_task, range_same, fine_of, fine_steps}
+use Rattle.scx_sched.specs.Allowed.{MayGo, IsAllowedIn}
+use Rattle.scx_sched.proofs.Placing.{may_as, goes_for, may_put}
+use Rattle.scx_sched.proofs.Allowing.{allowed_same, allowed_left, allowed_woken, allowed_asleep, allowed_let_go, allowed_weighed, allowed_used, allowed_later, allowed_stopped}
+use Rattle.scx_sched.proofs.AtHand.{task_called}
 
 -- What an event makes of a task before it comes to small steps. Whoever keeps these too keeps events; the fact
 -- says at least where each task is.
 pub record IsKeptByEvents (n : ℕ) (I : ℕ → Option ℕ → List (Option ℕ) → WorldState → Type 0) : Type 0 where
   pub steps : IsKeptBySteps n I
   pub sound : (m : ℕ) (hand : Option ℕ) (on : List (Option ℕ)) (w : WorldState) → I m hand on w → IsSound hand on n w
+  pub allowed : (m : ℕ) (hand : Option ℕ) (on : List (Option ℕ)) (w : WorldState) → I m hand on w → IsAllowedIn on n w
   pub woken : (m : ℕ) (on : List (Option ℕ)) (w : WorldState) (t : ℕ) → t < n → is_runnable w t ≡ false → I m None on w → I m (Some t) on (after_wake w t)
   pub let_go : LetsGo n I
   pub left : (m : ℕ) (on : List (Option ℕ)) (w : WorldState) (t : ℕ) → t < n → is_runnable w t ≡ true → cpu_of w t ≡ None → I m None on w → I m None on (after_sleep (after_leave w t) t)
@@ -67,7 +73,7 @@ pub record IsKeptByEvents (n : ℕ) (I : ℕ → Option ℕ → List (Option ℕ
 
 -- what events keep is kept inside of them
 pub inside_of : (n : ℕ) (I : ℕ → Option ℕ → List (Option ℕ) → WorldState → Type 0) → IsKeptByEvents n I → IsKeptInside n I
-inside_of n I k = record { steps = k.steps; sound = k.sound }
+inside_of n I k = record { steps = k.steps; sound = k.sound; allowed = k.allowed }
 
 -- a millisecond that is counted moves nobody
 pub cpus_used : (w : WorldState) (t : ℕ) → (used_ms w t).cpus ≡ w.cpus
@@ -75,27 +81,18 @@ cpus_used w t = keeps_if (λ (x : WorldState). x.cpus ≡ w.cpus) (nat_lt t (len
 
 -- ---- processors that there are
 
-free_is_there : (m : ℕ) (w : WorldState) (c : ℕ) → free_below m w ≡ Some c → c < m
-free_is_there zero w c e = absurd (cc)
-free_is_there (suc m) w c e = go (free_below m w) (λ x. free_is_there m w c x) (is_free w m) e
-  where
-    go : (o : Option ℕ) → (o ≡ Some c → c < m) → (b : Bool) → or_this o (this_if b m) ≡ Some c → c < suc m
-    go (Some d) f b x = omega (arith, f x)
-    go None f true x = let is : m ≡ c = ap (λ o. unwrap_or o m) x in omega (arith, is)
-    go None f false x = absurd (cc)
-
 chosen_is_there : (w : WorldState) (t c : ℕ) → (task_at w t).prev_cpu < length w.cpus → choice w t ≡ Some c → c < length w.cpus
 chosen_is_there w t c home e = tracked w.tracks_idle e
   where
     same : (a b : ℕ) → Some a ≡ Some b → a ≡ b
     same a b x = cc
 
-    go : (b : Bool) → (if b then Some (task_at w t).prev_cpu else first_free w) ≡ Some c → c < length w.cpus
+    go : (b : Bool) → (if b then Some (task_at w t).prev_cpu else lowest_cpu w (is_free_for w t)) ≡ Some c → c < length w.cpus
     go true x = omega (arith, home, same (task_at w t).prev_cpu c x)
-    go false x = free_is_there (length w.cpus) w c x
+    go false x = lowest_is_there (length w.cpus) (is_free_for w t) c x
 
     tracked : (b : Bool) → (if b then free_choice w t else None) ≡ Some c → c < length w.cpus
-    tracked true x = go (is_free w (task_at w t).prev_cpu) x
+    tracked true x = go (is_free_for w t (task_at w t).prev_cpu) x
     tracked false x = absurd (cc)
 
 choice_is_there : (w : WorldState) (t : ℕ) → (task_at w t).prev_cpu < length w.cpus → default_choice w t < length w.cpus
@@ -110,8 +107,8 @@ target_is_there None w t a home = choice_is_there w t home
 target_is_there (Some p) w t None home = choice_is_there w t home
 target_is_there (Some p) w t (Some c) home = go (nat_lt c (length w.cpus)) refl
   where
-    go : (b : Bool) → nat_lt c (length w.cpus) ≡ b → (if b then c else default_choice w t) < length w.cpus
-    go true x = grind (arith, nat_tests, x)
+    go : (b : Bool) → nat_lt c (length w.cpus) ≡ b → (if b then cpu_or_home w t c else default_choice w t) < length w.cpus
+    go true x = keeps_if (λ d. d < length w.cpus) (may_run w t c) c (first_home w t) (grind (arith, nat_tests, x)) (home_is_there w t (omega (arith, home)))
     go false x = choice_is_there w t home
 
 pub idle_there : (w : WorldState) (c : ℕ) → is_idle w c ≡ true → c < length w.cpus
@@ -208,9 +205,11 @@ module _ (n : ℕ) (I : ℕ → Option ℕ → List (Option ℕ) → WorldState 
       go true idle = keeps_now m _ (keeps_cycle n I (inside_of n I k) m on s c None false l tt (free idle) h)
       go false idle = keeps_now m s.world (on, h)
 
-  keeps_comes_to : (m : ℕ) (on : List (Option ℕ)) (o : Option Insert) (s : State) (t c : ℕ) → ((i : Insert) → o ≡ Some i → IsWanted (length on) s.world (for_cpu c i)) → t < n → c < length on → I m (Some t) on s.world → I m None (comes_to o s t c).state.world.cpus (comes_to o s t c).state.world
+  keeps_comes_to : (m : ℕ) (on : List (Option ℕ)) (o : Option Insert) (s : State) (t c : ℕ) → ((i : Insert) → o ≡ Some i → IsWanted (length on) s.world (for_cpu c i) × MayGo (length on) s.world t (for_cpu c i)) → may_run s.world t c ≡ true → t < n → c < length on → I m (Some t) on s.world → I m None (comes_to o s t c).state.world.cpus (comes_to o s t c).state.world
   unfolding comes_to
-  keeps_comes_to m on o s t c may within l h = keeps_wake_target m on (insert_or_put o s t c).state c l (keeps_settled n I k.steps m on o s t c may within l h)
+  keeps_comes_to m on o s t c may here within l h =
+      let r = (call_back s callback.Enqueue (task_and_number t 1) t c).state in
+      keeps_wake_target m on (insert_or_put o s t c).state c l (keeps_settled n I k.steps m on o s t c may (may_put on n s t c 1 here (k.allowed m (Some t) on r.world (keeps_call_back n I k.steps m (Some t) on s callback.Enqueue (task_and_number t 1) t c l h))) within l h)
 
   -- what select_cpu inserted may still be done once the policy has heard that the task is runnable
   may_still : (m : ℕ) (on : List (Option ℕ)) (s : State) (t c : ℕ) (i : Insert) → c < length on → s.world.call.insert ≡ Some i → I m (Some t) on s.world → is_ejected (call_by_linux s callback.Runnable (task_and_number t 1) t c).state ≡ false → IsWanted (length on) (call_by_linux s callback.Runnable (task_and_number t 1) t c).state.world (for_cpu c i)
@@ -230,36 +229,55 @@ module _ (n : ℕ) (I : ℕ → Option ℕ → List (Option ℕ) → WorldState 
       go true false linux force = Inserted c i l said refl
       go false b linux force = Inserted c i l said refl
 
-  keeps_told_runnable : (m : ℕ) (on : List (Option ℕ)) (s : State) (t c : ℕ) → t < n → c < length on → I m (Some t) on s.world → I m None (told_runnable s.world.call.insert s t c).state.world.cpus (told_runnable s.world.call.insert s t c).state.world
+  -- it still goes where the task may run
+  still_goes : (on : List (Option ℕ)) (s : State) (t c : ℕ) (i : Insert) → MayGo (length on) s.world t (for_cpu c i) → MayGo (length on) (call_by_linux s callback.Runnable (task_and_number t 1) t c).state.world t (for_cpu c i)
+  still_goes on s t c i goes d l e =
+      let r = (call_by_linux s callback.Runnable (task_and_number t 1) t c).state in
+      let x = honest_call_by_linux s callback.Runnable (task_and_number t 1) t c (λ e. absurd (cc)) in
+      may_as s.world r.world x.rules (ap (λ y. y.masks) x.tree) t d (goes d l e)
+
+  keeps_told_runnable : (m : ℕ) (on : List (Option ℕ)) (s : State) (t c : ℕ) → ((i : Insert) → s.world.call.insert ≡ Some i → MayGo (length on) s.world t (for_cpu c i)) → may_run s.world t c ≡ true → t < n → c < length on → I m (Some t) on s.world → I m None (told_runnable s.world.call.insert s t c).state.world.cpus (told_runnable s.world.call.insert s t c).state.world
   unfolding told_runnable
-  keeps_told_runnable m on s t c within l h = keeps_comes_to m on (while_in_force r i) r t c may within l (keeps_call_by_linux n I k.steps m (Some t) on s callback.Runnable (task_and_number t 1) t c l h)
+  keeps_told_runnable m on s t c goes here within l h = keeps_comes_to m on (while_in_force r i) r t c may (may_as s.world r.world honest.rules (ap (λ y. y.masks) honest.tree) t c here) within l (keeps_call_by_linux n I k.steps m (Some t) on s callback.Runnable (task_and_number t 1) t c l h)
     where
       r : State
       r = (call_by_linux s callback.Runnable (task_and_number t 1) t c).state
 
+      honest : IsHonest s (call_by_linux s callback.Runnable (task_and_number t 1) t c)
+      honest = honest_call_by_linux s callback.Runnable (task_and_number t 1) t c (λ e. absurd (cc))
+
       i : Option Insert
       i = s.world.call.insert
 
-      may : (j : Insert) → while_in_force r i ≡ Some j → IsWanted (length on) r.world (for_cpu c j)
+      may : (j : Insert) → while_in_force r i ≡ Some j → IsWanted (length on) r.world (for_cpu c j) × MayGo (length on) r.world t (for_cpu c j)
       may j e = go (is_ejected r) refl e
         where
-          go : (b : Bool) → is_ejected r ≡ b → (if b then None else i) ≡ Some j → IsWanted (length on) r.world (for_cpu c j)
+          go : (b : Bool) → is_ejected r ≡ b → (if b then None else i) ≡ Some j → IsWanted (length on) r.world (for_cpu c j) × MayGo (length on) r.world t (for_cpu c j)
           go true out x = absurd (cc)
-          go false force x = may_still m on s t c j l x h force
+          go false force x = (may_still m on s t c j l x h force, still_goes on s t c j (goes j x))
 
-  keeps_settle : (m : ℕ) (on : List (Option ℕ)) (s : State) (t c : ℕ) → t < n → c < length on → I m (Some t) on s.world → I m None (settle s t c).state.world.cpus (settle s t c).state.world
+  -- a task's processor becomes one on which it may run
+  may_homed : (w : WorldState) (t c d : ℕ) → may_run w t d ≡ true → may_run (homed w t c) t d ≡ true
+  may_homed w t c d may = keeps_if (λ (v : WorldState). may_run v t d ≡ true) (world.is_by_linux w) _ w may may
+
+  of_homed : (w : WorldState) (t c : ℕ) → w.call.task ≡ t → (homed w t c).call.task ≡ t
+  of_homed w t c is = keeps_if (λ (v : WorldState). v.call.task ≡ t) (world.is_by_linux w) _ w is is
+
+  keeps_settle : (m : ℕ) (on : List (Option ℕ)) (s : State) (t c : ℕ) → s.world.call.task ≡ t → may_run s.world t c ≡ true → t < n → c < length on → I m (Some t) on s.world → I m None (settle s t c).state.world.cpus (settle s t c).state.world
   unfolding settle
-  keeps_settle m on s t c within l h =
+  keeps_settle m on s t c is may within l h =
       let v = with_world s (homed s.world t c) in
       let i = v.world.call.insert in
-      let x = keeps_homed n I k.steps m (Some t) on s.world t c l h in
-      keeps_if (λ (r : Stepped). I m None r.state.world.cpus r.state.world) (is_by_linux v) (told_runnable i v t c) (comes_to i v t c) (keeps_told_runnable m on v t c within l x)
-      (keeps_comes_to m on i v t c (λ j e. Inserted c j l e refl) within l x)
+      let x = keeps_homed n I k.steps m (Some t) on s.world t c l may h in
+      let here = may_homed s.world t c c may in
+      let goes : (j : Insert) → i ≡ Some j → MayGo (length on) v.world t (for_cpu c j) = λ j e. goes_for (length on) v.world t c j here (subst (λ u. MayGo (length on) v.world u j) (of_homed s.world t c is) ((k.allowed m (Some t) on v.world x).asks j e)) in
+      keeps_if (λ (r : Stepped). I m None r.state.world.cpus r.state.world) (is_by_linux v) (told_runnable i v t c) (comes_to i v t c) (keeps_told_runnable m on v t c goes here within l x)
+      (keeps_comes_to m on i v t c (λ j e. (Inserted c j l e refl, goes j e)) here within l x)
 
   -- a processor that is chosen by default
-  keeps_chosen : (m : ℕ) (on : List (Option ℕ)) (p : Option VerifiedProgram) (s : State) (t : ℕ) → is_dispatch s.world.call.callback ≡ false → I m (Some t) on s.world → I m (Some t) on (chosen p s t).world
-  keeps_chosen m on (Some p) s t calm h = h
-  keeps_chosen m on None s t calm h = keeps_if (I m (Some t) on) (world.is_by_linux w) (inserted_by_choice (after_claim w (choice w t)) (choice w t)) w (go (choice w t) refl) h
+  keeps_chosen : (m : ℕ) (on : List (Option ℕ)) (p : Option VerifiedProgram) (s : State) (t : ℕ) → s.world.call.task ≡ t → is_dispatch s.world.call.callback ≡ false → I m (Some t) on s.world → I m (Some t) on (chosen p s t).world
+  keeps_chosen m on (Some p) s t is calm h = h
+  keeps_chosen m on None s t is calm h = keeps_if (I m (Some t) on) (world.is_by_linux w) (inserted_by_choice (after_claim w (choice w t)) (choice w t)) w (go (choice w t) refl) h
     where
       w : WorldState
       w = s.world
@@ -277,11 +295,29 @@ module _ (n : ℕ) (I : ℕ → Option ℕ → List (Option ℕ) → WorldState 
       go None e = h
       go (Some c) e =
           let l : c < length on = subst (λ (xs : List (Option ℕ)). c < length xs) sound.cpus (chosen_is_there w t c (rw sound.cpus (sound.homes t)) e) in
-          k.steps.wants m (Some t) on (after_claim w (Some c)) c l (still c) (claimed c)
+          let may : may_run w w.call.task c ≡ true = ap (λ u. may_run w u c) is ∙ choice_may w t c e in
+          k.steps.wants m (Some t) on (after_claim w (Some c)) c l (still c) (keeps_if (λ (v : WorldState). may_run v v.call.task c ≡ true) (world.is_by_linux w) _ w may may) (claimed c)
+
+  -- a choice changes neither the task at hand nor where it may run
+  of_chosen : (p : Option VerifiedProgram) (s : State) (t : ℕ) → s.world.call.task ≡ t → (chosen p s t).world.call.task ≡ t
+  of_chosen (Some p) s t is = is
+  of_chosen None s t is = keeps_if (λ (v : WorldState). v.call.task ≡ t) (world.is_by_linux s.world) (inserted_by_choice (after_claim s.world (choice s.world t)) (choice s.world t)) s.world (go (choice s.world t)) is
+    where
+      go : (o : Option ℕ) → (inserted_by_choice (after_claim s.world o) o).call.task ≡ t
+      go None = is
+      go (Some c) = keeps_if (λ (v : WorldState). v.call.task ≡ t) (world.is_by_linux s.world) _ s.world is is
+
+  may_chosen : (p : Option VerifiedProgram) (s : State) (t d : ℕ) → may_run s.world t d ≡ true → may_run (chosen p s t).world t d ≡ true
+  may_chosen (Some p) s t d may = may
+  may_chosen None s t d may = keeps_if (λ (v : WorldState). may_run v t d ≡ true) (world.is_by_linux s.world) (inserted_by_choice (after_claim s.world (choice s.world t)) (choice s.world t)) s.world (go (choice s.world t)) may
+    where
+      go : (o : Option ℕ) → may_run (inserted_by_choice (after_claim s.world o) o) t d ≡ true
+      go None = may
+      go (Some c) = keeps_if (λ (v : WorldState). may_run v t d ≡ true) (world.is_by_linux s.world) _ s.world may may
 
   keeps_ask_target : (m : ℕ) (on : List (Option ℕ)) (s : State) (t : ℕ) → t < n → I m (Some t) on s.world → I m None (ask_target s t).state.world.cpus (ask_target s t).state.world
   unfolding ask_target
-  keeps_ask_target m on s t within h = keeps_settle m on (chosen p r.state t) t (target p r.state.world t a) within l (keeps_chosen m on p r.state t (calm_call_back s callback.SelectCpu (task_cpu_and_0 t c) t c refl) x)
+  keeps_ask_target m on s t within h = keeps_settle m on (chosen p r.state t) t (target p r.state.world t a) (of_chosen p r.state t is) (may_chosen p r.state t (target p r.state.world t a) may) within l (keeps_chosen m on p r.state t is (calm_call_back s callback.SelectCpu (task_cpu_and_0 t c) t c refl) x)
     where
       c : ℕ
       c = (task_at s.world t).prev_cpu
@@ -301,20 +337,32 @@ module _ (n : ℕ) (I : ℕ → Option ℕ → List (Option ℕ) → WorldState 
       y : IsSound (Some t) on n r.state.world
       y = k.sound m (Some t) on r.state.world x
 
+      is : r.state.world.call.task ≡ t
+      is = task_called s callback.SelectCpu (task_cpu_and_0 t c) t c
+
+      may : may_run r.state.world t (target p r.state.world t a) ≡ true
+      may = target_may p r.state.world t a (rw y.cpus (y.homes t)) ((k.allowed m (Some t) on r.state.world x).home t within)
+
       l : target p r.state.world t a < length on
       l = subst (λ (xs : List (Option ℕ)). target p r.state.world t a < length xs) y.cpus (target_is_there p r.state.world t a (rw y.cpus (y.homes t)))
 
   keeps_select : (m : ℕ) (on : List (Option ℕ)) (s : State) (t : ℕ) → t < n → I m (Some t) on s.world → I m None (select s t).state.world.cpus (select s t).state.world
-  unfolding select
+  unfolding select settle_at_home
   keeps_select m on s t within h =
-      keeps_if (λ (r : Stepped). I m None r.state.world.cpus r.state.world) (asks_target s) (ask_target s t) (settle (with_world s (at_callback s.world callback.SelectCpu t 0)) t 0) (keeps_ask_target m on s t within h)
-      (keeps_settle m on (with_world s (at_callback s.world callback.SelectCpu t 0)) t 0 within l (k.steps.begun m (Some t) on s.world callback.SelectCpu t 0 (λ other. l) h))
+      keeps_if (λ (r : Stepped). I m None r.state.world.cpus r.state.world) (asks_target s t) (ask_target s t) (settle_at_home s t c) (keeps_ask_target m on s t within h)
+      (keeps_settle m on (with_world s (at_callback s.world callback.SelectCpu t c)) t c refl (home_may s.world t (task_at s.world t).prev_cpu home ((k.allowed m (Some t) on s.world h).home t within)) within l (k.steps.begun m (Some t) on s.world callback.SelectCpu t c (λ other. l) h))
     where
-      home : (task_at s.world t).prev_cpu < length on
-      home = (k.sound m (Some t) on s.world h).homes t
+      c : ℕ
+      c = first_home s.world t
 
-      l : 0 < length on
-      l = omega (arith, home)
+      sound : IsSound (Some t) on n s.world
+      sound = k.sound m (Some t) on s.world h
+
+      home : (task_at s.world t).prev_cpu < length s.world.cpus
+      home = rw sound.cpus (sound.homes t)
+
+      l : c < length on
+      l = subst (λ (xs : List (Option ℕ)). c < length xs) sound.cpus (home_is_there s.world t (omega (arith, home)))
 
   -- a task that is woken from a processor
   keeps_from_waker : (m : ℕ) (on : List (Option ℕ)) (s : State) (t : ℕ) → I m (Some t) on s.world → I m (Some t) on (from_waker s t).world
@@ -617,23 +665,47 @@ module _ (n : ℕ) (I : ℕ → Option ℕ → List (Option ℕ) → WorldState 
       let y = keeps_changes_weight m None on a t c x l (keeps_call_by_linux n I k.steps m None on s callback.Stopping (task_and_number t 0) t c l h) in
       keeps_call_by_linux n I k.steps m None on (changes_weight a t c x).state callback.Running (one_task t) t c l y
 
-  keeps_reweigh_waiting : (m : ℕ) (on : List (Option ℕ)) (s : State) (t c x : ℕ) → t < n → c < length on → waits s.world t ≡ true → I m None on s.world → I m None on (reweigh_waiting s t c x).state.world
+  -- it changes neither rules nor masks
+  masks_taken : (s : State) (t c x : ℕ) → (takes_weight s t c x).state.world.tree.masks ≡ s.world.tree.masks
+  unfolding takes_weight
+  masks_taken s t c x = ap (λ y. y.masks) (honest_call_by_linux (with_world s (after_own_weight s.world t x)) callback.SetWeight (task_and_number t x) t c (λ e. absurd (cc))).tree ∙ keeps_if (λ (v : WorldState). v.tree.masks ≡ s.world.tree.masks) (is_none (own_weight_fault s.world.tree t x)) _ s.world refl refl
+
+  rules_taken : (s : State) (t c x : ℕ) → (takes_weight s t c x).state.world.rules ≡ s.world.rules
+  unfolding takes_weight
+  rules_taken s t c x = (honest_call_by_linux (with_world s (after_own_weight s.world t x)) callback.SetWeight (task_and_number t x) t c (λ e. absurd (cc))).rules ∙ keeps_if (λ (v : WorldState). v.rules ≡ s.world.rules) (is_none (own_weight_fault s.world.tree t x)) _ s.world refl refl
+
+  masks_changes : (s : State) (t c x : ℕ) → (changes_weight s t c x).state.world.tree.masks ≡ s.world.tree.masks
+  unfolding changes_weight
+  masks_changes s t c x =
+      let q = (call_by_linux s callback.Quiescent (task_and_number t change_flags) t c).state in
+      ap (λ y. y.masks) (honest_call_by_linux (takes_weight q t c x).state callback.Runnable (task_and_number t restore_flag) t c (λ e. absurd (cc))).tree
+      ∙ (masks_taken q t c x ∙ ap (λ y. y.masks) (honest_call_by_linux s callback.Quiescent (task_and_number t change_flags) t c (λ e. absurd (cc))).tree)
+
+  rules_changes : (s : State) (t c x : ℕ) → (changes_weight s t c x).state.world.rules ≡ s.world.rules
+  unfolding changes_weight
+  rules_changes s t c x =
+      let q = (call_by_linux s callback.Quiescent (task_and_number t change_flags) t c).state in
+      (honest_call_by_linux (takes_weight q t c x).state callback.Runnable (task_and_number t restore_flag) t c (λ e. absurd (cc))).rules
+      ∙ (rules_taken q t c x ∙ (honest_call_by_linux s callback.Quiescent (task_and_number t change_flags) t c (λ e. absurd (cc))).rules)
+
+  keeps_reweigh_waiting : (m : ℕ) (on : List (Option ℕ)) (s : State) (t c x : ℕ) → may_run s.world t c ≡ true → t < n → c < length on → waits s.world t ≡ true → I m None on s.world → I m None on (reweigh_waiting s t c x).state.world
   unfolding reweigh_waiting
-  keeps_reweigh_waiting m on s t c x within l here h =
+  keeps_reweigh_waiting m on s t c x may within l here h =
       let a = (leaves_queue s t c change_flags).state in
       let b = (changes_weight a t c x).state in
-      keeps_put n I k.steps m on b t c 0 within l (keeps_changes_weight m (Some t) on a t c x l (keeps_leaves_queue m on s t c change_flags within l here h))
+      let left = honest_leaves_queue s t c change_flags in
+      keeps_put_at n I (inside_of n I k) m on b t c 0 within l (may_as a.world b.world (rules_changes a t c x) (masks_changes a t c x) t c (may_as s.world a.world left.rules (ap (λ y. y.masks) left.tree) t c may)) (keeps_changes_weight m (Some t) on a t c x l (keeps_leaves_queue m on s t c change_flags within l here h))
 
-  keeps_reweigh_off_cpu : (m : ℕ) (on : List (Option ℕ)) (s : State) (t c x : ℕ) → t < n → c < length on → I m None on s.world → I m None on (reweigh_off_cpu s t c x).state.world
+  keeps_reweigh_off_cpu : (m : ℕ) (on : List (Option ℕ)) (s : State) (t c x : ℕ) → may_run s.world t c ≡ true → t < n → c < length on → I m None on s.world → I m None on (reweigh_off_cpu s t c x).state.world
   unfolding reweigh_off_cpu
-  keeps_reweigh_off_cpu m on s t c x within l h = go (waits s.world t) refl
+  keeps_reweigh_off_cpu m on s t c x may within l h = go (waits s.world t) refl
     where
       go : (b : Bool) → waits s.world t ≡ b → I m None on (if b then reweigh_waiting s t c x else takes_weight s t c x).state.world
-      go true here = keeps_reweigh_waiting m on s t c x within l here h
+      go true here = keeps_reweigh_waiting m on s t c x may within l here h
       go false away = keeps_takes_weight m None on s t c x l h
 
   keeps_reweigh_at : (m : ℕ) (on : List (Option ℕ)) (o : Option ℕ) (s : State) (t x : ℕ) → ((c : ℕ) → o ≡ Some c → c < length on) → t < n → I m None on s.world → I m None on (reweigh_at o s t x).state.world
-  keeps_reweigh_at m on None s t x there within h = keeps_reweigh_off_cpu m on s t (task_at s.world t).prev_cpu x within ((k.sound m None on s.world h).homes t) h
+  keeps_reweigh_at m on None s t x there within h = keeps_reweigh_off_cpu m on s t (task_at s.world t).prev_cpu x ((k.allowed m None on s.world h).home t within) within ((k.sound m None on s.world h).homes t) h
   keeps_reweigh_at m on (Some c) s t x there within h = keeps_reweigh_running m on s t c x (there c refl) h
 
   -- a task that has another weight
@@ -697,7 +769,7 @@ fine_anew : (n e m k : ℕ) (on : List (Option ℕ)) (w : WorldState) → w.ejec
 fine_anew n e m k on w force h =
     let r = range_of n e m None on w h in
     let fresh = h.not_yet force in
-    fine_of n e k None on w h.sound (r.0, r.1, (λ t. omega (arith, fresh.1 t)), omega (arith, fresh.0), r.4, r.5, r.6)
+    fine_of n e k None on w h.sound h.allowed (r.0, r.1, (λ t. omega (arith, fresh.1 t)), omega (arith, fresh.0), r.4, r.5, r.6)
 
 -- a task's own weight lets no number grow
 range_own_weight : (e m : ℕ) (on : List (Option ℕ)) (w : WorldState) (t x : ℕ) → IsRange e m on w → IsRange e m on (after_own_weight w t x)
@@ -708,11 +780,12 @@ pub fine_events : (n e : ℕ) → IsKeptByEvents n (IsFine n e)
 fine_events n e = record {
   steps = fine_steps n e;
   sound = λ m hand on w h. h.sound;
-  woken = λ m on w t within resting h. fine_of n e m (Some t) on (after_wake w t) (sound_woken on n w t within resting h.sound) (range_same e m on w t _ refl refl (range_of n e m None on w h));
-  let_go = λ m on w t within there h. fine_of n e m (Some t) on (let_go w t) (sound_let_go on n w t within there h.sound) (range_same e m on w t _ refl refl (range_of n e m None on w h));
-  left = λ m on w t within runnable off h. let r = range_of n e m None on w h in fine_of n e m None on _ (sound_left on n w t within runnable off h.sound) (keeps_if (IsRange e m on) (nat_lt t (length w.tasks)) _ (after_leave w t) (range_same e m on (after_leave w t) t _ refl refl r) r);
-  removed = λ m on w t within here h. fine_of n e m (Some t) on (after_leave w t) (sound_removed on n w t here h.sound) (range_of n e m None on w h);
-  weighed = λ m hand on w t x h. fine_of n e m hand on (after_own_weight w t x) (sound_own_weight hand on n w t x h.sound) (range_own_weight e m on w t x (range_of n e m hand on w h));
+  allowed = λ m hand on w h. h.allowed;
+  woken = λ m on w t within resting h. fine_of n e m (Some t) on (after_wake w t) (sound_woken on n w t within resting h.sound) (allowed_woken on n w t h.allowed) (range_same e m on w t _ refl refl (range_of n e m None on w h));
+  let_go = λ m on w t within there h. fine_of n e m (Some t) on (let_go w t) (sound_let_go on n w t within there h.sound) (allowed_let_go on n w t h.allowed) (range_same e m on w t _ refl refl (range_of n e m None on w h));
+  left = λ m on w t within runnable off h. let r = range_of n e m None on w h in fine_of n e m None on _ (sound_left on n w t within runnable off h.sound) (allowed_asleep on n (after_leave w t) t (allowed_left on n w t h.allowed)) (keeps_if (IsRange e m on) (nat_lt t (length w.tasks)) _ (after_leave w t) (range_same e m on (after_leave w t) t _ refl refl r) r);
+  removed = λ m on w t within here h. fine_of n e m (Some t) on (after_leave w t) (sound_removed on n w t here h.sound) (allowed_left on n w t h.allowed) (range_of n e m None on w h);
+  weighed = λ m hand on w t x h. fine_of n e m hand on (after_own_weight w t x) (sound_own_weight hand on n w t x h.sound) (allowed_weighed on n w t x h.allowed) (range_own_weight e m on w t x (range_of n e m hand on w h));
   anew = λ m k on w force h. fine_anew n e m k on w force h;
 }
 
@@ -722,7 +795,7 @@ fine_inside n e = inside_of n (IsFine n e) (fine_events n e)
 
 -- one more event was accepted
 pub one_more : (n e m : ℕ) (w : WorldState) → IsFineNow n e m w → IsFineNow n (e + 1) m w
-one_more n e m w h = record { sound = h.sound; clock = omega (arith, h.clock); runs = λ t. omega (arith, h.runs t); times = h.times; builtin_clock = h.builtin_clock; used = λ g. omega (arith, h.used g); within = h.within; not_yet = h.not_yet }
+one_more n e m w h = record { sound = h.sound; allowed = h.allowed; clock = omega (arith, h.clock); runs = λ t. omega (arith, h.runs t); times = h.times; builtin_clock = h.builtin_clock; used = λ g. omega (arith, h.used g); within = h.within; not_yet = h.not_yet }
 
 -- a millisecond is counted of a task that there is
 used_is : (w : WorldState) (t : ℕ) → t < length w.tasks → used_ms w t ≡ with_tree w (with_use w.tree t)
@@ -735,9 +808,9 @@ range_used e m on on' w t there used within x = subst (IsRange (e + 1) m on') (s
 -- it goes on, or leaves
 fine_used : (n e m : ℕ) (w : WorldState) (c t : ℕ) → c < length w.cpus → get_or w.cpus c None ≡ Some t → ((g : ℕ) → usage_of w.tree g ≤ e) → IsFineNow n (e + 1) m w → IsKeptByUse n (IsFine n (e + 1)) (fine_events n (e + 1)) m w c t
 fine_used n e m w c t l at used h = record {
-  goes_on = λ free. fine_of n (e + 1) m None w.cpus v sound (range_used e m w.cpus w.cpus w t there used (within_used w.tree w.cpus c t at (ap (λ x. limits.is_throttled x t) (sym counted) ∙ tree_free v t v-there free) h.within) (range_of n (e + 1) m None w.cpus w h));
+  goes_on = λ free. fine_of n (e + 1) m None w.cpus v sound (allowed_used w.cpus n w t h.allowed) (range_used e m w.cpus w.cpus w t there used (within_used w.tree w.cpus c t at (ap (λ x. limits.is_throttled x t) (sym counted) ∙ tree_free v t v-there free) h.within) (range_of n (e + 1) m None w.cpus w h));
   leaves = λ up.
-      fine_of n (e + 1) m (Some t) (set w.cpus c None) (after_stop v c t) (sound_stopped w.cpus n v c t l (running_is_there n w c t l at h.sound) at sound)
+      fine_of n (e + 1) m (Some t) (set w.cpus c None) (after_stop v c t) (sound_stopped w.cpus n v c t l (running_is_there n w c t l at h.sound) at sound) (allowed_stopped w.cpus n v c t (allowed_used w.cpus n w t h.allowed))
       (range_same (e + 1) m (set w.cpus c None) v t _ refl refl (range_used e m w.cpus (set w.cpus c None) w t there used (within_used_up w.tree w.cpus c t at (ap (λ x. limits.is_throttled x t) (sym counted) ∙ tree_used_up v t up) h.within) (range_of n (e + 1) m None w.cpus w h)));
 }
   where
@@ -759,7 +832,7 @@ fine_used n e m w c t l at used h = record {
 -- a task has run for a millisecond, and then its groups have used it
 pub fine_ticked : (n e m : ℕ) (w : WorldState) (c t : ℕ) → c < length w.cpus → get_or w.cpus c None ≡ Some t → IsFineNow n e m w → IsKeptByTick n (IsFine n (e + 1)) (fine_events n (e + 1)) m w c t
 fine_ticked n e m w c t l at h = record {
-  ran = fine_of n (e + 1) m None w.cpus (after_tick w t) (sound_ticked w.cpus n w t h.sound) (range_task (e + 1) m w.cpus w t (ran_a_tick (task_at w t)) (omega (arith, r.1 t)) refl (omega (arith, r.0), (λ u. omega (arith, r.1 u)), r.2, r.3, r.4, (λ g. omega (arith, r.5 g)), r.6));
+  ran = fine_of n (e + 1) m None w.cpus (after_tick w t) (sound_ticked w.cpus n w t h.sound) (allowed_same w.cpus n w t (ran_a_tick (task_at w t)) refl h.allowed) (range_task (e + 1) m w.cpus w t (ran_a_tick (task_at w t)) (omega (arith, r.1 t)) refl (omega (arith, r.0), (λ u. omega (arith, r.1 u)), r.2, r.3, r.4, (λ g. omega (arith, r.5 g)), r.6));
   uses = λ v same tree x.
       fine_used n e m v c t (subst (λ (xs : List (Option ℕ)). c < length xs) (sym same) l) (ap (λ (xs : List (Option ℕ)). get_or xs c None) same ∙ at) (λ g. omega (arith, r.5 g, ap (λ y. usage_of y g) tree))
       (subst (λ xs. IsFine n (e + 1) m None xs v) (sym same) x);
@@ -770,13 +843,13 @@ fine_ticked n e m w c t l at h = record {
 
 -- it stays fine as the clock grows and periods begin, with one event more
 pub fine_later : (n e m : ℕ) (w : WorldState) → IsFineNow n e m w → IsFineNow n (e + 1) m (begun_periods (later w))
-fine_later n e m w h = record { sound = sound_begun_periods None w.cpus n (later w) (sound_later w.cpus n w h.sound); clock = omega (arith, h.clock); runs = λ t. omega (arith, h.runs t); times = h.times; builtin_clock = h.builtin_clock; used = most_turned w.tree (w.clock + 1) (e + 1) (λ g. omega (arith, h.used g)); within = within_turned w.tree w.cpus (w.clock + 1) h.within; not_yet = h.not_yet }
+fine_later n e m w h = record { sound = sound_begun_periods None w.cpus n (later w) (sound_later w.cpus n w h.sound); allowed = allowed_later w.cpus n w h.allowed; clock = omega (arith, h.clock); runs = λ t. omega (arith, h.runs t); times = h.times; builtin_clock = h.builtin_clock; used = most_turned w.tree (w.clock + 1) (e + 1) (λ g. omega (arith, h.used g)); within = within_turned w.tree w.cpus (w.clock + 1) h.within; not_yet = h.not_yet }
 
 pub fine_reweighed : (n e m : ℕ) (w : WorldState) (g x : ℕ) → IsFineNow n e m w → IsFineNow n e m (after_reweigh w g x)
 fine_reweighed n e m w g x h = go (is_none (weight_fault w.tree g x))
   where
     go : (b : Bool) → IsFineNow n e m (if b then with_tree w (with_weight w.tree g x) else w)
-    go true = record { sound = sound_with_weight w.cpus n w g x h.sound; clock = h.clock; runs = h.runs; times = h.times; builtin_clock = h.builtin_clock; used = h.used; within = within_reweighed w.tree w.cpus g x h.within; not_yet = h.not_yet }
+    go true = record { sound = sound_with_weight w.cpus n w g x h.sound; allowed = record { runs = h.allowed.runs; local = h.allowed.local; home = h.allowed.home; asks = h.allowed.asks }; clock = h.clock; runs = h.runs; times = h.times; builtin_clock = h.builtin_clock; used = h.used; within = within_reweighed w.tree w.cpus g x h.within; not_yet = h.not_yet }
     go false = h
 
 -- who runs is a task that there is

@@ -1,11 +1,10 @@
 -- A callback whose cause is an exit has called `exit`, and had no cause before; and that call is its cause at its end.
 use Rattle.std.proofs.Common.{◌≡◌, ℕ, zero, suc, ℤ, nat_lt, List, map, length, Option, Some, None, refl, sym, ap, ◌∙◌, subst, if◌then◌else◌}
 use Rattle.std.specs.Int.{w64, cast_signed}
-use Rattle.scx_dsq.specs.Queues.{front_of}
 use Rattle.scx_dsq.specs.Calls.{after_create}
 use Rattle.scx_isa_semantics.specs.declared.callbacks.Callback.{Callback}
 use Rattle.scx_isa_semantics.specs.declared.host_tables.Helper.{Helper}
-use Rattle.scx_isa_semantics.specs.declared.host_tables.Helper.TheVariants.{CreateDsq, DsqInsert, DsqInsertVtime, DsqMoveToLocal, SelectCpuDfl, CpuIdle, DsqNrQueued, KickCpu, Exit, CpuCurr, DsqPeek, PickIdle, ClaimIdle, TimerStart, TimerCancel}
+use Rattle.scx_isa_semantics.specs.declared.host_tables.Helper.TheVariants.{CreateDsq, DsqInsert, DsqInsertVtime, DsqMoveToLocal, SelectCpuDfl, CpuIdle, DsqNrQueued, KickCpu, Exit, CpuCurr, DsqPeek, PickIdle, ClaimIdle, TimerStart, TimerCancel, MayRun}
 use Rattle.scx_isa_semantics.specs.declared.values.Value.{Value}
 use Rattle.scx_isa_semantics.specs.Code.{Code}
 use Rattle.scx_isa_semantics.specs.Effects.{Query, Call, Load, Store}
@@ -23,8 +22,8 @@ use Rattle.scx_sched_world.specs.declared.faults.Fault.{Fault}
 use Rattle.scx_sched_world.specs.declared.faults.Fault.TheVariants.{NoSuchQueue, NoSuchCpu, CannotCreate}
 use Rattle.scx_sched_world.specs.declared.kicks.Kick.{Kick}
 use Rattle.scx_sched_world.specs.World.{WorldState, with_queues, is_free, this_if, choice, after_claim, is_this}
-use Rattle.scx_sched_world.specs.Tasks.{after_take, after_leave, after_enter, for_cpu}
-use Rattle.scx_sched_world.specs.Helpers.{first_cause, with_cause, with_fault, is_there, can_create, is_dispatch, can_move, flags_fault, insert_fault, is_late, with_insert, after_release, insert_or_fault, after_late, after_insert, insert_of, insert_of_vtime, front_moved_to_local, after_choice, kick_of, kick_fault, kicked_or_fault, first_free_in, after_pick_by, given_number, given_task, helper_after, world_functions, untracked_fault, ask_fault, fault_or, pick_fault, timer_fault, with_timer, alarm_in}
+use Rattle.scx_sched_world.specs.Tasks.{after_leave, after_enter, for_cpu, next_for}
+use Rattle.scx_sched_world.specs.Helpers.{first_cause, with_cause, with_fault, is_there, can_create, is_dispatch, can_move, flags_fault, insert_fault, is_late, with_insert, after_release, insert_or_fault, after_late, after_insert, insert_of, insert_of_vtime, moved_to_local, after_choice, kick_of, kick_fault, kicked_or_fault, first_free_in, after_pick_by, given_number, given_task, helper_after, world_functions, untracked_fault, ask_fault, fault_or, pick_fault, timer_fault, with_timer, alarm_in}
 use Rattle.scx_sched_machine.proofs.Choices.{keeps_if}
 use Rattle.scx_sched_machine.proofs.HelperCalls.{by_helper}
 use Rattle.scx_sched.specs.Causes.{Of_call}
@@ -57,9 +56,9 @@ module _ (x : Cause) where
   cause_inserted : (w : WorldState) (t : Option ℕ) (i : Insert) → HasCause w → HasCause (insert_or_fault w None t i)
   cause_inserted w t i h = keeps_if HasCause (is_dispatch w.call.callback) (after_release w t (for_cpu w.call.cpu i)) (with_insert w i) (cause_released w t (for_cpu w.call.cpu i) h) h
 
-  cause_moved : (w : WorldState) (o : Option ℕ) (q : ℕ) → HasCause w → HasCause (front_moved_to_local w o q)
-  cause_moved w None q h = h
-  cause_moved w (Some t) q h = kept_local Anywhere HasCause cause_marks (after_take w q) w.call.cpu t tt h
+  cause_moved : (w : WorldState) (o : Option ℕ) → HasCause w → HasCause (moved_to_local w o)
+  cause_moved w None h = h
+  cause_moved w (Some t) h = kept_local Anywhere HasCause cause_marks (after_leave w t) w.call.cpu t tt h
 
   cause_helper : (w : WorldState) (f : Helper) (a : List Arg) → HasCause w → HasCause (helper_after w f a)
   cause_helper w f a h = by_helper HasCause w (record {
@@ -73,7 +72,8 @@ module _ (x : Cause) where
     kicked = λ c k. kept_kicked_so Anywhere HasCause cause_marks w c k h;
     started = λ t ns. h;
     cancelled = λ t. h;
-    moved = λ q here low. cause_moved w (front_of w.queues q) q h;
+    drawn = h;
+    moved = λ q here low. cause_moved w (next_for w q w.call.cpu) h;
   }) f a
 
   cause_query : (w : WorldState) (q : Query) → HasCause w → HasCause (after_query world_functions w q)
@@ -112,9 +112,9 @@ module _ (code : ℤ) where
   no_inserted : (w : WorldState) (t : Option ℕ) (i : Insert) (flags : ℕ) → NoExit w → NoExit (after_insert w t i flags)
   no_inserted w t i flags h = keeps_if NoExit (is_late w t) (after_late w (flags_fault w flags)) (insert_or_fault w (insert_fault w t i flags) t i) (no_late w (flags_fault w flags) h) (no_insert w (insert_fault w t i flags) t i h)
 
-  no_front : (w : WorldState) (o : Option ℕ) (q : ℕ) → NoExit w → NoExit (front_moved_to_local w o q)
-  no_front w None q h = h
-  no_front w (Some t) q h = kept_local Anywhere NoExit no_marks (after_take w q) w.call.cpu t tt h
+  no_front : (w : WorldState) (o : Option ℕ) → NoExit w → NoExit (moved_to_local w o)
+  no_front w None h = h
+  no_front w (Some t) h = kept_local Anywhere NoExit no_marks (after_leave w t) w.call.cpu t tt h
 
   -- with a fault, or what is done without one
   no_or_done : (w v : WorldState) (o : Option Fault) → NoExit w → NoExit v → NoExit (fault_or w o v)
@@ -138,13 +138,14 @@ module _ (code : ℤ) where
   no_other w CreateDsq a h other = keeps_if NoExit (can_create w (given_number a 0)) (with_queues w (after_create w.queues (given_number a 0))) (with_fault w CannotCreate) h (no_faulted w CannotCreate h)
   no_other w DsqInsert a h other = no_inserted w (given_task a 0) (insert_of w a) (given_number a 3) h
   no_other w DsqInsertVtime a h other = no_inserted w (given_task a 0) (insert_of_vtime w a) (given_number a 4) h
-  no_other w DsqMoveToLocal a h other = let q = given_number a 0 in keeps_if NoExit (can_move w q) (front_moved_to_local w (front_of w.queues q) q) (with_fault w NoSuchQueue) (no_front w (front_of w.queues q) q h) (no_faulted w NoSuchQueue h)
+  no_other w DsqMoveToLocal a h other = let q = given_number a 0 in keeps_if NoExit (can_move w q) (moved_to_local w (next_for w q w.call.cpu)) (with_fault w NoSuchQueue) (no_front w (next_for w q w.call.cpu) h) (no_faulted w NoSuchQueue h)
   no_other w SelectCpuDfl a h other = no_chosen w (given_task a 0) h
   no_other w KickCpu a h other = let k = kick_of (given_number a 1) in no_kicked w (kick_fault w (given_number a 0) k) (given_number a 0) k h
   no_other w CpuIdle a h other = no_or_done w w (ask_fault w (given_number a 0)) h h
   no_other w DsqNrQueued a h other = keeps_if NoExit (is_there w (given_number a 0)) w (with_fault w NoSuchQueue) h (no_faulted w NoSuchQueue h)
   no_other w DsqPeek a h other = keeps_if NoExit (is_there w (given_number a 0)) w (with_fault w NoSuchQueue) h (no_faulted w NoSuchQueue h)
   no_other w CpuCurr a h other = keeps_if NoExit (nat_lt (given_number a 0) (length w.cpus)) w (with_fault w NoSuchCpu) h (no_faulted w NoSuchCpu h)
+  no_other w MayRun a h other = keeps_if NoExit (nat_lt (given_number a 1) (length w.cpus)) w (with_fault w NoSuchCpu) h (no_faulted w NoSuchCpu h)
   no_other w PickIdle a h other = no_picked w (pick_fault w (given_number a 1)) (first_free_in (given_number a 0) w) h
   no_other w ClaimIdle a h other =
       let c = given_number a 0 in

@@ -1,8 +1,7 @@
 -- What holds between two events is kept by each small step of a world.
-use Rattle.std.proofs.Common.{◌≡◌, ℕ, ◌+◌, ◌*◌, ◌<◌, ◌≤◌, arith, ◌⊎◌, inl, inr, nat_lt, ◌==◌, ◌&&◌, List, length, set, get_or, map, Option, Some, None, refl, ◌∙◌}
+use Rattle.std.proofs.Common.{◌≡◌, ℕ, ◌+◌, ◌*◌, ◌<◌, ◌≤◌, arith, ◌⊎◌, inl, inr, nat_lt, ◌==◌, ◌&&◌, List, length, set, get_or, map, Option, Some, None, refl, ◌∙◌, ap}
 use Rattle.std.proofs.lemmas.Bool.{cases_eq, cases_lt}
 use Rattle.std.proofs.lemmas.List.{get_or-set_same, get_or-set_other, set_past}
-use Rattle.scx_dsq.specs.Queues.{front_of}
 use Rattle.scx_dsq.specs.declared.entries.Rank.{Rank}
 use Rattle.scx_dsq.specs.declared.entries.Rank.TheVariants.{Fifo, Front, Vtime}
 use Rattle.scx_isa_semantics.specs.declared.host_tables.Field.{Field}
@@ -18,8 +17,8 @@ use Rattle.scx_weights.specs.Limits.{usage_of}
 use Rattle.scx_sched_world.specs.declared.call.Insert.{Insert}
 use Rattle.scx_sched_world.specs.declared.faults.Fault.{Fault}
 use Rattle.scx_sched_world.specs.World.{WorldState, with_task, task_at, waits}
-use Rattle.scx_sched_world.specs.Tasks.{with_home, with_slice, after_take, given_slice, given_vtime, task_after_insert, after_leave, after_enter, for_cpu, brought, fill_front, with_new_slice}
-use Rattle.scx_sched_world.specs.Helpers.{is_dispatch, with_insert, after_release, insert_or_fault, front_moved_to_local, helper_after, stored_in, world_functions}
+use Rattle.scx_sched_world.specs.Tasks.{with_home, with_slice, given_slice, given_vtime, task_after_insert, after_leave, after_enter, for_cpu, brought, fill_front, with_new_slice, next_for}
+use Rattle.scx_sched_world.specs.Helpers.{is_dispatch, with_insert, after_release, insert_or_fault, moved_to_local, helper_after, stored_in, world_functions}
 use Rattle.scx_sched_machine.proofs.Choices.{keeps_if}
 use Rattle.scx_sched_machine.proofs.HelperCalls.{by_helper}
 use Rattle.scx_sched.specs.Once.{IsSound}
@@ -29,8 +28,10 @@ use Rattle.scx_sched.specs.Kept.{IsKeptBySteps}
 use Rattle.scx_sched.specs.Usages.{AreWithin}
 use Rattle.scx_sched.proofs.Marks.{KeepsMarks, Anywhere, kept_cycling, kept_kicked_so, kept_claim, kept_local, kept_entered}
 use Rattle.scx_sched.proofs.Bounded.{within_begun, within_ended}
-use Rattle.scx_sched.proofs.Parking.{sound_put_parked, sound_taken}
-use Rattle.scx_sched.proofs.Sound.{sound_query, sound_begun, sound_quiet, sound_cycling, sound_entered, sound_filled, sound_stopped, sound_started, sound_ran, sound_marks, sound_sets, sound_moves, sound_timers, sound_wants, sound_kept, sound_asleep, sound_put_out, sound_evict, sound_cut, sound_put_builtin, sound_overtaken, sound_charged}
+use Rattle.scx_sched.proofs.Parking.{sound_put_parked, sound_leaves}
+use Rattle.scx_sched.proofs.Sound.{sound_query, sound_begun, sound_quiet, sound_cycling, sound_entered, sound_filled, sound_stopped, sound_started, sound_ran, sound_marks, sound_sets, sound_moves, sound_timers, sound_wants, sound_kept, sound_asleep, sound_put_out, sound_evict, sound_cut, sound_put_builtin, sound_overtaken, sound_charged, given_home, renewed_home}
+use Rattle.scx_sched.specs.Allowed.{IsAllowedIn}
+use Rattle.scx_sched.proofs.Allowing.{allowed_query, allowed_begun, allowed_task, allowed_same, allowed_wants, allowed_entered, allowed_filled, allowed_stopped, allowed_started, allowed_ran, allowed_parked, allowed_left, allowed_asleep, allowed_out, allowed_evict, allowed_put_builtin}
 
 -- ---- each task
 
@@ -81,8 +82,8 @@ pub range_of : (n e m : ℕ) (hand : Option ℕ) (on : List (Option ℕ)) (w : W
 range_of n e m hand on w h = (h.clock, h.runs, h.times, h.builtin_clock, h.not_yet, h.used, h.within)
 
 -- and with what is sound it is all of it
-pub fine_of : (n e m : ℕ) (hand : Option ℕ) (on : List (Option ℕ)) (w : WorldState) → IsSound hand on n w → IsRange e m on w → IsFine n e m hand on w
-fine_of n e m hand on w s r = record { sound = s; clock = r.0; runs = r.1; times = r.2; builtin_clock = r.3; not_yet = r.4; used = r.5; within = r.6 }
+pub fine_of : (n e m : ℕ) (hand : Option ℕ) (on : List (Option ℕ)) (w : WorldState) → IsSound hand on n w → IsAllowedIn on n w → IsRange e m on w → IsFine n e m hand on w
+fine_of n e m hand on w s a r = record { sound = s; allowed = a; clock = r.0; runs = r.1; times = r.2; builtin_clock = r.3; not_yet = r.4; used = r.5; within = r.6 }
 
 -- others run, and usages are within their bounds still
 pub range_on : (e m : ℕ) (on on' : List (Option ℕ)) (w : WorldState) → AreWithin w.tree on' → IsRange e m on w → IsRange e m on' w
@@ -147,13 +148,13 @@ module _ (e m : ℕ) (on : List (Option ℕ)) where
   range_inserted w None t i r = keeps_if (IsRange e m on) (is_dispatch w.call.callback) (after_release w t (for_cpu w.call.cpu i)) (with_insert w i) (range_released w t (for_cpu w.call.cpu i) r) r
   range_inserted w (Some f) t i r = r
 
-  range_moved : (w : WorldState) (o : Option ℕ) (q : ℕ) → IsRange e m on w → IsRange e m on (front_moved_to_local w o q)
-  range_moved w None q r = r
-  range_moved w (Some t) q r = let x = kept_local Anywhere (IsRange e m on) range_marks (after_take w q) w.call.cpu t tt r in (x.0, x.1, x.2, x.3, x.4, x.5, x.6)
+  range_moved : (w : WorldState) (o : Option ℕ) → IsRange e m on w → IsRange e m on (moved_to_local w o)
+  range_moved w None r = r
+  range_moved w (Some t) r = let x = kept_local Anywhere (IsRange e m on) range_marks (after_leave w t) w.call.cpu t tt r in (x.0, x.1, x.2, x.3, x.4, x.5, x.6)
 
-  range_brought : (o : Option ℕ) (w : WorldState) (q c : ℕ) → IsRange e m on w → IsRange e m on (brought o w q c)
-  range_brought None w q c r = r
-  range_brought (Some t) w q c r = kept_local Anywhere (IsRange e m on) range_marks (after_take w q) c t tt r
+  range_brought : (o : Option ℕ) (w : WorldState) (c : ℕ) → IsRange e m on w → IsRange e m on (brought o w c)
+  range_brought None w c r = r
+  range_brought (Some t) w c r = kept_local Anywhere (IsRange e m on) range_marks (after_leave w t) c t tt r
 
   range_helper : (w : WorldState) (f : Helper) (a : List Arg) → IsRange e m on w → IsRange e m on (helper_after w f a)
   range_helper w f a r = by_helper (IsRange e m on) w (record {
@@ -167,7 +168,8 @@ module _ (e m : ℕ) (on : List (Option ℕ)) where
     kicked = λ c k. kept_kicked_so Anywhere (IsRange e m on) range_marks w c k r;
     started = λ t ns. r;
     cancelled = λ t. r;
-    moved = λ q here low. range_moved w (front_of w.queues q) q r;
+    drawn = r;
+    moved = λ q here low. range_moved w (next_for w q w.call.cpu) r;
   }) f a
 
   range_query : (w : WorldState) (q : Query) → IsRange e m on w → IsRange e m on (after_query world_functions w q)
@@ -202,31 +204,31 @@ module _ (e m : ℕ) (on : List (Option ℕ)) where
 -- the law of steps
 pub fine_steps : (n e : ℕ) → IsKeptBySteps n (IsFine n e)
 fine_steps n e = record {
-  more = λ m hand on w h. fine_of n e (m + 1) hand on w h.sound (h.clock, h.runs, λ t. omega (arith, h.times t), omega (arith, h.builtin_clock), h.not_yet, h.used, h.within);
+  more = λ m hand on w h. fine_of n e (m + 1) hand on w h.sound h.allowed (h.clock, h.runs, λ t. omega (arith, h.times t), omega (arith, h.builtin_clock), h.not_yet, h.used, h.within);
   known = λ m hand on w h. h.sound.tasks;
-  query = λ m hand on w q h. fine_of n e m hand on _ (sound_query hand on n w q h.sound) (range_query e m on w q (range_of n e m hand on w h));
-  begun = λ m hand on w b t c l h. fine_of n e m hand on _ (sound_begun hand on n w b t c l h.sound) (range_of n e m hand on w h);
-  quiet = λ m hand on w h. fine_of n e m hand on _ (sound_quiet hand on n w h.sound) (range_of n e m hand on w h);
-  moved = λ m hand on w b h. fine_of n e m hand on _ (sound_moves hand on n w b h.sound) (range_of n e m hand on w h);
-  cancelled = λ m hand on w t h. fine_of n e m hand on _ (sound_timers hand on n w _ h.sound) (range_of n e m hand on w h);
-  cycling = λ m hand on w o h. fine_of n e m hand on _ (sound_cycling hand on n w o h.sound) (kept_cycling (IsRange e m on) (λ v p a x r. r) w o (range_of n e m hand on w h));
-  sets = λ m hand on w a b c d o h. fine_of n e m hand on _ (sound_sets hand on n w a b c d o h.sound) (range_of n e m hand on w h);
-  homed = λ m hand on w t c l h. fine_of n e m hand on _ ((sound_marks hand on n).homed w t c l h.sound) (range_same e m on w t _ refl refl (range_of n e m hand on w h));
-  sliced = λ m hand on w t k h. fine_of n e m hand on _ ((sound_marks hand on n).sliced w t k h.sound) (range_same e m on w t _ refl refl (range_of n e m hand on w h));
-  wants = λ m hand on w c l calm h. fine_of n e m hand on _ (sound_wants hand on n w c l calm h.sound) (range_of n e m hand on w h);
-  entered = λ m on w t i l x h. fine_of n e m None on _ (sound_entered on n w t i l x h.sound) (range_entered e m on w t i (range_of n e m (Some t) on w h));
-  filled = λ m on w q c apart l h. fine_of n e m None on _ (sound_filled on n w q c apart l h.sound) (range_brought e m on (fill_front w q c) w q c (range_of n e m None on w h));
-  stopped = λ m on w c t l within runs h. fine_of n e m (Some t) (set on c None) _ (sound_stopped on n w c t l within runs h.sound) (range_same e m (set on c None) w t _ refl refl (range_on e m on (set on c None) w (within_ended w.tree on c l h.within) (range_of n e m None on w h)));
-  started = λ m on w c t l free front may h. fine_of n e m None (set on c (Some t)) _ (sound_started on n w c t l free front h.sound) (range_same e m (set on c (Some t)) w t _ refl refl (range_on e m on (set on c (Some t)) w (within_begun w.tree on c t l free may h.within) (range_of n e m None on w h)));
-  ran = λ m on w c t l free here may h. fine_of n e m None (set on c (Some t)) _ (sound_ran on n w c t l free here h.sound) (range_same e m (set on c (Some t)) w t _ refl refl (range_on e m on (set on c (Some t)) w (within_begun w.tree on c t l free may h.within) (range_of n e m None on w h)));
-  put_parked = λ m on w t l may-not h. let r = range_of n e m (Some t) on w h in fine_of n e m None on _ (sound_put_parked on n w t l h.sound) (keeps_if (IsRange e m on) (nat_lt t (length w.tasks)) _ w (range_same e m on w t _ refl refl r) r);
-  taken = λ m on w q t apart front h. fine_of n e m (Some t) on _ (sound_taken on n w q t front apart h.sound) (range_of n e m None on w h);
-  kept = λ m on w t h. fine_of n e m None on _ (sound_kept on n w t h.sound) (range_same e m on w t (with_new_slice (task_at w t)) (renewed_run (task_at w t)) (renewed_time e m on (task_at w t)) (range_of n e m None on w h));
-  asleep = λ m on w t l h. let r = range_of n e m (Some t) on w h in fine_of n e m None on _ (sound_asleep on n w t l h.sound) (keeps_if (IsRange e m on) (nat_lt t (length w.tasks)) _ w (range_same e m on w t _ refl refl r) r);
-  put_out = λ m hand on w x h. fine_of n e m hand on _ (sound_put_out hand on n w x h.sound) (h.clock, h.runs, h.times, h.builtin_clock, (λ force. absurd (cc)), h.used, h.within);
-  evict = λ m hand on w t l h. let r = range_of n e m hand on w h in fine_of n e m hand on _ (sound_evict hand on n w t l h.sound) (keeps_if (IsRange e m on) (waits w t) (put_builtin (after_leave w t) t) w (range_put_builtin e m on (after_leave w t) t r) r);
-  cut = λ m hand on w t h. fine_of n e m hand on _ (sound_cut hand on n w t h.sound) (range_same e m on w t _ refl refl (range_of n e m hand on w h));
-  put_builtin = λ m on w t l h. fine_of n e m None on _ (sound_put_builtin on n w t l h.sound) (range_put_builtin e m on w t (range_of n e m (Some t) on w h));
-  overtaken = λ m hand on w t h. fine_of n e m hand on _ (sound_overtaken hand on n w t h.sound) (h.clock, h.runs, h.times, omega (arith, h.builtin_clock, h.times t), (λ force. let f = h.not_yet force in (rw (f.0, f.1 t) refl, f.1)), h.used, h.within);
-  charged = λ m hand on w t out h. fine_of n e (m + 1) hand on _ (sound_charged hand on n w t h.sound) (range_charged e m on w t (used_most e m on w t) (λ force. absurd (cc)) (range_of n e m hand on w h));
+  query = λ m hand on w q h. fine_of n e m hand on _ (sound_query hand on n w q h.sound) (allowed_query on n w q (ap (λ (xs : List (Option ℕ)). length xs) h.sound.cpus) h.allowed) (range_query e m on w q (range_of n e m hand on w h));
+  begun = λ m hand on w b t c l h. fine_of n e m hand on _ (sound_begun hand on n w b t c l h.sound) (allowed_begun on n w b t c h.allowed) (range_of n e m hand on w h);
+  quiet = λ m hand on w h. fine_of n e m hand on _ (sound_quiet hand on n w h.sound) (record { runs = h.allowed.runs; local = h.allowed.local; home = h.allowed.home; asks = h.allowed.asks }) (range_of n e m hand on w h);
+  moved = λ m hand on w b h. fine_of n e m hand on _ (sound_moves hand on n w b h.sound) (record { runs = h.allowed.runs; local = h.allowed.local; home = h.allowed.home; asks = h.allowed.asks }) (range_of n e m hand on w h);
+  cancelled = λ m hand on w t h. fine_of n e m hand on _ (sound_timers hand on n w _ h.sound) (record { runs = h.allowed.runs; local = h.allowed.local; home = h.allowed.home; asks = h.allowed.asks }) (range_of n e m hand on w h);
+  cycling = λ m hand on w o h. fine_of n e m hand on _ (sound_cycling hand on n w o h.sound) (kept_cycling (IsAllowedIn on n) (λ v p a x r. record { runs = r.runs; local = r.local; home = r.home; asks = r.asks }) w o h.allowed) (kept_cycling (IsRange e m on) (λ v p a x r. r) w o (range_of n e m hand on w h));
+  sets = λ m hand on w a b c d o h. fine_of n e m hand on _ (sound_sets hand on n w a b c d o h.sound) (record { runs = h.allowed.runs; local = h.allowed.local; home = h.allowed.home; asks = h.allowed.asks }) (range_of n e m hand on w h);
+  homed = λ m hand on w t c l may h. fine_of n e m hand on _ ((sound_marks hand on n).homed w t c l h.sound) (allowed_task on n w t (with_home (task_at w t) c) (λ l. may) h.allowed) (range_same e m on w t _ refl refl (range_of n e m hand on w h));
+  sliced = λ m hand on w t k h. fine_of n e m hand on _ ((sound_marks hand on n).sliced w t k h.sound) (allowed_same on n w t (with_slice (task_at w t) k) refl h.allowed) (range_same e m on w t _ refl refl (range_of n e m hand on w h));
+  wants = λ m hand on w c l calm may h. fine_of n e m hand on _ (sound_wants hand on n w c l calm h.sound) (allowed_wants on n w c may h.allowed) (range_of n e m hand on w h);
+  entered = λ m on w t i l x may h. fine_of n e m None on _ (sound_entered on n w t i l x h.sound) (allowed_entered on n w t i (given_home (task_at w t) i) (ap (λ (xs : List (Option ℕ)). length xs) h.sound.cpus) may h.allowed) (range_entered e m on w t i (range_of n e m (Some t) on w h));
+  filled = λ m on w q c apart l h. fine_of n e m None on _ (sound_filled on n w q c apart l h.sound) (allowed_filled on n w q c h.allowed) (range_brought e m on (fill_front w q c) w c (range_of n e m None on w h));
+  stopped = λ m on w c t l within runs h. fine_of n e m (Some t) (set on c None) _ (sound_stopped on n w c t l within runs h.sound) (allowed_stopped on n w c t h.allowed) (range_same e m (set on c None) w t _ refl refl (range_on e m on (set on c None) w (within_ended w.tree on c l h.within) (range_of n e m None on w h)));
+  started = λ m on w c t l free front may h. fine_of n e m None (set on c (Some t)) _ (sound_started on n w c t l free front h.sound) (allowed_started on n w c t l front h.allowed) (range_same e m (set on c (Some t)) w t _ refl refl (range_on e m on (set on c (Some t)) w (within_begun w.tree on c t l free may h.within) (range_of n e m None on w h)));
+  ran = λ m on w c t l free here may h. fine_of n e m None (set on c (Some t)) _ (sound_ran on n w c t l free here h.sound) (allowed_ran on n w c t l here h.allowed) (range_same e m (set on c (Some t)) w t _ refl refl (range_on e m on (set on c (Some t)) w (within_begun w.tree on c t l free may h.within) (range_of n e m None on w h)));
+  put_parked = λ m on w t l may-not h. let r = range_of n e m (Some t) on w h in fine_of n e m None on _ (sound_put_parked on n w t l h.sound) (allowed_parked on n w t h.allowed) (keeps_if (IsRange e m on) (nat_lt t (length w.tasks)) _ w (range_same e m on w t _ refl refl r) r);
+  left = λ m on w q t apart there h. fine_of n e m (Some t) on _ (sound_leaves on n w q t there apart h.sound) (allowed_left on n w t h.allowed) (range_of n e m None on w h);
+  kept = λ m on w t h. fine_of n e m None on _ (sound_kept on n w t h.sound) (allowed_same on n w t (with_new_slice (task_at w t)) (renewed_home (task_at w t)) h.allowed) (range_same e m on w t (with_new_slice (task_at w t)) (renewed_run (task_at w t)) (renewed_time e m on (task_at w t)) (range_of n e m None on w h));
+  asleep = λ m on w t l h. let r = range_of n e m (Some t) on w h in fine_of n e m None on _ (sound_asleep on n w t l h.sound) (allowed_asleep on n w t h.allowed) (keeps_if (IsRange e m on) (nat_lt t (length w.tasks)) _ w (range_same e m on w t _ refl refl r) r);
+  put_out = λ m hand on w x h. fine_of n e m hand on _ (sound_put_out hand on n w x h.sound) (allowed_out on n w x h.allowed) (h.clock, h.runs, h.times, h.builtin_clock, (λ force. absurd (cc)), h.used, h.within);
+  evict = λ m hand on w t l h. let r = range_of n e m hand on w h in fine_of n e m hand on _ (sound_evict hand on n w t l h.sound) (allowed_evict on n w t h.allowed) (keeps_if (IsRange e m on) (waits w t) (put_builtin (after_leave w t) t) w (range_put_builtin e m on (after_leave w t) t r) r);
+  cut = λ m hand on w t h. fine_of n e m hand on _ (sound_cut hand on n w t h.sound) (allowed_same on n w t _ refl h.allowed) (range_same e m on w t _ refl refl (range_of n e m hand on w h));
+  put_builtin = λ m on w t l h. fine_of n e m None on _ (sound_put_builtin on n w t l h.sound) (allowed_put_builtin on n w t h.allowed) (range_put_builtin e m on w t (range_of n e m (Some t) on w h));
+  overtaken = λ m hand on w t h. fine_of n e m hand on _ (sound_overtaken hand on n w t h.sound) (record { runs = h.allowed.runs; local = h.allowed.local; home = h.allowed.home; asks = h.allowed.asks }) (h.clock, h.runs, h.times, omega (arith, h.builtin_clock, h.times t), (λ force. let f = h.not_yet force in (rw (f.0, f.1 t) refl, f.1)), h.used, h.within);
+  charged = λ m hand on w t out h. fine_of n e (m + 1) hand on _ (sound_charged hand on n w t h.sound) (allowed_same on n w t _ refl h.allowed) (range_charged e m on w t (used_most e m on w t) (λ force. absurd (cc)) (range_of n e m hand on w h));
 }

@@ -1,5 +1,5 @@
 -- The front of a queue stays where other queues change, and where a task comes behind it.
-use Rattle.std.proofs.Common.{◌≡◌, ℕ, suc, ◌+◌, ◌<◌, ◌≤◌, Bool, true, false, ◌==◌, ◌&&◌, not, ◌⊎◌, inl, inr, cond, [], ◌∷◌, length, set, get_or, Option, Some, None, is_none, option_map, refl, sym, ap, ◌∙◌, subst, arith}
+use Rattle.std.proofs.Common.{◌≡◌, ℕ, suc, ◌+◌, ◌<◌, ◌≤◌, Bool, true, false, ◌==◌, ◌&&◌, not, ◌⊎◌, inl, inr, cond, [], ◌∷◌, length, set, get_or, Option, Some, None, is_none, option_map, refl, sym, ap, ◌∙◌, subst, arith, is_some}
 use Rattle.std.specs.List.{list_all, position, position_or_len}
 use Rattle.std.proofs.lemmas.Bool.{cases_eq, cases_lt, lt-ltb, and_parts, and_from, both_ways, false_from_ne_true}
 use Rattle.std.proofs.lemmas.List.{get_or_default, length-set, get_or-set_same, get_or-set_other, set_past}
@@ -9,12 +9,12 @@ use Rattle.std.proofs.lemmas.List.Sums.{position_or_len_is, fails_before_first, 
 use Rattle.scx_dsq.specs.declared.entries.Entry.{Entry}
 use Rattle.scx_dsq.specs.declared.entries.Rank.{Rank}
 use Rattle.scx_dsq.specs.Entries.{is_before}
-use Rattle.scx_dsq.specs.Queues.{Entries, entry_at, QueueState, entry_of, is_in, is_ahead, is_first, front_of}
-use Rattle.scx_dsq.specs.Calls.{push_refusal, next_entry, with_task as with_place, after_push, without_task, without, after_pop}
+use Rattle.scx_dsq.specs.Queues.{Entries, entry_at, QueueState, entry_of, is_in, is_ahead, is_first, front_of, queue_of}
+use Rattle.scx_dsq.specs.Calls.{push_refusal, next_entry, with_task as with_place, after_push, without_task, after_remove}
 use Rattle.scx_dsq.proofs.Facts.{free_from}
 use Rattle.scx_dsq.proofs.Orders.{before-asym}
-use Rattle.scx_sched_world.proofs.Fronts.{front_in}
 use Rattle.scx_sched.proofs.Firsts.{out_is_not_ahead}
+use Rattle.scx_sched_machine.proofs.Choices.{keeps_if}
 
 same_some : (a b : Entry) → Some a ≡ Some b → a ≡ b
 same_some a b e = cc
@@ -130,17 +130,13 @@ same_pushed id s q t r apart = go (push_refusal s q t r) refl
 pub same_without : (id : ℕ) (s : QueueState) (t : ℕ) → is_in id (entry_of s t) ≡ false → IsSameIn id s (without_task s t)
 same_without id s t out = same_set id s (without_task s t) t None refl out refl
 
--- the front of another queue
-pub same_popped : (id : ℕ) (s : QueueState) (q : ℕ) → (q == id) ≡ false → IsSameIn id s (after_pop s q)
-same_popped id s q apart = go (front_of s q) refl
+-- a task of another queue
+pub same_removed : (id : ℕ) (s : QueueState) (q t : ℕ) → (q == id) ≡ false → queue_of s t ≡ Some q → IsSameIn id s (after_remove s t)
+same_removed id s q t apart here = keeps_if (λ (x : QueueState). IsSameIn id s x) (is_some (entry_of s t)) (without_task s t) s (same_without id s t (out (entry_of s t) here)) (same_here id s s refl)
   where
-    there : (t : ℕ) (o : Option Entry) → option_map (λ p. p.queue) o ≡ Some q → is_in id o ≡ false
-    there t None e = refl
-    there t (Some p) e = ap (λ k. k == id) (same_queue p.queue q e) ∙ apart
-
-    go : (o : Option ℕ) → front_of s q ≡ o → IsSameIn id s (without s o)
-    go None e = same_here id s s refl
-    go (Some t) e = same_without id s t (there t (entry_of s t) (front_in s q t e))
+    out : (o : Option Entry) → option_map (λ p. p.queue) o ≡ Some q → is_in id o ≡ false
+    out None e = refl
+    out (Some p) e = ap (λ k. k == id) (same_queue p.queue q e) ∙ apart
 
 -- ---- a push behind the front
 

@@ -6,21 +6,21 @@ use Rattle.std.proofs.lemmas.List.{length-set, get_or-set_same}
 use Rattle.scx_dsq.specs.declared.entries.Rank.{Rank}
 use Rattle.scx_dsq.specs.declared.entries.Rank.TheVariants.{Fifo}
 use Rattle.scx_dsq.specs.Queues.{QueueState, task_count, entry_of, is_in, len_of, front_of}
-use Rattle.scx_dsq.specs.Calls.{push_refusal, next_entry, after_push, after_pop}
+use Rattle.scx_dsq.specs.Calls.{push_refusal, next_entry, after_push, after_remove}
 use Rattle.scx_dsq.specs.Laws.{one_if}
-use Rattle.scx_dsq.proofs.Facts.{free_from, front_is_known, tasks_without}
+use Rattle.scx_dsq.proofs.Facts.{free_from, tasks_removed}
 use Rattle.scx_isa_semantics.specs.declared.callbacks.Callback.TheVariants as callback
 use Rattle.scx_weights.specs.Limits as limits
 use Rattle.scx_sched_world.specs.declared.eject.Eject.{Eject}
 use Rattle.scx_sched_world.specs.Ids.{global, builtin_queue, parked_queue, local_on}
 use Rattle.scx_sched_world.specs.World as world
 use Rattle.scx_sched_world.specs.World.{WorldState, with_switch, task_at, is_throttled, running}
-use Rattle.scx_sched_world.specs.Tasks.{after_local, after_take, local_len, brought, after_stop, started_at, after_tick, used_ms}
+use Rattle.scx_sched_world.specs.Tasks.{after_local, local_len, brought, after_stop, started_at, after_tick, used_ms, after_leave, next_for}
 use Rattle.scx_sched_machine.specs.Steps.{State, Stepped, with_world, stays, one_after_other, is_ejected, is_by_linux, kicked}
 use Rattle.scx_sched_machine.specs.Policy.{program_of}
 use Rattle.scx_sched_machine.specs.Callbacks.{call_back, one_task}
 use Rattle.scx_sched_machine.specs.Filling.{fill}
-use Rattle.scx_sched_machine.specs.Parking.{park, park_front, throttled_front, park_fronts, clear, in_reach, supply}
+use Rattle.scx_sched_machine.specs.Parking.{park, throttled_front, park_next, clear, in_reach, supply}
 use Rattle.scx_sched_machine.specs.Cycle.{has_local, keeps_slice, supply_unless_kept, after_dispatch, asks_again, tries, after_stopping, switched, leave, started_if, start as run_front, rest, swap, swap_or_rest, builtin_dispatch, builtin_fill, builtin_ask, builtin_cycle, start_or_cycle, picked, refilled, start_picked_or_cycle, give_up, pick, pick_or_rest, keep_or_pick, conclude, ask, seek, look, cycling, cycle, dispatch_called, makes_way, hears_idle, falls_idle, becomes_idle, concluded}
 use Rattle.scx_sched_machine.specs.declared.events.Event.{Event}
 use Rattle.scx_sched_machine.specs.declared.events.Event.TheVariants.{Wake, Sleep, Tick, Clock, SetWeight, SetTaskWeight}
@@ -31,17 +31,17 @@ use Rattle.scx_sched_machine.proofs.Choices.{keeps_if}
 use Rattle.scx_sched.specs.Ranges.{IsFine}
 use Rattle.scx_sched.specs.Left.{LeavesNothing, LeavesNothingIdle}
 use Rattle.scx_sched.specs.Sim.{refusal, IsValid}
-use Rattle.scx_sched.proofs.Entering.{own_open, is_accepted, sorted_popped, stay_without, local_sort}
-use Rattle.scx_sched.proofs.Sound.{left_place}
+use Rattle.scx_sched.proofs.Sound.{place_known}
+use Rattle.scx_sched.proofs.Pushes.{takes_queued}
+use Rattle.scx_sched.proofs.Seen.{next_seen, next_same}
 use Rattle.scx_sched.proofs.Blaming.{plain_on, honest_supply, honest_builtin_fill, honest_tries, honest_stopping, honest_park, way_plain, honest_look}
-use Rattle.scx_sched.proofs.Fronts.{front_same}
 use Rattle.scx_sched.proofs.Clear.{IsClear, MayStart, tree_used_up}
 use Rattle.scx_sched.proofs.Ready.{tree_stopping}
-use Rattle.scx_sched.proofs.Supplying.{clear_from, empty_no_front, throttled_is, IsLeft, left_park_fronts, reach_fill, reach_park_front, supply_clears, builtin_clears}
+use Rattle.scx_sched.proofs.Supplying.{park_left, clear_from, empty_no_next, throttled_is, IsLeft, left_park_next, reach_fill, reach_park_left, supply_clears, builtin_clears}
 use Rattle.scx_sched.proofs.Marks.{KeepsMarks, Anywhere, kept_cycling, kept_local}
 use Rattle.scx_sched.proofs.Unchanged.{ruled_switch, ruled_cycling, same_linux}
 use Rattle.scx_sched.proofs.Skeleton.{IsKnown, once_for, keeps_stopping, keeps_running_on, keeps_switched}
-use Rattle.scx_sched.proofs.Cycles.{not_kept, MayStartUnlessKept, some_local, no_local, keeps_park, keeps_park_front, keeps_park_fronts, keeps_fill, keeps_supply, keeps_dispatched, keeps_tries, tries_clear, clear_now, keeps_leave, ready_left, keeps_builtin_fill, keeps_dispatch_called}
+use Rattle.scx_sched.proofs.Cycles.{not_kept, MayStartUnlessKept, some_local, no_local, keeps_park, keeps_park_left, keeps_park_next, keeps_fill, keeps_supply, keeps_dispatched, keeps_tries, tries_clear, clear_now, keeps_leave, ready_left, keeps_builtin_fill, keeps_dispatch_called}
 use Rattle.scx_sched.proofs.Fine.{fine_steps}
 use Rattle.scx_sched.proofs.Events.{cpus_used, IsKeptByUse, IsKeptByTick, fine_inside, fine_events, known_running, fine_ticked, keeps_stop_switch}
 use Rattle.scx_sched.proofs.Firsts.{no_front_is_empty}
@@ -70,13 +70,13 @@ out_stays s r (Some t) f out = go s.world.ejected refl out
     go None e x = absurd (cc)
     go (Some y) e x = ap (λ k. is_some k) (f y e)
 
--- a fill that brings nobody: nobody waits in that queue
+-- a fill that brings nobody: no task that may run on the processor waits in that queue
 abbrev IsVain : ℕ → ℕ → WorldState → WorldState → Type 0
-IsVain q c w v = (front_of w.queues q ≡ None) × (local_len w c ≡ 0) × (v.queues ≡ w.queues)
+IsVain q c w v = (next_for w q c ≡ None) × (local_len w c ≡ 0) × (v ≡ w)
 
--- nobody waits for all processors while the local queue is empty
+-- no task that may run on the processor waits for all processors while the local queue is empty
 abbrev LeavesGlobal : ℕ → WorldState → Type 0
-LeavesGlobal c w = local_len w c ≡ 0 → front_of w.queues global ≡ None
+LeavesGlobal c w = local_len w c ≡ 0 → next_for w global c ≡ None
 
 -- where the processor is idle nothing is left for it
 abbrev LeavesIfIdle : ℕ → WorldState → Type 0
@@ -146,29 +146,29 @@ module _ (n e : ℕ) (c : ℕ) where
 
   fill_leaves : (m : ℕ) (on : List (Option ℕ)) (s : State) (q : ℕ) → c < length on → IsFine n e m None on s.world → local_len (fill s q c).state.world c ≡ 0 → IsVain q c s.world (fill s q c).state.world
   unfolding fill
-  fill_leaves m on s q l h = go (nat_lt 0 (local_len s.world c)) refl (front_of s.world.queues q) refl
+  fill_leaves m on s q l h = go (nat_lt 0 (local_len s.world c)) refl (next_for s.world q c) refl
     where
       w : WorldState
       w = s.world
 
-      go : (b : Bool) → nat_lt 0 (local_len w c) ≡ b → (o : Option ℕ) → front_of w.queues q ≡ o → local_len (brought (if b then None else o) w q c) c ≡ 0 → IsVain q c w (brought (if b then None else o) w q c)
+      go : (b : Bool) → nat_lt 0 (local_len w c) ≡ b → (o : Option ℕ) → next_for w q c ≡ o → local_len (brought (if b then None else o) w c) c ≡ 0 → IsVain q c w (brought (if b then None else o) w c)
       go true x o f empty = let some : 0 < local_len w c = grind (arith, nat_tests, x) in absurd (omega (arith, some, empty))
       go false x None f empty = (f, empty, refl)
       go false x (Some t) f empty =
-          let s' = after_pop w.queues q in
-          let known : t < task_count s' = rw (tasks_without w.queues (front_of w.queues q)) (front_is_known w.queues q (Some t) (sym f)) in
-          let there = stay_without w.queues (front_of w.queues q) (local_on c) (h.sound.queues.locals c l) in
-          let ok = is_accepted s' t (local_on c) Fifo (left_place w.queues q t f) (own_open s' (local_on c) Fifo there (omega arith) (local_sort c) (sorted_popped w.queues q h.sound.sorted)) in
-          let longer : 0 < local_len (after_local (after_take w q) c t) c = kept_local Anywhere (λ v. 0 < local_len v c) local_marks (after_take w q) c t tt (omega (arith, len_entered s' (local_on c) t Fifo known ok)) in
+          let s' = after_remove w.queues t in
+          let here = (next_seen w q c t f).there in
+          let known : t < task_count s' = rw (tasks_removed w.queues t) (place_known w.queues q t here).0 in
+          let ok = takes_queued None on n w q c t l here h.sound in
+          let longer : 0 < local_len (after_local (after_leave w t) c t) c = kept_local Anywhere (λ v. 0 < local_len v c) local_marks (after_leave w t) c t tt (omega (arith, len_entered s' (local_on c) t Fifo known ok)) in
           absurd (omega (arith, empty, longer))
 
   fill_global : (m : ℕ) (on : List (Option ℕ)) (s : State) → c < length on → IsFine n e m None on s.world → LeavesGlobal c (fill s global c).state.world
-  fill_global m on s l h empty = let x = fill_leaves m on s global l h empty in ap (λ (q : QueueState). front_of q global) x.2 ∙ x.0
+  fill_global m on s l h empty = let x = fill_leaves m on s global l h empty in ap (λ (v : WorldState). next_for v global c) x.2 ∙ x.0
 
   clear_leaves : (j m : ℕ) (on : List (Option ℕ)) (s : State) → c < length on → in_reach s c ≤ j → IsFine n e m None on s.world → LeavesGlobal c (clear j s c).state.world
   unfolding clear
-  clear_leaves zero m on s l few h = λ empty. empty_no_front s.world.queues global (omega (arith, few))
-  clear_leaves (suc j) m on s l few h = go (throttled_front f (local_on c)) refl (λ t less x. clear_leaves j m on (park_front (fill s global c).state (local_on c) t).state l less x)
+  clear_leaves zero m on s l few h = λ empty. empty_no_next s.world global c (omega (arith, few))
+  clear_leaves (suc j) m on s l few h = go (throttled_front f (local_on c)) refl (λ t less x. clear_leaves j m on (park_left (fill s global c).state t).state l less x)
     where
       f : State
       f = (fill s global c).state
@@ -176,12 +176,12 @@ module _ (n e : ℕ) (c : ℕ) where
       filled : IsFine n e m None on f.world
       filled = keeps_fill n (IsFine n e) (fine_inside n e) m on s global c refl l h
 
-      go : (o : Option ℕ) → throttled_front f (local_on c) ≡ o → ((t : ℕ) → in_reach (park_front f (local_on c) t).state c ≤ j → IsFine n e m None on (park_front f (local_on c) t).state.world → LeavesGlobal c (clear j (park_front f (local_on c) t).state c).state.world)
+      go : (o : Option ℕ) → throttled_front f (local_on c) ≡ o → ((t : ℕ) → in_reach (park_left f t).state c ≤ j → IsFine n e m None on (park_left f t).state.world → LeavesGlobal c (clear j (park_left f t).state c).state.world)
           → LeavesGlobal c (clear_from j f c o).state.world
       go None y more = fill_global m on s l h
       go (Some t) y more =
-          more t (omega (arith, few, reach_fill s c, reach_park_front f c t (throttled_is f (local_on c) t y).front))
-          (keeps_park_front n (IsFine n e) (fine_inside n e) m on f (local_on c) t (ne_eqb (local_on c) parked_queue (λ z. omega (arith, z))) y filled)
+          more t (omega (arith, few, reach_fill s c, reach_park_left f c t (throttled_is f (local_on c) t y).there))
+          (keeps_park_left n (IsFine n e) (fine_inside n e) m on f (local_on c) t (ne_eqb (local_on c) parked_queue (λ z. omega (arith, z))) (throttled_is f (local_on c) t y) filled)
 
   supply_leaves : (m : ℕ) (on : List (Option ℕ)) (s : State) → c < length on → IsFine n e m None on s.world → LeavesGlobal c (supply s c).state.world
   unfolding supply
@@ -200,16 +200,16 @@ module _ (n e : ℕ) (c : ℕ) where
   builtin_fill_leaves m on s l h g = go (has_local s c) refl
     where
       p : State
-      p = (park_fronts (len_of s.world.queues builtin_queue) s builtin_queue).state
+      p = (park_next (len_of s.world.queues builtin_queue) s builtin_queue c).state
 
       r : Stepped
-      r = one_after_other (park_fronts (len_of s.world.queues builtin_queue) s builtin_queue) (fill p builtin_queue c)
+      r = one_after_other (park_next (len_of s.world.queues builtin_queue) s builtin_queue c) (fill p builtin_queue c)
 
       x : IsFine n e m None on p.world
-      x = keeps_park_fronts n (IsFine n e) (fine_inside n e) m on (len_of s.world.queues builtin_queue) s builtin_queue refl h
+      x = keeps_park_next n (IsFine n e) (fine_inside n e) m on (len_of s.world.queues builtin_queue) s builtin_queue c refl h
 
       global_stays : IsLeft global s.world p.world
-      global_stays = left_park_fronts (len_of s.world.queues builtin_queue) global s builtin_queue refl refl
+      global_stays = left_park_next (len_of s.world.queues builtin_queue) global s builtin_queue c refl refl
 
       go : (b : Bool) → has_local s c ≡ b → local_len (if b then stays s else r).state.world c ≡ 0 → LeavesNothing (if b then stays s else r).state.world c
       go true z empty = absurd (omega (arith, some_local (local_len s.world c) (local_len s.world c == 0) refl z, empty))
@@ -217,8 +217,8 @@ module _ (n e : ℕ) (c : ℕ) where
           let v = fill_leaves m on p builtin_queue l x empty in
           record {
             local = empty;
-            global = ap (λ (q : QueueState). front_of q global) v.2 ∙ (front_same s.world.queues p.world.queues global global_stays.queue ∙ g (no_local (local_len s.world c) (local_len s.world c == 0) refl z));
-            builtin = λ gone. ap (λ (q : QueueState). front_of q builtin_queue) v.2 ∙ v.0;
+            global = ap (λ (u : WorldState). next_for u global c) v.2 ∙ (next_same s.world p.world global c global_stays.queue global_stays.tree global_stays.rules ∙ g (no_local (local_len s.world c) (local_len s.world c == 0) refl z));
+            builtin = λ gone. ap (λ (u : WorldState). next_for u builtin_queue c) v.2 ∙ v.0;
           }
 
   builtin_cycle_leaves : (m : ℕ) (on : List (Option ℕ)) (s : State) (p : Option ℕ) (ran : Bool) → c < length on → IsKnown n p → get_or on c None ≡ p → IsOut p s → IsFine n e m None on s.world → LeavesIfIdle c (builtin_cycle s c p ran).state.world
@@ -265,7 +265,7 @@ module _ (n e : ℕ) (c : ℕ) where
   unfolding pick_or_rest
   pick_or_rest_leaves m on s p ran plain l known runs force clear-now h g = go (has_local s c) refl
     where
-      in_force : is_some s.world.ejected ≡ true → front_of s.world.queues builtin_queue ≡ None
+      in_force : is_some s.world.ejected ≡ true → next_for s.world builtin_queue c ≡ None
       in_force gone = let bad : false ≡ true = sym force ∙ gone in absurd (cc)
 
       go : (b : Bool) → has_local s c ≡ b → LeavesIfIdle c (if b then pick s c p ran else rest s c p ran).state.world

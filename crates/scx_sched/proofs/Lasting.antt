@@ -2,7 +2,6 @@
 use Rattle.std.proofs.Common.{◌≡◌, ℕ, zero, suc, ◌<◌, ◌≤◌, ◌⊎◌, inl, inr, Bool, true, false, nat_lt, if◌then◌else◌, List, length, set, get_or, map, Option, Some, None, refl, sym, ap, ◌∙◌, arith, ◌&&◌, is_none, is_some}
 use Rattle.std.proofs.lemmas.Bool.{cases_eq, cases_lt}
 use Rattle.std.proofs.lemmas.List.{length-set, get_or-set_same, get_or-set_other, set_past}
-use Rattle.scx_dsq.specs.Queues.{front_of}
 use Rattle.scx_isa_semantics.specs.declared.callbacks.Callback.{Callback}
 use Rattle.scx_isa_semantics.specs.declared.callbacks.Callback.TheVariants as callback
 use Rattle.scx_isa_semantics.specs.declared.host_tables.Helper.{Helper}
@@ -28,8 +27,8 @@ use Rattle.scx_sched_world.specs.declared.eject.Eject.{Eject}
 use Rattle.scx_sched_world.specs.declared.faults.Fault.{Fault}
 use Rattle.scx_sched_world.specs.declared.timers.Alarm.{Alarm}
 use Rattle.scx_sched_world.specs.World.{WorldState, with_kick, with_task, task_at, running, waits, wait, at_callback, with_tree, with_waker, cpu_of}
-use Rattle.scx_sched_world.specs.Tasks.{with_home, with_slice, after_take, with_since, let_go, task_after_insert, after_leave, after_enter, for_cpu, after_own_weight}
-use Rattle.scx_sched_world.specs.Helpers.{is_dispatch, with_insert, after_release, insert_or_fault, front_moved_to_local, helper_after, stored_in, world_functions, after_fire}
+use Rattle.scx_sched_world.specs.Tasks.{with_home, with_slice, with_since, let_go, task_after_insert, after_leave, after_enter, for_cpu, after_own_weight, next_for}
+use Rattle.scx_sched_world.specs.Helpers.{is_dispatch, with_insert, after_release, insert_or_fault, moved_to_local, helper_after, stored_in, world_functions, after_fire}
 use Rattle.scx_sched_world.specs.Ejecting.{put_out, put_builtin, after_evictions, after_cut, cut_task}
 use Rattle.scx_sched_machine.specs.Policy.{program_of}
 use Rattle.scx_sched_machine.specs.Steps.{State, is_ejected, Stepped, with_world, stays, is_by_linux}
@@ -104,9 +103,9 @@ module _ (w : WorldState) where
   long_inserted v None t i h = keeps_if (AreAsLong w) (is_dispatch v.call.callback) (after_release v t (for_cpu v.call.cpu i)) (with_insert v i) (long_released v t (for_cpu v.call.cpu i) h) h
   long_inserted v (Some f) t i h = h
 
-  long_moved : (v : WorldState) (o : Option ℕ) (q : ℕ) → AreAsLong w v → AreAsLong w (front_moved_to_local v o q)
-  long_moved v None q h = h
-  long_moved v (Some t) q h = let x = kept_local Anywhere (AreAsLong w) long_marks (after_take v q) v.call.cpu t tt h in (x.0, x.1, x.2)
+  long_moved : (v : WorldState) (o : Option ℕ) → AreAsLong w v → AreAsLong w (moved_to_local v o)
+  long_moved v None h = h
+  long_moved v (Some t) h = let x = kept_local Anywhere (AreAsLong w) long_marks (after_leave v t) v.call.cpu t tt h in (x.0, x.1, x.2)
 
   long_helper : (v : WorldState) (f : Helper) (a : List Arg) → AreAsLong w v → AreAsLong w (helper_after v f a)
   long_helper v f a h = by_helper (AreAsLong w) v (record {
@@ -120,7 +119,8 @@ module _ (w : WorldState) where
     kicked = λ c k. kept_kicked_so Anywhere (AreAsLong w) long_marks v c k h;
     started = λ t ns. h;
     cancelled = λ t. h;
-    moved = λ q here low. long_moved v (front_of v.queues q) q h;
+    drawn = h;
+    moved = λ q here low. long_moved v (next_for v q v.call.cpu) h;
   }) f a
 
   long_query : (v : WorldState) (q : Query) → AreAsLong w v → AreAsLong w (after_query world_functions v q)

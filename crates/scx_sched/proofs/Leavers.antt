@@ -6,9 +6,9 @@ use Rattle.std.proofs.lemmas.Bool.Decides.{nat_tests}
 use Rattle.scx_dsq.specs.declared.entries.Entry.{Entry}
 use Rattle.scx_dsq.specs.declared.entries.Rank.{Rank}
 use Rattle.scx_dsq.specs.declared.entries.Rank.TheVariants.{Fifo}
-use Rattle.scx_dsq.specs.Queues.{Entries, QueueState, exists, task_count, entry_of, queue_of, is_in, front_of}
-use Rattle.scx_dsq.specs.Calls.{create_refusal, with_queue, after_create, after_push, after_pop, after_remove}
-use Rattle.scx_dsq.proofs.Facts.{front_is_known, tasks_removed, tasks_without}
+use Rattle.scx_dsq.specs.Queues.{Entries, QueueState, exists, task_count, entry_of, queue_of, is_in}
+use Rattle.scx_dsq.specs.Calls.{create_refusal, with_queue, after_create, after_push, after_remove}
+use Rattle.scx_dsq.proofs.Facts.{tasks_removed}
 use Rattle.scx_isa_semantics.specs.declared.callbacks.Callback.{Callback}
 use Rattle.scx_isa_semantics.specs.declared.callbacks.Callback.TheVariants as callback
 use Rattle.scx_isa_semantics.specs.declared.host_tables.Helper.{Helper}
@@ -31,9 +31,8 @@ use Rattle.scx_sched_world.specs.declared.notes.What.TheVariants as note
 use Rattle.scx_sched_world.specs.Ids.{policy_end, global, local, held_queue, local_on}
 use Rattle.scx_sched_world.specs.World.{WorldState, are_linux, with_queues, at_callback}
 use Rattle.scx_sched_world.specs.Ejecting.{eject_of}
-use Rattle.scx_sched_world.specs.Tasks.{rank_by, after_local, after_take, after_leave, after_enter, queue_for, for_cpu}
-use Rattle.scx_sched_world.specs.Helpers.{is_dispatch, queue_fault, insert_fault, after_release, insert_or_fault, front_moved_to_local, with_insert, is_held, helper_after, world_functions}
-use Rattle.scx_sched_world.proofs.Fronts.{front_in}
+use Rattle.scx_sched_world.specs.Tasks.{rank_by, after_local, after_leave, after_enter, queue_for, for_cpu, next_for}
+use Rattle.scx_sched_world.specs.Helpers.{is_dispatch, queue_fault, insert_fault, after_release, insert_or_fault, with_insert, is_held, helper_after, world_functions, moved_to_local}
 use Rattle.scx_sched_machine.specs.Policy.{program_of}
 use Rattle.scx_sched_machine.specs.Steps.{State, CallMade, Stepped, stays, one_after_other, is_by_linux}
 use Rattle.scx_sched_machine.specs.Ejecting.{eject, ejected_for}
@@ -47,11 +46,12 @@ use Rattle.scx_sched.specs.Ranges.{IsFine}
 use Rattle.scx_sched.specs.Leavers.{TakesToRun, WaitsToRun, TellsOfLeaver, LeaversWait}
 use Rattle.scx_sched.proofs.Marks.{KeepsMarks, Anywhere, kept_kicked_so, kept_claim, kept_local, kept_put}
 use Rattle.scx_sched.proofs.Waiting.{pushed_here, pushed_other, removed_other}
-use Rattle.scx_sched.proofs.Sound.{not_timer, IsFit, is_fit, held_in_dispatch, held_waits, inside, popped_other, sound_query, sound_begun}
-use Rattle.scx_sched.proofs.Pushes.{takes_front, takes_held}
+use Rattle.scx_sched.proofs.Sound.{not_timer, IsFit, is_fit, held_in_dispatch, held_waits, inside, sound_query, sound_begun, place_known}
+use Rattle.scx_sched.proofs.Pushes.{takes_held, takes_queued}
 use Rattle.scx_sched.proofs.Unchanged.{eject_sets}
 use Rattle.scx_sched.proofs.Blaming.{eject_calls}
 use Rattle.scx_sched.proofs.Ready.{calm_called}
+use Rattle.scx_sched.proofs.Seen.{next_seen}
 
 -- ---- queues out of custody
 
@@ -191,8 +191,8 @@ module _ (on : List (Option ℕ)) (n : ℕ) where
       go true e None none = left
       go true e (Some u) none = left_released w u i flags e none h left
 
-  -- a front that was moved
-  left_moved : (w : WorldState) (o : Option ℕ) (q : ℕ) → front_of w.queues q ≡ o → is_dispatch w.call.callback ≡ true → q < policy_end → IsSound None on n w → Left w → Left (front_moved_to_local w o q)
+  -- a task that was moved
+  left_moved : (w : WorldState) (o : Option ℕ) (q : ℕ) → ((t : ℕ) → o ≡ Some t → queue_of w.queues t ≡ Some q) → is_dispatch w.call.callback ≡ true → q < policy_end → IsSound None on n w → Left w → Left (moved_to_local w o)
   left_moved w None q e here low h left = left
   left_moved w (Some u) q e here low h left = subst (λ (s : QueueState). HaveLeft s (v.notes ++ x ∷ [])) (sym at.0) (left_append s' v.notes (x ∷ []) (subst (λ ns. HaveLeft s' ns) (sym at.1) (left_then w.queues s' others w.notes left)) (new, tt))
     where
@@ -200,30 +200,30 @@ module _ (on : List (Option ℕ)) (n : ℕ) where
       d = local_on w.call.cpu
 
       s : QueueState
-      s = after_pop w.queues q
+      s = after_remove w.queues u
 
       s' : QueueState
       s' = after_push s d u Fifo
 
       v : WorldState
-      v = after_local (after_take w q) w.call.cpu u
+      v = after_local (after_leave w u) w.call.cpu u
 
       x : Note
       x = record { clock = v.clock; what = note.Move u w.call.cpu }
 
       at : IsAt s' w.notes v
-      at = kept_local Anywhere (IsAt s' w.notes) (at_marks s' w.notes) (after_take w q) w.call.cpu u tt (refl, refl)
+      at = kept_local Anywhere (IsAt s' w.notes) (at_marks s' w.notes) (after_leave w u) w.call.cpu u tt (refl, refl)
 
       others : (t : ℕ) → WaitsToRun w.queues t → WaitsToRun s' t
       others t y =
-          let apart : t ≡ u → ⊥ = λ is. in_custody w.queues u q (front_in w.queues q u e) (own_stays q low) (subst (WaitsToRun w.queues) is y) in
-          entry_then w.queues s' t (pushed_other s d u t Fifo apart ∙ popped_other w.queues q u t e apart) y
+          let apart : t ≡ u → ⊥ = λ is. in_custody w.queues u q (e u refl) (own_stays q low) (subst (WaitsToRun w.queues) is y) in
+          entry_then w.queues s' t (pushed_other s d u t Fifo apart ∙ removed_other w.queues u t apart) y
 
       known : u < task_count s
-      known = rw (tasks_without w.queues (front_of w.queues q)) (front_is_known w.queues q (Some u) (sym e))
+      known = rw (tasks_removed w.queues u) (place_known w.queues q u (e u refl)).0
 
       there : queue_of s' u ≡ Some d
-      there = pushed_here s d u Fifo known (takes_front None on n w q w.call.cpu u (h.here (not_timer w.call.callback here)) e h)
+      there = pushed_here s d u Fifo known (takes_queued None on n w q w.call.cpu u (h.here (not_timer w.call.callback here)) (e u refl) h)
 
       new : (t : ℕ) → leaver x.what ≡ Some t → WaitsToRun s' t
       new t y = subst (WaitsToRun s') (same_task u t y) (d, there, inr (omega arith))
@@ -240,7 +240,8 @@ module _ (on : List (Option ℕ)) (n : ℕ) where
     kicked = λ c k. kept_kicked_so Anywhere Left left_marks w c k left;
     started = λ t ns. left;
     cancelled = λ t. left;
-    moved = λ q here low. left_moved w (front_of w.queues q) q refl here low h left;
+    drawn = left;
+    moved = λ q here low. left_moved w (next_for w q w.call.cpu) q (λ t e. (next_seen w q w.call.cpu t e).there) here low h left;
   }) f a
 
   -- with each task in its place

@@ -15,8 +15,8 @@ use Rattle.scx_sched.proofs.Waiting.{removed_other}
 use Rattle.scx_sched.proofs.Sound.{waits_known}
 use Rattle.scx_sched.proofs.Staying.{stay_put}
 use Rattle.scx_sched.proofs.Lasting.{AreAsLong, long_here, long_then, long_kick, long_let_go, long_put}
-use Rattle.scx_sched.proofs.Skeleton.{keeps_put, keeps_kicked_if_idle}
-use Rattle.scx_sched.proofs.Cycles.{IsKeptInside}
+use Rattle.scx_sched.proofs.Skeleton.{keeps_kicked_if_idle}
+use Rattle.scx_sched.proofs.Cycles.{IsKeptInside, keeps_put_at}
 
 -- who is parked is a task that there is
 parked_known : (s : QueueState) (t : ℕ) → queue_of s t ≡ Some parked_queue → t < task_count s
@@ -42,7 +42,7 @@ module _ (n : ℕ) (I : ℕ → Option ℕ → List (Option ℕ) → WorldState 
   keeps_let_go_one s t here h =
       let c = (task_at s.world t).prev_cpu in
       let v = with_world s (let_go s.world t) in
-      keeps_kicked_if_idle n I k.steps m None on (put v t c 0).state c (keeps_put n I k.steps m on v t c 0 (known s t here h) ((k.sound m None on s.world h).homes t) (at_hand s t here h))
+      keeps_kicked_if_idle n I k.steps m None on (put v t c 0).state c (keeps_put_at n I k m on v t c 0 (known s t here h) ((k.sound m None on s.world h).homes t) ((k.allowed m None on s.world h).home t (known s t here h)) (at_hand s t here h))
 
   -- a kick moves nobody
   queues_kicked : (s : State) (c : ℕ) → (kicked_if_idle s c).world.queues ≡ s.world.queues

@@ -20,8 +20,8 @@ use Rattle.scx_sched_world.specs.declared.call.Insert.{Insert}
 use Rattle.scx_sched_world.specs.declared.faults.Fault.{Fault}
 use Rattle.scx_sched_world.specs.Ids.{held_queue, builtin_queue, parked_queue, local_on}
 use Rattle.scx_sched_world.specs.World.{WorldState, with_tree, waits_in, waits}
-use Rattle.scx_sched_world.specs.Tasks.{rank_by, after_take, after_leave, after_enter, for_cpu, brought, put_parked}
-use Rattle.scx_sched_world.specs.Helpers.{is_dispatch, is_held, with_insert, after_release, insert_or_fault, front_moved_to_local, helper_after, world_functions}
+use Rattle.scx_sched_world.specs.Tasks.{rank_by, after_leave, after_enter, for_cpu, brought, put_parked, next_for}
+use Rattle.scx_sched_world.specs.Helpers.{is_dispatch, is_held, with_insert, after_release, insert_or_fault, helper_after, world_functions, moved_to_local}
 use Rattle.scx_sched_world.specs.Ejecting.{builtin_vtime, put_builtin, evict}
 use Rattle.scx_sched_machine.proofs.Choices.{keeps_if}
 use Rattle.scx_sched_machine.proofs.HelperCalls.{by_helper}
@@ -32,6 +32,7 @@ use Rattle.scx_sched_world.proofs.Fronts.{front_in}
 use Rattle.scx_sched.proofs.Marks.{KeepsMarks, Anywhere, kept_kicked_so, kept_claim, kept_local, kept_entered}
 use Rattle.scx_sched.proofs.Waiting.{pushed_other, without_other}
 use Rattle.scx_sched.proofs.Sound.{IsFit, is_fit, fit_apart, held_in_dispatch, said_apart}
+use Rattle.scx_sched.proofs.Seen.{next_seen}
 
 -- the same tasks are parked, in the same order
 pub record IsAsParked (s s' : QueueState) : Type 0 where
@@ -150,12 +151,16 @@ as_entered w t i apart = kept_entered Anywhere (StayParked w) (parked_marks w) w
 pub as_wanted : (on : List (Option ℕ)) (n : ℕ) (hand : Option ℕ) (w : WorldState) (t : ℕ) (i : Insert) → IsWanted (length on) w i → IsSound hand on n w → StayParked w (after_enter w t i)
 as_wanted on n hand w t i x h = as_entered w t i (wanted_apart on n w i x h.goes)
 
--- as a front goes from another queue to a local one, the same tasks stay parked
-pub as_brought : (o : Option ℕ) (w : WorldState) (q c : ℕ) → (q == parked_queue) ≡ false → StayParked w (brought o w q c)
-as_brought None w q c apart = stay_here w
-as_brought (Some t) w q c apart =
-    kept_local Anywhere (StayParked w) (parked_marks w) (after_take w q) c t tt
-    (as_then w.queues (after_pop w.queues q) (after_push (after_pop w.queues q) (local_on c) t Fifo) (as_popped w.queues q apart) (as_pushed (after_pop w.queues q) (local_on c) t Fifo (local_apart c)))
+-- as a task goes from another queue to a local one, the same tasks stay parked
+pub as_brought : (o : Option ℕ) (w : WorldState) (c : ℕ) → ((t : ℕ) → o ≡ Some t → queue_of w.queues t ≡ Some parked_queue → ⊥) → StayParked w (brought o w c)
+as_brought None w c apart = stay_here w
+as_brought (Some t) w c apart =
+    kept_local Anywhere (StayParked w) (parked_marks w) (after_leave w t) c t tt
+    (as_then w.queues (after_remove w.queues t) (after_push (after_remove w.queues t) (local_on c) t Fifo) (as_removed w.queues t (apart t refl)) (as_pushed (after_remove w.queues t) (local_on c) t Fifo (local_apart c)))
+
+-- the first task of another queue that may run on a processor isn't parked
+pub next_apart : (w : WorldState) (q c t : ℕ) → (q == parked_queue) ≡ false → next_for w q c ≡ Some t → queue_of w.queues t ≡ Some parked_queue → ⊥
+next_apart w q c t apart e = apart_from q (queue_of w.queues t) (next_seen w q c t e).there apart
 
 -- as a task comes to wait for the built-in scheduler, the same tasks stay parked
 pub as_put_builtin : (w : WorldState) (t : ℕ) → StayParked w (put_builtin w t)
@@ -189,9 +194,9 @@ as_inserted w None t i fine = go (is_dispatch w.call.callback) refl t (fine refl
     go false x u fit = stay_here w
 as_inserted w (Some f) t i fine = stay_here w
 
-as_moved : (w : WorldState) (o : Option ℕ) (q : ℕ) → (q == parked_queue) ≡ false → StayParked w (front_moved_to_local w o q)
-as_moved w None q apart = stay_here w
-as_moved w (Some t) q apart = as_brought (Some t) w q w.call.cpu apart
+as_moved : (w : WorldState) (o : Option ℕ) → ((t : ℕ) → o ≡ Some t → queue_of w.queues t ≡ Some parked_queue → ⊥) → StayParked w (moved_to_local w o)
+as_moved w None apart = stay_here w
+as_moved w (Some t) apart = as_brought (Some t) w w.call.cpu apart
 
 as_helper : (w : WorldState) (f : Helper) (a : List Arg) → StayParked w (helper_after w f a)
 as_helper w f a = by_helper (StayParked w) w (record {
@@ -205,7 +210,8 @@ as_helper w f a = by_helper (StayParked w) w (record {
   kicked = λ c k. kept_kicked_so Anywhere (StayParked w) (parked_marks w) w c k (stay_here w);
   started = λ t ns. stay_here w;
   cancelled = λ t. stay_here w;
-  moved = λ q here low. as_moved w (front_of w.queues q) q (ne_eqb q parked_queue (λ x. omega (arith, x, low)));
+  drawn = stay_here w;
+  moved = λ q here low. as_moved w (next_for w q w.call.cpu) (λ t e. next_apart w q w.call.cpu t (ne_eqb q parked_queue (λ x. omega (arith, x, low))) e);
 }) f a
 
 -- as a program asks something of the world, the same tasks stay parked

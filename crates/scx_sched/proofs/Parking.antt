@@ -4,18 +4,18 @@ use Rattle.std.proofs.lemmas.Bool.{eq-eqb, ne_eqb}
 use Rattle.std.proofs.lemmas.List.{length-set}
 use Rattle.scx_dsq.specs.declared.entries.Entry.{Entry}
 use Rattle.scx_dsq.specs.declared.entries.Rank.TheVariants.{Fifo}
-use Rattle.scx_dsq.specs.Queues.{QueueState, task_count, entry_of, queue_of, front_of}
-use Rattle.scx_dsq.specs.Calls.{push_refusal, after_push, after_pop, after_remove}
-use Rattle.scx_dsq.proofs.Facts.{standing_popped, standing_removed, tasks_pushed, tasks_without, tasks_removed}
+use Rattle.scx_dsq.specs.Queues.{QueueState, task_count, entry_of, queue_of}
+use Rattle.scx_dsq.specs.Calls.{push_refusal, after_push, after_remove}
+use Rattle.scx_dsq.proofs.Facts.{standing_removed, tasks_pushed, tasks_removed}
 use Rattle.scx_weights.specs.Limits.{with_use}
 use Rattle.scx_sched_world.specs.Ids.{parked_queue}
 use Rattle.scx_sched_world.specs.World.{WorldState, with_tree, waits_in}
-use Rattle.scx_sched_world.specs.Tasks.{put_parked, after_take, let_go, used_ms, begun_periods}
+use Rattle.scx_sched_world.specs.Tasks.{put_parked, let_go, used_ms, begun_periods, after_leave}
 use Rattle.scx_sched_machine.proofs.Choices.{keeps_if}
 use Rattle.scx_sched.specs.Once.{IsSound}
-use Rattle.scx_sched.proofs.Entering.{nowhere, own_open, is_accepted, sorted_pushed, sorted_popped, sorted_removed, stamped_pushed, stamped_popped, stamped_removed, stay_pushed, stay_without, stay_removed, queues_stay, goes_on, open_own, open_without, open_removed}
-use Rattle.scx_sched.proofs.Waiting.{pushed_here, pushed_other, removed_other, waiting_left, front_waits_here, set_since, waits_sum, waits_by_sum}
-use Rattle.scx_sched.proofs.Sound.{inside, homes_set, once_pushed, left_place, popped_other, removed_place}
+use Rattle.scx_sched.proofs.Entering.{nowhere, own_open, is_accepted, sorted_pushed, sorted_removed, stamped_pushed, stamped_removed, stay_pushed, stay_removed, queues_stay, goes_on, open_own, open_removed}
+use Rattle.scx_sched.proofs.Waiting.{pushed_here, pushed_other, removed_other, waiting_left, set_since, waits_sum, waits_by_sum, place_waits_here}
+use Rattle.scx_sched.proofs.Sound.{inside, homes_set, once_pushed, removed_place, place_known}
 
 module _ (on : List (Option ℕ)) (n : ℕ) where
   -- the task at hand is parked
@@ -50,28 +50,31 @@ module _ (on : List (Option ℕ)) (n : ℕ) where
       here : queue_of s t ≡ Some parked_queue
       here = pushed_here w.queues parked_queue t Fifo known ok
 
-  -- the front of a queue is at hand
-  pub sound_taken : (w : WorldState) (q t : ℕ) → front_of w.queues q ≡ Some t → (q == parked_queue) ≡ false → IsSound None on n w → IsSound (Some t) on n (after_take w q)
-  sound_taken w q t e apart h = record {
+  -- a task of another queue is at hand
+  pub sound_leaves : (w : WorldState) (q t : ℕ) → queue_of w.queues t ≡ Some q → (q == parked_queue) ≡ false → IsSound None on n w → IsSound (Some t) on n (after_leave w t)
+  sound_leaves w q t e apart h = record {
     cpus = h.cpus;
     tasks = h.tasks;
-    even = tasks_without w.queues (front_of w.queues q) ∙ h.even;
+    even = tasks_removed w.queues t ∙ h.even;
     flags = h.flags;
     members = h.members;
     homes = h.homes;
-    queues = queues_stay w.queues s (length on) (stay_without w.queues (front_of w.queues q)) h.queues;
-    sorted = sorted_popped w.queues q h.sorted;
-    stamped = stamped_popped w.queues q h.stamped;
-    once = λ u. omega (arith, h.once u, standing_popped w.queues q t u e);
+    queues = queues_stay w.queues s (length on) (stay_removed w.queues t) h.queues;
+    sorted = sorted_removed w.queues t h.sorted;
+    stamped = stamped_removed w.queues t h.stamped;
+    once = λ u. omega (arith, h.once u, standing_removed w.queues t u place.1);
     here = h.here;
-    goes = goes_on w.queues s (length on) w.call.insert (λ x k o. open_without w.queues (front_of w.queues q) x k o) h.goes;
+    goes = goes_on w.queues s (length on) w.call.insert (λ x k o. open_removed w.queues t x k o) h.goes;
     behind = h.behind;
-    waiting = waits_by_sum (Some t) (after_take w q) (λ u. omega (arith, waits_sum None w h.once h.waiting u, waiting_left w.queues s t u (front_waits_here w.queues q t e apart) (left_place w.queues q t e) (λ k d. popped_other w.queues q t k e d)));
+    waiting = waits_by_sum (Some t) (after_leave w t) (λ u. omega (arith, waits_sum None w h.once h.waiting u, waiting_left w.queues s t u (place_waits_here w.queues q t e apart) (removed_place w.queues t place.1 place.0) (λ k d. removed_other w.queues t k d)));
     at_once = h.at_once;
   }
     where
       s : QueueState
-      s = after_pop w.queues q
+      s = after_remove w.queues t
+
+      place : (t < task_count w.queues) × (is_some (entry_of w.queues t) ≡ true)
+      place = place_known w.queues q t e
 
   -- a task that was parked is at hand
   pub sound_let_go : (w : WorldState) (t : ℕ) → t < n → queue_of w.queues t ≡ Some parked_queue → IsSound None on n w → IsSound (Some t) on n (let_go w t)

@@ -1,8 +1,8 @@
 -- Each push that the machine makes is accepted.
 use Rattle.std.proofs.Common.{arith, ◌≡◌, ℕ, ◌<◌, true, List, length, Option, Some, None, refl}
-use Rattle.scx_dsq.specs.Queues.{QueueState, exists, entry_of, front_of}
+use Rattle.scx_dsq.specs.Queues.{QueueState, exists, entry_of, queue_of}
 use Rattle.scx_dsq.proofs.Facts.{ids_removed}
-use Rattle.scx_dsq.specs.Calls.{push_refusal, after_pop, after_remove}
+use Rattle.scx_dsq.specs.Calls.{push_refusal, after_remove}
 use Rattle.scx_dsq.specs.declared.entries.Rank.TheVariants.{Fifo, Vtime}
 use Rattle.scx_sched_world.specs.Ids.{builtin_queue, parked_queue, local_on}
 use Rattle.scx_sched_world.specs.World.{WorldState, waits}
@@ -12,15 +12,16 @@ use Rattle.scx_sched_world.specs.Helpers.{is_dispatch, insert_fault}
 use Rattle.scx_sched.specs.Accepted.{IsPushAccepted}
 use Rattle.scx_sched_world.specs.Ejecting.{builtin_vtime}
 use Rattle.scx_sched.specs.Once.{IsSorted, IsSound}
-use Rattle.scx_sched.proofs.Entering.{nowhere, own_open, is_accepted, sorted_popped, sorted_removed, stay_without, open_removed, open_by, local_sort}
+use Rattle.scx_sched.proofs.Entering.{nowhere, own_open, is_accepted, sorted_removed, open_removed, open_by, local_sort, stay_removed}
 use Rattle.scx_sched.proofs.Waiting.{waits_there}
-use Rattle.scx_sched.proofs.Sound.{not_timer, left_place, is_fit, fit_open, held_waits, held_in_dispatch, wanted_open, removed_place, waits_known}
+use Rattle.scx_sched.proofs.Sound.{not_timer, is_fit, fit_open, held_waits, held_in_dispatch, wanted_open, removed_place, waits_known, place_known}
 
--- in a sound world, the local queue of a processor takes the front of a queue
-pub takes_front : (hand : Option ℕ) (on : List (Option ℕ)) (n : ℕ) (w : WorldState) (q c t : ℕ) → c < length on → front_of w.queues q ≡ Some t → IsSound hand on n w → push_refusal (after_pop w.queues q) (local_on c) t Fifo ≡ None
-takes_front hand on n w q c t l e h =
-    is_accepted (after_pop w.queues q) t (local_on c) Fifo (left_place w.queues q t e)
-    (own_open (after_pop w.queues q) (local_on c) Fifo (stay_without w.queues (front_of w.queues q) (local_on c) (h.queues.locals c l)) (omega arith) (local_sort c) (sorted_popped w.queues q h.sorted))
+-- in a sound world, the local queue of a processor takes a task of a queue
+pub takes_queued : (hand : Option ℕ) (on : List (Option ℕ)) (n : ℕ) (w : WorldState) (q c t : ℕ) → c < length on → queue_of w.queues t ≡ Some q → IsSound hand on n w → push_refusal (after_remove w.queues t) (local_on c) t Fifo ≡ None
+takes_queued hand on n w q c t l e h =
+    let here = place_known w.queues q t e in
+    is_accepted (after_remove w.queues t) t (local_on c) Fifo (removed_place w.queues t here.1 here.0)
+    (own_open (after_remove w.queues t) (local_on c) Fifo (stay_removed w.queues t (local_on c) (h.queues.locals c l)) (omega arith) (local_sort c) (sorted_removed w.queues t h.sorted))
 
 -- and in dispatch a held task may go where an insert without a fault wants it
 pub takes_held : (hand : Option ℕ) (on : List (Option ℕ)) (n : ℕ) (w : WorldState) (t : ℕ) (i : Insert) (flags : ℕ) → is_dispatch w.call.callback ≡ true → insert_fault w (Some t) i flags ≡ None → IsSound hand on n w
@@ -44,8 +45,8 @@ takes_evicted hand on n w t waits-here h =
 pub is_push_accepted : (n e m : ℕ) → IsPushAccepted n e m
 is_push_accepted n e m = record {
   put = λ on w t i l x h. is_accepted w.queues t i.queue (rank_by w i.rank) (nowhere w t h.sound.once) (open_by w w.queues i.queue i.rank (wanted_open on n w i (Some t) x h.sound));
-  fill = λ on w q c t l x h. takes_front None on n w q c t l x h.sound;
-  move = λ hand on w q t b x h. takes_front hand on n w q w.call.cpu t (h.sound.here b) x h.sound;
+  fill = λ on w q c t l x h. takes_queued None on n w q c t l x h.sound;
+  move = λ hand on w q t b x h. takes_queued hand on n w q w.call.cpu t (h.sound.here b) x h.sound;
   put_builtin = λ on w t l h. takes_builtin w.queues t (builtin_vtime w t) (nowhere w t h.sound.once) h.sound.queues.builtin h.sound.sorted;
   park = λ on w t l h. is_accepted w.queues t parked_queue Fifo (nowhere w t h.sound.once) (own_open w.queues parked_queue Fifo h.sound.queues.parked (omega arith) refl h.sound.sorted);
   evict = λ hand on w t waits-here h. takes_evicted hand on n w t waits-here h.sound;

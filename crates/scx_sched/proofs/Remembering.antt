@@ -56,6 +56,7 @@ module _ (cpus : ℕ) (o : Option Insert) where
     kicked = λ c k. kept_kicked_so Anywhere IsRemembered remembered_marks w c k h;
     started = λ t ns. h;
     cancelled = λ t. h;
+    drawn = h;
     moved = λ q here low. absurd (not_dispatch w h here);
   }) f a
 

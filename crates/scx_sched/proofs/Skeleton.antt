@@ -15,7 +15,7 @@ use Rattle.scx_sched_world.specs.declared.eject.Cause.{Cause}
 use Rattle.scx_sched_world.specs.declared.eject.Eject.{Eject}
 use Rattle.scx_sched_world.specs.CpuSets.{and_cpu}
 use Rattle.scx_sched_world.specs.World as world
-use Rattle.scx_sched_world.specs.World.{WorldState, with_task, switch_at, with_switch, with_waker, task_at, is_idle, running, at_callback, nothing_passes, with_timer_at_hand, out_of_cycle}
+use Rattle.scx_sched_world.specs.World.{WorldState, with_task, switch_at, with_switch, with_waker, task_at, is_idle, running, at_callback, nothing_passes, with_timer_at_hand, out_of_cycle, may_run}
 use Rattle.scx_sched_world.specs.Tasks.{with_home, homed, after_switch, for_cpu}
 use Rattle.scx_sched_world.specs.Ejecting.{put_out, after_evictions, after_cut, cut_task, after_charge, after_catch_up}
 use Rattle.scx_sched_world.specs.Helpers.{world_functions}
@@ -29,6 +29,8 @@ use Rattle.scx_sched_machine.specs.Cycle.{stopping_called, after_stopping, switc
 use Rattle.scx_sched_machine.specs.Events.{insert_or_put}
 use Rattle.scx_sched_machine.proofs.Choices.{keeps_if}
 use Rattle.scx_sched.specs.Kept.{IsKeptBySteps, IsWanted, ForAny, Nowhere, Inserted}
+use Rattle.scx_sched.specs.Allowed.{MayGo}
+use Rattle.scx_sched.proofs.Placing.{MayPut}
 
 -- the task before, if there is one, is a task that there is
 abbrev pub IsKnown : ℕ → Option ℕ → Type 0
@@ -147,8 +149,8 @@ module _ (n : ℕ) (I : ℕ → Option ℕ → List (Option ℕ) → WorldState 
     keeps_kicked_if_idle s c h = keeps_if (λ (r : State). I m hand on r.world) (is_by_linux s && is_idle s.world c) (kicked s c) s (keeps_kicked s c h) h
 
     -- the processor of a task
-    pub keeps_homed : (w : WorldState) (t c : ℕ) → c < length on → I m hand on w → I m hand on (homed w t c)
-    keeps_homed w t c l h = keeps_if (I m hand on) (world.is_by_linux w) (with_task w t (with_home (task_at w t) c)) w (k.homed m hand on w t c l h) h
+    pub keeps_homed : (w : WorldState) (t c : ℕ) → c < length on → may_run w t c ≡ true → I m hand on w → I m hand on (homed w t c)
+    keeps_homed w t c l may h = keeps_if (I m hand on) (world.is_by_linux w) (with_task w t (with_home (task_at w t) c)) w (k.homed m hand on w t c l may h) h
 
     -- a task that begins to run
     pub keeps_switched : (s : State) (t : ℕ) → I m hand on s.world → I m hand on (switched s t).world
@@ -156,22 +158,22 @@ module _ (n : ℕ) (I : ℕ → Option ℕ → List (Option ℕ) → WorldState 
     keeps_switched s t h = keeps_if (λ (r : State). I m hand on r.world) (is_by_linux s && not (s.policy.tick_ms == 0)) (with_world s (after_switch s.world t)) s (k.sliced m hand on s.world t _ h) h
 
   module _ (m : ℕ) (on : List (Option ℕ)) where
-    keeps_comes_in : (s : State) (t c : ℕ) → t < n → c < length on → I m (Some t) on s.world → I m None on (comes_in s t c).state.world
+    keeps_comes_in : (s : State) (t c : ℕ) → t < n → c < length on → MayGo (length on) s.world t (enqueue_choice s.policy.callbacks.enqueue c s.world.call.insert) → I m (Some t) on s.world → I m None on (comes_in s t c).state.world
     unfolding comes_in enters enters_builtin
-    keeps_comes_in s t c within l h =
+    keeps_comes_in s t c within l may h =
         let p = s.policy.callbacks.enqueue in
         let o = s.world.call.insert in
-        keeps_if (λ (r : Stepped). I m None on r.state.world) (is_ejected s) (enters_builtin s t) (enters s t (enqueue_choice p c o)) (k.put_builtin m on s.world t within h) (k.entered m on s.world t (enqueue_choice p c o) within (is_wanted (length on) s.world p c o l refl) h)
+        keeps_if (λ (r : Stepped). I m None on r.state.world) (is_ejected s) (enters_builtin s t) (enters s t (enqueue_choice p c o)) (k.put_builtin m on s.world t within h) (k.entered m on s.world t (enqueue_choice p c o) within (is_wanted (length on) s.world p c o l refl) may h)
 
     -- a task that is put
-    pub keeps_put : (s : State) (t c flags : ℕ) → t < n → c < length on → I m (Some t) on s.world → I m None on (put s t c flags).state.world
+    pub keeps_put : (s : State) (t c flags : ℕ) → t < n → c < length on → MayPut (length on) s t c flags → I m (Some t) on s.world → I m None on (put s t c flags).state.world
     unfolding put
-    keeps_put s t c flags within l h =
+    keeps_put s t c flags within l may h =
         let r = call_back s callback.Enqueue (task_and_number t flags) t c in
-        keeps_comes_in r.state t c within l (keeps_call_back m (Some t) on s callback.Enqueue (task_and_number t flags) t c l h)
+        keeps_comes_in r.state t c within l may (keeps_call_back m (Some t) on s callback.Enqueue (task_and_number t flags) t c l h)
 
     -- an insert of select_cpu that may still be done
-    pub keeps_settled : (o : Option Insert) (s : State) (t c : ℕ) → ((i : Insert) → o ≡ Some i → IsWanted (length on) s.world (for_cpu c i)) → t < n → c < length on → I m (Some t) on s.world → I m None on (insert_or_put o s t c).state.world
+    pub keeps_settled : (o : Option Insert) (s : State) (t c : ℕ) → ((i : Insert) → o ≡ Some i → IsWanted (length on) s.world (for_cpu c i) × MayGo (length on) s.world t (for_cpu c i)) → MayPut (length on) s t c 1 → t < n → c < length on → I m (Some t) on s.world → I m None on (insert_or_put o s t c).state.world
     unfolding enters
-    keeps_settled None s t c may within l h = keeps_put s t c 1 within l h
-    keeps_settled (Some i) s t c may within l h = k.entered m on s.world t (for_cpu c i) within (may i refl) h
+    keeps_settled None s t c may put within l h = keeps_put s t c 1 within l put h
+    keeps_settled (Some i) s t c may put within l h = let x = may i refl in k.entered m on s.world t (for_cpu c i) within x.0 x.1 h

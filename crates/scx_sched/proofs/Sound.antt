@@ -41,15 +41,16 @@ use Rattle.scx_sched_world.specs.declared.timers.Alarm.{Alarm}
 use Rattle.scx_sched_world.specs.Ids.{global, local, held_queue, builtin_queue, parked_queue, local_on, policy_end}
 use Rattle.scx_sched_world.specs.Ejecting.{put_out, builtin_vtime, put_builtin, evict, cut_task, after_catch_up, after_charge}
 use Rattle.scx_sched_world.specs.World.{WorldState, is_by_linux, with_queues, with_tree, with_cycling, with_task, task_at, waits_in, waits, is_this, is_runnable, cpu_of, quiet, at_callback, with_note}
-use Rattle.scx_sched_world.specs.Tasks.{with_slice, with_home, rank_by, to_local, to_front, after_local, after_take, after_run, after_wake, after_sleep, after_leave, given_slice, given_vtime, task_after_insert, after_enter, queue_for, for_cpu, to_held, to_global, brought, fill_front, after_fill, local_len, after_stop, started_at, with_new_slice, after_keep, ran_a_tick, after_tick, later, after_own_weight}
-use Rattle.scx_sched_world.specs.Helpers.{with_cause, flags_fault, is_dispatch, is_held, may_insert_in, may_insert, queue_fault, is_vtime, rank_fault, or_fault, insert_fault, with_insert, with_move, after_release, insert_or_fault, front_moved_to_local, helper_after, stored_in, world_functions}
+use Rattle.scx_sched_world.specs.Tasks.{with_slice, with_home, rank_by, to_local, to_front, after_local, after_run, after_wake, after_sleep, after_leave, given_slice, given_vtime, task_after_insert, after_enter, queue_for, for_cpu, to_held, to_global, brought, fill_front, after_fill, local_len, after_stop, started_at, with_new_slice, after_keep, ran_a_tick, after_tick, later, after_own_weight, next_for}
+use Rattle.scx_sched_world.specs.Helpers.{with_cause, flags_fault, is_dispatch, is_held, may_insert_in, may_insert, queue_fault, is_vtime, rank_fault, or_fault, insert_fault, with_insert, with_move, after_release, insert_or_fault, helper_after, stored_in, world_functions, moved_to_local, after_random, placing_fault}
 use Rattle.scx_sched_machine.proofs.Choices.{keeps_if}
 use Rattle.scx_sched_machine.proofs.HelperCalls.{by_helper}
 use Rattle.scx_sched.specs.Once.{runs, appearances, IsOnce, HasQueues, sort_of, IsSorted, IsAlike, IsOpen, IsBehind, IsSound, GoesSomewhere}
 use Rattle.scx_sched.specs.Kept.{with_sets, with_moved, IsWanted, ForAny, Nowhere, Inserted, InFront, Before}
 use Rattle.scx_sched.proofs.Marks.{KeepsMarks, KeepsCycles, kept_cycling, kept_kicked_so, kept_claim, kept_local, kept_put}
-use Rattle.scx_sched.proofs.Waiting.{waiting, waits_there, without_other, removed_other, same_waiting, waiting_pushed, waiting_left, front_waits_here, set_since, one_same, waits_sum, waits_by_sum, since_set, stored_since, given_since, renewed_since, waits_at_hand, waits_asleep, waits_on_cpu}
+use Rattle.scx_sched.proofs.Waiting.{waiting, waits_there, without_other, removed_other, same_waiting, waiting_pushed, waiting_left, set_since, one_same, waits_sum, waits_by_sum, since_set, stored_since, given_since, renewed_since, waits_at_hand, waits_asleep, waits_on_cpu, place_waits_here}
 use Rattle.scx_sched.proofs.Entering.{nowhere, sorted_pushed, sorted_popped, sorted_removed, stamped_pushed, stamped_popped, stamped_removed, stamped_created, own_open, alike_from, is_accepted, Stay, stay_pushed, stay_without, stay_removed, stay_created, queues_stay, open_without, open_removed, open_created, open_own, open_same, same_itself, same_key, open_by, goes_on, local_fits, local_sort, low_fits}
+use Rattle.scx_sched.proofs.Seen.{next_seen}
 
 -- ---- changes of queues, tasks and the callback at hand
 
@@ -62,7 +63,8 @@ homes_set tasks t x k new old u = go (cases_eq u t) (cases_lt t (length tasks))
     go (inl e) (inr past) = rw (set_past tasks t x past) (old u)
     go (inr d) l = rw (get_or-set_other tasks t u x no_task d) (old u)
 
-stored_home : (x : Task) (f : Field) (n : ℕ) → (stored_in x f n).prev_cpu ≡ x.prev_cpu
+-- a field that a program stores leaves the processor of a task
+pub stored_home : (x : Task) (f : Field) (n : ℕ) → (stored_in x f n).prev_cpu ≡ x.prev_cpu
 stored_home x Pid n = refl
 stored_home x Weight n = refl
 stored_home x Slice n = refl
@@ -149,20 +151,45 @@ left_place s q t e = rw e (get_or-set_same {A = Option Entry} s.entries t None N
 pub popped_other : (s : QueueState) (q t u : ℕ) → front_of s q ≡ Some t → (u ≡ t → ⊥) → entry_of (after_pop s q) u ≡ entry_of s u
 popped_other s q t u e other = rw e (without_other s t u other)
 
-sound_brought : (hand : Option ℕ) (on : List (Option ℕ)) (n : ℕ) (w : WorldState) (o : Option ℕ) (q r : ℕ) → front_of w.queues q ≡ o → exists w.queues r ≡ true → policy_end ≤ r → same_sort Fifo (sort_of r) ≡ true → (q == parked_queue) ≡ false → (r == parked_queue) ≡ false
-    → IsSound hand on n w → (t : ℕ) → o ≡ Some t → IsSound hand on n (with_queues w (after_push (after_pop w.queues q) r t Fifo))
-sound_brought hand on n w o q r front there own fits apart apart-there h t e =
+-- who was taken out of its queue waits nowhere
+pub removed_place : (s : QueueState) (t : ℕ) → is_some (entry_of s t) ≡ true → t < task_count s → entry_of (after_remove s t) t ≡ None
+removed_place s t waits-here known = rw waits-here (get_or-set_same {A = Option Entry} s.entries t None None known)
+
+-- who is in a queue is a task that there is
+pub in_known : (s : QueueState) (q t : ℕ) → is_in q (entry_of s t) ≡ true → (t < task_count s) × (is_some (entry_of s t) ≡ true)
+in_known s q t e = go (cases_lt t (task_count s)) (entry_of s t) refl e
+  where
+    go : (t < task_count s) ⊎ (task_count s ≤ t) → (o : Option Entry) → entry_of s t ≡ o → is_in q o ≡ true → (t < task_count s) × (is_some (entry_of s t) ≡ true)
+    go l None x y = absurd (cc)
+    go (inl l) (Some p) x y = (l, ap is_some x)
+    go (inr past) (Some p) x y = let none : entry_of s t ≡ None = get_or_past {X = Option Entry} s.entries t None past in absurd (cc (sym x ∙ none))
+
+-- so is one whose queue that is
+pub place_known : (s : QueueState) (q t : ℕ) → queue_of s t ≡ Some q → (t < task_count s) × (is_some (entry_of s t) ≡ true)
+place_known s q t e = in_known s q t (inside-it (entry_of s t) e)
+  where
+    same : (a b : ℕ) → Some a ≡ Some b → a ≡ b
+    same a b x = cc
+
+    inside-it : (o : Option Entry) → option_map (λ p. p.queue) o ≡ Some q → is_in q o ≡ true
+    inside-it None x = absurd (cc)
+    inside-it (Some p) x = eq-eqb p.queue q (same p.queue q x)
+
+sound_brought : (hand : Option ℕ) (on : List (Option ℕ)) (n : ℕ) (w : WorldState) (q r t : ℕ) → queue_of w.queues t ≡ Some q → exists w.queues r ≡ true → policy_end ≤ r → same_sort Fifo (sort_of r) ≡ true → (q == parked_queue) ≡ false → (r == parked_queue) ≡ false
+    → IsSound hand on n w → IsSound hand on n (with_queues w (after_push (after_remove w.queues t) r t Fifo))
+sound_brought hand on n w q r t is there own fits apart apart-there h =
     let s = w.queues in
-    let is : front_of s q ≡ Some t = front ∙ e in
-    let known : t < task_count s = front_is_known s q (Some t) (sym is) in
-    let ready : IsOpen (after_pop s q) r Fifo = own_open (after_pop s q) r Fifo (stay_without s (front_of s q) r there) own fits (sorted_popped s q h.sorted) in
-    let ok : push_refusal (after_pop s q) r t Fifo ≡ None = is_accepted (after_pop s q) t r Fifo (left_place s q t is) ready in
-    let known' : t < task_count (after_pop s q) = rw (tasks_without s (front_of s q)) known in
-    sound_queues hand on n w (after_push (after_pop s q) r t Fifo) (λ x g. stay_pushed (after_pop s q) r t Fifo x (stay_without s (front_of s q) x g))
-    (sorted_pushed (after_pop s q) r t Fifo ready.fits (sorted_popped s q h.sorted)) (stamped_pushed (after_pop s q) r t Fifo (stamped_popped s q h.stamped)) (tasks_pushed (after_pop s q) r t Fifo ∙ tasks_without s (front_of s q))
-    (λ u. omega (arith, standing_pushed (after_pop s q) r t u Fifo known' ok, standing_popped s q t u is))
-    (λ u. omega (arith, waiting_pushed (after_pop s q) r t u Fifo known' ok (left_place s q t is) apart-there, waiting_left s (after_pop s q) t u (front_waits_here s q t is apart) (left_place s q t is) (λ k d. popped_other s q t k is d)))
-    (goes_on s (after_push (after_pop s q) r t Fifo) (length on) w.call.insert (λ x k o. open_own (after_pop s q) r t Fifo x k own fits (open_without s (front_of s q) x k o)) h.goes) h
+    let s' = after_remove s t in
+    let place = place_known s q t is in
+    let free : entry_of s' t ≡ None = removed_place s t place.1 place.0 in
+    let ready : IsOpen s' r Fifo = own_open s' r Fifo (stay_removed s t r there) own fits (sorted_removed s t h.sorted) in
+    let ok : push_refusal s' r t Fifo ≡ None = is_accepted s' t r Fifo free ready in
+    let known' : t < task_count s' = rw (tasks_removed s t) place.0 in
+    sound_queues hand on n w (after_push s' r t Fifo) (λ x g. stay_pushed s' r t Fifo x (stay_removed s t x g))
+    (sorted_pushed s' r t Fifo ready.fits (sorted_removed s t h.sorted)) (stamped_pushed s' r t Fifo (stamped_removed s t h.stamped)) (tasks_pushed s' r t Fifo ∙ tasks_removed s t)
+    (λ u. omega (arith, standing_pushed s' r t u Fifo known' ok, standing_removed s t u place.1))
+    (λ u. omega (arith, waiting_pushed s' r t u Fifo known' ok free apart-there, waiting_left s s' t u (place_waits_here s q t is apart) free (λ k d. removed_other s t k d)))
+    (goes_on s (after_push s' r t Fifo) (length on) w.call.insert (λ x k o. open_own s' r t Fifo x k own fits (open_removed s t x k o)) h.goes) h
 
 -- ---- helpers
 
@@ -212,16 +239,18 @@ pub record IsFit (w : WorldState) (t : Option ℕ) (i : Insert) : Type 0 where
   pub may : may_insert w t ≡ true
   pub queue : queue_fault w i.queue ≡ None
   pub rank : rank_fault w i.queue i.rank ≡ None
+  pub place : placing_fault w t i.queue ≡ None
 
 -- an insert without a fault is fit
 pub is_fit : (w : WorldState) (t : Option ℕ) (i : Insert) (flags : ℕ) → insert_fault w t i flags ≡ None → IsFit w t i
-is_fit w t i flags e = go (may_insert w t) (flags_fault w flags) (queue_fault w i.queue) refl refl e
+is_fit w t i flags e = go (may_insert w t) (flags_fault w flags) (queue_fault w i.queue) (rank_fault w i.queue i.rank) refl refl refl e
   where
-    go : (a : Bool) (b o : Option Fault) → may_insert w t ≡ a → queue_fault w i.queue ≡ o → (if a then or_fault b (or_fault o (rank_fault w i.queue i.rank)) else Some CannotInsert) ≡ None → IsFit w t i
-    go true (Some g) o x y e = absurd (cc)
-    go true None None x y e = record { may = x; queue = y; rank = e }
-    go true None (Some f) x y e = absurd (cc)
-    go false b o x y e = absurd (cc)
+    go : (a : Bool) (b o r : Option Fault) → may_insert w t ≡ a → queue_fault w i.queue ≡ o → rank_fault w i.queue i.rank ≡ r → (if a then or_fault b (or_fault o (or_fault r (placing_fault w t i.queue))) else Some CannotInsert) ≡ None → IsFit w t i
+    go true (Some g) o r x y z e = absurd (cc)
+    go true None None None x y z e = record { may = x; queue = y; rank = z; place = e }
+    go true None None (Some f) x y z e = absurd (cc)
+    go true None (Some f) r x y z e = absurd (cc)
+    go false b o r x y z e = absurd (cc)
 
 rank_alike : (w : WorldState) (q : ℕ) (r : Rank) → rank_fault w q r ≡ None → (policy_end ≤ q → same_sort r Fifo ≡ true) × IsAlike w.queues q r
 rank_alike w q r e = go (is_vtime r && nat_le policy_end q) (list_any (clashes q r) w.queues.entries) refl refl e
@@ -276,7 +305,8 @@ held_in_dispatch w t = go w.call.callback
     go callback.Dispatch x y = y
     go b x y = absurd (cc)
 
-given_home : (x : Task) (i : Insert) → (task_after_insert x i).prev_cpu ≡ x.prev_cpu
+-- so does an insert
+pub given_home : (x : Task) (i : Insert) → (task_after_insert x i).prev_cpu ≡ x.prev_cpu
 given_home x i = vtime i.rank ∙ keeps_if (λ (y : Task). y.prev_cpu ≡ x.prev_cpu) (i.slice == 0) _ _ (keeps_if (λ (y : Task). y.prev_cpu ≡ x.prev_cpu) (i.refills && (x.slice == 0)) _ x refl refl) refl
   where
     vtime : (r : Rank) → (given_vtime (given_slice x i) r).prev_cpu ≡ (given_slice x i).prev_cpu
@@ -333,6 +363,10 @@ module _ (hand : Option ℕ) (on : List (Option ℕ)) (n : ℕ) where
   sound_moving : (w : WorldState) (x : What) → IsSound hand on n w → IsSound hand on n (with_note (with_move w) x)
   sound_moving w x h = record { cpus = h.cpus; tasks = h.tasks; even = h.even; flags = h.flags; members = h.members; homes = h.homes; queues = h.queues; sorted = h.sorted; stamped = h.stamped; once = h.once; here = h.here; goes = h.goes; behind = h.behind; waiting = h.waiting; at_once = h.at_once }
 
+  -- a random number
+  sound_drawn : (w : WorldState) → IsSound hand on n w → IsSound hand on n (after_random w)
+  sound_drawn w h = record { cpus = h.cpus; tasks = h.tasks; even = h.even; flags = h.flags; members = h.members; homes = h.homes; queues = h.queues; sorted = h.sorted; stamped = h.stamped; once = h.once; here = h.here; goes = h.goes; behind = h.behind; waiting = h.waiting; at_once = h.at_once }
+
   -- a late insert, which counts as one
   sound_late : (w : WorldState) → IsSound hand on n w → IsSound hand on n (with_move w)
   sound_late w h = record { cpus = h.cpus; tasks = h.tasks; even = h.even; flags = h.flags; members = h.members; homes = h.homes; queues = h.queues; sorted = h.sorted; stamped = h.stamped; once = h.once; here = h.here; goes = h.goes; behind = h.behind; waiting = h.waiting; at_once = h.at_once }
@@ -348,11 +382,11 @@ module _ (hand : Option ℕ) (on : List (Option ℕ)) (n : ℕ) where
       go false x u fit = record { cpus = h.cpus; tasks = h.tasks; even = h.even; flags = h.flags; members = h.members; homes = h.homes; queues = h.queues; sorted = h.sorted; stamped = h.stamped; once = h.once; here = h.here; goes = λ c l. (fit_open on hand n w u i c l fit h, fit_apart w i.queue c fit.queue); behind = back; waiting = h.waiting; at_once = λ y. absurd (cc (sym x ∙ y)) }
   sound_inserted w (Some f) t i back fine h = sound_caused w (reason.Fault f) h
 
-  sound_moved : (w : WorldState) (o : Option ℕ) (q : ℕ) → is_dispatch w.call.callback ≡ true → front_of w.queues q ≡ o → (q == parked_queue) ≡ false → IsSound hand on n w → IsSound hand on n (front_moved_to_local w o q)
+  sound_moved : (w : WorldState) (o : Option ℕ) (q : ℕ) → is_dispatch w.call.callback ≡ true → ((t : ℕ) → o ≡ Some t → queue_of w.queues t ≡ Some q) → (q == parked_queue) ≡ false → IsSound hand on n w → IsSound hand on n (moved_to_local w o)
   sound_moved w None q x e apart h = h
   sound_moved w (Some t) q x e apart h =
       let here = h.here (not_timer w.call.callback x) in
-      sound_moving (after_local (after_take w q) w.call.cpu t) _ (kept_local (λ c. c < length on) (IsSound hand on n) (sound_marks hand on n) (after_take w q) w.call.cpu t here (sound_brought hand on n w (Some t) q (local_on w.call.cpu) e (h.queues.locals w.call.cpu here) (omega arith) (local_sort w.call.cpu) apart (ne_eqb (local_on w.call.cpu) parked_queue (λ x. omega (arith, x))) h t refl))
+      sound_moving (after_local (after_leave w t) w.call.cpu t) _ (kept_local (λ c. c < length on) (IsSound hand on n) (sound_marks hand on n) (after_leave w t) w.call.cpu t here (sound_brought hand on n w q (local_on w.call.cpu) t (e t refl) (h.queues.locals w.call.cpu here) (omega arith) (local_sort w.call.cpu) apart (ne_eqb (local_on w.call.cpu) parked_queue (λ x. omega (arith, x))) h))
 
   sound_helper : (w : WorldState) (f : Helper) (a : List Arg) → IsSound hand on n w → IsSound hand on n (helper_after w f a)
   sound_helper w f a h = by_helper (IsSound hand on n) w (record {
@@ -366,7 +400,8 @@ module _ (hand : Option ℕ) (on : List (Option ℕ)) (n : ℕ) where
     kicked = λ c k. kept_kicked_so (λ c. c < length on) (IsSound hand on n) (sound_marks hand on n) w c k h;
     started = λ t ns. sound_timers hand on n w _ h;
     cancelled = λ t. sound_timers hand on n w _ h;
-    moved = λ q here low. sound_moved w (front_of w.queues q) q here refl (ne_eqb q parked_queue (λ x. omega (arith, x, low))) h;
+    drawn = sound_drawn w h;
+    moved = λ q here low. sound_moved w (next_for w q w.call.cpu) q here (λ t e. (next_seen w q w.call.cpu t e).there) (ne_eqb q parked_queue (λ x. omega (arith, x, low))) h;
   }) f a
 
   -- whatever a program asks
@@ -392,7 +427,8 @@ module _ (hand : Option ℕ) (on : List (Option ℕ)) (n : ℕ) where
 pub once_pushed : (w : WorldState) (t q : ℕ) (r : Rank) → t < task_count w.queues → push_refusal w.queues q t r ≡ None → IsOnce (Some t) w → IsOnce None (with_queues w (after_push w.queues q t r))
 once_pushed w t q r within ok once u = omega (arith, once u, standing_pushed w.queues q t u r within ok)
 
-renewed_home : (x : Task) → (with_new_slice x).prev_cpu ≡ x.prev_cpu
+-- nor does a new slice
+pub renewed_home : (x : Task) → (with_new_slice x).prev_cpu ≡ x.prev_cpu
 renewed_home x = keeps_if (λ (y : Task). y.prev_cpu ≡ x.prev_cpu) (x.slice == 0) _ x refl refl
 
 module _ (on : List (Option ℕ)) (n : ℕ) where
@@ -463,15 +499,15 @@ module _ (on : List (Option ℕ)) (n : ℕ) where
 
   -- a local queue that is filled
   pub sound_filled : (w : WorldState) (q c : ℕ) → (q == parked_queue) ≡ false → c < length on → IsSound None on n w → IsSound None on n (after_fill w q c)
-  sound_filled w q c apart l h = go (fill_front w q c) (λ t e. front t (nat_lt 0 (local_len w c)) e)
+  sound_filled w q c apart l h = go (fill_front w q c) (λ t e. first t (nat_lt 0 (local_len w c)) e)
     where
-      front : (t : ℕ) (b : Bool) → (if b then None else front_of w.queues q) ≡ Some t → front_of w.queues q ≡ Some t
-      front t true x = absurd (cc)
-      front t false x = x
+      first : (t : ℕ) (b : Bool) → (if b then None else next_for w q c) ≡ Some t → queue_of w.queues t ≡ Some q
+      first t true x = absurd (cc)
+      first t false x = (next_seen w q c t x).there
 
-      go : (o : Option ℕ) → ((t : ℕ) → o ≡ Some t → front_of w.queues q ≡ Some t) → IsSound None on n (brought o w q c)
+      go : (o : Option ℕ) → ((t : ℕ) → o ≡ Some t → queue_of w.queues t ≡ Some q) → IsSound None on n (brought o w c)
       go None f = h
-      go (Some t) f = kept_local (λ c. c < length on) (IsSound None on n) (sound_marks None on n) (after_take w q) c t l (sound_brought None on n w (Some t) q (local_on c) (f t refl) (h.queues.locals c l) (omega arith) (local_sort c) apart (ne_eqb (local_on c) parked_queue (λ x. omega (arith, x))) h t refl)
+      go (Some t) f = kept_local (λ c. c < length on) (IsSound None on n) (sound_marks None on n) (after_leave w t) c t l (sound_brought None on n w q (local_on c) t (f t refl) (h.queues.locals c l) (omega arith) (local_sort c) apart (ne_eqb (local_on c) parked_queue (λ x. omega (arith, x))) h)
 
   -- a task that is kept
   pub sound_kept : (w : WorldState) (t : ℕ) → IsSound None on n w → IsSound None on n (after_keep w (Some t))
@@ -557,19 +593,6 @@ waits_known s t e = go (cases_lt t (task_count s))
     go : (t < task_count s) ⊎ (task_count s ≤ t) → t < task_count s
     go (inl l) = l
     go (inr past) = absurd (none (get_or_past {X = Option Entry} s.entries t None past) e)
-
--- who was taken out of its queue waits nowhere
-pub removed_place : (s : QueueState) (t : ℕ) → is_some (entry_of s t) ≡ true → t < task_count s → entry_of (after_remove s t) t ≡ None
-removed_place s t waits-here known = rw waits-here (get_or-set_same {A = Option Entry} s.entries t None None known)
-
--- who is in a queue is a task that there is
-pub in_known : (s : QueueState) (q t : ℕ) → is_in q (entry_of s t) ≡ true → (t < task_count s) × (is_some (entry_of s t) ≡ true)
-in_known s q t e = go (cases_lt t (task_count s)) (entry_of s t) refl e
-  where
-    go : (t < task_count s) ⊎ (task_count s ≤ t) → (o : Option Entry) → entry_of s t ≡ o → is_in q o ≡ true → (t < task_count s) × (is_some (entry_of s t) ≡ true)
-    go l None x y = absurd (cc)
-    go (inl l) (Some p) x y = (l, ap is_some x)
-    go (inr past) (Some p) x y = let none : entry_of s t ≡ None = get_or_past {X = Option Entry} s.entries t None past in absurd (cc (sym x ∙ none))
 
 module _ (on : List (Option ℕ)) (n : ℕ) where
   -- who leaves its queue, from wherever in it, runs

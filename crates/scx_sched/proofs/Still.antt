@@ -17,7 +17,7 @@ use Rattle.scx_sched_world.specs.declared.timers.Alarm.{Alarm}
 use Rattle.scx_sched_world.specs.Ids.{parked_queue}
 use Rattle.scx_sched_world.specs.CpuSets.{is_in_set}
 use Rattle.scx_sched_world.specs.World as world
-use Rattle.scx_sched_world.specs.World.{without_kick, WorldState, nothing_passes, with_tree, with_task, with_slept, with_waker, task_at, is_throttled, running, current_in, cpu_of, is_idle, at_callback, quiet, waits, out_of_cycle, note_now}
+use Rattle.scx_sched_world.specs.World.{without_kick, WorldState, nothing_passes, with_tree, with_task, with_slept, with_waker, task_at, is_throttled, running, current_in, cpu_of, is_idle, at_callback, quiet, waits, out_of_cycle, note_now, first_home}
 use Rattle.scx_sched_world.specs.Tasks.{with_home, homed, after_cut_off, after_wake, after_sleep, after_leave, after_enter, for_cpu, let_go, after_tick, used_ms, later, begun_periods, after_own_weight}
 use Rattle.scx_sched_world.specs.Helpers.{alarm_at, due_now, after_fire}
 use Rattle.scx_sched_world.specs.Ejecting.{eject_of, put_out, put_builtin}
@@ -32,14 +32,16 @@ use Rattle.scx_sched_machine.specs.Parking.{park, let_go_one, let_go_from, let_a
 use Rattle.scx_sched_machine.specs.Custody.{is_in_custody, tells_dequeued}
 use Rattle.scx_sched_machine.specs.Cycle.{look, cycling, cycle, builtin_cycle, tells_idle, falls_idle, notes_idle, idle_or_anew, becomes_idle, concluded, ends}
 use Rattle.scx_sched_machine.specs.Firing.{due, fires, fire, fire_below, fire_all}
-use Rattle.scx_sched_machine.specs.Events.{target, insert_or_put, woken, wake_target, comes_to, while_in_force, told_runnable, settle, chosen_by_default, chosen, ask_target, asks_target, select, from_waker, wake, told_of_sleep, falls_asleep, looks_after_sleep, leaves_cpu, sleep_from_cpu, sleep_from, sleep, throttle, ends_slices, expire, use_up, hears_tick, tick_heard, count_down, tick_idle, tick_of, tick, overdue, eject_if_stalled, clock, own_step, event_step, leaves_queue, sleep_from_queue, watch, timers_and_watchdog, restore_flag, change_flags, takes_weight, changes_weight, reweigh_running, reweigh_waiting, reweigh_off_cpu, reweigh_at, reweigh_by_linux, reweigh}
+use Rattle.scx_sched_machine.specs.Events.{target, insert_or_put, woken, wake_target, comes_to, while_in_force, told_runnable, settle, chosen_by_default, chosen, ask_target, asks_target, select, from_waker, wake, told_of_sleep, falls_asleep, looks_after_sleep, leaves_cpu, sleep_from_cpu, sleep_from, sleep, throttle, ends_slices, expire, use_up, hears_tick, tick_heard, count_down, tick_idle, tick_of, tick, overdue, eject_if_stalled, clock, own_step, event_step, leaves_queue, sleep_from_queue, watch, timers_and_watchdog, restore_flag, change_flags, takes_weight, changes_weight, reweigh_running, reweigh_waiting, reweigh_off_cpu, reweigh_at, reweigh_by_linux, reweigh, settle_at_home}
 use Rattle.scx_sched_machine.specs.Rounds.{most_rounds, next_to_look, cut_off_if, look_past, look_from, round, round_then, rounds, with_rounds}
-use Rattle.scx_sched_machine.specs.Start.{first_state}
+use Rattle.scx_sched_machine.specs.Start.{first_state, by_policy}
 use Rattle.scx_sched_machine.proofs.Choices.{keeps_if}
 use Rattle.scx_sched.specs.Current.{AreCurrent}
 use Rattle.scx_sched.proofs.Unchanged.{IsAsBefore, same_entered, same_put_builtin, same_called, eject_sets, IsTidy, tidy_linux, tidy_same, tidy_cycling}
 use Rattle.scx_sched.proofs.Blaming.{same_chosen, honest_park, honest_builtin_cycle, honest_tells_idle, honest_look, honest_leaves_cpu}
 use Rattle.scx_sched.proofs.Begins.{keeps_started}
+use Rattle.scx_sched.proofs.Homes.{keeps_homes}
+use Rattle.scx_sched_world.specs.First.{first_world}
 
 abbrev pub IsStill : WorldState → Type 0
 IsStill w = (w.cycling ≡ None) × (w.passing ≡ nothing_passes)
@@ -265,12 +267,13 @@ waking s t h = go (is_by_linux s) refl
     go false plain = (h.0, ap (λ (p : Passing). record p { waker = None }) h.1, still_tidy s.world h)
 
 still_wake : (s : State) (t : ℕ) → IsStill s.world → IsStill (wake s t).state.world
-unfolding wake select
+unfolding wake select settle_at_home
 still_wake s t h =
     let v = from_waker (with_world s (after_wake s.world t)) t in
     let x = waking (with_world s (after_wake s.world t)) t h in
-    let u = with_world v (at_callback v.world callback.SelectCpu t 0) in
-    keeps_if (λ (r : Stepped). IsStill r.state.world) (asks_target v) (ask_target v t) (settle u t 0) (still_ask_target v t x) (still_settle u t 0 (waking_steady.same v.world u.world (refl, refl, refl, refl) x))
+    let c = first_home v.world t in
+    let u = with_world v (at_callback v.world callback.SelectCpu t c) in
+    keeps_if (λ (r : Stepped). IsStill r.state.world) (asks_target v t) (ask_target v t) (settle_at_home v t c) (still_ask_target v t x) (still_settle u t c (waking_steady.same v.world u.world (refl, refl, refl, refl) x))
 
 -- that dispatch is to be told of a task, by Linux rules
 tidy_told : (s : State) (t : ℕ) → IsTidy s.world → IsTidy (told_of_sleep s t).world
@@ -420,7 +423,7 @@ still_step s v h = still_with_rounds (own_step s v) (still_own s v h)
 
 -- and before the first
 pub still_first : (p : PolicyState) (h : Hierarchy) (cpus : ℕ) (t : State) → first_state p h cpus ≡ Ok t → IsStill t.world
-still_first p h cpus t e = keeps_started cpus (λ s. IsStill s.world) (λ s b a u c any still. steady_left IsStill still_steady s b a u c still) (λ s still. still) p h t e (refl, refl)
+still_first p h cpus t e = keeps_started cpus (λ s. IsStill s.world) (λ s b a u c any still. steady_left IsStill still_steady s b a u c still) (λ s still. still) p h t e (keeps_homes IsStill (λ v u c l still. still) (begun_periods (by_policy p (first_world h cpus))) (refl, refl))
 
 -- then the current task of each processor is the one that runs there
 pub are_current : (w : WorldState) → w.passing ≡ nothing_passes → AreCurrent w

@@ -27,8 +27,8 @@ use Rattle.scx_sched_world.specs.declared.faults.Fault.{Fault}
 use Rattle.scx_sched_world.specs.First.{first_queues, first_world}
 use Rattle.scx_sched_world.specs.Ids.{builtin_queue, parked_queue, local_on}
 use Rattle.scx_sched_world.specs.World.{WorldState, with_queues, with_tree, with_task, task_at, waits, is_this, running}
-use Rattle.scx_sched_world.specs.Tasks.{with_home, rank_by, after_take, after_run, with_since, with_slice, with_builtin, task_after_insert, after_leave, after_enter, for_cpu, brought, fill_front, on_cpu, started_at, with_new_slice, put_parked, let_go, tick_ns, ran_a_tick, after_tick, used_ms, begun_periods}
-use Rattle.scx_sched_world.specs.Helpers.{is_dispatch, with_insert, after_release, insert_or_fault, front_moved_to_local, helper_after, stored_in, world_functions}
+use Rattle.scx_sched_world.specs.Tasks.{with_home, rank_by, after_run, with_since, with_slice, with_builtin, task_after_insert, after_leave, after_enter, for_cpu, brought, fill_front, on_cpu, started_at, with_new_slice, put_parked, let_go, tick_ns, ran_a_tick, after_tick, used_ms, begun_periods, next_for}
+use Rattle.scx_sched_world.specs.Helpers.{is_dispatch, with_insert, after_release, insert_or_fault, moved_to_local, helper_after, stored_in, world_functions}
 use Rattle.scx_sched_world.specs.Ejecting.{builtin_vtime, put_builtin}
 use Rattle.scx_sched_machine.specs.declared.events.Event.{Event}
 use Rattle.scx_sched_machine.specs.declared.events.Event.TheVariants.{Wake, Sleep, Clock, SetWeight, SetTaskWeight}
@@ -150,17 +150,17 @@ module _ (n : ℕ) (ran : ℕ → ℕ) where
   tally_inserted w None t i h = keeps_if (IsTallied n ran) (is_dispatch w.call.callback) (after_release w t (for_cpu w.call.cpu i)) (with_insert w i) (tally_released w t (for_cpu w.call.cpu i) h) h
   tally_inserted w (Some f) t i h = h
 
-  -- the front of a queue comes to another
-  tally_between : (w : WorldState) (q r t : ℕ) → IsTallied n ran w → IsTallied n ran (with_queues w (after_push (after_pop w.queues q) r t Fifo))
-  tally_between w q r t h = tally_queues w (after_push (after_pop w.queues q) r t Fifo) (home_pushed (after_pop w.queues q) r t Fifo (home_popped w.queues q h.2)) h
+  -- a task goes from its queue to another
+  tally_between : (w : WorldState) (r t : ℕ) → IsTallied n ran w → IsTallied n ran (with_queues w (after_push (after_remove w.queues t) r t Fifo))
+  tally_between w r t h = tally_queues w (after_push (after_remove w.queues t) r t Fifo) (home_pushed (after_remove w.queues t) r t Fifo (home_removed w.queues t h.2)) h
 
-  tally_moved : (w : WorldState) (o : Option ℕ) (q : ℕ) → IsTallied n ran w → IsTallied n ran (front_moved_to_local w o q)
-  tally_moved w None q h = h
-  tally_moved w (Some t) q h = let x = kept_local Anywhere (IsTallied n ran) tally_marks (after_take w q) w.call.cpu t tt (tally_between w q (local_on w.call.cpu) t h) in (x.0, x.1, x.2)
+  tally_moved : (w : WorldState) (o : Option ℕ) → IsTallied n ran w → IsTallied n ran (moved_to_local w o)
+  tally_moved w None h = h
+  tally_moved w (Some t) h = let x = kept_local Anywhere (IsTallied n ran) tally_marks (after_leave w t) w.call.cpu t tt (tally_between w (local_on w.call.cpu) t h) in (x.0, x.1, x.2)
 
-  tally_brought : (o : Option ℕ) (w : WorldState) (q c : ℕ) → IsTallied n ran w → IsTallied n ran (brought o w q c)
-  tally_brought None w q c h = h
-  tally_brought (Some t) w q c h = kept_local Anywhere (IsTallied n ran) tally_marks (after_take w q) c t tt (tally_between w q (local_on c) t h)
+  tally_brought : (o : Option ℕ) (w : WorldState) (c : ℕ) → IsTallied n ran w → IsTallied n ran (brought o w c)
+  tally_brought None w c h = h
+  tally_brought (Some t) w c h = kept_local Anywhere (IsTallied n ran) tally_marks (after_leave w t) c t tt (tally_between w (local_on c) t h)
 
   tally_helper : (w : WorldState) (f : Helper) (a : List Arg) → IsTallied n ran w → IsTallied n ran (helper_after w f a)
   tally_helper w f a h = by_helper (IsTallied n ran) w (record {
@@ -174,7 +174,8 @@ module _ (n : ℕ) (ran : ℕ → ℕ) where
     kicked = λ c k. kept_kicked_so Anywhere (IsTallied n ran) tally_marks w c k h;
     started = λ t ns. h;
     cancelled = λ t. h;
-    moved = λ q here low. tally_moved w (front_of w.queues q) q h;
+    drawn = h;
+    moved = λ q here low. tally_moved w (next_for w q w.call.cpu) h;
   }) f a
 
   tally_query : (w : WorldState) (q : Query) → IsTallied n ran w → IsTallied n ran (after_query world_functions w q)
@@ -213,16 +214,16 @@ tally_steps n ran = record {
   cancelled = λ m hand on w t h. h;
   cycling = λ m hand on w o h. kept_cycling (IsTallied n ran) (λ v p a x r. r) w o h;
   sets = λ m hand on w a b c d o h. h;
-  homed = λ m hand on w t c l h. tally_set n ran w t _ refl h;
+  homed = λ m hand on w t c l may h. tally_set n ran w t _ refl h;
   sliced = λ m hand on w t k h. tally_set n ran w t _ refl h;
-  wants = λ m hand on w c l calm h. h;
-  entered = λ m on w t i l x h. tally_entered n ran w t i h;
-  filled = λ m on w q c apart l h. tally_brought n ran (fill_front w q c) w q c h;
+  wants = λ m hand on w c l calm may h. h;
+  entered = λ m on w t i l x may h. tally_entered n ran w t i h;
+  filled = λ m on w q c apart l h. tally_brought n ran (fill_front w q c) w c h;
   stopped = λ m on w c t l within runs h. tally_set n ran w t _ refl h;
   started = λ m on w c t l free front may h. tally_started n ran w c t h;
   ran = λ m on w c t l free here may h. tally_ran n ran w c t h;
   put_parked = λ m on w t l may-not h. tally_put_parked n ran w t h;
-  taken = λ m on w q t apart front h. (h.0, h.1, home_popped w.queues q h.2);
+  left = λ m on w q t apart there h. tally_gone n ran w t h;
   kept = λ m on w t h. tally_set n ran w t (with_new_slice (task_at w t)) (renewed_run (task_at w t)) h;
   asleep = λ m on w t l h. keeps_if (IsTallied n ran) (nat_lt t (length w.tasks)) _ w (tally_set n ran w t _ refl h) h;
   put_out = λ m hand on w x h. h;
@@ -243,6 +244,7 @@ tallied_events : (n e : ℕ) (ran : ℕ → ℕ) → IsKeptByEvents n (IsRightAn
 tallied_events n e ran = record {
   steps = both_steps n (IsFine n e) (λ m hand on w. IsTallied n ran w) (fine_steps n e) (tally_steps n ran);
   sound = λ m hand on w h. h.one.sound;
+  allowed = λ m hand on w h. h.one.allowed;
   woken = λ m on w t within resting h. record { one = (fine_events n e).woken m on w t within resting h.one; two = tally_set n ran w t _ refl h.two };
   let_go = λ m on w t within there h. record { one = (fine_events n e).let_go m on w t within there h.one; two = tally_let_go n ran w t h.two };
   left = λ m on w t within runnable off h. record { one = (fine_events n e).left m on w t within runnable off h.one; two = (tally_steps n ran).asleep m on (after_leave w t) t within (tally_gone n ran w t h.two) };
@@ -341,5 +343,5 @@ queues_first p tree cpus t shape e =
     let w = begun_periods (by_policy p (first_world tree cpus)) in
     let ran : ℕ → ℕ = λ u. (task_at w u).run_ns in
     let none : AreHome (first_queues cpus n) = λ u. ap (λ o. is_home (first_queues cpus n).ids o) (nowhere cpus n u) in
-    let h = steps_started (λ m hand on v. IsTallied n ran v) p tree cpus t (tally_steps n ran) shape e (length-replicate n new_task, (λ u. refl), none) in
+    let h = steps_started (λ m hand on v. IsTallied n ran v) p tree cpus t (tally_steps n ran) (λ v u c x. tally_set n ran v u _ refl x) shape e (length-replicate n new_task, (λ u. refl), none) in
     in_queues t.world h.2

@@ -5,7 +5,6 @@ use Rattle.std.proofs.lemmas.Bool.Decides.{nat_tests}
 use Rattle.std.specs.List.{position, position_or_len}
 use Rattle.std.proofs.lemmas.List.Sums.{fails_before_first}
 use Rattle.std.proofs.lemmas.List.{length-set, get_or-set_same, get_or-set_other, get_or_past, set_past}
-use Rattle.scx_dsq.specs.Queues.{front_of}
 use Rattle.scx_isa_semantics.specs.declared.host_tables.Helper.{Helper}
 use Rattle.scx_isa_semantics.specs.Effects.{Query, Call, Load, Store}
 use Rattle.scx_vm.specs.Arguments.{argument_of}
@@ -17,8 +16,8 @@ use Rattle.scx_sched_tasks.specs.declared.task.Task.{Task}
 use Rattle.scx_sched_tasks.specs.Tasks.{no_task}
 use Rattle.scx_sched_tasks.specs.Waits.{time_since, is_late, is_overdue}
 use Rattle.scx_sched_world.specs.World.{WorldState, with_task, task_at, waits, wait}
-use Rattle.scx_sched_world.specs.Tasks.{with_home, with_slice, after_take, after_wake, after_stop, let_go, ran_a_tick, after_tick, task_after_insert, after_leave, after_enter, for_cpu, brought, fill_front, with_new_slice}
-use Rattle.scx_sched_world.specs.Helpers.{is_dispatch, with_insert, after_release, insert_or_fault, front_moved_to_local, helper_after, stored_in, world_functions}
+use Rattle.scx_sched_world.specs.Tasks.{with_home, with_slice, after_wake, after_stop, let_go, ran_a_tick, after_tick, task_after_insert, after_leave, after_enter, for_cpu, brought, fill_front, with_new_slice, next_for}
+use Rattle.scx_sched_world.specs.Helpers.{is_dispatch, with_insert, after_release, insert_or_fault, moved_to_local, helper_after, stored_in, world_functions}
 use Rattle.scx_sched_world.specs.Waits.{first_overdue}
 use Rattle.scx_sched_world.specs.Ejecting.{put_builtin}
 use Rattle.scx_sched_machine.proofs.Choices.{keeps_if}
@@ -52,7 +51,8 @@ module _ (limit n : ℕ) where
       go force u (inr d) l = rw (get_or-set_other w.tasks t u x no_task d) (old force u)
 
   -- a wait that goes on
-  time_same : (w : WorldState) (t : ℕ) (x : Task) → x.since ≡ (task_at w t).since → AreInTime limit n w → AreInTime limit n (with_task w t x)
+  -- another record of a task, which waits as long
+  pub time_same : (w : WorldState) (t : ℕ) (x : Task) → x.since ≡ (task_at w t).since → AreInTime limit n w → AreInTime limit n (with_task w t x)
   time_same w t x same h = time_set w t x (λ force. rw same (h.1 force t)) h
 
   -- as the processor of a task, its slice and sets of processors change, waits go on
@@ -77,13 +77,13 @@ module _ (limit n : ℕ) where
   time_inserted w None t i h = keeps_if (AreInTime limit n) (is_dispatch w.call.callback) (after_release w t (for_cpu w.call.cpu i)) (with_insert w i) (time_released w t (for_cpu w.call.cpu i) h) h
   time_inserted w (Some f) t i h = h
 
-  time_moved : (w : WorldState) (o : Option ℕ) (q : ℕ) → AreInTime limit n w → AreInTime limit n (front_moved_to_local w o q)
-  time_moved w None q h = h
-  time_moved w (Some t) q h = let x = kept_local Anywhere (AreInTime limit n) time_marks (after_take w q) w.call.cpu t tt h in (x.0, x.1)
+  time_moved : (w : WorldState) (o : Option ℕ) → AreInTime limit n w → AreInTime limit n (moved_to_local w o)
+  time_moved w None h = h
+  time_moved w (Some t) h = let x = kept_local Anywhere (AreInTime limit n) time_marks (after_leave w t) w.call.cpu t tt h in (x.0, x.1)
 
-  time_brought : (o : Option ℕ) (w : WorldState) (q c : ℕ) → AreInTime limit n w → AreInTime limit n (brought o w q c)
-  time_brought None w q c h = h
-  time_brought (Some t) w q c h = kept_local Anywhere (AreInTime limit n) time_marks (after_take w q) c t tt h
+  time_brought : (o : Option ℕ) (w : WorldState) (c : ℕ) → AreInTime limit n w → AreInTime limit n (brought o w c)
+  time_brought None w c h = h
+  time_brought (Some t) w c h = kept_local Anywhere (AreInTime limit n) time_marks (after_leave w t) c t tt h
 
   time_helper : (w : WorldState) (f : Helper) (a : List Arg) → AreInTime limit n w → AreInTime limit n (helper_after w f a)
   time_helper w f a h = by_helper (AreInTime limit n) w (record {
@@ -97,7 +97,8 @@ module _ (limit n : ℕ) where
     kicked = λ c k. kept_kicked_so Anywhere (AreInTime limit n) time_marks w c k h;
     started = λ t ns. h;
     cancelled = λ t. h;
-    moved = λ q here low. time_moved w (front_of w.queues q) q h;
+    drawn = h;
+    moved = λ q here low. time_moved w (next_for w q w.call.cpu) h;
   }) f a
 
   time_query : (w : WorldState) (q : Query) → AreInTime limit n w → AreInTime limit n (after_query world_functions w q)
@@ -136,16 +137,16 @@ time_steps limit n = record {
   cancelled = λ m hand on w t h. h;
   cycling = λ m hand on w o h. kept_cycling (AreInTime limit n) (λ v p a x r. r) w o h;
   sets = λ m hand on w a b c d o h. h;
-  homed = λ m hand on w t c l h. time_same limit n w t _ refl h;
+  homed = λ m hand on w t c l may h. time_same limit n w t _ refl h;
   sliced = λ m hand on w t k h. time_same limit n w t _ refl h;
-  wants = λ m hand on w c l calm h. h;
-  entered = λ m on w t i l x h. time_entered limit n w t i h;
-  filled = λ m on w q c apart l h. time_brought limit n (fill_front w q c) w q c h;
+  wants = λ m hand on w c l calm may h. h;
+  entered = λ m on w t i l x may h. time_entered limit n w t i h;
+  filled = λ m on w q c apart l h. time_brought limit n (fill_front w q c) w c h;
   stopped = λ m on w c t l within runs h. time_set limit n w t _ (λ force. now_since w.clock limit) h;
   started = λ m on w c t l free front may h. time_set limit n w t _ (λ force. none_since w.clock limit) h;
   ran = λ m on w c t l free here may h. time_set limit n w t _ (λ force. none_since w.clock limit) h;
   put_parked = λ m on w t l may-not h. keeps_if (AreInTime limit n) (nat_lt t (length w.tasks)) _ w (time_set limit n w t _ (λ force. none_since w.clock limit) h) h;
-  taken = λ m on w q t apart front h. h;
+  left = λ m on w q t apart there h. h;
   kept = λ m on w t h. time_same limit n w t (with_new_slice (task_at w t)) (renewed_since (task_at w t)) h;
   asleep = λ m on w t l h. keeps_if (AreInTime limit n) (nat_lt t (length w.tasks)) _ w (time_set limit n w t _ (λ force. none_since w.clock limit) h) h;
   put_out = λ m hand on w x h. (h.0, λ force. absurd (cc));

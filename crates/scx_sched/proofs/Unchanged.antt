@@ -1,7 +1,6 @@
 -- What no query of a program changes: the clock, whether the policy is in force, the cycle under way, the tree of
 -- weights with who is runnable in it, the rules, and what an event by Linux rules keeps until it ends.
 use Rattle.std.proofs.Common.{◌≡◌, ℕ, zero, suc, Bool, true, false, ◌&&◌, if◌then◌else◌, nat_lt, List, length, map, Option, Some, None, is_none, refl, sym, ap, ◌∙◌}
-use Rattle.scx_dsq.specs.Queues.{front_of}
 use Rattle.scx_isa_semantics.specs.declared.callbacks.Callback.{Callback}
 use Rattle.scx_isa_semantics.specs.declared.host_tables.Helper.{Helper}
 use Rattle.scx_isa_semantics.specs.Code.{instruction_count}
@@ -19,9 +18,9 @@ use Rattle.scx_sched_world.specs.declared.call.Insert.{Insert}
 use Rattle.scx_sched_world.specs.declared.faults.Fault.{Fault}
 use Rattle.scx_sched_world.specs.declared.eject.Eject.{Eject}
 use Rattle.scx_sched_world.specs.World.{WorldState, nothing_passes, are_linux, is_by_linux, with_cycling, cycling_by_linux, switch_at, with_switch, waits, running}
-use Rattle.scx_sched_world.specs.Tasks.{after_take, after_leave, after_enter, for_cpu, brought, after_keep, put_parked}
+use Rattle.scx_sched_world.specs.Tasks.{after_leave, after_enter, for_cpu, brought, after_keep, put_parked, next_for}
 use Rattle.scx_sched_world.specs.Ejecting.{put_out, put_builtin, after_evictions, after_cut, cut_task}
-use Rattle.scx_sched_world.specs.Helpers.{is_dispatch, with_insert, after_release, insert_or_fault, front_moved_to_local, helper_after, world_functions}
+use Rattle.scx_sched_world.specs.Helpers.{is_dispatch, with_insert, after_release, insert_or_fault, moved_to_local, helper_after, world_functions}
 use Rattle.scx_sched_machine.specs.Steps.{State}
 use Rattle.scx_sched_machine.specs.Callbacks.{call_ending}
 use Rattle.scx_sched_machine.specs.Ejecting.{moves_over, eject}
@@ -49,9 +48,9 @@ module _ (v : WorldState) where
   same_inserted w None t i h = keeps_if (IsAsBefore v) (is_dispatch w.call.callback) (after_release w t (for_cpu w.call.cpu i)) (with_insert w i) (same_released w t (for_cpu w.call.cpu i) h) h
   same_inserted w (Some f) t i h = h
 
-  same_moved : (w : WorldState) (o : Option ℕ) (q : ℕ) → IsAsBefore v w → IsAsBefore v (front_moved_to_local w o q)
-  same_moved w None q h = h
-  same_moved w (Some t) q h = kept_local Anywhere (IsAsBefore v) same_marks (after_take w q) w.call.cpu t tt h
+  same_moved : (w : WorldState) (o : Option ℕ) → IsAsBefore v w → IsAsBefore v (moved_to_local w o)
+  same_moved w None h = h
+  same_moved w (Some t) h = kept_local Anywhere (IsAsBefore v) same_marks (after_leave w t) w.call.cpu t tt h
 
   same_helper : (w : WorldState) (f : Helper) (a : List Arg) → IsAsBefore v w → IsAsBefore v (helper_after w f a)
   same_helper w f a h = by_helper (IsAsBefore v) w (record {
@@ -65,7 +64,8 @@ module _ (v : WorldState) where
     kicked = λ c k. kept_kicked_so Anywhere (IsAsBefore v) same_marks w c k h;
     started = λ t ns. h;
     cancelled = λ t. h;
-    moved = λ q here low. same_moved w (front_of w.queues q) q h;
+    drawn = h;
+    moved = λ q here low. same_moved w (next_for w q w.call.cpu) h;
   }) f a
 
   same_query : (w : WorldState) (q : Query) → IsAsBefore v w → IsAsBefore v (after_query world_functions w q)
@@ -114,9 +114,9 @@ eject_sets s x =
 -- ---- other small steps
 
 -- as a front goes to a local queue, clock, ejection, cycle, tree and rules stay as they are
-pub same_brought : (o : Option ℕ) (w : WorldState) (q c : ℕ) → IsAsBefore w (brought o w q c)
-same_brought None w q c = (refl, refl, refl, refl, refl, refl)
-same_brought (Some t) w q c = kept_local Anywhere (IsAsBefore w) (same_marks w) (after_take w q) c t tt (refl, refl, refl, refl, refl, refl)
+pub same_brought : (o : Option ℕ) (w : WorldState) (c : ℕ) → IsAsBefore w (brought o w c)
+same_brought None w c = (refl, refl, refl, refl, refl, refl)
+same_brought (Some t) w c = kept_local Anywhere (IsAsBefore w) (same_marks w) (after_leave w t) c t tt (refl, refl, refl, refl, refl, refl)
 
 -- as a task keeps its processor, clock, ejection, cycle, tree and rules stay as they are
 pub same_kept : (w : WorldState) (o : Option ℕ) → IsAsBefore w (after_keep w o)

@@ -1,7 +1,6 @@
 -- No policy is put out of force for being stuck: each callback comes to an answer, and no helper call has that fault.
 use Rattle.std.proofs.Common.{◌≡◌, ℕ, suc, List, length, map, Option, Some, None, refl, sym, ap, ◌∙◌, subst}
 use Rattle.std.specs.Int.{w64, cast_signed}
-use Rattle.scx_dsq.specs.Queues.{front_of}
 use Rattle.scx_isa_semantics.specs.declared.callbacks.Callback.{Callback}
 use Rattle.scx_isa_semantics.specs.declared.host_tables.Helper.{Helper}
 use Rattle.scx_isa_semantics.specs.Code.{instruction_count}
@@ -24,8 +23,8 @@ use Rattle.scx_sched_world.specs.declared.faults.Fault.{Fault}
 use Rattle.scx_sched_world.specs.declared.faults.Fault.TheVariants.{Stuck}
 use Rattle.scx_sched_world.specs.World.{WorldState}
 use Rattle.scx_sched_world.specs.Ejecting.{eject_of}
-use Rattle.scx_sched_world.specs.Tasks.{after_take, after_leave, after_enter, for_cpu, later, begun_periods}
-use Rattle.scx_sched_world.specs.Helpers.{first_cause, with_cause, is_dispatch, with_insert, after_release, insert_or_fault, front_moved_to_local, helper_after, world_functions}
+use Rattle.scx_sched_world.specs.Tasks.{after_leave, after_enter, for_cpu, later, begun_periods, next_for}
+use Rattle.scx_sched_world.specs.Helpers.{first_cause, with_cause, is_dispatch, with_insert, after_release, insert_or_fault, moved_to_local, helper_after, world_functions}
 use Rattle.scx_sched_machine.specs.declared.events.Event.{Event}
 use Rattle.scx_sched_machine.specs.declared.events.Event.TheVariants.{Wake, Sleep, Tick, Clock, SetWeight, SetTaskWeight}
 use Rattle.scx_sched_machine.specs.Steps.{State, Stepped, CallMade, with_world, stays, one_after_other}
@@ -82,9 +81,9 @@ unstuck_inserted : (w : WorldState) (o : Option Fault) (t : Option ℕ) (i : Ins
 unstuck_inserted w None t i other h = keeps_if IsUnstuck (is_dispatch w.call.callback) (after_release w t (for_cpu w.call.cpu i)) (with_insert w i) (unstuck_released w t (for_cpu w.call.cpu i) h) h
 unstuck_inserted w (Some f) t i other h = unstuck_caused w (reason.Fault f) (other_fault f other) h
 
-unstuck_moved : (w : WorldState) (o : Option ℕ) (q : ℕ) → IsUnstuck w → IsUnstuck (front_moved_to_local w o q)
-unstuck_moved w None q h = h
-unstuck_moved w (Some t) q h = kept_local Anywhere IsUnstuck unstuck_marks (after_take w q) w.call.cpu t tt h
+unstuck_moved : (w : WorldState) (o : Option ℕ) → IsUnstuck w → IsUnstuck (moved_to_local w o)
+unstuck_moved w None h = h
+unstuck_moved w (Some t) h = kept_local Anywhere IsUnstuck unstuck_marks (after_leave w t) w.call.cpu t tt h
 
 unstuck_helper : (w : WorldState) (f : Helper) (a : List Arg) → IsUnstuck w → IsUnstuck (helper_after w f a)
 unstuck_helper w f a h = by_helper IsUnstuck w (record {
@@ -98,7 +97,8 @@ unstuck_helper w f a h = by_helper IsUnstuck w (record {
   kicked = λ c k. kept_kicked_so Anywhere IsUnstuck unstuck_marks w c k h;
   started = λ t ns. h;
   cancelled = λ t. h;
-  moved = λ q here low. unstuck_moved w (front_of w.queues q) q h;
+  drawn = h;
+  moved = λ q here low. unstuck_moved w (next_for w q w.call.cpu) h;
 }) f a
 
 unstuck_query : (w : WorldState) (q : Query) → IsUnstuck w → IsUnstuck (after_query world_functions w q)

@@ -26,9 +26,14 @@ use Rattle.scx_sched.proofs.Watching.{time_step}
 use Rattle.scx_sched.proofs.Tallies.{queues_first, queues_there}
 use Rattle.scx_sched.proofs.Still.{still_step, still_first, are_current}
 use Rattle.scx_sched.proofs.Alarms.{timers_step, timers_first}
+use Rattle.scx_sched.specs.Allowed.{AreAllowed, IsAllowedIn}
+use Rattle.scx_sched.proofs.Allowing.{allowed_now}
 
 fine_with : (n e : ℕ) (w : WorldState) → IsFine n e e None w.cpus w → IsFine (length w.tasks) e e None w.cpus w
 fine_with n e w h = subst (λ k. IsFine k e e None w.cpus w) (sym h.sound.tasks) h
+
+allowed_at : (n e : ℕ) (w : WorldState) → IsFine n e e None w.cpus w → AreAllowed w
+allowed_at n e w h = allowed_now w (subst (λ k. IsAllowedIn w.cpus k w) (sym h.sound.tasks) h.allowed)
 
 -- at first
 pub valid_first : (p : PolicyState) (tree : Hierarchy) (cpus : ℕ) (t : State) → is_bad_shape tree cpus ≡ false → length tree.active ≡ length tree.homes → IsTimeout p.timeout_ms → AreAs p.callbacks → first_state p tree cpus ≡ Ok t → t.world.queues.pushes ≤ start_pushes → IsValid t 0
@@ -45,6 +50,7 @@ valid_first p tree cpus t shape flags timeout programs e few =
       programs = subst (λ (q : PolicyState). AreAs q.callbacks) (sym (policy_started p tree cpus t e)) programs;
       timely = time_started t.policy.timeout_ms p tree cpus t shape e;
       timers = timers_first p tree cpus t shape e;
+      allowed = allowed_at (length tree.homes) 0 t.world (subst (λ on. IsFine (length tree.homes) 0 0 None on t.world) (sym h.sound.cpus) h);
       unstuck = λ n out. absurd (apart t.world.ejected (cause.Fault Stuck n) (force_started p tree cpus t e) out);
       there = queues_first p tree cpus t shape e;
       fine = fine_with (length tree.homes) 0 t.world (subst (λ on. IsFine (length tree.homes) 0 0 None on t.world) (sym h.sound.cpus) h);
@@ -67,6 +73,7 @@ valid_step s n v e h answered few =
       timeout = subst (λ (q : PolicyState). IsTimeout q.timeout_ms) (sym same) h.timeout;
       programs = subst (λ (q : PolicyState). AreAs q.callbacks) (sym same) h.programs;
       timers = timers_step (length s.world.tasks) n s v refl a.taken h.fine h.timers;
+      allowed = allowed_at (length s.world.tasks) (n + 1) t.world (fine_step (length s.world.tasks) n s v refl a.taken h.fine);
       unstuck = unstuck_step s n v a.taken h.fine answered h.unstuck;
       there = queues_there n s v a.taken h.fine h.there;
       timely = subst (λ (q : PolicyState). IsInTime q.timeout_ms t.world) (sym same) time;

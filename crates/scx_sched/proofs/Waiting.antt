@@ -2,7 +2,7 @@
 use Rattle.std.proofs.Common.{◌≡◌, ℕ, ◌+◌, ◌<◌, ◌≤◌, Bool, true, false, ◌==◌, ◌&&◌, ◌||◌, ◌⊎◌, inl, inr, List, length, set, get_or, Option, Some, None, is_some, is_none, option_map, not, if◌then◌else◌, refl, sym, ap, ◌∙◌, arith}
 use Rattle.std.proofs.lemmas.Bool.{cases_eq, cases_lt, eq-eqb, ne_eqb}
 use Rattle.std.proofs.lemmas.List.{get_or-set_same, get_or-set_other, set_past}
-use Rattle.scx_dsq.specs.Queues.{QueueState, task_count, entry_of, queue_of, front_of}
+use Rattle.scx_dsq.specs.Queues.{QueueState, task_count, entry_of, queue_of}
 use Rattle.scx_dsq.specs.Calls.{push_refusal, next_entry, with_task as with_place, without_task, after_push, after_remove}
 use Rattle.scx_dsq.specs.declared.entries.Entry.{Entry}
 use Rattle.scx_dsq.specs.Laws.{one_if, standing}
@@ -13,7 +13,6 @@ use Rattle.scx_isa_semantics.specs.declared.host_tables.Field.TheVariants.{Pid, 
 use Rattle.scx_sched_tasks.specs.declared.task.Task.{Task}
 use Rattle.scx_sched_tasks.specs.Tasks.{no_task}
 use Rattle.scx_sched_world.specs.declared.call.Insert.{Insert}
-use Rattle.scx_sched_world.proofs.Fronts.{front_in}
 use Rattle.scx_sched_world.specs.Ids.{parked_queue}
 use Rattle.scx_sched_world.specs.World.{WorldState, waits_in, with_queues, with_task, task_at, waits, is_this, is_runnable}
 use Rattle.scx_sched_world.specs.Tasks.{given_slice, given_vtime, task_after_insert, with_new_slice}
@@ -121,9 +120,9 @@ waiting_left s s' t u one gone others = go (cases_eq u t)
     go (inl e) = rw (e, eq-eqb t t refl) (omega (arith, none, one))
     go (inr d) = omega (arith, same_waiting s s' u (others u d), ap one_if (ne_eqb u t d))
 
--- the front of a queue waits, if it isn't that of parked tasks
-pub front_waits_here : (s : QueueState) (q t : ℕ) → front_of s q ≡ Some t → (q == parked_queue) ≡ false → waiting s t ≡ 1
-front_waits_here s q t e apart = ap (λ (o : Option ℕ). one_if (waits_in o)) (front_in s q t e) ∙ ap (λ b. one_if (not b)) apart
+-- a task of a queue waits, if that isn't the queue of parked tasks
+pub place_waits_here : (s : QueueState) (q t : ℕ) → queue_of s t ≡ Some q → (q == parked_queue) ≡ false → waiting s t ≡ 1
+place_waits_here s q t e apart = ap (λ (o : Option ℕ). one_if (waits_in o)) e ∙ ap (λ b. one_if (not b)) apart
 
 -- ---- the wait of one task
 

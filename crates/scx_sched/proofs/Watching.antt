@@ -42,16 +42,16 @@ both_steps n I J a b = record {
   cancelled = λ m hand on w t h. record { one = a.cancelled m hand on w t h.one; two = b.cancelled m hand on w t h.two };
   cycling = λ m hand on w o h. record { one = a.cycling m hand on w o h.one; two = b.cycling m hand on w o h.two };
   sets = λ m hand on w c x y z o h. record { one = a.sets m hand on w c x y z o h.one; two = b.sets m hand on w c x y z o h.two };
-  homed = λ m hand on w t c l h. record { one = a.homed m hand on w t c l h.one; two = b.homed m hand on w t c l h.two };
+  homed = λ m hand on w t c l may h. record { one = a.homed m hand on w t c l may h.one; two = b.homed m hand on w t c l may h.two };
   sliced = λ m hand on w t k h. record { one = a.sliced m hand on w t k h.one; two = b.sliced m hand on w t k h.two };
-  wants = λ m hand on w c l calm h. record { one = a.wants m hand on w c l calm h.one; two = b.wants m hand on w c l calm h.two };
-  entered = λ m on w t i l x h. record { one = a.entered m on w t i l x h.one; two = b.entered m on w t i l x h.two };
+  wants = λ m hand on w c l calm may h. record { one = a.wants m hand on w c l calm may h.one; two = b.wants m hand on w c l calm may h.two };
+  entered = λ m on w t i l x may h. record { one = a.entered m on w t i l x may h.one; two = b.entered m on w t i l x may h.two };
   filled = λ m on w q c apart l h. record { one = a.filled m on w q c apart l h.one; two = b.filled m on w q c apart l h.two };
   stopped = λ m on w c t l within runs h. record { one = a.stopped m on w c t l within runs h.one; two = b.stopped m on w c t l within runs h.two };
   started = λ m on w c t l free front may h. record { one = a.started m on w c t l free front may h.one; two = b.started m on w c t l free front may h.two };
   ran = λ m on w c t l free here may h. record { one = a.ran m on w c t l free here may h.one; two = b.ran m on w c t l free here may h.two };
   put_parked = λ m on w t l may-not h. record { one = a.put_parked m on w t l may-not h.one; two = b.put_parked m on w t l may-not h.two };
-  taken = λ m on w q t apart front h. record { one = a.taken m on w q t apart front h.one; two = b.taken m on w q t apart front h.two };
+  left = λ m on w q t apart there h. record { one = a.left m on w q t apart there h.one; two = b.left m on w q t apart there h.two };
   kept = λ m on w t h. record { one = a.kept m on w t h.one; two = b.kept m on w t h.two };
   asleep = λ m on w t l h. record { one = a.asleep m on w t l h.one; two = b.asleep m on w t l h.two };
   put_out = λ m hand on w x h. record { one = a.put_out m hand on w x h.one; two = b.put_out m hand on w x h.two };
@@ -70,6 +70,7 @@ watched_events : (limit n e : ℕ) → IsKeptByEvents n (IsWatched limit n e)
 watched_events limit n e = record {
   steps = both_steps n (IsFine n e) (λ m hand on w. AreInTime limit n w) (fine_steps n e) (time_steps limit n);
   sound = λ m hand on w h. h.one.sound;
+  allowed = λ m hand on w h. h.one.allowed;
   woken = λ m on w t within resting h. record { one = (fine_events n e).woken m on w t within resting h.one; two = time_woken limit n w t h.two };
   let_go = λ m on w t within there h. record { one = (fine_events n e).let_go m on w t within there h.one; two = time_let_go limit n w t h.two };
   left = λ m on w t within runnable off h. record { one = (fine_events n e).left m on w t within runnable off h.one; two = (time_steps limit n).asleep m on (after_leave w t) t within h.two };

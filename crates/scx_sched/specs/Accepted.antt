@@ -1,8 +1,8 @@
 -- No push of the machine is refused: in a world that is as it should be each queue takes the task
 -- that the machine gives it.
 use Rattle.std.specs.Prelude.{◌≡◌, ℕ, ◌<◌, true, List, length, Option, Some, None}
-use Rattle.scx_dsq.specs.Queues.{front_of}
-use Rattle.scx_dsq.specs.Calls.{push_refusal, after_pop, after_remove}
+use Rattle.scx_dsq.specs.Queues.{queue_of}
+use Rattle.scx_dsq.specs.Calls.{push_refusal, after_remove}
 use Rattle.scx_dsq.specs.declared.entries.Rank.TheVariants.{Fifo, Vtime}
 use Rattle.scx_isa_semantics.specs.declared.callbacks.Callback.TheVariants as callback
 use Rattle.scx_sched_world.specs.declared.call.Insert.{Insert}
@@ -31,16 +31,16 @@ pub record IsPushAccepted (n e m : ℕ) : Type 0 where
   pub evict : (hand : Option ℕ) (on : List (Option ℕ)) (w : WorldState) (t : ℕ)
       → waits w t ≡ true → IsFine n e m hand on w
       → push_refusal (after_remove w.queues t) builtin_queue t (Vtime (builtin_vtime w t)) ≡ None
-  -- of the front of a queue, to the local queue of a processor
+  -- of a task of a queue, to the local queue of a processor
   pub fill : (on : List (Option ℕ)) (w : WorldState) (q c t : ℕ)
-      → c < length on → front_of w.queues q ≡ Some t → IsFine n e m None on w
-      → push_refusal (after_pop w.queues q) (local_on c) t Fifo ≡ None
-  -- of the front of a queue, to the local queue of the processor at hand, while a callback runs that
+      → c < length on → queue_of w.queues t ≡ Some q → IsFine n e m None on w
+      → push_refusal (after_remove w.queues t) (local_on c) t Fifo ≡ None
+  -- of a task of a queue, to the local queue of the processor at hand, while a callback runs that
   -- isn't `timer`
   pub move : (hand : Option ℕ) (on : List (Option ℕ)) (w : WorldState) (q t : ℕ)
       → (w.call.callback ≡ callback.Timer → ⊥)
-      → front_of w.queues q ≡ Some t → IsFine n e m hand on w
-      → push_refusal (after_pop w.queues q) (local_on w.call.cpu) t Fifo ≡ None
+      → queue_of w.queues t ≡ Some q → IsFine n e m hand on w
+      → push_refusal (after_remove w.queues t) (local_on w.call.cpu) t Fifo ≡ None
   -- of a held task, while dispatch runs
   pub release : (hand : Option ℕ) (on : List (Option ℕ)) (w : WorldState) (t : ℕ)
       (i : Insert) (flags : ℕ)

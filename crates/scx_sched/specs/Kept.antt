@@ -1,7 +1,7 @@
 -- What each small step of a world keeps, so that whole events keep it. The fact is one of the task
 -- that is in no place, of who runs where, and of the world.
 use Rattle.std.specs.Prelude.{◌≡◌, ℕ, ◌+◌, ◌==◌, ◌<◌, Bool, true, false, List, length, Option, Some, None, is_some, slice_index_or, slice_set}
-use Rattle.scx_dsq.specs.Queues.{front_of, entry_of, is_in}
+use Rattle.scx_dsq.specs.Queues.{front_of, entry_of, is_in, queue_of}
 use Rattle.scx_weights.specs.Limits.{is_throttled}
 use Rattle.scx_isa_semantics.specs.declared.callbacks.Callback.{Callback}
 use Rattle.scx_isa_semantics.specs.declared.callbacks.Callback.TheVariants as callback
@@ -12,11 +12,12 @@ use Rattle.scx_sched_world.specs.declared.cpu_set.CpuSet.{CpuSet}
 use Rattle.scx_sched_world.specs.declared.eject.Eject.{Eject}
 use Rattle.scx_sched_world.specs.declared.passing.Passing.{Passing}
 use Rattle.scx_sched_world.specs.Ids.{parked_queue, local_on}
-use Rattle.scx_sched_world.specs.World.{WorldState, with_cycling, is_by_linux, task_at, with_task, at_callback, quiet}
-use Rattle.scx_sched_world.specs.Tasks.{with_slice, with_home, for_cpu, to_held, to_global, to_local, to_front, after_sleep, after_enter, after_fill, after_stop, started_at, after_run, after_keep, put_parked, after_take}
+use Rattle.scx_sched_world.specs.World.{WorldState, with_cycling, is_by_linux, task_at, with_task, at_callback, quiet, may_run}
+use Rattle.scx_sched_world.specs.Tasks.{with_slice, with_home, for_cpu, to_held, to_global, to_local, to_front, after_sleep, after_enter, after_fill, after_stop, started_at, after_run, after_keep, put_parked, after_leave}
 use Rattle.scx_sched_world.specs.Helpers.{is_dispatch, with_insert, with_timer, world_functions}
 use Rattle.scx_sched.specs.Once.{GoesSomewhere}
 use Rattle.scx_sched_world.specs.Ejecting.{put_out, evict, cut_task, put_builtin, after_catch_up, after_charge}
+use Rattle.scx_sched.specs.Allowed.{MayGo}
 
 -- the world with these sets of processors that are claimed, kicked and preempted, of those that the
 -- callback at hand claimed, and with what an event by Linux rules keeps until it ends
@@ -75,15 +76,17 @@ pub record IsKeptBySteps (n : ℕ) (I : ℕ → Option ℕ → List (Option ℕ)
       (claimed kicked preempted claims : CpuSet) (passing : Passing)
       → I m hand on w → I m hand on (with_sets w claimed kicked preempted claims passing)
   pub homed : (m : ℕ) (hand : Option ℕ) (on : List (Option ℕ)) (w : WorldState) (t c : ℕ)
-      → c < length on → I m hand on w → I m hand on (with_task w t (with_home (task_at w t) c))
+      → c < length on → may_run w t c ≡ true → I m hand on w
+      → I m hand on (with_task w t (with_home (task_at w t) c))
   pub sliced : (m : ℕ) (hand : Option ℕ) (on : List (Option ℕ)) (w : WorldState) (t slice : ℕ)
       → I m hand on w → I m hand on (with_task w t (with_slice (task_at w t) slice))
   pub wants : (m : ℕ) (hand : Option ℕ) (on : List (Option ℕ)) (w : WorldState) (c : ℕ)
-      → c < length on → is_dispatch w.call.callback ≡ false → I m hand on w
-      → I m hand on (with_insert w (to_local c))
+      → c < length on → is_dispatch w.call.callback ≡ false → may_run w w.call.task c ≡ true
+      → I m hand on w → I m hand on (with_insert w (to_local c))
   -- tasks come to wait, to run, and leave
   pub entered : (m : ℕ) (on : List (Option ℕ)) (w : WorldState) (t : ℕ) (i : Insert)
-      → t < n → IsWanted (length on) w i → I m (Some t) on w → I m None on (after_enter w t i)
+      → t < n → IsWanted (length on) w i → MayGo (length on) w t i → I m (Some t) on w
+      → I m None on (after_enter w t i)
   pub filled : (m : ℕ) (on : List (Option ℕ)) (w : WorldState) (q c : ℕ)
       → (q == parked_queue) ≡ false → c < length on → I m None on w → I m None on (after_fill w q c)
   pub stopped : (m : ℕ) (on : List (Option ℕ)) (w : WorldState) (c t : ℕ)
@@ -99,9 +102,9 @@ pub record IsKeptBySteps (n : ℕ) (I : ℕ → Option ℕ → List (Option ℕ)
       → I m None on w → I m None (slice_set on c (Some t)) (after_run w c t)
   pub put_parked : (m : ℕ) (on : List (Option ℕ)) (w : WorldState) (t : ℕ)
       → t < n → is_throttled w.tree t ≡ true → I m (Some t) on w → I m None on (put_parked w t)
-  pub taken : (m : ℕ) (on : List (Option ℕ)) (w : WorldState) (q t : ℕ)
-      → (q == parked_queue) ≡ false → front_of w.queues q ≡ Some t → I m None on w
-      → I m (Some t) on (after_take w q)
+  pub left : (m : ℕ) (on : List (Option ℕ)) (w : WorldState) (q t : ℕ)
+      → (q == parked_queue) ≡ false → queue_of w.queues t ≡ Some q → I m None on w
+      → I m (Some t) on (after_leave w t)
   pub kept : (m : ℕ) (on : List (Option ℕ)) (w : WorldState) (t : ℕ)
       → I m None on w → I m None on (after_keep w (Some t))
   pub asleep : (m : ℕ) (on : List (Option ℕ)) (w : WorldState) (t : ℕ)

@@ -1,4 +1,4 @@
--- Of whom `dequeue` tells as they left a policy's custody in dispatch.
+-- The tasks that left a policy's custody in dispatch, of which `dequeue` tells.
 use Rattle.std.specs.Prelude.{◌≡◌, ℕ, ◌<◌, ◌≤◌, ◌⊎◌, Option, Some, None, length}
 use Rattle.scx_dsq.specs.Queues.{QueueState, queue_of}
 use Rattle.scx_isa_semantics.specs.declared.callbacks.Callback.TheVariants as callback

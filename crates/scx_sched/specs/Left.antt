@@ -1,21 +1,21 @@
 -- Nothing is left behind: a processor is idle only where neither its own queue nor that of all
 -- processors has a task for it, nor, once the policy is ejected, that of the built-in scheduler.
 use Rattle.std.specs.Prelude.{◌≡◌, ℕ, zero, suc, ◌<◌, ⊤, true, false, length, Option, Some, None, is_some}
-use Rattle.scx_dsq.specs.Queues.{front_of}
 use Rattle.scx_sched_world.specs.Ids.{global, builtin_queue}
 use Rattle.scx_sched_world.specs.CpuSets.{is_in_set}
 use Rattle.scx_sched_world.specs.World.{WorldState, running, is_idle}
-use Rattle.scx_sched_world.specs.Tasks.{local_len}
+use Rattle.scx_sched_world.specs.Tasks.{local_len, next_for}
 use Rattle.scx_sched_machine.specs.Steps.{State, Stepped, is_by_linux}
 use Rattle.scx_sched_machine.specs.Rounds.{most_rounds, next_to_look, round, with_rounds}
 use Rattle.scx_sched_machine.specs.declared.events.Event.{Event}
 use Rattle.scx_sched_machine.specs.declared.events.Event.TheVariants.{Wake, Sleep, Tick, Clock, SetWeight, SetTaskWeight}
 
--- nobody is in the local queue, the global one, or, once the policy is ejected, the built-in one
+-- nobody is in the local queue, nor anybody who may run on the processor in the global one, or, once
+-- the policy is ejected, in the built-in one
 pub record LeavesNothing (w : WorldState) (c : ℕ) : Type 0 where
   pub local : local_len w c ≡ 0
-  pub global : front_of w.queues global ≡ None
-  pub builtin : is_some w.ejected ≡ true → front_of w.queues builtin_queue ≡ None
+  pub global : next_for w global c ≡ None
+  pub builtin : is_some w.ejected ≡ true → next_for w builtin_queue c ≡ None
 
 -- in the world after a tick; of other events nothing is said
 abbrev pub LeavesNothingIdle : Event → WorldState → Type 0

@@ -4,6 +4,7 @@ pub mod Usages
 pub mod Parked
 pub mod Current
 pub mod Timers
+pub mod Allowed
 pub mod Kept
 pub mod Ranges
 pub mod Sim

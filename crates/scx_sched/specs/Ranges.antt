@@ -4,6 +4,7 @@ use Rattle.std.specs.Prelude.{◌≡◌, ℕ, ◌*◌, ◌≤◌, List, Option, 
 use Rattle.scx_sched_world.specs.World.{WorldState, task_at}
 use Rattle.scx_weights.specs.Limits.{usage_of}
 use Rattle.scx_sched.specs.Once.{IsSound}
+use Rattle.scx_sched.specs.Allowed.{IsAllowedIn}
 use Rattle.scx_sched.specs.Usages.{AreWithin}
 
 -- the built-in scheduler hasn't begun: all its times are 0
@@ -14,6 +15,7 @@ IsFresh w = (w.builtin_clock ≡ 0) × ((t : ℕ) → (task_at w t).builtin ≡ 
 pub record IsFine (n events charges : ℕ) (hand : Option ℕ) (on : List (Option ℕ)) (w : WorldState)
     : Type 0 where
   pub sound : IsSound hand on n w
+  pub allowed : IsAllowedIn on n w
   pub clock : w.clock ≤ events
   pub runs : (t : ℕ) → (task_at w t).run_ns ≤ 1000000 * events
   pub times : (t : ℕ) → (task_at w t).builtin ≤ 2000000000 * charges

@@ -17,6 +17,7 @@ use Rattle.scx_sched.specs.Once.{AreInQueues}
 use Rattle.scx_sched.specs.Current.{AreCurrent}
 use Rattle.scx_sched.specs.Waits.{IsTimely}
 use Rattle.scx_sched.specs.Timers.{AreTimersLater}
+use Rattle.scx_sched.specs.Allowed.{AreAllowed}
 use Rattle.scx_sched.specs.Ranges.{IsFine}
 
 -- a machine between two events, and how many events it has accepted
@@ -84,6 +85,7 @@ pub record IsValid (state : State) (events : ℕ) : Type 0 where
   pub programs : AreAs state.policy.callbacks
   pub timely : IsTimely state
   pub timers : AreTimersLater state.world
+  pub allowed : AreAllowed state.world
   pub unstuck : (n : ℕ) → state.world.ejected ≡ Some (cause.Fault Stuck n) → ⊥
   pub there : AreInQueues state.world
   pub fine : IsFine (length state.world.tasks) events events None state.world.cpus state.world

@@ -19,6 +19,7 @@ ghost use Rattle.scx_sched.specs.Waits.{IsTimely, HasWaits};
 ghost use Rattle.scx_sched.specs.Once.{IsOnce, AreInQueues};
 ghost use Rattle.scx_sched.specs.Places.{place};
 ghost use Rattle.scx_sched.specs.Timers.{AreTimersLater};
+ghost use Rattle.scx_sched.specs.Allowed.{AreAllowed};
 ghost use Rattle.scx_sched.specs.Sim.{max_events, refusal, answer_of, after_event, notes_of, calls_of, IsFirstState};
 
 use crate::places::{Place, place_in};
@@ -66,6 +67,7 @@ impl Sim {
         ensures in_force { IfOk result (λ sim. sim.state.world.ejected ≡ None) }
         ensures current { IfOk result (λ sim. AreCurrent sim.state.world) }
         ensures timers { IfOk result (λ sim. AreTimersLater sim.state.world) }
+        ensures allowed { IfOk result (λ sim. AreAllowed sim.state.world) }
         ensures refused { IfErr result (IsRefusal policy tree cpus) }
         ensures failed { IfErr result (HasFailed policy tree cpus) }
         ensures none_failed { OnOk result (NoneFails (start_calls policy tree cpus)) }
@@ -90,6 +92,7 @@ impl Sim {
         ensures in_force { IfOk result (λ sim. sim.state.world.ejected ≡ None) }
         ensures current { IfOk result (λ sim. AreCurrent sim.state.world) }
         ensures timers { IfOk result (λ sim. AreTimersLater sim.state.world) }
+        ensures allowed { IfOk result (λ sim. AreAllowed sim.state.world) }
         ensures refused { IfErr result (IsRefusal policy tree cpus) }
         ensures failed { IfErr result (HasFailed policy tree cpus) }
         ensures none_failed { OnOk result (NoneFails (start_calls policy tree cpus)) }
@@ -135,6 +138,7 @@ impl Sim {
         ensures current { AreCurrent self.new.state.world }
         ensures timely { IsTimely self.new.state }
         ensures timers { AreTimersLater self.new.state.world }
+        ensures allowed { AreAllowed self.new.state.world }
         ensures bounded { AreBounded self.new.state.world }
         ensures never_stuck { IsNeverStuck self.new.state.world }
         ensures cause { OnOk result (EjectsOnce self.old event self.new) }
@@ -162,6 +166,7 @@ impl Sim {
         ensures current { AreCurrent self.new.state.world }
         ensures timely { IsTimely self.new.state }
         ensures timers { AreTimersLater self.new.state.world }
+        ensures allowed { AreAllowed self.new.state.world }
         ensures bounded { AreBounded self.new.state.world }
         ensures never_stuck { IsNeverStuck self.new.state.world }
         ensures cause { OnOk result (EjectsOnce self.old event self.new) }
@@ -216,6 +221,7 @@ impl Sim {
         ensures waits { HasWaits None self.now.state.world }
         ensures timely { IsTimely self.now.state }
         ensures timers { AreTimersLater self.now.state.world }
+        ensures allowed { AreAllowed self.now.state.world }
         ensures never_stuck { IsNeverStuck self.now.state.world }
         ensures bounded { AreBounded self.now.state.world }
         ensures times { (t : ℕ) → (task_at self.now.state.world t).builtin < 2 ^ 63 }

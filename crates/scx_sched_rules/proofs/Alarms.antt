@@ -7,7 +7,7 @@ use Rattle.scx_vm.specs.declared.arguments.Answer.{Answer}
 use Rattle.scx_vm.specs.declared.arguments.Answer.TheVariants.{Num}
 use Rattle.scx_sched_world.specs.declared.eject.Cause.TheVariants as reason
 use Rattle.scx_sched_world.specs.declared.faults.Fault.{Fault}
-use Rattle.scx_sched_world.specs.declared.faults.Fault.TheVariants.{Stuck, NoSuchQueue, CannotInsert, NoSuchCpu, UnknownFlag, CannotCreate, BuiltinVtime, Mixed, IdleUntracked}
+use Rattle.scx_sched_world.specs.declared.faults.Fault.TheVariants.{Stuck, NoSuchQueue, CannotInsert, NoSuchCpu, UnknownFlag, CannotCreate, BuiltinVtime, Mixed, IdleUntracked, NotAllowed}
 use Rattle.scx_sched_world.specs.declared.timers.Alarm.{Alarm}
 use Rattle.scx_sched_world.specs.World.{WorldState, is_this, here}
 use Rattle.scx_sched_world.specs.Helpers.{given_number, invalid_if, unless_fault, fault_or, timer_fault, delay_ms, with_timer, alarm_in, alarm_at, cancelled_answer}
@@ -38,6 +38,7 @@ timer_from w t (Some CannotCreate) j = absurd j
 timer_from w t (Some BuiltinVtime) j = absurd j
 timer_from w t (Some Mixed) j = absurd j
 timer_from w t (Some Stuck) j = absurd j
+timer_from w t (Some NotAllowed) j = absurd j
 timer_from w t (Some IdleUntracked) j = absurd j
 
 -- ---- start

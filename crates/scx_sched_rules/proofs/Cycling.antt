@@ -1,9 +1,9 @@
 -- A cycle as it is computed is allowed, and no other is.
-use Rattle.std.proofs.Common.{◌≡◌, ℕ, zero, suc, ◌<◌, ◌≤◌, cond, Bool, true, false, not, ◌==◌, ◌&&◌, nat_lt, ◌⊎◌, inl, inr, if◌then◌else◌, [], ◌∷◌, Option, Some, None, is_some, is_none, refl, sym, ◌∙◌, ap, subst, arith}
+use Rattle.std.proofs.Common.{◌≡◌, ℕ, zero, suc, ◌<◌, ◌≤◌, cond, Bool, true, false, not, ◌==◌, ◌&&◌, nat_lt, ◌⊎◌, inl, inr, if◌then◌else◌, [], ◌∷◌, Option, Some, None, is_some, is_none, unwrap_or, refl, sym, ◌∙◌, ap, subst, arith}
 use Rattle.std.proofs.lemmas.Bool.Decides.{nat_tests}
 use Rattle.std.proofs.lemmas.Bool.{cases_eq, cases_lt, eq-eqb, ne_eqb}
-use Rattle.scx_dsq.specs.Queues.{len_of, front_of, entry_of}
-use Rattle.scx_dsq.specs.Calls.{after_push, after_pop}
+use Rattle.scx_dsq.specs.Queues.{len_of, front_of, queue_of, entry_of}
+use Rattle.scx_dsq.specs.Calls.{after_push, after_remove}
 use Rattle.scx_dsq.specs.declared.entries.Rank.TheVariants.{Fifo}
 use Rattle.scx_vm.specs.Programs.{VerifiedProgram}
 use Rattle.scx_isa_semantics.specs.declared.callbacks.Callback.TheVariants as callback
@@ -11,21 +11,25 @@ use Rattle.scx_sched_world.specs.declared.call.Insert.{Insert}
 use Rattle.scx_sched_world.specs.declared.eject.Eject.{Eject}
 use Rattle.scx_sched_world.specs.declared.notes.What.TheVariants as note
 use Rattle.scx_sched_world.specs.Ids.{global, builtin_queue, parked_queue, local_on}
-use Rattle.scx_sched_world.specs.World.{WorldState, with_queues, with_cycling, out_of_cycle, running, note_now}
-use Rattle.scx_sched_world.specs.Tasks.{local_len, brought, to_front, homed, after_keep}
+use Rattle.scx_sched_world.specs.World.{WorldState, is_throttled, with_queues, with_cycling, out_of_cycle, running, note_now}
+use Rattle.scx_sched_world.specs.Tasks.{local_len, next_for, brought, to_front, homed, after_keep}
 use Rattle.scx_sched_world.specs.Ejecting.{put_builtin, after_catch_up, after_charge}
 use Rattle.scx_sched_machine.specs.Steps.{State, Stepped, with_world, stays, after, one_after_other, is_by_linux}
 use Rattle.scx_sched_machine.specs.Callbacks.{call_back, call_by_linux, one_task, two_numbers}
 use Rattle.scx_sched_machine.specs.Custody.{tells_left}
 use Rattle.scx_sched_machine.specs.Put.{enters, enqueue_choice, enters_builtin, comes_in, put}
 use Rattle.scx_sched_machine.specs.Filling.{move_note, fill}
-use Rattle.scx_sched_machine.specs.Parking.{park, park_front, if_throttled, throttled_front, park_fronts, clear, in_reach, supply, FrontMayRun}
-use Rattle.scx_sched.proofs.Supplying.{park_fronts_from, clear_from, empty_no_front, throttled_is, front_is_free, len_park_front, reach_fill, reach_park_front}
+use Rattle.scx_sched_machine.specs.Parking.{park, if_throttled, throttled_front, throttled_next, park_next, clear, in_reach, supply, FrontMayRun}
+use Rattle.scx_sched.proofs.Supplying.{park_left, park_next_from, clear_from, empty_no_front, empty_no_next, front_is_free, len_park_left, reach_fill, reach_park_left}
 use Rattle.scx_sched.proofs.Firsts.{no_front_is_empty}
+use Rattle.scx_sched.proofs.Seen.{next_seen}
+use Rattle.scx_sched_world.proofs.Fronts.{front_in}
 use Rattle.scx_sched_machine.specs.Cycle.{keeps_slice, supply_unless_kept, dispatch_called, after_dispatch, asks_again, tries, stopping_called, after_stopping, after_running, put_back, leave, switched, started_if, start, hears_idle, tells_idle, idle_note, rest, swap, swap_or_rest, builtin_dispatch, builtin_fill, builtin_ask, builtin_cycle, start_or_cycle, picked, refilled, is_local, start_picked, start_picked_or_cycle, tells_busy, makes_way, pick, pick_or_rest, keep_or_pick, conclude, give_up, ask, seek, look, cycling, falls_idle, notes_idle, idle_or_anew, becomes_idle, concluded, cycle}
 use Rattle.scx_sched_rules.specs.Differences.{KeepsSlice, GivesWay, IsToAsk}
-use Rattle.scx_sched_rules.specs.Cycles.{noting, silent, entering, enqueue_called, dispatch_run, dispatch_noted, CallsDispatch, gone_off, gone_on, picked_on, HasStopped, Policy_hears, Is_charged, HasStarted, Policy_learns, Catches_up, Enters, For_builtin, Default, Held, Inserted, Puts, Fills, HasLocal, NoOther, Moves, Parks, ParksFronts, NoneLeft, OneMore, Supplies, Supplied, ParkedOne, FillsBuiltin, HasOne, Looked, Dispatches, Supplied_then, Kept_then, Asks, Enough, Came, NothingMoved, KeptOn, Again, PutsBack, Is_put, Goes_first, Leaves, Nobody, Stops, Starts, Empty, Front, Rests, Keeps, Idles, IdlesUnheard, WasIdle, Swaps, SwapsOrRests, Swapped, Kept, CyclesBuiltin, StartsOrAnew, Runs_front, Emptied, StartsPicked, picking, TellsBusy, WasAtRest, HadTask, HadRun, MakesWay, Picks, Picks_then, Picks_before, Picks_anew, Ends, Anew, KeepsOn, Picked, Rested, Seeks, Filled, Asked, Looks, Of_policy, Of_builtin, FallsIdle, StaysIdle, IsNoted, CyclesAnew, HearsOfIdle, Concludes, FellIdle, HasEnded, Cycles}
+use Rattle.scx_sched_rules.specs.Cycles.{noting, silent, entering, enqueue_called, dispatch_run, dispatch_noted, CallsDispatch, gone_off, gone_on, picked_on, HasStopped, Policy_hears, Is_charged, HasStarted, Policy_learns, Catches_up, Enters, For_builtin, Default, Held, Inserted, Puts, Fills, HasLocal, NoOther, Moves, Parks, NextIsFree, ParksFirst, NoneLeft, OneMore, Supplies, Supplied, ParkedOne, FillsBuiltin, HasOne, Looked, Dispatches, Supplied_then, Kept_then, Asks, Enough, Came, NothingMoved, KeptOn, Again, PutsBack, Is_put, Goes_first, Leaves, Nobody, Stops, Starts, Empty, Front, Rests, Keeps, Idles, IdlesUnheard, WasIdle, Swaps, SwapsOrRests, Swapped, Kept, CyclesBuiltin, StartsOrAnew, Runs_front, Emptied, StartsPicked, picking, TellsBusy, WasAtRest, HadTask, HadRun, MakesWay, Picks, Picks_then, Picks_before, Picks_anew, Ends, Anew, KeepsOn, Picked, Rested, Seeks, Filled, Asked, Looks, Of_policy, Of_builtin, FallsIdle, StaysIdle, IsNoted, CyclesAnew, HearsOfIdle, Concludes, FellIdle, HasEnded, Cycles}
 use Rattle.scx_sched_rules.proofs.Differing.{both_true, and_true, false_from, not_so, then_stays, calls_if_there, only_calls_if_there, hears_idle_is, hears_idle_of, unheard_is, unheard_of, in_is, in_of, homes, only_homes, begins_cycle, only_begins_cycle, ends_cycle, only_ends_cycle, keeps, gives, keeps_or_gives, switches, only_switches, asks_of, asks_is, gives_up, only_gives_up}
+use Rattle.scx_sched_rules.specs.Bound.{IsNextFor}
+use Rattle.scx_sched_rules.proofs.Binding.{next_is, only_next}
 use Rattle.scx_sched_rules.proofs.Departing.{tells_who_left, only_tells_who_left}
 
 -- ---- put
@@ -109,68 +113,116 @@ some_is k l = grind (arith, nat_tests, l)
 none_is : (k : ℕ) → k ≡ 0 → nat_lt 0 k ≡ false
 none_is k e = grind (arith, nat_tests, e)
 
-fills : (s : State) (q c : ℕ) → Fills s q c (fill s q c)
-unfolding fill
-fills s q c = go (cases_lt 0 (local_len s.world c)) (front_of s.world.queues q) refl
-  where
-    moved_to : ℕ → WorldState
-    moved_to t = with_queues s.world (after_push (after_pop s.world.queues q) (local_on c) t Fifo)
+abbrev filled_as : State → ℕ → Bool → Option ℕ → Stepped
+filled_as s c b o = record { state = with_world s (brought (if b then None else o) s.world c); notes = move_note s.world (if b then None else o) c; calls = [] }
 
-    go : (0 < local_len s.world c) ⊎ (local_len s.world c ≤ 0) → (o : Option ℕ) → front_of s.world.queues q ≡ o
-        → Fills s q c (record { state = with_world s (brought (if nat_lt 0 (local_len s.world c) then None else o) s.world q c); notes = move_note s.world (if nat_lt 0 (local_len s.world c) then None else o) c; calls = [] })
-    go (inl l) o e = rw (some_is (local_len s.world c) l) (HasLocal l refl)
-    go (inr l) None e = let z : local_len s.world c ≡ 0 = omega (arith, l) in rw (none_is (local_len s.world c) z) (NoOther z e refl)
-    go (inr l) (Some t) e = let z : local_len s.world c ≡ 0 = omega (arith, l) in rw (none_is (local_len s.world c) z) (Moves t (homed (moved_to t) t c) z e (homes (moved_to t) t c) refl)
+abbrev moved_to : State → ℕ → ℕ → WorldState
+moved_to s c t = with_queues s.world (after_push (after_remove s.world.queues t) (local_on c) t Fifo)
+
+filled_is : (s : State) (q c : ℕ) (b : Bool) → nat_lt 0 (local_len s.world c) ≡ b → filled_as s c b (next_for s.world q c) ≡ fill s q c
+unfolding fill
+filled_is s q c b e = ap (λ x. filled_as s c x (next_for s.world q c)) (sym e)
+
+fills : (s : State) (q c : ℕ) → Fills s q c (fill s q c)
+fills s q c = at (cases_lt 0 (local_len s.world c))
+  where
+    go : local_len s.world c ≡ 0 → (o : Option ℕ) → next_for s.world q c ≡ o → Fills s q c (filled_as s c false o)
+    go z None e = NoOther z (next_is s.world q c None e) refl
+    go z (Some t) e = Moves t (homed (moved_to s c t) t c) z (next_is s.world q c (Some t) e) (homes (moved_to s c t) t c) refl
+
+    at : (0 < local_len s.world c) ⊎ (local_len s.world c ≤ 0) → Fills s q c (fill s q c)
+    at (inl l) = subst (λ r. Fills s q c r) (filled_is s q c true (some_is (local_len s.world c) l)) (HasLocal l refl)
+    at (inr l) =
+        let z : local_len s.world c ≡ 0 = omega (arith, l) in
+        subst (λ r. Fills s q c r) (filled_is s q c false (none_is (local_len s.world c) z)) (go z (next_for s.world q c) refl)
 
 only_fills : (s : State) (q c : ℕ) (r : Stepped) → Fills s q c r → r ≡ fill s q c
-unfolding fill
-only_fills s q c r (HasLocal l k) = rw (some_is (local_len s.world c) l) k
-only_fills s q c r (NoOther z e k) = rw (none_is (local_len s.world c) z, e) k
+only_fills s q c r (HasLocal l k) = k ∙ filled_is s q c true (some_is (local_len s.world c) l)
+only_fills s q c r (NoOther z e k) = k ∙ ap (λ o. filled_as s c false o) (only_next s.world q c None e) ∙ filled_is s q c false (none_is (local_len s.world c) z)
 only_fills s q c r (Moves t moved z e h k) =
-    let v = with_queues s.world (after_push (after_pop s.world.queues q) (local_on c) t Fifo) in
-    rw (none_is (local_len s.world c) z, e) (k ∙ ap (λ w. noting s w (note.Move t c)) (only_homes v t c moved h))
+    k ∙ ap (λ w. noting s w (note.Move t c)) (only_homes (moved_to s c t) t c moved h)
+    ∙ ap (λ o. filled_as s c false o) (only_next s.world q c (Some t) e) ∙ filled_is s q c false (none_is (local_len s.world c) z)
 
 -- ---- supply
 
-parks : (s : State) (q t : ℕ) → throttled_front s q ≡ Some t → Parks s q t (park_front s q t)
-unfolding park_front park
-parks s q t e = let x = throttled_is s q t e in record { front = x.front; throttled = x.throttled; all = refl }
+-- a task that is found to be throttled is that one, and throttled
+throttled_if : (w : WorldState) (o : Option ℕ) (t : ℕ) → if_throttled w o ≡ Some t → (o ≡ Some t) × (is_throttled w t ≡ true)
+throttled_if w None t e = absurd (cc)
+throttled_if w (Some u) t e = at (is_throttled w u) refl e
+  where
+    same : (a b : ℕ) → Some a ≡ Some b → a ≡ b
+    same a b x = ap (λ o. unwrap_or o a) x
 
-only_parks : (s : State) (q t : ℕ) (r : Stepped) → Parks s q t r → r ≡ park_front s q t
-unfolding park_front park
-only_parks s q t r h = h.all
+    at : (b : Bool) → is_throttled w u ≡ b → cond b (Some u) None ≡ Some t → (Some u ≡ Some t) × (is_throttled w t ≡ true)
+    at true x y = (y, ap (λ k. is_throttled w k) (sym (same u t y)) ∙ x)
+    at false x y = absurd (cc)
 
--- that front is the one that is looked for
-is_throttled_front : (s : State) (q t : ℕ) (r : Stepped) → Parks s q t r → throttled_front s q ≡ Some t
-is_throttled_front s q t r h = ap (λ o. if_throttled s.world o) h.front ∙ ap (λ b. cond b (Some t) None) h.throttled
+-- that task is the one that is looked for
+throttled_of : (w : WorldState) (o : Option ℕ) (t : ℕ) → o ≡ Some t → is_throttled w t ≡ true → if_throttled w o ≡ Some t
+throttled_of w o t e h = ap (λ x. if_throttled w x) e ∙ ap (λ b. cond b (Some t) None) h
+
+-- where none is found, the task isn't throttled
+free_if : (w : WorldState) (o : Option ℕ) → if_throttled w o ≡ None → (t : ℕ) → o ≡ Some t → is_throttled w t ≡ false
+free_if w o e t f = at (is_throttled w t) refl (ap (λ x. if_throttled w x) (sym f) ∙ e)
+  where
+    at : (b : Bool) → is_throttled w t ≡ b → cond b (Some t) None ≡ None → is_throttled w t ≡ false
+    at true x y = absurd (cc)
+    at false x y = x
+
+-- where it isn't, none is found
+free_of : (w : WorldState) (o : Option ℕ) → ((t : ℕ) → o ≡ Some t → is_throttled w t ≡ false) → if_throttled w o ≡ None
+free_of w None h = refl
+free_of w (Some t) h = ap (λ b. cond b (Some t) None) (h t refl)
+
+parks : (s : State) (t : ℕ) → is_throttled s.world t ≡ true → Parks s t (park_left s t)
+unfolding park
+parks s t e = record { throttled = e; all = refl }
+
+only_parks : (s : State) (t : ℕ) (r : Stepped) → Parks s t r → r ≡ park_left s t
+unfolding park
+only_parks s t r h = h.all
 
 no_throttled_front : (s : State) (q : ℕ) → FrontMayRun s q → throttled_front s q ≡ None
-no_throttled_front s q h = go (front_of s.world.queues q) refl
+no_throttled_front s q h = free_of s.world (front_of s.world.queues q) h
+
+-- ---- first tasks of a queue are parked
+
+next_free_is : (s : State) (q c : ℕ) → throttled_next s q c ≡ None → NextIsFree s q c
+next_free_is s q c e t n = free_if s.world (next_for s.world q c) e t (sym (only_next s.world q c (Some t) n))
+
+next_free_of : (s : State) (q c : ℕ) → NextIsFree s q c → throttled_next s q c ≡ None
+next_free_of s q c h = free_of s.world (next_for s.world q c) (λ t e. h t (next_is s.world q c (Some t) e))
+
+-- of an empty queue there is no first task
+no_next : (s : State) (q c t : ℕ) → len_of s.world.queues q ≡ 0 → IsNextFor s.world q c (Some t) → ⊥
+no_next s q c t few n = let bad : Some t ≡ None = only_next s.world q c (Some t) n ∙ empty_no_next s.world q c few in absurd (cc)
+
+-- a first task is in the queue
+next_there : (s : State) (q c t : ℕ) → IsNextFor s.world q c (Some t) → queue_of s.world.queues t ≡ Some q
+next_there s q c t n = (next_seen s.world q c t (sym (only_next s.world q c (Some t) n))).there
+
+parks_first : (j : ℕ) (s : State) (q c : ℕ) → (parked_queue == q) ≡ false → len_of s.world.queues q ≤ j → ParksFirst q c s (park_next j s q c)
+unfolding park_next
+parks_first zero s q c apart few = NoneLeft s _ (λ t n. absurd (no_next s q c t (omega (arith, few)) n)) refl
+parks_first (suc j) s q c apart few = go (throttled_next s q c) refl (λ t l. parks_first j (park_left s t).state q c apart l)
   where
-    go : (o : Option ℕ) → front_of s.world.queues q ≡ o → if_throttled s.world o ≡ None
-    go None e = refl
-    go (Some t) e = ap (λ b. cond b (Some t) None) (h t e)
+    go : (o : Option ℕ) → throttled_next s q c ≡ o → ((t : ℕ) → len_of (park_left s t).state.world.queues q ≤ j → ParksFirst q c (park_left s t).state (park_next j (park_left s t).state q c)) → ParksFirst q c s (park_next_from j s q c o)
+    go None e more = NoneLeft s _ (next_free_is s q c e) refl
+    go (Some t) e more =
+        let x = throttled_if s.world (next_for s.world q c) t e in
+        let n = next_is s.world q c (Some t) x.0 in
+        OneMore s t (park_left s t) _ _ n (parks s t x.1) (more t (omega (arith, few, len_park_left s q t apart (next_there s q c t n)))) refl
 
--- ---- fronts of a queue are parked
-
-parks_fronts : (j : ℕ) (s : State) (q : ℕ) → (parked_queue == q) ≡ false → len_of s.world.queues q ≤ j → ParksFronts q s (park_fronts j s q)
-unfolding park_fronts
-parks_fronts zero s q apart few = NoneLeft q s _ (λ t e. let bad : None ≡ Some t = sym (empty_no_front s.world.queues q (omega (arith, few))) ∙ e in absurd (cc)) refl
-parks_fronts (suc j) s q apart few = go (throttled_front s q) refl (λ t l. parks_fronts j (park_front s q t).state q apart l)
-  where
-    go : (o : Option ℕ) → throttled_front s q ≡ o → ((t : ℕ) → len_of (park_front s q t).state.world.queues q ≤ j → ParksFronts q (park_front s q t).state (park_fronts j (park_front s q t).state q)) → ParksFronts q s (park_fronts_from j s q o)
-    go None e more = NoneLeft q s _ (front_is_free s q e) refl
-    go (Some t) e more = OneMore q s t (park_front s q t) _ _ (parks s q t e) (more t (omega (arith, few, len_park_front s q t apart (throttled_is s q t e).front))) refl
-
-only_parks_fronts : (j : ℕ) (s : State) (q : ℕ) (r : Stepped) → (parked_queue == q) ≡ false → len_of s.world.queues q ≤ j → ParksFronts q s r → r ≡ park_fronts j s q
-unfolding park_fronts
-only_parks_fronts zero s q r apart few (NoneLeft _ _ _ h k) = k
-only_parks_fronts (suc j) s q r apart few (NoneLeft _ _ _ h k) = k ∙ ap (λ o. park_fronts_from j s q o) (sym (no_throttled_front s q h))
-only_parks_fronts zero s q r apart few (OneMore _ _ t gone more _ h y k) = let bad : None ≡ Some t = sym (empty_no_front s.world.queues q (omega (arith, few))) ∙ h.front in absurd (cc)
-only_parks_fronts (suc j) s q r apart few (OneMore _ _ t gone more _ h y k) =
-    let e = only_parks s q t gone h in
-    let l : len_of gone.state.world.queues q ≤ j = subst (λ (x : Stepped). len_of x.state.world.queues q ≤ j) (sym e) (omega (arith, few, len_park_front s q t apart h.front)) in
-    k ∙ ap (λ x. one_after_other gone x) (only_parks_fronts j gone.state q more apart l y) ∙ ap (λ (x : Stepped). one_after_other x (park_fronts j x.state q)) e ∙ ap (λ o. park_fronts_from j s q o) (sym (is_throttled_front s q t gone h))
+only_parks_first : (j : ℕ) (s : State) (q c : ℕ) (r : Stepped) → (parked_queue == q) ≡ false → len_of s.world.queues q ≤ j → ParksFirst q c s r → r ≡ park_next j s q c
+unfolding park_next
+only_parks_first zero s q c r apart few (NoneLeft _ _ h k) = k
+only_parks_first (suc j) s q c r apart few (NoneLeft _ _ h k) = k ∙ ap (λ o. park_next_from j s q c o) (sym (next_free_of s q c h))
+only_parks_first zero s q c r apart few (OneMore _ t gone more _ n h y k) = absurd (no_next s q c t (omega (arith, few)) n)
+only_parks_first (suc j) s q c r apart few (OneMore _ t gone more _ n h y k) =
+    let e = only_parks s t gone h in
+    let l : len_of gone.state.world.queues q ≤ j = subst (λ (x : Stepped). len_of x.state.world.queues q ≤ j) (sym e) (omega (arith, few, len_park_left s q t apart (next_there s q c t n))) in
+    k ∙ ap (λ x. one_after_other gone x) (only_parks_first j gone.state q c more apart l y) ∙ ap (λ (x : Stepped). one_after_other x (park_next j x.state q c)) e
+    ∙ ap (λ o. park_next_from j s q c o) (sym (throttled_of s.world (next_for s.world q c) t (sym (only_next s.world q c (Some t) n)) h.throttled))
 
 -- ---- a local queue
 
@@ -178,21 +230,22 @@ nobody_front : (s : State) (c : ℕ) → in_reach s c ≤ 0 → FrontMayRun s (l
 nobody_front s c few t e = let bad : None ≡ Some t = sym (empty_no_front s.world.queues (local_on c) (omega (arith, few))) ∙ e in absurd (cc)
 
 fills_none : (s : State) (c : ℕ) → in_reach s c ≤ 0 → Fills s global c (stays s)
-fills_none s c few = NoOther (omega (arith, few)) (empty_no_front s.world.queues global (omega (arith, few))) refl
+fills_none s c few = NoOther (omega (arith, few)) (next_is s.world global c None (empty_no_next s.world global c (omega (arith, few)))) refl
 
 clears : (j : ℕ) (s : State) (c : ℕ) → in_reach s c ≤ j → Supplies c s (clear j s c)
 unfolding clear
 clears zero s c few = Supplied c s (stays s) _ (fills_none s c few) (nobody_front s c few) refl
-clears (suc j) s c few = go (throttled_front (fill s global c).state (local_on c)) refl (λ t l. clears j (park_front (fill s global c).state (local_on c) t).state c l)
+clears (suc j) s c few = go (throttled_front (fill s global c).state (local_on c)) refl (λ t l. clears j (park_left (fill s global c).state t).state c l)
   where
     f : Stepped
     f = fill s global c
 
-    go : (o : Option ℕ) → throttled_front f.state (local_on c) ≡ o → ((t : ℕ) → in_reach (park_front f.state (local_on c) t).state c ≤ j → Supplies c (park_front f.state (local_on c) t).state (clear j (park_front f.state (local_on c) t).state c))
+    go : (o : Option ℕ) → throttled_front f.state (local_on c) ≡ o → ((t : ℕ) → in_reach (park_left f.state t).state c ≤ j → Supplies c (park_left f.state t).state (clear j (park_left f.state t).state c))
         → Supplies c s (one_after_other f (clear_from j f.state c o))
     go None e more = Supplied c s f _ (fills s global c) (front_is_free f.state (local_on c) e) refl
     go (Some t) e more =
-        ParkedOne c s t f (park_front f.state (local_on c) t) _ _ (fills s global c) (parks f.state (local_on c) t e) (more t (omega (arith, few, reach_fill s c, reach_park_front f.state c t (throttled_is f.state (local_on c) t e).front))) refl
+        let x = throttled_if f.state.world (front_of f.state.world.queues (local_on c)) t e in
+        ParkedOne c s t f (park_left f.state t) _ _ (fills s global c) x.0 (parks f.state t x.1) (more t (omega (arith, few, reach_fill s c, reach_park_left f.state c t (front_in f.state.world.queues (local_on c) t x.0)))) refl
 
 -- how a local queue is supplied is as the rules allow
 pub supplies : (s : State) (c : ℕ) → Supplies c s (supply s c)
@@ -206,17 +259,18 @@ only_clears zero s c r few (Supplied _ _ f _ h x k) =
     k ∙ ap (λ (y : Stepped). one_after_other y (stays y.state)) e
 only_clears (suc j) s c r few (Supplied _ _ f _ h x k) =
     k ∙ ap (λ o. one_after_other f (clear_from j f.state c o)) (sym (no_throttled_front f.state (local_on c) x)) ∙ ap (λ (y : Stepped). one_after_other y (clear_from j y.state c (throttled_front y.state (local_on c)))) (only_fills s global c f h)
-only_clears zero s c r few (ParkedOne _ _ t f gone more _ h y z k) =
+only_clears zero s c r few (ParkedOne _ _ t f gone more _ h fr y z k) =
     let e = only_fills s global c f h in
     let less : in_reach f.state c ≤ in_reach s c = subst (λ (x : Stepped). in_reach x.state c ≤ in_reach s c) (sym e) (reach_fill s c) in
-    absurd (omega (arith, few, less, reach_park_front f.state c t y.front))
-only_clears (suc j) s c r few (ParkedOne _ _ t f gone more _ h y z k) =
+    absurd (omega (arith, few, less, reach_park_left f.state c t (front_in f.state.world.queues (local_on c) t fr)))
+only_clears (suc j) s c r few (ParkedOne _ _ t f gone more _ h fr y z k) =
     let e = only_fills s global c f h in
     let less : in_reach f.state c ≤ in_reach s c = subst (λ (x : Stepped). in_reach x.state c ≤ in_reach s c) (sym e) (reach_fill s c) in
-    let d = only_parks f.state (local_on c) t gone y in
-    let l : in_reach gone.state c ≤ j = subst (λ (x : Stepped). in_reach x.state c ≤ j) (sym d) (omega (arith, few, less, reach_park_front f.state c t y.front)) in
+    let d = only_parks f.state t gone y in
+    let l : in_reach gone.state c ≤ j = subst (λ (x : Stepped). in_reach x.state c ≤ j) (sym d) (omega (arith, few, less, reach_park_left f.state c t (front_in f.state.world.queues (local_on c) t fr))) in
     k ∙ ap (λ x. one_after_other f (one_after_other gone x)) (only_clears j gone.state c more l z) ∙ ap (λ (x : Stepped). one_after_other f (one_after_other x (clear j x.state c))) d
-    ∙ ap (λ o. one_after_other f (clear_from j f.state c o)) (sym (is_throttled_front f.state (local_on c) t gone y)) ∙ ap (λ (x : Stepped). one_after_other x (clear_from j x.state c (throttled_front x.state (local_on c)))) e
+    ∙ ap (λ o. one_after_other f (clear_from j f.state c o)) (sym (throttled_of f.state.world (front_of f.state.world.queues (local_on c)) t fr y.throttled))
+    ∙ ap (λ (x : Stepped). one_after_other x (clear_from j x.state c (throttled_front x.state (local_on c)))) e
 
 only_supplies : (s : State) (c : ℕ) (r : Stepped) → Supplies c s r → r ≡ supply s c
 unfolding supply
@@ -418,22 +472,22 @@ unfolding builtin_fill builtin_dispatch
 fills_builtin s c = go (any_here s c)
   where
     p : Stepped
-    p = park_fronts (len_of s.world.queues builtin_queue) s builtin_queue
+    p = park_next (len_of s.world.queues builtin_queue) s builtin_queue c
 
     go : HasAny s c → FillsBuiltin s c (if not (local_len s.world c == 0) then stays s else one_after_other p (fill p.state builtin_queue c))
     go (inl l) = rw (has_some s c l) (HasOne l refl)
-    go (inr z) = rw (is_empty s c z) (Looked p (fill p.state builtin_queue c) z (parks_fronts (len_of s.world.queues builtin_queue) s builtin_queue refl (omega arith)) (fills p.state builtin_queue c) refl)
+    go (inr z) = rw (is_empty s c z) (Looked p (fill p.state builtin_queue c) z (parks_first (len_of s.world.queues builtin_queue) s builtin_queue c refl (omega arith)) (fills p.state builtin_queue c) refl)
 
 abbrev builtin_if : State → ℕ → Bool → Stepped → Stepped
 builtin_if s c b p = if b then stays s else one_after_other p (fill p.state builtin_queue c)
 
 only_fills_builtin : (s : State) (c : ℕ) (r : Stepped) → FillsBuiltin s c r → r ≡ builtin_fill s c
 unfolding builtin_fill builtin_dispatch
-only_fills_builtin s c r (HasOne l k) = k ∙ ap (λ b. builtin_if s c b (park_fronts (len_of s.world.queues builtin_queue) s builtin_queue)) (sym (has_some s c l))
+only_fills_builtin s c r (HasOne l k) = k ∙ ap (λ b. builtin_if s c b (park_next (len_of s.world.queues builtin_queue) s builtin_queue c)) (sym (has_some s c l))
 only_fills_builtin s c r (Looked gone filled z h y k) =
-    let d = only_parks_fronts (len_of s.world.queues builtin_queue) s builtin_queue gone refl (omega arith) h in
+    let d = only_parks_first (len_of s.world.queues builtin_queue) s builtin_queue c gone refl (omega arith) h in
     k ∙ ap (λ x. one_after_other gone x) (only_fills gone.state builtin_queue c filled y) ∙ ap (λ (x : Stepped). one_after_other x (fill x.state builtin_queue c)) d
-    ∙ ap (λ b. builtin_if s c b (park_fronts (len_of s.world.queues builtin_queue) s builtin_queue)) (sym (is_empty s c z))
+    ∙ ap (λ b. builtin_if s c b (park_next (len_of s.world.queues builtin_queue) s builtin_queue c)) (sym (is_empty s c z))
 
 cycles_builtin : (s : State) (c : ℕ) (p : Option ℕ) (ran : Bool) → CyclesBuiltin s c p ran (builtin_cycle s c p ran)
 unfolding builtin_cycle builtin_ask

@@ -13,7 +13,7 @@ use Rattle.scx_sched_world.specs.declared.eject.Eject.TheVariants as cause
 use Rattle.scx_sched_world.specs.declared.eject.Cause.{Cause}
 use Rattle.scx_sched_world.specs.declared.notes.What.TheVariants as note
 use Rattle.scx_sched_world.specs.Ids.{parked_queue}
-use Rattle.scx_sched_world.specs.World.{WorldState, are_linux, is_throttled, with_tree, with_switch, task_at, waits, running, cpu_of, is_idle, choice, after_claim, note_now, at_callback}
+use Rattle.scx_sched_world.specs.World.{WorldState, are_linux, is_throttled, with_tree, with_switch, task_at, waits, running, cpu_of, is_idle, may_run, first_home, has_one_cpu, choice, default_choice, after_claim, note_now, at_callback}
 use Rattle.scx_sched_world.specs.Tasks.{homed, to_local, let_go, after_reweigh, after_own_weight}
 use Rattle.scx_sched_world.specs.Waits.{first_overdue}
 use Rattle.scx_sched_machine.specs.declared.events.Event.TheVariants.{Wake, Sleep, Tick, Clock, SetWeight, SetTaskWeight}
@@ -27,18 +27,20 @@ use Rattle.scx_sched_machine.specs.Cycle.{after_stopping, cycle}
 use Rattle.scx_sched_machine.specs.declared.events.Refused.TheVariants.{UnknownGroup, BadWeight}
 use Rattle.scx_sched_machine.specs.declared.events.Event.{Event}
 use Rattle.scx_sched_machine.specs.Rounds.{with_rounds}
-use Rattle.scx_sched_machine.specs.Events.{refusal, answered_cpu, target, insert_or_put, wake_target, settle, inserted_by_choice, chosen, ask_target, asks_target, select, comes_to, while_in_force, told_runnable, from_waker, wake, told_of_sleep, falls_asleep, looks_after_sleep, leaves_cpu, leaves_queue, sleep_from_cpu, sleep_from_queue, sleep_from, sleep, throttle, ends_slices, expire, use_up, tick_heard, count_down, tick_idle, tick_of, tick, overdue, eject_if_stalled, watch, timers_and_watchdog, clock, restore_flag, change_flags, takes_weight, changes_weight, reweigh_running, reweigh_waiting, reweigh_off_cpu, reweigh_at, reweigh_by_linux, reweigh, own_step}
+use Rattle.scx_sched_machine.specs.Events.{refusal, cpu_or_home, answered_cpu, target, insert_or_put, wake_target, settle, inserted_by_choice, chosen, ask_target, asks_target, settle_at_home, select, comes_to, while_in_force, told_runnable, from_waker, wake, told_of_sleep, falls_asleep, looks_after_sleep, leaves_cpu, leaves_queue, sleep_from_cpu, sleep_from_queue, sleep_from, sleep, throttle, ends_slices, expire, use_up, tick_heard, count_down, tick_idle, tick_of, tick, overdue, eject_if_stalled, watch, timers_and_watchdog, clock, restore_flag, change_flags, takes_weight, changes_weight, reweigh_running, reweigh_waiting, reweigh_off_cpu, reweigh_at, reweigh_by_linux, reweigh, own_step}
 use Rattle.scx_sched_machine.specs.Firing.{fire_all}
 use Rattle.scx_sched_rules.specs.Custody.{LeavesQueue}
 use Rattle.scx_sched_rules.specs.Cycles.{noting, silent, gone_off, parking}
 use Rattle.scx_vm.specs.Programs.{VerifiedProgram}
 use Rattle.scx_sched_world.specs.declared.call.Insert.{Insert}
-use Rattle.scx_sched_rules.specs.Events.{after_waking, select_called, select_answered, IsTarget, Is_ejected, NoCallback, Named, InsertsByChoice, AsByPlain, HasCallback, NoneChosen, IsChosen, Selects, Asks_by_plain, Asks_of_several, Is_only_one, TellsRunnable, TellsNobody, TellsPolicy, TellsLast, Settles, WasInserted, WasPut, is_woken, Rouses, IdleTarget, BusyTarget, ByLinux, Wakes, LeavesCpu, asleep, FallsAsleep, Sleeps, FromQueue, FromCpu, ran_on, charged, UsesUp, IsThrottled, RunsOn, RunsOut, RunsToTick, Ticks, NobodyRuns, SleepsOn, Runs, after_clock, LetsGo, Enough, NoMore, StaysParked, IsLetGo, LetsAllGo, Watches, Is_out, In_time, Too_late, Ages, SetsWeight, IsSet, HasNoHome, IsOutside, TakesWeight, ChangesWeight, Reweighs, WhileItRuns, WhileItWaits, WhileItRests, on_first_cpu, Weighs, Weighs_by_plain, Weighs_by_linux, Does}
+use Rattle.scx_sched_rules.specs.Events.{after_waking, select_called, select_answered, IsTarget, Is_ejected, NoCallback, Named, NamedOutside, InsertsByChoice, AsByPlain, HasCallback, NoneChosen, IsChosen, Selects, Asks_by_plain, Asks_of_several, Is_only_one, TellsRunnable, TellsNobody, TellsPolicy, TellsLast, Settles, WasInserted, WasPut, is_woken, Rouses, IdleTarget, BusyTarget, ByLinux, Wakes, LeavesCpu, asleep, FallsAsleep, Sleeps, FromQueue, FromCpu, ran_on, charged, UsesUp, IsThrottled, RunsOn, RunsOut, RunsToTick, Ticks, NobodyRuns, SleepsOn, Runs, after_clock, LetsGo, Enough, NoMore, StaysParked, IsLetGo, LetsAllGo, Watches, Is_out, In_time, Too_late, Ages, SetsWeight, IsSet, HasNoHome, IsOutside, TakesWeight, ChangesWeight, Reweighs, WhileItRuns, WhileItWaits, WhileItRests, on_first_cpu, Weighs, Weighs_by_plain, Weighs_by_linux, Does}
 use Rattle.scx_sched_rules.specs.Differences.{EndsSlices}
 use Rattle.scx_sched_rules.specs.Helpers.{IsChoice, with_claim, MakesClaim}
 use Rattle.scx_sched_rules.specs.Laws.{RulesAllowEvents, RulesAllowEventsOnly}
+use Rattle.scx_sched_rules.specs.Bound.{HasOneCpu}
+use Rattle.scx_sched_rules.proofs.Binding.{allowed_is, allowed_of, outside_is, outside_of, is_home, only_home_of, one_is, one_of}
 use Rattle.scx_sched_rules.proofs.Choosing.{is_choice, only_choice, is_default, only_default, only_claims}
-use Rattle.scx_sched_rules.proofs.Differing.{and_false, false_from, not_so, homes, only_homes, begins_switch, only_begins_switch, tells_waker, only_tells_waker, calls_if_there, only_calls_if_there, hears, only_hears, ends_is, ends_of, tells_sleep, only_tells_sleep, looks_if_idle, only_looks_if_idle}
+use Rattle.scx_sched_rules.proofs.Differing.{and_true, and_false, false_from, not_so, homes, only_homes, begins_switch, only_begins_switch, tells_waker, only_tells_waker, calls_if_there, only_calls_if_there, hears, only_hears, ends_is, ends_of, tells_sleep, only_tells_sleep, looks_if_idle, only_looks_if_idle}
 use Rattle.scx_sched_rules.proofs.Departing.{departs, only_departs}
 use Rattle.scx_sched_rules.proofs.Ringing.{fires_every, only_fires_every}
 use Rattle.scx_sched_rules.proofs.Refusing.{good, bad, is_weight}
@@ -65,6 +67,13 @@ target_of s t a = target (acting s callback.SelectCpu) s.world t a
 below : (k n : ℕ) → k < n → nat_lt k n ≡ true
 below k n l = grind (arith, nat_tests, l)
 
+-- a processor, or, where the task may not run on it, the lowest one on which it may
+abbrev home_or : WorldState → ℕ → ℕ → Bool → ℕ
+home_or w t n b = if b then n else first_home w t
+
+abbrev answered_as : WorldState → ℕ → ℕ → Bool → ℕ
+answered_as w t n b = if b then cpu_or_home w t n else default_choice w t
+
 abbrev target_as : State → ℕ → Option Eject → Option VerifiedProgram → Option ℕ → ℕ
 target_as s t y p a = target (unless_ejected y p) s.world t a
 
@@ -82,7 +91,13 @@ is_target : (s : State) (t : ℕ) (a : Option ℕ) → (s.world.ejected ≡ None
 is_target s t a names = go s.world.ejected refl s.policy.callbacks.select_cpu refl
   where
     at : (p : VerifiedProgram) → s.world.ejected ≡ None → s.policy.callbacks.select_cpu ≡ Some p → NamesCpu (length s.world.cpus) a → IsTarget s t a (answered_cpu s.world t a)
-    at p d e (n, x, l) = subst (λ (o : Option ℕ). IsTarget s t a (answered_cpu s.world t o)) (sym x) (rw (below n (length s.world.cpus) l) (Named p d e x l))
+    at p d e (n, x, l) =
+        subst (λ (o : Option ℕ). IsTarget s t a (answered_cpu s.world t o)) (sym x)
+        (subst (λ b. IsTarget s t a (answered_as s.world t n b)) (sym (below n (length s.world.cpus) l)) (named (may_run s.world t n) refl))
+      where
+        named : (b : Bool) → may_run s.world t n ≡ b → IsTarget s t a (home_or s.world t n b)
+        named true y = Named p d e x l (allowed_is s.world t n y)
+        named false y = NamedOutside p n d e x l (outside_is s.world t n y) (is_home s.world t)
 
     go : (y : Option Eject) → s.world.ejected ≡ y → (p : Option VerifiedProgram) → s.policy.callbacks.select_cpu ≡ p → IsTarget s t a (target_as s t y p a)
     go (Some y) d p e = Is_ejected y d (is_default s.world t)
@@ -96,10 +111,11 @@ target_at s t y p o a d e x =
 only_target : (s : State) (t : ℕ) (a : Option ℕ) (c : ℕ) → IsTarget s t a c → c ≡ target_of s t a
 only_target s t a c (Is_ejected y d h) = only_default s.world t c h ∙ target_at s t (Some y) s.policy.callbacks.select_cpu a a d refl refl
 only_target s t a c (NoCallback d e h) = only_default s.world t c h ∙ target_at s t None None a a d e refl
-only_target s t a c (Named p d e x l) = named (below c (length s.world.cpus) l) ∙ target_at s t None (Some p) (Some c) a d e x
-  where
-    named : nat_lt c (length s.world.cpus) ≡ true → c ≡ answered_cpu s.world t (Some c)
-    named k = rw k refl
+only_target s t a c (Named p d e x l h) =
+    ap (λ b. home_or s.world t c b) (sym (allowed_of s.world t c h)) ∙ ap (λ b. answered_as s.world t c b) (sym (below c (length s.world.cpus) l)) ∙ target_at s t None (Some p) (Some c) a d e x
+only_target s t a c (NamedOutside p n d e x l o h) =
+    only_home_of s.world t c h ∙ ap (λ b. home_or s.world t n b) (sym (outside_of s.world t n o)) ∙ ap (λ b. answered_as s.world t n b) (sym (below n (length s.world.cpus) l))
+    ∙ target_at s t None (Some p) (Some n) a d e x
 
 abbrev wake_note : State → ℕ → Stepped → Stepped
 wake_note s t r = after (note_now s.world (note.Wake t) ∷ []) r
@@ -182,24 +198,24 @@ ask_is : (s : State) (t : ℕ) → settling (asked_so s t) t (aimed s t) ≡ ask
 unfolding ask_target
 ask_is s t = refl
 
-abbrev only_cpu : State → ℕ → Stepped
-only_cpu s t = silent s (at_callback s.world callback.SelectCpu t 0)
+abbrev only_at : State → ℕ → ℕ → Stepped
+only_at s t c = silent s (at_callback s.world callback.SelectCpu t c)
 
 abbrev selected_as : State → ℕ → Bool → Stepped
-selected_as s t b = if b then ask_target s t else settling (only_cpu s t) t 0
+selected_as s t b = if b then ask_target s t else settling (only_at s t (first_home s.world t)) t (first_home s.world t)
 
-selected_is : (s : State) (t : ℕ) (b : Bool) → asks_target s ≡ b → selected_as s t b ≡ select s t
-unfolding select
+selected_is : (s : State) (t : ℕ) (b : Bool) → asks_target s t ≡ b → selected_as s t b ≡ select s t
+unfolding select settle_at_home
 selected_is s t b e = ap (λ x. selected_as s t x) (sym e)
 
-asks_plain : (s : State) → is_by_linux s ≡ false → asks_target s ≡ true
-asks_plain s e = ap (λ b. not (b && (length s.world.cpus == 1))) e
+asks_plain : (s : State) (t : ℕ) → is_by_linux s ≡ false → asks_target s t ≡ true
+asks_plain s t e = ap (λ b. not (b && has_one_cpu s.world t)) e
 
-asks_several : (s : State) → (length s.world.cpus ≡ 1 → ⊥) → asks_target s ≡ true
-asks_several s d = ap (λ b. not b) (and_false (is_by_linux s) (length s.world.cpus == 1) (ne_eqb (length s.world.cpus) 1 d))
+asks_several : (s : State) (t : ℕ) → ¬ HasOneCpu s.world t → asks_target s t ≡ true
+asks_several s t d = ap (λ b. not b) (and_false (is_by_linux s) (has_one_cpu s.world t) (false_from (has_one_cpu s.world t) (λ y. d (one_is s.world t y))))
 
-asks_nobody : (s : State) → is_by_linux s ≡ true → length s.world.cpus ≡ 1 → asks_target s ≡ false
-asks_nobody s lin e = ap (λ b. not (b && (length s.world.cpus == 1))) lin ∙ ap (λ b. not b) (eq-eqb (length s.world.cpus) 1 e)
+asks_nobody : (s : State) (t : ℕ) → is_by_linux s ≡ true → HasOneCpu s.world t → asks_target s t ≡ false
+asks_nobody s t lin h = ap (λ b. not b) (and_true (is_by_linux s) (has_one_cpu s.world t) lin (one_of s.world t h))
 
 record Selected (s : State) (t : ℕ) : Type 0 where
   cpu : ℕ
@@ -208,25 +224,30 @@ record Selected (s : State) (t : ℕ) : Type 0 where
   is : settling step t cpu ≡ select s t
 
 selected : (s : State) (t : ℕ) → Selected s t
-selected s t = go (is_by_linux s) refl (cases_eq (length s.world.cpus) 1)
+selected s t = go (is_by_linux s) refl (has_one_cpu s.world t) refl
   where
     aims : IsTarget (select_called s t).state t (select_answered s t) (aimed s t)
     aims = is_target (select_called s t).state t (select_answered s t) (selects s t)
 
-    go : (b : Bool) → is_by_linux s ≡ b → (length s.world.cpus ≡ 1) ⊎ (length s.world.cpus ≡ 1 → ⊥) → Selected s t
-    go false e any = record {
+    go : (b : Bool) → is_by_linux s ≡ b → (o : Bool) → has_one_cpu s.world t ≡ o → Selected s t
+    go false e o any = record {
       cpu = aimed s t;
       step = asked_so s t;
       selects = Asks_by_plain _ e aims (inserts_by_choice (select_called s t).state t) refl;
-      is = ask_is s t ∙ selected_is s t true (asks_plain s e);
+      is = ask_is s t ∙ selected_is s t true (asks_plain s t e);
     }
-    go true e (inr d) = record {
+    go true e false d = record {
       cpu = aimed s t;
       step = asked_so s t;
-      selects = Asks_of_several _ d aims (inserts_by_choice (select_called s t).state t) refl;
-      is = ask_is s t ∙ selected_is s t true (asks_several s d);
+      selects = Asks_of_several _ (λ h. not_so (has_one_cpu s.world t) d (one_of s.world t h)) aims (inserts_by_choice (select_called s t).state t) refl;
+      is = ask_is s t ∙ selected_is s t true (asks_several s t (λ h. not_so (has_one_cpu s.world t) d (one_of s.world t h)));
     }
-    go true e (inl k) = record { cpu = 0; step = only_cpu s t; selects = Is_only_one e k refl refl; is = selected_is s t false (asks_nobody s e k) }
+    go true e true k = record {
+      cpu = first_home s.world t;
+      step = only_at s t (first_home s.world t);
+      selects = Is_only_one e (one_is s.world t k) (is_home s.world t) refl;
+      is = selected_is s t false (asks_nobody s t e (one_is s.world t k));
+    }
 
 asked_at : (s : State) (t c : ℕ) (v : State) (r : Stepped) → IsTarget (select_called s t).state t (select_answered s t) c → InsertsByChoice (select_called s t).state t v → r ≡ asked s t v → settling r t c ≡ ask_target s t
 asked_at s t c v r tg h k =
@@ -234,10 +255,10 @@ asked_at s t c v r tg h k =
     ∙ ap (λ d. settling (asked_so s t) t d) (only_target (select_called s t).state t (select_answered s t) c tg) ∙ ask_is s t
 
 only_selects : (s : State) (t c : ℕ) (r : Stepped) → Selects s t c r → settling r t c ≡ select s t
-only_selects s t c r (Asks_by_plain v e tg h k) = asked_at s t c v r tg h k ∙ selected_is s t true (asks_plain s e)
-only_selects s t c r (Asks_of_several v d tg h k) = asked_at s t c v r tg h k ∙ selected_is s t true (asks_several s d)
+only_selects s t c r (Asks_by_plain v e tg h k) = asked_at s t c v r tg h k ∙ selected_is s t true (asks_plain s t e)
+only_selects s t c r (Asks_of_several v d tg h k) = asked_at s t c v r tg h k ∙ selected_is s t true (asks_several s t d)
 only_selects s t c r (Is_only_one e l z k) =
-    ap (λ x. settling x t c) k ∙ ap (λ d. settling (only_cpu s t) t d) z ∙ selected_is s t false (asks_nobody s e l)
+    ap (λ x. settling x t c) k ∙ ap (λ d. settling (only_at s t d) t d) (only_home_of s.world t c z) ∙ selected_is s t false (asks_nobody s t e l)
 
 -- ---- the policy hears that the task is runnable
 

@@ -6,8 +6,8 @@ use Rattle.std.proofs.lemmas.Nat.{div-add-mod'}
 use Rattle.std.proofs.lemmas.List.Folds.{list_any_at}
 use Rattle.std.proofs.lemmas.Bool.Decides.{nat_tests}
 use Rattle.std.proofs.lemmas.Bool.{cases_eq, cases_lt, eq-eqb, ne_eqb}
-use Rattle.scx_dsq.specs.Queues.{Entries, exists, entry_of, is_in, front_of, len_of}
-use Rattle.scx_dsq.specs.Calls.{create_refusal, after_create, clashes, with_queue, after_push, after_pop}
+use Rattle.scx_dsq.specs.Queues.{Entries, exists, entry_of, is_in, len_of}
+use Rattle.scx_dsq.specs.Calls.{create_refusal, after_create, clashes, with_queue, after_push, after_remove}
 use Rattle.scx_dsq.specs.Laws.{one_if}
 use Rattle.scx_dsq.specs.Entries.{same_sort}
 use Rattle.scx_dsq.specs.declared.entries.Entry.{Entry}
@@ -18,28 +18,29 @@ use Rattle.scx_dsq.specs.declared.errors.QueueError.TheVariants as queue_error
 use Rattle.scx_isa_semantics.specs.declared.callbacks.Callback.{Callback}
 use Rattle.scx_isa_semantics.specs.declared.callbacks.Callback.TheVariants as callback
 use Rattle.scx_isa_semantics.specs.declared.host_tables.Helper.{Helper}
-use Rattle.scx_isa_semantics.specs.declared.host_tables.Helper.TheVariants.{MapLookupElem, KtimeGetNs, CreateDsq, DsqInsert, DsqInsertVtime, DsqMoveToLocal, SelectCpuDfl, CpuIdle, TaskByPid, DsqNrQueued, KickCpu, SmpProcessorId, Exit, CpuCurr, DsqPeek, TaskRunning, TaskCpu, PickIdle, ClaimIdle, TimerStart, TimerCancel}
+use Rattle.scx_isa_semantics.specs.declared.host_tables.Helper.TheVariants.{MapLookupElem, KtimeGetNs, CreateDsq, DsqInsert, DsqInsertVtime, DsqMoveToLocal, SelectCpuDfl, CpuIdle, TaskByPid, DsqNrQueued, KickCpu, SmpProcessorId, Exit, CpuCurr, DsqPeek, TaskRunning, TaskCpu, PickIdle, ClaimIdle, TimerStart, TimerCancel, PrandomU32, MayRun}
 use Rattle.scx_vm.specs.declared.arguments.Arg.{Arg}
 use Rattle.scx_vm.specs.declared.arguments.Answer.{Answer}
 use Rattle.scx_vm.specs.declared.arguments.Answer.TheVariants.{Num, Task}
 use Rattle.scx_sched_world.specs.declared.call.Insert.{Insert}
 use Rattle.scx_sched_world.specs.declared.eject.Cause.TheVariants as reason
 use Rattle.scx_sched_world.specs.declared.faults.Fault.{Fault}
-use Rattle.scx_sched_world.specs.declared.faults.Fault.TheVariants.{Stuck, NoSuchQueue, CannotInsert, NoSuchCpu, UnknownFlag, CannotCreate, BuiltinVtime, Mixed, IdleUntracked}
+use Rattle.scx_sched_world.specs.declared.faults.Fault.TheVariants.{Stuck, NoSuchQueue, CannotInsert, NoSuchCpu, UnknownFlag, CannotCreate, BuiltinVtime, Mixed, IdleUntracked, NotAllowed}
 use Rattle.scx_sched_world.specs.Ids.{policy_end, global, local, held_queue, local_on}
 use Rattle.scx_sched_world.specs.declared.kicks.Kick.{Kick}
 use Rattle.scx_sched_world.specs.declared.kicks.Kick.TheVariants.{Any, IfIdle, Preempt}
 use Rattle.scx_sched_world.specs.CpuSets.{is_in_set}
 use Rattle.scx_sched_world.specs.World.{WorldState, with_queues, with_kick, is_by_linux, task_at, running, is_this, is_idle, is_claimed, choice, default_choice, after_claim, with_note}
-use Rattle.scx_sched_world.specs.Tasks.{homed, for_cpu}
+use Rattle.scx_sched_world.specs.Tasks.{homed, local_cpu, for_cpu, next_for}
 use Rattle.scx_sched_world.specs.declared.notes.What.TheVariants as notes
-use Rattle.scx_sched_world.specs.Helpers.{invalid, with_fault, with_move, are_linux_flags, are_known, flags_fault, is_late, after_late, after_insert, insert_answer, after_choice, seems_idle, kick_of, kicked_so, kick_fault, kicked_or_fault, given_number, given_task, task_or_null, is_there, can_create, is_at_hand, is_held, is_dispatch, may_insert_in, may_insert, queue_fault, is_vtime, rank_fault, or_fault, unless_fault, fault_or, ask_fault, insert_fault, insert_or_fault, invalid_if, insert_of, insert_of_vtime, choice_answer, pid_answer, can_move, front_moved_to_local, one_if_some, after_release, helper_answer, helper_after}
-use Rattle.scx_sched_rules.specs.Helpers.{IsDestination, Own, Global, Local, LocalOn, NamesNoCpu, CanCreate, MayInsert, InSelectCpu, InEnqueue, InDispatch, IsBuiltinVtime, IsMixed, MayMove, JudgesAsk, JudgesChoice, AreFlags, OfWake, OfLinux, IsLate, JudgesInsert, JudgesFlags, JudgesAnInsert, InTime, TooLate, Inserts, Keeps, Releases, PassesOver, Moves, Front, Empty, IsChoice, Chooses, OfTask, OfNone, OfNobody, SeemsIdle, IsUnclaimed, ClaimedHere, Tells, TellsIdle, TellsBusy, Kicks, KicksAny, KicksIdle, KicksCycling, LeavesBusy, KicksToPreempt, Finds, Found, Nobody, IsEffect, Done, NamesTask, Wrong, Blames}
+use Rattle.scx_sched_world.specs.Helpers.{invalid, with_fault, with_move, are_linux_flags, are_known, flags_fault, is_late, after_late, after_insert, insert_answer, after_choice, seems_idle, kick_of, kicked_so, kick_fault, kicked_or_fault, given_number, given_task, task_or_null, is_there, can_create, is_at_hand, is_held, is_dispatch, may_insert_in, may_insert, queue_fault, is_vtime, rank_fault, or_fault, unless_fault, fault_or, ask_fault, insert_fault, insert_or_fault, invalid_if, insert_of, insert_of_vtime, choice_answer, pid_answer, cpu_meant, may_go, placing_fault, can_move, moved_to_local, one_if_some, after_release, helper_answer, helper_after}
+use Rattle.scx_sched_rules.specs.Helpers.{IsDestination, Own, Global, Local, LocalOn, NamesNoCpu, CanCreate, MayInsert, InSelectCpu, InEnqueue, InDispatch, IsBuiltinVtime, IsMixed, IsMeant, IsNamed, IsAtHand, IsForbidden, MayMove, JudgesAsk, JudgesChoice, AreFlags, OfWake, OfLinux, IsLate, JudgesInsert, JudgesFlags, JudgesAnInsert, InTime, TooLate, Inserts, Keeps, Releases, PassesOver, Moves, First, HasNone, IsChoice, Chooses, OfTask, OfNone, OfNobody, SeemsIdle, IsUnclaimed, ClaimedHere, Tells, TellsIdle, TellsBusy, Kicks, KicksAny, KicksIdle, KicksCycling, LeavesBusy, KicksToPreempt, Finds, Found, Nobody, IsEffect, Done, NamesTask, Wrong, Blames}
 use Rattle.scx_sched_rules.specs.Laws.{RulesAllowHelpers, RulesAllowHelpersOnly}
 use Rattle.scx_sched_rules.proofs.Choosing.{is_choice, only_choice, claims, only_claims}
-use Rattle.scx_sched_rules.proofs.Differing.{and_true, homes, only_homes}
+use Rattle.scx_sched_rules.proofs.Differing.{and_true, false_and, homes, only_homes}
+use Rattle.scx_sched_rules.proofs.Binding.{outside_is, outside_of, next_is, only_next}
 use Rattle.scx_sched_rules.proofs.Ejecting.{blames, only_blames}
-use Rattle.scx_sched_rules.proofs.Readers.{this_is, this_of, there_is, is_there_of, some_fault, here_allowed, only_here_so, exit_allowed, only_exit, current_allowed, only_current_so, peek_allowed, only_peek, running_allowed, only_running, home_allowed, only_home, pick_allowed, only_pick, ask_judged, ask_from, claim_allowed, only_claim}
+use Rattle.scx_sched_rules.proofs.Readers.{this_is, this_of, there_is, is_there_of, some_fault, here_allowed, only_here_so, exit_allowed, only_exit, current_allowed, only_current_so, peek_allowed, only_peek, running_allowed, only_running, home_allowed, only_home, may_allowed, only_may, random_allowed, only_random, pick_allowed, only_pick, ask_judged, ask_from, claim_allowed, only_claim}
 use Rattle.scx_sched_rules.proofs.Alarms.{start_allowed, only_start, cancel_allowed, only_cancel}
 
 -- ---- tests of Booleans as facts
@@ -72,6 +73,7 @@ FaultOf w q (Some CannotInsert) = ⊥
 FaultOf w q (Some UnknownFlag) = ⊥
 FaultOf w q (Some CannotCreate) = ⊥
 FaultOf w q (Some Stuck) = ⊥
+FaultOf w q (Some NotAllowed) = ⊥
 FaultOf w q (Some IdleUntracked) = ⊥
 FaultOf w q (Some BuiltinVtime) = ⊥
 FaultOf w q (Some Mixed) = ⊥
@@ -135,6 +137,7 @@ RankOf w q r (Some CannotInsert) = ⊥
 RankOf w q r (Some UnknownFlag) = ⊥
 RankOf w q r (Some CannotCreate) = ⊥
 RankOf w q r (Some Stuck) = ⊥
+RankOf w q r (Some NotAllowed) = ⊥
 RankOf w q r (Some IdleUntracked) = ⊥
 
 by_vtime_is : (q : ℕ) (r : Rank) → (is_vtime r && nat_le policy_end q) ≡ true → IsBuiltinVtime q r
@@ -202,6 +205,7 @@ rank_fault_from w q r (Some CannotInsert) h = absurd h
 rank_fault_from w q r (Some UnknownFlag) h = absurd h
 rank_fault_from w q r (Some CannotCreate) h = absurd h
 rank_fault_from w q r (Some Stuck) h = absurd h
+rank_fault_from w q r (Some NotAllowed) h = absurd h
 rank_fault_from w q r (Some IdleUntracked) h = absurd h
 
 -- ---- flags of an insert
@@ -277,6 +281,62 @@ flags_of w n (OfWake l) = go (is_by_linux w)
 no_flags : (w : WorldState) (n : ℕ) → ¬ AreFlags w n → are_known w n ≡ false
 no_flags w n f = is_false (are_known w n) (λ e. f (flags_is w n e))
 
+-- ---- where an insert brings its task
+
+local_is : (w : WorldState) (q c : ℕ) → local_cpu w q ≡ Some c → IsMeant w q c
+local_is w q c e = go (nat_le (local_on 0) q && nat_lt q (local_on (length w.cpus))) refl e
+  where
+    go : (b : Bool) → (nat_le (local_on 0) q && nat_lt q (local_on (length w.cpus))) ≡ b → (if b then Some (q - local_on 0) else None) ≡ Some c → IsMeant w q c
+    go false x y = absurd (cc)
+    go true x y =
+        let z = both (nat_le (local_on 0) q) (nat_lt q (local_on (length w.cpus))) x in
+        let low : local_on 0 ≤ q = grind (arith, nat_tests, z.0) in
+        let high : q < local_on (length w.cpus) = grind (arith, nat_tests, z.1) in
+        let is : q - local_on 0 ≡ c = ap (λ o. unwrap_or o 0) y in
+        IsNamed (omega (arith, is, low, high)) (omega (arith, is, low))
+
+abbrev meant_as : WorldState → ℕ → Bool → Option ℕ
+meant_as w q b = if b then Some w.call.cpu else local_cpu w q
+
+meant_is : (w : WorldState) (q c : ℕ) → cpu_meant w q ≡ Some c → IsMeant w q c
+meant_is w q c e = go ((q == local) && is_dispatch w.call.callback) refl e
+  where
+    go : (b : Bool) → ((q == local) && is_dispatch w.call.callback) ≡ b → meant_as w q b ≡ Some c → IsMeant w q c
+    go false x y = local_is w q c y
+    go true x y =
+        let z = both (q == local) (is_dispatch w.call.callback) x in
+        let is : w.call.cpu ≡ c = ap (λ o. unwrap_or o 0) y in
+        IsAtHand (dispatch_is w.call.callback z.1) (grind (arith, nat_tests, z.0)) (sym is)
+
+meant_of : (w : WorldState) (q c : ℕ) → IsMeant w q c → cpu_meant w q ≡ Some c
+meant_of w q c (IsAtHand x e k) = ap (λ b. meant_as w q b) (and_true (q == local) (is_dispatch w.call.callback) (eq-eqb q local e) (ap (λ b. is_dispatch b) x)) ∙ ap (λ n. Some n) (sym k)
+meant_of w q c (IsNamed l e) =
+    let low : nat_le (local_on 0) q ≡ true = grind (arith, nat_tests, e) in
+    let high : nat_lt q (local_on (length w.cpus)) ≡ true = grind (arith, nat_tests, e, l) in
+    let is : q - local_on 0 ≡ c = omega (arith, e) in
+    ap (λ b. meant_as w q b) (false_and (q == local) (is_dispatch w.call.callback) (ne_eqb q local (λ x. omega (arith, x, e))))
+    ∙ ap (λ b. if b then Some (q - local_on 0) else None) (and_true (nat_le (local_on 0) q) (nat_lt q (local_on (length w.cpus))) low high) ∙ ap (λ n. Some n) is
+
+forbidden_is : (w : WorldState) (t : Option ℕ) (q : ℕ) → may_go w t (cpu_meant w q) ≡ false → IsForbidden w t q
+forbidden_is w t q = go t refl (cpu_meant w q) refl
+  where
+    go : (o : Option ℕ) → t ≡ o → (p : Option ℕ) → cpu_meant w q ≡ p → may_go w o p ≡ false → IsForbidden w t q
+    go None x None y e = absurd (cc)
+    go None x (Some c) y e = absurd (cc)
+    go (Some u) x None y e = absurd (cc)
+    go (Some u) x (Some c) y e = record { task = u; given = x; cpu = c; meant = meant_is w q c y; outside = outside_is w u c e }
+
+forbidden_of : (w : WorldState) (t : Option ℕ) (q : ℕ) → IsForbidden w t q → may_go w t (cpu_meant w q) ≡ false
+forbidden_of w t q h =
+    ap (λ o. may_go w o (cpu_meant w q)) h.given ∙ ap (λ p. may_go w (Some h.task) p) (meant_of w q h.cpu h.meant) ∙ outside_of w h.task h.cpu h.outside
+
+may_from : (w : WorldState) (t : Option ℕ) (q : ℕ) → ¬ IsForbidden w t q → may_go w t (cpu_meant w q) ≡ true
+may_from w t q n = go (may_go w t (cpu_meant w q)) refl
+  where
+    go : (b : Bool) → may_go w t (cpu_meant w q) ≡ b → may_go w t (cpu_meant w q) ≡ true
+    go true e = e
+    go false e = absurd (n (forbidden_is w t q e))
+
 -- ---- the fault of an insert
 
 held_is : (o : Option Entry) → is_in held_queue o ≡ true → option_map (λ p. p.queue) o ≡ Some held_queue
@@ -316,8 +376,13 @@ may_insert_of w t (InDispatch u x y z) = rw (x, y) (held_of (entry_of w.queues u
 insert_fault_is : (w : WorldState) (t : Option ℕ) (i : Insert) (flags : ℕ) → JudgesInsert w t i flags (insert_fault w t i flags)
 insert_fault_is w t i flags = go (may_insert w t) refl
   where
-    at_rank : MayInsert w t → AreFlags w flags → IsDestination w i.queue → (o : Option Fault) → RankOf w i.queue i.rank o → JudgesInsert w t i flags o
-    at_rank m l d None h = (m, l, d, h.0, h.1)
+    at_place : MayInsert w t → AreFlags w flags → IsDestination w i.queue → ¬ IsBuiltinVtime i.queue i.rank → ¬ IsMixed w i.queue i.rank → (b : Bool) → may_go w t (cpu_meant w i.queue) ≡ b
+        → JudgesInsert w t i flags (if b then None else Some NotAllowed)
+    at_place m l d v x true e = (m, l, d, v, x, λ h. not_both (may_go w t (cpu_meant w i.queue)) (forbidden_of w t i.queue h) e)
+    at_place m l d v x false e = (m, l, d, v, x, forbidden_is w t i.queue e)
+
+    at_rank : MayInsert w t → AreFlags w flags → IsDestination w i.queue → (o : Option Fault) → RankOf w i.queue i.rank o → JudgesInsert w t i flags (or_fault o (placing_fault w t i.queue))
+    at_rank m l d None h = at_place m l d h.0 h.1 (may_go w t (cpu_meant w i.queue)) refl
     at_rank m l d (Some BuiltinVtime) h = (m, l, d, h)
     at_rank m l d (Some Mixed) h = (m, l, d, h.0, h.1)
     at_rank m l d (Some NoSuchQueue) h = absurd h
@@ -326,9 +391,10 @@ insert_fault_is w t i flags = go (may_insert w t) refl
     at_rank m l d (Some UnknownFlag) h = absurd h
     at_rank m l d (Some CannotCreate) h = absurd h
     at_rank m l d (Some Stuck) h = absurd h
+    at_rank m l d (Some NotAllowed) h = absurd h
     at_rank m l d (Some IdleUntracked) h = absurd h
 
-    at_queue : MayInsert w t → AreFlags w flags → (o : Option Fault) → FaultOf w i.queue o → JudgesInsert w t i flags (or_fault o (rank_fault w i.queue i.rank))
+    at_queue : MayInsert w t → AreFlags w flags → (o : Option Fault) → FaultOf w i.queue o → JudgesInsert w t i flags (or_fault o (or_fault (rank_fault w i.queue i.rank) (placing_fault w t i.queue)))
     at_queue m l None h = at_rank m l h (rank_fault w i.queue i.rank) (rank_fault_is w i.queue i.rank)
     at_queue m l (Some NoSuchQueue) h = (m, l, h.0, h.1)
     at_queue m l (Some NoSuchCpu) h = (m, l, h)
@@ -336,15 +402,16 @@ insert_fault_is w t i flags = go (may_insert w t) refl
     at_queue m l (Some UnknownFlag) h = absurd h
     at_queue m l (Some CannotCreate) h = absurd h
     at_queue m l (Some Stuck) h = absurd h
+    at_queue m l (Some NotAllowed) h = absurd h
     at_queue m l (Some IdleUntracked) h = absurd h
     at_queue m l (Some BuiltinVtime) h = absurd h
     at_queue m l (Some Mixed) h = absurd h
 
-    at_flag : MayInsert w t → (b : Bool) → are_known w flags ≡ b → JudgesInsert w t i flags (or_fault (if b then None else Some UnknownFlag) (or_fault (queue_fault w i.queue) (rank_fault w i.queue i.rank)))
+    at_flag : MayInsert w t → (b : Bool) → are_known w flags ≡ b → JudgesInsert w t i flags (or_fault (if b then None else Some UnknownFlag) (or_fault (queue_fault w i.queue) (or_fault (rank_fault w i.queue i.rank) (placing_fault w t i.queue))))
     at_flag m false e = (m, λ h. not_both (are_known w flags) e (flags_of w flags h))
     at_flag m true e = at_queue m (flags_is w flags e) (queue_fault w i.queue) (queue_fault_is w i.queue)
 
-    go : (b : Bool) → may_insert w t ≡ b → JudgesInsert w t i flags (if b then or_fault (flags_fault w flags) (or_fault (queue_fault w i.queue) (rank_fault w i.queue i.rank)) else Some CannotInsert)
+    go : (b : Bool) → may_insert w t ≡ b → JudgesInsert w t i flags (if b then or_fault (flags_fault w flags) (or_fault (queue_fault w i.queue) (or_fault (rank_fault w i.queue i.rank) (placing_fault w t i.queue))) else Some CannotInsert)
     go true e = at_flag (insert_is w t e) (are_known w flags) refl
     go false e = λ m. not_both (may_insert w t) e (may_insert_of w t m)
 
@@ -362,6 +429,7 @@ no_fault_at w q d (Some CannotInsert) h = absurd h
 no_fault_at w q d (Some UnknownFlag) h = absurd h
 no_fault_at w q d (Some CannotCreate) h = absurd h
 no_fault_at w q d (Some Stuck) h = absurd h
+no_fault_at w q d (Some NotAllowed) h = absurd h
 no_fault_at w q d (Some IdleUntracked) h = absurd h
 no_fault_at w q d (Some BuiltinVtime) h = absurd h
 no_fault_at w q d (Some Mixed) h = absurd h
@@ -374,6 +442,7 @@ no_cpu_at w q n (Some CannotInsert) h = absurd h
 no_cpu_at w q n (Some UnknownFlag) h = absurd h
 no_cpu_at w q n (Some CannotCreate) h = absurd h
 no_cpu_at w q n (Some Stuck) h = absurd h
+no_cpu_at w q n (Some NotAllowed) h = absurd h
 no_cpu_at w q n (Some IdleUntracked) h = absurd h
 no_cpu_at w q n (Some BuiltinVtime) h = absurd h
 no_cpu_at w q n (Some Mixed) h = absurd h
@@ -386,6 +455,7 @@ no_queue_at w q d n (Some CannotInsert) h = absurd h
 no_queue_at w q d n (Some UnknownFlag) h = absurd h
 no_queue_at w q d n (Some CannotCreate) h = absurd h
 no_queue_at w q d n (Some Stuck) h = absurd h
+no_queue_at w q d n (Some NotAllowed) h = absurd h
 no_queue_at w q d n (Some IdleUntracked) h = absurd h
 no_queue_at w q d n (Some BuiltinVtime) h = absurd h
 no_queue_at w q d n (Some Mixed) h = absurd h
@@ -396,30 +466,36 @@ known_fault w flags h = ap (λ b. if b then None else Some UnknownFlag) (flags_o
 unknown_fault : (w : WorldState) (flags : ℕ) → ¬ AreFlags w flags → flags_fault w flags ≡ Some UnknownFlag
 unknown_fault w flags n = ap (λ b. if b then None else Some UnknownFlag) (no_flags w flags n)
 
-abbrev fault_as : WorldState → Insert → Option Fault → Bool → Option Fault
-fault_as w i f b = if b then or_fault f (or_fault (queue_fault w i.queue) (rank_fault w i.queue i.rank)) else Some CannotInsert
+abbrev fault_as : WorldState → Option ℕ → Insert → Option Fault → Bool → Option Fault
+fault_as w t i f b = if b then or_fault f (or_fault (queue_fault w i.queue) (or_fault (rank_fault w i.queue i.rank) (placing_fault w t i.queue))) else Some CannotInsert
 
 -- of a task that may be inserted, with flags that are known
-insert_fault_at : (w : WorldState) (t : Option ℕ) (i : Insert) (flags : ℕ) → MayInsert w t → AreFlags w flags → insert_fault w t i flags ≡ or_fault (queue_fault w i.queue) (rank_fault w i.queue i.rank)
-insert_fault_at w t i flags m l = ap (λ b. fault_as w i (flags_fault w flags) b) (may_insert_of w t m) ∙ ap (λ f. fault_as w i f true) (known_fault w flags l)
+insert_fault_at : (w : WorldState) (t : Option ℕ) (i : Insert) (flags : ℕ) → MayInsert w t → AreFlags w flags → insert_fault w t i flags ≡ or_fault (queue_fault w i.queue) (or_fault (rank_fault w i.queue i.rank) (placing_fault w t i.queue))
+insert_fault_at w t i flags m l = ap (λ b. fault_as w t i (flags_fault w flags) b) (may_insert_of w t m) ∙ ap (λ f. fault_as w t i f true) (known_fault w flags l)
 
 insert_fault_from : (w : WorldState) (t : Option ℕ) (i : Insert) (flags : ℕ) (o : Option Fault) → JudgesInsert w t i flags o → insert_fault w t i flags ≡ o
 insert_fault_from w t i flags o j = go o j
   where
     -- once the queue is right
-    at_rank : MayInsert w t → AreFlags w flags → IsDestination w i.queue → (o : Option Fault) → RankOf w i.queue i.rank o → insert_fault w t i flags ≡ o
+    at_rank : MayInsert w t → AreFlags w flags → IsDestination w i.queue → (o : Option Fault) → RankOf w i.queue i.rank o → insert_fault w t i flags ≡ or_fault o (placing_fault w t i.queue)
     at_rank m l d o h =
-        insert_fault_at w t i flags m l ∙ ap (λ x. or_fault x (rank_fault w i.queue i.rank)) (no_fault_at w i.queue d (queue_fault w i.queue) (queue_fault_is w i.queue)) ∙ rank_fault_from w i.queue i.rank o h
+        insert_fault_at w t i flags m l ∙ ap (λ x. or_fault x (or_fault (rank_fault w i.queue i.rank) (placing_fault w t i.queue))) (no_fault_at w i.queue d (queue_fault w i.queue) (queue_fault_is w i.queue))
+        ∙ ap (λ x. or_fault x (placing_fault w t i.queue)) (rank_fault_from w i.queue i.rank o h)
+
+    -- once its rank is right
+    at_place : MayInsert w t → AreFlags w flags → IsDestination w i.queue → RankOf w i.queue i.rank None → (b : Bool) → may_go w t (cpu_meant w i.queue) ≡ b → insert_fault w t i flags ≡ (if b then None else Some NotAllowed)
+    at_place m l d h b e = at_rank m l d None h ∙ ap (λ x. if x then None else Some NotAllowed) e
 
     at_queue : MayInsert w t → AreFlags w flags → (f : Fault) → queue_fault w i.queue ≡ Some f → insert_fault w t i flags ≡ Some f
-    at_queue m l f e = insert_fault_at w t i flags m l ∙ ap (λ x. or_fault x (rank_fault w i.queue i.rank)) e
+    at_queue m l f e = insert_fault_at w t i flags m l ∙ ap (λ x. or_fault x (or_fault (rank_fault w i.queue i.rank) (placing_fault w t i.queue))) e
 
     go : (o : Option Fault) → JudgesInsert w t i flags o → insert_fault w t i flags ≡ o
-    go None j = at_rank j.0 j.1 j.2 None (j.3, j.4)
+    go None j = at_place j.0 j.1 j.2 (j.3, j.4) true (may_from w t i.queue j.5)
+    go (Some NotAllowed) j = at_place j.0 j.1 j.2 (j.3, j.4) false (forbidden_of w t i.queue j.5)
     go (Some BuiltinVtime) j = at_rank j.0 j.1 j.2 (Some BuiltinVtime) j.3
     go (Some Mixed) j = at_rank j.0 j.1 j.2 (Some Mixed) (j.3, j.4)
     go (Some CannotInsert) j = rw (is_false (may_insert w t) (λ e. j (insert_is w t e))) refl
-    go (Some UnknownFlag) j = ap (λ b. fault_as w i (flags_fault w flags) b) (may_insert_of w t j.0) ∙ ap (λ f. fault_as w i f true) (unknown_fault w flags j.1)
+    go (Some UnknownFlag) j = ap (λ b. fault_as w t i (flags_fault w flags) b) (may_insert_of w t j.0) ∙ ap (λ f. fault_as w t i f true) (unknown_fault w flags j.1)
     go (Some NoSuchQueue) j = at_queue j.0 j.1 NoSuchQueue (no_queue_at w i.queue j.2 j.3 (queue_fault w i.queue) (queue_fault_is w i.queue))
     go (Some NoSuchCpu) j = at_queue j.0 j.1 NoSuchCpu (no_cpu_at w i.queue j.2 (queue_fault w i.queue) (queue_fault_is w i.queue))
     go (Some CannotCreate) j = absurd j
@@ -486,6 +562,7 @@ flags_from w flags (Some BuiltinVtime) j = absurd j
 flags_from w flags (Some Mixed) j = absurd j
 flags_from w flags (Some CannotCreate) j = absurd j
 flags_from w flags (Some Stuck) j = absurd j
+flags_from w flags (Some NotAllowed) j = absurd j
 flags_from w flags (Some IdleUntracked) j = absurd j
 
 -- an insert, in time or late: its fault, and what it does
@@ -577,9 +654,11 @@ move_is w q e = let x = both (is_dispatch w.call.callback) (is_there w q) e in r
 can_move_of : (w : WorldState) (q : ℕ) → MayMove w q → can_move w q ≡ true
 can_move_of w q h = rw (h.here, is_there_of w q h.there) refl
 
-moves_is : (w : WorldState) (q : ℕ) (o : Option ℕ) → front_of w.queues q ≡ o → Moves w q (one_if_some o) (front_moved_to_local w o q)
-moves_is w q None e = Empty e refl refl
-moves_is w q (Some t) e = let v = with_queues w (after_push (after_pop w.queues q) (local_on w.call.cpu) t Fifo) in Front t (homed v t w.call.cpu) e refl (homes v t w.call.cpu) refl
+moves_is : (w : WorldState) (q : ℕ) (o : Option ℕ) → next_for w q w.call.cpu ≡ o → Moves w q (one_if_some o) (moved_to_local w o)
+moves_is w q None e = HasNone (next_is w q w.call.cpu None e) refl refl
+moves_is w q (Some t) e =
+    let v = with_queues w (after_push (after_remove w.queues t) (local_on w.call.cpu) t Fifo) in
+    First t (homed v t w.call.cpu) (next_is w q w.call.cpu (Some t) e) refl (homes v t w.call.cpu) refl
 
 -- ---- all helpers
 
@@ -616,8 +695,8 @@ move_allowed w a = go (can_move w q) refl
     q : ℕ
     q = given_number a 0
 
-    go : (b : Bool) → can_move w q ≡ b → IsEffect w DsqMoveToLocal a (Num (if b then one_if_some (front_of w.queues q) else invalid)) (if b then front_moved_to_local w (front_of w.queues q) q else with_fault w NoSuchQueue)
-    go true e = Done (one_if_some (front_of w.queues q)) (move_is w q e) (moves_is w q (front_of w.queues q) refl) refl
+    go : (b : Bool) → can_move w q ≡ b → IsEffect w DsqMoveToLocal a (Num (if b then one_if_some (next_for w q w.call.cpu) else invalid)) (if b then moved_to_local w (next_for w q w.call.cpu) else with_fault w NoSuchQueue)
+    go true e = Done (one_if_some (next_for w q w.call.cpu)) (move_is w q e) (moves_is w q (next_for w q w.call.cpu) refl) refl
     go false e = Wrong NoSuchQueue (λ h. not_both (can_move w q) e (can_move_of w q h)) refl (blames w (reason.Fault NoSuchQueue))
 
 queued_allowed : (w : WorldState) (a : List Arg) → Is-effect w DsqNrQueued a
@@ -786,6 +865,8 @@ helper_allowed w PickIdle a own = pick_allowed w a
 helper_allowed w ClaimIdle a own = claim_allowed w a
 helper_allowed w TimerStart a own = start_allowed w a
 helper_allowed w TimerCancel a own = cancel_allowed w a
+helper_allowed w PrandomU32 a own = random_allowed w a
+helper_allowed w MayRun a own = may_allowed w a
 helper_allowed w MapLookupElem a own = absurd (own refl)
 
 -- ---- and nothing else
@@ -804,6 +885,7 @@ only_create w a x v (Wrong NoSuchCpu j e k) = absurd j
 only_create w a x v (Wrong BuiltinVtime j e k) = absurd j
 only_create w a x v (Wrong Mixed j e k) = absurd j
 only_create w a x v (Wrong Stuck j e k) = absurd j
+only_create w a x v (Wrong NotAllowed j e k) = absurd j
 only_create w a x v (Wrong IdleUntracked j e k) = absurd j
 
 only_insert : (w : WorldState) (a : List Arg) (x : Answer) (v : WorldState) → IsEffect w DsqInsert a x v → Is-this w DsqInsert a x v
@@ -845,6 +927,7 @@ choice_from w t CannotCreate j = absurd j
 choice_from w t BuiltinVtime j = absurd j
 choice_from w t Mixed j = absurd j
 choice_from w t Stuck j = absurd j
+choice_from w t NotAllowed j = absurd j
 
 only_choice_so : (w : WorldState) (a : List Arg) (x : Answer) (v : WorldState) → IsEffect w SelectCpuDfl a x v → Is-this w SelectCpuDfl a x v
 only_choice_so w a x v (Done n j d e) = let h = only_chooses w n (given_task a 0) v j d in (e ∙ ap Num h.0, h.1)
@@ -886,11 +969,12 @@ only_finds w n o (Nobody none k) = go (nat_lt 0 n) (nat_le n (length w.tasks)) r
     go true false y z = ap (λ u. task_or_null u) k
     go false b y z = ap (λ u. task_or_null u) k
 
-only_moves : (w : WorldState) (q n : ℕ) (v : WorldState) → Moves w q n v → (n ≡ one_if_some (front_of w.queues q)) × (v ≡ front_moved_to_local w (front_of w.queues q) q)
-only_moves w q n v (Front t moved f e h k) =
-    let u = with_queues w (after_push (after_pop w.queues q) (local_on w.call.cpu) t Fifo) in
-    rw f (e, k ∙ ap (λ x. with_note (with_move x) (notes.Move t w.call.cpu)) (only_homes u t w.call.cpu moved h))
-only_moves w q n v (Empty f e k) = rw f (e, k)
+only_moves : (w : WorldState) (q n : ℕ) (v : WorldState) → Moves w q n v → (n ≡ one_if_some (next_for w q w.call.cpu)) × (v ≡ moved_to_local w (next_for w q w.call.cpu))
+only_moves w q n v (First t moved f e h k) =
+    let u = with_queues w (after_push (after_remove w.queues t) (local_on w.call.cpu) t Fifo) in
+    let x = only_next w q w.call.cpu (Some t) f in
+    (e ∙ ap (λ o. one_if_some o) x, k ∙ ap (λ x. with_note (with_move x) (notes.Move t w.call.cpu)) (only_homes u t w.call.cpu moved h) ∙ ap (λ o. moved_to_local w o) x)
+only_moves w q n v (HasNone f e k) = let x = only_next w q w.call.cpu None f in (e ∙ ap (λ o. one_if_some o) x, k ∙ ap (λ o. moved_to_local w o) x)
 
 only_move : (w : WorldState) (a : List Arg) (x : Answer) (v : WorldState) → IsEffect w DsqMoveToLocal a x v → Is-this w DsqMoveToLocal a x v
 only_move w a x v (Done n j d e) =
@@ -903,6 +987,7 @@ only_move w a x v (Wrong CannotInsert j e k) = absurd j
 only_move w a x v (Wrong UnknownFlag j e k) = absurd j
 only_move w a x v (Wrong CannotCreate j e k) = absurd j
 only_move w a x v (Wrong Stuck j e k) = absurd j
+only_move w a x v (Wrong NotAllowed j e k) = absurd j
 only_move w a x v (Wrong IdleUntracked j e k) = absurd j
 only_move w a x v (Wrong NoSuchCpu j e k) = absurd j
 only_move w a x v (Wrong BuiltinVtime j e k) = absurd j
@@ -916,6 +1001,7 @@ only_queued w a x v (Wrong CannotInsert j e k) = absurd j
 only_queued w a x v (Wrong UnknownFlag j e k) = absurd j
 only_queued w a x v (Wrong CannotCreate j e k) = absurd j
 only_queued w a x v (Wrong Stuck j e k) = absurd j
+only_queued w a x v (Wrong NotAllowed j e k) = absurd j
 only_queued w a x v (Wrong IdleUntracked j e k) = absurd j
 only_queued w a x v (Wrong NoSuchCpu j e k) = absurd j
 only_queued w a x v (Wrong BuiltinVtime j e k) = absurd j
@@ -955,6 +1041,7 @@ only_kick w a x v (Wrong CannotInsert j e k) = absurd j
 only_kick w a x v (Wrong BuiltinVtime j e k) = absurd j
 only_kick w a x v (Wrong Mixed j e k) = absurd j
 only_kick w a x v (Wrong Stuck j e k) = absurd j
+only_kick w a x v (Wrong NotAllowed j e k) = absurd j
 only_kick w a x v (Wrong IdleUntracked j e k) = absurd j
 
 -- and nothing else is
@@ -983,6 +1070,8 @@ only_helper w PickIdle a x v e = only_pick w a x v e
 only_helper w ClaimIdle a x v e = only_claim w a x v e
 only_helper w TimerStart a x v e = only_start w a x v e
 only_helper w TimerCancel a x v e = only_cancel w a x v e
+only_helper w PrandomU32 a x v e = only_random w a x v e
+only_helper w MayRun a x v e = only_may w a x v e
 only_helper w MapLookupElem a x v (Done n j d e) = absurd j
 only_helper w MapLookupElem a x v (NamesTask o j m e k) = absurd m
 only_helper w MapLookupElem a x v (Wrong f j e k) = absurd j

@@ -1,4 +1,5 @@
 pub mod Differing
+pub mod Binding
 pub mod Choosing
 pub mod Ejecting
 pub mod Readers
@@ -13,4 +14,5 @@ pub mod Rounding
 pub mod Waiting
 pub mod Refusing
 pub mod Happening
+pub mod Homing
 pub mod Starting

@@ -1,25 +1,27 @@
 -- Helpers of Linux rules that read, choose or end a policy: what they answer and leave is allowed, and nothing else is.
-use Rattle.std.proofs.Common.{unwrap_or, ◌≡◌, ℕ, zero, suc, ◌<◌, ◌≤◌, Bool, true, false, ◌==◌, ◌||◌, nat_lt, nat_le, ◌⊎◌, inl, inr, if◌then◌else◌, List, length, Option, Some, None, refl, sym, ◌∙◌, ap, subst, arith}
+use Rattle.std.proofs.Common.{◌≡◌, ℕ, zero, suc, ◌<◌, ◌≤◌, Bool, true, false, ◌==◌, ◌||◌, ◌+◌, ◌*◌, ◌/◌, ◌%◌, ◌^◌, nat_lt, nat_le, ◌⊎◌, inl, inr, if◌then◌else◌, List, length, Option, Some, None, refl, sym, ◌∙◌, ap, subst, arith}
 use Rattle.std.specs.Int.{w64, bit_at, cast_signed}
+use Rattle.std.proofs.lemmas.Nat.{div-add-mod'}
 use Rattle.std.proofs.lemmas.Bool.Decides.{nat_tests}
 use Rattle.std.proofs.lemmas.Bool.{cases_eq, cases_lt, eq-eqb}
 use Rattle.scx_weights.specs.Counting.{any_below}
 use Rattle.scx_dsq.specs.Queues.{exists, front_of}
 use Rattle.scx_dsq.specs.Laws.{one_if}
 use Rattle.scx_isa_semantics.specs.declared.host_tables.Helper.{Helper}
-use Rattle.scx_isa_semantics.specs.declared.host_tables.Helper.TheVariants.{SmpProcessorId, Exit, CpuCurr, DsqPeek, TaskRunning, TaskCpu, PickIdle, ClaimIdle}
+use Rattle.scx_isa_semantics.specs.declared.host_tables.Helper.TheVariants.{SmpProcessorId, Exit, CpuCurr, DsqPeek, TaskRunning, TaskCpu, PickIdle, ClaimIdle, PrandomU32, MayRun}
 use Rattle.scx_vm.specs.declared.arguments.Arg.{Arg}
 use Rattle.scx_vm.specs.declared.arguments.Answer.{Answer}
 use Rattle.scx_vm.specs.declared.arguments.Answer.TheVariants.{Num}
 use Rattle.scx_sched_world.specs.declared.eject.Cause.TheVariants as reason
 use Rattle.scx_sched_world.specs.declared.faults.Fault.{Fault}
-use Rattle.scx_sched_world.specs.declared.faults.Fault.TheVariants.{Stuck, NoSuchQueue, CannotInsert, NoSuchCpu, UnknownFlag, CannotCreate, BuiltinVtime, Mixed, IdleUntracked}
+use Rattle.scx_sched_world.specs.declared.faults.Fault.TheVariants.{Stuck, NoSuchQueue, CannotInsert, NoSuchCpu, UnknownFlag, CannotCreate, BuiltinVtime, Mixed, IdleUntracked, NotAllowed}
 use Rattle.scx_sched_world.specs.Ids.{policy_end}
-use Rattle.scx_sched_world.specs.World.{WorldState, is_this, is_free, is_current, current, here, this_if, or_this, after_claim}
-use Rattle.scx_sched_world.specs.Helpers.{with_fault, given_number, given_task, is_there, or_fault, unless_fault, fault_or, ask_fault, pick_fault, task_or_null, is_current_one, cpu_of_task, is_free_in, free_in_below, first_free_in, pick_answer_by, after_pick_by, helper_answer, helper_after}
+use Rattle.scx_sched_world.specs.World.{WorldState, is_this, is_free, is_current, current, here, this_if, may_run, after_claim, with_random}
+use Rattle.scx_sched_world.specs.Helpers.{with_fault, given_number, given_task, is_there, or_fault, unless_fault, fault_or, ask_fault, pick_fault, task_or_null, is_current_one, cpu_of_task, may_run_there, next_random, random_answer, after_random, is_free_in, first_free_in, pick_answer_by, after_pick_by, helper_answer, helper_after}
 use Rattle.scx_sched_rules.specs.Differences.{IsCurrent}
-use Rattle.scx_sched_rules.specs.Helpers.{IsPolicyQueue, JudgesAsk, JudgesPick, TellsCurrent, IsOn, IsOnNone, GivenNone, TellsHome, OfTheTask, OfNoTask, IsFreeIn, PicksFrom, PicksLowest, PicksNone, ClaimsThis, WasFree, WasTaken, IsEffect, Done, NamesTask, Wrong}
-use Rattle.scx_sched_rules.proofs.Choosing.{free_is, free_of, claims, only_claims}
+use Rattle.scx_sched_rules.specs.Helpers.{IsPolicyQueue, JudgesAsk, JudgesPick, TellsCurrent, IsOn, IsOnNone, GivenNone, TellsHome, OfTheTask, OfNoTask, TellsAllowed, MayThere, MayNotThere, NoOneMay, Draws, IsFreeIn, PicksFrom, PicksLowest, PicksNone, ClaimsThis, WasFree, WasTaken, IsEffect, Done, NamesTask, Wrong}
+use Rattle.scx_sched_rules.proofs.Binding.{none_below, is_lowest, lowest_from, none_from, allowed_is, allowed_of, outside_is, outside_of}
+use Rattle.scx_sched_rules.proofs.Choosing.{free_is, free_of, past_end, free_within, claims, only_claims}
 use Rattle.scx_sched_rules.proofs.Differing.{both_true, and_true, and_false, false_from, not_so, current_is, only_current, is_here, only_here}
 use Rattle.scx_sched_rules.proofs.Ejecting.{blames, only_blames}
 
@@ -123,6 +125,7 @@ only_current_so w a x v (Wrong CannotCreate j e k) = absurd j
 only_current_so w a x v (Wrong BuiltinVtime j e k) = absurd j
 only_current_so w a x v (Wrong Mixed j e k) = absurd j
 only_current_so w a x v (Wrong Stuck j e k) = absurd j
+only_current_so w a x v (Wrong NotAllowed j e k) = absurd j
 only_current_so w a x v (Wrong IdleUntracked j e k) = absurd j
 
 pub peek_allowed : (w : WorldState) (a : List Arg) → Is-effect w DsqPeek a
@@ -148,6 +151,7 @@ only_peek w a x v (Wrong CannotCreate j e k) = absurd j
 only_peek w a x v (Wrong BuiltinVtime j e k) = absurd j
 only_peek w a x v (Wrong Mixed j e k) = absurd j
 only_peek w a x v (Wrong Stuck j e k) = absurd j
+only_peek w a x v (Wrong NotAllowed j e k) = absurd j
 only_peek w a x v (Wrong IdleUntracked j e k) = absurd j
 
 on_is : (w : WorldState) (t c : ℕ) → is_this t (current w c) ≡ true → IsCurrent w c (Some t)
@@ -198,6 +202,74 @@ only_home w a x v (Done n j d e) = (e ∙ ap Num (only_tells_home w (given_task 
 only_home w a x v (NamesTask o j m e k) = absurd m
 only_home w a x v (Wrong f j e k) = absurd (some_fault f j)
 
+-- ---- where a task may run
+
+tells_allowed : (w : WorldState) (o : Option ℕ) (c : ℕ) → TellsAllowed w o c (one_if (may_run_there w o c))
+tells_allowed w None c = NoOneMay refl refl
+tells_allowed w (Some t) c = go (may_run w t c) refl
+  where
+    go : (b : Bool) → may_run w t c ≡ b → TellsAllowed w (Some t) c (one_if b)
+    go true e = MayThere t refl (allowed_is w t c e) refl
+    go false e = MayNotThere t refl (outside_is w t c e) refl
+
+only_tells_allowed : (w : WorldState) (o : Option ℕ) (c n : ℕ) → TellsAllowed w o c n → n ≡ one_if (may_run_there w o c)
+only_tells_allowed w o c n (MayThere t e h k) = k ∙ ap one_if (sym (allowed_of w t c h)) ∙ ap (λ y. one_if (may_run_there w y c)) (sym e)
+only_tells_allowed w o c n (MayNotThere t e h k) = k ∙ ap one_if (sym (outside_of w t c h)) ∙ ap (λ y. one_if (may_run_there w y c)) (sym e)
+only_tells_allowed w o c n (NoOneMay e k) = k ∙ ap (λ y. one_if (may_run_there w y c)) (sym e)
+
+pub may_allowed : (w : WorldState) (a : List Arg) → Is-effect w MayRun a
+may_allowed w a = go (nat_lt c (length w.cpus)) refl
+  where
+    c : ℕ
+    c = given_number a 1
+
+    n : ℕ
+    n = one_if (may_run_there w (given_task a 0) (given_number a 1))
+
+    go : (b : Bool) → nat_lt c (length w.cpus) ≡ b → IsEffect w MayRun a (Num (unless_fault (if b then None else Some NoSuchCpu) n)) (if b then w else with_fault w NoSuchCpu)
+    go true e = Done n (grind (arith, nat_tests, e)) (tells_allowed w (given_task a 0) (given_number a 1), refl) refl
+    go false e = Wrong NoSuchCpu (grind (arith, nat_tests, e)) refl (blames w (reason.Fault NoSuchCpu))
+
+pub only_may : (w : WorldState) (a : List Arg) (x : Answer) (v : WorldState) → IsEffect w MayRun a x v → Is-this w MayRun a x v
+only_may w a x v (Done n j d e) =
+    let l : nat_lt (given_number a 1) (length w.cpus) ≡ true = grind (arith, nat_tests, j) in
+    rw l (e ∙ ap Num (only_tells_allowed w (given_task a 0) (given_number a 1) n d.0), d.1)
+only_may w a x v (NamesTask o j m e k) = absurd m
+only_may w a x v (Wrong NoSuchCpu j e k) =
+    let l : nat_lt (given_number a 1) (length w.cpus) ≡ false = grind (arith, nat_tests, j) in
+    rw l (e, only_blames w (reason.Fault NoSuchCpu) v k)
+only_may w a x v (Wrong NoSuchQueue j e k) = absurd j
+only_may w a x v (Wrong CannotInsert j e k) = absurd j
+only_may w a x v (Wrong UnknownFlag j e k) = absurd j
+only_may w a x v (Wrong CannotCreate j e k) = absurd j
+only_may w a x v (Wrong BuiltinVtime j e k) = absurd j
+only_may w a x v (Wrong Mixed j e k) = absurd j
+only_may w a x v (Wrong Stuck j e k) = absurd j
+only_may w a x v (Wrong NotAllowed j e k) = absurd j
+only_may w a x v (Wrong IdleUntracked j e k) = absurd j
+
+-- ---- random numbers
+
+upper : (x n low : ℕ) → x ≡ n * 2 ^ 32 + low → low < 2 ^ 32 → n ≡ x / 2 ^ 32
+upper x n low e l = omega (arith, e, l)
+
+draws : (w : WorldState) → Draws w (random_answer w) (after_random w)
+draws w = go (next_random w.random) refl
+  where
+    go : (x : ℕ) → x ≡ next_random w.random → Draws w (x / 2 ^ 32) (with_random w x)
+    go x e = record { next = x; follows = e; low = x % 2 ^ 32; halves = omega (arith, div-add-mod' x (2 ^ 32)); short = omega arith; all = refl }
+
+only_draws : (w : WorldState) (n : ℕ) (v : WorldState) → Draws w n v → (n ≡ random_answer w) × (v ≡ after_random w)
+only_draws w n v h = (upper h.next n h.low h.halves h.short ∙ ap (λ x. x / 2 ^ 32) h.follows, h.all ∙ ap (λ x. with_random w x) h.follows)
+
+pub random_allowed : (w : WorldState) (a : List Arg) → Is-effect w PrandomU32 a
+random_allowed w a = Done (random_answer w) refl (draws w) refl
+
+pub only_random : (w : WorldState) (a : List Arg) (x : Answer) (v : WorldState) → IsEffect w PrandomU32 a x v → Is-this w PrandomU32 a x v
+only_random w a x v (Done n j d e) = let h = only_draws w n v d in (e ∙ ap Num h.0, h.1)
+only_random w a x v (NamesTask o j m e k) = absurd m
+only_random w a x v (Wrong f j e k) = absurd (some_fault f j)
+
 -- ---- a choice from a mask
 
 wanted_is : (w : WorldState) (mask c : ℕ) → is_free_in mask w c ≡ true → IsFreeIn w mask c
@@ -209,68 +281,29 @@ wanted_of w mask c h = and_true (bit_at mask c == 1) (is_free w c) (eq-eqb (bit_
 unwanted : (w : WorldState) (mask c : ℕ) → is_free_in mask w c ≡ false → ¬ IsFreeIn w mask c
 unwanted w mask c e h = not_so (is_free_in mask w c) e (wanted_of w mask c h)
 
-record IsLowestIn (n mask : ℕ) (w : WorldState) (c : ℕ) : Type 0 where
-  within : c < n
-  free : is_free_in mask w c ≡ true
-  below : (d : ℕ) → d < c → is_free_in mask w d ≡ false
-
-none_in : (n mask : ℕ) (w : WorldState) → free_in_below n mask w ≡ None → (d : ℕ) → d < n → is_free_in mask w d ≡ false
-none_in zero mask w e d l = absurd (omega (arith, l))
-none_in (suc n) mask w e d l = go (free_in_below n mask w) (is_free_in mask w n) refl refl e (λ x m. none_in n mask w x d m) (cases_eq d n)
-  where
-    go : (o : Option ℕ) (b : Bool) → free_in_below n mask w ≡ o → is_free_in mask w n ≡ b → or_this o (this_if b n) ≡ None → (free_in_below n mask w ≡ None → d < n → is_free_in mask w d ≡ false) → (d ≡ n) ⊎ (d ≡ n → ⊥) → is_free_in mask w d ≡ false
-    go (Some c) b x y z f h = absurd (cc)
-    go None true x y z f h = absurd (cc)
-    go None false x y z f (inl k) = ap (λ m. is_free_in mask w m) k ∙ y
-    go None false x y z f (inr k) = f x (omega (arith, l, k))
-
-lowest_in : (n mask : ℕ) (w : WorldState) (c : ℕ) → free_in_below n mask w ≡ Some c → IsLowestIn n mask w c
-lowest_in zero mask w c e = absurd (cc)
-lowest_in (suc n) mask w c e = go (free_in_below n mask w) (is_free_in mask w n) refl refl e (λ x. lowest_in n mask w c x)
-  where
-    go : (o : Option ℕ) (b : Bool) → free_in_below n mask w ≡ o → is_free_in mask w n ≡ b → or_this o (this_if b n) ≡ Some c → (free_in_below n mask w ≡ Some c → IsLowestIn n mask w c) → IsLowestIn (suc n) mask w c
-    go (Some d) b x y z f = let h = f (x ∙ z) in record { within = omega (arith, h.within); free = h.free; below = h.below }
-    go None true x y z f =
-        let is : n ≡ c = ap (λ o. unwrap_or o n) z in
-        record { within = omega (arith, is); free = ap (λ m. is_free_in mask w m) (sym is) ∙ y; below = λ d l. none_in n mask w x d (omega (arith, l, is)) }
-    go None false x y z f = absurd (cc)
-
--- one that isn't there isn't free
-past_end : (w : WorldState) (c : ℕ) → length w.cpus ≤ c → is_free w c ≡ false
-past_end w c past = let x : nat_lt c (length w.cpus) ≡ false = grind (arith, nat_tests, past) in rw x refl
-
 none_wanted : (w : WorldState) (mask : ℕ) → first_free_in mask w ≡ None → (c : ℕ) → is_free_in mask w c ≡ false
 none_wanted w mask e c = go (cases_lt c (length w.cpus))
   where
     go : (c < length w.cpus) ⊎ (length w.cpus ≤ c) → is_free_in mask w c ≡ false
-    go (inl l) = none_in (length w.cpus) mask w e c l
+    go (inl l) = none_below (length w.cpus) (is_free_in mask w) e c l
     go (inr past) = and_false (bit_at mask c == 1) (is_free w c) (past_end w c past)
 
 picks : (w : WorldState) (mask : ℕ) → PicksFrom w mask (pick_answer_by None (first_free_in mask w)) (after_claim w (first_free_in mask w))
 picks w mask = go (first_free_in mask w) refl
   where
     go : (o : Option ℕ) → first_free_in mask w ≡ o → PicksFrom w mask (pick_answer_by None o) (after_claim w o)
-    go (Some c) x = let h = lowest_in (length w.cpus) mask w c x in PicksLowest (wanted_is w mask c h.free) (λ d l. unwanted w mask d (h.below d l)) (claims w c)
+    go (Some c) x = let h = is_lowest (length w.cpus) (is_free_in mask w) c x in PicksLowest (wanted_is w mask c h.passes) (λ d l. unwanted w mask d (h.below d l)) (claims w c)
     go None x = PicksNone (λ d. unwanted w mask d (none_wanted w mask x d)) refl refl
 
-first_is : (w : WorldState) (mask c : ℕ) → IsFreeIn w mask c → ((d : ℕ) → d < c → ¬ IsFreeIn w mask d) → first_free_in mask w ≡ Some c
-first_is w mask c f below = go (first_free_in mask w) refl
-  where
-    one : (d : ℕ) → is_free_in mask w d ≡ true → ((k : ℕ) → k < d → is_free_in mask w k ≡ false) → (c < d) ⊎ (d ≤ c) → (d < c) ⊎ (c ≤ d) → d ≡ c
-    one d j above (inl l) m = absurd (unwanted w mask c (above c l) f)
-    one d j above (inr l) (inl m) = absurd (below d m (wanted_is w mask d j))
-    one d j above (inr l) (inr m) = omega (arith, l, m)
+unwanted_of : (w : WorldState) (mask c : ℕ) → ¬ IsFreeIn w mask c → is_free_in mask w c ≡ false
+unwanted_of w mask c n = false_from (is_free_in mask w c) (λ e. n (wanted_is w mask c e))
 
-    go : (o : Option ℕ) → first_free_in mask w ≡ o → first_free_in mask w ≡ Some c
-    go (Some d) x = let h = lowest_in (length w.cpus) mask w d x in x ∙ ap (λ y. Some y) (one d h.free h.below (cases_lt c d) (cases_lt d c))
-    go None x = absurd (unwanted w mask c (none_wanted w mask x c) f)
+first_is : (w : WorldState) (mask c : ℕ) → IsFreeIn w mask c → ((d : ℕ) → d < c → ¬ IsFreeIn w mask d) → first_free_in mask w ≡ Some c
+first_is w mask c f below =
+    lowest_from (length w.cpus) (is_free_in mask w) c (record { within = free_within w c (free_of w c f.free); passes = wanted_of w mask c f; below = λ d l. unwanted_of w mask d (below d l) })
 
 first_none : (w : WorldState) (mask : ℕ) → ((d : ℕ) → ¬ IsFreeIn w mask d) → first_free_in mask w ≡ None
-first_none w mask all = go (first_free_in mask w) refl
-  where
-    go : (o : Option ℕ) → first_free_in mask w ≡ o → first_free_in mask w ≡ None
-    go (Some d) x = let h = lowest_in (length w.cpus) mask w d x in absurd (all d (wanted_is w mask d h.free))
-    go None x = x
+first_none w mask all = none_from (length w.cpus) (is_free_in mask w) (λ d l. unwanted_of w mask d (all d))
 
 abbrev Picked-so : WorldState → ℕ → ℕ → WorldState → Type 0
 Picked-so w mask n v = (n ≡ pick_answer_by None (first_free_in mask w)) × (v ≡ after_claim w (first_free_in mask w))
@@ -309,6 +342,7 @@ pick_from w flags (Some CannotCreate) j = absurd j
 pick_from w flags (Some BuiltinVtime) j = absurd j
 pick_from w flags (Some Mixed) j = absurd j
 pick_from w flags (Some Stuck) j = absurd j
+pick_from w flags (Some NotAllowed) j = absurd j
 
 pub pick_allowed : (w : WorldState) (a : List Arg) → Is-effect w PickIdle a
 pick_allowed w a = go (pick_fault w flags) (pick_judged w flags)
@@ -384,6 +418,7 @@ ask_from w c (Some CannotCreate) j = absurd j
 ask_from w c (Some BuiltinVtime) j = absurd j
 ask_from w c (Some Mixed) j = absurd j
 ask_from w c (Some Stuck) j = absurd j
+ask_from w c (Some NotAllowed) j = absurd j
 
 abbrev answered_so : WorldState → ℕ → Option Fault → Answer
 answered_so w c o = Num (unless_fault o (one_if (is_free w c)))

@@ -1,10 +1,10 @@
--- How a machine begins is what the rules allow, and nothing else is.
-use Rattle.std.proofs.Common.{◌≡◌, ℕ, zero, suc, ℤ, ◌<◌, ◌≤◌, Bool, true, false, ◌&&◌, ◌||◌, nat_lt, ◌⊎◌, inl, inr, if◌then◌else◌, List, [], length, Option, Some, None, is_some, Result, Ok, Err, refl, sym, ◌∙◌, ap, arith}
-use Rattle.std.specs.Int.{w64, cast_signed}
+-- A machine begins as the rules allow, and in no other way.
+use Rattle.std.proofs.Common.{◌≡◌, ℕ, zero, suc, ℤ, ◌<◌, ◌≤◌, Bool, true, false, not, ◌&&◌, ◌||◌, nat_lt, ◌⊎◌, inl, inr, if◌then◌else◌, List, [], ◌++◌, length, Option, Some, None, is_some, Result, Ok, Err, refl, sym, ◌∙◌, ap, arith}
+use Rattle.std.specs.Int.{w64, bit_at, cast_signed}
 use Rattle.std.proofs.lemmas.Bool.{cases_eq, cases_lt, eq-eqb, ne_eqb}
 use Rattle.std.proofs.lemmas.Bool.Decides.{nat_tests}
 use Rattle.scx_weights.specs.Counting.{any_below}
-use Rattle.scx_weights.specs.Hierarchy.{is_active_task, own_weight}
+use Rattle.scx_weights.specs.Hierarchy.{Hierarchy, is_active_task, own_weight, mask_of, is_in_mask}
 use Rattle.scx_isa_semantics.specs.declared.callbacks.Callback.{Callback}
 use Rattle.scx_isa_semantics.specs.declared.callbacks.Callback.TheVariants as callback
 use Rattle.scx_isa_semantics.specs.Endings.{Ending}
@@ -16,12 +16,13 @@ use Rattle.scx_sched_world.specs.World.{WorldState, at_callback}
 use Rattle.scx_sched_machine.specs.Policy.{program_of}
 use Rattle.scx_sched_machine.specs.Steps.{State, CallMade, is_by_linux}
 use Rattle.scx_sched_machine.specs.Callbacks.{acting, after_callback, AreAnswered, no_arguments, one_task, task_and_number, two_numbers}
-use Rattle.scx_sched_machine.specs.Start.{blank, init_ending, bad_answer, ok_unless, after_init, begin_ending, failure, begin_with, has_by_linux, begin_by_linux, enable, then_weigh, then_enable, after_enables, then_idle, after_idles, unmarked, all_idle, then_all_idle, all_enabled, init_calls, begin_calls, begin_calls_by_linux, weigh_calls, enable_calls, calls_below, idle_calls, idle_calls_below, calls_after_enables, calls_after_init}
-use Rattle.scx_sched_rules.specs.Starts.{HasBadShape, NoCpu, ManyCpus, Active, Judged, Faults, Exits, Stuck, Refuses, Accepts, Initializes, Passes, HasFault, HasExit, HasStuck, Answers, Calls, CallsByLinux, NotByPlain, IsNotThere, IsCalledFor, Enables, NotEnabled, IsEnabled, EnablesAll, Nobody, Failed, Next, TellsIdleAll, NoneTold, HasFailed, NextTold, AllAreIdle, NobodyHears, IdleFails, IdleTold, Begins, InitFails, EnableFails, Succeeds}
+use Rattle.scx_sched_machine.specs.Start.{is_nowhere, is_bad_shape, blank, init_ending, bad_answer, ok_unless, after_init, begin_ending, failure, begin_with, has_by_linux, begin_by_linux, enable, then_weigh, then_enable, after_enables, then_idle, after_idles, unmarked, all_idle, then_all_idle, all_enabled, init_calls, begin_calls, begin_calls_by_linux, weigh_calls, enable_calls, calls_below, idle_calls, idle_calls_below, calls_after_enables, calls_after_init}
+use Rattle.scx_sched_rules.specs.Starts.{IsNowhere, HasBadShape, NoCpu, ManyCpus, Active, Nowhere, Judged, Faults, Exits, Stuck, Refuses, Accepts, Initializes, Passes, HasFault, HasExit, HasStuck, Answers, Calls, CallsByLinux, NotByPlain, IsNotThere, IsCalledFor, Enables, NotEnabled, IsEnabled, EnablesAll, Nobody, Failed, Next, TellsIdleAll, NoneTold, HasFailed, NextTold, AllAreIdle, NobodyHears, IdleFails, IdleTold, BeginsFrom, InitFails, EnableFails, Succeeds}
 use Rattle.scx_sched_rules.specs.Differences.{HearsIdle, HasUpdateIdle}
 use Rattle.scx_sched_rules.specs.Laws.{RulesAllowStarts, RulesAllowStartsOnly, RulesRefuseShapes, RulesRefuseShapesOnly}
 use Rattle.scx_sched_rules.proofs.Differing.{both_true, and_true, and_false, false_and, false_from, not_so}
 use Rattle.scx_sched_rules.proofs.Readers.{some_below, is_below}
+use Rattle.scx_sched_rules.proofs.Homing.{is_blank, only_blank}
 use Rattle.scx_sched_rules.proofs.Calling.{only_ends, ends_as, answered_first, answered_second}
 
 -- ---- shapes
@@ -36,27 +37,53 @@ below k n l = grind (arith, nat_tests, l)
 past : (k n : ℕ) → n ≤ k → nat_lt k n ≡ false
 past k n l = grind (arith, nat_tests, l)
 
+-- a task of a bad shape
+abbrev is_bad_one : Hierarchy → ℕ → ℕ → Bool
+is_bad_one tree cpus t = is_active_task tree t || is_nowhere tree cpus t
+
+nowhere_is : (tree : Hierarchy) (cpus t : ℕ) → is_nowhere tree cpus t ≡ true → IsNowhere tree cpus t
+nowhere_is tree cpus t e =
+    let x = both_true (nat_lt 0 (length tree.masks)) (not (any_below cpus (is_in_mask tree t))) e in
+    record { some = grind (arith, nat_tests, x.0); outside = λ c l h. not_so (not (any_below cpus (is_in_mask tree t))) (ap (λ b. not b) (is_below cpus c (is_in_mask tree t) l (eq-eqb (bit_at (mask_of tree t) c) 1 h))) x.1 }
+
+nowhere_of : (tree : Hierarchy) (cpus t : ℕ) → IsNowhere tree cpus t → is_nowhere tree cpus t ≡ true
+nowhere_of tree cpus t h =
+    let l : nat_lt 0 (length tree.masks) ≡ true = grind (arith, nat_tests, h.some) in
+    and_true (nat_lt 0 (length tree.masks)) (not (any_below cpus (is_in_mask tree t))) l (ap (λ b. not b) (false_from (any_below cpus (is_in_mask tree t)) none))
+  where
+    none : any_below cpus (is_in_mask tree t) ≡ true → ⊥
+    none y = let x = some_below cpus (is_in_mask tree t) y in let k : bit_at (mask_of tree t) x.0 ≡ 1 = grind (arith, nat_tests, x.2) in h.outside x.0 x.1 k
+
+one_bad : (tree : Hierarchy) (cpus t : ℕ) → t < length tree.homes → is_bad_one tree cpus t ≡ true → is_bad_shape tree cpus ≡ true
+one_bad tree cpus t l e = rw (is_below (length tree.homes) t (λ u. is_bad_one tree cpus u) l e) (all_true (nat_lt cpus 1) (nat_lt 64 cpus))
+  where
+    all_true : (a b : Bool) → (a || (b || true)) ≡ true
+    all_true true b = refl
+    all_true false b = or_true b
+
 -- of a bad shape none begins
 pub bad_shape : RulesRefuseShapes
 bad_shape tree cpus = go (cases_lt cpus 1) (cases_lt 64 cpus)
   where
-    active : (t : ℕ) × (t < length tree.homes) × (is_active_task tree t ≡ true) → HasBadShape tree cpus
-    active h = Active h.0 h.1 h.2
+    either : (t : ℕ) → t < length tree.homes → (a b : Bool) → is_active_task tree t ≡ a → is_nowhere tree cpus t ≡ b → (a || b) ≡ true → HasBadShape tree cpus
+    either t l true b x y e = Active t l x
+    either t l false true x y e = Nowhere t l (nowhere_is tree cpus t y)
+    either t l false false x y e = absurd (cc)
 
-    go : (cpus < 1) ⊎ (1 ≤ cpus) → (64 < cpus) ⊎ (cpus ≤ 64) → (nat_lt cpus 1 || (nat_lt 64 cpus || any_below (length tree.homes) (λ t. is_active_task tree t))) ≡ true → HasBadShape tree cpus
+    bad : (t : ℕ) × (t < length tree.homes) × (is_bad_one tree cpus t ≡ true) → HasBadShape tree cpus
+    bad h = either h.0 h.1 (is_active_task tree h.0) (is_nowhere tree cpus h.0) refl refl h.2
+
+    go : (cpus < 1) ⊎ (1 ≤ cpus) → (64 < cpus) ⊎ (cpus ≤ 64) → (nat_lt cpus 1 || (nat_lt 64 cpus || any_below (length tree.homes) (λ t. is_bad_one tree cpus t))) ≡ true → HasBadShape tree cpus
     go (inl l) h = λ e. NoCpu (omega (arith, l))
     go (inr l) (inl h) = λ e. ManyCpus h
-    go (inr l) (inr h) = rw (past cpus 1 l, past 64 cpus h) (λ e. active (some_below (length tree.homes) (λ t. is_active_task tree t) e))
+    go (inr l) (inr h) = rw (past cpus 1 l, past 64 cpus h) (λ e. bad (some_below (length tree.homes) (λ t. is_bad_one tree cpus t) e))
 
 -- and only of a bad one none does
 pub only_bad_shape : RulesRefuseShapesOnly
 only_bad_shape tree cpus (NoCpu k) = rw k refl
 only_bad_shape tree cpus (ManyCpus l) = rw (past cpus 1 (omega (arith, l)), below 64 cpus l) refl
-only_bad_shape tree cpus (Active t l e) = rw (is_below (length tree.homes) t (λ u. is_active_task tree u) l e) (all_true (nat_lt cpus 1) (nat_lt 64 cpus))
-  where
-    all_true : (a b : Bool) → (a || (b || true)) ≡ true
-    all_true true b = refl
-    all_true false b = or_true b
+only_bad_shape tree cpus (Active t l e) = one_bad tree cpus t l (ap (λ b. b || is_nowhere tree cpus t) e)
+only_bad_shape tree cpus (Nowhere t l h) = one_bad tree cpus t l (ap (λ b. is_active_task tree t || b) (nowhere_of tree cpus t h) ∙ or_true (is_active_task tree t))
 
 -- ---- init
 
@@ -240,26 +267,30 @@ only_all_are_idle s r (IdleTold u h t k) = k ∙ ap (λ o. unmarked o) (only_tel
 
 -- ---- all of it
 
--- a machine begins as it is computed
-pub begins : RulesAllowStarts
-begins p tree cpus all =
-    from (after_init (blank p tree cpus)) refl (initializes (blank p tree cpus) (answered_first (init_calls (blank p tree cpus)) (calls_after_init (after_init (blank p tree cpus))) all)) (answered_second (init_calls (blank p tree cpus)) (calls_after_init (after_init (blank p tree cpus))) all)
+begins_from : (b : State) → AreAnswered (init_calls b ++ calls_after_init (after_init b)) → BeginsFrom b (all_enabled (after_init b))
+begins_from b all = from (after_init b) refl (initializes b (answered_first (init_calls b) (calls_after_init (after_init b)) all)) (answered_second (init_calls b) (calls_after_init (after_init b)) all)
   where
-    rest : (s : State) → Initializes (blank p tree cpus) (Ok s) → (o : Result State ℤ) → EnablesAll (length s.world.tasks) s o → AreAnswered (calls_after_enables o) → Begins p tree cpus (then_all_idle o)
+    rest : (s : State) → Initializes b (Ok s) → (o : Result State ℤ) → EnablesAll (length s.world.tasks) s o → AreAnswered (calls_after_enables o) → BeginsFrom b (then_all_idle o)
     rest s i (Err n) h a = EnableFails s n i h refl
     rest s i (Ok u) h a = Succeeds s u i h (all_are_idle u a)
 
-    from : (r : Result State ℤ) → after_init (blank p tree cpus) ≡ r → Initializes (blank p tree cpus) r → AreAnswered (calls_after_init r) → Begins p tree cpus (all_enabled r)
+    from : (r : Result State ℤ) → after_init b ≡ r → Initializes b r → AreAnswered (calls_after_init r) → BeginsFrom b (all_enabled r)
     from (Err n) x i a = InitFails n i refl
     from (Ok s) x i a =
         let xs = calls_below (length s.world.tasks) s in
         let ys = calls_after_enables (after_enables (length s.world.tasks) s) in
         rest s i (after_enables (length s.world.tasks) s) (enables_all (length s.world.tasks) s (answered_first xs ys a)) (answered_second xs ys a)
 
+only_begins_from : (b : State) (r : Result State ℤ) → BeginsFrom b r → r ≡ all_enabled (after_init b)
+only_begins_from b r (InitFails n i k) = k ∙ ap (λ x. all_enabled x) (only_initializes b (Err n) i)
+only_begins_from b r (EnableFails s n i h k) = k ∙ ap (λ x. then_all_idle x) (only_enables_all (length s.world.tasks) s (Err n) h) ∙ ap (λ x. all_enabled x) (only_initializes b (Ok s) i)
+only_begins_from b r (Succeeds s u i h x) =
+    only_all_are_idle u r x ∙ ap (λ y. then_all_idle y) (only_enables_all (length s.world.tasks) s (Ok u) h) ∙ ap (λ y. all_enabled y) (only_initializes b (Ok s) i)
+
+-- a machine begins as it is computed
+pub begins : RulesAllowStarts
+begins p tree cpus all = record { before = blank p tree cpus; is_blank = is_blank p tree cpus; from = begins_from (blank p tree cpus) all }
+
 -- and in no other way
 pub only_begins : RulesAllowStartsOnly
-only_begins p tree cpus r (InitFails n i k) = k ∙ ap (λ x. all_enabled x) (only_initializes (blank p tree cpus) (Err n) i)
-only_begins p tree cpus r (EnableFails s n i h k) =
-    k ∙ ap (λ x. then_all_idle x) (only_enables_all (length s.world.tasks) s (Err n) h) ∙ ap (λ x. all_enabled x) (only_initializes (blank p tree cpus) (Ok s) i)
-only_begins p tree cpus r (Succeeds s u i h x) =
-    only_all_are_idle u r x ∙ ap (λ y. then_all_idle y) (only_enables_all (length s.world.tasks) s (Ok u) h) ∙ ap (λ y. all_enabled y) (only_initializes (blank p tree cpus) (Ok s) i)
+only_begins p tree cpus r h = only_begins_from h.before r h.from ∙ ap (λ b. all_enabled (after_init b)) (only_blank p tree cpus h.before h.is_blank)

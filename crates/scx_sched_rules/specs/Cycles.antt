@@ -4,7 +4,7 @@
 -- scheduler does its work.
 use Rattle.std.specs.Prelude.{◌≡◌, ℕ, suc, ◌<◌, Bool, true, false, List, [], ◌∷◌, Option, Some, None}
 use Rattle.scx_dsq.specs.Queues.{front_of, queue_of}
-use Rattle.scx_dsq.specs.Calls.{after_push, after_pop}
+use Rattle.scx_dsq.specs.Calls.{after_push, after_remove}
 use Rattle.scx_dsq.specs.declared.entries.Rank.TheVariants.{Fifo}
 use Rattle.scx_isa_semantics.specs.declared.callbacks.Callback.TheVariants as callback
 use Rattle.scx_vm.specs.Programs.{VerifiedProgram}
@@ -15,14 +15,15 @@ use Rattle.scx_sched_world.specs.declared.notes.What.TheVariants as note
 use Rattle.scx_sched_world.specs.declared.eject.Eject.{Eject}
 use Rattle.scx_sched_world.specs.Ids.{global, builtin_queue, parked_queue, local_on}
 use Rattle.scx_sched_world.specs.World.{is_throttled, WorldState, with_queues, running, note_now}
-use Rattle.scx_sched_world.specs.Tasks.{local_len, after_enter, for_cpu, to_held, to_global, to_front, after_stop, started_at, after_run, after_keep, put_parked, after_take}
+use Rattle.scx_sched_world.specs.Tasks.{local_len, after_enter, for_cpu, to_held, to_global, to_front, after_stop, started_at, after_run, after_keep, put_parked}
 use Rattle.scx_sched_world.specs.Ejecting.{put_builtin, after_catch_up, after_charge}
 use Rattle.scx_sched_machine.specs.Steps.{State, Stepped, with_world, stays, after, one_after_other, is_by_linux}
 use Rattle.scx_sched_machine.specs.Callbacks.{call_back, noted_by, one_task, task_and_number, two_numbers, cpu_and_task}
 use Rattle.scx_sched_machine.specs.Cycle.{told_of, stopping_called}
 use Rattle.scx_sched_machine.specs.Parking.{FrontMayRun}
 use Rattle.scx_sched_rules.specs.Differences.{Homes, BeginsCycle, EndsCycle, CallsIfThere, HearsIdle, KeepsSlice, GivesWay, Switches, IsToAsk, GivesUp}
-use Rattle.scx_sched_rules.specs.Custody.{TellsLeft}
+use Rattle.scx_sched_rules.specs.Bound.{IsNextFor}
+use Rattle.scx_sched_rules.specs.Custody.{gone_out, TellsLeft}
 
 -- to that world, with one note of it
 abbrev pub noting : State → WorldState → What → Stepped
@@ -111,14 +112,15 @@ pub record Puts (s : State) (t c flags : ℕ) (r : Stepped) : Type 0 where
 
 -- ---- fill
 
--- where the local queue is empty, the front of another comes to it
+-- where the local queue is empty, the first task of another that may run on the processor comes to
+-- it
 pub data Fills (s : State) (q c : ℕ) (r : Stepped) : Type 0 where
   HasLocal : 0 < local_len s.world c → r ≡ stays s → Fills s q c r
-  NoOther : local_len s.world c ≡ 0 → front_of s.world.queues q ≡ None → r ≡ stays s → Fills s q c r
+  NoOther : local_len s.world c ≡ 0 → IsNextFor s.world q c None → r ≡ stays s → Fills s q c r
   Moves : (t : ℕ) (moved : WorldState)
-      → local_len s.world c ≡ 0 → front_of s.world.queues q ≡ Some t
-      → Homes (with_queues s.world (after_push (after_pop s.world.queues q) (local_on c) t Fifo)) t c
-      moved
+      → local_len s.world c ≡ 0 → IsNextFor s.world q c (Some t)
+      → Homes (with_queues s.world (after_push (after_remove s.world.queues t) (local_on c) t Fifo))
+      t c moved
       → r ≡ noting s moved (note.Move t c) → Fills s q c r
 
 -- ---- supply
@@ -127,18 +129,21 @@ pub data Fills (s : State) (q c : ℕ) (r : Stepped) : Type 0 where
 abbrev pub parking : State → ℕ → Stepped
 parking s t = noting s (put_parked s.world t) (note.Insert t parked_queue)
 
--- the front of that queue may not run, leaves the queue and is parked
-pub record Parks (s : State) (q t : ℕ) (r : Stepped) : Type 0 where
-  pub front : front_of s.world.queues q ≡ Some t
+-- a task that is throttled leaves its queue and is parked
+pub record Parks (s : State) (t : ℕ) (r : Stepped) : Type 0 where
   pub throttled : is_throttled s.world t ≡ true
-  pub all : r ≡ parking (with_world s (after_take s.world q)) t
+  pub all : r ≡ parking (gone_out s t) t
 
--- one front after another, until one may run or nobody is there
-pub data ParksFronts : ℕ → State → Stepped → Type 0 where
-  NoneLeft : (q : ℕ) (s : State) (r : Stepped) → FrontMayRun s q → r ≡ stays s → ParksFronts q s r
-  OneMore : (q : ℕ) (s : State) (t : ℕ) (gone more r : Stepped)
-      → Parks s q t gone → ParksFronts q gone.state more → r ≡ one_after_other gone more
-      → ParksFronts q s r
+-- the first task of that queue that may run on the processor, if there is one, isn't throttled
+abbrev pub NextIsFree : State → ℕ → ℕ → Type 0
+NextIsFree s q c = (t : ℕ) → IsNextFor s.world q c (Some t) → is_throttled s.world t ≡ false
+
+-- one first task after another, until one isn't throttled or nobody is there
+pub data ParksFirst (q c : ℕ) : State → Stepped → Type 0 where
+  NoneLeft : (s : State) (r : Stepped) → NextIsFree s q c → r ≡ stays s → ParksFirst q c s r
+  OneMore : (s : State) (t : ℕ) (gone more r : Stepped)
+      → IsNextFor s.world q c (Some t) → Parks s t gone → ParksFirst q c gone.state more
+      → r ≡ one_after_other gone more → ParksFirst q c s r
 
 -- a local queue comes to have a front that may run, if it or the queue of all processors has such a
 -- task: it is filled wherever it is empty, and each front that may not run is parked
@@ -147,16 +152,16 @@ pub data Supplies : ℕ → State → Stepped → Type 0 where
       → Fills s global c filled → FrontMayRun filled.state (local_on c)
       → r ≡ one_after_other filled (stays filled.state) → Supplies c s r
   ParkedOne : (c : ℕ) (s : State) (t : ℕ) (filled gone more r : Stepped)
-      → Fills s global c filled → Parks filled.state (local_on c) t gone
-      → Supplies c gone.state more → r ≡ one_after_other filled (one_after_other gone more)
-      → Supplies c s r
+      → Fills s global c filled → front_of filled.state.world.queues (local_on c) ≡ Some t
+      → Parks filled.state t gone → Supplies c gone.state more
+      → r ≡ one_after_other filled (one_after_other gone more) → Supplies c s r
 
--- dispatch of the built-in scheduler, where the local queue is empty: the front of its queue, once
--- those that may not run are parked
+-- dispatch of the built-in scheduler, where the local queue is empty: the first of its queue that
+-- may run on the processor, once those that are throttled are parked
 pub data FillsBuiltin (s : State) (c : ℕ) (r : Stepped) : Type 0 where
   HasOne : 0 < local_len s.world c → r ≡ stays s → FillsBuiltin s c r
   Looked : (gone filled : Stepped)
-      → local_len s.world c ≡ 0 → ParksFronts builtin_queue s gone
+      → local_len s.world c ≡ 0 → ParksFirst builtin_queue c s gone
       → Fills gone.state builtin_queue c filled → r ≡ one_after_other gone filled
       → FillsBuiltin s c r
 

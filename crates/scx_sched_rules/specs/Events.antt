@@ -18,6 +18,7 @@ use Rattle.scx_sched_machine.specs.declared.events.Event.TheVariants.{Wake, Slee
 use Rattle.scx_sched_machine.specs.Steps.{State, Stepped, with_world, stays, after, one_after_other, is_by_linux}
 use Rattle.scx_sched_machine.specs.Callbacks.{call_back, answered_by, one_task, task_cpu_and_0, task_and_number}
 use Rattle.scx_sched_rules.specs.Differences.{Homes, BeginsSwitch, TellsWaker, CallsIfThere, HearsTick, EndsSlices, TellsSleep, LooksIfIdle}
+use Rattle.scx_sched_rules.specs.Bound.{IsAllowed, IsFirstHome, HasOneCpu}
 use Rattle.scx_sched_rules.specs.Helpers.{IsChoice, IsDefault, with_claim}
 use Rattle.scx_sched_rules.specs.Ejections.{Ejects}
 use Rattle.scx_sched_rules.specs.Cycles.{noting, silent, entering, gone_off, HasStopped, Puts, parking, Cycles}
@@ -42,15 +43,21 @@ select_answered s t =
     answered_by s callback.SelectCpu (task_cpu_and_0 t (task_at s.world t).prev_cpu) t
     (task_at s.world t).prev_cpu
 
--- after select_cpu, which answered so: the processor that it names; the default choice where there
--- is no such callback, or the policy is ejected, as it is by an answer that is no processor
+-- after select_cpu, which answered so: the processor that it names, or the lowest one on which the
+-- task may run, where it may not run on that (core.c, `select_fallback_rq`); the default choice
+-- where there is no such callback, or the policy is ejected, as it is by an answer that is no
+-- processor
 pub data IsTarget (s : State) (t : ℕ) (answer : Option ℕ) (c : ℕ) : Type 0 where
   Is_ejected : (x : Eject) → s.world.ejected ≡ Some x → IsDefault s.world t c → IsTarget s t answer c
   NoCallback : s.world.ejected ≡ None → s.policy.callbacks.select_cpu ≡ None → IsDefault s.world t c
       → IsTarget s t answer c
   Named : (p : VerifiedProgram)
       → s.world.ejected ≡ None → s.policy.callbacks.select_cpu ≡ Some p → answer ≡ Some c
-      → c < length s.world.cpus → IsTarget s t answer c
+      → c < length s.world.cpus → IsAllowed s.world t c → IsTarget s t answer c
+  NamedOutside : (p : VerifiedProgram) (n : ℕ)
+      → s.world.ejected ≡ None → s.policy.callbacks.select_cpu ≡ Some p → answer ≡ Some n
+      → n < length s.world.cpus → ¬ IsAllowed s.world t n → IsFirstHome s.world t c
+      → IsTarget s t answer c
 
 -- under Linux rules, where there is no such callback, the processor that is chosen is claimed, and
 -- the task inserted into the local queue there (ext.c, `select_task_rq_scx`)
@@ -65,18 +72,18 @@ pub data InsertsByChoice (s : State) (t : ℕ) (v : State) : Type 0 where
       → v ≡ with_world s (with_insert (with_claim s.world c) (to_local c)) → InsertsByChoice s t v
 
 -- the target of a task that is runnable is found: select_cpu is called; not so under Linux rules
--- with one processor, which is the target (ext/idle.c, `scx_select_cpu_dfl`)
+-- where the task may run on one processor alone, which is the target (core.c, `select_task_rq`)
 pub data Selects (s : State) (t c : ℕ) (r : Stepped) : Type 0 where
   Asks_by_plain : (v : State)
       → is_by_linux s ≡ false → IsTarget (select_called s t).state t (select_answered s t) c
       → InsertsByChoice (select_called s t).state t v
       → r ≡ record (select_called s t) { state = v } → Selects s t c r
   Asks_of_several : (v : State)
-      → ¬ (length s.world.cpus ≡ 1) → IsTarget (select_called s t).state t (select_answered s t) c
+      → ¬ HasOneCpu s.world t → IsTarget (select_called s t).state t (select_answered s t) c
       → InsertsByChoice (select_called s t).state t v
       → r ≡ record (select_called s t) { state = v } → Selects s t c r
-  Is_only_one : is_by_linux s ≡ true → length s.world.cpus ≡ 1 → c ≡ 0
-      → r ≡ silent s (at_callback s.world callback.SelectCpu t 0) → Selects s t c r
+  Is_only_one : is_by_linux s ≡ true → HasOneCpu s.world t → IsFirstHome s.world t c
+      → r ≡ silent s (at_callback s.world callback.SelectCpu t c) → Selects s t c r
 
 -- under Linux rules the policy hears that the task is runnable, before what select_cpu inserted is
 -- applied; where that puts the policy out of force, nothing is (ext.c, `enqueue_task_scx`)

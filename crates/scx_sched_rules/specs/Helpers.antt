@@ -1,17 +1,17 @@
 -- What a helper call may do, by cases: what is wrong with it, and what it does where nothing is
 -- wrong. The definitions that compute answers and worlds stand in `scx_sched_world`; a law says
 -- that they are allowed here, and that nothing else is.
-use Rattle.std.specs.Prelude.{◌≡◌, ℕ, ◌+◌, ◌-◌, ◌<◌, ◌≤◌, ◌^◌, ◌*◌, true, false, List, length, Option, Some, None}
+use Rattle.std.specs.Prelude.{◌≡◌, ℕ, ◌+◌, ◌-◌, ◌<◌, ◌≤◌, ◌^◌, ◌*◌, ◌%◌, true, false, List, length, Option, Some, None}
 use Rattle.std.specs.Int.{w64, bit_at, cast_signed}
 use Rattle.scx_dsq.specs.Queues.{exists, queue_of, front_of, len_of, Waits}
-use Rattle.scx_dsq.specs.Calls.{with_queue, after_push, after_pop}
+use Rattle.scx_dsq.specs.Calls.{with_queue, after_push, after_remove}
 use Rattle.scx_dsq.specs.Entries.{same_sort}
 use Rattle.scx_dsq.specs.declared.entries.Entry.{Entry}
 use Rattle.scx_dsq.specs.declared.entries.Rank.{Rank}
 use Rattle.scx_dsq.specs.declared.entries.Rank.TheVariants.{Fifo, Vtime}
 use Rattle.scx_isa_semantics.specs.declared.callbacks.Callback.TheVariants.{SelectCpu, Enqueue, Dispatch}
 use Rattle.scx_isa_semantics.specs.declared.host_tables.Helper.{Helper}
-use Rattle.scx_isa_semantics.specs.declared.host_tables.Helper.TheVariants.{MapLookupElem, KtimeGetNs, CreateDsq, DsqInsert, DsqInsertVtime, DsqMoveToLocal, SelectCpuDfl, CpuIdle, TaskByPid, DsqNrQueued, KickCpu, SmpProcessorId, Exit, CpuCurr, DsqPeek, TaskRunning, TaskCpu, PickIdle, ClaimIdle, TimerStart, TimerCancel}
+use Rattle.scx_isa_semantics.specs.declared.host_tables.Helper.TheVariants.{MapLookupElem, KtimeGetNs, CreateDsq, DsqInsert, DsqInsertVtime, DsqMoveToLocal, SelectCpuDfl, CpuIdle, TaskByPid, DsqNrQueued, KickCpu, SmpProcessorId, Exit, CpuCurr, DsqPeek, TaskRunning, TaskCpu, PickIdle, ClaimIdle, TimerStart, TimerCancel, PrandomU32, MayRun}
 use Rattle.scx_vm.specs.declared.arguments.Arg.{Arg}
 use Rattle.scx_vm.specs.declared.arguments.Answer.{Answer}
 use Rattle.scx_vm.specs.declared.arguments.Answer.TheVariants.{Num}
@@ -19,15 +19,16 @@ use Rattle.scx_sched_world.specs.declared.call.Insert.{Insert}
 use Rattle.scx_sched_world.specs.declared.eject.Cause.{Cause}
 use Rattle.scx_sched_world.specs.declared.eject.Cause.TheVariants as reason
 use Rattle.scx_sched_world.specs.declared.faults.Fault.{Fault}
-use Rattle.scx_sched_world.specs.declared.faults.Fault.TheVariants.{Stuck, NoSuchQueue, CannotInsert, NoSuchCpu, UnknownFlag, CannotCreate, BuiltinVtime, Mixed, IdleUntracked}
+use Rattle.scx_sched_world.specs.declared.faults.Fault.TheVariants.{Stuck, NoSuchQueue, CannotInsert, NoSuchCpu, UnknownFlag, CannotCreate, BuiltinVtime, Mixed, IdleUntracked, NotAllowed}
 use Rattle.scx_sched_world.specs.declared.notes.What.TheVariants as notes
 use Rattle.scx_sched_world.specs.declared.timers.Alarm.{Alarm}
 use Rattle.scx_sched_world.specs.Ids.{policy_end, global, local, held_queue, local_on}
 use Rattle.scx_sched_world.specs.CpuSets.{is_in_set, and_cpu}
-use Rattle.scx_sched_world.specs.World.{WorldState, with_queues, with_kick, with_preemption, is_by_linux, task_at, running, is_idle, is_claimed, with_note}
+use Rattle.scx_sched_world.specs.World.{WorldState, with_queues, with_kick, with_preemption, is_by_linux, task_at, running, is_idle, is_claimed, with_random, with_note}
 use Rattle.scx_sched_world.specs.Tasks.{after_leave, after_enter, queue_for, for_cpu}
 use Rattle.scx_sched_world.specs.Helpers.{invalid, with_insert, with_move, given_number, given_task, task_or_null, insert_of, insert_of_vtime, with_timer, alarm_at}
 use Rattle.scx_sched_rules.specs.Differences.{Homes, IsCurrent, IsHere}
+use Rattle.scx_sched_rules.specs.Bound.{IsAllowed, IsNextFor}
 
 -- ---- queues that a call names
 
@@ -100,6 +101,20 @@ pub record IsLate (w : WorldState) (t : Option ℕ) : Type 0 where
   pub here : w.call.callback ≡ Dispatch
   pub gone : ¬ MayInsert w t
 
+-- a processor to whose local queue an insert brings its task: the one that is named, or, with LOCAL
+-- in dispatch, the one at hand
+pub data IsMeant (w : WorldState) (q c : ℕ) : Type 0 where
+  IsNamed : c < length w.cpus → q ≡ local_on c → IsMeant w q c
+  IsAtHand : w.call.callback ≡ Dispatch → q ≡ local → c ≡ w.call.cpu → IsMeant w q c
+
+-- the task may not run on that processor (ext.c, `task_can_run_on_remote_rq`)
+pub record IsForbidden (w : WorldState) (t : Option ℕ) (q : ℕ) : Type 0 where
+  pub task : ℕ
+  pub given : t ≡ Some task
+  pub cpu : ℕ
+  pub meant : IsMeant w q cpu
+  pub outside : ¬ IsAllowed w task cpu
+
 -- of several faults of an insert the first one here
 abbrev pub JudgesInsert : WorldState → Option ℕ → Insert → ℕ → Option Fault → Type 0
 JudgesInsert w t i flags (Some CannotInsert) = ¬ MayInsert w t
@@ -112,9 +127,12 @@ JudgesInsert w t i flags (Some BuiltinVtime) =
 JudgesInsert w t i flags (Some Mixed) =
     MayInsert w t × AreFlags w flags × IsDestination w i.queue × (¬ IsBuiltinVtime i.queue i.rank)
     × IsMixed w i.queue i.rank
+JudgesInsert w t i flags (Some NotAllowed) =
+    MayInsert w t × AreFlags w flags × IsDestination w i.queue × (¬ IsBuiltinVtime i.queue i.rank)
+    × (¬ IsMixed w i.queue i.rank) × IsForbidden w t i.queue
 JudgesInsert w t i flags None =
     MayInsert w t × AreFlags w flags × IsDestination w i.queue × (¬ IsBuiltinVtime i.queue i.rank)
-    × (¬ IsMixed w i.queue i.rank)
+    × (¬ IsMixed w i.queue i.rank) × (¬ IsForbidden w t i.queue)
 JudgesInsert w t i flags (Some CannotCreate) = ⊥
 JudgesInsert w t i flags (Some Stuck) = ⊥
 JudgesInsert w t i flags (Some IdleUntracked) = ⊥
@@ -131,6 +149,7 @@ JudgesFlags w flags (Some Mixed) = ⊥
 JudgesFlags w flags (Some CannotCreate) = ⊥
 JudgesFlags w flags (Some Stuck) = ⊥
 JudgesFlags w flags (Some IdleUntracked) = ⊥
+JudgesFlags w flags (Some NotAllowed) = ⊥
 
 -- an insert, in time or late
 pub data JudgesAnInsert (w : WorldState) (t : Option ℕ) (i : Insert) (flags : ℕ)
@@ -150,6 +169,7 @@ JudgesCreate w q (Some BuiltinVtime) = ⊥
 JudgesCreate w q (Some Mixed) = ⊥
 JudgesCreate w q (Some Stuck) = ⊥
 JudgesCreate w q (Some IdleUntracked) = ⊥
+JudgesCreate w q (Some NotAllowed) = ⊥
 
 -- a call that wants such a queue
 abbrev pub JudgesQueue : Type 0 → Option Fault → Type 0
@@ -163,6 +183,7 @@ JudgesQueue fits (Some BuiltinVtime) = ⊥
 JudgesQueue fits (Some Mixed) = ⊥
 JudgesQueue fits (Some Stuck) = ⊥
 JudgesQueue fits (Some IdleUntracked) = ⊥
+JudgesQueue fits (Some NotAllowed) = ⊥
 
 -- a call that wants a timer of the policy
 abbrev pub JudgesTimer : WorldState → ℕ → Option Fault → Type 0
@@ -176,6 +197,7 @@ JudgesTimer w t (Some BuiltinVtime) = ⊥
 JudgesTimer w t (Some Mixed) = ⊥
 JudgesTimer w t (Some Stuck) = ⊥
 JudgesTimer w t (Some IdleUntracked) = ⊥
+JudgesTimer w t (Some NotAllowed) = ⊥
 
 -- a call that wants a processor
 abbrev pub JudgesCpu : WorldState → ℕ → Option Fault → Type 0
@@ -189,6 +211,7 @@ JudgesCpu w c (Some BuiltinVtime) = ⊥
 JudgesCpu w c (Some Mixed) = ⊥
 JudgesCpu w c (Some Stuck) = ⊥
 JudgesCpu w c (Some IdleUntracked) = ⊥
+JudgesCpu w c (Some NotAllowed) = ⊥
 
 -- a question whether a processor is idle, or its claim: where the host doesn't track which are
 -- idle, that is the fault, before any other (ext/idle.c, `check_builtin_idle_enabled`)
@@ -203,6 +226,7 @@ JudgesAsk w c (Some UnknownFlag) = ⊥
 JudgesAsk w c (Some BuiltinVtime) = ⊥
 JudgesAsk w c (Some Mixed) = ⊥
 JudgesAsk w c (Some Stuck) = ⊥
+JudgesAsk w c (Some NotAllowed) = ⊥
 
 -- the choice of an idle processor for a task; what isn't a task has none, and no fault
 abbrev pub JudgesChoice : WorldState → Option ℕ → Option Fault → Type 0
@@ -217,6 +241,7 @@ JudgesChoice w (Some t) (Some UnknownFlag) = ⊥
 JudgesChoice w (Some t) (Some BuiltinVtime) = ⊥
 JudgesChoice w (Some t) (Some Mixed) = ⊥
 JudgesChoice w (Some t) (Some Stuck) = ⊥
+JudgesChoice w (Some t) (Some NotAllowed) = ⊥
 
 -- a kick: the flags 0, 1 (IDLE) and 2 (PREEMPT) are known
 abbrev pub JudgesKick : WorldState → ℕ → ℕ → Option Fault → Type 0
@@ -230,6 +255,7 @@ JudgesKick w c flags (Some BuiltinVtime) = ⊥
 JudgesKick w c flags (Some Mixed) = ⊥
 JudgesKick w c flags (Some Stuck) = ⊥
 JudgesKick w c flags (Some IdleUntracked) = ⊥
+JudgesKick w c flags (Some NotAllowed) = ⊥
 
 -- a choice from a mask: the flags 0 and 1, which asks for a whole core, are known
 abbrev pub JudgesPick : WorldState → ℕ → Option Fault → Type 0
@@ -243,6 +269,7 @@ JudgesPick w flags (Some CannotInsert) = ⊥
 JudgesPick w flags (Some BuiltinVtime) = ⊥
 JudgesPick w flags (Some Mixed) = ⊥
 JudgesPick w flags (Some Stuck) = ⊥
+JudgesPick w flags (Some NotAllowed) = ⊥
 
 -- the fault of a call, or that it has none; of the look-up of an element, which a run does
 -- itself, nothing is allowed
@@ -268,6 +295,8 @@ Judges w PickIdle a o = JudgesPick w (given_number a 1) o
 Judges w ClaimIdle a o = JudgesAsk w (given_number a 0) o
 Judges w TimerStart a o = JudgesTimer w (given_number a 0) o
 Judges w TimerCancel a o = JudgesTimer w (given_number a 0) o
+Judges w PrandomU32 a o = o ≡ None
+Judges w MayRun a o = JudgesCpu w (given_number a 1) o
 Judges w MapLookupElem a o = ⊥
 
 -- ---- what a call does where nothing is wrong: its answer, and the world that it leaves
@@ -283,16 +312,16 @@ pub data Inserts (w : WorldState) (t : Option ℕ) (i : Insert) (v : WorldState)
       → Inserts w t i v
   PassesOver : IsLate w t → v ≡ with_move w → Inserts w t i v
 
--- the front of the queue goes to the local queue of the processor at hand, and that is noted;
--- an empty queue stays
+-- the first task of the queue that may run on the processor at hand goes to its local queue, and
+-- that is noted; a queue that has none for it stays
 pub data Moves (w : WorldState) (q n : ℕ) (v : WorldState) : Type 0 where
-  Front : (t : ℕ) (moved : WorldState)
-      → front_of w.queues q ≡ Some t → n ≡ 1
+  First : (t : ℕ) (moved : WorldState)
+      → IsNextFor w q w.call.cpu (Some t) → n ≡ 1
       → Homes
-      (with_queues w (after_push (after_pop w.queues q) (local_on w.call.cpu) t Fifo)) t w.call.cpu
-      moved
+      (with_queues w (after_push (after_remove w.queues t) (local_on w.call.cpu) t Fifo)) t
+      w.call.cpu moved
       → v ≡ with_note (with_move moved) (notes.Move t w.call.cpu) → Moves w q n v
-  Empty : front_of w.queues q ≡ None → n ≡ 0 → v ≡ w → Moves w q n v
+  HasNone : IsNextFor w q w.call.cpu None → n ≡ 0 → v ≡ w → Moves w q n v
 
 -- a processor that may be chosen: it is idle, and, under Linux rules, chosen for no other task
 -- (ext/idle.c, `scx_idle_test_and_clear_cpu`)
@@ -300,16 +329,22 @@ pub record IsFree (w : WorldState) (c : ℕ) : Type 0 where
   pub idle : is_idle w c ≡ true
   pub unclaimed : is_claimed w c ≡ false
 
--- the processor that is chosen for a task: its own if that is free, else the lowest free one; none
--- where the host doesn't track which are idle
+-- one that may be chosen for a task, which may run there
+pub record IsFreeFor (w : WorldState) (t c : ℕ) : Type 0 where
+  pub allowed : IsAllowed w t c
+  pub free : IsFree w c
+
+-- the processor that is chosen for a task: its own if that is free, else the lowest free one, of
+-- those on which it may run; none where the host doesn't track which are idle
 pub data IsChoice (w : WorldState) (t : ℕ) : Option ℕ → Type 0 where
   ItsOwn : (c : ℕ)
-      → w.tracks_idle ≡ true → c ≡ (task_at w t).prev_cpu → IsFree w c → IsChoice w t (Some c)
-  Lowest : (c : ℕ)
-      → w.tracks_idle ≡ true → ¬ IsFree w (task_at w t).prev_cpu → IsFree w c
-      → ((d : ℕ) → d < c → ¬ IsFree w d)
+      → w.tracks_idle ≡ true → c ≡ (task_at w t).prev_cpu → IsFreeFor w t c
       → IsChoice w t (Some c)
-  NoneFree : ((d : ℕ) → ¬ IsFree w d) → IsChoice w t None
+  Lowest : (c : ℕ)
+      → w.tracks_idle ≡ true → ¬ IsFreeFor w t (task_at w t).prev_cpu → IsFreeFor w t c
+      → ((d : ℕ) → d < c → ¬ IsFreeFor w t d)
+      → IsChoice w t (Some c)
+  NoneFree : ((d : ℕ) → ¬ IsFreeFor w t d) → IsChoice w t None
   NoneTracked : w.tracks_idle ≡ false → IsChoice w t None
 
 -- the processor for which a task is put by default: the one that is chosen, else its own
@@ -375,6 +410,22 @@ pub data TellsCurrent (w : WorldState) (o : Option ℕ) (n : ℕ) : Type 0 where
 pub data TellsHome (w : WorldState) (o : Option ℕ) (n : ℕ) : Type 0 where
   OfTheTask : (t : ℕ) → o ≡ Some t → n ≡ (task_at w t).prev_cpu → TellsHome w o n
   OfNoTask : o ≡ None → n ≡ 0 → TellsHome w o n
+
+-- 1 for a task that may run on the processor, else 0
+pub data TellsAllowed (w : WorldState) (o : Option ℕ) (c n : ℕ) : Type 0 where
+  MayThere : (t : ℕ) → o ≡ Some t → IsAllowed w t c → n ≡ 1 → TellsAllowed w o c n
+  MayNotThere : (t : ℕ) → o ≡ Some t → ¬ IsAllowed w t c → n ≡ 0 → TellsAllowed w o c n
+  NoOneMay : o ≡ None → n ≡ 0 → TellsAllowed w o c n
+
+-- a random number of 32 bits: the upper half of the number that comes next, from which the one
+-- after it is made (Knuth, The Art of Computer Programming 2, 3.3.4)
+pub record Draws (w : WorldState) (n : ℕ) (v : WorldState) : Type 0 where
+  pub next : ℕ
+  pub follows : next ≡ (w.random * 6364136223846793005 + 1442695040888963407) % 2 ^ 64
+  pub low : ℕ
+  pub halves : next ≡ n * 2 ^ 32 + low
+  pub short : low < 2 ^ 32
+  pub all : v ≡ with_random w next
 
 -- a processor of a mask, a bit for each, that may be chosen
 pub record IsFreeIn (w : WorldState) (mask c : ℕ) : Type 0 where
@@ -445,6 +496,8 @@ Does w PickIdle a n v = PicksFrom w (given_number a 0) n v
 Does w ClaimIdle a n v = ClaimsThis w (given_number a 0) n v
 Does w TimerStart a n v = (n ≡ 0) × StartsTimer w (given_number a 0) (given_number a 1) v
 Does w TimerCancel a n v = CancelsTimer w (given_number a 0) n v
+Does w PrandomU32 a n v = Draws w n v
+Does w MayRun a n v = TellsAllowed w (given_task a 0) (given_number a 1) n × (v ≡ w)
 Does w CpuCurr a n v = ⊥
 Does w DsqPeek a n v = ⊥
 Does w TaskByPid a n v = ⊥
@@ -472,6 +525,8 @@ Names w PickIdle a o = ⊥
 Names w ClaimIdle a o = ⊥
 Names w TimerStart a o = ⊥
 Names w TimerCancel a o = ⊥
+Names w PrandomU32 a o = ⊥
+Names w MayRun a o = ⊥
 Names w MapLookupElem a o = ⊥
 
 -- the answer of a call with a fault: that it is invalid, but 0 of a call that answers a task

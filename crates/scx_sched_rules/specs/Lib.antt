@@ -1,4 +1,5 @@
 pub mod Differences
+pub mod Bound
 pub mod Entries
 pub mod Helpers
 pub mod Ejections

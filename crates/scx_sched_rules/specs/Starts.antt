@@ -1,8 +1,9 @@
--- How a machine begins, by cases: init runs, then enable and `set_weight` of each task, by number,
--- and then `update_idle` of each processor.
+-- A machine begins, by cases: each task is at home, init runs, then enable and `set_weight` of each
+-- task, by number, and then `update_idle` of each processor.
 use Rattle.std.specs.Prelude.{◌≡◌, ℕ, suc, ℤ, ◌<◌, true, false, length, Some, None, Result, Ok, Err}
-use Rattle.std.specs.Int.{w64, cast_signed}
-use Rattle.scx_weights.specs.Hierarchy.{Hierarchy, is_active_task, own_weight}
+use Rattle.std.specs.Int.{w64, bit_at, cast_signed}
+use Rattle.scx_sched_tasks.specs.declared.task.Task.{Task}
+use Rattle.scx_weights.specs.Hierarchy.{Hierarchy, is_active_task, own_weight, mask_of}
 use Rattle.scx_isa_semantics.specs.declared.callbacks.Callback.{Callback}
 use Rattle.scx_isa_semantics.specs.declared.callbacks.Callback.TheVariants as callback
 use Rattle.scx_isa_semantics.specs.Endings.{Ending}
@@ -10,19 +11,49 @@ use Rattle.scx_vm.specs.Programs.{VerifiedProgram}
 use Rattle.scx_vm.specs.declared.arguments.Args.{Args}
 use Rattle.scx_sched_world.specs.declared.faults.Fault.{Fault}
 use Rattle.scx_sched_world.specs.declared.eject.Cause.TheVariants as reason
-use Rattle.scx_sched_world.specs.World.{WorldState, without_marks, at_callback}
+use Rattle.scx_sched_world.specs.World.{WorldState, without_marks, task_at, at_callback}
+use Rattle.scx_sched_world.specs.First.{first_world}
+use Rattle.scx_sched_world.specs.Tasks.{with_home, begun_periods}
 use Rattle.scx_sched_machine.specs.Policy.{PolicyState, program_of}
 use Rattle.scx_sched_machine.specs.Steps.{State, with_world, is_by_linux}
 use Rattle.scx_sched_machine.specs.Callbacks.{acting, after_callback, no_arguments, one_task, task_and_number, two_numbers}
-use Rattle.scx_sched_machine.specs.Start.{blank, fault_answer}
+use Rattle.scx_sched_machine.specs.Start.{by_policy, blank, fault_answer}
+use Rattle.scx_sched_rules.specs.Bound.{IsFirstHome}
 use Rattle.scx_sched_rules.specs.Differences.{HearsIdle}
 use Rattle.scx_sched_rules.specs.Callbacks.{EndsAs}
 
--- there must be 1 to 64 processors, and every task asleep
+-- a task is bound, and to none of the processors
+pub record IsNowhere (tree : Hierarchy) (cpus t : ℕ) : Type 0 where
+  pub some : 0 < length tree.masks
+  pub outside : (c : ℕ) → c < cpus → ¬ (bit_at (mask_of tree t) c ≡ 1)
+
+-- there must be 1 to 64 processors, and every task asleep and able to run on one of them
 pub data HasBadShape (tree : Hierarchy) (cpus : ℕ) : Type 0 where
   NoCpu : cpus ≡ 0 → HasBadShape tree cpus
   ManyCpus : 64 < cpus → HasBadShape tree cpus
   Active : (t : ℕ) → t < length tree.homes → is_active_task tree t ≡ true → HasBadShape tree cpus
+  Nowhere : (t : ℕ) → t < length tree.homes → IsNowhere tree cpus t → HasBadShape tree cpus
+
+-- ---- before any callback
+
+-- the record of a task that was last on the lowest processor on which it may run
+pub record IsAtHome (w : WorldState) (t : ℕ) (x : Task) : Type 0 where
+  pub cpu : ℕ
+  pub first : IsFirstHome w t cpu
+  pub all : x ≡ with_home (task_at w t) cpu
+
+-- each task was last there
+pub record AreAtHome (w v : WorldState) : Type 0 where
+  pub many : length v.tasks ≡ length w.tasks
+  pub each : (t : ℕ) → t < length w.tasks → IsAtHome w t (task_at v t)
+  pub others : v ≡ record w { tasks = v.tasks }
+
+-- the state of a machine before any callback: periods of all groups begin, random numbers with the
+-- policy's seed, and each task is at home
+pub record IsBlank (p : PolicyState) (tree : Hierarchy) (cpus : ℕ) (s : State) : Type 0 where
+  pub world : WorldState
+  pub at_home : AreAtHome (begun_periods (by_policy p (first_world tree cpus))) world
+  pub all : s ≡ with_world (blank p tree cpus) world
 
 -- ---- init
 
@@ -117,12 +148,20 @@ pub data AllAreIdle (s : State) (r : Result State ℤ) : Type 0 where
 
 -- ---- all of it
 
--- the first state of a machine, or the number with which a callback fails
-pub data Begins (p : PolicyState) (tree : Hierarchy) (cpus : ℕ) (r : Result State ℤ) : Type 0 where
-  InitFails : (n : ℤ) → Initializes (blank p tree cpus) (Err n) → r ≡ Err n → Begins p tree cpus r
+-- from the state before any callback: the first state of a machine, or the number with which a
+-- callback fails
+pub data BeginsFrom (b : State) (r : Result State ℤ) : Type 0 where
+  InitFails : (n : ℤ) → Initializes b (Err n) → r ≡ Err n → BeginsFrom b r
   EnableFails : (s : State) (n : ℤ)
-      → Initializes (blank p tree cpus) (Ok s) → EnablesAll (length s.world.tasks) s (Err n)
-      → r ≡ Err n → Begins p tree cpus r
+      → Initializes b (Ok s) → EnablesAll (length s.world.tasks) s (Err n) → r ≡ Err n
+      → BeginsFrom b r
   Succeeds : (s u : State)
-      → Initializes (blank p tree cpus) (Ok s) → EnablesAll (length s.world.tasks) s (Ok u)
-      → AllAreIdle u r → Begins p tree cpus r
+      → Initializes b (Ok s) → EnablesAll (length s.world.tasks) s (Ok u) → AllAreIdle u r
+      → BeginsFrom b r
+
+-- the first state of a machine, or the number with which a callback fails
+pub record Begins (p : PolicyState) (tree : Hierarchy) (cpus : ℕ) (r : Result State ℤ)
+    : Type 0 where
+  pub before : State
+  pub is_blank : IsBlank p tree cpus before
+  pub from : BeginsFrom before r

@@ -43,8 +43,8 @@ pub fn rules_refuse_events()
     ensures only { RulesRefuseEventsOnly }
 {}
 
-/// The rules of starts allow the machine's first state, and no other. They say that a shape is bad exactly
-/// where it is refused.
+/// The rules of starts allow the machine's first state, and no other: each task begins on the lowest CPU on
+/// which it may run. They say that a shape is bad exactly where it is refused.
 pub fn rules_allow_starts()
     ensures allowed { RulesAllowStarts }
     ensures only { RulesAllowStartsOnly }

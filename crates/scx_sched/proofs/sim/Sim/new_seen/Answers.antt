@@ -12,21 +12,24 @@ invariant_of-result g c =
     let m = c.in_ok-machine.ensures in
     record {
       few = omega arith;
-      valid = valid_first _ _ _ _ m.shape m.flags m.timeout m.programs m.made m.few;
+      valid = valid_first c.args.policy c.args.tree c.args.cpus _ m.shape m.flags m.timeout m.programs m.made m.few;
     }
 
 pub returns-clause-in_force : goal.returns-clause-in_force
-returns-clause-in_force g c = force_started _ _ _ _ c.in_ok-machine.ensures.made
+returns-clause-in_force g c = force_started c.args.policy c.args.tree c.args.cpus _ c.in_ok-machine.ensures.made
 
 pub returns-clause-current : goal.returns-clause-current
-returns-clause-current g c = are_current _ (still_first _ _ _ _ c.in_ok-machine.ensures.made).1
+returns-clause-current g c = are_current _ (still_first c.args.policy c.args.tree c.args.cpus _ c.in_ok-machine.ensures.made).1
 
 pub returns-clause-timers : goal.returns-clause-timers
-returns-clause-timers g c = let m = c.in_ok-machine.ensures in timers_first _ _ _ _ m.shape m.made
+returns-clause-timers g c = let m = c.in_ok-machine.ensures in timers_first c.args.policy c.args.tree c.args.cpus _ m.shape m.made
+
+pub returns-clause-allowed : goal.returns-clause-allowed
+returns-clause-allowed g c = let m = c.in_ok-machine.ensures in (valid_first c.args.policy c.args.tree c.args.cpus _ m.shape m.flags m.timeout m.programs m.made m.few).allowed
 
 -- where the machine begins, no callback has failed
 pub returns-clause-none_failed : goal.returns-clause-none_failed
-returns-clause-none_failed g c = started_right _ _ _ _ c.in_ok-machine.ensures.made
+returns-clause-none_failed g c = started_right c.args.policy c.args.tree c.args.cpus _ c.in_ok-machine.ensures.made
 
 -- where it doesn't, the last one has
 pub returns-in_err-machine-clause-failed : goal.returns-in_err-machine-clause-failed
