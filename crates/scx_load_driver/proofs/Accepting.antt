@@ -78,7 +78,7 @@ module _ (n c g e : ℕ) where
   times s = times_of n s.state.world
 
   like_now : (s : SimState) → IsOf n c g e s → IsLike s.state.world.tree (times s) c s.state.world
-  like_now s h = ((refl, refl, refl, refl), (h.tasks, λ u. omega arith), h.cpus)
+  like_now s h = ((refl, refl, refl, refl, refl), (h.tasks, λ u. omega arith), h.cpus)
 
   -- a task that sleeps may wake
   pub wake_leads : (s : SimState) (t : ℕ) → e < max_events → t < n → is_runnable s.state.world t ≡ false → IsOf n c g e s → Leads (Wake t) s (λ u. u ≡ t → ⊥)
@@ -135,11 +135,11 @@ module _ (n c g e : ℕ) where
       go : (b : Bool) → is_none (weight_fault s.state.world.tree k y) ≡ b → IsOf n c g (e + 1) (after_event s (SetWeight k y))
       go true w =
           let tree = with_weight s.state.world.tree k y in
-          let own : IsLike tree (times s) c (machine.own_step s.state (SetWeight k y)).state.world = rw w ((refl, refl, refl, refl), (h.tasks, λ u. omega arith), h.cpus) in
+          let own : IsLike tree (times s) c (machine.own_step s.state (SetWeight k y)).state.world = rw w ((refl, refl, refl, refl, refl), (h.tasks, λ u. omega arith), h.cpus) in
           is_of tree (times s) (SetWeight k y) s refl (length-set s.state.world.tree.groups k _ ∙ h.groups) x (like_rounds tree (times s) c (machine.own_step s.state (SetWeight k y)) own) h.events
       go false w =
           let tree = s.state.world.tree in
-          let own : IsLike tree (times s) c (machine.own_step s.state (SetWeight k y)).state.world = rw w ((refl, refl, refl, refl), (h.tasks, λ u. omega arith), h.cpus) in
+          let own : IsLike tree (times s) c (machine.own_step s.state (SetWeight k y)).state.world = rw w ((refl, refl, refl, refl, refl), (h.tasks, λ u. omega arith), h.cpus) in
           is_of tree (times s) (SetWeight k y) s refl h.groups x (like_rounds tree (times s) c (machine.own_step s.state (SetWeight k y)) own) h.events
 
   -- a task may get a weight of its own

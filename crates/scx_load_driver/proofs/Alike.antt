@@ -27,9 +27,10 @@ use Rattle.scx_sched_world.specs.declared.faults.Fault.{Fault}
 use Rattle.scx_sched_world.specs.declared.notes.Note.{Note}
 use Rattle.scx_sched_world.specs.CpuSets.{is_in_set}
 use Rattle.scx_sched_world.specs.Ids.{global, builtin_queue, parked_queue, local_on}
-use Rattle.scx_sched_world.specs.World.{WorldState, with_switch, with_task, out_of_cycle, without_kick, task_at, is_throttled, is_idle, waits, running, at_callback}
-use Rattle.scx_sched_world.specs.Tasks.{with_home, with_slice, to_front, after_leave, after_enter, for_cpu, brought, fill_front, after_stop, started_at, after_run, after_switch, after_cut_off, put_parked, after_take, let_go}
-use Rattle.scx_sched_world.specs.Helpers.{is_dispatch, with_insert, after_release, insert_or_fault, front_moved_to_local, helper_after, stored_in, world_functions}
+use Rattle.scx_sched_world.specs.First.{first_world, with_homes_below, at_first_homes}
+use Rattle.scx_sched_world.specs.World.{WorldState, binds, with_switch, with_task, out_of_cycle, without_kick, task_at, is_throttled, is_idle, waits, running, at_callback}
+use Rattle.scx_sched_world.specs.Tasks.{begun_periods, with_home, with_slice, to_front, after_leave, after_enter, for_cpu, brought, fill_front, next_for, after_stop, started_at, after_run, after_switch, after_cut_off, put_parked, let_go}
+use Rattle.scx_sched_world.specs.Helpers.{is_dispatch, with_insert, after_release, insert_or_fault, moved_to_local, helper_after, stored_in, world_functions}
 use Rattle.scx_sched_machine.specs.Policy.{PolicyState, program_of}
 use Rattle.scx_sched_world.specs.declared.eject.Eject.{Eject}
 use Rattle.scx_sched_world.specs.Ejecting.{put_out, put_builtin, after_evictions, after_cut, cut_task, after_charge, after_catch_up}
@@ -40,18 +41,19 @@ use Rattle.scx_sched_machine.specs.Custody.{tells_dequeued, leaver, tells_of, te
 use Rattle.scx_sched_machine.specs.Put.{enters, enqueue_choice, enters_builtin, comes_in, put}
 use Rattle.scx_sched_machine.specs.Events.{insert_or_put}
 use Rattle.scx_sched_machine.specs.Filling.{fill}
-use Rattle.scx_sched_machine.specs.Parking.{park, park_front, throttled_front, park_then, park_fronts, clear, in_reach, supply, let_go_one, let_go_from, let_all_go}
+use Rattle.scx_sched_machine.specs.Parking.{park, throttled_front, throttled_next, park_then, park_next, clear, in_reach, supply, let_go_one, let_go_from, let_all_go}
 use Rattle.scx_sched_machine.specs.Cycle.{has_local, keeps_slice, supply_unless_kept, told_of, dispatch_called, after_dispatch, asks_again, tries, stopping_called, after_stopping, after_running, put_back, leave, switched, started_if, start as run_front, tells_idle, rest, swap, swap_or_rest, builtin_dispatch, builtin_fill, builtin_ask, builtin_cycle, start_or_cycle, picked, refilled, is_local, start_picked, start_picked_or_cycle, tells_busy, makes_way, pick, pick_or_rest, keep_or_pick, conclude, give_up, ask, seek, look, cycling, ends, falls_idle, notes_idle, idle_or_anew, becomes_idle, concluded, cycle}
 use Rattle.scx_sched_machine.specs.Rounds.{most_rounds, next_to_look, cut_off_if, look_past, look_from, round, round_then, rounds, with_rounds}
-use Rattle.scx_sched_machine.specs.Start.{blank, init_ending, bad_answer, ok_unless, after_init, begin_ending, failure, begin_with, has_by_linux, begin_by_linux, enable, then_weigh, then_enable, after_enables, then_idle, after_idles, unmarked, all_idle, then_all_idle, all_enabled, first_state}
+use Rattle.scx_sched_machine.specs.Start.{by_policy, blank, init_ending, bad_answer, ok_unless, after_init, begin_ending, failure, begin_with, has_by_linux, begin_by_linux, enable, then_weigh, then_enable, after_enables, then_idle, after_idles, unmarked, all_idle, then_all_idle, all_enabled, first_state}
 use Rattle.scx_sched_machine.proofs.Choices.{keeps_if}
 use Rattle.scx_sched_machine.proofs.HelperCalls.{by_helper}
 use Rattle.scx_sched.proofs.Marks.{KeepsMarks, KeepsCycles, Anywhere, kept_switch, kept_cycling, kept_kicked_so, kept_claim, kept_local, kept_entered}
 use Rattle.scx_sched.proofs.Fine.{stored_run, given_run, renewed_run}
 
--- the same groups and tasks, each with the same weight of its own, of which the same are active
+-- the same groups and tasks, each with the same weight of its own and the same mask, of which the
+-- same are active
 abbrev pub IsTreeLike : Hierarchy → Hierarchy → Type 0
-IsTreeLike h t = (t.groups ≡ h.groups) × (t.homes ≡ h.homes) × (t.active ≡ h.active) × (t.own_weights ≡ h.own_weights)
+IsTreeLike h t = (t.groups ≡ h.groups) × (t.homes ≡ h.homes) × (t.active ≡ h.active) × (t.own_weights ≡ h.own_weights) × (t.masks ≡ h.masks)
 
 -- how many tasks there are, and how long each has run at most
 pub record Times : Type 0 where
@@ -87,6 +89,10 @@ like_groups h n c w i = let t : IsTreeLike h w.tree = i.0 in t.0
 pub like_own_weights : (h : Hierarchy) (n : Times) (c : ℕ) (w : WorldState) → IsLike h n c w → w.tree.own_weights ≡ h.own_weights
 like_own_weights h n c w i = let t : IsTreeLike h w.tree = i.0 in t.3
 
+-- in a world like a tree tasks have the same masks
+pub like_masks : (h : Hierarchy) (n : Times) (c : ℕ) (w : WorldState) → IsLike h n c w → w.tree.masks ≡ h.masks
+like_masks h n c w i = let t : IsTreeLike h w.tree = i.0 in t.4
+
 -- in a world like a tree the same tasks are active
 pub like_active : (h : Hierarchy) (n : Times) (c : ℕ) (w : WorldState) → IsLike h n c w → w.tree.active ≡ h.active
 like_active h n c w i = let t : IsTreeLike h w.tree = i.0 in t.2
@@ -117,13 +123,13 @@ module _ (h : Hierarchy) (n : Times) (c : ℕ) where
   like_inserted w None t k i = keeps_if (IsLike h n c) (is_dispatch w.call.callback) (after_release w t (for_cpu w.call.cpu k)) (with_insert w k) (like_released w t (for_cpu w.call.cpu k) i) i
   like_inserted w (Some f) t k i = i
 
-  like_moved : (w : WorldState) (o : Option ℕ) (q : ℕ) → IsLike h n c w → IsLike h n c (front_moved_to_local w o q)
-  like_moved w None q i = i
-  like_moved w (Some t) q i = let x = kept_local Anywhere (IsLike h n c) like_marks (after_take w q) w.call.cpu t tt i in (x.0, x.1, x.2)
+  like_moved : (w : WorldState) (o : Option ℕ) → IsLike h n c w → IsLike h n c (moved_to_local w o)
+  like_moved w None i = i
+  like_moved w (Some t) i = let x = kept_local Anywhere (IsLike h n c) like_marks (after_leave w t) w.call.cpu t tt i in (x.0, x.1, x.2)
 
-  like_brought : (o : Option ℕ) (w : WorldState) (q d : ℕ) → IsLike h n c w → IsLike h n c (brought o w q d)
-  like_brought None w q d i = i
-  like_brought (Some t) w q d i = kept_local Anywhere (IsLike h n c) like_marks (after_take w q) d t tt i
+  like_brought : (o : Option ℕ) (w : WorldState) (d : ℕ) → IsLike h n c w → IsLike h n c (brought o w d)
+  like_brought None w d i = i
+  like_brought (Some t) w d i = kept_local Anywhere (IsLike h n c) like_marks (after_leave w t) d t tt i
 
   like_helper : (w : WorldState) (f : Helper) (a : List Arg) → IsLike h n c w → IsLike h n c (helper_after w f a)
   like_helper w f a i = by_helper (IsLike h n c) w (record {
@@ -137,7 +143,8 @@ module _ (h : Hierarchy) (n : Times) (c : ℕ) where
     kicked = λ d k. kept_kicked_so Anywhere (IsLike h n c) like_marks w d k i;
     started = λ k ns. i;
     cancelled = λ k. i;
-    moved = λ q here low. like_moved w (front_of w.queues q) q i;
+    moved = λ q here low. like_moved w (next_for w q w.call.cpu) i;
+    drawn = i;
   }) f a
 
   like_query : (w : WorldState) (q : Query) → IsLike h n c w → IsLike h n c (after_query world_functions w q)
@@ -275,7 +282,7 @@ module _ (h : Hierarchy) (n : Times) (c : ℕ) where
 
   like_fill : (s : State) (q d : ℕ) → IsLike h n c s.world → IsLike h n c (fill s q d).state.world
   unfolding fill
-  like_fill s q d i = like_brought (fill_front s.world q d) s.world q d i
+  like_fill s q d i = like_brought (fill_front s.world q d) s.world d i
 
   -- ---- parking
 
@@ -286,26 +293,24 @@ module _ (h : Hierarchy) (n : Times) (c : ℕ) where
   unfolding park
   like_park s t i = like_put_parked s.world t i
 
-  like_park_front : (s : State) (q t : ℕ) → IsLike h n c s.world → IsLike h n c (park_front s q t).state.world
-  unfolding park_front
-  like_park_front s q t i = like_park (with_world s (after_take s.world q)) t i
+  -- a task that may not run, and then more
+  like_park_then : (more : State → Stepped) (s : State) (o : Option ℕ) → IsLike h n c s.world → ((v : State) → IsLike h n c v.world → IsLike h n c (more v).state.world) → IsLike h n c (park_then more s o).state.world
+  like_park_then more s None i f = i
+  like_park_then more s (Some t) i f =
+      let v = with_world s (after_leave s.world t) in
+      f (park v t).state (like_park v t i)
 
-  -- the front that may not run, and then more
-  like_park_then : (more : State → Stepped) (s : State) (q : ℕ) (o : Option ℕ) → IsLike h n c s.world → ((v : State) → IsLike h n c v.world → IsLike h n c (more v).state.world) → IsLike h n c (park_then more s q o).state.world
-  like_park_then more s q None i f = i
-  like_park_then more s q (Some t) i f = f (park_front s q t).state (like_park_front s q t i)
-
-  like_park_fronts : (m : ℕ) (s : State) (q : ℕ) → IsLike h n c s.world → IsLike h n c (park_fronts m s q).state.world
-  unfolding park_fronts
-  like_park_fronts zero s q i = i
-  like_park_fronts (suc m) s q i = like_park_then (λ v. park_fronts m v q) s q (throttled_front s q) i (λ v x. like_park_fronts m v q x)
+  like_park_next : (m : ℕ) (s : State) (q d : ℕ) → IsLike h n c s.world → IsLike h n c (park_next m s q d).state.world
+  unfolding park_next
+  like_park_next zero s q d i = i
+  like_park_next (suc m) s q d i = like_park_then (λ v. park_next m v q d) s (throttled_next s q d) i (λ v x. like_park_next m v q d x)
 
   like_clear : (m : ℕ) (s : State) (d : ℕ) → IsLike h n c s.world → IsLike h n c (clear m s d).state.world
   unfolding clear
   like_clear zero s d i = i
   like_clear (suc m) s d i =
       let f = (fill s global d).state in
-      like_park_then (λ v. clear m v d) f (local_on d) (throttled_front f (local_on d)) (like_fill s global d i) (λ v x. like_clear m v d x)
+      like_park_then (λ v. clear m v d) f (throttled_front f (local_on d)) (like_fill s global d i) (λ v x. like_clear m v d x)
 
   like_supply : (s : State) (d : ℕ) → IsLike h n c s.world → IsLike h n c (supply s d).state.world
   unfolding supply
@@ -394,8 +399,8 @@ module _ (h : Hierarchy) (n : Times) (c : ℕ) where
   like_builtin_fill : (s : State) (d : ℕ) → IsLike h n c s.world → IsLike h n c (builtin_fill s d).state.world
   unfolding builtin_fill builtin_dispatch
   like_builtin_fill s d i =
-      let p = park_fronts (len_of s.world.queues builtin_queue) s builtin_queue in
-      keeps_if (λ (r : Stepped). IsLike h n c r.state.world) (has_local s d) (stays s) (one_after_other p (fill p.state builtin_queue d)) i (like_fill p.state builtin_queue d (like_park_fronts (len_of s.world.queues builtin_queue) s builtin_queue i))
+      let p = park_next (len_of s.world.queues builtin_queue) s builtin_queue d in
+      keeps_if (λ (r : Stepped). IsLike h n c r.state.world) (has_local s d) (stays s) (one_after_other p (fill p.state builtin_queue d)) i (like_fill p.state builtin_queue d (like_park_next (len_of s.world.queues builtin_queue) s builtin_queue d i))
 
   like_builtin_cycle : (s : State) (d : ℕ) (p : Option ℕ) (ran : Bool) → IsLike h n c s.world → IsLike h n c (builtin_cycle s d p ran).state.world
   unfolding builtin_cycle builtin_ask swap_or_rest
@@ -613,9 +618,25 @@ module _ (h : Hierarchy) (n : Times) (c : ℕ) where
   like_all (Err k) t e f = absurd (cc)
   like_all (Ok s) t e f = like_then_idle (after_enables (length s.world.tasks) s) t e (λ u x. like_enabled (length s.world.tasks) s u x (f s refl))
 
+  -- ---- where bound tasks begin
+
+  like_homes_below : (m : ℕ) (w : WorldState) → IsLike h n c w → IsLike h n c (with_homes_below m w)
+  like_homes_below zero w i = i
+  like_homes_below (suc m) w i = like_task (with_homes_below m w) m _ refl (like_homes_below m w i)
+
+  like_at_homes : (w : WorldState) → IsLike h n c w → IsLike h n c (at_first_homes w)
+  like_at_homes w i = keeps_if (IsLike h n c) (binds w) (with_homes_below (length w.tasks) w) w (like_homes_below (length w.tasks) w i) i
+
+-- as it begins, before any callback
+like_blank : (p : PolicyState) (h : Hierarchy) (cpus : ℕ) → IsLike h (times_of (length h.homes) (blank p h cpus).world) cpus (blank p h cpus).world
+like_blank p h cpus =
+    let w = begun_periods (by_policy p (first_world h cpus)) in
+    let x = like_at_homes h (times_of (length h.homes) w) cpus w ((refl, refl, refl, refl, refl), (length-replicate (length h.homes) _, λ u. omega arith), length-replicate {A = Option ℕ} cpus None) in
+    (x.0, (x.1.0, λ u. omega arith), x.2)
+
 -- the first world has such a tree, and a task and a processor for each
 pub like_first : (p : PolicyState) (h : Hierarchy) (cpus : ℕ) (t : State) → first_state p h cpus ≡ Ok t → IsLike h (times_of (length h.homes) (blank p h cpus).world) cpus t.world
 like_first p h cpus t e =
     let n = times_of (length h.homes) (blank p h cpus).world in
     like_all h n cpus (after_init (blank p h cpus)) t e
-    (λ s x. like_initialized h n cpus (blank p h cpus) s x ((refl, refl, refl, refl), (length-replicate (length h.homes) _, λ u. omega arith), length-replicate {A = Option ℕ} cpus None))
+    (λ s x. like_initialized h n cpus (blank p h cpus) s x (like_blank p h cpus))

@@ -12,25 +12,25 @@ use Rattle.scx_sched_tasks.specs.Tasks.{no_task}
 use Rattle.scx_vm.specs.Programs.{VerifiedProgram}
 use Rattle.scx_sched_world.specs.declared.call.Insert.{Insert}
 use Rattle.scx_sched_world.specs.World as world
-use Rattle.scx_sched_world.specs.World.{WorldState, with_switch, with_tree, with_slept, with_waker, waits, running, cpu_of, is_idle, is_throttled, is_this, task_at, choice, after_claim, at_callback}
+use Rattle.scx_sched_world.specs.World.{WorldState, with_switch, with_tree, with_slept, with_waker, first_home, waits, running, cpu_of, is_idle, is_throttled, is_this, task_at, choice, after_claim, at_callback}
 use Rattle.scx_sched_world.specs.declared.timers.Alarm.{Alarm}
 use Rattle.scx_sched_world.specs.Helpers.{after_fire}
 use Rattle.scx_sched_world.specs.Tasks.{after_own_weight, homed, after_wake, after_sleep, after_leave, after_stop, tick_ns, ran_a_tick, after_tick, used_ms, later, begun_periods}
-use Rattle.scx_sched_machine.specs.Steps.{State, Stepped, with_world, stays, one_after_other, is_by_linux, kicked_if_idle}
+use Rattle.scx_sched_machine.specs.Steps.{State, Stepped, with_world, stays, is_by_linux, kicked_if_idle}
 use Rattle.scx_sched_machine.specs.Callbacks.{acting, call_back, call_by_linux, answered_by, one_number, one_task, task_cpu_and_0, task_and_number}
 use Rattle.scx_sched_machine.specs.Custody.{is_in_custody, tells_dequeued}
 use Rattle.scx_sched_machine.specs.Firing.{due, fires, fire, fire_below, fire_all}
 use Rattle.scx_sched_machine.specs.Parking.{park, let_all_go}
-use Rattle.scx_sched_machine.specs.Cycle.{after_stopping, cycle}
+use Rattle.scx_sched_machine.specs.Cycle.{cycle}
 use Rattle.scx_sched_machine.specs.declared.events.Event.TheVariants.{Wake, Sleep, Tick, Clock, SetTaskWeight}
-use Rattle.scx_sched_machine.specs.Events.{target, insert_or_put, woken, wake_target, comes_to, while_in_force, told_runnable, settle, inserted_by_choice, chosen, ask_target, asks_target, select, from_waker, wake, told_of_sleep, falls_asleep, looks_after_sleep, leaves_cpu, leaves_queue, sleep_from_cpu, sleep_from_queue, sleep_from, sleep, throttle, ends_slices, expire, use_up, hears_tick, tick_heard, count_down, tick_idle, tick_of, tick, overdue, eject_if_stalled, watch, timers_and_watchdog, clock, restore_flag, change_flags, takes_weight, changes_weight, reweigh_running, reweigh_waiting, reweigh_off_cpu, reweigh_at, reweigh_by_linux, reweigh, own_step, event_step}
+use Rattle.scx_sched_machine.specs.Events.{target, insert_or_put, woken, wake_target, comes_to, while_in_force, told_runnable, settle, inserted_by_choice, chosen, ask_target, asks_target, settle_at_home, select, from_waker, wake, told_of_sleep, falls_asleep, looks_after_sleep, leaves_cpu, leaves_queue, sleep_from_cpu, sleep_from_queue, sleep_from, sleep, throttle, ends_slices, expire, use_up, hears_tick, tick_heard, count_down, tick_idle, tick_of, tick, overdue, eject_if_stalled, watch, timers_and_watchdog, clock, restore_flag, change_flags, takes_weight, changes_weight, reweigh_running, reweigh_waiting, reweigh_off_cpu, reweigh_at, reweigh_by_linux, reweigh, own_step, event_step}
 use Rattle.scx_sched_machine.proofs.Choices.{keeps_if}
 use Rattle.scx_sched.proofs.Marks.{Anywhere, kept_homed, kept_claim}
 use Rattle.scx_load_driver.proofs.Alike.{IsTreeLike, Times, AreTimed, IsLike, timed_set, like_marks, like_kicked_if_idle, like_stopped, like_eject, like_call_back, like_call_by_linux, like_dequeued, like_put, like_switch, like_stopping, like_settled, like_park, like_let_all_go, like_cycle, like_rounds}
 
 -- a task is active, or not, in both
 tree_set : (h t : Hierarchy) (k : ℕ) (on : Bool) → IsTreeLike h t → IsTreeLike (tree.with_task h k on) (tree.with_task t k on)
-tree_set h t k on i = (i.0, i.1, ap (λ xs. set xs k on) i.2, i.3)
+tree_set h t k on i = (i.0, i.1, ap (λ xs. set xs k on) i.2, i.3, i.4)
 
 -- ---- a task that wakes
 
@@ -83,11 +83,15 @@ module _ (h : Hierarchy) (n : Times) (c : ℕ) where
       let p = acting r.state callback.SelectCpu in
       like_settle (chosen p r.state t) t (target p r.state.world t (answered_by s callback.SelectCpu (task_cpu_and_0 t d) t d)) (like_chosen p r.state t (like_call_back h n c s callback.SelectCpu (task_cpu_and_0 t d) t d i))
 
+  like_settle_at_home : (s : State) (t d : ℕ) → IsLike h n c s.world → IsLike h n c (settle_at_home s t d).state.world
+  unfolding settle_at_home
+  like_settle_at_home s t d i = like_settle (with_world s (at_callback s.world callback.SelectCpu t d)) t d i
+
   like_select : (s : State) (t : ℕ) → IsLike h n c s.world → IsLike h n c (select s t).state.world
   unfolding select
   like_select s t i =
-      let v = with_world s (at_callback s.world callback.SelectCpu t 0) in
-      keeps_if (λ (r : Stepped). IsLike h n c r.state.world) (asks_target s) (ask_target s t) (settle v t 0) (like_ask_target s t i) (like_settle v t 0 i)
+      let d = first_home s.world t in
+      keeps_if (λ (r : Stepped). IsLike h n c r.state.world) (asks_target s t) (ask_target s t) (settle_at_home s t d) (like_ask_target s t i) (like_settle_at_home s t d i)
 
   -- from which processor a task is woken is no part of it
   like_from_waker : (s : State) (t : ℕ) → IsLike h n c s.world → IsLike h n c (from_waker s t).world
@@ -263,7 +267,7 @@ module _ (h : Hierarchy) (n : Times) (c : ℕ) where
       fault = ap (λ (hs : List ℕ). own_weight_fault (record h { homes = hs }) t x) same.1
 
       go : (b : Bool) → IsLike (if b then with_own_weight h t x else h) n c (if b then with_tree w (with_own_weight w.tree t x) else w)
-      go true = ((same.0, same.1, same.2, ap (λ (ws : List ℕ). set ws t x) same.3), i.1, i.2)
+      go true = ((same.0, same.1, same.2, ap (λ (ws : List ℕ). set ws t x) same.3, same.4), i.1, i.2)
       go false = i
 
   like_takes_weight : (s : State) (t d x : ℕ) → IsLike h n c s.world → IsLike (own_weighed h t x) n c (takes_weight s t d x).state.world

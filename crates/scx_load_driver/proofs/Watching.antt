@@ -122,7 +122,7 @@ module _ (ran : List ℕ) where
       c = length s.state.world.cpus
 
       go : (o : Option Refused) → (task_at (stepped_if o s (Wake t)).state.world u).run_ns ≤ (task_at s.state.world u).run_ns
-      go None = (like_wake s.state.world.tree (times_of n s.state.world) c s.state t ((refl, refl, refl, refl), (refl, λ u. omega arith), refl)).1.1 u
+      go None = (like_wake s.state.world.tree (times_of n s.state.world) c s.state t ((refl, refl, refl, refl, refl), (refl, λ u. omega arith), refl)).1.1 u
       go (Some r) = omega arith
 
   -- tasks of which it was just remembered
@@ -226,7 +226,7 @@ module _ (timings : List Timing) (ran : List ℕ) where
       c = length s.world.cpus
 
       like : IsLike s.world.tree (times_of n s.world) c s.world
-      like = ((refl, refl, refl, refl), (refl, λ u. omega arith), refl)
+      like = ((refl, refl, refl, refl, refl), (refl, λ u. omega arith), refl)
 
       runs : (h : Hierarchy) (w : WorldState) → w.tree.active ≡ h.active → (u : ℕ) → is_runnable w u ≡ is_active_task h u
       runs h w e u = ap (λ ys. get_or ys u false) e
@@ -253,7 +253,7 @@ module _ (timings : List Timing) (ran : List ℕ) where
           let after = (machine.event_step s (SetWeight g k)).state.world in
           let b = is_none (weight_fault s.world.tree g k) in
           let v = with_tree s.world (with_weight s.world.tree g k) in
-          let alike : IsLike own.state.world.tree (times_of n s.world) c own.state.world = keeps_if (λ (w : WorldState). IsLike w.tree (times_of n s.world) c w) b v s.world ((refl, refl, refl, refl), (refl, λ u. omega arith), refl) ((refl, refl, refl, refl), (refl, λ u. omega arith), refl) in
+          let alike : IsLike own.state.world.tree (times_of n s.world) c own.state.world = keeps_if (λ (w : WorldState). IsLike w.tree (times_of n s.world) c w) b v s.world ((refl, refl, refl, refl, refl), (refl, λ u. omega arith), refl) ((refl, refl, refl, refl, refl), (refl, λ u. omega arith), refl) in
           let as_active : own.state.world.tree.active ≡ s.world.tree.active = keeps_if (λ (w : WorldState). w.tree.active ≡ s.world.tree.active) b v s.world refl refl in
           let x = like_rounds own.state.world.tree (times_of n s.world) c own alike in
           quietly xs s.world after (λ u y. sym (runs s.world.tree after (x.0.2 ∙ as_active) u) ∙ y) (λ u. x.1.1 u) h

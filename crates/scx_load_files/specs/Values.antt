@@ -48,6 +48,16 @@ abbrev pub integer_of : Limits → List ℕ → Data → Reading ℕ
 integer_of limits path (integer z) = found_or Ok (refusal path cause.OutOfRange) (within limits z)
 integer_of limits path _ = refusal path cause.WrongType
 
+-- the number, if it isn't below 0; a file has none above 2 ^ 63 - 1 (TOML 1.1, "Integer")
+abbrev pub natural : ℤ → Option ℕ
+natural (pos n) = Some n
+natural (negsuc n) = None
+
+-- the number from 0 on that a value is; another type is refused, and so is a number below 0
+abbrev pub natural_of : List ℕ → Data → Reading ℕ
+natural_of path (integer z) = found_or Ok (refusal path cause.OutOfRange) (natural z)
+natural_of path _ = refusal path cause.WrongType
+
 -- how many elements an array has
 abbrev pub item_count : Items → ℕ
 item_count no_items = 0

@@ -1,9 +1,9 @@
-ghost use Rattle.std.specs.Prelude.{◌≡◌, [], None, IfOk, option_map};
+ghost use Rattle.std.specs.Prelude.{◌≡◌, ◌<◌, ◌^◌, [], None, IfOk, IfSome, option_map};
 ghost use Rattle.toml.specs.Data.{no_items, get_member};
 ghost use Rattle.toml.specs.View.{view, table_view, items_view};
 ghost use Rattle.scx_load_files.specs.Faults.{Gives};
 ghost use Rattle.scx_load_files.specs.Paths.{below};
-ghost use Rattle.scx_load_files.specs.Values.{document, required, optional, table_of, integer_of, text_of, name_of, elements_of, within};
+ghost use Rattle.scx_load_files.specs.Values.{document, required, optional, table_of, integer_of, natural, natural_of, text_of, name_of, elements_of, within};
 
 use crate::fault::{Cause, LoadError, refused, refused_at};
 use crate::names::is_name;
@@ -98,6 +98,20 @@ impl<'a> Section<'a> {
         }
     }
 
+    /// The number at a key that may be absent, from 0 to 2^63 - 1. `WrongType` or `OutOfRange`.
+    pub fn natural_or(self, alloc: Global, key: &str, default: u64) -> Result<u64, LoadError>
+        requires { default < 2 ^ 63 }
+        ensures number { Gives (λ n. n) result
+            (optional natural_of default self.entry.path.now key.now
+            (table_view self.entry.table.now)) }
+        ensures few { IfOk result (λ n. n < 2 ^ 63) }
+    {
+        match self.value(key) {
+            Some(value) => self.natural(alloc, key, value),
+            None => Ok(default),
+        }
+    }
+
     /// The text at a key that has to be there. `Missing` or `WrongType`.
     pub fn text(self, alloc: Global, key: &str) -> Result<&'a str, LoadError>
         ensures { Gives (λ t. t.now) result
@@ -175,6 +189,20 @@ impl<'a> Section<'a> {
         }
     }
 
+    fn natural(self, alloc: Global, key: &str, value: &Value) -> Result<u64, LoadError>
+        ensures number { Gives (λ n. n) result
+            (natural_of (below self.entry.path.now key.now) (view value.now)) }
+        ensures few { IfOk result (λ n. n < 2 ^ 63) }
+    {
+        match value.as_integer() {
+            Some(number) => match natural(number) {
+                Some(number) => Ok(number),
+                None => refused(alloc, self.path, key, Cause::OutOfRange),
+            },
+            None => refused(alloc, self.path, key, Cause::WrongType),
+        }
+    }
+
     #[tactic(auto, using(crate::proofs::Counts::count_of_view))]
     fn elements_in(
         self,
@@ -206,4 +234,15 @@ fn within(number: i64, limits: Limits) -> Option<u32>
         return None;
     }
     Some(number as u32)
+}
+
+/// The number, if it isn't below 0.
+fn natural(number: i64) -> Option<u64>
+    ensures number { result ≡ natural number }
+    ensures few { IfSome result (λ n. n < 2 ^ 63) }
+{
+    if number < 0 {
+        return None;
+    }
+    Some(number as u64)
 }

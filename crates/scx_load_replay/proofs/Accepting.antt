@@ -32,7 +32,7 @@ module _ (n c g : ℕ) where
   times s = times_of n s.state.world
 
   like_now : (e : ℕ) (awake : List Bool) (s : SimState) → IsAt e awake s → IsLike s.state.world.tree (times s) c s.state.world
-  like_now e awake s h = ((refl, refl, refl, refl), (h.of.tasks, λ u. omega arith), h.of.cpus)
+  like_now e awake s h = ((refl, refl, refl, refl, refl), (h.of.tasks, λ u. omega arith), h.of.cpus)
 
   active_is : (h : Hierarchy) (m : Times) (v : Event) (s : SimState) → refusal s v ≡ None → IsLike h m c (machine.event_step s.state v).state.world → (after_event s v).state.world.tree.active ≡ h.active
   active_is h m v s accepted i = ap (λ x. x.world.tree.active) (state_is v s accepted) ∙ like_active h m c (machine.event_step s.state v).state.world i
@@ -67,8 +67,8 @@ module _ (n c g : ℕ) where
   -- a weight leaves all but groups
   weighed : (s : SimState) (k y : ℕ) → AreTimed (times s) s.state.world.tasks → length s.state.world.cpus ≡ c → (b : Bool) → is_none (weight_fault s.state.world.tree k y) ≡ b
       → (let own = machine.own_step s.state (event.SetWeight k y) in IsLike own.state.world.tree (times s) c own.state.world × (own.state.world.tree.active ≡ s.state.world.tree.active))
-  weighed s k y timed cpus true w = rw w (((refl, refl, refl, refl), timed, cpus), refl)
-  weighed s k y timed cpus false w = rw w (((refl, refl, refl, refl), timed, cpus), refl)
+  weighed s k y timed cpus true w = rw w (((refl, refl, refl, refl, refl), timed, cpus), refl)
+  weighed s k y timed cpus false w = rw w (((refl, refl, refl, refl, refl), timed, cpus), refl)
 
   weight_goes : (e : ℕ) (awake : List Bool) (s : SimState) (k y : ℕ) → e < max_events → k < g → 1 ≤ y → y ≤ 10000 → IsAt e awake s → Goes e awake (event.SetWeight k y) s
   weight_goes e awake s k y few within least greatest h =

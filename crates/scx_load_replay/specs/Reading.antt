@@ -1,5 +1,5 @@
--- The reading of a file of events: unknown keys first, wherever they are; then `cpus`, `ms`, the
--- groups and the tasks as in a workload, and `events`, line by line. Rules are those by which the
+-- The reading of a file of events: unknown keys first, wherever they are; then `cpus`, `ms`, `seed`,
+-- the groups and the tasks as in a workload, and `events`, line by line. Rules are those by which the
 -- policy that it is read for goes.
 use Rattle.std.specs.Prelude.{ℕ, ◌+◌, ⊤, List, [], ◌∷◌, ◌++◌, Result, Ok, Err, codes}
 use Rattle.std.specs.Str.Lines.{lines}
@@ -42,19 +42,21 @@ replay_with rules w text =
 
 -- ---- the file
 
--- the keys that the table of a whole file may have
-abbrev pub file_keys : List (List ℕ)
-file_keys = codes "cpus" ∷ codes "ms" ∷ codes "group" ∷ codes "task" ∷ codes "events" ∷ []
+-- the keys that the table of a whole file may have under those rules
+abbrev pub file_keys : Rules → List (List ℕ)
+file_keys Plain = codes "cpus" ∷ codes "ms" ∷ codes "group" ∷ codes "task" ∷ codes "events" ∷ []
+file_keys Linux =
+    codes "cpus" ∷ codes "ms" ∷ codes "seed" ∷ codes "group" ∷ codes "task" ∷ codes "events" ∷ []
 
 -- the keys that an element of the array `task` may have under those rules
 abbrev pub task_keys : Rules → List (List ℕ)
 task_keys Plain = codes "name" ∷ codes "group" ∷ []
-task_keys Linux = codes "name" ∷ codes "group" ∷ codes "weight" ∷ []
+task_keys Linux = codes "name" ∷ codes "group" ∷ codes "weight" ∷ codes "cpus" ∷ []
 
 -- the paths of all unknown keys of a file
 abbrev pub unknown_keys : Rules → Members → List (List ℕ)
 unknown_keys rules ms =
-    unknown file_keys [] ms
+    unknown (file_keys rules) [] ms
     ++ unknown_in_each group_keys [] (codes "group") ms
     ++ unknown_in_each (task_keys rules) [] (codes "task") ms
 

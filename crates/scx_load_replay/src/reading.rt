@@ -6,7 +6,7 @@ ghost use Rattle.scx_load_files.specs.Faults.{Gives, refusal};
 ghost use Rattle.scx_load_files.specs.Unknown.{words};
 ghost use Rattle.scx_load_replay.specs.Lines.{line_behind, text_behind};
 ghost use Rattle.scx_load_replay.specs.Kept.{progress_of};
-ghost use Rattle.scx_load_replay.specs.Reading.{at_line, lines_in, task_keys, replay_by, replay_of, replay_file, known_file_keys, replay_with};
+ghost use Rattle.scx_load_replay.specs.Reading.{at_line, lines_in, file_keys, task_keys, replay_by, replay_of, replay_file, known_file_keys, replay_with};
 
 use crate::lines::{Line, line_in};
 use crate::progress::Progress;
@@ -26,7 +26,7 @@ pub fn read_replay(alloc: Global, text: &str) -> Result<Replay, LoadError>
 /// Reads a file of events for a policy by those rules, or names its first fault.
 ///
 /// Unknown keys are faults before all others, the least path by bytes first. Then the order is `cpus`, `ms`,
-/// the groups and the tasks, as in a workload, and `events`, line by line.
+/// `seed`, the groups and the tasks, as in a workload, and `events`, line by line.
 pub fn read_replay_by(alloc: Global, rules: Rules, text: &str) -> Result<Replay, LoadError>
     ensures { Gives (λ replay. replay) result (replay_by rules text.now) }
 {
@@ -52,13 +52,23 @@ fn read_table(alloc: Global, rules: Rules, file: Section<'_>) -> Result<Replay, 
     }
 }
 
+/// The keys that a file may have.
+fn file_keys(rules: Rules) -> &'static [&'static str]
+    ensures { words result.now ≡ file_keys rules }
+{
+    match rules {
+        Rules::Plain => &["cpus", "ms", "group", "task", "events"],
+        Rules::Linux => &["cpus", "ms", "seed", "group", "task", "events"],
+    }
+}
+
 /// The keys that a task may have.
 fn task_keys(rules: Rules) -> &'static [&'static str]
     ensures { words result.now ≡ task_keys rules }
 {
     match rules {
         Rules::Plain => &["name", "group"],
-        Rules::Linux => &["name", "group", "weight"],
+        Rules::Linux => &["name", "group", "weight", "cpus"],
     }
 }
 
@@ -68,7 +78,7 @@ fn check_keys(alloc: Global, rules: Rules, file: Section<'_>) -> Result<(), Load
     ensures { Gives (λ t. t) result (known_file_keys rules (table_view file.entry.table.now)) }
 {
     let unknown = Unknown::none()
-        .in_section(alloc, file, &["cpus", "ms", "group", "task", "events"])?
+        .in_section(alloc, file, file_keys(rules))?
         .below_each(
             alloc,
             file,

@@ -15,7 +15,7 @@ use Rattle.scx_weights.specs.declared.group.Group.{Group}
 use Rattle.scx_weights.specs.Counting.{any_below}
 use Rattle.scx_weights.specs.Hierarchy.{parent_of}
 use Rattle.scx_weights.specs.Refusals.{is_outside, is_late, has_late_parent, has_unknown_home, has_bad_weight, max_period, is_bad_quota, has_bad_limit, above, has_deep_group, has_task_above, first_fault}
-use Rattle.scx_load_workloads.specs.Reading.{weight_limits, fold_from, some_of, some_elements, index_of, new_name, group_named, GroupList, no_groups, is_deep, if_shallow, parent_named, limit_read, with_group, group_at, groups_in, TaskList, no_tasks, has_children, if_leaf, leaf_named, own_weight_in, timing_in, with_task, task_at, tasks_in}
+use Rattle.scx_load_workloads.specs.Reading.{weight_limits, fold_from, some_of, some_elements, index_of, new_name, group_named, GroupList, no_groups, is_deep, if_shallow, parent_named, limit_read, with_group, group_at, groups_in, TaskList, no_tasks, has_children, if_leaf, leaf_named, own_weight_in, mask_of_task, timing_in, with_task, task_at, tasks_in}
 use Rattle.scx_load_workloads.specs.declared.limit.Limit.{Limit}
 use Rattle.scx_load_workloads.specs.Limit.{no_limit, limit_in}
 use Rattle.scx_load_workloads.proofs.Limits.{IsRight, says_right}
@@ -252,24 +252,26 @@ leaf_is g path key ms h even e = at (get_member key ms) e
         let x = parts (group_named g.names (below path key) d) (if_leaf g.groups (below path key)) h f in
         right x.value (let l = named_below g.names (below path key) d x.value x.first in omega (arith, l, even)) x.second
 
-task_step : (rules : Rules) (g : GroupList) (t : TaskList) (path : List ℕ) (ms : Members) (u : TaskList) → length g.names ≡ length g.groups → with_task rules g t path ms ≡ Ok u → AreHome g t → AreHome g u
-task_step rules g t path ms u even e f =
+task_step : (rules : Rules) (cpus : ℕ) (g : GroupList) (t : TaskList) (path : List ℕ) (ms : Members) (u : TaskList) → length g.names ≡ length g.groups → with_task rules cpus g t path ms ≡ Ok u → AreHome g t → AreHome g u
+task_step rules cpus g t path ms u even e f =
     let a = parts (new_name t.names path ms) _ u e in
     let b = parts (required (leaf_named g) path (codes "group") ms) _ u a.second in
     let w = parts (own_weight_in rules path ms) _ u b.second in
-    let c = parts (timing_in path ms) _ u w.second in
+    let m = parts (mask_of_task rules cpus path ms) _ u w.second in
+    let c = parts (timing_in path ms) _ u m.second in
     let l = leaf_is g path (codes "group") ms b.value even b.first in
     subst (AreHome g) (same_ok _ u c.second) record {
       known = rw (list_any-append (λ home. nat_le (length g.groups) home) t.homes (b.value ∷ []), f.known, l.known) refl;
       leaves = rw (list_any-append (λ home. has_children g.groups home) t.homes (b.value ∷ []), f.leaves, l.leaf) refl;
     }
 
-task_count : (rules : Rules) (g : GroupList) (t : TaskList) (path : List ℕ) (ms : Members) (u : TaskList) → with_task rules g t path ms ≡ Ok u → length u.homes ≡ length t.homes + 1
-task_count rules g t path ms u e =
+task_count : (rules : Rules) (cpus : ℕ) (g : GroupList) (t : TaskList) (path : List ℕ) (ms : Members) (u : TaskList) → with_task rules cpus g t path ms ≡ Ok u → length u.homes ≡ length t.homes + 1
+task_count rules cpus g t path ms u e =
     let a = parts (new_name t.names path ms) _ u e in
     let b = parts (required (leaf_named g) path (codes "group") ms) _ u a.second in
     let w = parts (own_weight_in rules path ms) _ u b.second in
-    let c = parts (timing_in path ms) _ u w.second in
+    let m = parts (mask_of_task rules cpus path ms) _ u w.second in
+    let c = parts (timing_in path ms) _ u m.second in
     subst (λ (y : TaskList). length y.homes ≡ length t.homes + 1) (same_ok _ u c.second) (length-append t.homes (b.value ∷ []))
 
 -- ---- both
@@ -278,8 +280,8 @@ pub inside : (most n : ℕ) → 1 ≤ n → n ≤ most → is_outside most n ≡
 inside most n l m = let a : nat_lt n 1 ≡ false = grind (arith, nat_tests, l) in let b : nat_lt most n ≡ false = grind (arith, nat_tests, m) in rw (a, b) refl
 
 -- whatever the file
-pub tree_is_right : (rules : Rules) (ms : Members) (g : GroupList) (t : TaskList) → groups_in ms ≡ Ok g → tasks_in rules g ms ≡ Ok t → first_fault g.groups t.homes ≡ None
-tree_is_right rules ms g t e f = rw (forest.late, homes.known, inside 256 (length g.groups) (omega (arith, groups, x'.least)) (omega (arith, groups, x'.greatest)), inside 1024 (length t.homes) (omega (arith, tasks, y'.least)) (omega (arith, tasks, y'.greatest)), forest.weights, forest.limits, forest.deep, homes.leaves) refl
+pub tree_is_right : (rules : Rules) (cpus : ℕ) (ms : Members) (g : GroupList) (t : TaskList) → groups_in ms ≡ Ok g → tasks_in rules cpus g ms ≡ Ok t → first_fault g.groups t.homes ≡ None
+tree_is_right rules cpus ms g t e f = rw (forest.late, homes.known, inside 256 (length g.groups) (omega (arith, groups, x'.least)) (omega (arith, groups, x'.greatest)), inside 1024 (length t.homes) (omega (arith, tasks, y'.least)) (omega (arith, tasks, y'.greatest)), forest.weights, forest.limits, forest.deep, homes.leaves) refl
   where
     x : Parts (some_elements 256 (codes "group") ms) (fold_from group_at no_groups 0) g
     x = parts (some_elements 256 (codes "group") ms) (fold_from group_at no_groups 0) g e
@@ -287,8 +289,8 @@ tree_is_right rules ms g t e f = rw (forest.late, homes.known, inside 256 (lengt
     x' : AreSome 256 x.value
     x' = some_are 256 (codes "group") ms x.value x.first
 
-    y : Parts (some_elements 1024 (codes "task") ms) (fold_from (task_at rules g) no_tasks 0) t
-    y = parts (some_elements 1024 (codes "task") ms) (fold_from (task_at rules g) no_tasks 0) t f
+    y : Parts (some_elements 1024 (codes "task") ms) (fold_from (task_at rules cpus g) no_tasks 0) t
+    y = parts (some_elements 1024 (codes "task") ms) (fold_from (task_at rules cpus g) no_tasks 0) t f
 
     y' : AreSome 1024 y.value
     y' = some_are 1024 (codes "task") ms y.value y.first
@@ -302,9 +304,9 @@ tree_is_right rules ms g t e f = rw (forest.late, homes.known, inside 256 (lengt
         x.value no_groups 0 g x.second
 
     homes : AreHome g t
-    homes = kept (task_at rules g) (AreHome g) (λ s n d u r p. let z = parts (table_of (element (codes "task") n) d) (with_task rules g s (element (codes "task") n)) u r in task_step rules g s (element (codes "task") n) z.value u forest.even z.second p)
+    homes = kept (task_at rules cpus g) (AreHome g) (λ s n d u r p. let z = parts (table_of (element (codes "task") n) d) (with_task rules cpus g s (element (codes "task") n)) u r in task_step rules cpus g s (element (codes "task") n) z.value u forest.even z.second p)
         y.value no_tasks 0 t y.second record { known = refl; leaves = refl }
 
     tasks : length t.homes ≡ 0 + item_count y.value
-    tasks = counted (task_at rules g) (λ (s : TaskList). length s.homes) (λ s n d u r. let z = parts (table_of (element (codes "task") n) d) (with_task rules g s (element (codes "task") n)) u r in task_count rules g s (element (codes "task") n) z.value u z.second)
+    tasks = counted (task_at rules cpus g) (λ (s : TaskList). length s.homes) (λ s n d u r. let z = parts (table_of (element (codes "task") n) d) (with_task rules cpus g s (element (codes "task") n)) u r in task_count rules cpus g s (element (codes "task") n) z.value u z.second)
         y.value no_tasks 0 t y.second

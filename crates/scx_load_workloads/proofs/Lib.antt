@@ -1,7 +1,9 @@
 pub mod Each
 pub mod Limits
+pub mod Masks
 pub mod Numbers
 pub mod Values
 pub mod Forest
 pub mod Plainly
 pub mod OwnWeights
+pub mod Bound

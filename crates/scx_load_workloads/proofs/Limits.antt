@@ -13,17 +13,19 @@ use Rattle.scx_weights.specs.Refusals.{max_quota, max_period, is_outside, is_bad
 use Rattle.scx_load_workloads.specs.declared.limit.Limit.{Limit}
 use Rattle.scx_load_workloads.specs.Limit.{is_numeral, numeral, IsTime, IsQuota, Says, Says.both, Says.alone, SaysJust, TextsSayOneLimit, is_time, whole_ms, ms_in, quota_in, limit_of, limit_at, limit_in}
 
-own : IsNumeralModel (λ ds. all_ascii_digits ds ≡ true) (digits_value 10)
+-- digits are numerals by their values
+pub own : IsNumeralModel (λ ds. all_ascii_digits ds ≡ true) (digits_value 10)
 own = numerals_by_value _ tells_all_ascii_digits
 
 same : {A : Type 0} (a b : A) → ◌≡◌ {A = Option A} (Some a) (Some b) → a ≡ b
 same a b e = cc
 
-record AreDigits (text : List ℕ) : Type 0 where
+pub record AreDigits (text : List ℕ) : Type 0 where
   pub some : 0 < length text
   pub all : all_ascii_digits text ≡ true
 
-are_digits : (text : List ℕ) → is_numeral text ≡ true → AreDigits text
+-- the digits of a numeral
+pub are_digits : (text : List ℕ) → is_numeral text ≡ true → AreDigits text
 are_digits text e = go (nat_lt 0 (length text)) (all_ascii_digits text) refl refl e
   where
     go : (a b : Bool) → nat_lt 0 (length text) ≡ a → all_ascii_digits text ≡ b → (a && b) ≡ true → AreDigits text

@@ -1,5 +1,5 @@
 -- Numbers of groups and tasks are small.
-use Rattle.std.proofs.Common.{◌≡◌, ℕ, ◌≤◌, length, arith}
+use Rattle.std.proofs.Common.{◌≤◌, length, arith}
 use Rattle.scx_weights.proofs.Admitted.{idle_is_kept}
 use Rattle.scx_load_workloads.specs.Workload.{WorkloadState, IsWorkload}
 

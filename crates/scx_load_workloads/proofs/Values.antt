@@ -13,9 +13,7 @@ use Rattle.scx_load_files.specs.declared.fault.LoadError.{LoadError}
 use Rattle.scx_load_files.specs.Paths.{below}
 use Rattle.scx_load_files.specs.Values.{found_or, required, optional, integer_of, within, elements_of, item_count}
 use Rattle.scx_load_files.specs.declared.fault.Cause.TheVariants as cause
-use Rattle.scx_load_files.specs.Unknown.{least_with}
 use Rattle.scx_load_files.proofs.Counts.{count_of_view}
-use Rattle.scx_load_files.proofs.Least.{least_with-append}
 use Rattle.scx_load_workloads.specs.declared.workload.Timing.{Timing}
 use Rattle.scx_load_workloads.specs.declared.workload.Change.{Change}
 use Rattle.scx_load_workloads.specs.Workload.{IsOwnWeight, IsTiming, IsChange, own_weight_at, timing_at, change_at}

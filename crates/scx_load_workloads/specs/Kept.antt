@@ -16,11 +16,13 @@ abbrev pub state_of : Inside → WorkloadState
 state_of w = record {
   cpus = w.cpus;
   ms = w.ms;
+  seed = w.seed;
   groups = w.groups.items;
   group_names = texts w.group_names.items;
   homes = w.homes.items;
   task_names = texts w.task_names.items;
   own_weights = w.own_weights.items;
+  masks = w.masks.items;
   timings = w.timings.items;
   changes = w.changes.items;
 }
@@ -42,14 +44,16 @@ tasks_of t = record {
   names = texts t.names.items;
   homes = t.homes.items;
   own_weights = t.own_weights.items;
+  masks = t.masks.items;
   timings = t.timings.items;
 }
 
--- what holds of tasks as they are read: each has a name, and a weight and times that are in their
--- limits
+-- what holds of tasks as they are read: each has a name, a mask, and a weight and times that are in
+-- their limits
 pub record AreTasks (t : InsideTasks) : Type 0 where
   pub named : length t.names.items ≡ length t.homes.items
   pub weighed : length t.own_weights.items ≡ length t.homes.items
+  pub masked : length t.masks.items ≡ length t.homes.items
   pub timed : length t.timings.items ≡ length t.homes.items
   pub own_weights : (k : ℕ)
       → k < length t.own_weights.items → IsOwnWeight (own_weight_at t.own_weights.items k)

@@ -1,4 +1,5 @@
 pub mod Limit
+pub mod CpuLists
 pub mod Workload
 pub mod Reading
 pub mod Kept

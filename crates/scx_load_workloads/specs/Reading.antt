@@ -1,6 +1,7 @@
--- The reading of a workload file: unknown keys first, wherever they are; then `cpus`, `ms`, the
--- groups, the tasks and the changes of weights, each element by itself. Rules are those by which
--- the policy that it is read for goes: under Linux rules a task may have a weight of its own.
+-- The reading of a workload file: unknown keys first, wherever they are; then `cpus`, `ms`, `seed`,
+-- the groups, the tasks and the changes of weights, each element by itself. Rules are those by which
+-- the policy that it is read for goes: under Linux rules a task may have a weight of its own, and
+-- may be bound to some CPUs.
 use Rattle.std.specs.Prelude.{ℕ, ◌+◌, Bool, List, [], ◌∷◌, ◌++◌, Option, Some, None, is_some, Ok, codes, if◌then◌else◌}
 use Rattle.std.specs.List.{list_any}
 use Rattle.std.specs.Str.{bytes_eq}
@@ -13,7 +14,7 @@ use Rattle.scx_isa_semantics.specs.declared.rules.Rules.TheVariants.{Plain, Linu
 use Rattle.scx_load_files.specs.Faults.{Reading, refusal}
 use Rattle.scx_load_files.specs.Paths.{below, element}
 use Rattle.scx_load_files.specs.Unknown.{known_alone, unknown, unknown_in_each}
-use Rattle.scx_load_files.specs.Values.{found_or, document, required, optional, table_of, text_of, name_of, integer_of, elements_of}
+use Rattle.scx_load_files.specs.Values.{found_or, document, required, optional, table_of, text_of, name_of, integer_of, natural_of, elements_of}
 use Rattle.scx_weights.specs.declared.group.Group.{Group}
 use Rattle.scx_weights.specs.Refusals.{above, is_parent}
 use Rattle.scx_load_workloads.specs.declared.limit.Limit.{Limit}
@@ -22,7 +23,8 @@ use Rattle.scx_load_workloads.specs.declared.workload.Weighed.{Weighed}
 use Rattle.scx_load_workloads.specs.declared.workload.Weighed.TheVariants as which
 use Rattle.scx_load_workloads.specs.declared.workload.Change.{Change}
 use Rattle.scx_load_workloads.specs.Limit.{no_limit, limit_in}
-use Rattle.scx_load_workloads.specs.Workload.{WorkloadState}
+use Rattle.scx_load_workloads.specs.CpuLists.{mask_in}
+use Rattle.scx_load_workloads.specs.Workload.{WorkloadState, all_cpus}
 
 -- ---- limits
 
@@ -140,17 +142,18 @@ groups_in ms = some_elements 256 (codes "group") ms >>= fold_from group_at no_gr
 
 -- ---- tasks
 
--- the tasks that have been read so far: of each its name, the number of its group, its own weight
--- and its times
+-- the tasks that have been read so far: of each its name, the number of its group, its own weight,
+-- its mask and its times
 pub record TaskList : Type 0 where
   pub names : List (List ℕ)
   pub homes : List ℕ
   pub own_weights : List ℕ
+  pub masks : List ℕ
   pub timings : List Timing
 
 -- no task has been read yet
 abbrev pub no_tasks : TaskList
-no_tasks = record { names = []; homes = []; own_weights = []; timings = [] }
+no_tasks = record { names = []; homes = []; own_weights = []; masks = []; timings = [] }
 
 -- a group has others below it: it is the parent of one at least
 abbrev pub has_children : List Group → ℕ → Bool
@@ -169,6 +172,18 @@ abbrev pub own_weight_in : Rules → List ℕ → Members → Reading ℕ
 own_weight_in Plain path ms = Ok 100
 own_weight_in Linux path ms = optional (integer_of weight_limits) 100 path (codes "weight") ms
 
+-- the mask that a text says in a workload with this number of CPUs
+abbrev pub mask_read : ℕ → List ℕ → Data → Reading ℕ
+mask_read cpus path d =
+    text_of path d >>= λ text. found_or Ok (refusal path cause.OutOfRange) (mask_in cpus text)
+
+-- the mask of a task, as the table at a path says: all CPUs where it says none; under plain rules no
+-- key says it
+abbrev pub mask_of_task : Rules → ℕ → List ℕ → Members → Reading ℕ
+mask_of_task Plain cpus path ms = Ok (all_cpus cpus)
+mask_of_task Linux cpus path ms =
+    optional (mask_read cpus) (all_cpus cpus) path (codes "cpus") ms
+
 -- when a task works, as the table at a path says; a time that is absent is 0
 abbrev pub timing_in : List ℕ → Members → Reading Timing
 timing_in path ms = do
@@ -177,29 +192,32 @@ timing_in path ms = do
   sleep ← optional (integer_of time_limits) 0 path (codes "sleep") ms
   Ok (record { start = start; run = run; sleep = sleep })
 
--- with one more task, in one of these groups, which the table at a path says
-abbrev pub with_task : Rules → GroupList → TaskList → List ℕ → Members → Reading TaskList
-with_task rules g t path ms = do
+-- with one more task, in one of these groups and bound to some of this number of CPUs, which the
+-- table at a path says
+abbrev pub with_task : Rules → ℕ → GroupList → TaskList → List ℕ → Members → Reading TaskList
+with_task rules cpus g t path ms = do
   name ← new_name t.names path ms
   home ← required (leaf_named g) path (codes "group") ms
   weight ← own_weight_in rules path ms
+  mask ← mask_of_task rules cpus path ms
   timing ← timing_in path ms
   Ok (record {
     names = t.names ++ name ∷ [];
     homes = t.homes ++ home ∷ [];
     own_weights = t.own_weights ++ weight ∷ [];
+    masks = t.masks ++ mask ∷ [];
     timings = t.timings ++ timing ∷ [];
   })
 
 -- with one more task, which the element of that number in the array `task` says
-abbrev pub task_at : Rules → GroupList → TaskList → ℕ → Data → Reading TaskList
-task_at rules g t n d =
-    table_of (element (codes "task") n) d >>= with_task rules g t (element (codes "task") n)
+abbrev pub task_at : Rules → ℕ → GroupList → TaskList → ℕ → Data → Reading TaskList
+task_at rules cpus g t n d =
+    table_of (element (codes "task") n) d >>= with_task rules cpus g t (element (codes "task") n)
 
 -- the tasks that the table of a file says, 1 to 1024, each in one of these groups
-abbrev pub tasks_in : Rules → GroupList → Members → Reading TaskList
-tasks_in rules g ms =
-    some_elements 1024 (codes "task") ms >>= fold_from (task_at rules g) no_tasks 0
+abbrev pub tasks_in : Rules → ℕ → GroupList → Members → Reading TaskList
+tasks_in rules cpus g ms =
+    some_elements 1024 (codes "task") ms >>= fold_from (task_at rules cpus g) no_tasks 0
 
 -- ---- changes
 
@@ -252,9 +270,11 @@ changes_in rules g t ms =
 
 -- ---- the file
 
--- the keys that the table of a whole file may have
-abbrev pub file_keys : List (List ℕ)
-file_keys = codes "cpus" ∷ codes "ms" ∷ codes "group" ∷ codes "task" ∷ codes "change" ∷ []
+-- the keys that the table of a whole file may have under those rules
+abbrev pub file_keys : Rules → List (List ℕ)
+file_keys Plain = codes "cpus" ∷ codes "ms" ∷ codes "group" ∷ codes "task" ∷ codes "change" ∷ []
+file_keys Linux =
+    codes "cpus" ∷ codes "ms" ∷ codes "seed" ∷ codes "group" ∷ codes "task" ∷ codes "change" ∷ []
 
 -- the keys that an element of the array `group` may have
 abbrev pub group_keys : List (List ℕ)
@@ -264,7 +284,8 @@ group_keys = codes "name" ∷ codes "weight" ∷ codes "parent" ∷ codes "cpu_m
 abbrev pub task_keys : Rules → List (List ℕ)
 task_keys Plain = codes "name" ∷ codes "group" ∷ codes "start" ∷ codes "run" ∷ codes "sleep" ∷ []
 task_keys Linux =
-    codes "name" ∷ codes "group" ∷ codes "weight" ∷ codes "start" ∷ codes "run" ∷ codes "sleep" ∷ []
+    codes "name" ∷ codes "group" ∷ codes "weight" ∷ codes "cpus"
+    ∷ codes "start" ∷ codes "run" ∷ codes "sleep" ∷ []
 
 -- the keys that an element of the array `change` may have under those rules
 abbrev pub change_keys : Rules → List (List ℕ)
@@ -274,27 +295,35 @@ change_keys Linux = codes "at" ∷ codes "group" ∷ codes "task" ∷ codes "wei
 -- the paths of all unknown keys of a file
 abbrev pub unknown_keys : Rules → Members → List (List ℕ)
 unknown_keys rules ms =
-    unknown file_keys [] ms
+    unknown (file_keys rules) [] ms
     ++ unknown_in_each group_keys [] (codes "group") ms
     ++ unknown_in_each (task_keys rules) [] (codes "task") ms
     ++ unknown_in_each (change_keys rules) [] (codes "change") ms
+
+-- where random numbers begin: at 0 where no key says it, as under plain rules
+abbrev pub seed_in : Rules → Members → Reading ℕ
+seed_in Plain ms = Ok 0
+seed_in Linux ms = optional natural_of 0 [] (codes "seed") ms
 
 -- what the known keys of a file say
 abbrev pub workload_in : Rules → Members → Reading WorkloadState
 workload_in rules ms = do
   cpus ← required (integer_of cpu_limits) [] (codes "cpus") ms
   length ← required (integer_of length_limits) [] (codes "ms") ms
+  seed ← seed_in rules ms
   g ← groups_in ms
-  t ← tasks_in rules g ms
+  t ← tasks_in rules cpus g ms
   changes ← changes_in rules g t ms
   Ok (record {
     cpus = cpus;
     ms = length;
+    seed = seed;
     groups = g.groups;
     group_names = g.names;
     homes = t.homes;
     task_names = t.names;
     own_weights = t.own_weights;
+    masks = t.masks;
     timings = t.timings;
     changes = changes;
   })

@@ -1,4 +1,4 @@
-ghost use Rattle.std.specs.Prelude.{◌≡◌, ℕ, ◌<◌, ◌≤◌, [], codes, length, IfOk};
+ghost use Rattle.std.specs.Prelude.{◌≡◌, ℕ, ◌^◌, ◌<◌, ◌≤◌, [], codes, length, IfOk};
 ghost use Rattle.toml.specs.Data.{get_member};
 ghost use Rattle.toml.specs.View.{view, table_view, items_view};
 ghost use Rattle.scx_load_files.specs.Faults.{Gives};
@@ -6,7 +6,7 @@ ghost use Rattle.scx_load_files.specs.Paths.{below};
 ghost use Rattle.scx_load_files.specs.Unknown.{known_alone, words};
 ghost use Rattle.scx_load_workloads.specs.Workload.{IsWeighed, IsChange, change_at};
 ghost use Rattle.scx_isa_semantics.specs.declared.rules.Rules.TheVariants.{Plain};
-ghost use Rattle.scx_load_workloads.specs.Reading.{task_keys, change_keys, unknown_keys, workload_in, workload_file, workload_by, workload_of, changes_in, change_from, with_change, weighed_in, group_weighed, task_weighed, fold_from};
+ghost use Rattle.scx_load_workloads.specs.Reading.{file_keys, task_keys, change_keys, unknown_keys, seed_in, workload_in, workload_file, workload_by, workload_of, changes_in, change_from, with_change, weighed_in, group_weighed, task_weighed, fold_from};
 
 use crate::elements::{elements, integer};
 use crate::groups::{Groups, WEIGHT};
@@ -39,8 +39,8 @@ pub fn read_workload(alloc: Global, text: &str) -> Result<Workload, LoadError>
 /// Reads a workload file for a policy by those rules, or names its first fault.
 ///
 /// Unknown keys are faults before all others, the least path by bytes first. Then the order is `cpus`,
-/// `ms`, the groups, the tasks, the changes; of each array its type and count, then its elements one by
-/// one.
+/// `ms`, `seed`, the groups, the tasks, the changes; of each array its type and count, then its elements
+/// one by one.
 pub fn read_workload_by(alloc: Global, rules: Rules, text: &str) -> Result<Workload, LoadError>
     ensures { Gives (λ workload. workload) result (workload_by rules text.now) }
 {
@@ -60,13 +60,23 @@ fn read_table(alloc: Global, rules: Rules, file: Section<'_>) -> Result<Workload
     read_known_keys_by(alloc, rules, file)
 }
 
+/// The keys that a file may have.
+fn file_keys(rules: Rules) -> &'static [&'static str]
+    ensures { words result.now ≡ file_keys rules }
+{
+    match rules {
+        Rules::Plain => &["cpus", "ms", "group", "task", "change"],
+        Rules::Linux => &["cpus", "ms", "seed", "group", "task", "change"],
+    }
+}
+
 /// The keys that a task may have.
 fn task_keys(rules: Rules) -> &'static [&'static str]
     ensures { words result.now ≡ task_keys rules }
 {
     match rules {
         Rules::Plain => &["name", "group", "start", "run", "sleep"],
-        Rules::Linux => &["name", "group", "weight", "start", "run", "sleep"],
+        Rules::Linux => &["name", "group", "weight", "cpus", "start", "run", "sleep"],
     }
 }
 
@@ -87,7 +97,7 @@ fn check_keys(alloc: Global, rules: Rules, file: Section<'_>) -> Result<(), Load
         (known_alone (unknown_keys rules (table_view file.entry.table.now))) }
 {
     let unknown = Unknown::none()
-        .in_section(alloc, file, &["cpus", "ms", "group", "task", "change"])?
+        .in_section(alloc, file, file_keys(rules))?
         .below_each(
             alloc,
             file,
@@ -108,8 +118,8 @@ pub fn read_known_keys(alloc: Global, file: Section<'_>) -> Result<Workload, Loa
     read_known_keys_by(alloc, Rules::Plain, file)
 }
 
-/// Reads the keys of the table of a file that are known under those rules: `cpus`, `ms`, the groups, the tasks and
-/// the changes, in this order. Other keys aren't looked at.
+/// Reads the keys of the table of a file that are known under those rules: `cpus`, `ms`, `seed`, the groups, the
+/// tasks and the changes, in this order. Other keys aren't looked at.
 pub fn read_known_keys_by(
     alloc: Global,
     rules: Rules,
@@ -121,20 +131,23 @@ pub fn read_known_keys_by(
 {
     let cpus = integer(alloc, file, "cpus", CPUS)?;
     let ms = integer(alloc, file, "ms", LENGTH)?;
+    let seed = read_seed(alloc, file, rules)?;
     let groups = Groups::read(alloc, file)?;
-    match Tasks::read(alloc, file, rules, &groups) {
+    match Tasks::read(alloc, file, rules, cpus, &groups) {
         Ok(tasks) => match read_changes(alloc, file, rules, &groups, &tasks) {
             Ok(changes) => {
                 let (groups, group_names) = groups.into_parts();
-                let (homes, task_names, own_weights, timings) = tasks.into_parts();
+                let (homes, task_names, own_weights, masks, timings) = tasks.into_parts();
                 Ok(Workload {
                     cpus,
                     ms,
+                    seed,
                     groups,
                     group_names,
                     homes,
                     task_names,
                     own_weights,
+                    masks,
                     timings,
                     changes,
                 })
@@ -149,6 +162,18 @@ pub fn read_known_keys_by(
             drop(groups);
             Err(error)
         }
+    }
+}
+
+/// Where random numbers begin. Under plain rules no key says it.
+fn read_seed(alloc: Global, file: Section<'_>, rules: Rules) -> Result<u64, LoadError>
+    requires { file.path.now ≡ [] }
+    ensures seed { Gives (λ seed. seed) result (seed_in rules (table_view file.entry.table.now)) }
+    ensures few { IfOk result (λ seed. seed < 2 ^ 63) }
+{
+    match rules {
+        Rules::Plain => Ok(0),
+        Rules::Linux => file.natural_or(alloc, "seed", 0),
     }
 }
 

@@ -8,6 +8,7 @@ ghost use Rattle.scx_load_workloads.specs.Workload.{IsOwnWeight, own_weight_at, 
 ghost use Rattle.scx_load_workloads.specs.Reading.{own_weight_in, timing_in, fold_from};
 ghost use Rattle.scx_load_workloads.specs.Kept.{texts};
 
+use crate::cpu_lists::read_mask;
 use crate::elements::{index_of, integer_or, some_elements};
 use crate::groups::{Groups, WEIGHT, new_name};
 use crate::workload::{MAX_MS, Timing};
@@ -30,6 +31,7 @@ pub struct Tasks {
     pub(crate) names: Vec<String>,
     pub(crate) homes: Vec<u32>,
     pub(crate) own_weights: Vec<u32>,
+    pub(crate) masks: Vec<u64>,
     pub(crate) timings: Vec<Timing>,
 }
 
@@ -47,22 +49,25 @@ impl Model for Tasks {
 impl Tasks {
     ghost use Rattle.scx_load_workloads.specs.Reading.{no_tasks, tasks_in, task_at, with_task, task_named};
 
-    /// The tasks of a file, for a policy by those rules.
+    /// The tasks of a file with that number of CPUs, for a policy by those rules.
     pub(crate) fn read(
         alloc: Global,
         file: Section<'_>,
         rules: Rules,
+        cpus: u32,
         groups: &Groups,
     ) -> Result<Tasks, LoadError>
-        requires { file.path.now ≡ [] }
+        requires whole { file.path.now ≡ [] }
+        requires some_cpus { 1 ≤ cpus }
+        requires few_cpus { cpus ≤ 64 }
         ensures tasks { Gives (λ t. t) result
-            (tasks_in rules groups.now (table_view file.entry.table.now)) }
+            (tasks_in rules cpus groups.now (table_view file.entry.table.now)) }
         ensures some { IfOk result (λ t. 1 ≤ length t.homes) }
         ensures few { IfOk result (λ t. length t.homes ≤ 1024) }
     {
         let values = some_elements(alloc, file, "task", MAX_TASKS)?;
         let mut tasks = Tasks::none(alloc);
-        match tasks.push_all(alloc, values, rules, groups) {
+        match tasks.push_all(alloc, values, rules, cpus, groups) {
             Ok(()) => Ok(tasks),
             Err(error) => {
                 drop(tasks);
@@ -78,15 +83,18 @@ impl Tasks {
         alloc: Global,
         values: &[Value],
         rules: Rules,
+        cpus: u32,
         groups: &Groups,
     ) -> Result<(), LoadError>
-        requires { self.old ≡ no_tasks }
+        requires none { self.old ≡ no_tasks }
+        requires some_cpus { 1 ≤ cpus }
+        requires few_cpus { cpus ≤ 64 }
         ensures tasks { Gives (λ _. self.new) result
-            (fold_from (task_at rules groups.now) no_tasks 0 (items_view values.now)) }
+            (fold_from (task_at rules cpus groups.now) no_tasks 0 (items_view values.now)) }
         ensures count { OnOk result (length self.new.homes ≡ length values.now) }
     {
         for (number, value) in values.iter().enumerate() {
-            self.push_element(alloc, rules, groups, number, value)?;
+            self.push_element(alloc, rules, cpus, groups, number, value)?;
         }
         Ok(())
     }
@@ -98,6 +106,7 @@ impl Tasks {
             names: Vec::new(alloc),
             homes: Vec::new(alloc),
             own_weights: Vec::new(alloc),
+            masks: Vec::new(alloc),
             timings: Vec::new(alloc),
         }
     }
@@ -107,36 +116,43 @@ impl Tasks {
         &mut self,
         alloc: Global,
         rules: Rules,
+        cpus: u32,
         groups: &Groups,
         number: usize,
         value: &Value,
     ) -> Result<(), LoadError>
+        requires some_cpus { 1 ≤ cpus }
+        requires few_cpus { cpus ≤ 64 }
         ensures tasks { Gives (λ _. self.new) result
-            (task_at rules groups.now self.old number (view value.now)) }
+            (task_at rules cpus groups.now self.old number (view value.now)) }
         ensures count { OnOk result (length self.new.homes ≡ length self.old.homes + 1) }
     {
         let path = element_path(alloc, "task", number)?;
         let section = Section::of(alloc, &path, value)?;
-        self.push_section(alloc, rules, groups, section)
+        self.push_section(alloc, rules, cpus, groups, section)
     }
 
     fn push_section(
         &mut self,
         alloc: Global,
         rules: Rules,
+        cpus: u32,
         groups: &Groups,
         section: Section<'_>,
     ) -> Result<(), LoadError>
+        requires some_cpus { 1 ≤ cpus }
+        requires few_cpus { cpus ≤ 64 }
         ensures tasks { Gives (λ _. self.new) result
-            (with_task rules groups.now self.old section.entry.path.now
+            (with_task rules cpus groups.now self.old section.entry.path.now
             (table_view section.entry.table.now)) }
         ensures count { OnOk result (length self.new.homes ≡ length self.old.homes + 1) }
     {
         let name = new_name(alloc, &self.names, section)?;
         let home = groups.leaf(alloc, section)?;
         let weight = read_own_weight(alloc, section, rules)?;
+        let mask = read_mask(alloc, section, rules, cpus)?;
         let timing = read_timing(alloc, section)?;
-        self.push(alloc, name, home, weight, timing)
+        self.push(alloc, name, home, weight, mask, timing)
     }
 
     #[tactic(auto, using(crate::proofs::Values::timings_more, crate::proofs::Values::weights_more))]
@@ -146,6 +162,7 @@ impl Tasks {
         name: &str,
         home: u32,
         weight: u32,
+        mask: u64,
         timing: Timing,
     ) -> Result<(), LoadError>
         requires weight { IsOwnWeight weight }
@@ -157,6 +174,7 @@ impl Tasks {
               homes = self.old.homes ++ home
                   ∷ [];
               own_weights = self.old.own_weights ++ weight ∷ [];
+              masks = self.old.masks ++ mask ∷ [];
               timings = self.old.timings ++ timing ∷ [];
             })) }
         ensures memory { IfErr result (λ e. e ≡ NoMemory) }
@@ -165,10 +183,12 @@ impl Tasks {
         self.names.reserve(1)?;
         self.homes.reserve(1)?;
         self.own_weights.reserve(1)?;
+        self.masks.reserve(1)?;
         self.timings.reserve(1)?;
         self.names.push_reserved(name);
         self.homes.push_reserved(home);
         self.own_weights.push_reserved(weight);
+        self.masks.push_reserved(mask);
         self.timings.push_reserved(timing);
         Ok(())
     }
@@ -193,19 +213,27 @@ impl Tasks {
         }
     }
 
-    pub(crate) fn into_parts(self) -> (Vec<u32>, Vec<String>, Vec<u32>, Vec<Timing>)
+    pub(crate) fn into_parts(self) -> (Vec<u32>, Vec<String>, Vec<u32>, Vec<u64>, Vec<Timing>)
         ensures homes { result.0.items ≡ self.homes }
         ensures names { texts result.1.items ≡ self.names }
         ensures own_weights { result.2.items ≡ self.own_weights }
-        ensures timings { result.3.items ≡ self.timings }
+        ensures masks { result.3.items ≡ self.masks }
+        ensures timings { result.4.items ≡ self.timings }
         ensures named { length self.names ≡ length self.homes }
         ensures weighed { length self.own_weights ≡ length self.homes }
+        ensures masked { length self.masks ≡ length self.homes }
         ensures timed { length self.timings ≡ length self.homes }
         ensures weights { (t : ℕ)
             → t < length self.own_weights → IsOwnWeight (own_weight_at self.own_weights t) }
         ensures times { (t : ℕ) → t < length self.timings → IsTiming (timing_at self.timings t) }
     {
-        (self.homes, self.names, self.own_weights, self.timings)
+        (
+            self.homes,
+            self.names,
+            self.own_weights,
+            self.masks,
+            self.timings,
+        )
     }
 }
 

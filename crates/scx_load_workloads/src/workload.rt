@@ -1,6 +1,8 @@
-ghost use Rattle.std.specs.Prelude.{◌≡◌, ◌<◌, length, slice_index_or, [], IfOk};
+ghost use Rattle.std.specs.Prelude.{◌≡◌, ◌<◌, ◌==◌, not, length, slice_index_or, [], IfOk};
+ghost use Rattle.std.specs.List.{list_any};
 ghost use Rattle.scx_load_workloads.specs.Reading.{index_of};
 
+use crate::cpu_lists::all_cpus;
 use crate::elements::index_of;
 use scx_weights::{Group, Tree};
 use std::alloc::{AllocError, Global};
@@ -42,7 +44,7 @@ pub struct Change {
     pub weight: u32,
 }
 
-/// Groups, tasks in them, the weights and times of the tasks, and changes of weights of groups and tasks.
+/// Groups, tasks in them, the weights, CPUs and times of the tasks, and changes of weights of groups and tasks.
 ///
 /// Groups and tasks go by their numbers in the file. In a contract a workload is its lists: names are
 /// lists of bytes.
@@ -50,11 +52,13 @@ pub struct Change {
 pub struct Workload {
     pub(crate) cpus: u32,
     pub(crate) ms: u32,
+    pub(crate) seed: u64,
     pub(crate) groups: Vec<Group>,
     pub(crate) group_names: Vec<String>,
     pub(crate) homes: Vec<u32>,
     pub(crate) task_names: Vec<String>,
     pub(crate) own_weights: Vec<u32>,
+    pub(crate) masks: Vec<u64>,
     pub(crate) timings: Vec<Timing>,
     pub(crate) changes: Vec<Change>,
 }
@@ -71,7 +75,8 @@ impl Model for Workload {
 }
 
 impl Workload {
-    ghost use Rattle.scx_load_workloads.specs.Workload.{IsWorkload, first_tree};
+    ghost use Rattle.scx_load_workloads.specs.Workload.{IsWorkload, first_tree, is_bound};
+    ghost use Rattle.scx_weights.specs.Hierarchy.{idle, with_own_weights};
 
     /// Every workload is whole. The function does nothing: its contract is the law.
     pub fn is_whole(&self)
@@ -96,6 +101,14 @@ impl Workload {
         ms
     }
 
+    /// Where random numbers begin, 0 to 2^63 - 1.
+    pub fn seed(&self) -> u64
+        ensures { result ≡ self.now.seed }
+    {
+        let seed = self.seed;
+        seed
+    }
+
     /// The groups, each with its weight at the start.
     pub fn groups(&self) -> &[Group]
         ensures { result.now ≡ self.now.groups }
@@ -117,6 +130,21 @@ impl Workload {
         &self.own_weights
     }
 
+    /// The CPUs on which each task may run, one bit a CPU.
+    pub fn masks(&self) -> &[u64]
+        ensures { result.now ≡ self.now.masks }
+    {
+        &self.masks
+    }
+
+    /// True if there is a task that may not run on all CPUs.
+    pub fn is_bound(&self) -> bool
+        ensures { result ≡ is_bound self.now.cpus self.now.masks }
+    {
+        let all = all_cpus(self.cpus);
+        has_other_mask(&self.masks, all)
+    }
+
     /// The times of each task.
     pub fn timings(&self) -> &[Timing]
         ensures { result.now ≡ self.now.timings }
@@ -131,9 +159,25 @@ impl Workload {
         &self.changes
     }
 
-    /// The tree of its groups and tasks, each task with its own weight; no task is active.
+    /// The tree of its groups and tasks, each task with its own weight and bound to its CPUs; no task is active.
     pub fn tree(&self, alloc: Global) -> Result<Tree, AllocError>
         ensures { IfOk result (λ tree. tree ≡ first_tree self.now) }
+    {
+        let mut tree = self.unbound_tree(alloc)?;
+        if !self.is_bound() {
+            return Ok(tree);
+        }
+        match tree.bind(&self.masks) {
+            Ok(()) => Ok(tree),
+            Err(_) => unreachable!(),
+        }
+    }
+
+    /// Its tree, in which each task may run on all CPUs.
+    fn unbound_tree(&self, alloc: Global) -> Result<Tree, AllocError>
+        ensures { IfOk result
+            (λ tree. tree
+            ≡ with_own_weights (idle self.now.groups self.now.homes) self.now.own_weights) }
     {
         let mut tree = match Tree::new(alloc, &self.groups, &self.homes) {
             Ok(tree) => tree,
@@ -175,4 +219,11 @@ impl Workload {
     {
         self.task_names[task as usize].as_str()
     }
+}
+
+/// True if a mask isn't that one.
+fn has_other_mask(masks: &[u64], all: u64) -> bool
+    ensures { result ≡ list_any (λ mask. not (mask == all)) masks.now }
+{
+    masks.iter().any(|mask| *mask != all)
 }

@@ -1,11 +1,12 @@
-use Rattle.std.proofs.Common.{◌≡◌, ℕ, ◌<◌, List, length, sym, ap, ◌∙◌, subst}
+use Rattle.std.proofs.Common.{ℕ, ◌<◌, List, length, sym, ap, ◌∙◌, subst}
 use Rattle.toml.specs.View.{table_view}
 use Rattle.scx_weights.specs.declared.group.Group.{Group}
 use Rattle.scx_weights.specs.Refusals.{first_fault}
 use Rattle.scx_load_workloads.specs.declared.workload.Timing.{Timing}
 use Rattle.scx_load_workloads.specs.Workload.{IsTiming, IsChange, timing_at, change_at}
 use Rattle.scx_load_workloads.proofs.Forest.{tree_is_right}
-use Rattle.scx_load_workloads.proofs.OwnWeights.{AreOwn}
+use Rattle.scx_load_workloads.proofs.OwnWeights.{AreOwn, AreMasks}
+use Rattle.scx_load_workloads.proofs.Bound.{masks_are_right}
 use Rattle.scx_load_workloads.proofs.reading.read_known_keys_by.Goals as goal
 
 pub invariant_of-result : goal.invariant_of-result
@@ -20,18 +21,21 @@ invariant_of-result c =
       few_cpus = c.in_ok-cpus.ensures.most;
       some_ms = c.in_ok-ms.ensures.least;
       few_ms = c.in_ok-ms.ensures.most;
+      seed = c.in_ok-seed.ensures.few;
       tree =
           ap (λ (gs : List Group). first_fault gs c.into_parts-homes.result.0.items) groups.groups
           ∙ ap (λ (hs : List ℕ). first_fault c.in_ok-groups.groups.groups hs) tasks.homes
-          ∙ tree_is_right c.args.rules ms c.in_ok-groups.groups c.in-Ok.tasks c.in_ok-groups.ensures read.tasks;
+          ∙ tree_is_right c.args.rules c.in_ok-cpus.cpus ms c.in_ok-groups.groups c.in-Ok.tasks c.in_ok-groups.ensures read.tasks;
       some_tasks = rw tasks.homes read.some;
       few_tasks = rw tasks.homes read.few;
       named_groups = rw (groups.names, groups.groups) groups.even;
       named_tasks = rw (tasks.names, tasks.homes) tasks.named;
+      masked = rw (tasks.masks, tasks.homes) tasks.masked;
       weighed = rw (tasks.own_weights, tasks.homes) tasks.weighed;
       timed = rw (tasks.timings, tasks.homes) tasks.timed;
       few_changes = changes.few;
       own_weights = subst AreOwn (sym tasks.own_weights) tasks.weights;
+      masks = subst (AreMasks c.in_ok-cpus.cpus) (sym tasks.masks) (masks_are_right c.args.rules c.in_ok-cpus.cpus ms c.in_ok-groups.groups c.in-Ok.tasks c.in_ok-cpus.ensures.least read.tasks);
       timings = subst (λ (xs : List Timing). (t : ℕ) → t < length xs → IsTiming (timing_at xs t)) (sym tasks.timings) tasks.times;
       changes =
           let xs = c.in-Ok-read_changes.changes.items in

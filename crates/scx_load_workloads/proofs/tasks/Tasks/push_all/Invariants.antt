@@ -5,6 +5,6 @@ use Rattle.scx_load_workloads.proofs.tasks.Tasks.push_all.Given as goal
 
 abbrev pub invariant-loop-number : goal.invariant-loop-number
 invariant-loop-number l = record {
-  tasks : fold_from (task_at l.rules l.fn.groups) l.self l.number (items_view (drop l.number l.values)) ≡ fold_from (task_at l.rules l.fn.groups) no_tasks 0 (items_view l.values);
+  tasks : fold_from (task_at l.rules l.cpus l.fn.groups) l.self l.number (items_view (drop l.number l.values)) ≡ fold_from (task_at l.rules l.cpus l.fn.groups) no_tasks 0 (items_view l.values);
   count : length l.self.homes ≡ l.number;
 }
