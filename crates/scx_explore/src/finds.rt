@@ -3,7 +3,7 @@ use scx_explore_findings::{Finding, Sort};
 use scx_isa::{CALLBACKS, Callback};
 
 /// The number of sorts.
-const SORT_COUNT: usize = 13;
+const SORT_COUNT: usize = 14;
 
 /// The number of callbacks of a policy.
 const CALLBACK_COUNT: usize = 14;

@@ -27,7 +27,7 @@ pub struct Starts {
 pub fn starts_of(alloc: Global, policy: &str, workload: &Workload) -> Result<Starts, AllocError> {
     let policy = policy_of(alloc, policy)?;
     match workload.tree(alloc) {
-        Ok(tree) => starts_with(alloc, policy, tree, workload),
+        Ok(tree) => starts_with(alloc, policy.with_seed(workload.seed()), tree, workload),
         Err(_) => {
             drop(policy);
             Err(AllocError)

@@ -32,6 +32,7 @@ form_of u waits = record {
   keys = u.vtime_inserts;
   vtime = u.vtime;
   run_ns = u.run_ns;
+  random = u.random;
   names = true;
   weights = u.weight;
 }
@@ -47,6 +48,7 @@ without_names f u = record f { names = u.pid || (u.task_by_pid || u.own_weight) 
 abbrev pub no_uses : Uses
 no_uses = record {
   clock = false;
+  random = false;
   task_by_pid = false;
   vtime_inserts = false;
   pid = false;

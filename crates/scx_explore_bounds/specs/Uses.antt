@@ -115,6 +115,7 @@ is_own Linux b = b
 abbrev pub with_listing : Uses → Callback → Rules → Listing → Uses
 with_listing u c r l = record {
   clock = either u.clock (has l (such.Call helper.KtimeGetNs));
+  random = either u.random (has l (such.Call helper.PrandomU32));
   task_by_pid = either u.task_by_pid (has l (such.Call helper.TaskByPid));
   vtime_inserts = either u.vtime_inserts (has l (such.Call helper.DsqInsertVtime));
   pid = either u.pid (has l (such.Load field.Pid));

@@ -13,10 +13,10 @@ use std::alloc::{AllocError, Global};
 
 /// The form of states in lists within the bounds, under the policy of a text that was read before.
 ///
-/// It leaves out what no program can read: the clock, where none asks for it; virtual times, run times and weights, where
-/// none loads them; and virtual times in queues, where none inserts by one. Where lists are of events, waits are left out
-/// if no list is long enough to end in an ejection for one. Pushes are always left out: they are compared within a queue
-/// only, and there places say which task came first.
+/// It leaves out what no program can read: the clock, where none asks for it; from which number random ones are made, where
+/// none draws one; virtual times, run times and weights, where none loads them; and virtual times in queues, where none
+/// inserts by one. Where lists are of events, waits are left out if no list is long enough to end in an ejection for one.
+/// Pushes are always left out: they are compared within a queue only, and there places say which task came first.
 ///
 /// Where lists are of events, and no program tells tasks of a group apart, these may change places. In a millisecond
 /// tasks have their turns by number.
@@ -117,6 +117,7 @@ fn form_by(uses: Uses, waits: bool) -> Form
         keys: uses.vtime_inserts,
         vtime: uses.vtime,
         run_ns: uses.run_ns,
+        random: uses.random,
         names: true,
         weights: uses.weight,
     }

@@ -16,6 +16,8 @@ use std::alloc::{AllocError, Global};
 pub struct Uses {
     /// One asks for the clock.
     pub clock: bool,
+    /// One draws a random number.
+    pub random: bool,
     /// One asks for a task by its number.
     pub task_by_pid: bool,
     /// One inserts by virtual time.
@@ -53,6 +55,7 @@ impl Uses {
     /// There is no program.
     pub const NONE: Uses = Uses {
         clock: false,
+        random: false,
         task_by_pid: false,
         vtime_inserts: false,
         pid: false,
@@ -92,6 +95,7 @@ impl Uses {
         let weight = has(listing, Use::Load(Field::Weight));
         Uses {
             clock: either(self.clock, has(listing, Use::Call(Helper::KtimeGetNs))),
+            random: either(self.random, has(listing, Use::Call(Helper::PrandomU32))),
             task_by_pid: either(self.task_by_pid, has(listing, Use::Call(Helper::TaskByPid))),
             vtime_inserts: either(
                 self.vtime_inserts,

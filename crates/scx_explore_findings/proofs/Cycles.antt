@@ -17,7 +17,7 @@ use Rattle.scx_sched_machine.specs.Callbacks.{call_back, noted_by, one_task, tas
 use Rattle.scx_sched_machine.specs.Custody.{tells_dequeued, leaver, tells_of, tells_each, moved_as, hears_dequeue, tells_left}
 use Rattle.scx_sched_machine.specs.Put.{enters, put}
 use Rattle.scx_sched_machine.specs.Filling.{fill}
-use Rattle.scx_sched_machine.specs.Parking.{park_fronts, supply}
+use Rattle.scx_sched_machine.specs.Parking.{park_next, supply}
 use Rattle.scx_sched_machine.specs.Cycle.{has_local, keeps_slice, supply_unless_kept, told_of, dispatch_called, after_dispatch, asks_again, tries, stopping_called, after_stopping, after_running, put_back, leave, switched, started_if, start, hears_idle, tells_idle, idle_note, rest, swap, swap_or_rest, builtin_dispatch, builtin_fill, builtin_ask, builtin_cycle, start_or_cycle, refilled, is_local, start_picked, start_picked_or_cycle, picked, tells_busy, makes_way, pick, pick_or_rest, keep_or_pick, conclude, give_up, ask, seek, look, cycling, falls_idle, notes_idle, idle_or_anew, becomes_idle, concluded, cycle}
 use Rattle.scx_sched_machine.specs.Rounds.{most_rounds, next_to_look, cut_off_if, look_past, look_from, round, round_then, rounds, with_rounds}
 use Rattle.scx_explore_findings.specs.Hidden.{Hidden, hide}
@@ -26,7 +26,7 @@ use Rattle.scx_explore_findings.specs.Unread.{IsUnread}
 use Rattle.scx_sched_machine.proofs.Choices.{keeps_if}
 use Rattle.scx_explore_findings.proofs.Records.{alike_if}
 use Rattle.scx_explore_findings.proofs.Worlds.{plain, read, hides_stop, hides_started, hides_run, hides_switch, hides_cycling, hides_cut_off, hides_keep, hides_charge, hides_catch_up}
-use Rattle.scx_explore_findings.proofs.Steps.{Passes, On, in_world, Turns, after_turn, turns_world, turned, turns_if, chain, noted, choose, single, rests, noted_same, passes_call_back, passes_call_by_linux, passes_enters, passes_put, passes_fill, passes_park_fronts, passes_supply}
+use Rattle.scx_explore_findings.proofs.Steps.{Passes, On, in_world, Turns, after_turn, turns_world, turned, turns_if, chain, noted, choose, single, rests, noted_same, passes_call_back, passes_call_by_linux, passes_enters, passes_put, passes_fill, passes_park_next, passes_supply}
 
 module _ (h : Hidden) (p : PolicyState) (unread : (b : Callback) → IsUnread h (program_of p b)) where
   -- a part of a step that is the same as another is read alike
@@ -197,7 +197,7 @@ module _ (h : Hidden) (p : PolicyState) (unread : (b : Callback) → IsUnread h 
   unfolding builtin_dispatch
   passes_builtin_dispatch c s is =
       let n = len_of s.world.queues builtin_queue in
-      chain h p (park_fronts n s builtin_queue) (park_fronts n (hide_state h s) builtin_queue) (λ r. fill r builtin_queue c) (passes_park_fronts h p n builtin_queue s is) (passes_fill h p builtin_queue c)
+      chain h p (park_next n s builtin_queue c) (park_next n (hide_state h s) builtin_queue c) (λ r. fill r builtin_queue c) (passes_park_next h p n builtin_queue c s is) (passes_fill h p builtin_queue c)
 
   passes_builtin_fill : (c : ℕ) → On h p (λ s. builtin_fill s c)
   unfolding builtin_fill

@@ -112,14 +112,14 @@ taken_there s t u before e o force here next =
     next ∙ (ap (λ (x : SimState). after_event x e) (all_done s t before o force here) ∙ sym (stepped_push s before e))
 
 -- a tick that leaves its processor idle
-pub idle_at_end : (s t : SimState) (events : List Event) (c task : ℕ) (o : Outcome) → Happens s events o → o ≡ outcome.InForce → t ≡ after_first s events (done_of o events) → IsLast events (Tick c) → is_none (running t.state.world c) ≡ true → waits_left t.state.world task ≡ true → EndsIdle s events c task
+pub idle_at_end : (s t : SimState) (events : List Event) (c task : ℕ) (o : Outcome) → Happens s events o → o ≡ outcome.InForce → t ≡ after_first s events (done_of o events) → IsLast events (Tick c) → is_none (running t.state.world c) ≡ true → waits_left t.state.world c task ≡ true → EndsIdle s events c task
 idle_at_end s t events c task o h e at last idle left =
     let here : t ≡ stepped_all s events = all_done s t events o e at in
     record {
       force = in_force s events o h e;
       last = last;
       idle = subst (λ (x : SimState). running x.state.world c ≡ None) here (none_is (running t.state.world c) idle);
-      left = subst (λ (x : SimState). waits_left x.state.world task ≡ true) here left;
+      left = subst (λ (x : SimState). waits_left x.state.world c task ≡ true) here left;
     }
 
 -- a task that waits, and has waited so long

@@ -31,7 +31,7 @@ use Rattle.scx_sched_machine.proofs.Choices.{keeps_if}
 use Rattle.scx_sched.specs.Sim.{SimState, after_event}
 use Rattle.scx_explore_findings.proofs.Queries.{IsAllowed, stores_allowed, asks_allowed, run_keeps}
 use Rattle.scx_explore_findings.proofs.EventWalk.{IsKeptBySmallSteps, eject_policy, call_back_policy, put_policy, settled_policy, walk_after}
-use Rattle.scx_explore_findings.proofs.WorldSizes.{HasSize, sized_query, sized_evicted, sized_cut, sized_task, sized_homed, sized_entered, sized_put_builtin, sized_brought, sized_put_parked, sized_taken, sized_started, sized_run, sized_kept, sized_stopped, sized_asleep, sized_left, sized_used, sized_reweighed, sized_weighed, sized_chosen}
+use Rattle.scx_explore_findings.proofs.WorldSizes.{HasSize, sized_query, sized_evicted, sized_cut, sized_task, sized_homed, sized_entered, sized_put_builtin, sized_brought, sized_put_parked, sized_started, sized_run, sized_kept, sized_stopped, sized_asleep, sized_left, sized_used, sized_reweighed, sized_weighed, sized_chosen}
 
 module _ (v : WorldState) where
   -- ---- a callback but init
@@ -98,7 +98,6 @@ module _ (v : WorldState) where
     left = sized_left v;
     brings = sized_brought v;
     parked = sized_put_parked v;
-    taken = sized_taken v;
     started = sized_started v;
     kept = sized_kept v;
     stopped = sized_stopped v;
@@ -118,7 +117,7 @@ module _ (v : WorldState) where
     cut_off = λ w t h. sized_task v w t _ h;
     homed = sized_homed v;
     chosen = sized_chosen v;
-    at_hand = λ w t h. h;
+    at_hand = λ w t c h. h;
     kicks = λ w c h. h;
     unkicked = λ w c h. h;
     counted = λ w b h. h;

@@ -17,8 +17,8 @@ use Rattle.scx_sched_world.specs.Helpers.{with_timer, after_fire}
 use Rattle.scx_sched_world.specs.Ids.{global, builtin_queue, parked_queue, local_on}
 use Rattle.scx_sched_world.specs.CpuSets.{is_in_set}
 use Rattle.scx_sched_world.specs.World as world
-use Rattle.scx_sched_world.specs.World.{WorldState, are_linux, with_switch, with_slept, with_waker, with_kick, without_kick, with_timer_at_hand, out_of_cycle, task_at, is_throttled, waits, running, cpu_of, is_idle, at_callback}
-use Rattle.scx_sched_world.specs.Tasks.{after_wake, after_sleep, after_leave, homed, after_enter, to_front, brought, fill_front, after_stop, started_at, after_run, after_keep, after_switch, after_cut_off, put_parked, after_take, let_go, after_tick, used_ms, later, begun_periods, after_reweigh, after_own_weight}
+use Rattle.scx_sched_world.specs.World.{WorldState, are_linux, with_switch, with_slept, with_waker, with_kick, without_kick, with_timer_at_hand, out_of_cycle, task_at, first_home, is_throttled, waits, running, cpu_of, is_idle, at_callback}
+use Rattle.scx_sched_world.specs.Tasks.{after_wake, after_sleep, after_leave, homed, after_enter, to_front, brought, fill_front, after_stop, started_at, after_run, after_keep, after_switch, after_cut_off, put_parked, let_go, after_tick, used_ms, later, begun_periods, after_reweigh, after_own_weight}
 use Rattle.scx_sched_world.specs.Ejecting.{after_charge, after_catch_up}
 use Rattle.scx_sched_machine.specs.declared.events.Event.{Event}
 use Rattle.scx_sched_machine.specs.declared.events.Event.TheVariants.{Wake, Sleep, Tick, Clock, SetWeight, SetTaskWeight}
@@ -31,11 +31,11 @@ use Rattle.scx_sched_machine.specs.Custody.{is_in_custody, tells_dequeued, leave
 use Rattle.scx_sched_machine.specs.Firing.{due, fires, fire, fire_below, fire_all}
 use Rattle.scx_sched_machine.specs.Put.{enters, enqueue_choice, enters_builtin, comes_in, put}
 use Rattle.scx_sched_machine.specs.Filling.{fill}
-use Rattle.scx_sched_machine.specs.Parking.{park, park_front, throttled_front, park_then, park_fronts, clear, in_reach, supply, let_go_one, let_go_from, let_all_go}
+use Rattle.scx_sched_machine.specs.Parking.{park, throttled_front, throttled_next, park_then, park_next, clear, in_reach, supply, let_go_one, let_go_from, let_all_go}
 use Rattle.scx_sched_machine.specs.Cycle.{has_local, keeps_slice, supply_unless_kept, told_of, dispatch_called, after_dispatch, asks_again, tries, stopping_called, after_stopping, after_running, put_back, leave, switched, started_if, start as begin, tells_idle, rest, swap, swap_or_rest, builtin_dispatch, builtin_fill, builtin_ask, builtin_cycle, start_or_cycle, picked, refilled, is_local, start_picked, start_picked_or_cycle, tells_busy, makes_way, pick, pick_or_rest, keep_or_pick, conclude, give_up, ask, seek, look, cycling, ends, falls_idle, notes_idle, idle_or_anew, becomes_idle, concluded, cycle}
 use Rattle.scx_sched_machine.specs.Rounds.{most_rounds, next_to_look, cut_off_if, look_past, look_from, round, round_then, rounds, with_rounds}
 use Rattle.scx_vm.specs.Programs.{VerifiedProgram}
-use Rattle.scx_sched_machine.specs.Events.{target, insert_or_put, woken, wake_target, comes_to, told_runnable, settle, chosen_by_default, chosen, ask_target, asks_target, select, from_waker, wake, told_of_sleep, falls_asleep, looks_after_sleep, leaves_cpu, leaves_queue, sleep_from_cpu, sleep_from_queue, sleep_from, sleep, throttle, ends_slices, expire, use_up, hears_tick, tick_heard, count_down, tick_idle, tick_of, tick, overdue, eject_if_stalled, watch, timers_and_watchdog, clock, restore_flag, change_flags, takes_weight, changes_weight, reweigh_running, reweigh_waiting, reweigh_off_cpu, reweigh_at, reweigh_by_linux, reweigh, own_step, event_step}
+use Rattle.scx_sched_machine.specs.Events.{target, insert_or_put, woken, wake_target, comes_to, told_runnable, settle, chosen_by_default, chosen, ask_target, asks_target, settle_at_home, select, from_waker, wake, told_of_sleep, falls_asleep, looks_after_sleep, leaves_cpu, leaves_queue, sleep_from_cpu, sleep_from_queue, sleep_from, sleep, throttle, ends_slices, expire, use_up, hears_tick, tick_heard, count_down, tick_idle, tick_of, tick, overdue, eject_if_stalled, watch, timers_and_watchdog, clock, restore_flag, change_flags, takes_weight, changes_weight, reweigh_running, reweigh_waiting, reweigh_off_cpu, reweigh_at, reweigh_by_linux, reweigh, own_step, event_step}
 use Rattle.scx_sched_machine.proofs.Choices.{keeps_if}
 use Rattle.scx_sched.proofs.Marks.{KeepsCycles, kept_switch, kept_cycling}
 use Rattle.scx_sched.specs.Sim.{SimState, stepped_if, refusal, after_event}
@@ -99,9 +99,8 @@ pub record IsKeptBySmallSteps (p : PolicyState) (I : WorldState → Type 0) : Ty
   pub puts : (s : State) (t c flags : ℕ) → IsKeptIn p I s → IsKeptIn p I (put s t c flags).state
   pub settled : (v : WorldState) (s : State) (t c : ℕ) → (s.world.ejected ≡ None → v.ejected ≡ None) → I v → IsKeptIn p I s → IsKeptIn p I (insert_or_put v.call.insert s t c).state
   pub left : (w : WorldState) (t : ℕ) → I w → I (after_leave w t)
-  pub brings : (o : Option ℕ) (w : WorldState) (q c : ℕ) → I w → I (brought o w q c)
+  pub brings : (o : Option ℕ) (w : WorldState) (c : ℕ) → I w → I (brought o w c)
   pub parked : (w : WorldState) (t : ℕ) → I w → I (put_parked w t)
-  pub taken : (w : WorldState) (q : ℕ) → I w → I (after_take w q)
   pub started : (w : WorldState) (t c : ℕ) → I w → I (started_at (Some t) w c)
   pub kept : (w : WorldState) (o : Option ℕ) → I w → I (after_keep w o)
   pub stopped : (w : WorldState) (c t : ℕ) → I w → I (after_stop w c t)
@@ -121,7 +120,7 @@ pub record IsKeptBySmallSteps (p : PolicyState) (I : WorldState → Type 0) : Ty
   pub cut_off : (w : WorldState) (t : ℕ) → I w → I (after_cut_off w t)
   pub homed : (w : WorldState) (t c : ℕ) → I w → I (homed w t c)
   pub chosen : (w : WorldState) (t : ℕ) → I w → I (chosen_by_default w t)
-  pub at_hand : (w : WorldState) (t : ℕ) → I w → I (at_callback w callback.SelectCpu t 0)
+  pub at_hand : (w : WorldState) (t c : ℕ) → I w → I (at_callback w callback.SelectCpu t c)
   pub kicks : (w : WorldState) (c : ℕ) → I w → I (with_kick w c)
   pub unkicked : (w : WorldState) (c : ℕ) → I w → I (without_kick w c)
   pub counted : (w : WorldState) (b : Bool) → I w → I (record w { call = record w.call { has_moved = b } })
@@ -139,31 +138,29 @@ module _ (old : PolicyState) (I : WorldState → Type 0) (k : IsKeptBySmallSteps
 
   walk_fill : (s : State) (q c : ℕ) → Kept s → Leaves (fill s q c)
   unfolding fill
-  walk_fill s q c h = (h.0, k.brings (fill_front s.world q c) s.world q c h.1)
+  walk_fill s q c h = (h.0, k.brings (fill_front s.world q c) s.world c h.1)
 
   walk_park : (s : State) (t : ℕ) → Kept s → Leaves (park s t)
   unfolding park
   walk_park s t h = (h.0, k.parked s.world t h.1)
 
-  walk_park_front : (s : State) (q t : ℕ) → Kept s → Leaves (park_front s q t)
-  unfolding park_front
-  walk_park_front s q t h = walk_park (with_world s (after_take s.world q)) t (h.0, k.taken s.world q h.1)
+  walk_park_then : (next : State → Stepped) → ((r : State) → Kept r → Leaves (next r)) → (s : State) (o : Option ℕ) → Kept s → Leaves (park_then next s o)
+  walk_park_then next more s None h = h
+  walk_park_then next more s (Some t) h =
+      let u = with_world s (after_leave s.world t) in
+      more (park u t).state (walk_park u t (h.0, k.left s.world t h.1))
 
-  walk_park_then : (next : State → Stepped) → ((r : State) → Kept r → Leaves (next r)) → (s : State) (q : ℕ) (o : Option ℕ) → Kept s → Leaves (park_then next s q o)
-  walk_park_then next more s q None h = h
-  walk_park_then next more s q (Some t) h = more (park_front s q t).state (walk_park_front s q t h)
-
-  walk_park_fronts : (j : ℕ) (s : State) (q : ℕ) → Kept s → Leaves (park_fronts j s q)
-  unfolding park_fronts
-  walk_park_fronts zero s q h = h
-  walk_park_fronts (suc j) s q h = walk_park_then (λ r. park_fronts j r q) (λ r x. walk_park_fronts j r q x) s q (throttled_front s q) h
+  walk_park_next : (j : ℕ) (s : State) (q c : ℕ) → Kept s → Leaves (park_next j s q c)
+  unfolding park_next
+  walk_park_next zero s q c h = h
+  walk_park_next (suc j) s q c h = walk_park_then (λ r. park_next j r q c) (λ r x. walk_park_next j r q c x) s (throttled_next s q c) h
 
   walk_clear : (j : ℕ) (s : State) (c : ℕ) → Kept s → Leaves (clear j s c)
   unfolding clear
   walk_clear zero s c h = h
   walk_clear (suc j) s c h =
       let f = fill s global c in
-      walk_park_then (λ r. clear j r c) (λ r x. walk_clear j r c x) f.state (local_on c) (throttled_front f.state (local_on c)) (walk_fill s global c h)
+      walk_park_then (λ r. clear j r c) (λ r x. walk_clear j r c x) f.state (throttled_front f.state (local_on c)) (walk_fill s global c h)
 
   walk_supply : (s : State) (c : ℕ) → Kept s → Leaves (supply s c)
   unfolding supply
@@ -270,8 +267,8 @@ module _ (old : PolicyState) (I : WorldState → Type 0) (k : IsKeptBySmallSteps
   unfolding builtin_fill builtin_dispatch
   walk_builtin_fill s c h =
       let n = len_of s.world.queues builtin_queue in
-      let p = park_fronts n s builtin_queue in
-      keeps_if Leaves (has_local s c) (stays s) (one_after_other p (fill p.state builtin_queue c)) h (walk_fill p.state builtin_queue c (walk_park_fronts n s builtin_queue h))
+      let p = park_next n s builtin_queue c in
+      keeps_if Leaves (has_local s c) (stays s) (one_after_other p (fill p.state builtin_queue c)) h (walk_fill p.state builtin_queue c (walk_park_next n s builtin_queue c h))
 
   walk_builtin_ask : (s : State) (c : ℕ) (p : Option ℕ) (ran : Bool) → Kept s → Leaves (builtin_ask s c p ran)
   unfolding builtin_ask
@@ -448,11 +445,15 @@ module _ (old : PolicyState) (I : WorldState → Type 0) (k : IsKeptBySmallSteps
       let p = acting r.state callback.SelectCpu in
       walk_settle (chosen p r.state t) t (target p r.state.world t (answered_by s callback.SelectCpu (task_cpu_and_0 t c) t c)) (walk_chosen p r.state t (k.called_back s callback.SelectCpu (task_cpu_and_0 t c) t c refl h))
 
+  walk_settle_at_home : (s : State) (t c : ℕ) → Kept s → Leaves (settle_at_home s t c)
+  unfolding settle_at_home
+  walk_settle_at_home s t c h = walk_settle (with_world s (at_callback s.world callback.SelectCpu t c)) t c (h.0, k.at_hand s.world t c h.1)
+
   walk_select : (s : State) (t : ℕ) → Kept s → Leaves (select s t)
   unfolding select
   walk_select s t h =
-      let u = with_world s (at_callback s.world callback.SelectCpu t 0) in
-      keeps_if Leaves (asks_target s) (ask_target s t) (settle u t 0) (walk_ask_target s t h) (walk_settle u t 0 (h.0, k.at_hand s.world t h.1))
+      let c = first_home s.world t in
+      keeps_if Leaves (asks_target s t) (ask_target s t) (settle_at_home s t c) (walk_ask_target s t h) (walk_settle_at_home s t c h)
 
   walk_from_waker : (s : State) (t : ℕ) → Kept s → Kept (from_waker s t)
   unfolding from_waker

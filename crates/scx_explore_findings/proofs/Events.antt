@@ -10,7 +10,7 @@ use Rattle.scx_sched_world.specs.declared.timers.Alarm.{Alarm}
 use Rattle.scx_sched_world.specs.declared.notes.What.TheVariants as note
 use Rattle.scx_weights.specs.Refusals.{max_weight, is_outside}
 use Rattle.scx_sched_world.specs.Ids.{parked_queue}
-use Rattle.scx_sched_world.specs.World.{WorldState, with_switch, with_kick, with_slept, with_waker, with_timer_at_hand, task_at, is_runnable, is_throttled, waits, running, cpu_of, is_idle, choice, after_claim, at_callback, note_now}
+use Rattle.scx_sched_world.specs.World.{WorldState, with_switch, with_kick, with_slept, with_waker, with_timer_at_hand, task_at, is_runnable, first_home, is_throttled, waits, running, cpu_of, is_idle, choice, after_claim, at_callback, note_now}
 use Rattle.scx_sched_world.specs.Tasks.{for_cpu, to_local, homed, after_wake, after_sleep, after_leave, after_stop, let_go, after_tick, used_ms, later, begun_periods, after_reweigh, after_own_weight}
 use Rattle.scx_sched_world.specs.Helpers.{with_insert, alarm_at, due_now, after_fire}
 use Rattle.scx_sched_machine.specs.declared.events.Event.{Event}
@@ -24,7 +24,7 @@ use Rattle.scx_sched_machine.specs.Firing.{due, fired, fires, fire, fire_below, 
 use Rattle.scx_sched_machine.specs.Put.{put}
 use Rattle.scx_sched_machine.specs.Parking.{park, let_go_one, let_go_from, let_all_go}
 use Rattle.scx_sched_machine.specs.Cycle.{after_stopping, cycle}
-use Rattle.scx_sched_machine.specs.Events.{refusal, answered_cpu, target, insert_or_put, woken, wake_target, comes_to, while_in_force, told_runnable, settle, inserted_by_choice, chosen_by_default, chosen, ask_target, asks_target, select, from_waker, wake, told_of_sleep, falls_asleep, looks_after_sleep, leaves_cpu, leaves_queue, sleep_from_cpu, sleep_from_queue, sleep_from, sleep, throttle, ends_slices, expire, use_up, hears_tick, tick_heard, count_down, tick_idle, tick_of, tick, overdue, eject_if_stalled, watch, timers_and_watchdog, clock, restore_flag, change_flags, takes_weight, changes_weight, reweigh_running, reweigh_waiting, reweigh_off_cpu, reweigh_at, reweigh_by_linux, reweigh, own_step, event_step}
+use Rattle.scx_sched_machine.specs.Events.{refusal, cpu_or_home, answered_cpu, target, insert_or_put, woken, wake_target, comes_to, while_in_force, told_runnable, settle, inserted_by_choice, chosen_by_default, chosen, ask_target, asks_target, settle_at_home, select, from_waker, wake, told_of_sleep, falls_asleep, looks_after_sleep, leaves_cpu, leaves_queue, sleep_from_cpu, sleep_from_queue, sleep_from, sleep, throttle, ends_slices, expire, use_up, hears_tick, tick_heard, count_down, tick_idle, tick_of, tick, overdue, eject_if_stalled, watch, timers_and_watchdog, clock, restore_flag, change_flags, takes_weight, changes_weight, reweigh_running, reweigh_waiting, reweigh_off_cpu, reweigh_at, reweigh_by_linux, reweigh, own_step, event_step}
 use Rattle.scx_explore_findings.specs.Hidden.{Hidden, hide}
 use Rattle.scx_explore_findings.specs.HiddenStates.{hide_state, once_let_go, once_later, late_in}
 use Rattle.scx_explore_findings.specs.Unread.{IsUnread}
@@ -95,7 +95,7 @@ module _ (h : Hidden) (p : PolicyState) (unread : (b : Callback) → IsUnread h 
 
   answered_cpu_same : (w : WorldState) (t : ℕ) (a : Option ℕ) → answered_cpu w t a ≡ answered_cpu (hide h w) t a
   answered_cpu_same w t None = choice_same h w t
-  answered_cpu_same w t (Some n) = ap (λ (c : ℕ). cond (nat_lt n (length w.cpus)) n c) (choice_same h w t)
+  answered_cpu_same w t (Some n) = ap (λ (c : ℕ). cond (nat_lt n (length w.cpus)) (cpu_or_home w t n) c) (choice_same h w t)
 
   target_same : (q : Option VerifiedProgram) (w : WorldState) (t : ℕ) (a : Option ℕ) → target q w t a ≡ target q (hide h w) t a
   target_same None w t a = choice_same h w t
@@ -147,12 +147,17 @@ module _ (h : Hidden) (p : PolicyState) (unread : (b : Callback) → IsUnread h 
       subst (λ (c : ℕ). Passes h p (selected t (task_at s.world t).prev_cpu s) (selected t c (hide_state h s))) (read h (λ x. x.prev_cpu) (λ x. refl) s.world t)
       (passes_selected t (task_at s.world t).prev_cpu s is)
 
+  passes_settle_at_home : (t c : ℕ) → On h p (λ s. settle_at_home s t c)
+  unfolding settle_at_home
+  passes_settle_at_home t c s is =
+      let at : State → WorldState = λ r. at_callback r.world callback.SelectCpu t c in
+      in_world h p (λ r. settle r t c) (passes_settle t c) s (at s) (at (hide_state h s)) (plain h (at s)) is
+
   passes_select : (t : ℕ) → On h p (λ s. select s t)
   unfolding select
   passes_select t s is =
-      let only : State → WorldState = λ r. at_callback r.world callback.SelectCpu t 0 in
-      choose h p (asks_target s) (asks_target s) (ask_target s t) (ask_target (hide_state h s) t) (settle (with_world s (only s)) t 0) (settle (with_world (hide_state h s) (only (hide_state h s))) t 0) refl (passes_ask_target t s is)
-      (in_world h p (λ r. settle r t 0) (passes_settle t 0) s (only s) (only (hide_state h s)) (plain h (only s)) is)
+      let c = first_home s.world t in
+      choose h p (asks_target s t) (asks_target s t) (ask_target s t) (ask_target (hide_state h s) t) (settle_at_home s t c) (settle_at_home (hide_state h s) t c) refl (passes_ask_target t s is) (passes_settle_at_home t c s is)
 
   -- from the processor on which it was last
   turns_from_waker : (t : ℕ) → Turns h p (λ s. from_waker s t)

@@ -31,8 +31,8 @@ use Rattle.scx_sched_world.specs.declared.eject.Eject.{Eject}
 use Rattle.scx_sched_world.specs.declared.faults.Fault.{Fault}
 use Rattle.scx_sched_world.specs.Ids.{parked_queue, local_on}
 use Rattle.scx_sched_world.specs.World.{WorldState, with_queues, with_tree, is_by_linux, with_kick, at_callback, task_at, with_task, running, is_this, choice, after_claim}
-use Rattle.scx_sched_world.specs.Tasks.{with_since, with_slice, with_home, after_leave, homed, local_cpu, homed_at, after_local, task_after_insert, rank_by, after_preempt_of, after_preempt_at, after_preempt, after_enter, for_cpu, to_front, brought, started_at, after_run, after_keep, put_parked, after_take, after_sleep, used_ms, after_reweigh, after_own_weight}
-use Rattle.scx_sched_world.specs.Helpers.{is_dispatch, with_insert, after_release, insert_or_fault, front_moved_to_local, helper_after, world_functions}
+use Rattle.scx_sched_world.specs.Tasks.{with_since, with_slice, with_home, after_leave, homed, local_cpu, homed_at, after_local, task_after_insert, rank_by, after_preempt_of, after_preempt_at, after_preempt, after_enter, for_cpu, to_front, brought, started_at, after_run, after_keep, put_parked, after_sleep, used_ms, after_reweigh, after_own_weight}
+use Rattle.scx_sched_world.specs.Helpers.{is_dispatch, with_insert, after_release, insert_or_fault, moved_to_local, helper_after, world_functions}
 use Rattle.scx_sched_machine.specs.Policy.{PolicyState, program_of}
 use Rattle.scx_sched_machine.specs.Steps.{State, Stepped}
 use Rattle.scx_sched_machine.specs.Ejecting.{eject, ejected_for}
@@ -120,18 +120,14 @@ order_entered w t i f h =
 pub order_left : (w : WorldState) (t : ℕ) → IsInOrder w → IsInOrder (after_leave w t)
 order_left w t h none = (removed w.queues t (h none).0, (h none).1)
 
--- a front leaves its queue
-pub order_taken : (w : WorldState) (q : ℕ) → IsInOrder w → IsInOrder (after_take w q)
-order_taken w q h none = (popped w.queues q (h none).0, (h none).1)
-
 -- a task comes to the end of a local queue
 order_local : (w : WorldState) (c t : ℕ) → IsInOrder w → IsInOrder (after_local w c t)
 order_local w c t h = order_homed (with_queues w (after_push w.queues (local_on c) t Fifo)) t c (λ none. (pushed w.queues (local_on c) t Fifo tt (h none).0, (h none).1))
 
 -- a task is brought from one queue to a local one
-pub order_brought : (o : Option ℕ) (w : WorldState) (q c : ℕ) → IsInOrder w → IsInOrder (brought o w q c)
-order_brought None w q c h = h
-order_brought (Some t) w q c h = order_local (after_take w q) c t (order_taken w q h)
+pub order_brought : (o : Option ℕ) (w : WorldState) (c : ℕ) → IsInOrder w → IsInOrder (brought o w c)
+order_brought None w c h = h
+order_brought (Some t) w c h = order_local (after_leave w t) c t (order_left w t h)
 
 -- a front comes to a processor
 pub order_started : (w : WorldState) (t c : ℕ) → IsInOrder w → IsInOrder (started_at (Some t) w c)
@@ -192,9 +188,9 @@ inserted : (w : WorldState) (o : Option Fault) (t : Option ℕ) (i : Insert) →
 inserted w None t i f h = keeps_if IsInOrder (is_dispatch w.call.callback) (after_release w t (for_cpu w.call.cpu i)) (with_insert w i) (released w t (for_cpu w.call.cpu i) f h) (λ none. ((h none).0, f))
 inserted w (Some x) t i f h = h
 
-moved : (w : WorldState) (o : Option ℕ) (q : ℕ) → IsInOrder w → IsInOrder (front_moved_to_local w o q)
-moved w None q h = h
-moved w (Some t) q h = order_local (after_take w q) w.call.cpu t (order_taken w q h)
+moved : (w : WorldState) (o : Option ℕ) → IsInOrder w → IsInOrder (moved_to_local w o)
+moved w None h = h
+moved w (Some t) h = order_local (after_leave w t) w.call.cpu t (order_left w t h)
 
 apart : true ≡ false → ⊥
 apart e = absurd (cc)
@@ -208,11 +204,12 @@ helped w f a fine h = by_helper (λ (g : Helper). is_by_vtime (Some g) ≡ false
   inserted = λ t i fifo. inserted w None t i fifo h;
   by_vtime = λ may t i. absurd (apart may);
   late = h;
-  moved = λ o q. moved w o q h;
+  moved = λ o. moved w o h;
   claimed = λ o. order_claimed w o h;
   kicked = λ c. h;
   preempted = λ c. h;
   timed = λ n o. h;
+  drawn = h;
 }) f fine a
 
 -- a query that inserts nobody by a virtual time
@@ -317,7 +314,6 @@ module _ (p : PolicyState) (may : InsertInOrder p) where
     left = order_left;
     brings = order_brought;
     parked = order_parked;
-    taken = order_taken;
     started = order_started;
     kept = order_kept;
     stopped = λ w c t h. h;
@@ -337,7 +333,7 @@ module _ (p : PolicyState) (may : InsertInOrder p) where
     cut_off = λ w t h. h;
     homed = order_homed;
     chosen = order_chosen;
-    at_hand = λ w t h none. ((h none).0, tt);
+    at_hand = λ w t c h none. ((h none).0, tt);
     kicks = λ w c h. h;
     unkicked = λ w c h. h;
     counted = λ w b h. h;

@@ -6,14 +6,16 @@ use Rattle.scx_weights.specs.Hierarchy.{Hierarchy}
 use Rattle.scx_isa_semantics.specs.declared.callbacks.Callback.{Callback}
 use Rattle.scx_vm.specs.declared.arguments.Args.{Args}
 use Rattle.scx_sched_world.specs.Ids.{global, held_queue, builtin_queue, parked_queue, local_on}
-use Rattle.scx_sched_world.specs.First.{with_locals, own_queues}
-use Rattle.scx_sched_world.specs.World.{at_callback}
+use Rattle.scx_sched_world.specs.First.{with_locals, own_queues, first_world, with_homes_below}
+use Rattle.scx_sched_world.specs.World.{WorldState, at_callback, binds}
+use Rattle.scx_sched_world.specs.Tasks.{begun_periods}
 use Rattle.scx_sched_machine.specs.Policy.{PolicyState}
 use Rattle.scx_sched_machine.specs.Steps.{State}
 use Rattle.scx_sched_machine.specs.Callbacks.{acting}
-use Rattle.scx_sched_machine.specs.Start.{blank, first_state}
+use Rattle.scx_sched_machine.specs.Start.{by_policy, blank, first_state}
+use Rattle.scx_sched_machine.proofs.Choices.{keeps_if}
 use Rattle.scx_sched.proofs.Begins.{left_by, keeps_started}
-use Rattle.scx_explore_findings.specs.FifoOnly.{InsertInOrder, AreInOrder, FirstStatesAreInOrder}
+use Rattle.scx_explore_findings.specs.FifoOnly.{InsertInOrder, AreInOrder, IsInOrder, FirstStatesAreInOrder}
 use Rattle.scx_explore_findings.proofs.FifoQueues.{Kept, created, called_order, order_acting}
 
 -- ---- queues
@@ -35,9 +37,17 @@ own_order cpus tasks =
     let d = after_create c builtin_queue in
     created d parked_queue (created c builtin_queue (created b held_queue (created a global (nobody_there tasks))))
 
+-- bound tasks are placed where they may run
+homes_order : (n : ℕ) (w : WorldState) → IsInOrder w → IsInOrder (with_homes_below n w)
+homes_order zero w h = h
+homes_order (suc n) w h = homes_order n w h
+
 module _ (p : PolicyState) (may : InsertInOrder p) where
   blank_kept : (tree : Hierarchy) (cpus : ℕ) → Kept p may (blank p tree cpus)
-  blank_kept tree cpus = (refl, λ none. (locals_order cpus (own_queues cpus (length tree.homes)) (own_order cpus (length tree.homes)), tt))
+  blank_kept tree cpus =
+      let w = begun_periods (by_policy p (first_world tree cpus)) in
+      let h : IsInOrder w = λ none. (locals_order cpus (own_queues cpus (length tree.homes)) (own_order cpus (length tree.homes)), tt) in
+      (refl, keeps_if IsInOrder (binds w) (with_homes_below (length w.tasks) w) w (homes_order (length w.tasks) w h) h)
 
   -- a callback keeps it
   called_kept : (s : State) (b : Callback) (a : Args) (t c : ℕ) → Kept p may s → Kept p may (left_by s b a t c)

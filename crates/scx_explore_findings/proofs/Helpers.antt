@@ -3,14 +3,13 @@
 -- any.
 use Rattle.std.proofs.Common.{◌≡◌, ℕ, zero, suc, ◌-◌, ◌&&◌, ◌||◌, is_none, Bool, false, cond, if◌then◌else◌, nat_lt, nat_le, List, length, map, Option, Some, None, refl, sym, ap, ◌∙◌}
 use Rattle.scx_dsq.specs.Laws.{one_if}
-use Rattle.scx_dsq.specs.Queues.{front_of}
-use Rattle.scx_dsq.specs.Calls.{after_create, after_pop}
+use Rattle.scx_dsq.specs.Calls.{after_create}
 use Rattle.scx_isa_semantics.specs.declared.callbacks.Callback.{Callback}
 use Rattle.scx_isa_semantics.specs.declared.callbacks.Callback.TheVariants as callback
 use Rattle.scx_isa_semantics.specs.declared.host_tables.Field.{Field}
 use Rattle.scx_isa_semantics.specs.declared.host_tables.Field.TheVariants.{Pid, Weight, Slice, DsqVtime, PrevCpu, Group, RunNs, Cpus}
 use Rattle.scx_isa_semantics.specs.declared.host_tables.Helper.{Helper}
-use Rattle.scx_isa_semantics.specs.declared.host_tables.Helper.TheVariants.{CreateDsq, DsqInsert, DsqInsertVtime, DsqMoveToLocal, SelectCpuDfl, CpuIdle, TaskByPid, DsqNrQueued, KickCpu, Exit, CpuCurr, DsqPeek, TaskRunning, TaskCpu, PickIdle, ClaimIdle, TimerStart, TimerCancel}
+use Rattle.scx_isa_semantics.specs.declared.host_tables.Helper.TheVariants.{CreateDsq, DsqInsert, DsqInsertVtime, DsqMoveToLocal, SelectCpuDfl, CpuIdle, TaskByPid, DsqNrQueued, KickCpu, Exit, CpuCurr, DsqPeek, TaskRunning, TaskCpu, PickIdle, ClaimIdle, TimerStart, TimerCancel, PrandomU32, MayRun}
 use Rattle.scx_isa_semantics.specs.declared.values.Value.TheVariants.{Number}
 use Rattle.scx_isa_semantics.specs.Effects.{Query, Call, Load, Store}
 use Rattle.scx_vm.specs.declared.arguments.Arg.{Arg}
@@ -19,18 +18,18 @@ use Rattle.scx_vm.specs.Arguments.{argument_of, answer_value}
 use Rattle.scx_vm.specs.Host.{answer_to, after_query}
 use Rattle.scx_sched_world.specs.declared.call.Insert.{Insert}
 use Rattle.scx_sched_world.specs.declared.faults.Fault.{Fault}
-use Rattle.scx_sched_world.specs.declared.faults.Fault.TheVariants.{NoSuchQueue, NoSuchCpu, CannotCreate, CannotInsert}
+use Rattle.scx_sched_world.specs.declared.faults.Fault.TheVariants.{NoSuchQueue, NoSuchCpu, CannotCreate, CannotInsert, NotAllowed}
 use Rattle.scx_sched_world.specs.declared.kicks.Kick.{Kick}
 use Rattle.scx_sched_world.specs.declared.kicks.Kick.TheVariants.{Any, IfIdle, Preempt}
 use Rattle.scx_dsq.specs.declared.entries.Rank.TheVariants.{Fifo, Front}
 use Rattle.scx_sched_world.specs.declared.notes.What.TheVariants as notes
-use Rattle.scx_sched_world.specs.World.{WorldState, with_queues, with_kick, with_preemption, is_by_linux, running, is_this, current_in, current, this_if, or_this, is_free, choice, after_claim, with_note}
+use Rattle.scx_sched_world.specs.World.{WorldState, with_queues, with_kick, with_preemption, is_by_linux, running, is_this, current_in, current, this_if, is_free, choice, after_claim, with_note}
 use Rattle.scx_sched_world.specs.declared.passing.Switch.{Switch}
 use Rattle.scx_sched_world.specs.declared.timers.Alarm.{Alarm}
 use Rattle.scx_weights.specs.Counting.{any_below}
 use Rattle.scx_weights.specs.Hierarchy.{own_weight}
-use Rattle.scx_sched_world.specs.Tasks.{after_leave, for_cpu}
-use Rattle.scx_sched_world.specs.Helpers.{with_fault, invalid_if, is_there, can_create, is_dispatch, may_insert_in, queue_fault, rank_fault, or_fault, has_preempt, has_head, arrival_rank, flags_fault, insert_fault, is_late, after_late, with_insert, with_move, after_release, insert_or_fault, after_insert, insert_answer, insert_of, insert_of_vtime, can_move, front_moved_to_local, unless_fault, untracked_fault, ask_fault, fault_or, choice_answer, after_choice, kick_of, kick_fault, kicked_or_fault, after_kick, after_exit, task_or_null, is_current_one, cpu_of_task, is_free_in, free_in_below, first_free_in, pick_fault, pick_answer_by, after_pick_by, after_pick, timer_fault, with_timer, alarm_in, given_number, given_task, helper_answer, helper_after, field_of, stored_in, world_functions}
+use Rattle.scx_sched_world.specs.Tasks.{after_leave, for_cpu, next_for}
+use Rattle.scx_sched_world.specs.Helpers.{with_fault, invalid_if, is_there, can_create, is_dispatch, may_insert_in, may_insert, queue_fault, rank_fault, or_fault, has_preempt, has_head, arrival_rank, flags_fault, cpu_meant, may_go, placing_fault, insert_fault, is_late, after_late, with_insert, with_move, after_release, insert_or_fault, after_insert, insert_answer, insert_of, insert_of_vtime, can_move, moved_to_local, unless_fault, untracked_fault, cpu_fault, ask_fault, fault_or, choice_answer, after_choice, kick_of, kick_fault, kicked_or_fault, after_kick, after_exit, task_or_null, is_current_one, cpu_of_task, may_run_there, after_random, first_free_in, pick_fault, after_pick_by, after_pick, timer_fault, with_timer, alarm_in, given_number, given_task, helper_answer, helper_after, field_of, stored_in, world_functions}
 use Rattle.scx_sched_machine.proofs.Choices.{keeps_if}
 use Rattle.scx_explore_findings.specs.Hidden.{Hidden, hide}
 use Rattle.scx_explore_findings.specs.Unread.{is_hidden}
@@ -41,8 +40,8 @@ use Rattle.scx_explore_findings.proofs.Worlds.{Hides, plain, read, weight_same, 
 -- ---- what a call may leave
 
 -- of what a helper leaves that may be called, the property holds: the world as it is, one with a fault or an exit, with a
--- queue created, with an insert kept, done at once or passed over, with a task moved, a processor claimed or kicked, or
--- a timer started or cancelled
+-- queue created, with an insert kept, done at once or passed over, with a task moved, a processor claimed or kicked, a
+-- timer started or cancelled, or a random number drawn
 pub record HoldsAfter (may : Helper → Type 0) (P : WorldState → Type 0) (w : WorldState) : Type 0 where
   pub same : P w
   pub faulty : (f : Fault) → P (with_fault w f)
@@ -51,11 +50,12 @@ pub record HoldsAfter (may : Helper → Type 0) (P : WorldState → Type 0) (w :
   pub inserted : (t : Option ℕ) (i : Insert) → IsFifo i.rank → P (insert_or_fault w None t i)
   pub by_vtime : may DsqInsertVtime → (t : Option ℕ) (i : Insert) → P (insert_or_fault w None t i)
   pub late : P (with_move w)
-  pub moved : (o : Option ℕ) (q : ℕ) → P (front_moved_to_local w o q)
+  pub moved : (o : Option ℕ) → P (moved_to_local w o)
   pub claimed : (o : Option ℕ) → P (after_claim w o)
   pub kicked : (c : ℕ) → P (with_kick w c)
   pub preempted : (c : ℕ) → P (with_preemption w c)
   pub timed : (n : ℕ) (o : Option Alarm) → P (with_timer w n o)
+  pub drawn : P (after_random w)
 
 module _ (may : Helper → Type 0) (P : WorldState → Type 0) (w : WorldState) (h : HoldsAfter may P w) where
   tried : (o : Option Fault) (t : Option ℕ) (i : Insert) → P (insert_or_fault w None t i) → P (insert_or_fault w o t i)
@@ -98,7 +98,7 @@ module _ (may : Helper → Type 0) (P : WorldState → Type 0) (w : WorldState) 
   by_helper CreateDsq m a = keeps_if P (can_create w (given_number a 0)) (with_queues w (after_create w.queues (given_number a 0))) (with_fault w CannotCreate) (h.created m (given_number a 0)) (h.faulty CannotCreate)
   by_helper DsqInsert m a = inserts (given_task a 0) (insert_of w a) (given_number a 3) (h.inserted (given_task a 0) (insert_of w a) (arrives (given_number a 3)))
   by_helper DsqInsertVtime m a = inserts (given_task a 0) (insert_of_vtime w a) (given_number a 4) (h.by_vtime m (given_task a 0) (insert_of_vtime w a))
-  by_helper DsqMoveToLocal m a = keeps_if P (can_move w (given_number a 0)) (front_moved_to_local w (front_of w.queues (given_number a 0)) (given_number a 0)) (with_fault w NoSuchQueue) (h.moved (front_of w.queues (given_number a 0)) (given_number a 0)) (h.faulty NoSuchQueue)
+  by_helper DsqMoveToLocal m a = keeps_if P (can_move w (given_number a 0)) (moved_to_local w (next_for w (given_number a 0) w.call.cpu)) (with_fault w NoSuchQueue) (h.moved (next_for w (given_number a 0) w.call.cpu)) (h.faulty NoSuchQueue)
   by_helper CpuIdle m a = or_done (ask_fault w (given_number a 0)) w h.same
   by_helper DsqNrQueued m a = keeps_if P (is_there w (given_number a 0)) w (with_fault w NoSuchQueue) h.same (h.faulty NoSuchQueue)
   by_helper SelectCpuDfl m a = chooses (given_task a 0)
@@ -115,6 +115,8 @@ module _ (may : Helper → Type 0) (P : WorldState → Type 0) (w : WorldState) 
   by_helper TimerCancel m a =
       let n = given_number a 0 in
       or_done (timer_fault w n) (if is_this n w.passing.timer then w else with_timer w n None) (keeps_if P (is_this n w.passing.timer) w (with_timer w n None) h.same (h.timed n None))
+  by_helper PrandomU32 m a = h.drawn
+  by_helper MayRun m a = keeps_if P (nat_lt (given_number a 1) (length w.cpus)) w (with_fault w NoSuchCpu) h.same (h.faulty NoSuchCpu)
   by_helper f m a = h.same
 
 -- ---- what is hidden
@@ -131,9 +133,17 @@ module _ (h : Hidden) where
   may_same callback.Dispatch w (Some t) = refl
   may_same b w t = refl
 
+  go_same : (w : WorldState) (t c : Option ℕ) → may_go w t c ≡ may_go (hide h w) t c
+  go_same w None None = refl
+  go_same w None (Some c) = refl
+  go_same w (Some t) None = refl
+  go_same w (Some t) (Some c) = refl
+
   fault_same : (w : WorldState) (t : Option ℕ) (i : Insert) (flags : ℕ) → insert_fault w t i flags ≡ insert_fault (hide h w) t i flags
   fault_same w t i flags =
-      ap (λ (b : Bool). cond b (or_fault (flags_fault w flags) (or_fault (queue_fault w i.queue) (rank_fault w i.queue i.rank))) (Some CannotInsert)) (may_same w.call.callback w t)
+      let found : Option Fault → Bool → Option Fault = λ o b. cond b (or_fault (flags_fault w flags) (or_fault (queue_fault w i.queue) (or_fault (rank_fault w i.queue i.rank) o))) (Some CannotInsert) in
+      ap (found (placing_fault w t i.queue)) (may_same w.call.callback w t)
+      ∙ ap (λ (b : Bool). found (cond b None (Some NotAllowed)) (may_insert (hide h w) t)) (go_same w t (cpu_meant w i.queue))
 
   hides_release : (t : Option ℕ) (i : Insert) → Hides h (λ w. after_release w t i)
   hides_release None i w = plain h w
@@ -164,9 +174,9 @@ module _ (h : Hidden) where
 
   -- ---- other helpers
 
-  hides_moved : (o : Option ℕ) (q : ℕ) → Hides h (λ w. front_moved_to_local w o q)
-  hides_moved None q w = plain h w
-  hides_moved (Some t) q w = ap (λ (v : WorldState). with_note (with_move v) (notes.Move t w.call.cpu)) (hides_local h w.call.cpu t (with_queues w (after_pop w.queues q)))
+  hides_moved : (o : Option ℕ) → Hides h (λ w. moved_to_local w o)
+  hides_moved None w = plain h w
+  hides_moved (Some t) w = ap (λ (v : WorldState). with_note (with_move v) (notes.Move t w.call.cpu)) (hides_local h w.call.cpu t (after_leave w t))
 
   chosen : (o : Option ℕ) (w : WorldState) → choice_answer w o ≡ choice_answer (hide h w) o
   chosen None w = refl
@@ -202,21 +212,12 @@ module _ (h : Hidden) where
       let k = kick_of flags in
       hides_kicked (kick_fault w c k) c k w ∙ ap (λ (o : Option Fault). hide h (kicked_or_fault (hide h w) o c k)) (kick_same w c k)
 
-  -- the processor that a mask leaves
-  free_same : (n mask : ℕ) (w : WorldState) → free_in_below n mask w ≡ free_in_below n mask (hide h w)
-  free_same zero mask w = refl
-  free_same (suc n) mask w = ap (λ (o : Option ℕ). or_this o (this_if (is_free_in mask w n) n)) (free_same n mask w)
-
-  picked_same : (mask : ℕ) (w : WorldState) → first_free_in mask w ≡ first_free_in mask (hide h w)
-  picked_same mask w = free_same (length w.cpus) mask w
-
   hides_picked : (o : Option Fault) (c : Option ℕ) → Hides h (λ w. after_pick_by o w c)
   hides_picked None c w = hides_claim h c w
   hides_picked (Some f) c w = plain h (with_fault w f)
 
   hides_pick : (mask flags : ℕ) → Hides h (λ w. after_pick w mask flags)
-  hides_pick mask flags w =
-      hides_picked (pick_fault w flags) (first_free_in mask w) w ∙ ap (λ (o : Option ℕ). hide h (after_pick_by (pick_fault w flags) (hide h w) o)) (picked_same mask w)
+  hides_pick mask flags w = hides_picked (pick_fault w flags) (first_free_in mask w) w
 
   -- the current task of each processor, and the processor of a task
   current_in_same : (o : Option Switch) (w : WorldState) (c : ℕ) → current_in o w c ≡ current_in o (hide h w) c
@@ -240,6 +241,10 @@ module _ (h : Hidden) where
   cpu_same None w = refl
   cpu_same (Some t) w = read h (λ x. x.prev_cpu) (λ x. refl) w t
 
+  there_same : (o : Option ℕ) (w : WorldState) (c : ℕ) → may_run_there w o c ≡ may_run_there (hide h w) o c
+  there_same None w c = refl
+  there_same (Some t) w c = refl
+
   -- what it answers
   helper_same : (f : Helper) (a : List Arg) (w : WorldState) → helper_answer w f a ≡ helper_answer (hide h w) f a
   helper_same DsqInsert a w = ap answer.Num (answers_insert w (given_task a 0) (insert_of w a) (given_number a 3))
@@ -253,7 +258,9 @@ module _ (h : Hidden) where
       ap (λ (o : Option ℕ). cond (nat_lt c (length w.cpus)) (task_or_null o) (answer.Num 0)) (current_at w c)
   helper_same TaskRunning a w = ap (λ (b : Bool). answer.Num (one_if b)) (current_same (given_task a 0) w)
   helper_same TaskCpu a w = ap answer.Num (cpu_same (given_task a 0) w)
-  helper_same PickIdle a w = ap (λ (o : Option ℕ). answer.Num (pick_answer_by (pick_fault w (given_number a 1)) o)) (picked_same (given_number a 0) w)
+  helper_same MayRun a w =
+      let c = given_number a 1 in
+      ap (λ (b : Bool). answer.Num (unless_fault (cpu_fault w c) (one_if b))) (there_same (given_task a 0) w c)
   helper_same f a w = refl
 
   -- what it makes of the world
@@ -263,7 +270,7 @@ module _ (h : Hidden) where
   hides_helper DsqInsertVtime a w = hides_insert (given_task a 0) (insert_of_vtime w a) (given_number a 4) w
   hides_helper DsqMoveToLocal a w =
       let q = given_number a 0 in
-      alike_if (hide h) (can_move w q) (can_move w q) _ _ _ _ refl (hides_moved (front_of w.queues q) q w) (plain h (with_fault w NoSuchQueue))
+      alike_if (hide h) (can_move w q) (can_move w q) _ _ _ _ refl (hides_moved (next_for w q w.call.cpu) w) (plain h (with_fault w NoSuchQueue))
   hides_helper CpuIdle a w = hides_fault_or (ask_fault w (given_number a 0)) (λ v. v) (λ v. plain h v) w
   hides_helper DsqNrQueued a w = alike_if (hide h) (is_there w (given_number a 0)) (is_there w (given_number a 0)) w (hide h w) _ _ refl (plain h w) (plain h (with_fault w NoSuchQueue))
   hides_helper SelectCpuDfl a w = hides_choice (given_task a 0) w
@@ -282,6 +289,8 @@ module _ (h : Hidden) where
       let n = given_number a 0 in
       hides_fault_or (timer_fault w n) (λ v. if is_this n v.passing.timer then v else with_timer v n None)
       (λ v. alike_if (hide h) (is_this n v.passing.timer) (is_this n v.passing.timer) v (hide h v) (with_timer v n None) (with_timer (hide h v) n None) refl (plain h v) (plain h (with_timer v n None))) w
+  hides_helper PrandomU32 a w = plain h (after_random w)
+  hides_helper MayRun a w = alike_if (hide h) (nat_lt (given_number a 1) (length w.cpus)) (nat_lt (given_number a 1) (length w.cpus)) w (hide h w) _ _ refl (plain h w) (plain h (with_fault w NoSuchCpu))
   hides_helper f a w = plain h w
 
   -- ---- queries

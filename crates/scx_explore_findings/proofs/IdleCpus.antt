@@ -24,9 +24,9 @@ pub busy : (s : SimState) (c : ℕ) → is_some (running s.state.world c) ≡ tr
 busy s c some d same idle = absurd (some_not (running s.state.world c) some (subst (λ (k : ℕ). running s.state.world k ≡ None) (sym (same_cpu c d same)) idle))
 
 -- nobody waits for the policy
-pub nobody : (s : SimState) (e : Event) → IsFirstLeft s.state.world None → IsIdleBehind s e None
-nobody s e left d same idle = left
+pub nobody : (s : SimState) (c : ℕ) → IsFirstLeft s.state.world c None → IsIdleBehind s (Tick c) None
+nobody s c left d same idle = subst (λ (k : ℕ). IsFirstLeft s.state.world k None) (same_cpu c d same) left
 
 -- the first one that does
-pub somebody : (s : SimState) (c t : ℕ) → is_some (running s.state.world c) ≡ false → IsFirstLeft s.state.world (Some t) → IsIdleBehind s (Tick c) (Some (finding.Idle c t))
+pub somebody : (s : SimState) (c t : ℕ) → is_some (running s.state.world c) ≡ false → IsFirstLeft s.state.world c (Some t) → IsIdleBehind s (Tick c) (Some (finding.Idle c t))
 somebody s c t idle left = (refl, none_of (running s.state.world c) idle, left)

@@ -23,19 +23,19 @@ module _ (h : Hidden) (s t : SimState) (same : AreSame h s t) where
   as_many : length s.state.world.tasks ≡ length t.state.world.tasks
   as_many = length_same h s.state.world.tasks ∙ ap (λ (y : SimState). length y.state.world.tasks) same ∙ sym (length_same h t.state.world.tasks)
 
-  left_same : (u : ℕ) → waits_left t.state.world u ≡ waits_left s.state.world u
-  left_same u = ap (λ (y : SimState). waits_left y.state.world u) (sym same)
+  left_same : (c u : ℕ) → waits_left t.state.world c u ≡ waits_left s.state.world c u
+  left_same c u = ap (λ (y : SimState). waits_left y.state.world c u) (sym same)
 
   idle_same : (c : ℕ) → running t.state.world c ≡ running s.state.world c
   idle_same c = ap (λ (y : SimState). running y.state.world c) (sym same)
 
-  first_left : (o : Option ℕ) → IsFirstLeft s.state.world o → IsFirstLeft t.state.world o
-  first_left None k = λ u l. left_same u ∙ k u (subst (λ (n : ℕ). u < n) (sym as_many) l)
-  first_left (Some u) k = (subst (λ (n : ℕ). u < n) as_many k.0, left_same u ∙ k.1, λ v l. left_same v ∙ k.2 v l)
+  first_left : (c : ℕ) (o : Option ℕ) → IsFirstLeft s.state.world c o → IsFirstLeft t.state.world c o
+  first_left c None k = λ u l. left_same c u ∙ k u (subst (λ (n : ℕ). u < n) (sym as_many) l)
+  first_left c (Some u) k = (subst (λ (n : ℕ). u < n) as_many k.0, left_same c u ∙ k.1, λ v l. left_same c v ∙ k.2 v l)
 
   idle_there : (e : Event) (o : Option Finding) → IsIdleBehind s e o → IsIdleBehind t e o
-  idle_there e None k = λ c is nobody. first_left None (k c is (sym (idle_same c) ∙ nobody))
-  idle_there e (Some (finding.Idle c u)) k = (k.0, idle_same c ∙ k.1, first_left (Some u) k.2)
+  idle_there e None k = λ c is nobody. first_left c None (k c is (sym (idle_same c) ∙ nobody))
+  idle_there e (Some (finding.Idle c u)) k = (k.0, idle_same c ∙ k.1, first_left c (Some u) k.2)
   idle_there e (Some (finding.Fault f)) k = k
   idle_there e (Some (finding.Stall u)) k = k
   idle_there e (Some (finding.Exit n)) k = k

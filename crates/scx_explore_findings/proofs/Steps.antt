@@ -16,7 +16,7 @@ use Rattle.scx_sched_world.specs.declared.faults.Fault.{Fault}
 use Rattle.scx_sched_world.specs.declared.notes.Note.{Note}
 use Rattle.scx_sched_world.specs.Ids.{global, local_on}
 use Rattle.scx_sched_world.specs.World.{WorldState, at_callback, note_now}
-use Rattle.scx_sched_world.specs.Tasks.{after_enter, fill_front, after_fill, put_parked, after_take}
+use Rattle.scx_sched_world.specs.Tasks.{after_enter, fill_front, after_fill, put_parked, after_leave, next_for}
 use Rattle.scx_sched_world.specs.Ejecting.{eject_of, put_builtin, put_out, after_evictions, evict_notes, after_cut, eject_note}
 use Rattle.scx_sched_machine.specs.Policy.{PolicyState, program_of}
 use Rattle.scx_sched_machine.specs.Steps.{State, CallMade, Stepped, with_world, is_ejected, is_by_linux, stays, after, one_after_other}
@@ -24,7 +24,7 @@ use Rattle.scx_sched_machine.specs.Ejecting.{moves_over, eject, ejected_for}
 use Rattle.scx_sched_machine.specs.Callbacks.{call_ending, after_callback, calls_of, answer_fault, end_fault, as_cause, or_cause, cause_of, unless_ejected, acting, call_back, call_by_linux, answered_by, noted_by, task_and_number}
 use Rattle.scx_sched_machine.specs.Put.{enters, enqueue_choice, enters_builtin, comes_in, put}
 use Rattle.scx_sched_machine.specs.Filling.{move_note, fill}
-use Rattle.scx_sched_machine.specs.Parking.{park, park_front, if_throttled, throttled_front, park_then, park_fronts, clear, in_reach, supply}
+use Rattle.scx_sched_machine.specs.Parking.{park, if_throttled, throttled_front, park_then, park_next, clear, in_reach, supply}
 use Rattle.scx_explore_findings.specs.Hidden.{Hidden, hide}
 use Rattle.scx_explore_findings.specs.HiddenStates.{hide_state, hide_call, hide_step}
 use Rattle.scx_explore_findings.specs.Unread.{IsUnread}
@@ -259,35 +259,36 @@ module _ (h : Hidden) (p : PolicyState) where
   unfolding park
   passes_park t s is = single s (put_parked s.world t) (put_parked (hide h s.world) t) _ _ (hides_parked h t s.world) refl is
 
-  passes_park_front : (q t : ℕ) → On (λ s. park_front s q t)
-  unfolding park_front
-  passes_park_front q t s is = passes_park t (with_world s (after_take s.world q)) is
-
   front_same : (o : Option ℕ) (w : WorldState) → if_throttled w o ≡ if_throttled (hide h w) o
   front_same None w = refl
   front_same (Some t) w = ap (λ (b : Bool). cond b (Some t) None) (throttled_same h w t)
 
-  passes_park_then : (next : State → Stepped) → On next → (q : ℕ) (o : Option ℕ) → On (λ s. park_then next s q o)
-  passes_park_then next more q None s is = rests s is
-  passes_park_then next more q (Some t) s is = chain (park_front s q t) (park_front (hide_state h s) q t) next (passes_park_front q t s is) more
+  passes_park_then : (next : State → Stepped) → On next → (o : Option ℕ) → On (λ s. park_then next s o)
+  passes_park_then next more None s is = rests s is
+  passes_park_then next more (Some t) s is =
+      chain (park (with_world s (after_leave s.world t)) t) (park (with_world (hide_state h s) (after_leave (hide h s.world) t)) t) next (passes_park t (with_world s (after_leave s.world t)) is) more
 
-  -- of the front of a queue, if it may not run
-  passes_front : (next : State → Stepped) → On next → (q : ℕ) → On (λ s. park_then next s q (throttled_front s q))
-  passes_front next more q s is =
-      subst (λ (o : Option ℕ). Passes (park_then next s q (throttled_front s q)) (park_then next (hide_state h s) q o)) (front_same (front_of s.world.queues q) s.world) (passes_park_then next more q (throttled_front s q) s is)
+  -- of a task, if it is throttled
+  passes_if_throttled : (next : State → Stepped) → On next → (o : Option ℕ) (s : State) → s.policy ≡ p → Passes (park_then next s (if_throttled s.world o)) (park_then next (hide_state h s) (if_throttled (hide h s.world) o))
+  passes_if_throttled next more o s is =
+      subst (λ (x : Option ℕ). Passes (park_then next s (if_throttled s.world o)) (park_then next (hide_state h s) x)) (front_same o s.world) (passes_park_then next more (if_throttled s.world o) s is)
 
-  -- the fronts of a queue that may not run are parked
-  pub passes_park_fronts : (n q : ℕ) → On (λ s. park_fronts n s q)
-  unfolding park_fronts
-  passes_park_fronts zero q s is = rests s is
-  passes_park_fronts (suc n) q s is = passes_front (λ r. park_fronts n r q) (passes_park_fronts n q) q s is
+  -- of the front of a queue, if it is throttled
+  passes_front : (next : State → Stepped) → On next → (q : ℕ) → On (λ s. park_then next s (throttled_front s q))
+  passes_front next more q s is = passes_if_throttled next more (front_of s.world.queues q) s is
+
+  -- the first tasks of a queue that may run on a processor are parked, as long as they are throttled
+  pub passes_park_next : (n q c : ℕ) → On (λ s. park_next n s q c)
+  unfolding park_next
+  passes_park_next zero q c s is = rests s is
+  passes_park_next (suc n) q c s is = passes_if_throttled (λ r. park_next n r q c) (passes_park_next n q c) (next_for s.world q c) s is
 
   passes_clear : (n c : ℕ) → On (λ s. clear n s c)
   unfolding clear
   passes_clear zero c s is = rests s is
   passes_clear (suc n) c s is =
       let next : State → Stepped = λ r. clear n r c in
-      chain (fill s global c) (fill (hide_state h s) global c) (λ r. park_then next r (local_on c) (throttled_front r (local_on c))) (passes_fill global c s is) (passes_front next (passes_clear n c) (local_on c))
+      chain (fill s global c) (fill (hide_state h s) global c) (λ r. park_then next r (throttled_front r (local_on c))) (passes_fill global c s is) (passes_front next (passes_clear n c) (local_on c))
 
   -- a local queue is supplied
   pub passes_supply : (c : ℕ) → On (λ s. supply s c)

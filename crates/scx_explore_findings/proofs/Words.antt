@@ -7,7 +7,7 @@ use Rattle.scx_maps.specs.Lending.{all_bytes}
 use Rattle.scx_sched_tasks.specs.declared.task.Task.{Task}
 use Rattle.scx_sched_tasks.specs.Waits.{time_since}
 use Rattle.scx_sched_world.specs.World.{WorldState, are_linux, task_at, cpu_of}
-use Rattle.scx_sched_world.specs.Helpers.{alarm_at}
+use Rattle.scx_sched_world.specs.Helpers.{cpus_of, alarm_at}
 use Rattle.scx_sched.specs.Sim.{SimState}
 use Rattle.scx_explore_states.specs.declared.form.Form.{Form}
 use Rattle.scx_explore_states.specs.Rows.{kept, is_by_vtime, ahead_of, entries_of, place_of, is_idle, spot_of, bit_of, row_of, no_row, task_row, rows_of}
@@ -93,22 +93,22 @@ module _ (h : Hidden) (f : Form) (out : LeavesOut f h) (ids : List ℕ) where
       ∙ ap (λ (fs : List ℕ). task_words f (rows_of f (hide h w) ids) order (min (length (hide h w).tasks) 8) ++ rest fs timers) (flags_same w (length w.cpus))
       ∙ ap (λ (ts : List ℕ). task_words f (rows_of f (hide h w) ids) order (min (length (hide h w).tasks) 8) ++ rest (flags_words (hide h w) (length w.cpus)) ts) (timers_same w (length w.timers))
 
-  -- from one state to another with the same homes, entries and words
-  carried : (xs : List ℕ) (s t : SimState) → ((u : ℕ) → home_at s.state.world u ≡ home_at t.state.world u) → entries_of s.state.world ≡ entries_of t.state.world
+  -- from one state to another with the same homes, masks, entries and words
+  carried : (xs : List ℕ) (s t : SimState) → ((u : ℕ) → home_at s.state.world u ≡ home_at t.state.world u) → ((u : ℕ) → cpus_of s.state.world u ≡ cpus_of t.state.world u) → entries_of s.state.world ≡ entries_of t.state.world
       → ((order : List ℕ) → state_words f (rows_of f s.state.world ids) order s ≡ state_words f (rows_of f t.state.world ids) order t) → IsWritten f ids xs s → IsWritten f ids xs t
-  carried xs s t homes entries words is = record {
+  carried xs s t homes masks entries words is = record {
     began = is.began;
     order = is.order;
-    fair = record { names = is.fair.names; whole = is.fair.whole; homes = λ p l. sym (homes _) ∙ is.fair.homes p l ∙ homes p };
+    fair = record { names = is.fair.names; whole = is.fair.whole; alike = λ p l. (sym (homes _) ∙ (is.fair.alike p l).0 ∙ homes p, sym (masks _) ∙ (is.fair.alike p l).1 ∙ masks p) };
     known = subst (AreKnown ids) entries is.known;
     words = is.words ∙ ap (λ (ys : List ℕ). is.began ∷ ys) (words is.order);
   }
 
   shown : (xs : List ℕ) (s : SimState) → IsWritten f ids xs s → IsWritten f ids xs (hide_machine h s)
-  shown xs s = carried xs s (hide_machine h s) (home_same s.state.world) refl (λ order. words_same order s)
+  shown xs s = carried xs s (hide_machine h s) (home_same s.state.world) (λ u. refl) refl (λ order. words_same order s)
 
   found : (xs : List ℕ) (s : SimState) → IsWritten f ids xs (hide_machine h s) → IsWritten f ids xs s
-  found xs s = carried xs (hide_machine h s) s (λ u. sym (home_same s.state.world u)) refl (λ order. sym (words_same order s))
+  found xs s = carried xs (hide_machine h s) s (λ u. sym (home_same s.state.world u)) (λ u. refl) refl (λ order. sym (words_same order s))
 
 -- machines that are the same but for what is left out are written as the same words
 pub words_dont_depend : WordsDontDepend

@@ -21,9 +21,9 @@ use Rattle.scx_sched_world.specs.declared.call.Insert.{Insert}
 use Rattle.scx_sched_world.specs.declared.faults.Fault.{Fault}
 use Rattle.scx_sched_world.specs.Ids.{builtin_queue, parked_queue, local_on}
 use Rattle.scx_sched_world.specs.World.{WorldState, IsLike, with_queues, with_tree, is_by_linux, with_kick, task_at, with_task, with_cpu, waits, running, is_this, choice, after_claim}
-use Rattle.scx_sched_world.specs.Tasks.{with_since, with_slice, with_home, on_cpu, after_sleep, after_leave, homed, local_cpu, homed_at, after_local, after_preempt_of, after_preempt_at, after_preempt, task_after_insert, rank_by, after_enter, for_cpu, brought, after_stop, started_at, after_run, after_keep, put_parked, after_take, used_ms, after_reweigh, after_own_weight}
+use Rattle.scx_sched_world.specs.Tasks.{with_since, with_slice, with_home, on_cpu, after_sleep, after_leave, homed, local_cpu, homed_at, after_local, after_preempt_of, after_preempt_at, after_preempt, task_after_insert, rank_by, after_enter, for_cpu, brought, after_stop, started_at, after_run, after_keep, put_parked, used_ms, after_reweigh, after_own_weight}
 use Rattle.scx_sched_world.specs.Ejecting.{put_builtin, after_evictions, cut_task, after_cut}
-use Rattle.scx_sched_world.specs.Helpers.{is_dispatch, with_insert, after_release, insert_or_fault, front_moved_to_local, helper_after, world_functions}
+use Rattle.scx_sched_world.specs.Helpers.{is_dispatch, with_insert, after_release, insert_or_fault, moved_to_local, helper_after, world_functions}
 use Rattle.scx_sched_machine.specs.Events.{inserted_by_choice, chosen_by_default}
 use Rattle.scx_sched_machine.proofs.Choices.{keeps_if}
 use Rattle.scx_explore_findings.proofs.Helpers.{by_helper}
@@ -122,14 +122,10 @@ module _ (v : WorldState) where
       let s = after_push w.queues (local_on c) t Fifo in
       sized_homed (with_queues w s) t c (sized_queues w s (queues_pushed w.queues (local_on c) t Fifo (queues_of w h)) h)
 
-  -- a front that leaves its queue
-  pub sized_taken : (w : WorldState) (q : ℕ) → HasSize v w → HasSize v (after_take w q)
-  sized_taken w q h = sized_queues w (after_pop w.queues q) (queues_popped w.queues q (queues_of w h)) h
-
-  -- a front that goes to a local queue
-  pub sized_brought : (o : Option ℕ) (w : WorldState) (q c : ℕ) → HasSize v w → HasSize v (brought o w q c)
-  sized_brought None w q c h = h
-  sized_brought (Some t) w q c h = sized_local (after_take w q) c t (sized_taken w q h)
+  -- a task that goes from its queue to a local one
+  pub sized_brought : (o : Option ℕ) (w : WorldState) (c : ℕ) → HasSize v w → HasSize v (brought o w c)
+  sized_brought None w c h = h
+  sized_brought (Some t) w c h = sized_local (after_leave w t) c t (sized_left w t h)
 
   -- a front that runs
   pub sized_started : (w : WorldState) (t c : ℕ) → HasSize v w → HasSize v (started_at (Some t) w c)
@@ -190,9 +186,9 @@ module _ (v : WorldState) where
   sized_inserted w None t i h = keeps_if (HasSize v) (is_dispatch w.call.callback) (after_release w t (for_cpu w.call.cpu i)) (with_insert w i) (sized_released w t (for_cpu w.call.cpu i) h) h
   sized_inserted w (Some f) t i h = h
 
-  sized_moved : (w : WorldState) (o : Option ℕ) (q : ℕ) → HasSize v w → HasSize v (front_moved_to_local w o q)
-  sized_moved w None q h = h
-  sized_moved w (Some t) q h = sized_local (after_take w q) w.call.cpu t (sized_taken w q h)
+  sized_moved : (w : WorldState) (o : Option ℕ) → HasSize v w → HasSize v (moved_to_local w o)
+  sized_moved w None h = h
+  sized_moved w (Some t) h = sized_local (after_leave w t) w.call.cpu t (sized_left w t h)
 
   -- a processor that is claimed
   sized_claimed : (w : WorldState) (o : Option ℕ) → HasSize v w → HasSize v (after_claim w o)
@@ -218,11 +214,12 @@ module _ (v : WorldState) where
     inserted = λ t i fifo. sized_inserted w None t i h;
     by_vtime = λ may t i. sized_inserted w None t i h;
     late = h;
-    moved = λ o q. sized_moved w o q h;
+    moved = λ o. sized_moved w o h;
     claimed = λ o. sized_claimed w o h;
     kicked = λ c. h;
     preempted = λ c. h;
     timed = λ n o. (h.0, h.1, h.2, h.3, h.4, h.5 ∙ sym (length-set w.timers n o));
+    drawn = h;
   }) f free a
 
   -- what a program asks in a callback that may create no queue

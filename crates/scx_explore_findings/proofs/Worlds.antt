@@ -14,7 +14,7 @@ use Rattle.scx_sched_world.specs.declared.call.Insert.{Insert}
 use Rattle.scx_sched_world.specs.declared.notes.Note.{Note}
 use Rattle.scx_sched_world.specs.CpuSets.{but_cpu}
 use Rattle.scx_sched_world.specs.Ids.{builtin_queue, parked_queue, local_on}
-use Rattle.scx_sched_world.specs.World.{WorldState, nothing_passes, with_switch, switch_at, cycling_by_linux, with_cycling, with_waker, with_queues, with_tree, task_at, with_task, is_throttled, waits, running, with_cpu, with_kick, is_by_linux, is_this, or_this, this_if, is_free, free_below, first_free, free_choice, choice, default_choice, after_claim}
+use Rattle.scx_sched_world.specs.World.{WorldState, nothing_passes, with_switch, switch_at, cycling_by_linux, with_cycling, with_waker, with_queues, with_tree, task_at, with_task, is_throttled, waits, running, with_cpu, with_kick, is_by_linux, is_this, is_free_for, lowest_cpu, free_choice, choice, default_choice, after_claim}
 use Rattle.scx_sched_world.specs.Tasks.{with_since, with_slice, with_home, with_builtin, task_after_insert, after_wake, after_sleep, after_leave, homed, local_cpu, homed_at, after_local, rank_by, after_preempt_of, after_preempt_at, after_preempt, after_enter, brought, fill_front, after_fill, after_stop, on_cpu, started_at, after_run, longer, after_switch, after_cut_off, with_new_slice, after_keep, put_parked, let_go, ran_a_tick, after_tick, used_ms, after_reweigh, after_own_weight}
 use Rattle.scx_sched_world.specs.Waits.{first_overdue}
 use Rattle.scx_sched_world.specs.Helpers.{weight_at, group_at}
@@ -65,15 +65,9 @@ module _ (h : Hidden) where
   pub group_same : (w : WorldState) (t : ℕ) → group_at w t ≡ group_at (hide h w) t
   group_same w t = ap (λ (b : Bool). cond b (tree.home_of w.tree t) 0) (known w t)
 
-  free_same : (n : ℕ) (w : WorldState) → free_below n w ≡ free_below n (hide h w)
-  free_same zero w = refl
-  free_same (suc n) w = ap (λ (o : Option ℕ). or_this o (this_if (is_free w n) n)) (free_same n w)
-
   -- the processor that is free for a task, if one is
   free_choice_same : (w : WorldState) (t : ℕ) → free_choice w t ≡ free_choice (hide h w) t
-  free_choice_same w t =
-      ap (λ (c : ℕ). cond (is_free w c) (Some c) (first_free w)) (read (λ x. x.prev_cpu) (λ x. refl) w t)
-      ∙ ap (λ (o : Option ℕ). cond (is_free w (task_at (hide h w) t).prev_cpu) (Some (task_at (hide h w) t).prev_cpu) o) (free_same (length w.cpus) w)
+  free_choice_same w t = ap (λ (c : ℕ). cond (is_free_for w t c) (Some c) (lowest_cpu w (is_free_for w t))) (read (λ x. x.prev_cpu) (λ x. refl) w t)
 
   -- the processor that is chosen, if one is
   pub chosen_same : (w : WorldState) (t : ℕ) → choice w t ≡ choice (hide h w) t
@@ -156,13 +150,13 @@ module _ (h : Hidden) where
           ∙ ap (λ (r : Rank). hide h (with_queues (with_task (hide h w) t (task_after_insert (task_at (hide h w) t) i)) (after_push w.queues i.queue t r))) (rank_same i.rank w)
 
   -- a task is brought from one queue to a local one
-  pub hides_brought : (o : Option ℕ) (q c : ℕ) → Hides (λ w. brought o w q c)
-  hides_brought None q c w = plain w
-  hides_brought (Some t) q c w = hides_local c t (with_queues w (after_pop w.queues q))
+  pub hides_brought : (o : Option ℕ) (c : ℕ) → Hides (λ w. brought o w c)
+  hides_brought None c w = plain w
+  hides_brought (Some t) c w = hides_local c t (after_leave w t)
 
   -- a local queue that is empty is filled
   pub hides_fill : (q c : ℕ) → Hides (λ w. after_fill w q c)
-  hides_fill q c w = hides_brought (fill_front w q c) q c w
+  hides_fill q c w = hides_brought (fill_front w q c) c w
 
   -- a task leaves its processor
   pub hides_stop : (c t : ℕ) → Hides (λ w. after_stop w c t)

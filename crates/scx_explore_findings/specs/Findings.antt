@@ -1,10 +1,10 @@
 -- Findings: the ends of a list of events that a search looks for.
-use Rattle.std.specs.Prelude.{◌≡◌, ℕ, ℤ, ◌+◌, ◌-◌, ◌≤◌, ◌==◌, ◌||◌, ◌&&◌, Bool, true, false, List, [], ◌∷◌, ◌++◌, length, nat_lt, ◌<◌, slice_index, slice_index_or, Option, Some, None, option_map, unwrap_or, if◌then◌else◌}
+use Rattle.std.specs.Prelude.{◌≡◌, ℕ, ℤ, ◌+◌, ◌-◌, ◌==◌, ◌||◌, ◌&&◌, Bool, true, false, List, [], ◌∷◌, ◌++◌, length, nat_lt, ◌<◌, slice_index, slice_index_or, Option, Some, None, option_map, unwrap_or, if◌then◌else◌}
 use Rattle.scx_isa_semantics.specs.declared.callbacks.Callback.{Callback}
 use Rattle.scx_dsq.specs.Queues.{queue_of}
 use Rattle.scx_sched_world.specs.Faults.{fault_number}
 use Rattle.scx_sched_world.specs.Ids.{policy_end, global, held_queue, parked_queue}
-use Rattle.scx_sched_world.specs.World.{WorldState, is_by_linux, running, waits, wait}
+use Rattle.scx_sched_world.specs.World.{WorldState, is_by_linux, may_run, running, waits, wait}
 use Rattle.scx_sched_world.specs.declared.eject.Eject.{Eject}
 use Rattle.scx_sched_world.specs.declared.eject.Eject.TheVariants as cause
 use Rattle.scx_sched_world.specs.declared.faults.Fault as faults
@@ -28,10 +28,10 @@ use Rattle.scx_explore_findings.specs.declared.finding.Finding.TheVariants as fi
 -- the place of a sort among those that are told: faults by their numbers, and four after them
 abbrev pub sort_number : Sort → ℕ
 sort_number (sort.Fault f) = fault_number f
-sort_number sort.Stall = 9
-sort_number sort.Idle = 10
-sort_number sort.Overtaken = 11
-sort_number sort.Exit = 12
+sort_number sort.Stall = 10
+sort_number sort.Idle = 11
+sort_number sort.Overtaken = 12
+sort_number sort.Exit = 13
 
 -- of which sort a finding is, if it is of one
 abbrev pub sort_of : Finding → Option Sort
@@ -78,23 +78,23 @@ abbrev pub is_left : Bool → Option ℕ → Bool
 is_left leaves None = false
 is_left leaves (Some q) = nat_lt q policy_end || (q == held_queue || (leaves && q == global))
 
--- the task waits while an idle processor leaves it
-abbrev pub waits_left : WorldState → ℕ → Bool
-waits_left w t = is_left (leaves_global w) (queue_of w.queues t)
+-- the task waits, and may run on that processor, which leaves it while it is idle
+abbrev pub waits_left : WorldState → ℕ → ℕ → Bool
+waits_left w c t = is_left (leaves_global w) (queue_of w.queues t) && may_run w t c
 
--- the first task that is left so, or none is
-abbrev pub IsFirstLeft : WorldState → Option ℕ → Type 0
-IsFirstLeft w None = (u : ℕ) → u < length w.tasks → waits_left w u ≡ false
-IsFirstLeft w (Some t) = (t < length w.tasks) × (waits_left w t ≡ true)
-    × ((u : ℕ) → u < t → waits_left w u ≡ false)
+-- the first task that the processor leaves so, or it leaves none
+abbrev pub IsFirstLeft : WorldState → ℕ → Option ℕ → Type 0
+IsFirstLeft w c None = (u : ℕ) → u < length w.tasks → waits_left w c u ≡ false
+IsFirstLeft w c (Some t) = (t < length w.tasks) × (waits_left w c t ≡ true)
+    × ((u : ℕ) → u < t → waits_left w c u ≡ false)
 
--- after a tick that leaves its CPU idle the first task that is left waiting is told;
--- after any other event, or where no task waits so, nothing is
+-- after a tick that leaves its CPU idle the first task is told that waits and may run there; after
+-- any other event, or where no task waits so, nothing is
 abbrev pub IsIdleBehind : SimState → Event → Option Finding → Type 0
 IsIdleBehind s e None =
-    (c : ℕ) → e ≡ Tick c → running s.state.world c ≡ None → IsFirstLeft s.state.world None
+    (c : ℕ) → e ≡ Tick c → running s.state.world c ≡ None → IsFirstLeft s.state.world c None
 IsIdleBehind s e (Some (finding.Idle c t)) = (e ≡ Tick c) × (running s.state.world c ≡ None)
-    × IsFirstLeft s.state.world (Some t)
+    × IsFirstLeft s.state.world c (Some t)
 IsIdleBehind s e (Some (finding.Fault f)) = ⊥
 IsIdleBehind s e (Some (finding.Stall t)) = ⊥
 IsIdleBehind s e (Some (finding.Overtaken p)) = ⊥
@@ -164,13 +164,13 @@ pub record EndsInExit (s : SimState) (events : List Event) (n : ℤ) : Type 0 wh
   pub ejected : IsEjectedAt s events at (cause.Exit n clock)
   pub last : at + 1 ≡ length events
 
--- the last event is a tick that leaves its processor idle, while the task is left waiting; the
--- policy is in force
+-- the last event is a tick that leaves its processor idle, while the task, which may run there, is
+-- left waiting; the policy is in force
 pub record EndsIdle (s : SimState) (events : List Event) (c t : ℕ) : Type 0 where
   pub force : IsInForceFor s events (length events)
   pub last : IsLast events (Tick c)
   pub idle : running (stepped_all s events).state.world c ≡ None
-  pub left : waits_left (stepped_all s events).state.world t ≡ true
+  pub left : waits_left (stepped_all s events).state.world c t ≡ true
 
 -- what comes of the list is an ejection for that fault by its last event, of `count`
 abbrev pub IsFaultAtEnd : Outcome → ℕ → faults.Fault → Type 0

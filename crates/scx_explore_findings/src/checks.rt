@@ -35,7 +35,7 @@ pub fn exit_of(sim: &Sim) -> Option<i64>
     }
 }
 
-/// A task that is left waiting while that event, a tick, has left its processor idle, if there is one.
+/// A task that is left waiting while that event, a tick, has left a processor idle on which it may run, if there is one.
 #[tactic(auto, using(crate::proofs::IdleCpus::busy, crate::proofs::IdleCpus::nobody, crate::proofs::IdleCpus::somebody))]
 pub fn idle_in(sim: &Sim, event: Event) -> Option<Finding>
     ensures { IsIdleBehind sim.now event result }
@@ -46,27 +46,28 @@ pub fn idle_in(sim: &Sim, event: Event) -> Option<Finding>
     if sim.runner(cpu).is_some() {
         return None;
     }
-    let task = first_left(sim)?;
+    let task = first_left(sim, cpu)?;
     Some(Finding::Idle { cpu, task })
 }
 
-/// The first task that is left waiting.
-fn first_left(sim: &Sim) -> Option<u16>
-    ensures { IsFirstLeft sim.now.state.world result }
+/// The first task that the processor leaves waiting.
+fn first_left(sim: &Sim, cpu: u32) -> Option<u16>
+    ensures { IsFirstLeft sim.now.state.world cpu result }
 {
     for task in 0..sim.tasks() {
-        if is_left(sim, task) {
+        if is_left(sim, cpu, task) {
             return Some(task);
         }
     }
     None
 }
 
-/// True if the task waits in a queue of the policy, is held, or is in GLOBAL where an idle CPU leaves it.
-pub(crate) fn is_left(sim: &Sim, task: u16) -> bool
-    ensures { result ≡ waits_left sim.now.state.world task }
+/// True if the task waits in a queue of the policy, is held, or is in GLOBAL where an idle CPU leaves it, and may run on
+/// that CPU.
+pub(crate) fn is_left(sim: &Sim, cpu: u32, task: u16) -> bool
+    ensures { result ≡ waits_left sim.now.state.world cpu task }
 {
-    is_left_in(leaves_global(sim), sim.world().queue_of(task))
+    is_left_in(leaves_global(sim), sim.world().queue_of(task)) && sim.world().may_run(task, cpu)
 }
 
 fn is_left_in(leaves_global: bool, queue: Option<u64>) -> bool

@@ -18,8 +18,8 @@ pub enum Sort {
     Fault(Fault),
     /// The policy is ejected because a task waited too long.
     Stall,
-    /// A processor is idle after its own tick, while a task waits in a queue of the policy or is held, or, under Linux
-    /// rules, is in GLOBAL.
+    /// A processor is idle after its own tick, while a task that may run there waits in a queue of the policy or is held,
+    /// or, under Linux rules, is in GLOBAL.
     Idle,
     /// A task waits while another of its group began to run twice.
     Overtaken,
@@ -28,7 +28,7 @@ pub enum Sort {
 }
 
 /// All sorts, in the order in which they are told.
-pub const SORTS: [Sort; 13] = [
+pub const SORTS: [Sort; 14] = [
     Sort::Fault(Fault::Stuck),
     Sort::Fault(Fault::NoSuchQueue),
     Sort::Fault(Fault::CannotInsert),
@@ -38,6 +38,7 @@ pub const SORTS: [Sort; 13] = [
     Sort::Fault(Fault::UnknownFlag),
     Sort::Fault(Fault::CannotCreate),
     Sort::Fault(Fault::IdleUntracked),
+    Sort::Fault(Fault::NotAllowed),
     Sort::Stall,
     Sort::Idle,
     Sort::Overtaken,
@@ -51,7 +52,7 @@ pub enum Finding {
     Fault(Fault),
     /// The policy is ejected because that task waited too long.
     Stall(u16),
-    /// The CPU is left idle by its own tick, while the task waits.
+    /// The CPU is left idle by its own tick, while the task waits and may run there.
     Idle {
         cpu: u32,
         task: u16,
@@ -79,10 +80,10 @@ impl Sort {
     {
         match self {
             Sort::Fault(fault) => fault.number(),
-            Sort::Stall => 9,
-            Sort::Idle => 10,
-            Sort::Overtaken => 11,
-            Sort::Exit => 12,
+            Sort::Stall => 10,
+            Sort::Idle => 11,
+            Sort::Overtaken => 12,
+            Sort::Exit => 13,
         }
     }
 }

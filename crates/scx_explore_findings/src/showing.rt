@@ -83,7 +83,7 @@ fn ends_idle(sim: &mut Sim, events: &[Event], cpu: u32, task: u16) -> bool
     is_in_force(outcome)
         && is_last(events, Event::Tick(cpu))
         && sim.runner(cpu).is_none()
-        && is_left(sim, task)
+        && is_left(sim, cpu, task)
 }
 
 #[tactic(auto, using(crate::proofs::Ending::twice_at_end, crate::proofs::Ending::all_done))]

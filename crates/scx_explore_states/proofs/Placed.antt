@@ -4,6 +4,7 @@ use Rattle.std.specs.Prelude.{Contains}
 use Rattle.std.proofs.lemmas.Bool.{cases_eq}
 use Rattle.std.proofs.lemmas.List.{take_all}
 use Rattle.scx_sched_world.specs.World.{WorldState}
+use Rattle.scx_sched_world.specs.Helpers.{cpus_of}
 use Rattle.scx_explore_states.specs.declared.form.Form.{Form}
 use Rattle.scx_explore_states.specs.declared.rows.Row.{Row}
 use Rattle.scx_explore_states.specs.Written.{IsFair, home_at, own_order, task_in}
@@ -66,5 +67,5 @@ own_fair f w order is =
     (record {
       names = λ told. refl;
       whole = λ t few. contains_at own_order t t 0 few (own_values t few);
-      homes = λ p few. ap (λ (t : ℕ). home_at w t) (own_tasks p few);
+      alike = λ p few. (ap (λ (t : ℕ). home_at w t) (own_tasks p few), ap (λ (t : ℕ). cpus_of w t) (own_tasks p few));
     })

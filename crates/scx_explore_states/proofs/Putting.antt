@@ -75,6 +75,15 @@ row_parts f r old xs ys zs new first second third last =
     ∙ (ap (λ (l : List ℕ). l ++ kept_word f.run_ns r.run_ns) (third ∙ (ap (λ (l : List ℕ). l ++ kept_word f.vtime r.vtime) (second ∙ ap (λ (l : List ℕ). l ++ kept_word f.keys r.key) first)))
     ∙ four old (r.slice ∷ []) (kept_word f.keys r.key) (kept_word f.vtime r.vtime) (kept_word f.run_ns r.run_ns))
 
+-- the clock, how many pushes there were, and the random number
+pub time_parts : (f : Form) (w : WorldState) (c p r : ℕ) (old xs ys new : List ℕ) → c ≡ w.clock → p ≡ w.queues.pushes → r ≡ w.random → xs ≡ old ++ kept_word f.clock c → ys ≡ xs ++ kept_word f.pushes p → new ≡ ys ++ kept_word f.random r → new ≡ old ++ time_words f w
+time_parts f w c p r old xs ys new now many drawn first second last =
+    behind xs ys new (kept_word f.pushes p) (kept_word f.random r) last second
+    ∙ behind old xs (xs ++ (kept_word f.pushes p ++ kept_word f.random r)) (kept_word f.clock c) (kept_word f.pushes p ++ kept_word f.random r) (λ i. xs ++ (kept_word f.pushes p ++ kept_word f.random r)) first
+    ∙ (ap (λ (k : ℕ). old ++ (kept_word f.clock k ++ (kept_word f.pushes p ++ kept_word f.random r))) now
+    ∙ (ap (λ (k : ℕ). old ++ (kept_word f.clock w.clock ++ (kept_word f.pushes k ++ kept_word f.random r))) many
+    ∙ ap (λ (k : ℕ). old ++ (kept_word f.clock w.clock ++ (kept_word f.pushes w.queues.pushes ++ kept_word f.random k))) drawn))
+
 -- five parts behind others
 five : (o ps qs rs ts us : List ℕ) → ((((o ++ ps) ++ qs) ++ rs) ++ ts) ++ us ≡ o ++ (ps ++ (qs ++ (rs ++ (ts ++ us))))
 five o ps qs rs ts us = append_assoc (((o ++ ps) ++ qs) ++ rs) ts us ∙ four o ps qs rs (ts ++ us)

@@ -6,7 +6,7 @@ use Rattle.scx_weights.specs.Hierarchy.{Hierarchy}
 use Rattle.scx_weights.specs.Limits.{usage_of, has_quota}
 use Rattle.scx_sched_world.specs.CpuSets.{is_in_set}
 use Rattle.scx_sched_world.specs.World.{WorldState, are_linux, is_free}
-use Rattle.scx_sched_world.specs.Helpers.{group_at, alarm_at}
+use Rattle.scx_sched_world.specs.Helpers.{group_at, cpus_of, alarm_at}
 use Rattle.scx_sched_world.specs.declared.timers.Alarm.{Alarm}
 use Rattle.scx_sched_machine.specs.Steps.{State}
 use Rattle.scx_sched.specs.Sim.{SimState}
@@ -52,12 +52,16 @@ row_in rows order p = slice_index_or rows (task_in order p) no_row
 abbrev pub home_at : WorldState → ℕ → ℕ
 home_at w t = if nat_lt t (length w.tasks) then group_at w t else 18446744073709551615
 
--- each of the first eight tasks is at some place, and tasks of a group may have changed places;
--- they haven't where the form tells them apart
+-- two tasks are of one group, and may run on the same processors
+abbrev pub AreAlike : WorldState → ℕ → ℕ → Type 0
+AreAlike w t u = (home_at w t ≡ home_at w u) × (cpus_of w t ≡ cpus_of w u)
+
+-- each of the first eight tasks is at some place, and tasks of a group that may run on the same
+-- processors may have changed places; they haven't where the form tells them apart
 pub record IsFair (f : Form) (w : WorldState) (order : List ℕ) : Type 0 where
   pub names : f.names ≡ true → order ≡ own_order
   pub whole : (t : ℕ) → t < 8 → Contains order t
-  pub homes : (p : ℕ) → p < 8 → home_at w (task_in order p) ≡ home_at w p
+  pub alike : (p : ℕ) → p < 8 → AreAlike w (task_in order p) p
 
 -- ---- the parts of a state
 
@@ -78,9 +82,11 @@ abbrev pub rows_words : Form → List Row → List ℕ → ℕ → List ℕ
 rows_words f rows order zero = []
 rows_words f rows order (suc n) = rows_words f rows order n ++ row_words f (row_in rows order n)
 
--- the clock and how many pushes there were
+-- the clock, how many pushes there were, and from which number the next random one is made
 abbrev pub time_words : Form → WorldState → List ℕ
-time_words f w = kept_word f.clock w.clock ++ kept_word f.pushes w.queues.pushes
+time_words f w =
+    kept_word f.clock w.clock
+    ++ (kept_word f.pushes w.queues.pushes ++ kept_word f.random w.random)
 
 -- what the first n groups have used
 abbrev pub used_words : Hierarchy → ℕ → List ℕ

@@ -25,6 +25,8 @@ pub struct Form {
     pub vtime: bool,
     /// The run times of tasks.
     pub run_ns: bool,
+    /// The number from which the next random one is made.
+    pub random: bool,
     /// The numbers of tasks, by which those of a group are told apart.
     pub names: bool,
     /// The weights of groups and tasks. A machine doesn't tell them: a search whose lists set weights keeps the last ones,
@@ -42,6 +44,7 @@ impl Form {
         keys: true,
         vtime: true,
         run_ns: true,
+        random: true,
         names: true,
         weights: true,
     };
@@ -53,6 +56,7 @@ impl Form {
             + tasks * self.task_words()
             + usize::from(self.clock)
             + usize::from(self.pushes)
+            + usize::from(self.random)
             + usage_words(sim)
             + rules_words(sim)
             + sim.maps().bytes().len().div_ceil(8)

@@ -1,8 +1,8 @@
 ghost use Rattle.std.specs.Prelude.{ℕ, ◌≡◌, ◌+◌, ◌*◌, ◌/◌, ◌<◌, ◌≤◌, ◌∷◌, ◌++◌, [], true, length, Contains, IfSome};
-ghost use Rattle.scx_sched_world.specs.Helpers.{alarm_at};
+ghost use Rattle.scx_sched_world.specs.Helpers.{alarm_at, cpus_of};
 ghost use Rattle.scx_explore_states.specs.Rows.{entries_of};
 ghost use Rattle.scx_explore_states.specs.Words.{number_in};
-ghost use Rattle.scx_explore_states.specs.Written.{AreKnown, IsFair, IsWritten, alarm_words, byte_words, cpu_of_alarm, eight_at, flags_word, flags_words, home_at, joined, kept_word, linux_words, own_order, past_tick, row_in, row_words, rows_words, rules_words, spot_words, state_words, task_in, task_words, time_words, timer_words, until_due, usage_words, used_words, word_of};
+ghost use Rattle.scx_explore_states.specs.Written.{AreAlike, AreKnown, IsFair, IsWritten, alarm_words, byte_words, cpu_of_alarm, eight_at, flags_word, flags_words, home_at, joined, kept_word, linux_words, own_order, past_tick, row_in, row_words, rows_words, rules_words, spot_words, state_words, task_in, task_words, time_words, timer_words, until_due, usage_words, used_words, word_of};
 
 use crate::form::{Form, MOST_TASKS};
 use crate::order::Order;
@@ -176,6 +176,7 @@ impl Form {
         put_kept(self.run_ns, row.run_ns, words)
     }
 
+    #[tactic(auto, using(crate::proofs::Putting::time_parts))]
     fn put_times(self, sim: &Sim, words: &mut Vec<u64>) -> bool
         ensures { result ≡ true → words.new.items
             ≡ words.old.items ++ time_words self sim.now.state.world }
@@ -184,11 +185,15 @@ impl Form {
         if !put_kept(self.clock, clock, words) {
             return false;
         }
-        put_kept(self.pushes, pushes, words)
+        if !put_kept(self.pushes, pushes, words) {
+            return false;
+        }
+        let random = sim.world().random();
+        put_kept(self.random, random, words)
     }
 
-    /// True if each task is at its own place; or somewhere, at its own place or at that of another one of its group,
-    /// where tasks aren't told apart.
+    /// True if each task is at its own place; or somewhere, at its own place or at that of one that is like it, where
+    /// tasks aren't told apart.
     fn is_fair(self, sim: &Sim, order: &TaskOrder) -> bool
         ensures { result ≡ true → IsFair self sim.now.state.world order.now }
     {
@@ -201,7 +206,7 @@ impl Form {
         if !is_whole(order) {
             return false;
         }
-        keeps_homes(sim, order)
+        are_alike(sim, order)
     }
 }
 
@@ -482,25 +487,24 @@ fn has(order: &[u8], task: u8) -> bool
     false
 }
 
-/// True if each task is at its own place or at that of another one of its group.
-fn keeps_homes(sim: &Sim, order: &TaskOrder) -> bool
+/// True if each task is at its own place or at that of another one of its group that may run on the same CPUs.
+fn are_alike(sim: &Sim, order: &TaskOrder) -> bool
     ensures { result ≡ true → (p : ℕ) → p < 8
-        → home_at sim.now.state.world (task_in order.now p) ≡ home_at sim.now.state.world p }
+        → AreAlike sim.now.state.world (task_in order.now p) p }
 {
     for place in 0..8u16 {
-        if !keeps_home(sim, order, place) {
+        if !is_alike(sim, order, place) {
             return false;
         }
     }
     true
 }
 
-fn keeps_home(sim: &Sim, order: &TaskOrder, place: u16) -> bool
-    ensures { result ≡ true → home_at sim.now.state.world (task_in order.now place)
-        ≡ home_at sim.now.state.world place }
+fn is_alike(sim: &Sim, order: &TaskOrder, place: u16) -> bool
+    ensures { result ≡ true → AreAlike sim.now.state.world (task_in order.now place) place }
 {
     let task = task_in(order, usize::from(place)) as u16;
-    home_at(sim, task) == home_at(sim, place)
+    home_at(sim, task) == home_at(sim, place) && cpus_of(sim, task) == cpus_of(sim, place)
 }
 
 /// The group of a task; a number that no group has where there is no such task.
@@ -512,4 +516,11 @@ pub(crate) fn home_at(sim: &Sim, task: u16) -> u64
     } else {
         u64::MAX
     }
+}
+
+/// The CPUs on which the task may run, one bit each.
+pub(crate) fn cpus_of(sim: &Sim, task: u16) -> u64
+    ensures { result ≡ cpus_of sim.now.state.world task }
+{
+    sim.world().load(TaskId(task), Field::Cpus)
 }

@@ -12,13 +12,15 @@ pub record BeginsWith (xs ys : List Event) : Type 0 where
   pub rest : List Event
   pub list : xs ≡ ys ++ rest
 
--- both workloads have as many processors, the same groups, and the same tasks in them, each of the same
--- weight
+-- both workloads have as many processors, the same groups, and the same tasks in them, each of the
+-- same weight and with the same mask, and their random numbers begin at the same seed
 pub record HasSameParts (v w : WorkloadState) : Type 0 where
   pub cpus : v.cpus ≡ w.cpus
+  pub seed : v.seed ≡ w.seed
   pub groups : v.groups ≡ w.groups
   pub homes : v.homes ≡ w.homes
   pub own_weights : v.own_weights ≡ w.own_weights
+  pub masks : v.masks ≡ w.masks
 
 -- the first workload has the parts of the second one, and its events, for that machine, begin with
 -- the list

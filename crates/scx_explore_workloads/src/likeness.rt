@@ -5,14 +5,16 @@ ghost use Rattle.scx_explore_workloads.specs.Files.{HasSameParts};
 use scx_load_workloads::Workload;
 use scx_weights::Group;
 
-/// True if both have the same CPUs, groups and tasks in groups, and each task the same weight.
+/// True if both have the same CPUs, seed, groups and tasks in groups, and each task the same weight and mask.
 pub(crate) fn has_same_parts(file: &Workload, workload: &Workload) -> bool
     ensures { result ≡ true → HasSameParts file.now workload.now }
 {
     file.cpus() == workload.cpus()
+        && file.seed() == workload.seed()
         && are_same_groups(file.groups(), workload.groups())
         && file.tasks() == workload.tasks()
         && file.own_weights() == workload.own_weights()
+        && file.masks() == workload.masks()
 }
 
 #[tactic(auto, using(crate::proofs::Same::same_lists))]

@@ -1,6 +1,6 @@
 use crate::drafts::Drafts;
 use itoa::Buffer;
-use scx_load_workloads::{Timing, Workload};
+use scx_load_workloads::{MAX_CPUS, Timing, Workload};
 use scx_weights::{DEFAULT_PERIOD_MS, Group};
 use std::alloc::{AllocError, Global};
 
@@ -16,9 +16,21 @@ pub(crate) fn text_of(
     let mut text = String::new(alloc);
     put_number(&mut text, "cpus", workload.cpus())?;
     put_number(&mut text, "ms", drafts.ms())?;
+    put_seed(&mut text, workload.seed())?;
     put_groups(&mut text, workload)?;
     put_tasks(&mut text, workload, drafts)?;
     Ok(text)
+}
+
+/// Adds the seed, where it isn't that of a workload that names none.
+fn put_seed(text: &mut String, seed: u64) -> Result<(), AllocError> {
+    if seed == 0 {
+        return Ok(());
+    }
+    let mut digits = Buffer::new();
+    text.push_str("seed = ")?;
+    text.push_str(digits.format(seed))?;
+    text.push_str("\n")
 }
 
 fn put_groups(text: &mut String, workload: &Workload) -> Result<(), AllocError> {
@@ -87,6 +99,7 @@ fn put_task(
     put_text(text, "name", task_name(workload, number))?;
     put_text(text, "group", group_name(workload, home))?;
     put_own_weight(text, workload, number)?;
+    put_cpus(text, workload, number)?;
     put_timing(text, drafts.timing(number))
 }
 
@@ -96,6 +109,45 @@ fn put_own_weight(text: &mut String, workload: &Workload, task: u16) -> Result<(
         Some(weight) if *weight != DEFAULT_WEIGHT => put_number(text, "weight", *weight),
         _ => Ok(()),
     }
+}
+
+/// Adds the CPUs of a task that may not run on all.
+fn put_cpus(text: &mut String, workload: &Workload, task: u16) -> Result<(), AllocError> {
+    match workload.masks().get(usize::from(task)) {
+        Some(mask) if mask.count_ones() != workload.cpus() => put_mask(text, *mask),
+        _ => Ok(()),
+    }
+}
+
+/// Adds a line with the CPUs of a mask: each run of them as its first and its last.
+fn put_mask(text: &mut String, mask: u64) -> Result<(), AllocError> {
+    text.push_str("cpus = \"")?;
+    let mut before = "";
+    for cpu in 0..MAX_CPUS {
+        if begins(mask, cpu) {
+            text.push_str(before)?;
+            put_digits(text, cpu)?;
+            before = ",";
+        } else if ends(mask, cpu) {
+            text.push_str("-")?;
+            put_digits(text, cpu)?;
+        }
+    }
+    text.push_str("\"\n")
+}
+
+/// True if the CPU is the first of a run of a mask's CPUs.
+fn begins(mask: u64, cpu: u32) -> bool {
+    has(mask, cpu) && (cpu == 0 || !has(mask, cpu - 1))
+}
+
+/// True if the CPU is the last of a run of a mask's CPUs.
+fn ends(mask: u64, cpu: u32) -> bool {
+    has(mask, cpu) && !has(mask, cpu.saturating_add(1))
+}
+
+fn has(mask: u64, cpu: u32) -> bool {
+    cpu < MAX_CPUS && mask >> cpu & 1 == 1
 }
 
 /// Adds a task's times that aren't 0.

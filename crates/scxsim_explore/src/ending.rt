@@ -34,6 +34,7 @@ pub(crate) fn write_end<W: Out>(
         mode: course.bounds.mode,
         may_exit: may_exit(begun.machines.first()),
         tracks_idle: tracks_idle(begun.starts, begun.machines.first()),
+        are_bound: begun.machines.first().world().binds(),
     };
     let count = gather_unfound(&begun.search, asked, &mut places);
     let unfound = Unfound {
@@ -72,6 +73,8 @@ struct Asked {
     may_exit: bool,
     /// True if the host tracks idle CPUs, so that no callback asks it in vain.
     tracks_idle: bool,
+    /// True if tasks are bound to CPUs.
+    are_bound: bool,
 }
 
 /// True if a callback may end the policy: Linux rules alone know that helper.
@@ -115,6 +118,7 @@ fn put(places: &mut [Sort], count: usize, sort: Sort) -> usize {
 fn is_sought(sort: Sort, asked: Asked) -> bool {
     match sort {
         Sort::Fault(Fault::IdleUntracked) => !asked.tracks_idle,
+        Sort::Fault(Fault::NotAllowed) => asked.are_bound,
         Sort::Fault(_) | Sort::Idle => true,
         Sort::Stall => asked.mode != Mode::Events,
         Sort::Overtaken => false,
