@@ -9,13 +9,15 @@ use Rattle.scx_sched_world.specs.Ejecting.{eject_of}
 use Rattle.scx_sched_machine.specs.declared.events.Event.{Event}
 use Rattle.scx_sched_machine.specs.Hearing.{Hears}
 use Rattle.scx_sched_machine.specs.Steps.{CallMade}
-use Rattle.scx_sched_machine.specs.Policy.{PolicyState}
+use Rattle.scx_sched_machine.specs.Policy.{PolicyState, with_seed}
 use Rattle.scx_sched.specs.Causes.{IsLast, IsCause, Waited, Went_wrong, Ended, EjectsOnce}
 use Rattle.scx_sched_machine.specs.Start.{first_state, IsRefusal, start_calls, calls_before}
 use Rattle.scx_sched_machine.specs.declared.start.NewError.{NewError}
 use Rattle.scx_sched_machine.specs.declared.start.NewError.TheVariants as start
 use Rattle.scx_sched.specs.Sim.{SimState, IsFirstState, after_event, calls_of}
 use Rattle.scx_weights.specs.Hierarchy.{Hierarchy}
+use Rattle.scx_load_policies.specs.Policies.{PolicyFile}
+use Rattle.scx_load_policies.specs.Building.{IsBuilt}
 use Rattle.scx_load_driver.specs.Driver.{DriverState, remaining}
 use Rattle.scx_load_driver.specs.Events.{workload_events}
 use Rattle.scx_load_workloads.specs.Workload.{WorkloadState, first_tree}
@@ -145,8 +147,24 @@ at_start policy w tree cpus (start.InitFailed n) f g (Ok (Some p)) same count re
 at_start policy w tree cpus start.BadShape f g (Ok (Some p)) same count refused empty hears none kept = let bad : Some p ≡ None = none refl in absurd (cc)
 at_start policy w tree cpus start.OutOfMemory f g (Ok (Some p)) same count refused empty hears none kept = let bad : Some p ≡ None = none refl in absurd (cc)
 
+-- the policy of a file stays that where its random numbers begin at a seed
+pub built_seeded : (text : PolicyFile) (p : PolicyState) (n : ℕ) → IsBuilt text p → IsBuilt text (with_seed p n)
+built_seeded text p n b = record {
+  shapes = b.shapes;
+  timeout = b.timeout;
+  rules = b.rules;
+  ticks = b.ticks;
+  idle = b.idle;
+  timers = b.timers;
+  programs = b.programs;
+  accepted = b.accepted;
+  as_callbacks = b.as_callbacks;
+  for_maps = b.for_maps;
+  by_rules = b.by_rules;
+}
+
 -- of the policy that a text stands for
-pub under_text : {E : Type 0} (text : List ℕ) (policy : Option PolicyState) (w : WorkloadState) (r : Result (Option FaultPlace) E) → IfSome policy (IsPolicyOf text)
+pub under_text : {E : Type 0} (text : List ℕ) (policy : Option PolicyState) (w : WorkloadState) (r : Result (Option FaultPlace) E) → IfSome policy (IsPolicyOf text w.seed)
     → IfOk r (λ o. IfSome o (IsUnderAny policy w)) → IfOk r (λ o. IfSome o (IsPlaceFound text w))
 under_text text None w r reads there = if_found_in (IsUnderAny None w) (IsPlaceFound text w) r (λ p x. absurd x) there
 under_text text (Some policy) w r reads there = if_found_in (IsPlaceUnder policy w) (IsPlaceFound text w) r (λ p x. record { policy = policy; reads = reads; there = x }) there

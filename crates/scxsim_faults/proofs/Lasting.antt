@@ -1,7 +1,6 @@
 -- The first fault or exit of a callback stays its first one, and a run can go one way only.
 use Rattle.std.proofs.Common.{◌≡◌, ℕ, zero, suc, ◌+◌, ◌-◌, ◌≤◌, ◌||◌, nat_lt, List, length, map, Option, Some, None, is_none, refl, sym, ap, ◌∙◌, subst, arith}
 use Rattle.std.specs.Int.{w64, cast_signed}
-use Rattle.scx_dsq.specs.Queues.{front_of}
 use Rattle.scx_dsq.specs.Calls.{after_push}
 use Rattle.scx_isa_semantics.specs.declared.callbacks.Callback.{Callback}
 use Rattle.scx_isa_semantics.specs.declared.host_tables.Helper.{Helper}
@@ -19,8 +18,8 @@ use Rattle.scx_sched_world.specs.declared.eject.Cause.TheVariants as reason
 use Rattle.scx_sched_world.specs.declared.kicks.Kick.{Kick}
 use Rattle.scx_sched_world.specs.declared.kicks.Kick.TheVariants.{Any, IfIdle, Preempt}
 use Rattle.scx_sched_world.specs.World.{WorldState, with_queues, with_kick, is_by_linux, task_at, with_task, running, is_this, after_claim}
-use Rattle.scx_sched_world.specs.Tasks.{after_leave, homed, homed_at, local_cpu, task_after_insert, rank_by, after_preempt_of, after_preempt_at, after_preempt, after_enter, for_cpu}
-use Rattle.scx_sched_world.specs.Helpers.{with_cause, is_dispatch, with_insert, after_release, insert_or_fault, front_moved_to_local, kicked_so, helper_after, world_functions}
+use Rattle.scx_sched_world.specs.Tasks.{after_leave, next_for, homed, homed_at, local_cpu, task_after_insert, rank_by, after_preempt_of, after_preempt_at, after_preempt, after_enter, for_cpu}
+use Rattle.scx_sched_world.specs.Helpers.{with_cause, is_dispatch, with_insert, after_release, insert_or_fault, moved_to_local, kicked_so, helper_after, world_functions}
 use Rattle.scx_sched_machine.proofs.Choices.{keeps_if}
 use Rattle.scx_sched_machine.proofs.HelperCalls.{by_helper}
 
@@ -65,9 +64,9 @@ module _ (x : Cause) where
   has_inserted : (w : WorldState) (t : Option ℕ) (i : Insert) → Has w → Has (insert_or_fault w None t i)
   has_inserted w t i h = keeps_if Has (is_dispatch w.call.callback) (after_release w t (for_cpu w.call.cpu i)) (with_insert w i) (has_released w t (for_cpu w.call.cpu i) h) h
 
-  has_moved : (w : WorldState) (o : Option ℕ) (q : ℕ) → Has w → Has (front_moved_to_local w o q)
-  has_moved w None q h = h
-  has_moved w (Some t) q h = has_home _ t w.call.cpu h
+  has_moved : (w : WorldState) (o : Option ℕ) → Has w → Has (moved_to_local w o)
+  has_moved w None h = h
+  has_moved w (Some t) h = has_home _ t w.call.cpu h
 
   has_claimed : (w : WorldState) (o : Option ℕ) → Has w → Has (after_claim w o)
   has_claimed w None h = h
@@ -90,7 +89,8 @@ module _ (x : Cause) where
     kicked = λ c k. has_kicked w c k h;
     started = λ n ns. h;
     cancelled = λ n. h;
-    moved = λ q here low. has_moved w (front_of w.queues q) q h;
+    drawn = h;
+    moved = λ q here low. has_moved w (next_for w q w.call.cpu) h;
   }) x a
 
   has_query : (w : WorldState) (q : Query) → Has w → Has (after_query world_functions w q)

@@ -82,7 +82,7 @@ pub told_is : (m : CallMade) (ran : Answered) (w : WorldState) (queues : PolicyQ
 told_is m ran w queues p same ends came exits has told = record {
   callback = told.callback ∙ sym same;
   given = told.given;
-  answered = record { world = w; ends = rw told.answer ends; count = told.cpus; has_queues = subst (λ (q : PolicyQueues). HasQueues m w q) (sym told.queues_are) has };
+  answered = record { world = w; ends = rw told.answer ends; count = told.cpus; allowed = told.allowed; has_queues = subst (λ (q : PolicyQueues). HasQueues m w q) (sym told.queues_are) has };
   cause_at = told_at m ran w p p.call same told.answer told.told_at came exits;
 }
 

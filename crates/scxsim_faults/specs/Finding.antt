@@ -23,7 +23,7 @@ use Rattle.scxsim_faults.specs.declared.finder.Finder.{Finder}
 use Rattle.scxsim_faults.specs.declared.place.FaultPlace.{FaultPlace}
 use Rattle.scxsim_faults.specs.declared.place.HelperCall.{HelperCall}
 use Rattle.scxsim_faults.specs.declared.running.Answered.{Answered}
-use Rattle.scxsim_faults.specs.Places.{IsPlaceOf, IsPlaceUnder}
+use Rattle.scxsim_faults.specs.Places.{allowed_in, IsPlaceOf, IsPlaceUnder}
 
 -- the run came to a call of that helper at that slot, with these values in r1 to r5, by which what
 -- was awaited came about
@@ -57,6 +57,7 @@ pub record IsTold (program : VerifiedProgram) (a : Args) (ran : Answered) (w : W
   pub given : p.given ≡ a.first
   pub answer : p.answer ≡ ran.answer
   pub cpus : p.cpus ≡ length w.cpus
+  pub allowed : p.allowed ≡ allowed_in w p.call
   pub queues_are : p.queues ≡ queues
   pub told_at : IsToldAt program ran w p.cause p.slot p.call
 

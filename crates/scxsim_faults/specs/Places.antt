@@ -1,7 +1,11 @@
 -- The place of a policy's fault or exit: the call of a helper, and the event of the run.
-use Rattle.std.specs.Prelude.{◌≡◌, ℕ, ℤ, ◌≤◌, List, ◌∷◌, ◌++◌, length, take, Option, Some, None, Ok, Err}
+use Rattle.std.specs.Prelude.{◌≡◌, ℕ, ℤ, ◌≤◌, List, ◌∷◌, ◌++◌, length, slice_get, take, Option, Some, None, Ok, Err}
 use Rattle.scx_isa_semantics.specs.declared.callbacks.Callback.TheVariants.{SelectCpu}
 use Rattle.scx_isa_semantics.specs.declared.instructions.Insn.TheVariants as insn
+use Rattle.scx_isa_semantics.specs.declared.values.Pointer.{Pointer}
+use Rattle.scx_isa_semantics.specs.declared.values.Pointer.TheVariants as pointer
+use Rattle.scx_isa_semantics.specs.declared.values.Value.{Value}
+use Rattle.scx_isa_semantics.specs.declared.values.Value.TheVariants as value
 use Rattle.scx_isa_semantics.specs.Code.{at}
 use Rattle.scx_isa_semantics.specs.Elements.{Maps}
 use Rattle.scx_isa_semantics.specs.HostTables.{helper_at}
@@ -18,7 +22,7 @@ use Rattle.scx_sched_world.specs.declared.eject.Cause.TheVariants as reason
 use Rattle.scx_sched_world.specs.declared.faults.Fault.TheVariants.{NoSuchCpu}
 use Rattle.scx_sched_world.specs.Ejecting.{eject_of}
 use Rattle.scx_sched_world.specs.World.{WorldState}
-use Rattle.scx_sched_world.specs.Helpers.{world_functions}
+use Rattle.scx_sched_world.specs.Helpers.{cpus_of, world_functions}
 use Rattle.scx_sched_machine.specs.declared.events.Event.{Event}
 use Rattle.scx_sched_machine.specs.Policy.{PolicyState}
 use Rattle.scx_sched_machine.specs.Start.{first_state, start_calls}
@@ -96,18 +100,36 @@ pub record HasQueues (m : CallMade) (w : WorldState) (queues : PolicyQueues) : T
   pub enough : length (policy_queues m.world) ≤ count
   pub first : listed queues ≡ take count (policy_queues w)
 
--- the callback comes to that answer, in a world with that many CPUs and these queues of the policy
-pub record HasAnswered (m : CallMade) (answer cpus : ℕ) (queues : PolicyQueues) : Type 0 where
+-- the processors on which the task at that pointer may run, one bit each; 0 where it points to no
+-- task
+abbrev pub allowed_at : WorldState → Pointer → ℕ
+allowed_at w (pointer.Task t) = cpus_of w t.0
+allowed_at w p = 0
+
+-- the processors on which a task may run, one bit each; 0 of a value that is no task
+abbrev pub allowed_to : WorldState → Option Value → ℕ
+allowed_to w (Some (value.Pointer p)) = allowed_at w p
+allowed_to w v = 0
+
+-- the processors on which the task may run that a call was given first, one bit each
+abbrev pub allowed_in : WorldState → Option HelperCall → ℕ
+allowed_in w None = 0
+allowed_in w (Some call) = allowed_to w (slice_get call.arguments 0)
+
+-- the callback comes to the place's answer, in a world with as many CPUs and these queues of the
+-- policy, where the task of the call may run on those CPUs
+pub record HasAnswered (m : CallMade) (p : FaultPlace) : Type 0 where
   pub world : WorldState
-  pub ends : EndsIn m answer world
-  pub count : cpus ≡ length world.cpus
-  pub has_queues : HasQueues m world queues
+  pub ends : EndsIn m p.answer world
+  pub count : p.cpus ≡ length world.cpus
+  pub allowed : p.allowed ≡ allowed_in world p.call
+  pub has_queues : HasQueues m world p.queues
 
 -- the place is where the first fault or exit of that callback came
 pub record IsPlaceOf (m : CallMade) (p : FaultPlace) : Type 0 where
   pub callback : p.callback ≡ m.callback
   pub given : p.given ≡ m.arguments.first
-  pub answered : HasAnswered m p.answer p.cpus p.queues
+  pub answered : HasAnswered m p
   pub cause_at : IsCauseAt m p p.call
 
 -- ---- in a run of the machine
@@ -145,14 +167,15 @@ pub data IsPlaceUnder (policy : PolicyState) (w : WorkloadState) (p : FaultPlace
       → IsPlaceIn s (workload_events w s) p → IsPlaceUnder policy w p
   At_start : IsPlaceAtStart policy w p → IsPlaceUnder policy w p
 
--- that is the policy of the text
-pub record IsPolicyOf (text : List ℕ) (policy : PolicyState) : Type 0 where
+-- that is the policy of the text, and its random numbers begin at the seed
+pub record IsPolicyOf (text : List ℕ) (seed : ℕ) (policy : PolicyState) : Type 0 where
   pub file : PolicyFile
   pub read : policy_text text ≡ Ok file
   pub built : IsBuilt file policy
+  pub seeded : policy.seed ≡ seed
 
 -- the place is where the policy of that text was ejected
 pub record IsPlaceFound (text : List ℕ) (w : WorkloadState) (p : FaultPlace) : Type 0 where
   pub policy : PolicyState
-  pub reads : IsPolicyOf text policy
+  pub reads : IsPolicyOf text w.seed policy
   pub there : IsPlaceUnder policy w p

@@ -5,6 +5,7 @@ ghost use Rattle.scx_isa_semantics.specs.Code.{at};
 ghost use Rattle.scx_isa_semantics.specs.HostTables.{helper_at};
 ghost use Rattle.scx_sched_world.specs.declared.eject.Cause.TheVariants as reason;
 ghost use Rattle.scx_sched_world.specs.declared.faults.Fault.TheVariants.{NoSuchCpu};
+ghost use Rattle.scxsim_faults.specs.Places.{allowed_at, allowed_in, allowed_to};
 ghost use Rattle.scxsim_faults.specs.Finding.{IsCallAt, IsToldAt, IsTold, Finds, IsForCause};
 ghost use Rattle.scxsim_faults.specs.declared.finder.Finder.{Finder};
 
@@ -12,12 +13,12 @@ use crate::look::Look;
 use crate::place::{FaultPlace, HelperCall};
 use crate::policy_queues::PolicyQueues;
 use crate::running::{Answered, run_seen};
-use scx_isa::{Callback, Helper, Insn, Program};
+use scx_isa::{Callback, Field, Helper, Insn, Pointer, Program, Value};
 use scx_maps::Maps;
 use scx_sched::{Eject, Fault, Hearer, Note};
 use scx_sched_world::{Cause, World};
 use scx_verify::Verified;
-use scx_vm::Args;
+use scx_vm::{Args, Env};
 use scx_vm_run::Core;
 use scx_vm_tagged::Site;
 
@@ -95,8 +96,39 @@ fn place_of(
         answer: ran.answer,
         given: arguments.first,
         cpus: world.cpus(),
+        allowed: allowed_in(world, told.call),
         queues,
     })
+}
+
+/// The CPUs on which the task may run that a call was given first, one bit each.
+fn allowed_in(world: &World, call: Option<HelperCall>) -> u64
+    ensures { result ≡ allowed_in world.now call }
+{
+    match call {
+        Some(call) => allowed_to(world, call.arguments.first().copied()),
+        None => 0,
+    }
+}
+
+/// The CPUs on which a task may run, one bit each; 0 of a value that is no task.
+fn allowed_to(world: &World, value: Option<Value>) -> u64
+    ensures { result ≡ allowed_to world.now value }
+{
+    match value {
+        Some(Value::Pointer(pointer)) => allowed_at(world, pointer),
+        Some(Value::Unset | Value::Number(_)) | None => 0,
+    }
+}
+
+/// The CPUs on which the task at that pointer may run, one bit each.
+fn allowed_at(world: &World, pointer: Pointer) -> u64
+    ensures { result ≡ allowed_at world.now pointer }
+{
+    match pointer {
+        Pointer::Task(task) => world.load(task, Field::Cpus),
+        Pointer::Stack(_) | Pointer::Map(_) | Pointer::Element { .. } => 0,
+    }
 }
 
 /// The first fault or exit of a callback that ran to that end.

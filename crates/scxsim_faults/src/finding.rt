@@ -31,7 +31,7 @@ pub fn find_fault(
 ) -> Result<Option<FaultPlace>, AllocError>
     ensures { IfOk result (λ found. IfSome found (IsPlaceFound policy.now workload.now)) }
 {
-    let policy = policy_of(alloc, policy)?;
+    let policy = policy_of(alloc, policy, workload.seed())?;
     find_under_any(alloc, policy, workload, clock)
 }
 
@@ -50,27 +50,30 @@ fn find_under_any(
     }
 }
 
-/// Reads and verifies a policy file; none if it is refused.
+/// Reads and verifies a policy file, whose random numbers begin at that seed; none if it is refused.
 ///
 /// # Errors
 ///
 /// Memory runs out.
-pub fn policy_of(alloc: Global, text: &str) -> Result<Option<Policy>, AllocError>
-    ensures { IfOk result (λ policy. IfSome policy (IsPolicyOf text.now)) }
+pub fn policy_of(alloc: Global, text: &str, seed: u64) -> Result<Option<Policy>, AllocError>
+    ensures { IfOk result (λ policy. IfSome policy (IsPolicyOf text.now seed)) }
 {
     match read_policy(alloc, text) {
-        Ok(text) => built(alloc, text),
+        Ok(text) => built(alloc, text, seed),
         Err(LoadError::NoMemory) => Err(AllocError),
         Err(_) => Ok(None),
     }
 }
 
-/// The policy of a file that was read; none if a program of it is refused.
-fn built(alloc: Global, text: PolicyText) -> Result<Option<Policy>, AllocError>
-    ensures { IfOk result (λ policy. IfSome policy (IsBuilt text)) }
+/// The policy of a file that was read, whose random numbers begin at that seed; none if a program of it is
+/// refused.
+#[tactic(auto, using(crate::proofs::Ejected::built_seeded))]
+fn built(alloc: Global, text: PolicyText, seed: u64) -> Result<Option<Policy>, AllocError>
+    ensures built { IfOk result (λ policy. IfSome policy (IsBuilt text)) }
+    ensures seeded { IfOk result (λ policy. IfSome policy (λ p. p.seed ≡ seed)) }
 {
     match build(alloc, text) {
-        Ok(policy) => Ok(Some(policy)),
+        Ok(policy) => Ok(Some(policy.with_seed(seed))),
         Err(BuildError::NoMemory) => Err(AllocError),
         Err(BuildError::Refused { .. }) => Ok(None),
     }

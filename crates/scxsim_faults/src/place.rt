@@ -45,6 +45,8 @@ pub struct FaultPlace {
     pub given: Arg,
     /// The number of CPUs.
     pub cpus: u32,
+    /// The CPUs on which the task may run that the call was given first, one bit each; 0 where it was given none.
+    pub allowed: u64,
     /// The policy's queues before that.
     pub(crate) queues: PolicyQueues,
 }

@@ -155,11 +155,19 @@ fn timer_keys(rules: Rules) -> &'static [&'static str] {
 
 fn workload_keys(rules: Rules, table: Table) -> &'static [&'static str] {
     match table {
-        Table::Top => &["cpus", "ms", "group", "task", "change"],
+        Table::Top => workload_top_keys(rules),
         Table::Group => &["name", "weight", "parent", "cpu_max"],
         Table::Task => task_keys(rules),
         Table::Change => change_keys(rules),
         Table::Map | Table::Timer | Table::Programs => &[],
+    }
+}
+
+/// The keys of a workload above its tables.
+fn workload_top_keys(rules: Rules) -> &'static [&'static str] {
+    match rules {
+        Rules::Plain => &["cpus", "ms", "group", "task", "change"],
+        Rules::Linux => &["cpus", "ms", "seed", "group", "task", "change"],
     }
 }
 
@@ -175,16 +183,24 @@ fn change_keys(rules: Rules) -> &'static [&'static str] {
 fn task_keys(rules: Rules) -> &'static [&'static str] {
     match rules {
         Rules::Plain => &["name", "group", "start", "run", "sleep"],
-        Rules::Linux => &["name", "group", "weight", "start", "run", "sleep"],
+        Rules::Linux => &["name", "group", "weight", "cpus", "start", "run", "sleep"],
     }
 }
 
 fn events_keys(rules: Rules, table: Table) -> &'static [&'static str] {
     match table {
-        Table::Top => &["cpus", "ms", "group", "task", "events"],
+        Table::Top => events_top_keys(rules),
         Table::Group => &["name", "weight", "parent", "cpu_max"],
         Table::Task => listed_task_keys(rules),
         Table::Map | Table::Timer | Table::Programs | Table::Change => &[],
+    }
+}
+
+/// The keys of a file of events above its tables.
+fn events_top_keys(rules: Rules) -> &'static [&'static str] {
+    match rules {
+        Rules::Plain => &["cpus", "ms", "group", "task", "events"],
+        Rules::Linux => &["cpus", "ms", "seed", "group", "task", "events"],
     }
 }
 
@@ -192,7 +208,7 @@ fn events_keys(rules: Rules, table: Table) -> &'static [&'static str] {
 fn listed_task_keys(rules: Rules) -> &'static [&'static str] {
     match rules {
         Rules::Plain => &["name", "group"],
-        Rules::Linux => &["name", "group", "weight"],
+        Rules::Linux => &["name", "group", "weight", "cpus"],
     }
 }
 

@@ -38,7 +38,7 @@ abbrev times : State → Times
 times s = times_of (length s.world.tasks) s.world
 
 like_now : (s : State) → IsLike s.world.tree (times s) (length s.world.cpus) s.world
-like_now s = ((refl, refl, refl, refl), (refl, λ u. omega arith), refl)
+like_now s = ((refl, refl, refl, refl, refl), (refl, λ u. omega arith), refl)
 
 -- a task that isn't there can't sleep
 not_there : (s : State) (t : ℕ) → length s.world.tasks ≤ t → machine.refusal s (event.Sleep t) ≡ Some UnknownTask
@@ -67,7 +67,7 @@ stays_as_large (event.SetWeight g x) s accepted =
     let own = machine.own_step s (event.SetWeight g x) in
     let b = is_none (weight_fault s.world.tree g x) in
     let v = with_tree s.world (with_weight s.world.tree g x) in
-    let alike : IsLike own.state.world.tree (times s) (length s.world.cpus) own.state.world = keeps_if (λ (w : WorldState). IsLike w.tree (times s) (length s.world.cpus) w) b v s.world ((refl, refl, refl, refl), (refl, λ u. omega arith), refl) ((refl, refl, refl, refl), (refl, λ u. omega arith), refl) in
+    let alike : IsLike own.state.world.tree (times s) (length s.world.cpus) own.state.world = keeps_if (λ (w : WorldState). IsLike w.tree (times s) (length s.world.cpus) w) b v s.world ((refl, refl, refl, refl, refl), (refl, λ u. omega arith), refl) ((refl, refl, refl, refl, refl), (refl, λ u. omega arith), refl) in
     let y = like_rounds own.state.world.tree (times s) (length s.world.cpus) own alike in
     (y.1.0, y.2)
 stays_as_large (event.SetTaskWeight t x) s accepted =
@@ -138,6 +138,20 @@ used_weights : (o : Option ℕ) (t : Hierarchy) → (used_at_tick o t).own_weigh
 used_weights None t = refl
 used_weights (Some k) t = refl
 
+-- and their masks
+used_masks : (o : Option ℕ) (t : Hierarchy) → (used_at_tick o t).masks ≡ t.masks
+used_masks None t = refl
+used_masks (Some k) t = refl
+
+-- no event changes masks
+masks_told : (e : Event) (w : WorldState) → (tree_after e w).masks ≡ w.tree.masks
+masks_told (event.Wake t) w = refl
+masks_told (event.Sleep t) w = refl
+masks_told (event.Tick c) w = used_masks (running w c) w.tree
+masks_told event.Clock w = refl
+masks_told (event.SetWeight g x) w = refl
+masks_told (event.SetTaskWeight t x) w = refl
+
 -- an event leaves tasks their own weights, but for the task to which it gives another
 weights_told : (e : Event) (w : WorldState) (own : List ℕ) → w.tree.own_weights ≡ own → (tree_after e w).own_weights ≡ weights_given own e
 weights_told (event.Wake t) w own is = is
@@ -151,16 +165,18 @@ weights_told (event.SetTaskWeight t x) w own is = ap (λ xs. set xs t x) is
 
 module _ (p : PolicyFile) (w : WorkloadState) where
   -- as it begins
-  begins_as : (q : PolicyState) (s : SimState) → IsBuilt p q → first_state q (first_tree w) w.cpus ≡ Ok s.state → IsMachineOf p w w.own_weights s
-  begins_as q s built first =
+  begins_as : (q : PolicyState) (s : SimState) → IsBuilt p q → q.seed ≡ w.seed → first_state q (first_tree w) w.cpus ≡ Ok s.state → IsMachineOf p w w.own_weights s
+  begins_as q s built seeded first =
       let tree = first_tree w in
       let x = like_first q tree w.cpus s.state first in
       record {
         policy = subst (IsBuilt p) (sym (policy_started q tree w.cpus s.state first)) built;
+        seed = ap (λ (r : PolicyState). r.seed) (policy_started q tree w.cpus s.state first) ∙ seeded;
         cpus = x.2;
         tasks = x.1.0;
         tree = has_groups_still w.groups w.homes tree s.state.world.tree x.0.0 x.0.1 (record { count = refl; parents = λ g. refl; quotas = λ g. refl; periods = λ g. refl; tasks = refl });
         weights = x.0.3;
+        masks = x.0.4;
       }
 
   -- after an event
@@ -169,10 +185,12 @@ module _ (p : PolicyFile) (w : WorkloadState) where
       let size = large refl in
       record {
         policy = subst (IsBuilt p) (sym h.0.policy) m.policy;
+        seed = ap (λ (r : PolicyState). r.seed) h.0.policy ∙ m.seed;
         cpus = size.1 ∙ m.cpus;
         tasks = size.0 ∙ m.tasks;
         tree = subst (HasGroups w.groups w.homes) (sym h.0.tree) (has_groups_after w.groups w.homes e s.state.world m.tree);
         weights = ap (λ (t : Hierarchy). t.own_weights) h.0.tree ∙ weights_told e s.state.world own m.weights;
+        masks = ap (λ (t : Hierarchy). t.masks) h.0.tree ∙ masks_told e s.state.world ∙ m.masks;
       }
   goes_on_as (Some r) own s e t large h m = subst (IsMachineOf p w own) (sym h) m
 
@@ -184,9 +202,9 @@ module _ (p : PolicyFile) (w : WorkloadState) where
       (m, stays_as (weights_after (refusal s e) own e) (after_event s e) es next more)
 
   -- in its whole run
-  pub is_that_machine : (q : PolicyState) (s : SimState) (events : List Event) → IsBuilt p q → IsFirstState q (first_tree w) w.cpus s → StaysInOrder s events → AreMachinesOf p w w.own_weights events (machine_run q (first_tree w) w.cpus events).states
-  is_that_machine q s events built first h =
+  pub is_that_machine : (q : PolicyState) (s : SimState) (events : List Event) → IsBuilt p q → q.seed ≡ w.seed → IsFirstState q (first_tree w) w.cpus s → StaysInOrder s events → AreMachinesOf p w w.own_weights events (machine_run q (first_tree w) w.cpus events).states
+  is_that_machine q s events built seeded first h =
       let tree = first_tree w in
       let from_state : ℕ → Run = λ n. run_from (start_calls q tree w.cpus) (record { state = s.state; events = n }) events in
       let same : machine_run q tree w.cpus events ≡ run_from (start_calls q tree w.cpus) s events = ap (λ r. run_if r (start_calls q tree w.cpus) events) first.0 ∙ ap from_state (sym first.1) in
-      subst (λ (r : Run). AreMachinesOf p w w.own_weights events r.states) (sym same) (stays_as w.own_weights s events (begins_as q s built first.0) h)
+      subst (λ (r : Run). AreMachinesOf p w w.own_weights events r.states) (sym same) (stays_as w.own_weights s events (begins_as q s built seeded first.0) h)

@@ -56,7 +56,7 @@ headline_holds {policy} {w} {s} x events whole limit_is h =
       shape = shape_is_right w whole;
       limit = subst IsTimeout (limit_of_text x) limit_is;
       programs = x.built.as_callbacks;
-      machine = is_that_machine x.file w x.machine s events x.built x.first h;
+      machine = is_that_machine x.file w x.machine s events x.built x.seeded x.first h;
     }
 
 -- up to where writing failed

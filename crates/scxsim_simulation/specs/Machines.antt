@@ -9,7 +9,7 @@ use Rattle.scx_sched_machine.specs.declared.events.Refused.{Refused}
 use Rattle.scx_sched.specs.Sim.{SimState, refusal}
 use Rattle.scx_load_policies.specs.Policies.{PolicyFile}
 use Rattle.scx_load_policies.specs.Building.{IsBuilt}
-use Rattle.scx_load_workloads.specs.Workload.{WorkloadState}
+use Rattle.scx_load_workloads.specs.Workload.{WorkloadState, first_tree}
 
 -- the tree has these groups with their parents, quotas and periods, whatever their weights are now,
 -- and these tasks, each in its group
@@ -21,15 +21,17 @@ pub record HasGroups (groups : List Group) (homes : List ℕ) (tree : Hierarchy)
   pub tasks : tree.homes ≡ homes
 
 -- the machine has the policy that `build` makes of that file, with its limit and all of its
--- programs, and the processors, tasks and groups of that workload, each task with that weight of
--- its own
+-- programs, its random numbers begin at that workload's seed, and it has the processors, tasks and
+-- groups of that workload, each task with its mask and with that weight of its own
 pub record IsMachineOf (p : PolicyFile) (w : WorkloadState) (own : List ℕ) (s : SimState)
     : Type 0 where
   pub policy : IsBuilt p s.state.policy
+  pub seed : s.state.policy.seed ≡ w.seed
   pub cpus : length s.state.world.cpus ≡ w.cpus
   pub tasks : length s.state.world.tasks ≡ length w.homes
   pub tree : HasGroups w.groups w.homes s.state.world.tree
   pub weights : s.state.world.tree.own_weights ≡ own
+  pub masks : s.state.world.tree.masks ≡ (first_tree w).masks
 
 -- ---- from state to state
 

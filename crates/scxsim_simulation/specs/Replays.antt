@@ -64,6 +64,7 @@ pub record HasBadStart (policy events : List ℕ) (answer : ℤ) : Type 0 where
   pub policy_read : policy_text policy ≡ Ok file
   pub events_read : replay_by file.rules events ≡ Ok r
   pub built : IsBuilt file machine
+  pub seeded : machine.seed ≡ r.workload.seed
   pub failed :
       first_state machine (first_tree r.workload) r.workload.cpus ≡ Err answer
 

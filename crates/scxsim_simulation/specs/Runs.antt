@@ -29,12 +29,14 @@ use Rattle.scxsim_commands.specs.declared.refusal.Refusal.TheVariants.{NoMemory,
 use Rattle.scxsim_simulation.specs.Machines.{AreMachinesOf}
 
 -- the policy of the text begins with that state, on these processors and with these
--- groups and tasks; no callback got stuck before the first event
+-- groups and tasks, and its random numbers begin at the workload's seed; no callback got stuck before
+-- the first event
 pub record IsBegun (policy : List ℕ) (w : WorkloadState) (s : SimState) : Type 0 where
   pub file : PolicyFile
   pub machine : PolicyState
   pub policy_read : policy_text policy ≡ Ok file
   pub built : IsBuilt file machine
+  pub seeded : machine.seed ≡ w.seed
   pub first : IsFirstState machine (first_tree w) w.cpus s
   pub answered : AreAnswered (start_calls machine (first_tree w) w.cpus)
 
@@ -155,6 +157,7 @@ pub record HasBadStart (policy workload : List ℕ) (answer : ℤ) : Type 0 wher
   pub policy_read : policy_text policy ≡ Ok file
   pub workload_read : workload_by file.rules workload ≡ Ok w
   pub built : IsBuilt file machine
+  pub seeded : machine.seed ≡ w.seed
   pub failed : first_state machine (first_tree w) w.cpus ≡ Err answer
 
 -- the texts are refused for that cause, with nothing wrong before; want of memory says nothing

@@ -4,6 +4,7 @@ ghost use Rattle.scx_sched_machine.specs.Callbacks.{AreAnswered};
 ghost use Rattle.scx_sched_machine.specs.Start.{is_bad_shape, start_calls};
 ghost use Rattle.scx_sched.specs.Sim.{IsFirstState};
 ghost use Rattle.scx_load_policies.specs.Reading.{policy_text};
+ghost use Rattle.scx_load_policies.specs.Building.{IsBuilt, IsFirstRefused};
 ghost use Rattle.scx_load_workloads.specs.Workload.{first_tree};
 ghost use Rattle.scx_load_workloads.specs.Reading.{workload_by};
 ghost use Rattle.scx_load_driver.specs.Driver.{remaining};
@@ -18,7 +19,7 @@ use crate::listener::{Heard, Listener};
 use scx_isa_semantics::Rules;
 use scx_load_driver::Driver;
 use scx_load_files::LoadError;
-use scx_load_policies::{PolicyText, build, read_policy};
+use scx_load_policies::{BuildError, PolicyText, build, read_policy};
 use scx_load_workloads::{Workload, read_workload_by};
 use scx_sched::{NewError, Policy, Sim};
 use scx_weights::Tree;
@@ -75,8 +76,19 @@ pub fn prepare(alloc: Global, policy: &str, workload: &str) -> Result<Run, Refus
     let text = policy_in(alloc, policy)?;
     let workload = workload_in(alloc, text.rules(), workload)?;
     let name = String::from_str(alloc, text.name())?;
-    let policy = build(alloc, text)?;
+    let policy = build_seeded(alloc, text, workload.seed())?;
     begin(alloc, name, policy, workload)
+}
+
+/// The policy of a file, whose random numbers begin at that seed.
+#[tactic(auto, using(crate::proofs::Running::built_seeded))]
+pub(crate) fn build_seeded(alloc: Global, text: PolicyText, seed: u64) -> Result<Policy, BuildError>
+    ensures built { IfOk result (IsBuilt text) }
+    ensures seeded { IfOk result (λ policy. policy.seed ≡ seed) }
+    ensures refused { IfErr result (IsFirstRefused text) }
+{
+    let policy = build(alloc, text)?;
+    Ok(policy.with_seed(seed))
 }
 
 /// The run of a workload under a policy. All of its memory is taken here.

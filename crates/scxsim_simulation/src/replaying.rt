@@ -15,10 +15,9 @@ ghost use Rattle.scxsim_simulation.specs.Runs.{name_in, IsOfHeadline, IsCutOff, 
 ghost use Rattle.scxsim_simulation.specs.Replays.{IsReplayRun, IsReplayCause, IsEventsFault, replay_text};
 
 use crate::listener::Listener;
-use crate::preparing::{Run, begin_with, or_refusal, policy_in};
+use crate::preparing::{Run, begin_with, build_seeded, or_refusal, policy_in};
 use crate::simulating::write_trace;
 use scx_isa_semantics::Rules;
-use scx_load_policies::build;
 use scx_load_replay::{Replay, Replayer, read_replay_by};
 use scx_sched::Policy;
 use scxsim_commands::{Fault, FileKind, Refusal};
@@ -78,7 +77,7 @@ pub fn prepare_replay(alloc: Global, policy: &str, events: &str) -> Result<Run<R
     let text = policy_in(alloc, policy)?;
     let replay = events_in(alloc, text.rules(), events)?;
     let name = String::from_str(alloc, text.name())?;
-    let policy = build(alloc, text)?;
+    let policy = build_seeded(alloc, text, replay.workload().seed())?;
     begin_replay(alloc, name, policy, replay)
 }
 

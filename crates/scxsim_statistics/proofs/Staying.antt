@@ -18,7 +18,7 @@ abbrev times : State → Times
 times s = times_of (length s.world.tasks) s.world
 
 like_now : (s : State) → IsLike s.world.tree (times s) (length s.world.cpus) s.world
-like_now s = ((refl, refl, refl, refl), (refl, λ u. omega arith), refl)
+like_now s = ((refl, refl, refl, refl, refl), (refl, λ u. omega arith), refl)
 
 -- a task that isn't there can't sleep
 not_there : (s : State) (t : ℕ) → length s.world.tasks ≤ t → machine.refusal s (event.Sleep t) ≡ Some UnknownTask
@@ -43,8 +43,8 @@ as_many (event.SetWeight g x) s accepted =
     own = machine.own_step s (event.SetWeight g x)
 
     go : (b : Bool) → is_none (weight_fault s.world.tree g x) ≡ b → IsLike own.state.world.tree (times s) (length s.world.cpus) own.state.world
-    go true e = rw e ((refl, refl, refl, refl), (refl, λ u. omega arith), refl)
-    go false e = rw e ((refl, refl, refl, refl), (refl, λ u. omega arith), refl)
+    go true e = rw e ((refl, refl, refl, refl, refl), (refl, λ u. omega arith), refl)
+    go false e = rw e ((refl, refl, refl, refl, refl), (refl, λ u. omega arith), refl)
 
 by_machine : (b : Bool) (o : Option Refused) → cond b (Some RunOver) o ≡ None → o ≡ None
 by_machine true o e = absurd (cc)

@@ -20,7 +20,7 @@ pub(crate) fn text_of_start(
     if ms != 0 {
         return Ok(Text::new(alloc));
     }
-    match policy_of(alloc, policy)? {
+    match policy_of(alloc, policy, workload.seed())? {
         Some(policy) => {
             let text = start_of(alloc, policy, workload)?;
             Ok(titled(alloc, &text))

@@ -42,6 +42,7 @@ section + section { margin-top: 16px; } table + p { margin-top: 4px; }\n\
 table { border-collapse: collapse; width: 100%; font-size: 12px; font-variant-numeric: tabular-nums; }\n\
 .long { display: block; } .long tbody { display: block; content-visibility: auto; contain-intrinsic-size: auto 900px; }\n\
 .long thead { display: block; } .long tr { display: grid; grid-auto-flow: column; grid-template-columns: minmax(0, 1fr); grid-auto-columns: 62px; }\n\
+.long td + td { padding-top: 5px; }\n\
 th { text-align: left; vertical-align: bottom; font-weight: 600; color: var(--faint); border-bottom: 1px solid var(--line); padding: 2px; }\n\
 td { padding: 2px 4px; border-bottom: 1px solid var(--line); overflow-wrap: anywhere; } .number, .number button { text-align: right; overflow-wrap: normal; }\n\
 th button, td button, li button { background: none; border: 0; padding: 1px 2px; min-height: 24px; text-align: left; text-decoration: underline; text-underline-offset: 2px; overflow-wrap: anywhere; }\n\
@@ -125,21 +126,25 @@ run.why[at] = word >>> 24;\nrun.queue[at] = words[4 * i + 3];\nif (cpu !== NOWHE
 run.cpuFrom[place] = run.from[at];\nrun.cpuLength[place] = words[4 * i + 1];\nrun.cpuTask[place] = task;\n}\n}\n}\n\
 function sumStretches(run) {\nconst { count, duration, from, length, cpu, queue } = run, runs = run.cpuFrom.length;\n\
 for (const before of [\"ranBefore\", \"waitedBefore\", \"parkedBefore\", \"wakesBefore\"]) run[before] = new Uint32Array(count + 1);\n\
-const change = new Int32Array(duration + 2), wakes = [];\nfor (let i = 0; i < count; i++) {\n\
-const ran = cpu[i] !== NOWHERE, parked = !ran && queue[i] === PARKED;\n\
+const [waits, parks] = [0, 1].map(() => new Int32Array(duration + 2)), wakes = [];\n\
+for (let i = 0; i < count; i++) {\nconst ran = cpu[i] !== NOWHERE, parked = !ran && queue[i] === PARKED;\n\
 run.ranBefore[i + 1] = run.ranBefore[i] + (ran ? length[i] : 0);\n\
 run.parkedBefore[i + 1] = run.parkedBefore[i] + (parked ? length[i] : 0);\n\
 run.waitedBefore[i + 1] = run.waitedBefore[i] + (ran || parked ? 0 : length[i]);\n\
 if (isWake(run, i)) wakes.push(from[i]);\nrun.wakesBefore[i + 1] = wakes.length;\n\
-if (!ran && !parked) { change[from[i]]++; change[from[i] + length[i]]--; }\n}\n\
-run.wakeTimes = Uint32Array.from(wakes);\nrun.someWaited = new Uint32Array(duration + 2);\n\
-for (let ms = 0, waiting = 0; ms <= duration; ms++) {\nwaiting += change[ms];\n\
-run.someWaited[ms + 1] = run.someWaited[ms] + (waiting > 0 && ms < duration ? 1 : 0);\n}\n\
+if (!ran) { const change = parked ? parks : waits; change[from[i]]++; change[from[i] + length[i]]--; }\n}\n\
+run.wakeTimes = Uint32Array.from(wakes);\n\
+for (const sum of [\"someWaited\", \"onlyParked\"]) run[sum] = new Uint32Array(duration + 2);\n\
+for (let ms = 0, waiting = 0, parked = 0; ms <= duration; ms++) {\nwaiting += waits[ms]; parked += parks[ms];\n\
+run.someWaited[ms + 1] = run.someWaited[ms] + (waiting > 0 && ms < duration ? 1 : 0);\n\
+run.onlyParked[ms + 1] = run.onlyParked[ms] + (waiting === 0 && parked > 0 && ms < duration ? 1 : 0);\n}\n\
+run.idleByQuota = run.processors * run.onlyParked[duration];\n\
 for (const before of [\"cpuBefore\", \"cpuWaitedBefore\"]) run[before] = new Uint32Array(runs + 1);\n\
 for (let i = 0; i < runs; i++) {\n\
-const { cpuBefore, cpuWaitedBefore, someWaited } = run, from = run.cpuFrom[i], until = from + run.cpuLength[i];\n\
+const { cpuBefore, cpuWaitedBefore, someWaited, onlyParked } = run, from = run.cpuFrom[i], until = from + run.cpuLength[i];\n\
 cpuBefore[i + 1] = cpuBefore[i] + until - from;\n\
-cpuWaitedBefore[i + 1] = cpuWaitedBefore[i] + someWaited[until] - someWaited[from];\n}\n\
+cpuWaitedBefore[i + 1] = cpuWaitedBefore[i] + someWaited[until] - someWaited[from];\n\
+run.idleByQuota -= onlyParked[until] - onlyParked[from];\n}\n\
 run.idle = Array.from({ length: run.processors }, (_, cpu) => figuresOfCpu(run, cpu, 0, duration).waits);\n\
 sumGroups(run);\nsumQueues(run);\nlistWaits(run);\nfindWaits(run);\n}\nfunction sumGroups(run) {\n\
 const { groups, tasks, duration } = run;\nlet cell = 1;\nwhile (groups.length * (duration / cell) > 4e6) cell *= 2;\n\
@@ -240,6 +245,7 @@ return firstAfter(from, length, low, Math.min(end, high), time);\n}\nfunction gr
 const place = Math.min(time / sums.cell, sums.cells), whole = Math.min(Math.floor(place), sums.cells - 1);\n\
 return values[start + whole] + (place - whole) * (values[start + whole + 1] - values[start + whole]);\n}\n\
 const waitedUntil = ({ someWaited, duration }, time) => gridUntil({ cell: 1, cells: duration }, someWaited, 0, time);\n\
+const quotaUntil = ({ onlyParked, duration }, time) => gridUntil({ cell: 1, cells: duration }, onlyParked, 0, time);\n\
 function queueName(run, queue) {\nif (queue < GLOBAL) return \"queue \" + (run.queues[queue] ?? queue);\n\
 if (queue >= LOCAL && queue < LOCAL + 64) return \"the queue of CPU \" + (queue - LOCAL);\n\
 return { [GLOBAL]: \"the global queue\", [HELD]: \"held by the policy\", [BUILTIN]: \"the built-in scheduler's queue\",\n\
@@ -356,14 +362,22 @@ for (let x = 0; x < pixelsWide; x++) if (tile[x] !== 0) tiled[count++] = x;\nfor
 const start = at * pixelsWide, line = Math.floor(at / grain) % TILE * TILE;\nfor (let k = 0; k < count; k++) {\n\
 const x = tiled[k];\nif (TILES[tile[x]][line + columns[x]] !== 0) pixels[start + x] = ink[x];\n}\n}\n}\n\
 const runPart = (tall) => Math.round(tall * 0.6);\nfunction putBands(y, tall) {\nputBand(high, y, runPart(tall));\n\
-putBand(low, y + runPart(tall), tall - runPart(tall));\n}\nfunction hatch(band, x, share) {\nband.hasTiles = true;\n\
-band.tile[x] = WRONG_TILE;\nband.ink[x] = palette.wrongShades[clamp(Math.round(share * SHADES), 6, SHADES)];\n}\n\
-function shade(band, x, shades, share) {\n\
+putBand(low, y + runPart(tall), tall - runPart(tall));\n}\nfunction hatch(band, x, share, shades) {\n\
+band.hasTiles = true;\nband.tile[x] = WRONG_TILE;\n\
+band.ink[x] = shades[clamp(Math.round(share * SHADES), 6, SHADES)];\n}\nfunction shade(band, x, shades, share) {\n\
 if (share > 0) band.paper[x] = shades[clamp(Math.round(share * SHADES), 1, SHADES)];\n}\n\
-function drawIdle(since, x0, x1, offset) {\nconst step = perPixel();\n\
-for (let x = x0, before = waitedUntil(run, Math.max(since, view.from + x0 * step)); x < x1; x++) {\n\
-const until = waitedUntil(run, Math.min(run.duration, view.from + (x + 1) * step));\n\
-if (until - before > 0.001 * step) hatch(high, offset + x, (until - before) / step);\nbefore = until;\n}\n}\n\
+function drawIdle(since, x0, x1, offset) {\n\
+if (run.idleByQuota > 0) hatchIdle(quotaUntil, palette.parkedShades, since, x0, x1, offset);\n\
+hatchIdle(waitedUntil, palette.wrongShades, since, x0, x1, offset);\n}\n\
+function hatchIdle(timeUntil, shades, since, x0, x1, offset) {\nconst step = perPixel();\n\
+for (let x = x0, before = timeUntil(run, Math.max(since, view.from + x0 * step)); x < x1; x++) {\n\
+const until = timeUntil(run, Math.min(run.duration, view.from + (x + 1) * step));\n\
+if (until - before > 0.001 * step) hatch(high, offset + x, (until - before) / step, shades);\nbefore = until;\n}\n}\n\
+function hatchColumn(x, from, until, part) {\n\
+const step = perPixel(), waited = waitedUntil(run, until) - waitedUntil(run, from);\n\
+const parked = run.idleByQuota > 0 ? quotaUntil(run, until) - quotaUntil(run, from) : 0;\n\
+if (waited > 0) hatch(high, x, Math.min(part, waited / step), palette.wrongShades);\n\
+else if (parked > 0) hatch(high, x, Math.min(part, parked / step), palette.parkedShades);\n}\n\
 function drawProcessor(cpu, y, tall) {\n\
 const { cpuFrom, cpuLength, cpuTask, cpuBefore } = run, last = run.cpuStart[cpu + 1];\n\
 const offset = plotLeft(), width = plotWidth(), step = perPixel();\nclearBands();\n\
@@ -377,11 +391,10 @@ drawBar(offset + Math.max(x, Math.round(start)), offset + to, y, tall, cpuTask[i
 const begin = view.from + x * step, time = Math.min(run.duration, begin + step), next = nextAfter(cpuFrom, cpuLength, i, last, time);\n\
 const after = cpuBefore[next] + (next < last ? Math.max(0, time - cpuFrom[next]) : 0);\n\
 const share = (after - cpuBefore[i] - Math.max(0, begin - cpuFrom[i])) / step;\n\
-shade(high, offset + x, ownShades(i, next, last), share);\nif (share < 0.9) {\n\
-const idle = waitedUntil(run, time) - waitedUntil(run, begin);\n\
-if (idle > 0) hatch(high, offset + x, Math.min(1 - share, idle / step));\n}\nx++; i = next;\n}\n}\n\
-putBand(high, y, tall);\n}\nfunction ownShades(i, next, last) {\n\
-if (view.chosen) return chosenShades(i, next, last);\nif (next - i > 2) return palette.severalShades;\nlet best = i;\n\
+shade(high, offset + x, ownShades(i, next, last), share);\n\
+if (share < 0.9) hatchColumn(offset + x, begin, time, 1 - share);\nx++; i = next;\n}\n}\nputBand(high, y, tall);\n}\n\
+function ownShades(i, next, last) {\nif (view.chosen) return chosenShades(i, next, last);\n\
+if (next - i > 2) return palette.severalShades;\nlet best = i;\n\
 for (let k = i; k <= next && k < last; k++) if (run.cpuLength[k] > run.cpuLength[best]) best = k;\n\
 return palette.tasks[colourOf(run.cpuTask[best])];\n}\nfunction chosenShades(i, next, last) {\n\
 const { task } = view.chosen;\n\
@@ -461,9 +474,8 @@ const { sums, groups, processors, duration } = run, offset = plotLeft(), width =
 const leaves = [...groups.keys()].filter((g) => groups[g].tasks.length > 0);\nclearBands();\n\
 for (let x = 0; x < width; x++) {\nconst from = view.from + x * step, until = Math.min(duration, from + step);\n\
 const share = within(sums, sums.busy, 0, from, until) / step / processors;\n\
-if (share < 0.99 && waitedUntil(run, until) > waitedUntil(run, from)) hatch(high, offset + x, Math.min(1, 2 * (1 - share)));\n\
-}\nputBand(high, y, tall);\nstackGroups(leaves, y + tall, tall / step / processors);\n}\n\
-function stackGroups(leaves, bottom, scale) {\n\
+if (share < 0.99) hatchColumn(offset + x, from, until, Math.min(1, 2 * (1 - share)));\n}\nputBand(high, y, tall);\n\
+stackGroups(leaves, y + tall, tall / step / processors);\n}\nfunction stackGroups(leaves, bottom, scale) {\n\
 const { sums, duration, groups } = run, offset = plotLeft(), width = plotWidth(), step = perPixel();\n\
 const ran = leaves.map((g) => gridUntil(sums, sums.ran, g * sums.row, view.from));\n\
 const colours = leaves.map((g) => leaves.length > 1 ? palette.fills[colourOf(groups[g].tasks[0])] : palette.several);\n\
@@ -752,10 +764,13 @@ return [run.groups[row.number].name, \"share \" + percent(share) + \", due \" + 
 }\nconst tasksText = (count) => count + (count === 1 ? \" task\" : \" tasks\");\n\
 const weightAt = (g, time) => run.changes.filter(([at, group]) => group === g && at <= time).at(-1)?.[2] ?? run.groups[g].weight;\n\
 function waitingWords(time, row) {\n\
-const isWaiting = (_, task) => { const at = taskStretch(task, time, row); return at && isWait(run, at.index); };\n\
-const waiting = run.tasks.filter(isWaiting).map(({ name }) => name), more = waiting.length - 6;\n\
-const words = waiting.slice(0, 6).join(\", \") + (more > 0 ? \" and \" + more + \" more\" : \"\");\n\
-return [waiting.length === 0 ? \"no task waited\" : \"waiting meanwhile: \" + words];\n}\n\
+const kinds = run.tasks.map((_, task) => { const at = taskStretch(task, time, row); return at && kindOf(at.index); });\n\
+const named = (kind) => run.tasks.filter((_, task) => kinds[task] === kind).map(({ name }) => name);\n\
+const [waiting, parked] = [named(1), named(2)];\n\
+if (waiting.length > 0) return [\"waiting meanwhile: \" + firstNames(waiting)];\n\
+return parked.length > 0 ? [\"no task waited\", \"parked, as a quota was used up: \" + firstNames(parked)] : [\"no task waited\"];\n\
+}\n\
+const firstNames = (names) => names.slice(0, 6).join(\", \") + (names.length > 6 ? \" and \" + (names.length - 6) + \" more\" : \"\");\n\
 function describeAllCpus(time) {\nlet busy = 0;\n\
 for (let cpu = 0; cpu < run.processors; cpu++) eachRun(run, cpu, time, Math.min(run.duration, time + 1), () => { busy++; });\n\
 return [busy + \" of \" + run.processors + \" CPUs ran at \" + momentText(time), ...(busy < run.processors ? waitingWords(time, {}) : [])];\n\
@@ -974,6 +989,7 @@ for (const queue of all) if (queue < LOCAL) add(WAIT_WORDS[queue] ?? \"waits in 
 if (all.some(isLocal)) add(\"waits in a CPU's own queue\", tileOf(LOCAL), \"wait\");\n\
 if (run.parkedBefore[run.count] > 0) add(\"parked: quota used up\", tileOf(PARKED), \"parked\");\n\
 if (run.idle.some((ms) => ms > 0)) add(\"idle while a task waits\", WRONG_TILE, \"wrong\");\n\
+if (run.idleByQuota > 0) add(\"idle while a quota is used up\", WRONG_TILE, \"parked\");\n\
 const paint = (words, boxes) => items.push([words, (brush) => paintBoxes(brush, boxes)]);\n\
 if (run.framed.size > 0) paint(frameWords(), [[names.wrong, 0, 1, 30, 12], [names.waitPaper, 2, 3, 26, 8]]);\n\
 if (run.wakeTimes.length > 0) paint(\"wakes, in rows with room for all of them\", WAKE.map((box) => [names.ink, ...box]));\n\

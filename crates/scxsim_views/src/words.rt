@@ -37,5 +37,6 @@ pub fn fault_words(fault: Fault) -> &'static str {
         Fault::UnknownFlag => "flags other than 0 and 1",
         Fault::CannotCreate => "the queue can't be created",
         Fault::IdleUntracked => "the policy tracks idle CPUs itself",
+        Fault::NotAllowed => "the task may not run on that CPU",
     }
 }

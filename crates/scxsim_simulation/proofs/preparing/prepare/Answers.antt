@@ -7,7 +7,7 @@ use Rattle.scxsim_simulation.proofs.preparing.prepare.Goals as goal
 
 pub returns-clause-run : goal.returns-clause-run
 returns-clause-run c =
-    run_is c.args.policy.now c.args.workload.now _ _ _ (λ (run : Run DriverState). run.workload) (λ (run : Run DriverState). run.sim) c.begin.result c.in_ok-text.ensures.read (rw c.rules.ensures at c.in_ok-workload.ensures.read) c.in_ok-policy.ensures.built c.begin.ensures.workload c.begin.ensures.first c.begin.ensures.accepted c.begin.ensures.answered
+    run_is c.args.policy.now c.args.workload.now _ _ _ (λ (run : Run DriverState). run.workload) (λ (run : Run DriverState). run.sim) c.begin.result c.in_ok-text.ensures.read (rw c.rules.ensures at c.in_ok-workload.ensures.read) c.in_ok-policy.ensures.built (rw c.seed.ensures at c.in_ok-policy.ensures.seeded) c.begin.ensures.workload c.begin.ensures.first c.begin.ensures.accepted c.begin.ensures.answered
 
 pub returns-in_err-workload-clause-refused : goal.returns-in_err-workload-clause-refused
 returns-in_err-workload-clause-refused c =

@@ -7,7 +7,7 @@ use Rattle.scxsim_simulation.proofs.replaying.prepare_replay.Goals as goal
 
 pub returns-clause-run : goal.returns-clause-run
 returns-clause-run c =
-    replay_is c.args.policy.now c.args.events.now _ _ _ (λ (run : Run ReplayerState). run.workload) (λ (run : Run ReplayerState). run.sim) (λ (run : Run ReplayerState). remaining run.driver) c.begin_replay.result c.in_ok-text.ensures.read (rw c.rules.ensures at c.in_ok-replay.ensures.read) c.in_ok-policy.ensures.built
+    replay_is c.args.policy.now c.args.events.now _ _ _ (λ (run : Run ReplayerState). run.workload) (λ (run : Run ReplayerState). run.sim) (λ (run : Run ReplayerState). remaining run.driver) c.begin_replay.result c.in_ok-text.ensures.read (rw c.rules.ensures at c.in_ok-replay.ensures.read) c.in_ok-policy.ensures.built (rw (c.seed.ensures, c.workload.ensures) at c.in_ok-policy.ensures.seeded)
     c.begin_replay.ensures.workload c.begin_replay.ensures.events c.begin_replay.ensures.first c.begin_replay.ensures.accepted c.begin_replay.ensures.answered
 
 pub returns-in_err-replay-clause-refused : goal.returns-in_err-replay-clause-refused
