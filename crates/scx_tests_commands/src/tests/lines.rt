@@ -75,7 +75,7 @@ const LINES: [(u64, What, &str); 23] = [
 ];
 
 /// Each fault, by its number.
-const FAULTS: [(u64, What, &str); 9] = [
+const FAULTS: [(u64, What, &str); 10] = [
     (3, What::Fault(Fault::Stuck), "3 eject fault 0\n"),
     (3, What::Fault(Fault::NoSuchQueue), "3 eject fault 1\n"),
     (3, What::Fault(Fault::CannotInsert), "3 eject fault 2\n"),
@@ -85,6 +85,7 @@ const FAULTS: [(u64, What, &str); 9] = [
     (3, What::Fault(Fault::UnknownFlag), "3 eject fault 6\n"),
     (3, What::Fault(Fault::CannotCreate), "3 eject fault 7\n"),
     (3, What::Fault(Fault::IdleUntracked), "3 eject fault 8\n"),
+    (3, What::Fault(Fault::NotAllowed), "3 eject fault 9\n"),
 ];
 
 fn expect_lines<R: AllocGlobal + Abort>(rt: &R, rows: &[(u64, What, &str)]) {

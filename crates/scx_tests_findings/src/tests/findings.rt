@@ -224,7 +224,7 @@ fn sorts_come_by_their_numbers(rt: HostRuntime) {
     for place in 0..SORTS.len() {
         expect_same(&rt, usize::from(SORTS[place].number()), place, "place");
     }
-    expect_same(&rt, SORTS.len(), 13, "nine faults and four more");
+    expect_same(&rt, SORTS.len(), 14, "ten faults and four more");
 }
 
 /// The number of a finding's sort.
@@ -243,8 +243,8 @@ fn findings_are_of_sorts(rt: HostRuntime) {
         Some(1),
         "a fault",
     );
-    expect_same(&rt, number_of(Finding::Stall(7)), Some(9), "a stall");
-    expect_same(&rt, number_of(IDLE), Some(10), "an idle CPU");
+    expect_same(&rt, number_of(Finding::Stall(7)), Some(10), "a stall");
+    expect_same(&rt, number_of(IDLE), Some(11), "an idle CPU");
     expect_same(
         &rt,
         number_of(OVERTAKEN),
