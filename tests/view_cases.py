@@ -342,6 +342,40 @@ def quotas(window, maker):
         window.expect(f"due at {time}: " + window.text("tip"), f"due {due}" in window.text("tip"))
 
 
+def idle_by_quota(window, maker):
+    """A CPU that is idle while tasks are parked has a hatching and words of its own."""
+    text = workload_text(1, 400, [{"name": "g", "cpu_max": "20000 100000"}, {"name": "h"}],
+                         [{"name": "capped", "group": "g"}, {"name": "late", "group": "h", "start": 399}])
+    path = maker.page("idle_by_quota", FAIR, maker.workload("idle_by_quota", text))
+    window.open(path)
+    busy, waits, parked = set(), set(), set()
+    for since, length, _, cpu, _, queue in stretches_of(path):
+        (busy if cpu != NOWHERE else parked if queue == PARKED else waits).update(range(since, since + length))
+    window.same("the time", window.tell("run.idleByQuota"), len(parked - busy - waits))
+    row = window.row("cpu")
+    y = window.tell("34 + view.rows[arguments[0]].y - view.scroll + view.rows[arguments[0]].high / 2", row)
+    seen = {window.pixel(156 + (60 + part / 10) / 400 * chart_width(window), y) for part in range(100)}
+    window.same("its colours", seen, {"#ffffff", window.tell("palette.names.parked")})
+    window.hover(60.5, row)
+    window.same("its tip", window.text("tip"), "CPU 0 idleno task waitedparked, as a quota was used up: capped")
+    window.expect("in the legend", "idle while a quota is used up" in window.legend())
+
+
+def aligned(window, maker):
+    """The numbers of a long table are at the height of the names."""
+    window.open(maker.page("aligned", FAIR, maker.workload("aligned", crowd(70))))
+    heights = """[...document.querySelector('#tasks tbody tr').cells].map((cell) => {
+        const range = document.createRange();
+        range.selectNodeContents(cell);
+        const { top, bottom } = range.getBoundingClientRect();
+        return (top + bottom) / 2;
+    })"""
+    window.browser.run("document.getElementById('tasks').scrollIntoView()")
+    window.browser.settle()
+    heights = window.tell(heights)
+    window.expect(f"heights {heights}", max(heights) - min(heights) <= 1)
+
+
 def wakes(window, maker):
     """A row with room for all its wakes shows them, however short the stretches are."""
     task = {"name": "short", "group": "g", "run": 1, "sleep": 900}
@@ -439,4 +473,4 @@ def loading(window, maker):
 
 
 CASES = [selection, cursor, tips, keys, left_text, range_figures, in_sight, sorting, search, links, overview, queue_tracks,
-         frames, patterns, quotas, wakes, nothing_ran, cut_waits, folding, colours, phone, loading]
+         frames, patterns, quotas, idle_by_quota, aligned, wakes, nothing_ran, cut_waits, folding, colours, phone, loading]

@@ -67,24 +67,37 @@ function putBands(y, tall) {
   putBand(low, y + runPart(tall), tall - runPart(tall));
 }
 
-function hatch(band, x, share) {
+function hatch(band, x, share, shades) {
   band.hasTiles = true;
   band.tile[x] = WRONG_TILE;
-  band.ink[x] = palette.wrongShades[clamp(Math.round(share * SHADES), 6, SHADES)];
+  band.ink[x] = shades[clamp(Math.round(share * SHADES), 6, SHADES)];
 }
 
 function shade(band, x, shades, share) {
   if (share > 0) band.paper[x] = shades[clamp(Math.round(share * SHADES), 1, SHADES)];
 }
 
-// Hatches an idle time, from x0 to x1, for the part of it in which a task waited.
+// Hatches an idle time, from x0 to x1, for the part of it in which a task waited, and where none did, in which one was parked.
 function drawIdle(since, x0, x1, offset) {
+  if (run.idleByQuota > 0) hatchIdle(quotaUntil, palette.parkedShades, since, x0, x1, offset);
+  hatchIdle(waitedUntil, palette.wrongShades, since, x0, x1, offset);
+}
+
+function hatchIdle(timeUntil, shades, since, x0, x1, offset) {
   const step = perPixel();
-  for (let x = x0, before = waitedUntil(run, Math.max(since, view.from + x0 * step)); x < x1; x++) {
-    const until = waitedUntil(run, Math.min(run.duration, view.from + (x + 1) * step));
-    if (until - before > 0.001 * step) hatch(high, offset + x, (until - before) / step);
+  for (let x = x0, before = timeUntil(run, Math.max(since, view.from + x0 * step)); x < x1; x++) {
+    const until = timeUntil(run, Math.min(run.duration, view.from + (x + 1) * step));
+    if (until - before > 0.001 * step) hatch(high, offset + x, (until - before) / step, shades);
     before = until;
   }
+}
+
+// Hatches a column of which a CPU was idle for such a part, as drawIdle does.
+function hatchColumn(x, from, until, part) {
+  const step = perPixel(), waited = waitedUntil(run, until) - waitedUntil(run, from);
+  const parked = run.idleByQuota > 0 ? quotaUntil(run, until) - quotaUntil(run, from) : 0;
+  if (waited > 0) hatch(high, x, Math.min(part, waited / step), palette.wrongShades);
+  else if (parked > 0) hatch(high, x, Math.min(part, parked / step), palette.parkedShades);
 }
 
 function drawProcessor(cpu, y, tall) {
@@ -108,10 +121,7 @@ function drawProcessor(cpu, y, tall) {
       const after = cpuBefore[next] + (next < last ? Math.max(0, time - cpuFrom[next]) : 0);
       const share = (after - cpuBefore[i] - Math.max(0, begin - cpuFrom[i])) / step;
       shade(high, offset + x, ownShades(i, next, last), share);
-      if (share < 0.9) {
-        const idle = waitedUntil(run, time) - waitedUntil(run, begin);
-        if (idle > 0) hatch(high, offset + x, Math.min(1 - share, idle / step));
-      }
+      if (share < 0.9) hatchColumn(offset + x, begin, time, 1 - share);
       x++; i = next;
     }
   }
@@ -264,7 +274,7 @@ function drawShareColumn(x, end, top, line, before, lack, colour) {
 }
 
 // All CPUs, where they are folded: the part of their time in which tasks of each group ran, one upon the other, hatched
-// where some were idle while a task waited.
+// where some were idle, as the CPUs' own rows are.
 function drawAllProcessors(y, tall) {
   const { sums, groups, processors, duration } = run, offset = plotLeft(), width = plotWidth(), step = perPixel();
   const leaves = [...groups.keys()].filter((g) => groups[g].tasks.length > 0);
@@ -272,7 +282,7 @@ function drawAllProcessors(y, tall) {
   for (let x = 0; x < width; x++) {
     const from = view.from + x * step, until = Math.min(duration, from + step);
     const share = within(sums, sums.busy, 0, from, until) / step / processors;
-    if (share < 0.99 && waitedUntil(run, until) > waitedUntil(run, from)) hatch(high, offset + x, Math.min(1, 2 * (1 - share)));
+    if (share < 0.99) hatchColumn(offset + x, from, until, Math.min(1, 2 * (1 - share)));
   }
   putBand(high, y, tall);
   stackGroups(leaves, y + tall, tall / step / processors);

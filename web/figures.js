@@ -49,12 +49,16 @@ function describePlace(row, time) {
 const tasksText = (count) => count + (count === 1 ? " task" : " tasks");
 const weightAt = (g, time) => run.changes.filter(([at, group]) => group === g && at <= time).at(-1)?.[2] ?? run.groups[g].weight;
 
+// The tasks that waited at that moment, or if there were none, those that were parked.
 function waitingWords(time, row) {
-  const isWaiting = (_, task) => { const at = taskStretch(task, time, row); return at && isWait(run, at.index); };
-  const waiting = run.tasks.filter(isWaiting).map(({ name }) => name), more = waiting.length - 6;
-  const words = waiting.slice(0, 6).join(", ") + (more > 0 ? " and " + more + " more" : "");
-  return [waiting.length === 0 ? "no task waited" : "waiting meanwhile: " + words];
+  const kinds = run.tasks.map((_, task) => { const at = taskStretch(task, time, row); return at && kindOf(at.index); });
+  const named = (kind) => run.tasks.filter((_, task) => kinds[task] === kind).map(({ name }) => name);
+  const [waiting, parked] = [named(1), named(2)];
+  if (waiting.length > 0) return ["waiting meanwhile: " + firstNames(waiting)];
+  return parked.length > 0 ? ["no task waited", "parked, as a quota was used up: " + firstNames(parked)] : ["no task waited"];
 }
+
+const firstNames = (names) => names.slice(0, 6).join(", ") + (names.length > 6 ? " and " + (names.length - 6) + " more" : "");
 
 function describeAllCpus(time) {
   let busy = 0;

@@ -21,6 +21,7 @@ function legendItems() {
   if (all.some(isLocal)) add("waits in a CPU's own queue", tileOf(LOCAL), "wait");
   if (run.parkedBefore[run.count] > 0) add("parked: quota used up", tileOf(PARKED), "parked");
   if (run.idle.some((ms) => ms > 0)) add("idle while a task waits", WRONG_TILE, "wrong");
+  if (run.idleByQuota > 0) add("idle while a quota is used up", WRONG_TILE, "parked");
   const paint = (words, boxes) => items.push([words, (brush) => paintBoxes(brush, boxes)]);
   if (run.framed.size > 0) paint(frameWords(), [[names.wrong, 0, 1, 30, 12], [names.waitPaper, 2, 3, 26, 8]]);
   if (run.wakeTimes.length > 0) paint("wakes, in rows with room for all of them", WAKE.map((box) => [names.ink, ...box]));

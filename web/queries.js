@@ -20,6 +20,7 @@ function gridUntil(sums, values, start, time) {
   return values[start + whole] + (place - whole) * (values[start + whole + 1] - values[start + whole]);
 }
 const waitedUntil = ({ someWaited, duration }, time) => gridUntil({ cell: 1, cells: duration }, someWaited, 0, time);
+const quotaUntil = ({ onlyParked, duration }, time) => gridUntil({ cell: 1, cells: duration }, onlyParked, 0, time);
 
 function queueName(run, queue) {
   if (queue < GLOBAL) return "queue " + (run.queues[queue] ?? queue);

@@ -1,9 +1,10 @@
 // Sums up to each moment: run, waited and parked time, of tasks, CPUs and groups, and all waits.
-// Sums up to each stretch, and for each millisecond the time before it in which a task waited.
+// Sums up to each stretch, and for each millisecond the time before it in which a task waited, and in which none did but one
+// was parked.
 function sumStretches(run) {
   const { count, duration, from, length, cpu, queue } = run, runs = run.cpuFrom.length;
   for (const before of ["ranBefore", "waitedBefore", "parkedBefore", "wakesBefore"]) run[before] = new Uint32Array(count + 1);
-  const change = new Int32Array(duration + 2), wakes = [];
+  const [waits, parks] = [0, 1].map(() => new Int32Array(duration + 2)), wakes = [];
   for (let i = 0; i < count; i++) {
     const ran = cpu[i] !== NOWHERE, parked = !ran && queue[i] === PARKED;
     run.ranBefore[i + 1] = run.ranBefore[i] + (ran ? length[i] : 0);
@@ -11,19 +12,22 @@ function sumStretches(run) {
     run.waitedBefore[i + 1] = run.waitedBefore[i] + (ran || parked ? 0 : length[i]);
     if (isWake(run, i)) wakes.push(from[i]);
     run.wakesBefore[i + 1] = wakes.length;
-    if (!ran && !parked) { change[from[i]]++; change[from[i] + length[i]]--; }
+    if (!ran) { const change = parked ? parks : waits; change[from[i]]++; change[from[i] + length[i]]--; }
   }
   run.wakeTimes = Uint32Array.from(wakes);
-  run.someWaited = new Uint32Array(duration + 2);
-  for (let ms = 0, waiting = 0; ms <= duration; ms++) {
-    waiting += change[ms];
+  for (const sum of ["someWaited", "onlyParked"]) run[sum] = new Uint32Array(duration + 2);
+  for (let ms = 0, waiting = 0, parked = 0; ms <= duration; ms++) {
+    waiting += waits[ms]; parked += parks[ms];
     run.someWaited[ms + 1] = run.someWaited[ms] + (waiting > 0 && ms < duration ? 1 : 0);
+    run.onlyParked[ms + 1] = run.onlyParked[ms] + (waiting === 0 && parked > 0 && ms < duration ? 1 : 0);
   }
+  run.idleByQuota = run.processors * run.onlyParked[duration];
   for (const before of ["cpuBefore", "cpuWaitedBefore"]) run[before] = new Uint32Array(runs + 1);
   for (let i = 0; i < runs; i++) {
-    const { cpuBefore, cpuWaitedBefore, someWaited } = run, from = run.cpuFrom[i], until = from + run.cpuLength[i];
+    const { cpuBefore, cpuWaitedBefore, someWaited, onlyParked } = run, from = run.cpuFrom[i], until = from + run.cpuLength[i];
     cpuBefore[i + 1] = cpuBefore[i] + until - from;
     cpuWaitedBefore[i + 1] = cpuWaitedBefore[i] + someWaited[until] - someWaited[from];
+    run.idleByQuota -= onlyParked[until] - onlyParked[from];
   }
   run.idle = Array.from({ length: run.processors }, (_, cpu) => figuresOfCpu(run, cpu, 0, duration).waits);
   sumGroups(run);
