@@ -11,16 +11,22 @@ TOP = Path(__file__).resolve().parent.parent.parent
 os.environ.setdefault("SCXSIM", str(TOP / "bin/scxsim"))
 
 # A machine that has other work may take long for one example.
-settings.register_profile("lab", deadline=None)
+settings.register_profile("lab", deadline=None, max_examples=40)
 settings.load_profile("lab")
 
 
-@pytest.fixture
+def pytest_collection_modifyitems(items):
+    """Puts tests with workers last, since workers take time even while they do nothing, and after these the test that ends
+    one of them."""
+    items.sort(key=lambda item: [name in item.fixturenames for name in ("two_workers", "mortal_workers")])
+
+
+@pytest.fixture(scope="session")
 def policies():
     return TOP / "examples/policies"
 
 
-@pytest.fixture
+@pytest.fixture(scope="session")
 def workloads():
     return TOP / "examples/workloads"
 
@@ -29,3 +35,9 @@ def workloads():
 def two_workers():
     with client_of(local=2) as client:
         yield client
+
+
+@pytest.fixture
+def mortal_workers(two_workers):
+    """The two workers, one of which the test may end."""
+    return two_workers

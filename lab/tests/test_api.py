@@ -1,6 +1,9 @@
 """What a notebook calls: columns, dtypes, paths and texts, a caller's own client, and the example of each docstring."""
 
 import doctest
+import os
+import subprocess
+import sys
 from pathlib import Path
 
 import pandas
@@ -11,6 +14,7 @@ from scxlab.errors import LabError
 from scxlab.runs import Run
 
 TOP = Path(__file__).resolve().parent.parent.parent
+SOURCES = TOP / "lab/src"
 LOAD = 'cpus = 1\nms = 6\n[[group]]\nname = "g"\n[[task]]\nname = "a"\ngroup = "g"\nrun = 2\nsleep = 3\n'
 
 
@@ -28,6 +32,14 @@ def test_the_examples_of_docstrings_answer_what_they_say(module, monkeypatch):
 def test_each_public_function_has_an_example():
     functions = [getattr(scxlab, name) for name in scxlab.__all__ if name[0].islower() and name != "find_program"]
     assert all(">>> " in function.__doc__ for function in functions)
+
+
+def test_names_are_imported_when_they_are_used():
+    assert {*scxlab.__all__} <= {*dir(scxlab)}
+    with pytest.raises(AttributeError, match="has no attribute 'compere'"):
+        scxlab.compere
+    words = "import sys, scxlab.command; sys.exit('pandas' in sys.modules)"
+    assert subprocess.run([sys.executable, "-c", words], env=os.environ | {"PYTHONPATH": str(SOURCES)}).returncode == 0
 
 
 def test_slices_waits_and_bursts_have_their_columns(policies):

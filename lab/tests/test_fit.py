@@ -4,7 +4,9 @@ import os
 import re
 import tomllib
 import tracemalloc
+from functools import cache
 from itertools import chain
+from pathlib import Path
 
 import pytest
 from scxlab.command import main
@@ -14,6 +16,12 @@ from scxlab.program import Program
 from scxlab.timelines import read_timeline
 
 PROGRAM = Program(os.environ["SCXSIM"])
+EXAMPLES = Path(__file__).resolve().parent.parent.parent / "examples"
+PAIRS = [(policy, workload) for policy in sorted(EXAMPLES.glob("policies/*.toml"))
+         for workload in sorted(EXAMPLES.glob("workloads/*.toml"))]
+# Each fifth pair has each policy and each workload.
+SOME_AND_ALL = pytest.mark.parametrize(
+    "pairs", [pytest.param(PAIRS[::5], id="some"), pytest.param(PAIRS, id="all", marks=pytest.mark.slow)])
 HEAD = '{"ph":"M","pid":0,"tid":0,"name":"thread_name","args":{"name":"cpu 0"}}'
 
 
@@ -64,13 +72,19 @@ def ran(policy, workload):
     return {line.split()[1]: int(line.split()[3]) for line in lines if line.startswith("task")}
 
 
-def pairs(policies, workloads):
-    return [(policy, workload) for policy in policies.glob("*.toml") for workload in workloads.glob("*.toml")]
+@cache
+def timeline_of(policy, workload):
+    return PROGRAM.call("timeline", policy, workload)
 
 
-def test_the_examples_run_as_before_within_2_percent(policies, workloads, tmp_path):
-    for policy, workload in pairs(policies, workloads):
-        (tmp_path / "t.json").write_text(PROGRAM.call("timeline", policy, workload))
+def test_some_pairs_have_each_policy_and_each_workload():
+    assert [set(each) for each in zip(*PAIRS[::5])] == [set(each) for each in zip(*PAIRS)]
+
+
+@SOME_AND_ALL
+def test_the_examples_run_as_before_within_2_percent(pairs, tmp_path):
+    for policy, workload in pairs:
+        (tmp_path / "t.json").write_text(timeline_of(policy, workload))
         (tmp_path / "w.toml").write_text(fit(tmp_path / "t.json", workload))
         before, after = ran(policy, workload), ran(policy, tmp_path / "w.toml")
         assert {task: pytest.approx(ms, rel=0.02) for task, ms in before.items()} == after, (policy, workload)
@@ -94,9 +108,10 @@ def test_changes_of_weights_are_events(tmp_path, policies, workloads):
     assert f"{first['at']} weight {first['group']} {first['weight']}" in lines
 
 
-def test_events_of_a_run_make_the_same_run(policies, workloads, tmp_path):
-    for policy, workload in pairs(policies, workloads):
-        (tmp_path / "t.json").write_text(PROGRAM.call("timeline", policy, workload))
+@SOME_AND_ALL
+def test_events_of_a_run_make_the_same_run(pairs, tmp_path):
+    for policy, workload in pairs:
+        (tmp_path / "t.json").write_text(timeline_of(policy, workload))
         # A timeline doesn't say how long a run goes on in which nobody runs any more.
         ms = tomllib.loads(workload.read_text())["ms"]
         text = re.sub(r"^ms = \d+$", f"ms = {ms}", fit(tmp_path / "t.json", workload, as_events=True), flags=re.M)
@@ -124,14 +139,14 @@ def test_a_change_of_a_task_is_an_event(tmp_path):
 
 
 def test_a_timeline_is_not_kept_while_it_is_read():
-    # 20,000 slices of one burst: 1.3 MB of lines, and 10 MB or more as objects. Threads of dask may hold memory too.
-    lines = (f'{{"ph":"X","pid":0,"tid":0,"ts":{at * 1000},"dur":1000,"name":"a"}},\n' for at in range(20_000))
+    # 8,000 slices of one burst: 0.5 MB of lines, and 4 MB or more as objects. Threads of dask may hold memory too.
+    lines = (f'{{"ph":"X","pid":0,"tid":0,"ts":{at * 1000},"dur":1000,"name":"a"}},\n' for at in range(8000))
     wake = '{"ph":"i","pid":1,"tid":0,"ts":0,"s":"t","name":"a"},\n'
     tracemalloc.start()
     recording = read_timeline("t", chain([HEAD, wake], lines))
     most = tracemalloc.get_traced_memory()[1]
     tracemalloc.stop()
-    assert recording.ran("a") == 20_000 and most < 4_000_000
+    assert recording.ran("a") == 8000 and most < 2_000_000
 
 
 def test_a_task_that_ends_is_told(tmp_path):

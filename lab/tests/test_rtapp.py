@@ -88,13 +88,14 @@ def test_another_unit_makes_other_milliseconds(tmp_path):
     ('{"a": {"instance": 0, "run": 1}}', "tasks.a.instance: out of range"),
     ('{"a": {"run": 1, "run": 2}}', "run: twice"),
     ('{"a": {"run": 1}, "A": {"run": 1}}', "tasks.A: another task is a too"),
-    ('{"a": {"run": 0, "sleep": 0}}', "a: more than 1000000 runs and sleeps; give a duration, or longer ones"),
-    ('{"a": {"loop": -1, "phases": {"p": {"loop": 0, "run": 1}}}}', "a: more than 1000000 runs and sleeps"),
+    ('{"a": {"run": 0, "sleep": 0}}', "a: more than 1000 runs and sleeps; give a duration, or longer ones"),
+    ('{"a": {"loop": -1, "phases": {"p": {"loop": 0, "run": 1}}}}', "a: more than 1000 runs and sleeps"),
     ('{"a": [1]}', "tasks.a: wrong type"),
     ('{}', "tasks: missing"),
     ('{"a": {"run" 1}}', "is no JSON: Expecting ':' delimiter: line 1"),
 ])
-def test_what_is_not_read_is_named(tmp_path, tasks, told):
+def test_what_is_not_read_is_named(tmp_path, monkeypatch, tasks, told):
+    monkeypatch.setattr("scxlab.rtapp.MOST_STEPS", 1000)
     with pytest.raises(LabError, match=f"r.json: {told}"):
         fit(rt_app(tmp_path, tasks))
 

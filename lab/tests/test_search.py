@@ -63,7 +63,7 @@ def test_the_least_is_found_too(policies, template):
 
 def test_the_same_seed_finds_the_same(policies, template):
     def text(seed):
-        return report(found(policies / "sticky.toml", template, "max mean_wait_ms(*)", runs=40, seed=seed))
+        return report(found(policies / "sticky.toml", template, "max mean_wait_ms(*)", runs=20, seed=seed))
 
     assert text(5) == text(5)
 

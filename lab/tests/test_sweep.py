@@ -8,7 +8,7 @@ import pytest
 from hypothesis import given
 from hypothesis import strategies as some
 from scxlab import templates
-from scxlab.clusters import Workers, client_of
+from scxlab.clusters import Workers
 from scxlab.command import main
 from scxlab.errors import LabError
 from scxlab.experiment import read_experiment
@@ -98,22 +98,21 @@ def test_sql_asks_for_a_figure(folder, two_workers):
         assert base.execute("SELECT DISTINCT name, busy_ms, idle_ms FROM cpus").fetchall() == [("0", 40, 0)]
 
 
-def test_a_worker_that_is_ended_loses_nothing(folder):
+def test_a_worker_that_is_ended_loses_nothing(folder, mortal_workers):
     (folder / "e.toml").write_text(EXPERIMENT.replace("[2, 5]", "{ from = 1, to = 10 }")
-                                   .replace("[2, 4]", "{ from = 2, to = 21 }"))
-    with client_of(local=2) as client:
-        victim = min(client.run(os.getpid).values())
-        ended = []
+                                   .replace("[2, 4]", "{ from = 2, to = 11 }"))
+    victim = min(mortal_workers.run(os.getpid).values())
+    ended = []
 
-        class Ending(Store):
-            def add(self, program, results):
-                if not ended:
-                    ended.append(os.kill(victim, signal.SIGKILL))
-                super().add(program, results)
+    class Ending(Store):
+        def add(self, program, results):
+            if not ended:
+                ended.append(os.kill(victim, signal.SIGKILL))
+            super().add(program, results)
 
-        outcome, rows = run_all(folder, client, Ending(folder / "r.sqlite"))
+    outcome, rows = run_all(folder, mortal_workers, Ending(folder / "r.sqlite"))
     assert ended and outcome.faults == []
-    assert (outcome.due, outcome.done, len(rows)) == (200, 200, 200)
+    assert (outcome.due, outcome.done, len(rows)) == (100, 100, 100)
 
 
 def test_an_interrupted_sweep_keeps_what_was_done(folder, monkeypatch, capsys):

@@ -4,6 +4,7 @@ import json
 import os
 import struct
 from base64 import encodebytes
+from pathlib import Path
 
 import pandas
 import pytest
@@ -14,6 +15,9 @@ from scxlab.program import Program
 from scxlab.runs import Run
 
 PROGRAM = Program(os.environ["SCXSIM"])
+EXAMPLES = Path(__file__).resolve().parent.parent.parent / "examples"
+PAIRS = [(policy, EXAMPLES / f"workloads/{workload}.toml") for policy in sorted(EXAMPLES.glob("policies/*.toml"))
+         for workload in ("limited", "urgent")]
 WAIT = 255
 OVER, STOPPED, SLEPT, PARKED, RAN, WENT_ON, LET_GO = range(7)
 GOES_ON, WOKE, WAS_STOPPED, WAS_LET_GO = range(0, 64, 16)
@@ -95,22 +99,23 @@ def test_a_page_of_another_version_is_named():
         traces.stretches_of("<html></html>")
 
 
-def test_tables_have_what_stats_says(policies, workloads):
-    for policy in policies.glob("*.toml"):
-        for workload in ("limited", "urgent"):
-            one = Run(PROGRAM, policy, workloads / f"{workload}.toml")
-            values = values_of(one.stats)
-            for name in one.names("task"):
-                waits = one.waits[one.waits.task == name]
-                bursts = one.bursts[one.bursts.task == name]
-                assert (len(waits), len(bursts)) == (values["waits", name], values["bursts", name])
-                if len(waits):
-                    longest = waits[waits.wait_ms == values["longest_wait_ms", name]]
-                    assert longest.since_ms.min() == values["longest_wait_since_ms", name], (policy, workload, name)
-                    assert waits.wait_ms.mean() == pytest.approx(values["mean_wait_ms", name], abs=0.0101)
-                if len(bursts):
-                    assert bursts.burst_ms.max() == values["longest_burst_ms", name], (policy, workload, name)
-            assert slices_of_timeline(policy, workloads / f"{workload}.toml") == sorted(rows_of(one.slices.fillna(-1)))
+@pytest.mark.parametrize(
+    "pairs", [pytest.param(PAIRS[::3], id="some"), pytest.param(PAIRS, id="all", marks=pytest.mark.slow)])
+def test_tables_have_what_stats_says(pairs):
+    for policy, workload in pairs:
+        one = Run(PROGRAM, policy, workload)
+        values = values_of(one.stats)
+        for name in one.names("task"):
+            waits = one.waits[one.waits.task == name]
+            bursts = one.bursts[one.bursts.task == name]
+            assert (len(waits), len(bursts)) == (values["waits", name], values["bursts", name])
+            if len(waits):
+                longest = waits[waits.wait_ms == values["longest_wait_ms", name]]
+                assert longest.since_ms.min() == values["longest_wait_since_ms", name], (policy, workload, name)
+                assert waits.wait_ms.mean() == pytest.approx(values["mean_wait_ms", name], abs=0.0101)
+            if len(bursts):
+                assert bursts.burst_ms.max() == values["longest_burst_ms", name], (policy, workload, name)
+        assert slices_of_timeline(policy, workload) == sorted(rows_of(one.slices.fillna(-1)))
 
 
 def slices_of_timeline(policy, workload):

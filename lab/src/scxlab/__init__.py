@@ -7,12 +7,33 @@
 [4.0, 2.0]
 """
 
-from scxlab.api import bursts, compare, fit, plot, run, search, slices, sweep, waits
-from scxlab.comparison import summary
+from importlib import import_module
+from typing import TYPE_CHECKING, Any
+
 from scxlab.errors import LabError, Refused
 from scxlab.program import Program, find_program
-from scxlab.runs import Run
-from scxlab.intervals import spread
+
+if TYPE_CHECKING:
+    from scxlab.api import bursts, compare, fit, plot, run, search, slices, sweep, waits
+    from scxlab.comparison import summary
+    from scxlab.intervals import spread
+    from scxlab.runs import Run
 
 __all__ = ["LabError", "Program", "Refused", "Run", "bursts", "compare", "find_program", "fit", "plot", "run", "search",
            "slices", "spread", "summary", "sweep", "waits"]
+
+# These import pandas, which takes longer than a command that has no tables.
+MODULES = {"Run": "runs", "spread": "intervals", "summary": "comparison"} | dict.fromkeys(
+    ["bursts", "compare", "fit", "plot", "run", "search", "slices", "sweep", "waits"], "api")
+
+
+def __getattr__(name: str) -> Any:
+    """Imports a name when it is first used."""
+    if name not in MODULES:
+        raise AttributeError(f"module {__name__!r} has no attribute {name!r}")
+    value = globals()[name] = getattr(import_module(f"{__name__}.{MODULES[name]}"), name)
+    return value
+
+
+def __dir__() -> list[str]:
+    return sorted({*globals(), *__all__})

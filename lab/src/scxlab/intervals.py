@@ -15,9 +15,9 @@ NOTHING = float("nan")
 @cache
 def quantile(freedom: int) -> float:
     """The 97.5 % quantile of Student's t distribution."""
-    from scipy.stats import t
+    from scipy.special import stdtrit
 
-    return float(t.ppf(0.975, freedom))
+    return float(stdtrit(freedom, 0.975))
 
 
 def interval(values: Sequence[float]) -> float:

@@ -7,8 +7,8 @@ from pathlib import Path
 from threading import get_ident
 
 from scxlab.errors import LabError, Refused
+from scxlab.figures import state_of
 from scxlab.program import Program
-from scxlab.runs import Run
 from scxlab.store import Result, hash_of, key_of
 
 
@@ -67,9 +67,10 @@ def checked(path: str, wanted: str) -> Program:
 
 def run_job(path: str, wanted: str, job: Job) -> Result:
     """The state and the metrics of a run with the program at the path. A refusal is a state, without metrics."""
-    one = Run(checked(path, wanted), file_of(job.policy), workload_file(job.workload))
+    program = checked(path, wanted)
     try:
-        state, figures = one.state, one.stats
+        figures = program.call("stats-csv", file_of(job.policy), workload_file(job.workload))
+        state = state_of(figures)
     except Refused as refusal:
         state, figures = str(refusal), ""
     return Result(job.key, job.policy, job.workload, state, figures)
