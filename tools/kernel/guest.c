@@ -93,6 +93,7 @@ struct group {
 struct task {
 	char name[24];
 	int group, nice, start, run, sleep;
+	unsigned long long mask;	/* the CPUs on which it may run, a bit for each */
 	pid_t pid;
 	unsigned long long run_before;
 	unsigned long turns_before;
@@ -422,7 +423,8 @@ static void be_task(const struct task *task, int cpus)
 
 	CPU_ZERO(&set);
 	for (int cpu = 0; cpu < cpus; cpu++)
-		CPU_SET(cpu, &set);
+		if (task->mask >> cpu & 1)
+			CPU_SET(cpu, &set);
 	prctl(PR_SET_NAME, task->name);
 	sched_setaffinity(0, sizeof(set), &set);
 	if (task->group >= 0) {
@@ -659,7 +661,7 @@ static void take_line(const char *word, const char *rest)
 	} else if (!strcmp(word, "task")) {
 		struct task *task = &tasks[task_count++];
 
-		sscanf(rest, "%20s %d %d %d %d %d", task->name, &task->group, &task->nice, &task->start, &task->run, &task->sleep);
+		sscanf(rest, "%20s %d %d %d %d %d %llu", task->name, &task->group, &task->nice, &task->start, &task->run, &task->sleep, &task->mask);
 	} else if (!strcmp(word, "go") && sscanf(rest, "%d %d", &offset, &size) == 2) {
 		go(offset, size);
 	} else if (!strcmp(word, "load")) {

@@ -21,7 +21,7 @@ ARGUMENTS = {"init": 0, "enable": 1, "select_cpu": 3, "enqueue": 2, "dispatch": 
 ANSWERED = ("init", "select_cpu")
 LOADS = (0x61, 0x69, 0x71, 0x79, 0x81, 0x89, 0x91)
 FIELDS = {0: "pid", 4: "scx.weight", 8: "scx.slice", 16: "scx.dsq_vtime", 24: "thread_info.cpu", 32: "se.sum_exec_runtime"}
-GROUP = 28
+GROUP, CPUS = 28, 40
 # The kernel's weights of the nice values -20 to 19, where 1024 is that of 0.
 NICE = [88761, 71755, 56483, 46273, 36291, 29154, 23254, 18705, 14949, 11916, 9548, 7620, 6100, 4904, 3906, 3121, 2501, 1991,
         1586, 1277, 1024, 820, 655, 526, 423, 335, 272, 215, 172, 137, 110, 87, 70, 56, 45, 36, 29, 23, 18, 15]
@@ -157,6 +157,8 @@ class Callback:
             number = self.types.offset("task_group", "css.id")
             # 1 is the number of the root, and 2 of the first group.
             return [slots.load(one.dst, one.src, group), slots.Instruction(0x61, one.dst, one.dst, number), slots.Instruction(0x04, one.dst, 0, 0, -2)]
+        if one.offset == CPUS:
+            return [slots.load(one.dst, one.src, self.types.offset("task_struct", "cpus_ptr")), slots.load(one.dst, one.dst, 0)]
         one.offset = self.field(one.offset)
         return [one]
 
@@ -220,6 +222,9 @@ class Callback:
             return self.timers.start(self.timer, self.ns)
         if number == 1018:
             return self.timers.cancel(self.timer)
+        if number == 1019:
+            mask = slots.load(3, 1, self.types.offset("task_struct", "cpus_ptr"))
+            return [mask, slots.move(1, 2), slots.move(2, 3), self.kernel_call("bpf_cpumask_test_cpu"), is_true]
         return [slots.call(number)]
 
     def no_text(self):
@@ -296,6 +301,15 @@ def ops_lines(types, policy, more=()):
     yield f"name {start + members['name']} {policy.get('name', 'policy')}"
 
 
+def mask_of(cpus):
+    """The CPUs that a list such as 0-3,8 says, a bit for each."""
+    mask = 0
+    for part in cpus.split(","):
+        first, _, last = part.partition("-")
+        mask |= (2 << int(last or first)) - (1 << int(first))
+    return mask
+
+
 def map_lines(shapes):
     return [f"map {entries} {size}" for entries, size in shapes]
 
@@ -366,5 +380,6 @@ def workload_lines(path, by_groups, rules):
     for task in workload["task"]:
         group = names.index(task["group"])
         nice = 0 if by_groups else nice_of(task.get("weight", 100) if rules == "linux" else weights[group])
-        yield f"task {task['name']} {group} {nice} {task.get('start', 0)} {task.get('run', 0)} {task.get('sleep', 0)}"
+        times = f"{task.get('start', 0)} {task.get('run', 0)} {task.get('sleep', 0)}"
+        yield f"task {task['name']} {group} {nice} {times} {mask_of(task.get('cpus', '0-63'))}"
     yield f"go {workload['cpus']} {workload['ms']}"
