@@ -79,6 +79,7 @@ static s64 (*const cpu_idle)(u64 cpu) = (void *)1006;
 static struct task *(*const task_by_pid)(u64 pid) = (void *)1007;
 static s64 (*const dsq_nr_queued)(u64 queue) = (void *)1008;
 /* By Linux rules alone. */
+static u64 (*const get_prandom_u32)(void) = (void *)7;
 static u64 (*const get_smp_processor_id)(void) = (void *)8;
 static s64 (*const kick_cpu)(u64 cpu, u64 flags) = (void *)1009;
 static s64 (*const exit_policy)(s64 code, u64 message) = (void *)1010;
@@ -90,6 +91,7 @@ static s64 (*const pick_idle)(u64 mask, u64 flags) = (void *)1015;
 static s64 (*const claim_idle)(u64 cpu) = (void *)1016;
 static s64 (*const timer_start)(u64 timer, u64 ns) = (void *)1017;
 static s64 (*const timer_cancel)(u64 timer) = (void *)1018;
+static s64 (*const may_run)(struct task *task, u64 cpu) = (void *)1019;
 
 /* Map NUMBER of the policy, counted from 0, with this number of values of that type. */
 #define DEFINE_MAP(number, entries, type) \

@@ -4,10 +4,9 @@
  * Runs as c-policies/kernel-form/custody.toml.
  */
 #include <scx/common.bpf.h>
+#include "line.bpf.h"
 
 char _license[] SEC("license") = "GPL";
-
-#define LINE 0
 
 static s64 waiting;
 
@@ -54,11 +53,6 @@ void BPF_STRUCT_OPS(custody_dequeue, struct task_struct *p, u64 deq_flags)
 	waiting--;
 }
 
-void BPF_STRUCT_OPS(custody_dispatch, s32 cpu, struct task_struct *prev)
-{
-	scx_bpf_dsq_move_to_local(LINE);
-}
-
 void BPF_STRUCT_OPS(custody_set_weight, struct task_struct *p, u32 weight)
 {
 	struct task_ctx *context = context_of(p);
@@ -73,17 +67,11 @@ void BPF_STRUCT_OPS(custody_update_idle, s32 cpu, bool idle)
 		scx_bpf_kick_cpu(cpu, SCX_KICK_IDLE);
 }
 
-s32 BPF_STRUCT_OPS_SLEEPABLE(custody_init)
-{
-	return scx_bpf_create_dsq(LINE, -1);
-}
-
 SCX_OPS_DEFINE(custody_ops,
 	       .enqueue = (void *)custody_enqueue,
 	       .dequeue = (void *)custody_dequeue,
-	       .dispatch = (void *)custody_dispatch,
 	       .set_weight = (void *)custody_set_weight,
 	       .update_idle = (void *)custody_update_idle,
-	       .init = (void *)custody_init,
+	       LINE_OPS,
 	       .flags = SCX_OPS_KEEP_BUILTIN_IDLE,
 	       .name = "custody");

@@ -3,10 +3,9 @@
  * By Linux rules alone. Runs as linux/preempt.toml.
  */
 #include <scx/common.bpf.h>
+#include "line.bpf.h"
 
 char _license[] SEC("license") = "GPL";
-
-#define LINE 0
 
 void BPF_STRUCT_OPS(preempt_enqueue, struct task_struct *p, u64 enq_flags)
 {
@@ -15,18 +14,7 @@ void BPF_STRUCT_OPS(preempt_enqueue, struct task_struct *p, u64 enq_flags)
 		scx_bpf_kick_cpu(0, SCX_KICK_PREEMPT);
 }
 
-void BPF_STRUCT_OPS(preempt_dispatch, s32 cpu, struct task_struct *prev)
-{
-	scx_bpf_dsq_move_to_local(LINE);
-}
-
-s32 BPF_STRUCT_OPS_SLEEPABLE(preempt_init)
-{
-	return scx_bpf_create_dsq(LINE, -1);
-}
-
 SCX_OPS_DEFINE(preempt_ops,
 	       .enqueue = (void *)preempt_enqueue,
-	       .dispatch = (void *)preempt_dispatch,
-	       .init = (void *)preempt_init,
+	       LINE_OPS,
 	       .name = "preempt");

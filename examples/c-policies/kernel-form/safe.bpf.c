@@ -1,9 +1,8 @@
 /* A long slice if no task waits, and a short one if one does. */
 #include <scx/common.bpf.h>
+#include "line.bpf.h"
 
 char _license[] SEC("license") = "GPL";
-
-#define LINE 0
 
 struct {
 	__uint(type, BPF_MAP_TYPE_ARRAY);
@@ -19,11 +18,6 @@ void BPF_STRUCT_OPS(safe_enqueue, struct task_struct *p, u64 enq_flags)
 	scx_bpf_dsq_insert(p, LINE, slice, enq_flags);
 }
 
-void BPF_STRUCT_OPS(safe_dispatch, s32 cpu, struct task_struct *prev)
-{
-	scx_bpf_dsq_move_to_local(LINE);
-}
-
 void BPF_STRUCT_OPS(safe_running, struct task_struct *p)
 {
 	u64 *number, one = 1;
@@ -37,14 +31,8 @@ void BPF_STRUCT_OPS(safe_running, struct task_struct *p)
 		bpf_map_update_elem(&turns, &key, &one, BPF_ANY);
 }
 
-s32 BPF_STRUCT_OPS_SLEEPABLE(safe_init)
-{
-	return scx_bpf_create_dsq(LINE, -1);
-}
-
 SCX_OPS_DEFINE(safe_ops,
 	       .enqueue = (void *)safe_enqueue,
-	       .dispatch = (void *)safe_dispatch,
 	       .running = (void *)safe_running,
-	       .init = (void *)safe_init,
+	       LINE_OPS,
 	       .name = "safe");

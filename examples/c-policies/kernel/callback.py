@@ -103,7 +103,8 @@ class Callback:
             self.refuse(loop, "a loop that clang didn't write out: take bpf_for or bpf_repeat, or a constant number of rounds")
         instructions = [one for one, _ in read]
         registers, copies, variables = Registers(self.name, instructions), Copies(instructions), variable_addresses(read)
-        masks = {at for at, one in enumerate(instructions) if one.code == 0x79 and self.field_name(one) == "cpus_ptr"}
+        all_cpus = names.constant("cpus_ptr", self.policy.rules)
+        masks = {at for at, one in enumerate(instructions) if all_cpus and one.code == 0x79 and self.field_name(one) == "cpus_ptr"}
         for at, (one, symbol) in enumerate(read):
             others, tasks = copies.of_tested(one, at), registers.tasks(at)
             if others:
@@ -117,7 +118,7 @@ class Callback:
             if is_error(one, symbol):
                 changed[-1] = slots.noted(self.message_before(changed, [one.target for one, _ in read], at), changed[-1])
         targets = {one.target for one in instructions if one.target is not None}
-        return follow_masks(changed, targets, masks, names.CONSTANTS["cpus_ptr"][0]) if masks else changed
+        return follow_masks(changed, targets, masks, all_cpus[0]) if masks else changed
 
     def message_before(self, lists, targets, at):
         """The message of a call of scx_bpf_error: that in r1, as far back as only one way leads."""
@@ -236,13 +237,13 @@ class Callback:
         if found is None:
             return [one]
         name, start = found
-        if name in names.CONSTANTS and one.code & 7 == 1:
-            number, why = names.CONSTANTS[name]
-            self.policy.warn(f"{one.place}: warning: p->{name} is {number}: {why}", name)
-            return [slots.move_number(one.dst, number)]
-        if name == "nr_cpus_allowed" and self.policy.cpus and one.code & 7 == 1:
-            return [slots.move_number(one.dst, self.policy.cpus)]
-        if name not in names.FIELDS:
+        constant = self.constant(name)
+        if constant and one.code & 7 == 1:
+            if constant[1]:
+                self.policy.warn(f"{one.place}: warning: p->{name} is {constant[0]}: {constant[1]}", name)
+            return [slots.move_number(one.dst, constant[0])]
+        offset = names.offset_of(name, self.policy.rules)
+        if offset is None:
             self.refuse(one, f"p->{name} isn't here: {names.said(names.NO_FIELD, name, self.policy.rules) or 'the host has nothing like it'}")
             return [one]
         if one.code == 0x07:
@@ -250,11 +251,18 @@ class Callback:
             return [one]
         if name in names.FIELD_NOTES and self.policy.rules == "plain":
             self.policy.warn(f"{one.place}: warning: p->{name} is {names.FIELD_NOTES[name]}", name)
-        one.offset = names.FIELDS[name] + number - start
+        one.offset = offset + number - start
         if one.code == SIGNED_LOAD:
             one.code = 0x61
             return [one, slots.Instruction(0xbf, one.dst, one.dst, 32)]
         return [one]
+
+    def constant(self, name):
+        """The number in the place of a field that the host hasn't, and what to warn of, or None."""
+        if name == "nr_cpus_allowed" and self.policy.cpus:
+            bound = "a task with `cpus` in the workload may have fewer" if self.policy.rules == "linux" else None
+            return self.policy.cpus, bound
+        return names.constant(name, self.policy.rules)
 
     def zeros(self, cell, count, register):
         """A struct of zeros on the stack, to which a register points."""

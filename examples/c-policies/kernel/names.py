@@ -114,7 +114,6 @@ NOTES = {
     11: "a map that is a queue or a stack is a ring in an array map",
     12: "scx_bpf_dispatch_nr_slots is 32: dispatch inserts at once, as many tasks as it likes",
     13: "by plain rules scx_bpf_exit ends the policy as scx_bpf_error does, by a fault; Linux rules keep its code",
-    14: "the mask of a task has all CPUs",
     15: "scx_bpf_dsq_nr_queued of a CPU's own queue is 0: the host counts queues of the policy alone",
     16: "SCX_KICK_WAIT is nothing: what is kicked looks as the event ends, which takes no time",
     17: "tasks have no names here: p->comm is compared as an empty text",
@@ -140,7 +139,7 @@ NOT_HERE = [
     ("scx_bpf_dsq_move.*|scx_bpf_dispatch(_vtime)?_from_dsq.*", "use scx_bpf_dsq_move_to_local, or hold tasks in enqueue and insert them in dispatch"),
     ("scx_bpf_dsq_peek", "by plain rules ask scx_bpf_dsq_nr_queued; Linux rules have it"),
     ("scx_bpf_pick_.*|bpf_cpumask_(test_cpu|first|empty|weight)", "say how many there are, as build --set cpus=4"),
-    ("bpf_cpumask.*", "each task may run on all CPUs; scx_bpf_select_cpu_dfl finds an idle one"),
+    ("bpf_cpumask.*", "masks can be read alone; by plain rules each task may run on all CPUs"),
     ("scx_bpf_task_running", "by plain rules keep it in a variable, which running and stopping write; Linux rules have it"),
     ("scx_bpf_cpu_curr", "by plain rules keep the pid in an array, which running and stopping write; Linux rules have it"),
     ("scx_bpf_cpu_rq", "the current task is scx_bpf_cpu_curr by Linux rules; else keep the pid in an array, which running writes"),
@@ -196,11 +195,24 @@ SHOWN = {"scx_bpf_kick_cpu_with_flags": "scx_bpf_kick_cpu with these flags"}
 FIELDS = {"pid": 0, "scx.weight": 4, "scx.slice": 8, "scx.dsq_vtime": 16, "thread_info.cpu": 24, "group": 28, "se.sum_exec_runtime": 32}
 FIRST_FIELD = 16384
 MEMBERS = ["pid", "scx", "weight", "slice", "dsq_vtime", "se", "sum_exec_runtime", "group", "flags"]
+FIELDS_BY_LINUX = {"cpus_ptr": 40}
 CONSTANTS = {
     "flags": (0, "a workload has no kernel threads, and its tasks stay to the end"),
-    "migration_disabled": (0, "each task may run on all CPUs"),
+    "migration_disabled": (0, "tasks may always leave their CPU"),
     "cpus_ptr": (1, "each task may run on all CPUs"),
 }
+
+
+def offset_of(field, rules):
+    """Where the host has a field of a task, or None."""
+    return FIELDS_BY_LINUX.get(field, FIELDS.get(field)) if rules == "linux" else FIELDS.get(field)
+
+
+def constant(field, rules):
+    """The number in the place of a field that the host hasn't, and why, or None."""
+    return CONSTANTS.get(field) if offset_of(field, rules) is None else None
+
+
 FIELD_NOTES = {
     "scx.weight": "the task's part of the CPU time, 10000 for all of it; in a kernel 100 is that of any task",
 }

@@ -72,7 +72,6 @@ typedef _Bool bool;
 #define NOTE_RING 11
 #define NOTE_SLOTS 12
 #define NOTE_EXIT 13
-#define NOTE_ALL_CPUS 14
 #define NOTE_LOCAL 15
 #define NOTE_NO_WAIT 16
 #define NOTE_NO_NAMES 17
@@ -359,6 +358,7 @@ static s64 (*const host_cpu_idle)(u64 cpu) = (void *)1006;
 static struct task_struct *(*const host_task_by_pid)(u64 pid) = (void *)1007;
 static s64 (*const host_dsq_nr_queued)(u64 queue) = (void *)1008;
 /* By Linux rules. */
+static u64 (*const host_get_prandom_u32)(void) = (void *)7;
 static u64 (*const host_get_smp_processor_id)(void) = (void *)8;
 static s64 (*const host_kick_cpu)(u64 cpu, u64 flags) = (void *)1009;
 static struct task_struct *(*const host_cpu_curr)(u64 cpu) = (void *)1011;
@@ -659,6 +659,12 @@ INSTEAD void bpf_rcu_read_unlock(void)
 	})
 
 /* A number that follows from the one before it, so each run has the same ones. */
+#ifdef HOST_LINUX
+INSTEAD u32 bpf_get_prandom_u32(void)
+{
+	return host_get_prandom_u32();
+}
+#else
 static u64 host_random = 0x9e3779b97f4a7c15ull;
 INSTEAD u32 bpf_get_prandom_u32(void)
 {
@@ -671,6 +677,7 @@ INSTEAD u32 bpf_get_prandom_u32(void)
 	host_random = next;
 	return next >> 32;
 }
+#endif
 
 /*
  * A map that is a queue or a stack is an array map with an element more. Element 0 counts what was taken and what was
@@ -753,11 +760,22 @@ extern u32 scx_bpf_nr_cpu_ids(void);
 #endif
 
 /*
- * Masks of CPUs are numbers: each task may run on all of them, and build loads HOST_ALL as p->cpus_ptr. Which CPUs are
- * idle is asked when a mask is looked at, and not claimed.
+ * Masks of CPUs are numbers, and two of them stand for all CPUs and for those that are idle. By Linux rules any other
+ * has a bit for each CPU, as p->cpus_ptr has for those on which the task may run. By plain rules each task may run on
+ * all of them, and build loads HOST_ALL as p->cpus_ptr. Which CPUs are idle is asked when a mask is looked at, and not
+ * claimed.
  */
+#ifdef HOST_LINUX
+#ifdef HOST_CPUS
+#define HOST_ALL ((const struct cpumask *)(~0ull >> (64 - HOST_CPUS)))
+#else
+#define HOST_ALL ((const struct cpumask *)~0ull)
+#endif
+#define HOST_IDLE ((const struct cpumask *)0)
+#else
 #define HOST_ALL ((const struct cpumask *)1)
 #define HOST_IDLE ((const struct cpumask *)2)
+#endif
 #define cast_mask(mask) ((const struct cpumask *)(mask))
 INSTEAD const struct cpumask *scx_bpf_get_idle_cpumask(void)
 {
@@ -787,38 +805,80 @@ INSTEAD void scx_bpf_put_idle_cpumask(const struct cpumask *mask)
 {
 }
 
-/* By Linux rules the CPU is claimed. */
 #ifdef HOST_LINUX
-#define NOTE_SELECTED NOTE_ALL_CPUS
-#else
-#define NOTE_SELECTED NOTE_MASK
-#endif
-INSTEAD s32 scx_bpf_select_cpu_and(struct task_struct *p, s32 prev_cpu, u64 wake_flags, const struct cpumask *allowed, u64 flags)
+/* The bits of a mask; a CPU that isn't idle is claimed by nobody, so those of HOST_IDLE are all. */
+INSTEAD u64 host_bits(const struct cpumask *mask)
 {
-	bool is_idle = false;
-	s32 cpu = host_choice(p, &is_idle);
-
-	NOTE(NOTE_SELECTED);
-	return is_idle ? cpu : -EBUSY;
+	return mask == HOST_IDLE ? ~0ull : (u64)mask;
 }
 
-/* By Linux rules the CPU is claimed. */
-#ifdef HOST_LINUX
+/* The lowest bit of a number that isn't 0. */
+INSTEAD u32 host_lowest(u64 bits)
+{
+	return __builtin_popcountll((bits & -bits) - 1);
+}
+
+/* The CPU is claimed: that on which the task was last, if it is idle, else the lowest idle one. */
+INSTEAD s32 scx_bpf_select_cpu_and(struct task_struct *p, s32 prev_cpu, u64 wake_flags, const struct cpumask *allowed, u64 flags)
+{
+	u64 bits = host_bits(allowed) & (u64)p->cpus_ptr, last = p->thread_info.cpu;
+
+	if (bits >> (last & 63) & 1 && host_claim_idle(last) == 1)
+		return last;
+	return host_pick_idle(bits, 0);
+}
+
+/* The CPU is claimed. */
 INSTEAD s32 scx_bpf_pick_idle_cpu(const struct cpumask *allowed, u64 flags)
 {
-	NOTE(NOTE_ALL_CPUS);
-	return host_pick_idle(~0ull, flags & SCX_PICK_IDLE_CORE);
+	return host_pick_idle(host_bits(allowed), flags & SCX_PICK_IDLE_CORE);
 }
 
 INSTEAD s32 scx_bpf_pick_any_cpu(const struct cpumask *allowed, u64 flags)
 {
 	s32 cpu = scx_bpf_pick_idle_cpu(allowed, flags);
 
-	return cpu >= 0 ? cpu : 0;
+	return cpu >= 0 ? cpu : host_lowest(host_bits(allowed));
+}
+
+INSTEAD bool bpf_cpumask_test_cpu(u32 cpu, const struct cpumask *mask)
+{
+	if (cpu > 63)
+		return false;
+#ifdef HOST_CPUS
+	if (cpu >= HOST_CPUS)
+		return false;
+#endif
+	return mask == HOST_IDLE ? host_cpu_idle(cpu) != 0 : (u64)mask >> cpu & 1;
+}
+
+INSTEAD bool bpf_cpumask_subset(const struct cpumask *inner, const struct cpumask *outer)
+{
+	return !((u64)inner & ~(u64)outer);
+}
+
+INSTEAD bool bpf_cpumask_intersects(const struct cpumask *one, const struct cpumask *other)
+{
+	return (u64)one & (u64)other;
+}
+
+INSTEAD bool bpf_cpumask_equal(const struct cpumask *one, const struct cpumask *other)
+{
+	return one == other;
+}
+#else
+INSTEAD s32 scx_bpf_select_cpu_and(struct task_struct *p, s32 prev_cpu, u64 wake_flags, const struct cpumask *allowed, u64 flags)
+{
+	bool is_idle = false;
+	s32 cpu = host_choice(p, &is_idle);
+
+	NOTE(NOTE_MASK);
+	return is_idle ? cpu : -EBUSY;
 }
 #endif
 
 #ifdef HOST_CPUS
+#ifndef HOST_LINUX
 INSTEAD bool bpf_cpumask_test_cpu(u32 cpu, const struct cpumask *mask)
 {
 	NOTE(NOTE_MASK);
@@ -826,11 +886,14 @@ INSTEAD bool bpf_cpumask_test_cpu(u32 cpu, const struct cpumask *mask)
 		return false;
 	return mask == HOST_IDLE ? host_cpu_idle(cpu) != 0 : true;
 }
+#endif
 
 /* The lowest idle CPU, which isn't claimed. */
 INSTEAD s32 host_first_idle(void)
 {
+#ifndef HOST_LINUX
 	NOTE(NOTE_MASK);
+#endif
 	_Pragma("clang loop unroll(full)") for (u32 cpu = 0; cpu < HOST_CPUS; cpu++)
 		if (host_cpu_idle(cpu))
 			return cpu;
@@ -853,7 +916,11 @@ INSTEAD s32 scx_bpf_pick_any_cpu(const struct cpumask *allowed, u64 flags)
 
 INSTEAD u32 bpf_cpumask_first(const struct cpumask *mask)
 {
+#ifdef HOST_LINUX
+	s32 cpu = mask == HOST_IDLE ? host_first_idle() : (s32)host_lowest((u64)mask);
+#else
 	s32 cpu = mask == HOST_IDLE ? host_first_idle() : 0;
+#endif
 
 	return cpu >= 0 ? cpu : HOST_CPUS;
 }
@@ -872,8 +939,8 @@ INSTEAD u32 bpf_cpumask_weight(const struct cpumask *mask)
 	return count;
 }
 #else
-extern bool bpf_cpumask_test_cpu(u32 cpu, const struct cpumask *mask);
 #ifndef HOST_LINUX
+extern bool bpf_cpumask_test_cpu(u32 cpu, const struct cpumask *mask);
 extern s32 scx_bpf_pick_idle_cpu(const struct cpumask *allowed, u64 flags);
 extern s32 scx_bpf_pick_any_cpu(const struct cpumask *allowed, u64 flags);
 #endif
