@@ -20,7 +20,7 @@ printing, making, running = Lock(), Lock(), set()
 class Part(NamedTuple):
     """A part: its command, or several with `&&` between them; whether it depends on the program; whether it installs
     bin/scxsim itself; a tool that it wants. In commands PROGRAM stands for the program, PLAIN for the plain simulator of
-    bench/, PAIRS for a folder of random pairs of files, SEED for their seed."""
+    bench/, PAIRS for a folder of random pairs of files, QUOTAS for one of pairs with quotas, SEED for their seed."""
     commands: str
     of_program: bool = True
     installs: bool = False
@@ -85,6 +85,8 @@ class Surroundings:
                 return self.made_once("plain", ["rustc", "-O", "--edition", "2021", "-o", "PATH", "bench/plain.rs"])
             case "PAIRS":
                 return self.made_once("pairs", ["tests/pairs", self.seed, str(self.count), "PATH"])
+            case "QUOTAS":
+                return self.made_once("quotas", ["tests/pairs", "--quotas", self.seed, str(self.count), "PATH"])
         return word
 
     def commands_of(self, part):

@@ -3,6 +3,9 @@ claims, give and take slices, start all timers each millisecond, and some end th
 has to be, whatever they do."""
 import json
 import re
+import tomllib
+
+from .workloads import some_cpus
 
 MS = 10**6
 LOCAL, GLOBAL, LOCAL_ON = 2**63 + 2, 2**63 + 1, 3 * 2**62
@@ -53,10 +56,11 @@ class Harm:
 
     def read(self):
         return self.random.choice([["call 8"], [f"r1 = {self.cpu()}", "call 1011"], ["r1 = 0", "call 1012"], ["call 5"],
-                                   ["r1 = 0", "call 1008"]])
+                                   ["r1 = 0", "call 1008"], ["call 7"]])
 
     def read_task(self):
-        return self.random.choice([["r1 = r6", "call 1013"], ["r1 = r6", "call 1014"], ["r1 = *(u64 *)(r6 + 40)"]])
+        return self.random.choice([["r1 = r6", "call 1013"], ["r1 = r6", "call 1014"], ["r1 = *(u64 *)(r6 + 40)"],
+                                   ["r1 = r6", f"r2 = {self.cpu()}", "call 1019"]])
 
     def change_task(self):
         slices = [0, 0, 1, MS, 2 * MS, 20 * MS, 2**64 - 1]
@@ -161,8 +165,11 @@ def harmful(random, most_cpus=64):
             task |= {"run": random.randrange(1, 5), "sleep": random.randrange(1, 5)}
         if random.random() < 0.3:
             task["weight"] = random.choice([1, 100, 10000])
+        if random.random() < 0.3:
+            task["cpus"] = some_cpus(random, cpus)
     group = {"name": "g"} | ({"cpu_max": "3000 10000"} if random.random() < 0.3 else {})
-    lines = [f"cpus = {cpus}", f"ms = {ms}", "[[group]]", *(f"{key} = {json.dumps(value)}" for key, value in group.items())]
+    seed = [f"seed = {random.choice([1, 2**63 - 1])}"] if random.random() < 0.3 else []
+    lines = [f"cpus = {cpus}", f"ms = {ms}", *seed, "[[group]]", *(f"{key} = {json.dumps(value)}" for key, value in group.items())]
     for task in tasks:
         lines += ["[[task]]", *(f"{key} = {json.dumps(value)}" for key, value in task.items())]
     for _ in range(random.choice([0, 0, 1, 4])):
@@ -176,8 +183,24 @@ LINE = re.compile(r"(\d+) (?:(wake|sleep) (\S+)|insert (\S+) ((?:queue|local) \d
 QUEUES = ("queue", "local", "global", "held")
 
 
-def fault_of(trace):
-    """What is wrong with a trace, or None: each task is in one place, a CPU runs one task, a policy is ejected once."""
+def cpus_of(text):
+    """The CPUs on which each bound task of a workload may run, as words, by its name."""
+    allowed = {}
+    for task in tomllib.loads(text)["task"]:
+        if "cpus" in task:
+            ends = [part.split("-") for part in task["cpus"].split(",")]
+            allowed[task["name"]] = {str(cpu) for part in ends for cpu in range(int(part[0]), int(part[-1]) + 1)}
+    return allowed
+
+
+def is_allowed(allowed, task, cpu):
+    return task not in allowed or not cpu or cpu in allowed[task]
+
+
+def fault_of(trace, workload):
+    """What is wrong with a trace, or None: each task is in one place and on a CPU on which it may run, a CPU runs one
+    task, a policy is ejected once."""
+    allowed = cpus_of(workload)
     at, on, sleeping, clock, ejected = {}, {}, set(), 0, False
     for line in trace.splitlines():
         found = LINE.fullmatch(line)
@@ -187,6 +210,8 @@ def fault_of(trace):
         if int(now) < clock or int(now) > clock and (sleeping or "hand" in at.values()):
             return f"a task is nowhere before: {line}"
         clock = int(now)
+        if not is_allowed(allowed, comes or moved or turned, to or cpu or (queue or "").partition("local ")[2]):
+            return f"a task is where it may not run: {line}"
         place = at.get(who or comes or moved or turned or weighed, "asleep")
         if woken == "wake":
             good, at[who] = place == "asleep", "hand"

@@ -58,6 +58,16 @@ def ask_running(code):
     code.call(code.random.choice([1013, 1014]))
 
 
+def ask_allowed(code):
+    code.fetch(code.task, 1)
+    code.set(2, some_processor(code))
+    code.call(1019)
+
+
+def draw(code):
+    code.call(7)
+
+
 def tracks(code):
     """Whether the host tracks idle processors; at times it is asked though it doesn't."""
     return code.policy.tracks_idle or code.random.random() < 0.01
@@ -100,7 +110,8 @@ def cancel_timer(code):
 HEARING = ["enable", "select_cpu", "enqueue", "dispatch", "running", "stopping"] + LINUX_CALLBACKS
 LINUX_NOISE = [
     (3, kick, RUNNING_CALLBACKS), (2, ask_here, ["init"] + HEARING), (2, ask_current, ["init"] + HEARING),
-    (2, peek, ["init"] + HEARING), (2, ask_running, WITH_TASK), (2, pick_idle, RUNNING_CALLBACKS),
+    (2, peek, ["init"] + HEARING), (2, ask_running, WITH_TASK), (2, ask_allowed, WITH_TASK),
+    (2, draw, ["init"] + HEARING), (2, pick_idle, RUNNING_CALLBACKS),
     (2, claim_idle, RUNNING_CALLBACKS), (2, start_timer, ["init"] + HEARING), (1, cancel_timer, ["init"] + HEARING),
     (0.3, end, HEARING),
 ]

@@ -16,7 +16,7 @@ SHAPES = [  # weight; the most processors, tasks, groups and milliseconds
 
 
 QUOTAS = False  # whether groups have quotas
-LINUX = False  # whether policies go by Linux rules, and tasks have weights
+LINUX = False  # whether policies go by Linux rules, and tasks have weights and may be bound to CPUs
 LINUX_NOISE = []  # what their programs do besides, as NOISE has it
 
 
@@ -50,6 +50,16 @@ def leaves_of(groups):
     return [group["name"] for group in groups if group["name"] not in parents]
 
 
+def some_cpus(random, processors):
+    """A list of CPUs: mostly some of those that are there, at times all of them, or one twice."""
+    parts = []
+    for _ in range(random.choice([1, 1, 1, 2, 3])):
+        first = random.randrange(processors)
+        last = random.randrange(first, processors)
+        parts.append(random.choice([f"{first}", f"{first:02}", f"{first}-{last}", f"{first}-{last}"]))
+    return ",".join(parts)
+
+
 def some_tasks(random, count, leaves, ms):
     manner, tasks = random.choice(["busy", "sleepy", "mixed", "late"]), []
     for number in range(count):
@@ -63,6 +73,17 @@ def some_tasks(random, count, leaves, ms):
             task["weight"] = random.choice([1, 50, 100, 300, 10000, random.randrange(1, 10001)])
         tasks.append(task)
     return tasks
+
+
+def bind(random, values):
+    """Binds some of the tasks, and gives the workload a seed."""
+    if random.random() < 0.5:
+        share = random.choice([0.1, 0.5, 1])
+        for task in values["task"]:
+            if random.random() < share:
+                task["cpus"] = some_cpus(random, values["cpus"])
+    if random.random() < 0.5:
+        values["seed"] = random.choice([0, 1, 2**32, 2**63 - 1, random.randrange(2**63)])
 
 
 def some_changes(random, groups, ms):
@@ -82,6 +103,8 @@ def some_workload(random, shape=None):
     values["group"] = some_groups(random, groups)
     count = random.choice([tasks, random.randrange(1, tasks + 1), random.randrange(1, tasks + 1)])
     values["task"] = some_tasks(random, count, leaves_of(values["group"]), ms)
+    if LINUX:
+        bind(random, values)
     values["change"] = some_changes(random, values["group"], ms)
     for change in values["change"]:
         if LINUX and random.random() < 0.5:
