@@ -70,8 +70,8 @@ void BPF_STRUCT_OPS(custody_update_idle, s32 cpu, bool idle)
 SCX_OPS_DEFINE(custody_ops,
 	       .enqueue = (void *)custody_enqueue,
 	       .dequeue = (void *)custody_dequeue,
+	       LINE_OPS,
 	       .set_weight = (void *)custody_set_weight,
 	       .update_idle = (void *)custody_update_idle,
-	       LINE_OPS,
 	       .flags = SCX_OPS_KEEP_BUILTIN_IDLE,
 	       .name = "custody");

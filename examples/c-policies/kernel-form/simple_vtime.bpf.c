@@ -3,6 +3,7 @@
  * runs next. With --set slice_ns=N slices have N nanoseconds.
  */
 #include <scx/common.bpf.h>
+#include "line.bpf.h"
 
 char _license[] SEC("license") = "GPL";
 
@@ -11,8 +12,6 @@ const volatile u64 slice_ns = SCX_SLICE_DFL;
 static u64 newest;	/* the greatest virtual time at which a task began to run */
 
 UEI_DEFINE(uei);
-
-#define LINE 0
 
 s32 BPF_STRUCT_OPS(vtime_select_cpu, struct task_struct *p, s32 prev_cpu, u64 wake_flags)
 {
@@ -33,11 +32,6 @@ void BPF_STRUCT_OPS(vtime_enqueue, struct task_struct *p, u64 enq_flags)
 	scx_bpf_dsq_insert_vtime(p, LINE, slice_ns, vtime, enq_flags);
 }
 
-void BPF_STRUCT_OPS(vtime_dispatch, s32 cpu, struct task_struct *prev)
-{
-	scx_bpf_dsq_move_to_local(LINE);
-}
-
 void BPF_STRUCT_OPS(vtime_running, struct task_struct *p)
 {
 	if (time_before(newest, p->scx.dsq_vtime))
@@ -54,11 +48,6 @@ void BPF_STRUCT_OPS(vtime_enable, struct task_struct *p)
 	p->scx.dsq_vtime = newest;
 }
 
-s32 BPF_STRUCT_OPS_SLEEPABLE(vtime_init)
-{
-	return scx_bpf_create_dsq(LINE, -1);
-}
-
 void BPF_STRUCT_OPS(vtime_exit, struct scx_exit_info *ei)
 {
 	UEI_RECORD(uei, ei);
@@ -67,10 +56,9 @@ void BPF_STRUCT_OPS(vtime_exit, struct scx_exit_info *ei)
 SCX_OPS_DEFINE(vtime_ops,
 	       .select_cpu = (void *)vtime_select_cpu,
 	       .enqueue = (void *)vtime_enqueue,
-	       .dispatch = (void *)vtime_dispatch,
+	       LINE_OPS,
 	       .running = (void *)vtime_running,
 	       .stopping = (void *)vtime_stopping,
 	       .enable = (void *)vtime_enable,
-	       .init = (void *)vtime_init,
 	       .exit = (void *)vtime_exit,
 	       .name = "simple_vtime");
