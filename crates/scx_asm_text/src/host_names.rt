@@ -1,4 +1,4 @@
-use scx_isa_semantics::{Field, Helper};
+use scx_isa_semantics::{Field, Helper, MapHelper};
 
 /// A helper's name, as `docs/POLICIES.md` and listings have it.
 pub fn helper_name(helper: Helper) -> &'static str {
@@ -26,6 +26,19 @@ pub fn helper_name(helper: Helper) -> &'static str {
         Helper::TimerCancel => "timer_cancel",
         Helper::PrandomU32 => "get_prandom_u32",
         Helper::MayRun => "may_run",
+        Helper::OnMap(helper) => map_helper_name(helper),
+    }
+}
+
+/// The name of a helper on a map.
+fn map_helper_name(helper: MapHelper) -> &'static str {
+    match helper {
+        MapHelper::Update => "map_update_elem",
+        MapHelper::Delete => "map_delete_elem",
+        MapHelper::Push => "map_push_elem",
+        MapHelper::Pop => "map_pop_elem",
+        MapHelper::Peek => "map_peek_elem",
+        MapHelper::LookUpPerCpu => "map_lookup_percpu_elem",
     }
 }
 

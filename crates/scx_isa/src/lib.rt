@@ -37,7 +37,7 @@ pub use laws::{first_fault_is_unique, spelling_is_one_to_one};
 pub use program::{MAX_SLOTS, Program};
 pub use scx_isa_encoding::{DecodeFault, Exclusion};
 pub use scx_isa_semantics::{
-    Access, ByteOrder, CALLBACKS, Callback, Comparison, Extension, Field, Helper, Insn, Operand,
-    Operation, Parameter, PerCallback, Pointer, REGISTERS, Register, Rules, STACK_SIZE, Size,
-    StackByte, SwapWidth, TaskId, Value, Width,
+    Access, ByteOrder, CALLBACKS, Callback, Comparison, Extension, Field, Helper, Insn, MapHelper,
+    Operand, Operation, Parameter, PerCallback, Pointer, REGISTERS, Register, Rules, STACK_SIZE,
+    Size, StackByte, SwapWidth, TaskId, Value, Width,
 };

@@ -6,10 +6,12 @@ pub mod Code
 pub mod Arithmetic
 pub mod Memory
 pub mod HostTables
+pub mod Directories
 pub mod Elements
 pub mod Locations
 pub mod Machine
 pub mod Effects
+pub mod Serving
 pub mod Calls
 pub mod Meaning
 pub mod Steps

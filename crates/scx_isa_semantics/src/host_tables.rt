@@ -2,9 +2,10 @@ ghost use Rattle.std.specs.Prelude.{◌≡◌, ◌<◌, IfSome, slice_get};
 ghost use Rattle.scx_isa_semantics.specs.declared.host_tables.TheConstants.{MAX_ARGUMENTS};
 ghost use Rattle.scx_isa_semantics.specs.Arithmetic.{at_distance};
 ghost use Rattle.scx_isa_semantics.specs.Memory.{size_bytes};
-ghost use Rattle.scx_isa_semantics.specs.HostTables.{field_at, field_known, is_known_field, is_writable, helper_at, helper_known, is_known, is_plain_helper, parameters, answers_task, is_allowed};
+ghost use Rattle.scx_isa_semantics.specs.HostTables.{field_at, field_known, is_known_field, is_writable, helper_at, helper_known, fits_map, is_known, is_of_map, is_plain_helper, map_parameters, parameters, answers_task, is_allowed};
 
 use crate::callbacks::Callback;
+use crate::map_kinds::MapKind;
 use crate::operations::Size;
 use crate::rules::Rules;
 
@@ -26,6 +27,23 @@ pub enum Field {
     RunNs,
     /// A bit for each CPU on which the task may run. Known by Linux rules alone.
     Cpus,
+}
+
+/// A function that a program may call on one of its maps, beside the look-up of an element.
+#[derive(Clone, Copy, PartialEq, Eq)]
+pub enum MapHelper {
+    /// Writes the value of a key.
+    Update,
+    /// Takes a key out.
+    Delete,
+    /// Appends a value.
+    Push,
+    /// Takes a value out, and gives it.
+    Pop,
+    /// Gives the value that `Pop` would.
+    Peek,
+    /// Looks up an element in the copy of a CPU.
+    LookUpPerCpu,
 }
 
 /// A function of the host that a program may call. Those from `KickCpu` on are known by Linux rules
@@ -55,6 +73,7 @@ pub enum Helper {
     TimerCancel,
     PrandomU32,
     MayRun,
+    OnMap(MapHelper),
 }
 
 /// The most arguments that a helper takes, in r1 to r5.
@@ -63,10 +82,18 @@ pub const MAX_ARGUMENTS: usize = 5;
 /// The kind of one argument of a helper.
 #[derive(Clone, Copy)]
 pub enum Parameter {
-    /// A reference to a map.
+    /// A reference to a map with keys.
     Map,
-    /// A pointer to the four bytes of a map's key.
+    /// A reference to a map of which each CPU has a copy.
+    PerCpuMap,
+    /// A reference to a queue or a stack.
+    LineMap,
+    /// A pointer to the bytes of the map's key.
     Key,
+    /// A pointer to as many bytes as a value of the map has, which are read.
+    Value,
+    /// A pointer to as many bytes as a value of the map has, which are written.
+    Room,
     /// A pointer to a task.
     Task,
     Number,
@@ -118,6 +145,43 @@ impl Field {
     }
 }
 
+impl MapHelper {
+    /// The kind of the argument with this number, 0 for r1; `None` past the last one.
+    pub fn parameter(self, argument: usize) -> Option<Parameter>
+        ensures parameter { result ≡ slice_get (map_parameters self) argument }
+        ensures most { IfSome result (λ parameter. argument < MAX_ARGUMENTS) }
+    {
+        match (self, argument) {
+            (MapHelper::Update | MapHelper::Delete, 0) => Some(Parameter::Map),
+            (MapHelper::LookUpPerCpu, 0) => Some(Parameter::PerCpuMap),
+            (MapHelper::Push | MapHelper::Pop | MapHelper::Peek, 0) => Some(Parameter::LineMap),
+            (MapHelper::Update | MapHelper::Delete | MapHelper::LookUpPerCpu, 1) => {
+                Some(Parameter::Key)
+            }
+            (MapHelper::Push, 1) | (MapHelper::Update, 2) => Some(Parameter::Value),
+            (MapHelper::Pop | MapHelper::Peek, 1) => Some(Parameter::Room),
+            (MapHelper::Push | MapHelper::LookUpPerCpu, 2) | (MapHelper::Update, 3) => {
+                Some(Parameter::Number)
+            }
+            _ => None,
+        }
+    }
+}
+
+impl Parameter {
+    /// True if it takes a map, and maps of that kind.
+    pub fn fits_map(self, kind: MapKind) -> bool
+        ensures { result ≡ fits_map self kind }
+    {
+        match self {
+            Parameter::Map => !matches!(kind, MapKind::Queue | MapKind::Stack),
+            Parameter::PerCpuMap => matches!(kind, MapKind::PerCpu),
+            Parameter::LineMap => matches!(kind, MapKind::Queue | MapKind::Stack),
+            _ => false,
+        }
+    }
+}
+
 impl Helper {
     /// The helper of that number.
     pub fn new(number: i32) -> Option<Helper>
@@ -147,6 +211,12 @@ impl Helper {
             1018 => Some(Helper::TimerCancel),
             7 => Some(Helper::PrandomU32),
             1019 => Some(Helper::MayRun),
+            2 => Some(Helper::OnMap(MapHelper::Update)),
+            3 => Some(Helper::OnMap(MapHelper::Delete)),
+            87 => Some(Helper::OnMap(MapHelper::Push)),
+            88 => Some(Helper::OnMap(MapHelper::Pop)),
+            89 => Some(Helper::OnMap(MapHelper::Peek)),
+            195 => Some(Helper::OnMap(MapHelper::LookUpPerCpu)),
             _ => None,
         }
     }
@@ -199,6 +269,13 @@ impl Helper {
         matches!(self, Helper::TaskByPid | Helper::CpuCurr | Helper::DsqPeek)
     }
 
+    /// True if it works on a map of the program, and asks the host nothing but the CPU at hand.
+    pub fn is_of_map(self) -> bool
+        ensures { result ≡ is_of_map self }
+    {
+        matches!(self, Helper::MapLookupElem | Helper::OnMap(_))
+    }
+
     /// The kind of the argument with this number, 0 for r1; `None` past the last one.
     pub fn parameter(self, argument: usize) -> Option<Parameter>
         ensures parameter { result ≡ slice_get (parameters self) argument }
@@ -207,6 +284,7 @@ impl Helper {
         match (self, argument) {
             (Helper::MapLookupElem, 0) => Some(Parameter::Map),
             (Helper::MapLookupElem, 1) => Some(Parameter::Key),
+            (Helper::OnMap(helper), _) => helper.parameter(argument),
             (
                 Helper::DsqInsert
                 | Helper::DsqInsertVtime

@@ -11,6 +11,7 @@ mod host_tables;
 mod instructions;
 mod laws;
 mod little_endian;
+mod map_kinds;
 mod operations;
 mod per_callback;
 mod registers;
@@ -22,10 +23,11 @@ pub use arithmetic::{
     negated, pointer_step, shifted, wide_immediate, within,
 };
 pub use callbacks::{ArgumentKind, CALLBACKS, Callback};
-pub use host_tables::{Field, Helper, MAX_ARGUMENTS, Parameter, TaskId};
+pub use host_tables::{Field, Helper, MAX_ARGUMENTS, MapHelper, Parameter, TaskId};
 pub use instructions::{Insn, Operand};
 pub use laws::{Responder, run_carries_over, run_has_one_outcome};
 pub use little_endian::{read, read_number, read_word, write_number};
+pub use map_kinds::{KeySize, Line, MapKind};
 pub use operations::{Access, ByteOrder, Comparison, Extension, Operation, Size, SwapWidth, Width};
 pub use per_callback::PerCallback;
 pub use registers::{REGISTERS, Register};

@@ -1,7 +1,12 @@
+pub mod Slots
 pub mod Limits
 pub mod Refusals
 pub mod Sameness
-pub mod Contents
+pub mod SameShapes
 pub mod Unused
 pub mod Layout
+pub mod Contents
 pub mod Lending
+pub mod Keeping
+pub mod Words
+pub mod Laws

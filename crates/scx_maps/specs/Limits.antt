@@ -1,13 +1,14 @@
--- Shapes of array maps and their limits: a map has 1 to 65536 entries, each a value of 1 to 4096
--- bytes; there are at most 16 maps, and their values take at most 16,777,216 bytes together.
+-- Shapes of maps and their limits: a map has 1 to 65536 entries, each a value of 1 to 4096 bytes;
+-- there are at most 16 maps, and their values take at most 16,777,216 bytes together.
 use Rattle.std.specs.Prelude.{ℕ, ◌*◌, ◌≤◌, List, length, sum_by, All}
 use Rattle.scx_maps.specs.declared.shape.Shape.{Shape}
+use Rattle.scx_maps.specs.Slots.{slots}
 use Rattle.scx_maps.specs.declared.shape.TheConstants.{MAX_ENTRIES, MAX_VALUE_SIZE}
 use Rattle.scx_maps.specs.declared.defs.TheConstants.{MAX_MAPS, MAX_BYTES}
 
 -- the size in bytes of the values of a map
 abbrev pub byte_count : Shape → ℕ
-byte_count s = s.entries * s.value_size
+byte_count s = slots s * s.value_size
 
 -- the size in bytes of the values of all maps
 abbrev pub total_bytes : List Shape → ℕ

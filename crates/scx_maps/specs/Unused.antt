@@ -1,12 +1,13 @@
 -- At most sixteen shapes in an array of sixteen: those past the last one are unused.
 use Rattle.std.specs.Prelude.{◌≡◌, ℕ, ◌-◌, List, ◌++◌, length, take, replicate}
+use Rattle.scx_isa_semantics.specs.declared.map_kinds.MapKind.TheVariants.{Array}
 use Rattle.scx_maps.specs.declared.shape.Shape.{Shape}
 use Rattle.scx_maps.specs.declared.defs.TheConstants.{MAX_MAPS}
 use Rattle.scx_maps.specs.Limits.{AreWithinLimits}
 
 -- the shape of no map: it has no entry, and no map may have it
 abbrev pub unused_shape : Shape
-unused_shape = record { entries = 0; value_size = 0 }
+unused_shape = record { entries = 0; value_size = 0; kind = Array }
 
 -- the shapes of a policy's maps followed by unused ones, sixteen in all
 abbrev pub filled_up : List Shape → List Shape

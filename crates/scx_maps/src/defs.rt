@@ -1,14 +1,15 @@
 ghost use Rattle.std.specs.Prelude.{◌≡◌, ◌≤◌, ◌↔◌, [], length, slice_get, All, IsOk, IsTrue, IfOk, IfErr, IfSome, OnOk};
-ghost use Rattle.std.proofs.Common.{rules};
 ghost use Rattle.std.specs.Cmp.Lexicographic.{lists_per, lists_equiv};
-ghost use Rattle.std.specs.Cmp.Rules.{comparing};
+ghost use Rattle.scx_maps.specs.SameShapes.{same_shape_per, same_shape_equiv};
 ghost use Rattle.scx_maps.specs.declared.shape.TheConstants.{MAX_VALUE_SIZE};
 ghost use Rattle.scx_maps.specs.Limits.{AreWithinLimits, IsWithinLimits, total_bytes};
 ghost use Rattle.scx_maps.specs.Refusals.{Breaks};
+ghost use Rattle.scx_maps.specs.Contents.{are_arrays};
 ghost use Rattle.scx_maps.specs.Sameness.{same_shapes};
 
 use crate::bad_shape::BadShape;
 use crate::shape::Shape;
+use scx_isa_semantics::MapKind;
 use std::marker::Model;
 
 /// The most maps that a policy may have.
@@ -20,6 +21,7 @@ pub const MAX_BYTES: usize = 16_777_216;
 const UNUSED_SHAPE: Shape = Shape {
     entries: 0,
     value_size: 0,
+    kind: MapKind::Array,
 };
 
 /// The shapes of a policy's maps, numbered from 0, within the limits.
@@ -90,6 +92,18 @@ impl MapDefs {
         self.shapes().get(usize::from(map)).copied()
     }
 
+    /// True if all are shapes of arrays.
+    pub fn are_arrays(&self) -> bool
+        ensures { result ≡ are_arrays self.now }
+    {
+        for shape in self.shapes() {
+            if !shape.is_array() {
+                return false;
+            }
+        }
+        true
+    }
+
     /// All shapes, in order.
     pub(crate) fn shapes(&self) -> &[Shape]
         ensures shapes { result.now ≡ self.now }
@@ -102,7 +116,7 @@ impl MapDefs {
 impl PartialEq for MapDefs {
     ghost eq = { same_shapes };
 
-    ghost laws = { lists_per (Prim.search (comparing, rules)) };
+    ghost laws = { lists_per same_shape_per };
 
     /// True if both have the same shapes, in the same order.
     fn eq(&self, other: &MapDefs) -> bool
@@ -114,7 +128,7 @@ impl PartialEq for MapDefs {
 }
 
 impl Eq for MapDefs {
-    ghost laws = { lists_equiv (Prim.search (comparing, rules)) };
+    ghost laws = { lists_equiv same_shape_equiv };
 }
 
 /// Refuses the first map that breaks a limit of its own.

@@ -1,6 +1,7 @@
 ghost use Rattle.std.specs.Prelude.{◌≡◌, ◌≤◌, ◌<◌, ◌+◌, [], length};
 ghost use Rattle.scx_maps.specs.Limits.{AreWithinLimits, total_bytes};
 ghost use Rattle.scx_maps.specs.Layout.{shape_at, offset_of};
+ghost use Rattle.scx_maps.specs.Slots.{slots};
 
 use crate::defs::{MAX_MAPS, MapDefs};
 use crate::shape::Shape;
@@ -99,7 +100,7 @@ impl Layout {
     /// The byte at which an element begins.
     pub fn offset(&self, map: u8, index: u32) -> usize
         requires map { map < length self.now }
-        requires index { index < (shape_at self.now map).entries }
+        requires index { index < slots (shape_at self.now map) }
         ensures offset { result ≡ offset_of self.now map index }
         ensures within { result + (shape_at self.now map).value_size ≤ total_bytes self.now }
         ensures limits { AreWithinLimits self.now }

@@ -5,6 +5,10 @@ pub mod Offsets
 pub mod Registers
 pub mod Operations
 pub mod Accesses
+pub mod Written
+pub mod OnMaps
+pub mod AfterCalls
+pub mod MapCalls
 pub mod Parameters
 pub mod HelperCalls
 pub mod Branches

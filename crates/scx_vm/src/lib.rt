@@ -27,5 +27,5 @@ pub use context::Context;
 pub use ending::Done;
 pub use env::Env;
 pub use laws::{operations_are_in_bounds, plain_runs_show};
-pub use ops::{Key, Op};
+pub use ops::{Op, Place};
 pub use packed::{Packed, pack};

@@ -1,5 +1,5 @@
 -- What the interpreter says of a run is what is computed.
-use Rattle.std.specs.Prelude.{ℕ, ◌≡◌, ◌≤◌}
+use Rattle.std.specs.Prelude.{◌≡◌, ◌≤◌}
 use Rattle.scx_isa_semantics.specs.declared.values.Value.{Value}
 use Rattle.scx_isa_semantics.specs.declared.callbacks.Callback.{Callback}
 use Rattle.scx_isa_semantics.specs.Code.{Code, instruction_count}

@@ -3,9 +3,11 @@ pub mod RunSteps
 pub mod Lists
 pub mod StackReads
 pub mod StackWrites
+pub mod StackBytes
 pub mod Effects
 pub mod Registers
 pub mod HelperCalls
+pub mod MapEffects
 pub mod Fields
 pub mod Ended
 pub mod Coming

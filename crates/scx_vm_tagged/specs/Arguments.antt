@@ -11,5 +11,4 @@ abbrev pub finds : machine.Machine → Option Parameter → Value → Bool
 finds m None v = true
 finds m (Some parameter.Task) v = takes m parameter.Task v
 finds m (Some parameter.Number) v = takes m parameter.Number v
-finds m (Some parameter.Map) v = false
-finds m (Some parameter.Key) v = false
+finds m (Some p) v = false

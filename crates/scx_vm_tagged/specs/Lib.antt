@@ -3,6 +3,7 @@ pub mod State
 pub mod Arguments
 pub mod Locations
 pub mod Execute
+pub mod MapCalls
 pub mod Run
 pub mod Outcome
 pub mod Watched

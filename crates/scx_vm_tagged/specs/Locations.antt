@@ -1,7 +1,7 @@
 -- The interpreter's locations as the locations of the definitions, and what it knows of one that an
 -- address means: its bytes are there, and on the stack it is a multiple of their number.
 use Rattle.std.specs.Prelude.{◌≡◌, ℕ, ◌+◌, ◌%◌, ◌<◌, ◌≤◌, ⊤, length}
-use Rattle.scx_isa_semantics.specs.Elements.{Maps, elements, element}
+use Rattle.scx_isa_semantics.specs.Elements.{Maps, count, elements, element}
 use Rattle.scx_isa_semantics.specs.Memory.{stack_size}
 use Rattle.scx_isa_semantics.specs.Locations as locations
 use Rattle.scx_vm_tagged.specs.declared.memory.Location.{Location}
@@ -21,7 +21,7 @@ pub record LiesOnStack (at n : ℕ) : Type 0 where
 
 -- so many bytes from an offset on are in an element of a map, and both of these are there
 pub record LiesInElement (maps : Maps) (m i at n : ℕ) : Type 0 where
-  pub map : m < length maps
+  pub map : m < count maps
   pub index : i < length (elements maps m)
   pub within : at + n ≤ length (element maps m i)
 

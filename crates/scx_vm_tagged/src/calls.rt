@@ -1,10 +1,11 @@
 ghost use Rattle.std.specs.Prelude.{◌≡◌, ◌+◌, ◌<◌, ◌≤◌, length, map, slice_get, if◌then◌else◌};
-ghost use Rattle.scx_isa_semantics.specs.Calls.{call, key, takes_all, argument, arguments, call_effect};
+ghost use Rattle.scx_isa_semantics.specs.Calls.{call, takes_all, argument, arguments, call_effect};
 ghost use Rattle.scx_isa_semantics.specs.Effects as effects;
 ghost use Rattle.scx_isa_semantics.specs.Elements.{Maps};
-ghost use Rattle.scx_isa_semantics.specs.HostTables.{parameters};
+ghost use Rattle.scx_isa_semantics.specs.HostTables.{parameters, is_of_map};
 ghost use Rattle.scx_isa_semantics.specs.Registers.{number};
-ghost use Rattle.scx_isa_semantics.specs.declared.host_tables.Helper.TheVariants.{MapLookupElem};
+ghost use Rattle.std.specs.Bool.{IsFalse};
+ghost use Rattle.scx_maps.specs.Contents.{lengths_of};
 ghost use Rattle.scx_vm_tagged.specs.State.{seen, register_value};
 ghost use Rattle.scx_vm.specs.Host.{host};
 ghost use Rattle.scx_vm.specs.Arguments.{argument_of};
@@ -13,10 +14,9 @@ ghost use Rattle.scx_vm_tagged.specs.Execute.{ComesTo, effect_of};
 
 use crate::arguments::{answer_value, argument_of};
 use crate::effect::Effect;
-use crate::memory::{Location, address};
+use crate::on_map::on_map;
 use crate::state::Core;
-use byteorder::{ByteOrder, LittleEndian};
-use scx_isa::{Callback, Helper, Parameter, Pointer, Register, Size, Value};
+use scx_isa::{Callback, Helper, Parameter, Pointer, Register, Value};
 use scx_maps::Maps;
 use scx_vm::{Arg, Env};
 
@@ -27,12 +27,13 @@ pub fn call<E: Env>(
     core: &mut Core,
     number: i32,
     callback: Callback,
-    maps: &Maps,
+    maps: &mut Maps,
     env: &mut E,
 ) -> Effect
     requires budget { 0 < E.room env.old }
-    ensures effect { ComesTo (host E.functions) (call callback (seen core.old maps.now) number)
-        maps.now env.old result (seen core.new maps.now) env.new }
+    ensures effect { ComesTo (host E.functions) (call callback (seen core.old maps.old) number)
+        maps.old env.old result (seen core.new maps.new) env.new }
+    ensures shapes { lengths_of maps.new ≡ lengths_of maps.old }
     ensures room { E.room env.old ≤ E.room env.new + 1 }
     ensures spent { E.spent env.new ≤ E.spent env.old + 1 }
 {
@@ -42,56 +43,17 @@ pub fn call<E: Env>(
     if !helper.is_allowed(callback) {
         return Effect::Stuck;
     }
-    match helper {
-        Helper::MapLookupElem => look_up(core, maps),
-        _ => ask(core, helper, env),
-    }
-}
-
-/// The look-up of a map's element.
-fn look_up(core: &mut Core, maps: &Maps) -> Effect
-    ensures { (if takes_all (seen core.old maps.now) (parameters MapLookupElem) 1 then call_effect
-        (seen core.old maps.now) MapLookupElem else effects.Stuck)
-        ≡ effect_of result (seen core.new maps.now) }
-{
-    let Value::Pointer(Pointer::Map(map)) = core.read(Register::R1) else {
-        return Effect::Stuck;
-    };
-    if usize::from(map) >= maps.count() {
-        return Effect::Stuck;
-    }
-    let Some(key) = key(core, maps, core.read(Register::R2)) else {
-        return Effect::Stuck;
-    };
-    if maps.lookup(map, key) {
-        core.end_call(Value::Pointer(Pointer::Element {
-            map,
-            index: key,
-            offset: 0,
-        }));
+    if helper.is_of_map() {
+        on_map(core, helper, maps, env)
     } else {
-        core.end_call(Value::Number(0));
-    }
-    Effect::Next
-}
-
-/// The key of a map, to which a value points.
-fn key(core: &Core, maps: &Maps, value: Value) -> Option<u32>
-    ensures { result ≡ key (seen core.now maps.now) value }
-{
-    match address(maps, value, 0, Size::Word) {
-        Location::OnStack(at) => core.stack.word(usize::from(at)),
-        Location::InElement(map, index, at) => Some(LittleEndian::read_u32(
-            &maps.value(map, index)[usize::from(at)..],
-        )),
-        Location::Nowhere | Location::InTask(..) => None,
+        ask(core, helper, env)
     }
 }
 
 /// Asks the host, if the helper finds what it takes.
 fn ask<E: Env>(core: &mut Core, helper: Helper, env: &mut E) -> Effect
     requires budget { 0 < E.room env.old }
-    requires is_asked { ¬ (helper ≡ MapLookupElem) }
+    requires is_asked { IsFalse (is_of_map helper) }
     ensures effect { (maps : Maps)
         → ComesTo (host E.functions)
         (if takes_all (seen core.old maps) (parameters helper) 1 then call_effect (seen core.old maps)
@@ -137,7 +99,7 @@ fn argument(core: &Core, helper: Helper, index: usize, register: Register) -> Ar
 
 /// True if a helper that asks the host finds all its arguments, from r1 on.
 fn takes_all(core: &Core, helper: Helper) -> bool
-    requires { ¬ (helper ≡ MapLookupElem) }
+    requires { IsFalse (is_of_map helper) }
     ensures { (maps : Maps) → result ≡ takes_all (seen core.now maps) (parameters helper) 1 }
 {
     takes(core, helper, 0, Register::R1)
@@ -159,6 +121,13 @@ fn takes(core: &Core, helper: Helper, index: usize, register: Register) -> bool
         None => true,
         Some(Parameter::Task) => matches!(value, Value::Pointer(Pointer::Task(_))),
         Some(Parameter::Number) => matches!(value, Value::Number(_)),
-        Some(Parameter::Map | Parameter::Key) => false,
+        Some(
+            Parameter::Map
+            | Parameter::PerCpuMap
+            | Parameter::LineMap
+            | Parameter::Key
+            | Parameter::Value
+            | Parameter::Room,
+        ) => false,
     }
 }

@@ -12,8 +12,8 @@
 //!
 //! The layers, from below: the 512 bytes of stack (`stack`), values that pass to the host and back
 //! (`arguments`), registers and stack (`state`), operands and pointers (`values`), comparisons
-//! (`jumps`), addresses (`memory`), loads and stores (`access`), helper calls (`calls`), one
-//! instruction (`execute`), the watch (`watch`), slots and the run (`run`).
+//! (`jumps`), addresses (`memory`), loads and stores (`access`), helpers on maps (`on_map`), helper
+//! calls (`calls`), one instruction (`execute`), the watch (`watch`), slots and the run (`run`).
 #![tactic(auto)]
 
 mod access;
@@ -23,6 +23,7 @@ mod effect;
 mod execute;
 mod jumps;
 mod memory;
+mod on_map;
 mod run;
 mod stack;
 mod state;

@@ -1,9 +1,11 @@
-ghost use Rattle.std.specs.Prelude.{◌≡◌, ◌+◌, ◌%◌, ◌≤◌, IfSome};
+ghost use Rattle.std.specs.Prelude.{◌≡◌, ◌+◌, ◌%◌, ◌<◌, ◌≤◌, nat_le, IfSome};
+ghost use Rattle.scx_isa_semantics.specs.Calls.{region};
 ghost use Rattle.scx_isa_semantics.specs.Arithmetic.{at_distance};
 ghost use Rattle.scx_isa_semantics.specs.Elements.{element, number_at};
 ghost use Rattle.scx_isa_semantics.specs.Memory.{aligned_within, size_bytes, access_size, read_as};
 ghost use Rattle.scx_isa_semantics.specs.Locations.{address};
 ghost use Rattle.scx_vm_tagged.specs.Locations.{location_of, Lies, LiesInElement};
+ghost use Rattle.scx_vm_tagged.specs.MapCalls.{HasBytes};
 
 use scx_isa::{Access, Field, Pointer, STACK_SIZE, Size, TaskId, Value};
 use scx_isa_semantics::{read, shifted};
@@ -66,6 +68,46 @@ fn aligned_within(limit: u16, size: Size, at: u16, offset: i16) -> Option<u16>
         (Some(to), Some(last)) if to <= last && to % bytes == 0 => Some(to as u16),
         _ => None,
     }
+}
+
+/// The location of that many bytes to which a value points, on the stack or in an element.
+pub fn region(maps: &Maps, base: Value, count: u16) -> Location
+    requires { 0 < count }
+    ensures location { region maps.now base count ≡ location_of result }
+    ensures has { HasBytes maps.now count result }
+{
+    match base {
+        Value::Pointer(Pointer::Stack(at)) => {
+            if fits(at, count, STACK_SIZE) {
+                Location::OnStack(at)
+            } else {
+                Location::Nowhere
+            }
+        }
+        Value::Pointer(
+            Pointer::Element {
+                map,
+                index,
+                offset: at,
+            },
+        ) => {
+            if fits(at, count, maps.value_size(map, index)) {
+                Location::InElement(map, index, at)
+            } else {
+                Location::Nowhere
+            }
+        }
+        Value::Pointer(Pointer::Task(_) | Pointer::Map(_)) | Value::Number(_) | Value::Unset => {
+            Location::Nowhere
+        }
+    }
+}
+
+/// True if that many bytes from an offset on lie in memory of that size.
+fn fits(at: u16, count: u16, size: u16) -> bool
+    ensures { result ≡ nat_le (at + count) size }
+{
+    u32::from(at) + u32::from(count) <= u32::from(size)
 }
 
 /// The number that a load reads in a map value.

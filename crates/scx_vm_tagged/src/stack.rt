@@ -1,7 +1,8 @@
-ghost use Rattle.std.specs.Prelude.{◌≡◌, ◌+◌, ◌%◌, ◌≤◌};
+ghost use Rattle.std.specs.Prelude.{◌≡◌, ◌+◌, ◌%◌, ◌≤◌, length, map, option_map};
+ghost use Rattle.scx_isa_semantics.specs.Calls.{numbers_in};
 ghost use Rattle.scx_isa_semantics.specs.Memory.{load, write, bytes_at, number_in, pointer_in, number_bytes, parts, size_bytes, access_size};
 ghost use Rattle.scx_isa_semantics.specs.declared.operations.Access.TheVariants as Access;
-ghost use Rattle.scx_isa_semantics.specs.declared.values.StackByte.TheVariants.{Unwritten};
+ghost use Rattle.scx_isa_semantics.specs.declared.values.StackByte.TheVariants.{Byte, Unwritten};
 
 use byteorder::{ByteOrder, LittleEndian};
 use scx_isa::{Access, Pointer, STACK_SIZE, Size, Value};
@@ -149,6 +150,45 @@ impl Stack {
     {
         LittleEndian::write_u64(&mut self.bytes[at..], n);
         LittleEndian::write_u64(&mut self.marks[at..], EIGHT_WRITTEN);
+    }
+
+    /// The number of that size there, if one was written to each of its bytes.
+    pub fn number(&self, size: Size, at: usize) -> Option<u64>
+        requires { at + size_bytes size ≤ STACK_SIZE }
+        ensures { result ≡ number_in (bytes_at (seen_stack self.now) at (size_bytes size)) }
+    {
+        match size {
+            Size::Byte => Some(u64::from(self.byte(at)?)),
+            Size::HalfWord => Some(u64::from(self.half_word(at)?)),
+            Size::Word => Some(u64::from(self.word(at)?)),
+            Size::DoubleWord => self.double_word(at),
+        }
+    }
+
+    /// Copies the bytes there, if a number was written to each.
+    pub fn read_bytes(&self, at: usize, bytes: &mut [u8]) -> Option<()>
+        requires { at + length bytes.old ≤ STACK_SIZE }
+        ensures bytes { option_map (λ u. bytes.new) result
+            ≡ numbers_in (bytes_at (seen_stack self.now) at (length bytes.old)) }
+        ensures long { length bytes.new ≡ length bytes.old }
+    {
+        for number in 0..bytes.len() {
+            let Some(byte) = self.byte(at + number) else {
+                return None;
+            };
+            bytes[number] = byte;
+        }
+        Some(())
+    }
+
+    /// Writes numbers to bytes.
+    pub fn write_bytes(&mut self, at: usize, bytes: &[u8])
+        requires { at + length bytes.now ≤ STACK_SIZE }
+        ensures { seen_stack self.new ≡ write (seen_stack self.old) at (map Byte bytes.now) }
+    {
+        for number in 0..bytes.len() {
+            self.write_byte(at + number, bytes[number]);
+        }
     }
 
     /// Stores a pointer in the eight bytes.

@@ -1,5 +1,6 @@
-use Rattle.std.proofs.Common.{◌≡◌, [], true, sym, subst, ap, ◌∙◌}
+use Rattle.std.proofs.Common.{◌≡◌, true, sym, subst, ap, ◌∙◌}
 use Rattle.scx_isa_semantics.specs.Calls.{takes_all, after_call, arguments}
+use Rattle.scx_isa_semantics.specs.Elements.{no_maps}
 use Rattle.scx_isa_semantics.specs.HostTables.{parameters}
 use Rattle.scx_vm_tagged.specs.State.{seen}
 use Rattle.scx_vm.specs.Arguments.{answer_value}
@@ -21,7 +22,7 @@ returns-clause-effect g c = λ maps.
 
 pub call-answer-requires-clause-taken : goal.call-answer-requires-clause-taken
 call-answer-requires-clause-taken g c =
-    let m = seen c.args.core.now [] in
-    let all = c.takes_all.ensures [] in
+    let m = seen c.args.core.now no_maps in
+    let all = c.takes_all.ensures no_maps in
     let takes : takes_all m (parameters c.args.helper) 1 ≡ true = cc (all, c.if-not-takes_all.false) in
-    subst (AreTaken c.args.helper) (sym (c.arguments.ensures [])) (arguments_taken m c.args.helper c.requires.is_asked takes)
+    subst (AreTaken c.args.helper) (sym (c.arguments.ensures no_maps)) (arguments_taken m c.args.helper c.requires.is_asked takes)

@@ -1,30 +1,12 @@
-use Rattle.std.proofs.Common.{◌≡◌, length, sym, ap, ◌∙◌}
-use Rattle.scx_maps.specs.Limits.{total_bytes}
-use Rattle.scx_maps.specs.Layout.{contents_in}
-use Rattle.scx_maps.proofs.ByPlace.{shapes_shown}
-use Rattle.scx_maps.proofs.SameShapes.{same_shapes}
+use Rattle.std.proofs.Common.{◌≡◌, map, sym, ap, ◌∙◌}
+use Rattle.scx_isa_semantics.specs.Directories.{kind_of}
+use Rattle.scx_maps.specs.Contents.{lengths_in, lengths_of, kinds_of}
+use Rattle.scx_maps.proofs.CopiedParts.{same_slots_held}
 use Rattle.scx_maps.proofs.maps.Maps.copy_from.Goals as goal
 
-pub copy_from_slice-requires : goal.copy_from_slice-requires
-copy_from_slice-requires c =
-    let own = shapes_shown c.self.inside.layout c.self.inside.block.items c.args.self.now c.self.invariant c.self.view_is in
-    let others = shapes_shown c.other.inside.layout c.other.inside.block.items c.args.other.now c.other.invariant c.other.view_is in
-    let same = sym own ∙ (same_shapes c.args.self.now c.args.other.now c.requires ∙ others) in
-    c.self.inside.block.ok.0 ∙ c.self.invariant.full ∙ ap total_bytes same ∙ sym c.other.invariant.full ∙ sym (ap (λ xs. length xs) c.deref.ensures.value)
-
-pub returns : goal.returns
-returns c =
-    let own = shapes_shown c.self.inside.layout c.self.inside.block.items c.args.self.now c.self.invariant c.self.view_is in
-    let others = shapes_shown c.other.inside.layout c.other.inside.block.items c.args.other.now c.other.invariant c.other.view_is in
-    let same = sym own ∙ (same_shapes c.args.self.now c.args.other.now c.requires ∙ others) in
-    ap (λ xs. contents_in c.self.inside.layout xs) (c.copy_from_slice.ensures.items ∙ c.deref.ensures.value) ∙ ap (λ s. contents_in s c.other.inside.block.items) same ∙ c.other.view_is
-
-pub invariant_of-self : goal.invariant_of-self
-invariant_of-self c =
-    let own = shapes_shown c.self.inside.layout c.self.inside.block.items c.args.self.now c.self.invariant c.self.view_is in
-    let others = shapes_shown c.other.inside.layout c.other.inside.block.items c.args.other.now c.other.invariant c.other.view_is in
-    let same = sym own ∙ (same_shapes c.args.self.now c.args.other.now c.requires ∙ others) in
-    record {
-      limits = c.self.invariant.limits;
-      full = ap (λ xs. length xs) (c.copy_from_slice.ensures.items ∙ c.deref.ensures.value) ∙ c.other.invariant.full ∙ sym (ap total_bytes same);
-    }
+pub copy_directories-requires-clause-slots : goal.copy_directories-requires-clause-slots
+copy_directories-requires-clause-slots c =
+    let kinds : map kind_of c.self.inside.directories.items ≡ map kind_of c.other.inside.directories.items = ap kinds_of c.self.view_is ∙ (c.requires.kinds ∙ sym (ap kinds_of c.other.view_is)) in
+    let lengths : lengths_in c.self.inside.values ≡ lengths_in c.other.inside.values = ap lengths_of c.self.view_is ∙ (c.requires.lengths ∙ sym (ap lengths_of c.other.view_is)) in
+    let slots = same_slots_held c.self.inside.directories.items c.other.inside.directories.items c.self.inside.values c.other.inside.values kinds c.self.invariant c.other.invariant lengths in
+    rw (c.deref_mut.ensures.value, c.deref.ensures.value) slots

@@ -1,20 +1,15 @@
-use Rattle.std.proofs.Common.{◌≡◌, ◌≤◌, ap, sym, ◌∙◌, subst, arith, rules}
-use Rattle.std.specs.Prelude.{replicate}
-use Rattle.scx_maps.specs.Limits.{total_bytes}
-use Rattle.scx_isa_semantics.specs.Elements.{Maps}
-use Rattle.scx_maps.specs.Contents.{zeros, HasShapes}
-use Rattle.scx_maps.specs.Layout.{contents_in}
-use Rattle.scx_maps.proofs.Blocks.{contents_in-zeros}
-use Rattle.scx_maps.proofs.Shapes.{HasShapes-zeros}
+use Rattle.std.proofs.Common.{List, map, ap, ◌∙◌}
+use Rattle.scx_isa_semantics.specs.Directories.{Directory, kind_of}
+use Rattle.scx_maps.proofs.CopiedParts.{have_slots_as}
+use Rattle.scx_maps.proofs.NewMaps.{new_kinds, new_slots}
 use Rattle.scx_maps.proofs.maps.Maps.new.Goals as goal
 
-pub returns-clause-zeros : goal.returns-clause-zeros
-returns-clause-zeros c =
-    let items : c.in_ok-block.block.items ≡ replicate c.bytes.result 0 = search rules in
-    let fits : total_bytes c.new-layout.result ≤ c.bytes.result = omega (arith, c.bytes.ensures.bytes) in
-    ap (λ xs. contents_in c.new-layout.result xs) items ∙ contents_in-zeros c.new-layout.result c.bytes.result fits ∙ ap (λ shapes. zeros shapes) c.new-layout.ensures
+pub invariant_of-result : goal.invariant_of-result
+invariant_of-result c = have_slots_as _ _ _ _ c.in_ok-directories.ensures c.in_ok-values.ensures.zeros (new_slots c.args.defs.now)
 
 pub returns-clause-shapes : goal.returns-clause-shapes
-returns-clause-shapes c =
-    let Shaped : Maps → Type 0 = λ maps. HasShapes c.args.defs.now maps in
-    subst Shaped (sym (returns-clause-zeros c)) (HasShapes-zeros c.args.defs.now)
+returns-clause-shapes c = record {
+  lengths = c.in_ok-values.ensures.shapes.lengths;
+  bytes = c.in_ok-values.ensures.shapes.bytes;
+  kinds = ap (λ (ds : List Directory). map kind_of ds) c.in_ok-directories.ensures ∙ new_kinds c.args.defs.now;
+}

@@ -1,26 +1,8 @@
-use Rattle.std.proofs.Common.{◌≡◌, length, sym, ap, ◌∙◌, arith}
-use Rattle.std.proofs.lemmas.List.{take_at}
-use Rattle.scx_isa_semantics.specs.Elements.{with_number}
-use Rattle.scx_isa_semantics.specs.Memory.{size_bytes}
-use Rattle.scx_isa_semantics.proofs.Bytes.{length-with_number}
-use Rattle.scx_maps.specs.Layout.{contents_in}
-use Rattle.scx_maps.specs.Lending.{all_bytes}
-use Rattle.scx_maps.proofs.ByPlace.{all_shown, shapes_shown}
+use Rattle.std.proofs.Common.{sym, subst}
+use Rattle.scx_isa_semantics.specs.Directories.{Array}
+use Rattle.scx_maps.specs.Keeping.{HasSlots}
+use Rattle.std.specs.Prelude.{slice_index_or}
 use Rattle.scx_maps.proofs.maps.Maps.store_at.Goals as goal
 
-pub write_number-requires : goal.write_number-requires
-write_number-requires c =
-    let all = all_shown c.self.inside.layout c.self.inside.block.items c.args.self.now c.self.invariant c.self.view_is in
-    omega (arith, ap (λ xs. length xs) all, ap (λ xs. length xs) c.deref_mut.ensures.value)
-
-pub returns : goal.returns
-returns c =
-    let maps = c.args.self.now in
-    let block = c.self.inside.block in
-    let all = all_shown c.self.inside.layout block.items maps c.self.invariant c.self.view_is in
-    let shapes = shapes_shown c.self.inside.layout block.items maps c.self.invariant c.self.view_is in
-    let is = c.write_number.ensures ∙ ap (λ xs. with_number xs c.args.offset (size_bytes c.args.size) c.args.number) (c.deref_mut.ensures.value ∙ sym all) in
-    let count = ap (λ xs. length xs) all in
-    let long : length c.write_number.new.value ≡ block.len = ap (λ xs. length xs) is ∙ length-with_number (all_bytes maps) c.args.offset (size_bytes c.args.size) c.args.number c.requires ∙ count ∙ sym block.ok.0 in
-    ap (λ xs. contents_in c.self.inside.layout xs) (take_at c.write_number.new.value _ block.len long ∙ is)
-    ∙ ap (λ s. contents_in s (with_number (all_bytes maps) c.args.offset (size_bytes c.args.size) c.args.number)) (sym shapes)
+pub invariant_of-self : goal.invariant_of-self
+invariant_of-self c m = subst (λ n. HasSlots (slice_index_or c.self.inside.directories.items m Array) n) (sym (c.store_at.ensures.counts m)) (c.self.invariant m)
