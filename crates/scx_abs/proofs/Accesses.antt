@@ -24,7 +24,7 @@ use Rattle.scx_isa_semantics.specs.Locations as location
 use Rattle.scx_isa_semantics.specs.Locations.{Location, on_stack, in_element, in_task, address}
 use Rattle.scx_isa_semantics.specs.Machine.{Machine, with_stack}
 use Rattle.scx_isa_semantics.specs.Effects as effect
-use Rattle.scx_isa_semantics.specs.Effects.{set_register, set_register_by_answer}
+use Rattle.scx_isa_semantics.specs.Effects.{set_register_by_answer}
 use Rattle.scx_isa_semantics.specs.Meaning.{operand_value, is_plain, load_effect, store_effect}
 use Rattle.scx_isa_semantics.proofs.Bytes.{with_number_bytes, with_element_bytes}
 use Rattle.scx_isa_encoding.specs.Spelling.{IsOperand}
@@ -200,7 +200,8 @@ cell_member shapes a m c cell stack h new old = record {
   maps = h.maps;
 }
 
-after_number : (shapes : List Shape) (a : AbsState) (m : Machine) (s : Size) (at n : ℕ) → IsMember shapes a m → at % 8 + size_bytes s ≤ 8
+-- a number that is stored to bytes of a cell is known of
+pub after_number : (shapes : List Shape) (a : AbsState) (m : Machine) (s : Size) (at n : ℕ) → IsMember shapes a m → at % 8 + size_bytes s ≤ 8
     → IsMember shapes (with_cell a (at / 8) (Bytes (with_bytes (written_in (cell_at a (at / 8))) (at % 8) (size_bytes s)))) (with_stack m (write m.stack at (number_bytes (size_bytes s) n)))
 after_number shapes a m s at n h fits =
     let place : at ≡ 8 * (at / 8) + at % 8 = omega arith in
@@ -257,7 +258,7 @@ element_stored : (shapes : List Shape) (a : AbsState) (m : Machine) (s : Size) (
 element_stored shapes a m s e i at (Num r) (value.Number n) h there room g =
     let bytes = with_number (element m.maps e i) at (size_bytes s) n in
     maps_member shapes a m (with_element m.maps e i bytes) h (with_number-lengths m.maps e i at (size_bytes s) n there room)
-    (with_element_bytes m.maps e i bytes h.maps.bytes (with_number_bytes (element m.maps e i) at (size_bytes s) n (h.maps.bytes e i)))
+    (with_element_bytes m.maps e i bytes h.maps.bytes (with_number_bytes (element m.maps e i) at (size_bytes s) n (h.maps.bytes e i))) refl
 element_stored shapes a m s e i at (Num r) v h there room g = absurd g
 element_stored shapes a m s e i at k v h there room g = tt
 

@@ -1,5 +1,5 @@
 -- Cells of which nothing is known: joins and changes leave those below the lowest that was written.
-use Rattle.std.proofs.Common.{◌≡◌, ℕ, zero, suc, ◌<◌, ◌≤◌, List, [], ◌++◌, ◌-◌, length, take, drop, replicate, slice_index_or, refl, sym, ap, ◌∙◌, arith}
+use Rattle.std.proofs.Common.{◌≡◌, ℕ, zero, suc, ◌+◌, ◌/◌, ◌%◌, ◌<◌, ◌≤◌, List, [], ◌++◌, ◌-◌, length, take, drop, replicate, slice_index_or, refl, sym, ap, ◌∙◌, arith}
 use Rattle.std.proofs.lemmas.List.{get_or-set_other, get_or-take, length-take-le, length-drop, take_all, drop_all, take-append-drop, append-nil, ext_get_or}
 use borrow.Rule.Slice.PartMut.{put_mid, mid_of}
 use Rattle.scx_isa_semantics.specs.declared.callbacks.Callback.{Callback}
@@ -8,9 +8,10 @@ use Rattle.scx_abs.specs.declared.kinds.Cell.TheVariants.{Bytes}
 use Rattle.scx_abs.specs.declared.states.AbsState.{AbsState}
 use Rattle.scx_abs.specs.declared.changes.Change.{Change}
 use Rattle.scx_abs.specs.declared.changes.Change.TheVariants as change
-use Rattle.scx_abs.specs.Cells.{no_bytes, join_cell}
-use Rattle.scx_abs.specs.States.{start_of, with_cell}
-use Rattle.scx_abs.specs.Changes.{AreBlank, AreKept, IsBlankBelow, after_change}
+use Rattle.scx_abs.specs.Cells.{no_bytes, with_bytes, written_in, join_cell}
+use Rattle.scx_abs.specs.States.{start_of, cell_at, with_cell}
+use Rattle.scx_abs.specs.Calls.{with_byte, with_written}
+use Rattle.scx_abs.specs.Changes.{AreBlank, AreKept, IsBlankBelow, after_change, lowest_changed}
 
 join_blank : (x y : Cell) → x ≡ Bytes no_bytes → y ≡ Bytes no_bytes → join_cell x y ≡ Bytes no_bytes
 join_blank x y e f = rw (e, f) refl
@@ -46,15 +47,27 @@ joined_blank joined xs ys low within h g each k lt = each k (omega arith) ∙ jo
 pub blank_lower : (a : AbsState) (low new : ℕ) → IsBlankBelow low a → new ≤ low → IsBlankBelow new a
 blank_lower a low new h le = record { within = omega (arith, h.within); blank = λ k lt. h.blank k (omega arith) }
 
--- a change leaves the cells
-pub changed_blank : (a : AbsState) (c : Change) (low : ℕ) → IsBlankBelow low a → IsBlankBelow low (after_change a c)
-changed_blank a change.Nothing low h = h
-changed_blank a (change.Register r k) low h = record { within = h.within; blank = h.blank }
-changed_blank a (change.Called k) low h = record { within = h.within; blank = h.blank }
-
 -- a cell that is written leaves those below it
 pub kept_below : (a : AbsState) (n : ℕ) (cell : Cell) → AreKept n a (with_cell a n cell)
 kept_below a n cell c lt = get_or-set_other a.cells n c cell (Bytes []) (λ e. omega (arith, e, lt))
+
+written_kept : (a : AbsState) (at n : ℕ) → AreKept (at / 8) a (with_written a at n)
+written_kept a at zero c lt = refl
+written_kept a at (suc n) c lt =
+    let cell = Bytes (with_bytes (written_in (cell_at a (at / 8))) (at % 8) 1) in
+    written_kept (with_byte a at) (at + 1) n c (omega (arith, lt)) ∙ kept_below a (at / 8) cell c lt
+
+filled_blank : (a b : AbsState) (low at new : ℕ) → IsBlankBelow low a → AreKept (at / 8) a b → new ≤ low → new ≤ at / 8 → IsBlankBelow new b
+filled_blank a b low at new h kept le lt = record { within = omega (arith, h.within, le); blank = λ c below. kept c (omega (arith, below, lt)) ∙ h.blank c (omega (arith, below, le)) }
+
+-- a change leaves the cells below those that it writes
+pub changed_blank : (a : AbsState) (c : Change) (low new : ℕ) → IsBlankBelow low a → new ≤ low → new ≤ lowest_changed c → IsBlankBelow new (after_change a c)
+changed_blank a change.Nothing low new h le lt = blank_lower a low new h le
+changed_blank a (change.Register r k) low new h le lt = let lower = blank_lower a low new h le in record { within = lower.within; blank = lower.blank }
+changed_blank a (change.Called k) low new h le lt = let lower = blank_lower a low new h le in record { within = lower.within; blank = lower.blank }
+changed_blank a (change.Filled k at n) low new h le lt =
+    let lower = filled_blank a (with_written a at n) low at new h (written_kept a at n) le lt in
+    record { within = lower.within; blank = lower.blank }
 
 -- where the cells stay
 pub blank_same : (a b : AbsState) (low : ℕ) → b.cells ≡ a.cells → IsBlankBelow low a → IsBlankBelow low b

@@ -10,10 +10,10 @@ use Rattle.scx_isa_semantics.specs.declared.values.Value.TheVariants as value
 use Rattle.scx_isa_semantics.specs.declared.values.Pointer.TheVariants as pointer
 use Rattle.scx_isa_semantics.specs.Arithmetic.{at_distance}
 use Rattle.scx_isa_semantics.specs.Memory.{Stack, within, aligned_within, size_bytes}
-use Rattle.scx_isa_semantics.specs.Elements.{Maps, elements, element, with_element, with_number, HoldBytes}
+use Rattle.scx_isa_semantics.specs.Elements.{Contents, slots_in, Maps, count, elements, element, with_element, with_number, HoldBytes}
 use Rattle.scx_isa_semantics.specs.Machine.{Machine, with_maps}
 use Rattle.scx_maps.specs.declared.shape.Shape.{Shape}
-use Rattle.scx_maps.specs.Contents.{lengths, lengths_of, HasShapes}
+use Rattle.scx_maps.specs.Contents.{lengths, lengths_in, lengths_of, kinds_of, HasShapes}
 use Rattle.scx_isa_semantics.proofs.Bytes.{length-with_number}
 use Rattle.scx_maps.proofs.Shaped.{length-entries-shaped, length-value-shaped, length-shaped, lengths_of-with_value}
 use Rattle.scx_abs_ranges.specs.declared.ranges.Range.{Range}
@@ -85,10 +85,13 @@ offsets_cases size s r k p P w i none ok = go (are_inside size (size_bytes s) r 
 -- ---- elements
 
 -- only a map that is there has elements
-map_there : (maps : Maps) (m i : ℕ) → HasElement maps m i → m < length maps
-map_there [] m i h = absurd (omega (arith, h))
-map_there (x ∷ maps) zero i h = omega arith
-map_there (x ∷ maps) (suc m) i h = let rest = map_there maps m i h in omega arith
+slots_there : (contents : Contents) (m i : ℕ) → i < length (slots_in contents m) → m < length contents
+slots_there [] m i h = absurd (omega (arith, h))
+slots_there (x ∷ contents) zero i h = omega arith
+slots_there (x ∷ contents) (suc m) i h = let rest = slots_there contents m i h in omega arith
+
+pub map_there : (maps : Maps) (m i : ℕ) → HasElement maps m i → m < count maps
+map_there maps m i h = slots_there maps.contents m i h
 
 -- an element has as many bytes as the shape of its map says
 pub element_sized : (shapes : List Shape) (maps : Maps) (m i : ℕ) → HasShapes shapes maps → HasElement maps m i → length (element maps m i) ≡ element_size shapes m
@@ -114,16 +117,16 @@ with_number-lengths maps m i at n x there room =
 
 -- ---- maps with as many elements of as many bytes
 
-count_of : (maps : Maps) (m : ℕ) → length (slice_index_or (lengths_of maps) m []) ≡ length (elements maps m)
+count_of : (contents : Contents) (m : ℕ) → length (slice_index_or (lengths_in contents) m []) ≡ length (slots_in contents m)
 count_of [] m = refl
-count_of (x ∷ maps) zero = length-map x (λ (v : List ℕ). length v)
-count_of (x ∷ maps) (suc m) = count_of maps m
+count_of (x ∷ contents) zero = length-map x (λ (v : List ℕ). length v)
+count_of (x ∷ contents) (suc m) = count_of contents m
 
 same_elements : (maps other : Maps) (m : ℕ) → lengths_of other ≡ lengths_of maps → length (elements other m) ≡ length (elements maps m)
-same_elements maps other m e = sym (count_of other m) ∙ ap (λ ks. length (slice_index_or ks m [])) e ∙ count_of maps m
+same_elements maps other m e = sym (count_of other.contents m) ∙ ap (λ ks. length (slice_index_or ks m [])) e ∙ count_of maps.contents m
 
-same_count : (maps other : Maps) → lengths_of other ≡ lengths_of maps → length other ≡ length maps
-same_count maps other e = sym (length-map other lengths) ∙ ap (λ (ks : List (List ℕ)). length ks) e ∙ length-map maps lengths
+same_count : (maps other : Maps) → lengths_of other ≡ lengths_of maps → count other ≡ count maps
+same_count maps other e = sym (length-map other.contents lengths) ∙ ap (λ (ks : List (List ℕ)). length ks) e ∙ length-map maps.contents lengths
 
 -- kinds stand for the same values
 stands_still : (maps other : Maps) (k : Kind) (v : Value) → lengths_of other ≡ lengths_of maps → Stands maps k v → Stands other k v
@@ -153,9 +156,9 @@ cell_still maps other (Bytes set) stack at e h = h
 cell_still maps other (Pointer k) stack at e h = (h.0, stands_still maps other (kind_of k) h.0 e h.1, h.2)
 
 -- a state with other maps of the same shapes is stood for too
-pub maps_member : (shapes : List Shape) (a : AbsState) (m : Machine) (other : Maps) → IsMember shapes a m → lengths_of other ≡ lengths_of m.maps → HoldBytes other → IsMember shapes a (with_maps m other)
-maps_member shapes a m other h e bytes = record {
+pub maps_member : (shapes : List Shape) (a : AbsState) (m : Machine) (other : Maps) → IsMember shapes a m → lengths_of other ≡ lengths_of m.maps → HoldBytes other → kinds_of other ≡ kinds_of m.maps → IsMember shapes a (with_maps m other)
+maps_member shapes a m other h e bytes same = record {
   registers = λ r. stands_still m.maps other (kind_at a r) (m.registers r) e (h.registers r);
   cells = λ c. cell_still m.maps other (cell_at a c) m.stack (8 * c) e (h.cells c);
-  maps = record { lengths = e ∙ h.maps.lengths; bytes = bytes };
+  maps = record { lengths = e ∙ h.maps.lengths; bytes = bytes; kinds = same ∙ h.maps.kinds };
 }

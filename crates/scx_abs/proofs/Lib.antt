@@ -6,14 +6,18 @@ pub mod Proper
 mod Bytes
 mod Sets
 mod Parameters
+mod MapShapes
 mod Registers
 mod Elements
 mod Operations
 mod SingleNumbers
 mod Stores
 pub mod Accesses
+mod Filled
+mod Codes
+mod Fillings
 mod Branches
-mod HelperCalls
+pub mod HelperCalls
 mod Starts
 pub mod Sound
 mod MonotoneRegisters

@@ -177,7 +177,8 @@ written_covers (Bytes s) (Pointer k) h = h
 written_covers (Pointer j) (Pointer k) h = λ i lt w. w
 written_covers (Pointer j) (Bytes t) h = absurd h
 
-marked_part : (b a : List Bool) (j n : ℕ) → IsPartOf b a → IsPartOf (with_bytes b j n) (with_bytes a j n)
+-- of the bytes that are known with more of them as well
+pub marked_part : (b a : List Bool) (j n : ℕ) → IsPartOf b a → IsPartOf (with_bytes b j n) (with_bytes a j n)
 marked_part b a j n h i lt w =
     let old : (is_written b i || (nat_le j i && nat_lt i (j + n))) ≡ true = sym (each_byte_at (λ i. is_written b i || (nat_le j i && nat_lt i (j + n))) i lt) ∙ w in
     each_byte_at (λ i. is_written a i || (nat_le j i && nat_lt i (j + n))) i lt ∙ go (or_cases (is_written b i) (nat_le j i && nat_lt i (j + n)) old)

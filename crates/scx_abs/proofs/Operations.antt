@@ -15,7 +15,7 @@ use Rattle.scx_isa_semantics.specs.declared.registers.Register.{Register}
 use Rattle.scx_isa_semantics.specs.Registers.{number}
 use Rattle.scx_isa_semantics.specs.Arithmetic.{at_distance}
 use Rattle.scx_isa_semantics.specs.Memory.{stack_size, within}
-use Rattle.scx_isa_semantics.specs.Elements.{Maps, element}
+use Rattle.scx_isa_semantics.specs.Elements.{Maps, count, element}
 use Rattle.scx_isa_semantics.specs.Machine.{Machine}
 use Rattle.scx_isa_semantics.specs.Meaning as meaning
 use Rattle.scx_isa_semantics.specs.Meaning.{operand_value, copy_of, number_arithmetic, arithmetic, binary, pointer_step, pointer_moved, pointer_combined, on_number, map_reference}
@@ -154,12 +154,12 @@ binary_gives shapes a m w o d x fits p h = combined_kind_gives shapes a m w o d 
 
 -- ---- references to maps
 
-map_there : (maps : Maps) (k : ℕ) (b : Bool) → nat_lt k (length maps) ≡ b
+map_there : (maps : Maps) (k : ℕ) (b : Bool) → nat_lt k (count maps) ≡ b
     → Gives maps (if b then Ok (MapRef k) else Err UnknownMap) (if b then Some (value.Pointer (pointer.Map k)) else None)
-map_there maps k true e = (refl, ltb-true k (length maps) e)
+map_there maps k true e = (refl, ltb-true k (count maps) e)
 map_there maps k false e = tt
 
 -- a reference to a map
 pub map_gives : (shapes : List Shape) (maps : Maps) (k : ℤ) → HasShapes shapes maps → Gives maps (map_kind shapes k) (map_reference maps k)
-map_gives shapes maps (pos k) shaped = rw (← length-shaped shapes maps shaped) (map_there maps k (nat_lt k (length maps)) refl)
+map_gives shapes maps (pos k) shaped = rw (← length-shaped shapes maps shaped) (map_there maps k (nat_lt k (count maps)) refl)
 map_gives shapes maps (negsuc k) shaped = tt

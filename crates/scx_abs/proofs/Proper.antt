@@ -1,6 +1,6 @@
 -- Proper states: a callback begins in one, rules and joins keep them proper, and two that cover each
 -- other are one.
-use Rattle.std.proofs.Common.{◌≡◌, ℕ, ◌/◌, ◌%◌, ◌<◌, ◌≤◌, ◌⊎◌, inl, inr, ℤ, pos, nat_lt, set, replicate, Bool, true, false, ◌&&◌, nat_eq, List, [], length, All, Option, Some, None, option_map, Result, Ok, Err, IfSome, IfOk, if◌then◌else◌, refl, sym, ap, ◌∙◌, subst, arith, slice_get}
+use Rattle.std.proofs.Common.{◌≡◌, ℕ, zero, suc, ◌+◌, ◌/◌, ◌%◌, ◌<◌, ◌≤◌, ◌⊎◌, inl, inr, ℤ, pos, nat_lt, set, replicate, Bool, true, false, ◌&&◌, nat_eq, List, [], length, All, Option, Some, None, option_map, Result, Ok, Err, IfSome, IfOk, if◌then◌else◌, refl, sym, ap, ◌∙◌, subst, arith, slice_get}
 use Rattle.std.proofs.lemmas.Bool.{cases_lt}
 use Rattle.std.proofs.lemmas.List.{ext_get_or, length-set, get_or_past}
 use Rattle.std.proofs.lemmas.List.Elements.{All-get_or, All-from_get_or, All-replicate, All-set}
@@ -23,6 +23,7 @@ use Rattle.scx_isa_semantics.specs.declared.callbacks.ArgumentKind.TheVariants a
 use Rattle.scx_isa_semantics.specs.Arguments.{callback_arguments}
 use Rattle.scx_isa_semantics.specs.declared.host_tables.Helper.{Helper}
 use Rattle.scx_isa_semantics.specs.declared.host_tables.Helper.TheVariants as helper
+use Rattle.scx_isa_semantics.specs.declared.host_tables.MapHelper.TheVariants.{LookUpPerCpu}
 use Rattle.scx_isa_semantics.specs.Registers.{number}
 use Rattle.scx_isa_semantics.specs.Arithmetic.{immediate, wide_immediate, at_distance}
 use Rattle.scx_isa_semantics.specs.Memory.{size_bytes, access_size, stack_size}
@@ -62,7 +63,7 @@ use Rattle.scx_abs.specs.Cells.{kind_of, held_of, is_written, no_bytes, with_byt
 use Rattle.scx_abs.specs.States.{kind_at, cell_at, with_kind, with_cell, IsWhole, IsProper, ArgumentKinds, argument_kind, argument_kinds, start_kinds}
 use Rattle.scx_isa_semantics.specs.Results.{◌>>=◌}
 use Rattle.scx_abs.specs.Checks.{flows, goes_on, usable, operand_kind, sets, element_size, offset_within}
-use Rattle.scx_abs.specs.Calls.{arguments_check, after_call, element_of, answer_kind, call_allowed, call_rule}
+use Rattle.scx_abs.specs.Calls.{arguments_check, value_bytes_at_hand, with_written, filled, gives_value, after_giving, after_call, element_of, answer_kind, call_allowed, call_rule}
 use Rattle.scx_abs.specs.Rules.{in_element, moved_by, moved_kind, computed_kind, advanced_by, element_kind, arithmetic_kind, combined_kind, binary_kind, number_kind, map_kind, area_of, loaded_kind, kind_in, load_kind, pointer_cell, stored_cell, number_stored, stored_in, null_test, if_null, if_not_null, null_test_rule, side, sides, numbers_compared, comparison_rule, end_rule}
 use Rattle.scx_abs.specs.Laws.{CoversBothWays, StartIsProper, FlowsProper, RulesKeepProper}
 
@@ -199,7 +200,8 @@ kind_proper a r k p q = record {
   cells = p.cells;
 }
 
-cell_proper : (a : AbsState) (c : ℕ) (cell : Cell) → IsProper a → IsProperCell cell → IsProper (with_cell a c cell)
+-- so does one with another cell
+pub cell_proper : (a : AbsState) (c : ℕ) (cell : Cell) → IsProper a → IsProperCell cell → IsProper (with_cell a c cell)
 cell_proper a c cell p q = record {
   whole = record { registers = p.whole.registers; cells = length-set a.cells c cell ∙ p.whole.cells };
   kinds = p.kinds;
@@ -375,19 +377,34 @@ after_proper a k p q =
     let a5 = with_kind a4 5 Unusable in
     kind_proper a5 0 k (kind_proper a4 5 Unusable (kind_proper a3 4 Unusable (kind_proper a2 3 Unusable (kind_proper a1 2 Unusable (kind_proper a 1 Unusable p tt) tt) tt) tt) tt) q
 
+written_proper : (a : AbsState) (at n : ℕ) → IsProper a → IsProper (with_written a at n)
+written_proper a at zero p = p
+written_proper a at (suc n) p =
+    let cell = Bytes (with_bytes (written_in (cell_at a (at / 8))) (at % 8) 1) in
+    written_proper (with_cell a (at / 8) cell) (at + 1) n (cell_proper a (at / 8) cell p refl)
+
+filled_proper : (a : AbsState) (n : ℕ) (k : Kind) → IsProper a → IsProper (filled a n k)
+filled_proper a n (Stack o) p = written_proper a o n p
+filled_proper a n k p = p
+
+-- a state where a helper wrote what it gives
+pub giving_proper : (shapes : List Shape) (h : Helper) (a : AbsState) → IsProper a → IsProper (after_giving shapes h a)
+giving_proper shapes h a p = elim (gives_value h) as (λ b. IsProper (if b then filled a (value_bytes_at_hand shapes a) (kind_at a 2) else a)) [ true ↦ filled_proper a (value_bytes_at_hand shapes a) (kind_at a 2) p | false ↦ p ]
+
 element_of_proper : (k : Kind) → IsProperKind (element_of k)
 element_of_proper (MapRef m) = tt
 element_of_proper k = tt
 
 answer_proper : (h : Helper) (k : Kind) → IsProperKind (answer_kind h k)
 answer_proper helper.MapLookupElem k = element_of_proper k
+answer_proper (helper.OnMap LookUpPerCpu) k = element_of_proper k
 answer_proper h k = elim (answers_task h) as (λ t. IsProperKind (if t then TaskOrNull else Num all)) [ true ↦ tt | false ↦ all_range ]
 
 call_proper : (shapes : List Shape) (c : Callback) (h : Option Helper) (a : AbsState) → IsProper a → FlowsIn (call_rule shapes c h a)
 call_proper shapes c None a p = tt
 call_proper shapes c (Some h) a p =
     elim (is_allowed h c) as (λ t. FlowsIn (if t then call_allowed shapes h a else Err HelperNotHere))
-    [ true ↦ then_proper (arguments_check shapes a (parameters h) 1) (λ fine. goes_on (after_call a (answer_kind h (kind_at a 1)))) (λ fine. (after_proper a (answer_kind h (kind_at a 1)) p (answer_proper h (kind_at a 1)), tt)) | false ↦ tt ]
+    [ true ↦ then_proper (arguments_check shapes a (parameters h) 1) (λ fine. goes_on (after_call (after_giving shapes h a) (answer_kind h (kind_at a 1)))) (λ fine. (after_proper (after_giving shapes h a) (answer_kind h (kind_at a 1)) (giving_proper shapes h a p) (answer_proper h (kind_at a 1)), tt)) | false ↦ tt ]
 
 end_proper : (k : Kind) → FlowsIn (end_rule k)
 end_proper (Num r) = (tt, tt)

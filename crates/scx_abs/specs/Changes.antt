@@ -15,14 +15,15 @@ use Rattle.scx_abs.specs.Cells.{no_bytes}
 use Rattle.scx_abs.specs.States.{cell_at, with_kind}
 use Rattle.scx_abs.specs.declared.memory.Area.{Area}
 use Rattle.scx_abs.specs.declared.memory.Area.TheVariants.{OnStack}
-use Rattle.scx_abs.specs.Calls.{after_call}
+use Rattle.scx_abs.specs.Calls.{after_call, with_written}
 use Rattle.scx_abs.specs.Checks.{flows, goes_on}
 
--- the state with that change of its registers; the cells stay
+-- the state with that change of its registers, and of the cells that a helper wrote to
 abbrev pub after_change : AbsState → Change → AbsState
 after_change a change.Nothing = a
 after_change a (change.Register r k) = with_kind a (number r) k
 after_change a (change.Called k) = after_call a k
+after_change a (change.Filled k at n) = after_call (with_written a at n) k
 
 -- what flows on from that state, changed
 abbrev pub next_of : AbsState → Flow → Next
@@ -57,6 +58,11 @@ ended_on (Err why) = Err why
 abbrev pub lowest_in : Area → ℕ
 lowest_in (OnStack at) = at / 8
 lowest_in area = 64
+
+-- the lowest cell that a change writes; 64 where it writes none
+abbrev pub lowest_changed : Change → ℕ
+lowest_changed (change.Filled k at n) = at / 8
+lowest_changed c = 64
 
 -- the cells below that one stay
 abbrev pub AreKept : ℕ → AbsState → AbsState → Type 0

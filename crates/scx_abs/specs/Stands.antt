@@ -8,7 +8,7 @@ use Rattle.scx_isa_semantics.specs.declared.values.Pointer.TheVariants as pointe
 use Rattle.scx_isa_semantics.specs.declared.values.StackByte.{StackByte}
 use Rattle.scx_isa_semantics.specs.declared.values.StackByte.TheVariants as byte
 use Rattle.scx_isa_semantics.specs.declared.operations.Size.TheVariants.{DoubleWord}
-use Rattle.scx_isa_semantics.specs.Elements.{Maps, elements}
+use Rattle.scx_isa_semantics.specs.Elements.{Maps, count, elements}
 use Rattle.scx_isa_semantics.specs.Machine.{Machine}
 use Rattle.scx_isa_semantics.specs.Memory as memory
 use Rattle.scx_isa_semantics.specs.Memory.{bytes_at, value_bytes}
@@ -40,7 +40,7 @@ Stands maps (ElemOrNull m) (value.Pointer (pointer.Element n i p)) =
 Stands maps Task (value.Pointer (pointer.Task t)) = Unit {0}
 Stands maps TaskOrNull (value.Number n) = n ≡ 0
 Stands maps TaskOrNull (value.Pointer (pointer.Task t)) = Unit {0}
-Stands maps (MapRef m) (value.Pointer (pointer.Map n)) = (m ≡ n) × (n < length maps)
+Stands maps (MapRef m) (value.Pointer (pointer.Map n)) = (m ≡ n) × (n < count maps)
 Stands maps k v = ⊥
 
 -- a number was written to the byte

@@ -1,12 +1,12 @@
 ghost use Rattle.std.specs.Prelude.{◌≡◌};
 ghost use Rattle.scx_abs.specs.Changes.{after_change, next_of};
 
-use crate::kinds::Kind;
+use crate::kinds::{CELL_BYTES, Kind};
 use crate::rules::Next;
-use crate::states::AbsState;
-use scx_isa::Register;
+use crate::states::{AbsState, CELLS};
+use scx_isa::{Register, Size};
 
-/// A change of a state's registers.
+/// A change of a state: of its registers, and of the bytes of the stack that a helper writes.
 #[derive(Clone, Copy)]
 pub enum Change {
     /// No register gets another kind.
@@ -15,6 +15,8 @@ pub enum Change {
     Register(Register, Kind),
     /// A helper answered a value of that kind.
     Called(Kind),
+    /// A helper answered a value of that kind, and wrote that many bytes of the stack from one on.
+    Filled(Kind, u16, u16),
 }
 
 /// Where control goes on from an instruction, and what changes on the way.
@@ -31,7 +33,7 @@ pub enum Flow {
 }
 
 impl AbsState {
-    ghost use Rattle.scx_abs.specs.Calls.{after_call};
+    ghost use Rattle.scx_abs.specs.Calls.{after_call, with_byte, with_written};
 
     /// Changes the state in place.
     #[inline(always)]
@@ -42,6 +44,10 @@ impl AbsState {
             Change::Nothing => (),
             Change::Register(register, kind) => self.set(register, kind),
             Change::Called(answer) => self.call(answer),
+            Change::Filled(answer, at, count) => {
+                self.fill(at, count);
+                self.call(answer);
+            }
         }
     }
 
@@ -55,6 +61,26 @@ impl AbsState {
         self.registers[4] = Kind::Unusable;
         self.registers[5] = Kind::Unusable;
         self.registers[0] = answer;
+    }
+
+    /// Numbers are written to that many bytes of the stack, from one on.
+    #[inline(never)]
+    fn fill(&mut self, at: u16, count: u16)
+        ensures { self.new ≡ with_written self.old at count }
+    {
+        for byte in usize::from(at)..usize::from(at) + usize::from(count) {
+            self.fill_byte(byte);
+        }
+    }
+
+    /// A number is written to that byte of the stack, if there is one.
+    #[tactic(auto, using(crate::proofs::Fillings::past_stack))]
+    fn fill_byte(&mut self, at: usize)
+        ensures { self.new ≡ with_byte self.old at }
+    {
+        if at / CELL_BYTES < CELLS {
+            self.mark(at / CELL_BYTES, Size::Byte, at % CELL_BYTES);
+        }
     }
 
     /// The state, changed.

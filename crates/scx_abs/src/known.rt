@@ -1,7 +1,7 @@
 ghost use Rattle.std.specs.Prelude.{◌≡◌, Ok, IfOk};
 ghost use Rattle.scx_isa_semantics.specs.Memory.{access_size, size_bytes};
 ghost use Rattle.scx_isa_semantics.specs.Registers.{number};
-ghost use Rattle.scx_abs.specs.Changes.{after_change, done_on, lowest_in};
+ghost use Rattle.scx_abs.specs.Changes.{after_change, done_on, lowest_changed, lowest_in};
 ghost use Rattle.scx_abs.specs.Checks.{sets};
 ghost use Rattle.scx_abs.specs.Kinds.{IsLeastCover};
 ghost use Rattle.scx_abs.specs.Rules.{area_of, binary_kind, load_kind, store_rule};
@@ -148,6 +148,7 @@ impl Known {
         ensures { self.new ≡ after_change self.old change.now }
     {
         self.state.change(change);
+        self.low = self.low.min(lowest_changed(change));
     }
 
     /// Joins another state in.
@@ -168,6 +169,17 @@ fn lowest_in(area: Area) -> usize
 {
     match area {
         Area::OnStack(at) => usize::from(at) / CELL_BYTES,
+        _ => CELLS,
+    }
+}
+
+/// The lowest cell that a change writes, or how many there are where it writes none.
+#[inline(always)]
+fn lowest_changed(change: &Change) -> usize
+    ensures { result ≡ lowest_changed change.now }
+{
+    match *change {
+        Change::Filled(_, at, _) => usize::from(at) / CELL_BYTES,
         _ => CELLS,
     }
 }

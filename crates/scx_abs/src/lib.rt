@@ -22,7 +22,7 @@ mod rules;
 mod states;
 
 pub use arithmetic::{extended_kind, map_kind, negated_kind, swapped_kind};
-pub use calls::called;
+pub use calls::{called, key_size_at_hand, kind_of_map, map_at_hand, takes_shape};
 pub use changes::{Change, Flow};
 pub use faults::Why;
 pub use jumps::{constant_compared, flow_of_jump};

@@ -178,7 +178,7 @@ impl AbsState {
     /// A number is written from that byte of a cell on.
     #[inline(always)]
     #[tactic(auto, using(crate::proofs::Blanks::kept_below))]
-    fn mark(&mut self, cell: usize, size: Size, byte: usize)
+    pub(crate) fn mark(&mut self, cell: usize, size: Size, byte: usize)
         requires cell { cell < CELLS }
         requires byte { byte + size_bytes size ≤ CELL_BYTES }
         ensures marked { self.new ≡ with_cell self.old cell

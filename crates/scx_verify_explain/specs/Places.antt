@@ -14,6 +14,7 @@ use Rattle.scx_abs.specs.declared.states.AbsState.{AbsState}
 use Rattle.scx_abs.specs.Checks.{element_size}
 use Rattle.scx_abs.specs.States.{kind_at}
 use Rattle.scx_verify_explain.specs.declared.named.Address.{Address}
+use Rattle.scx_verify_explain.specs.declared.named.ValueBytes.{ValueBytes}
 use Rattle.scx_verify_explain.specs.declared.places.Memory.TheVariants as memory
 use Rattle.scx_verify_explain.specs.declared.places.Place.{Place}
 use Rattle.scx_verify_explain.specs.declared.places.Reach.{Reach}
@@ -68,6 +69,14 @@ reach_from x p =
 -- the bytes that an address means
 abbrev pub reach_of : List Shape → AbsState → Address → Option Reach
 reach_of shapes a x = option_map (reach_from x) (place_of shapes (kind_at a (number x.base)))
+
+-- the bytes of a value whose register points to that place
+abbrev pub value_reach_from : ValueBytes → Place → Reach
+value_reach_from v p = record { place = p; count = v.count }
+
+-- the bytes of a value
+abbrev pub value_reach : List Shape → AbsState → ValueBytes → Option Reach
+value_reach shapes a v = option_map (value_reach_from v) (place_of shapes (kind_at a (number v.base)))
 
 -- so many bytes of the stack from that one on, counted from the lowest
 abbrev pub stack_bytes : ℕ → ℕ → Reach

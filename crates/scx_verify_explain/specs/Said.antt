@@ -1,6 +1,6 @@
 -- A reason is true: it names registers that the instruction reads, writes or stores, with
 -- the kinds and bytes that are known before it, and its numbers.
-use Rattle.std.specs.Prelude.{◌≡◌, ℕ, ◌+◌, ◌<◌, ◌≤◌, ◌/◌, ◌%◌, ℤ, pos, ◌+ℤ◌, Bool, true, false, IsTrue, IsFalse, List, length, Option, Some, None, Ok, Err, if◌then◌else◌}
+use Rattle.std.specs.Prelude.{◌≡◌, ℕ, ◌+◌, ◌<◌, ◌≤◌, ◌/◌, ◌%◌, ◌⊎◌, ℤ, pos, ◌+ℤ◌, Bool, true, false, IsTrue, IsFalse, List, length, Option, Some, None, Ok, Err, if◌then◌else◌}
 use Rattle.scx_isa_semantics.specs.declared.instructions.Insn.{Insn}
 use Rattle.scx_isa_semantics.specs.declared.instructions.Insn.TheVariants as insn
 use Rattle.scx_isa_semantics.specs.declared.callbacks.Callback.{Callback}
@@ -25,6 +25,8 @@ use Rattle.scx_isa_semantics.specs.Steps.{distance}
 use Rattle.scx_maps.specs.declared.shape.Shape.{Shape}
 use Rattle.scx_vm.specs.declared.context.Context.{Context}
 use Rattle.scx_abs_ranges.specs.Ranges.{all}
+use Rattle.scx_maps.specs.Layout.{shape_at}
+use Rattle.scx_abs.specs.Calls.{takes_shape}
 use Rattle.scx_abs.specs.declared.faults.Why.TheVariants.{UnknownMap}
 use Rattle.scx_abs.specs.declared.kinds.Cell.{Cell}
 use Rattle.scx_abs.specs.declared.kinds.Cell.TheVariants.{Bytes, Pointer}
@@ -37,6 +39,7 @@ use Rattle.scx_abs.specs.States.{kind_at, cell_at}
 use Rattle.scx_abs.specs.Rules.{area_of, map_kind}
 use Rattle.scx_verify_explain.specs.declared.listing.Listing.{Listing}
 use Rattle.scx_verify_explain.specs.declared.named.Address.{Address}
+use Rattle.scx_verify_explain.specs.declared.named.ValueBytes.{ValueBytes}
 use Rattle.scx_verify_explain.specs.declared.reasons.Sort.{Sort}
 use Rattle.scx_verify_explain.specs.declared.reasons.Sort.TheVariants as sort
 use Rattle.scx_verify_explain.specs.declared.places.Place.{Place}
@@ -55,8 +58,8 @@ use Rattle.scx_verify_explain.specs.declared.reasons.BadCall.TheVariants as call
 use Rattle.scx_verify_explain.specs.declared.reasons.Reason.{Reason}
 use Rattle.scx_verify_explain.specs.declared.reasons.Reason.TheVariants as reason
 use Rattle.scx_verify_explain.specs.Listings.{known_at}
-use Rattle.scx_verify_explain.specs.Named.{Reads, Takes, LoadsMap, written_register, stored_register, address_of}
-use Rattle.scx_verify_explain.specs.Places.{place_of, distances_of, place_at_distances, reach_of, stack_bytes}
+use Rattle.scx_verify_explain.specs.Named.{Reads, Takes, LoadsMap, written_register, stored_register, address_of, address_in, value_in}
+use Rattle.scx_verify_explain.specs.Places.{place_of, distances_of, place_at_distances, reach_of, value_reach, stack_bytes}
 
 -- ---- kinds
 
@@ -83,16 +86,29 @@ is_in_memory (Stack o) = true
 is_in_memory (Elem m r) = true
 is_in_memory k = false
 
+-- a pointer to bytes of the stack or of an element, null or not
+abbrev pub is_to_bytes : Kind → Bool
+is_to_bytes (Stack o) = true
+is_to_bytes (Elem m r) = true
+is_to_bytes (ElemOrNull m) = true
+is_to_bytes k = false
+
+-- a reference to a map of a kind that the parameter takes
+abbrev pub is_map_taken : List Shape → Parameter → Kind → Bool
+is_map_taken shapes p (MapRef m) = takes_shape p (shape_at shapes m)
+is_map_taken shapes p k = false
+
 -- a helper takes a register of that kind, null or not, wherever it points
-abbrev pub is_taken : Parameter → Kind → Bool
-is_taken parameter.Map (MapRef m) = true
-is_taken parameter.Key (Stack o) = true
-is_taken parameter.Key (Elem m r) = true
-is_taken parameter.Key (ElemOrNull m) = true
-is_taken parameter.Task Task = true
-is_taken parameter.Task TaskOrNull = true
-is_taken parameter.Number (Num r) = true
-is_taken p k = false
+abbrev pub is_taken : List Shape → Parameter → Kind → Bool
+is_taken shapes parameter.Key k = is_to_bytes k
+is_taken shapes parameter.Value k = is_to_bytes k
+is_taken shapes parameter.Room k = is_to_bytes k
+is_taken shapes parameter.Task Task = true
+is_taken shapes parameter.Task TaskOrNull = true
+is_taken shapes parameter.Task k = false
+is_taken shapes parameter.Number (Num r) = true
+is_taken shapes parameter.Number k = false
+is_taken shapes p k = is_map_taken shapes p k
 
 -- the kind is of the sort that is looked for
 abbrev pub IsOf : Sort → Kind → Type 0
@@ -158,21 +174,42 @@ IsValueSaid c i a (value.Answer k b) =
 pub record IsOnStack (shapes : List Shape) (i : Insn) (a : AbsState) (b : BadAccess) : Type 0 where
   pub address : Address
   pub first : ℕ
-  pub given : address_of i ≡ Some address
+  pub given : address_in shapes a i ≡ Some address
   pub area : area_of shapes (kind_at a (number address.base)) address.offset
       (size_bytes address.size) ≡ Ok (OnStack first)
   pub said : IsUnwritten a first (size_bytes address.size) b
 
+-- the instruction calls a helper that reads a value in the stack, from that byte on
+pub record IsValueOnStack (shapes : List Shape) (i : Insn) (a : AbsState) (b : BadAccess) : Type 0
+  where
+    pub bytes : ValueBytes
+    pub first : ℕ
+    pub given : value_in shapes a i ≡ Some bytes
+    pub holds : kind_at a (number bytes.base) ≡ Stack first
+    pub said : IsUnwritten a first bytes.count b
+
+-- an address or a value in the stack is said to be unwritten
+abbrev pub IsReadOnStack : List Shape → Insn → AbsState → BadAccess → Type 0
+IsReadOnStack shapes i a b = IsOnStack shapes i a b ⊎ IsValueOnStack shapes i a b
+
 -- the instruction is given an address that means these bytes
 pub record Reaches (shapes : List Shape) (i : Insn) (a : AbsState) (reach : Reach) : Type 0 where
   pub address : Address
-  pub given : address_of i ≡ Some address
+  pub given : address_in shapes a i ≡ Some address
   pub reached : reach_of shapes a address ≡ Some reach
 
--- it is given one in a register that holds no pointer to the stack or to an element
-pub record HasNoPointer (i : Insn) (a : AbsState) (r : Register) (k : Kind) : Type 0 where
+-- the instruction calls a helper that reads or writes a value in these bytes
+pub record ReachesValue (shapes : List Shape) (i : Insn) (a : AbsState) (reach : Reach) : Type 0
+  where
+    pub bytes : ValueBytes
+    pub given : value_in shapes a i ≡ Some bytes
+    pub reached : value_reach shapes a bytes ≡ Some reach
+
+-- it is given an address in a register that holds no pointer to the stack or to an element
+pub record HasNoPointer (shapes : List Shape) (i : Insn) (a : AbsState) (r : Register) (k : Kind)
+    : Type 0 where
   pub address : Address
-  pub given : address_of i ≡ Some address
+  pub given : address_in shapes a i ≡ Some address
   pub base : address.base ≡ r
   pub holds : kind_at a (number r) ≡ k
   pub pointer : IsFalse (is_in_memory k)
@@ -193,11 +230,12 @@ pub record MovesTo (shapes : List Shape) (i : Insn) (a : AbsState) (r : Register
 -- what is said of the bytes that an instruction accesses or moves a pointer to is so
 abbrev pub IsAccessSaid : List Shape → Insn → AbsState → BadAccess → Type 0
 IsAccessSaid shapes i a (access.Unwritten reach byte) =
-    IsOnStack shapes i a (access.Unwritten reach byte)
+    IsReadOnStack shapes i a (access.Unwritten reach byte)
 IsAccessSaid shapes i a (access.PartOfPointer reach k) =
-    IsOnStack shapes i a (access.PartOfPointer reach k)
-IsAccessSaid shapes i a (access.NoPointer r k) = HasNoPointer i a r k
-IsAccessSaid shapes i a (access.Outside reach) = Reaches shapes i a reach
+    IsReadOnStack shapes i a (access.PartOfPointer reach k)
+IsAccessSaid shapes i a (access.NoPointer r k) = HasNoPointer shapes i a r k
+IsAccessSaid shapes i a (access.Outside reach) =
+    Reaches shapes i a reach ⊎ ReachesValue shapes i a reach
 IsAccessSaid shapes i a (access.MovedOut r place) = MovesTo shapes i a r place
 IsAccessSaid shapes i a (access.Misaligned reach) = Reaches shapes i a reach
 
@@ -240,7 +278,7 @@ IsCallSaid c n a (call.NotHere k b) =
     × (b ≡ c.callback)
     × ((h : Helper) × (helper_known c.rules n ≡ Some h) × IsFalse (is_allowed h c.callback))
 IsCallSaid c n a (call.Argument k r kind p) =
-    (k ≡ n) × Takes n r p × (kind_at a (number r) ≡ kind) × IsFalse (is_taken p kind)
+    (k ≡ n) × Takes n r p × (kind_at a (number r) ≡ kind) × IsFalse (is_taken c.defs p kind)
 
 -- what is said of an instruction that fails a check in a state
 abbrev pub IsRuleSaid : Context → Insn → AbsState → Reason → Type 0

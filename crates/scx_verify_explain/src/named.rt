@@ -3,9 +3,12 @@ ghost use Rattle.scx_isa_semantics.specs.declared.instructions.Insn.TheVariants 
 ghost use Rattle.scx_isa_semantics.specs.Registers.{number};
 ghost use Rattle.scx_isa_semantics.specs.Steps.{distance};
 ghost use Rattle.scx_verify_explain.specs.Named.{register_in, first_of, second_of, first_read, second_read};
-ghost use Rattle.scx_verify_explain.specs.Named.{Takes, written_register, stored_register, address_of};
+ghost use Rattle.scx_verify_explain.specs.Named.{Takes, written_register, stored_register, address_of, reads_key, key_address, address_in, value_register, value_of, value_in};
+ghost use Rattle.scx_abs.specs.Calls.{value_bytes_at_hand};
 
-use scx_isa::{Helper, Insn, Operand, Operation, Parameter, Register, Size};
+use scx_abs::{AbsState, key_size_at_hand, map_at_hand};
+use scx_isa::{Helper, Insn, MapHelper, Operand, Operation, Parameter, Register, Size};
+use scx_maps::MapDefs;
 
 /// An address that an instruction or a helper is given, and how many bytes it reads or writes there.
 #[derive(Clone, Copy)]
@@ -13,6 +16,13 @@ pub(crate) struct Address {
     pub(crate) base: Register,
     pub(crate) offset: i16,
     pub(crate) size: Size,
+}
+
+/// A value that a helper is given: the register that points to its first byte, and its number of bytes.
+#[derive(Clone, Copy)]
+pub(crate) struct ValueBytes {
+    pub(crate) base: Register,
+    pub(crate) count: u16,
 }
 
 fn register_in(operand: Operand) -> Option<Register>
@@ -96,7 +106,7 @@ pub(crate) fn stored_register(insn: Insn) -> Option<Register>
     }
 }
 
-/// The address that an instruction reads or writes. Of a call it is that of the key.
+/// The address that a load reads or a store writes.
 pub(crate) fn address_of(insn: Insn) -> Option<Address>
     ensures { result ≡ address_of insn }
 {
@@ -107,12 +117,84 @@ pub(crate) fn address_of(insn: Insn) -> Option<Address>
             size: access.size(),
         }),
         Insn::Store(size, base, offset, _) => Some(Address { base, offset, size }),
-        Insn::Call(_) => Some(Address {
+        _ => None,
+    }
+}
+
+/// The address that an instruction reads or writes in a state. Of a call it is that of the key.
+pub(crate) fn address_in(state: &AbsState, insn: Insn, defs: &MapDefs) -> Option<Address>
+    ensures { result ≡ address_in defs.now state.now insn }
+{
+    match insn {
+        Insn::Call(number) => key_address(state, Helper::new(number), defs),
+        _ => address_of(insn),
+    }
+}
+
+/// The address of the key that a helper reads, if it reads one.
+fn key_address(state: &AbsState, helper: Option<Helper>, defs: &MapDefs) -> Option<Address>
+    ensures { result ≡ key_address defs.now state.now helper }
+{
+    match helper {
+        Some(helper) if reads_key(helper) => Some(Address {
             base: Register::R2,
             offset: 0,
-            size: Size::Word,
+            size: key_size_at_hand(state, defs),
         }),
         _ => None,
+    }
+}
+
+/// True if a helper reads a key.
+fn reads_key(helper: Helper) -> bool
+    ensures { result ≡ reads_key helper }
+{
+    match helper {
+        Helper::MapLookupElem => true,
+        Helper::OnMap(MapHelper::Update | MapHelper::Delete | MapHelper::LookUpPerCpu) => true,
+        _ => false,
+    }
+}
+
+/// The value that a helper reads or writes which an instruction calls in a state.
+pub(crate) fn value_in(state: &AbsState, insn: Insn, defs: &MapDefs) -> Option<ValueBytes>
+    ensures { result ≡ value_in defs.now state.now insn }
+{
+    match insn {
+        Insn::Call(number) => value_of(state, Helper::new(number), defs),
+        _ => None,
+    }
+}
+
+/// The value that a helper reads or writes, if it does.
+fn value_of(state: &AbsState, helper: Option<Helper>, defs: &MapDefs) -> Option<ValueBytes>
+    ensures { result ≡ value_of defs.now state.now helper }
+{
+    let base = value_register(helper?)?;
+    Some(ValueBytes {
+        base,
+        count: value_bytes(state, defs),
+    })
+}
+
+/// The register that points to the value that a helper reads or writes.
+fn value_register(helper: Helper) -> Option<Register>
+    ensures { result ≡ value_register helper }
+{
+    match helper {
+        Helper::OnMap(MapHelper::Update) => Some(Register::R3),
+        Helper::OnMap(MapHelper::Push | MapHelper::Pop | MapHelper::Peek) => Some(Register::R2),
+        _ => None,
+    }
+}
+
+/// The number of bytes of a value of the map at hand.
+fn value_bytes(state: &AbsState, defs: &MapDefs) -> u16
+    ensures { result ≡ value_bytes_at_hand defs.now state.now }
+{
+    match defs.shape(map_at_hand(state)) {
+        Some(shape) => shape.value_size as u16,
+        None => 0,
     }
 }
 

@@ -1,9 +1,9 @@
 ghost use Rattle.std.specs.Prelude.{◌≡◌, pos, ◌+ℤ◌, ◌-ℤ◌, IfSome};
 ghost use Rattle.scx_abs.specs.Checks.{element_size};
 ghost use Rattle.scx_verify_explain.specs.Places.{stack_place, place_of, one_distance, distances_in, distances_of};
-ghost use Rattle.scx_verify_explain.specs.Places.{place_at_distances, reach_of, stack_bytes, IsNear, AreShort};
+ghost use Rattle.scx_verify_explain.specs.Places.{place_at_distances, reach_of, value_reach, stack_bytes, IsNear, AreShort};
 
-use crate::named::Address;
+use crate::named::{Address, ValueBytes};
 use scx_abs::{AbsState, Kind};
 use scx_abs_ranges::{Offsets, Range};
 use scx_isa::{Operand, Operation, STACK_SIZE, Width};
@@ -149,6 +149,19 @@ pub(crate) fn reach_of(state: &AbsState, address: Address, defs: &MapDefs) -> Op
         Some(place) => Some(Reach {
             place: place.place_at_distances(distances),
             count: address.size.bytes(),
+        }),
+        None => None,
+    }
+}
+
+/// The bytes of a value, if its register holds a pointer to memory.
+pub(crate) fn value_reach(state: &AbsState, value: ValueBytes, defs: &MapDefs) -> Option<Reach>
+    ensures { result ≡ value_reach defs.now state.now value }
+{
+    match place_of(state.kind(value.base), defs) {
+        Some(place) => Some(Reach {
+            place,
+            count: value.count,
         }),
         None => None,
     }

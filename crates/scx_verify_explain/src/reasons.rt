@@ -1,4 +1,4 @@
-ghost use Rattle.std.specs.Prelude.{◌≡◌, pos, ◌+◌, ◌+ℤ◌, ◌≤◌, Err, Some, true, IsFalse, IfOk, IfSome};
+ghost use Rattle.std.specs.Prelude.{◌≡◌, pos, ◌+◌, ◌+ℤ◌, ◌≤◌, nat_le, Err, Some, true, IsFalse, IfOk, IfSome};
 ghost use Rattle.scx_isa_semantics.specs.declared.instructions.Insn.TheVariants as Insn;
 ghost use Rattle.scx_isa_semantics.specs.declared.registers.Register.TheVariants as Register;
 ghost use Rattle.scx_isa_semantics.specs.Code.{size};
@@ -9,19 +9,19 @@ ghost use Rattle.scx_abs.specs.States.{kind_at};
 ghost use Rattle.scx_verify_explain.specs.Reasons.{flow_fault, value_fault, access_fault, call_fault};
 ghost use Rattle.scx_verify_explain.specs.Reasons.{fault_of};
 ghost use Rattle.scx_verify_explain.specs.Named.{Reads, Takes, HasArgument, LoadsMap, written_register};
-ghost use Rattle.scx_verify_explain.specs.Said.{IsOf, is_taken, IsUnwritten, IsFlowSaid, IsValueSaid};
+ghost use Rattle.scx_verify_explain.specs.Said.{IsOf, is_map_taken, is_taken, IsUnwritten, IsFlowSaid, IsValueSaid};
 ghost use Rattle.scx_verify_explain.specs.Said.{IsAccessSaid, IsFieldSaid, IsCallSaid, IsRuleSaid};
 ghost use Rattle.scx_verify_explain.specs.Said.{IsSaid};
 
 use crate::listing::{Listing, byte_kind, is_pointer};
 use crate::named::{
-    Address, address_of, argument_of, called_in, distance_of, first_read, second_read,
-    stored_register, written_register,
+    Address, ValueBytes, address_in, address_of, argument_of, called_in, distance_of, first_read,
+    second_read, stored_register, value_in, written_register,
 };
 use crate::origins::Subject;
-use crate::places::{Place, Reach, distances_of, place_of, reach_of, stack_bytes};
+use crate::places::{Place, Reach, distances_of, place_of, reach_of, stack_bytes, value_reach};
 use crate::trails::{Trail, trail_of};
-use scx_abs::{AbsState, Area, Context, Kind, Why, area_of, map_kind};
+use scx_abs::{AbsState, Area, Context, Kind, Why, area_of, map_kind, takes_shape};
 use scx_isa::{
     Callback, Field, FlowFault, Helper, Insn, Operand, Operation, Parameter, Register, Rules,
     STACK_SIZE, Size, Width,
@@ -416,7 +416,7 @@ fn bad_call(state: &AbsState, why: Why, number: i32, context: &Context) -> Optio
             Some(BadCall::NotHere { number, callback })
         }
         (Why::BadArgument, Some(_)) => {
-            let (register, parameter) = bad_argument(state, number)?;
+            let (register, parameter) = bad_argument(state, number, &context.defs)?;
             Some(BadCall::Argument {
                 number,
                 register,
@@ -429,14 +429,14 @@ fn bad_call(state: &AbsState, why: Why, number: i32, context: &Context) -> Optio
 }
 
 /// The first argument of a helper that is of another kind than it takes, and what it takes there.
-fn bad_argument(state: &AbsState, called: i32) -> Option<(Register, Parameter)>
+fn bad_argument(state: &AbsState, called: i32, defs: &MapDefs) -> Option<(Register, Parameter)>
     ensures takes { IfSome result (λ bad. Takes called bad.0 bad.1) }
     ensures bad { IfSome result
-        (λ bad. IsFalse (is_taken bad.1 (kind_at state.now (number bad.0)))) }
+        (λ bad. IsFalse (is_taken defs.now bad.1 (kind_at state.now (number bad.0)))) }
 {
     for argument in 0..MAX_ARGUMENTS {
         let (register, parameter) = argument_of(called, argument)?;
-        if !is_taken(parameter, state.kind(register)) {
+        if !is_taken(parameter, state.kind(register), defs) {
             return Some((register, parameter));
         }
     }
@@ -444,12 +444,14 @@ fn bad_argument(state: &AbsState, called: i32) -> Option<(Register, Parameter)>
 }
 
 /// True if a register of that kind may be such an argument, null or not, wherever it points.
-fn is_taken(parameter: Parameter, kind: Kind) -> bool
-    ensures { result ≡ is_taken parameter kind }
+fn is_taken(parameter: Parameter, kind: Kind, defs: &MapDefs) -> bool
+    ensures { result ≡ is_taken defs.now parameter kind }
 {
     match parameter {
-        Parameter::Map => matches!(kind, Kind::MapRef(_)),
-        Parameter::Key => matches!(
+        Parameter::Map | Parameter::PerCpuMap | Parameter::LineMap => {
+            is_map_taken(parameter, kind, defs)
+        }
+        Parameter::Key | Parameter::Value | Parameter::Room => matches!(
             kind,
             Kind::Stack(_) | Kind::Elem(_, _) | Kind::ElemOrNull(_)
         ),
@@ -458,16 +460,57 @@ fn is_taken(parameter: Parameter, kind: Kind) -> bool
     }
 }
 
-/// The bytes of the stack that are read and aren't written, or are a part of a pointer.
+/// True if it is a reference to a map of a kind that the parameter takes.
+fn is_map_taken(parameter: Parameter, kind: Kind, defs: &MapDefs) -> bool
+    ensures { result ≡ is_map_taken defs.now parameter kind }
+{
+    match kind {
+        Kind::MapRef(map) => takes_shape(parameter, map, defs),
+        _ => false,
+    }
+}
+
+/// The bytes of the stack that are read and aren't written, or are a part of a pointer: those at an address, or
+/// else those of a value.
 fn unwritten_in(state: &AbsState, insn: Insn, defs: &MapDefs) -> Option<BadAccess>
     ensures fault { IfSome result (λ access. access_fault access ≡ Why.UnwrittenStack) }
     ensures said { IfSome result (IsAccessSaid defs.now insn state.now) }
 {
-    let Address { base, offset, size } = address_of(insn)?;
+    match unwritten_at_address(state, insn, defs) {
+        Some(access) => Some(access),
+        None => unwritten_value(state, insn, defs),
+    }
+}
+
+fn unwritten_at_address(state: &AbsState, insn: Insn, defs: &MapDefs) -> Option<BadAccess>
+    ensures fault { IfSome result (λ access. access_fault access ≡ Why.UnwrittenStack) }
+    ensures said { IfSome result (IsAccessSaid defs.now insn state.now) }
+{
+    let Address { base, offset, size } = address_in(state, insn, defs)?;
     match area_of(state.kind(base), offset, size, defs) {
         Ok(Area::OnStack(first)) => unwritten_from(state, first, size.bytes()),
         _ => None,
     }
+}
+
+fn unwritten_value(state: &AbsState, insn: Insn, defs: &MapDefs) -> Option<BadAccess>
+    ensures fault { IfSome result (λ access. access_fault access ≡ Why.UnwrittenStack) }
+    ensures said { IfSome result (IsAccessSaid defs.now insn state.now) }
+{
+    let ValueBytes { base, count } = value_in(state, insn, defs)?;
+    match state.kind(base) {
+        Kind::Stack(first) if is_within_stack(first, count) => {
+            unwritten_from(state, first, count)
+        }
+        _ => None,
+    }
+}
+
+/// True if that many bytes of the stack, from that one on, are there.
+fn is_within_stack(first: u16, count: u16) -> bool
+    ensures { result ≡ nat_le (first + count) STACK_SIZE }
+{
+    u32::from(first) + u32::from(count) <= u32::from(STACK_SIZE)
 }
 
 /// The first of `count` bytes of the stack, from `first` on, that isn't written, or is a part of a
@@ -507,11 +550,53 @@ fn access_outside(state: &AbsState, insn: Insn, defs: &MapDefs) -> Option<BadAcc
     ensures fault { IfSome result (λ access. access_fault access ≡ Why.OutOfBounds) }
     ensures said { IfSome result (IsAccessSaid defs.now insn state.now) }
 {
-    let address = address_of(insn)?;
+    match insn {
+        Insn::Call(_) => call_outside(state, insn, defs),
+        _ => address_outside(state, insn, defs),
+    }
+}
+
+/// A load or a store that doesn't lie in its memory.
+fn address_outside(state: &AbsState, insn: Insn, defs: &MapDefs) -> Option<BadAccess>
+    ensures fault { IfSome result (λ access. access_fault access ≡ Why.OutOfBounds) }
+    ensures said { IfSome result (IsAccessSaid defs.now insn state.now) }
+{
+    let address = address_in(state, insn, defs)?;
     match reach_of(state, address, defs) {
         Some(reach) => Some(BadAccess::Outside(reach)),
         None => Some(BadAccess::NoPointer(address.base, state.kind(address.base))),
     }
+}
+
+/// A key that doesn't lie in its memory, or else a value.
+fn call_outside(state: &AbsState, insn: Insn, defs: &MapDefs) -> Option<BadAccess>
+    ensures fault { IfSome result (λ access. access_fault access ≡ Why.OutOfBounds) }
+    ensures said { IfSome result (IsAccessSaid defs.now insn state.now) }
+{
+    match key_outside(state, insn, defs) {
+        Some(access) => Some(access),
+        None => value_outside(state, insn, defs),
+    }
+}
+
+fn key_outside(state: &AbsState, insn: Insn, defs: &MapDefs) -> Option<BadAccess>
+    ensures fault { IfSome result (λ access. access_fault access ≡ Why.OutOfBounds) }
+    ensures said { IfSome result (IsAccessSaid defs.now insn state.now) }
+{
+    let address = address_in(state, insn, defs)?;
+    let Address { base, offset, size } = address;
+    match area_of(state.kind(base), offset, size, defs) {
+        Err(Why::OutOfBounds) => address_outside(state, insn, defs),
+        _ => None,
+    }
+}
+
+fn value_outside(state: &AbsState, insn: Insn, defs: &MapDefs) -> Option<BadAccess>
+    ensures fault { IfSome result (λ access. access_fault access ≡ Why.OutOfBounds) }
+    ensures said { IfSome result (IsAccessSaid defs.now insn state.now) }
+{
+    let value = value_in(state, insn, defs)?;
+    Some(BadAccess::Outside(value_reach(state, value, defs)?))
 }
 
 /// An access at a place that is no multiple of its size.
@@ -519,7 +604,7 @@ fn misaligned(state: &AbsState, insn: Insn, defs: &MapDefs) -> Option<BadAccess>
     ensures fault { IfSome result (λ access. access_fault access ≡ Why.Misaligned) }
     ensures said { IfSome result (IsAccessSaid defs.now insn state.now) }
 {
-    let address = address_of(insn)?;
+    let address = address_in(state, insn, defs)?;
     let reach = reach_of(state, address, defs)?;
     Some(BadAccess::Misaligned(reach))
 }
