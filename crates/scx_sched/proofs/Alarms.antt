@@ -1,28 +1,20 @@
 -- By Linux rules, while the policy is in force, each timer that was started is due later than the clock: it is as it is
 -- started, and as the clock grows each that is due runs once, by number.
-use Rattle.std.proofs.Common.{◌≡◌, ℕ, zero, suc, ◌+◌, ◌<◌, ◌≤◌, Bool, true, false, ◌&&◌, if◌then◌else◌, nat_lt, nat_le, max, ◌⊎◌, inl, inr, List, length, replicate, set, get_or, map, Option, Some, None, is_none, Ok, refl, sym, ap, ◌∙◌, subst, arith}
+use Rattle.std.proofs.Common.{◌≡◌, ℕ, zero, suc, ◌+◌, ◌<◌, ◌≤◌, Bool, true, false, ◌&&◌, if◌then◌else◌, nat_lt, nat_le, ◌⊎◌, inl, inr, List, length, replicate, set, get_or, Option, Some, None, is_none, Ok, refl, sym, ap, ◌∙◌, subst, arith}
 use Rattle.std.proofs.lemmas.Bool.{cases_eq, cases_lt}
 use Rattle.std.proofs.lemmas.Bool.Decides.{nat_tests}
 use Rattle.std.proofs.lemmas.List.{length-set, length-replicate, get_or-set_same, get_or-set_other, get_or_past, set_past}
 use Rattle.scx_isa_semantics.specs.declared.callbacks.Callback.TheVariants as callback
-use Rattle.scx_isa_semantics.specs.declared.host_tables.Helper.{Helper}
-use Rattle.scx_isa_semantics.specs.Effects.{Query, Call, Load, Store}
-use Rattle.scx_vm.specs.Arguments.{argument_of}
-use Rattle.scx_vm.specs.Host.{after_query}
-use Rattle.scx_vm.specs.declared.arguments.Arg.{Arg}
-use Rattle.scx_weights.specs.Hierarchy.{Hierarchy, with_weight, with_own_weight}
+use Rattle.scx_weights.specs.Hierarchy.{Hierarchy, with_weight}
 use Rattle.scx_weights.specs.Limits.{with_use}
-use Rattle.scx_weights.specs.Refusals.{weight_fault, own_weight_fault}
+use Rattle.scx_weights.specs.Refusals.{weight_fault}
 use Rattle.scx_sched_tasks.specs.declared.task.Task.{Task}
 use Rattle.scx_sched_tasks.specs.Tasks.{new_task}
-use Rattle.scx_sched_world.specs.declared.call.Insert.{Insert}
-use Rattle.scx_sched_world.specs.declared.faults.Fault.{Fault}
 use Rattle.scx_sched_world.specs.declared.timers.Alarm.{Alarm}
 use Rattle.scx_sched_world.specs.World as world
-use Rattle.scx_sched_world.specs.World.{WorldState, are_linux, with_tree, with_task, task_at, waits}
-use Rattle.scx_sched_world.specs.Tasks.{with_home, with_slice, task_after_insert, after_leave, after_enter, for_cpu, brought, fill_front, used_ms, later, begun_periods, after_own_weight, next_for}
-use Rattle.scx_sched_world.specs.Helpers.{is_dispatch, with_insert, after_release, insert_or_fault, moved_to_local, helper_after, delay_ms, with_timer, alarm_in, alarm_at, due_now, after_fire, world_functions}
-use Rattle.scx_sched_world.specs.Ejecting.{put_builtin}
+use Rattle.scx_sched_world.specs.World.{WorldState, are_linux, with_tree, with_task}
+use Rattle.scx_sched_world.specs.Tasks.{used_ms, later, begun_periods}
+use Rattle.scx_sched_world.specs.Helpers.{with_timer, alarm_at, due_now, after_fire}
 use Rattle.scx_sched_machine.specs.declared.events.Event.{Event}
 use Rattle.scx_sched_machine.specs.Policy.{PolicyState}
 use Rattle.scx_sched_machine.specs.Start.{is_bad_shape, first_state}
@@ -32,17 +24,18 @@ use Rattle.scx_sched_machine.specs.Parking.{let_all_go}
 use Rattle.scx_sched_machine.specs.Firing.{due, fires, fire, fire_below, fire_all}
 use Rattle.scx_sched_machine.specs.Events.{refusal, overdue, eject_if_stalled, watch, timers_and_watchdog, clock, own_step, event_step}
 use Rattle.scx_sched_machine.proofs.Choices.{keeps_if}
-use Rattle.scx_sched_machine.proofs.HelperCalls.{by_helper}
 use Rattle.scx_sched.specs.Kept.{IsKeptBySteps}
 use Rattle.scx_sched.specs.Ranges.{IsFine}
 use Rattle.scx_sched.specs.Timers.{AreTimersLater}
-use Rattle.scx_sched.proofs.Marks.{KeepsMarks, Anywhere, kept_cycling, kept_kicked_so, kept_claim, kept_local, kept_entered}
 use Rattle.scx_sched.proofs.Fine.{fine_steps}
 use Rattle.scx_sched.proofs.First.{steps_started}
 use Rattle.scx_sched.proofs.Skeleton.{keeps_eject, keeps_timer, keeps_timer_called}
 use Rattle.scx_sched.proofs.Letting.{keeps_let_all_go}
-use Rattle.scx_sched.proofs.Watching.{Both, both_steps}
+use Rattle.scx_sched.proofs.Watching.{Both, alone_events}
 use Rattle.scx_sched.proofs.Events.{IsKeptByEvents, IsKeptByTick, IsTaken, Wakes, Sleeps, Ticks, Clocks, Weighs, WeighsTask, is_taken, IsFineNow, inside_of, fine_events, one_more, fine_later, fine_ticked, fine_clock, fine_reweighed, keeps_now, keeps_wake, keeps_sleep, keeps_tick, keeps_reweigh, keeps_with_rounds}
+use Rattle.scx_sched.proofs.Queries.{KeepsQueries, off_queues}
+use Rattle.scx_sched.proofs.Written.{each_written}
+use Rattle.scx_sched.proofs.Alone.{KeepsAlone, alone_steps}
 
 -- a timer below that number is due later than the clock, another one at it or later
 abbrev IsDueFor : ℕ → ℕ → ℕ → Alarm → Type 0
@@ -53,9 +46,6 @@ abbrev AreDue : (n k j : ℕ) → WorldState → Type 0
 AreDue n k j w =
     (length w.tasks ≡ n) × (length w.timers ≡ k) × (world.is_by_linux w ≡ true → (i : ℕ) (a : Alarm) → alarm_at w i ≡ Some a → IsDueFor j w.clock i a)
 
-same_alarm : (a b : Alarm) → Some a ≡ Some b → a ≡ b
-same_alarm a b e = cc
-
 no_alarm : (a : Alarm) → None ≡ Some a → ⊥
 no_alarm a e = absurd (cc)
 
@@ -64,10 +54,6 @@ not_linux : (b : Bool) → (b && false) ≡ true → ⊥
 not_linux true e = absurd (cc)
 not_linux false e = absurd (cc)
 
--- a timer that is started is due later
-started_later : (now x : ℕ) → now < now + max 1 x
-started_later now x = omega arith
-
 module _ (n k j : ℕ) where
   -- another record of a task
   due_task : (w : WorldState) (t : ℕ) (x : Task) → AreDue n k j w → AreDue n k j (with_task w t x)
@@ -75,102 +61,23 @@ module _ (n k j : ℕ) where
 
   -- another alarm
   due_alarm : (w : WorldState) (i : ℕ) (o : Option Alarm) → ((a : Alarm) → o ≡ Some a → IsDueFor j w.clock i a) → AreDue n k j w → AreDue n k j (with_timer w i o)
-  due_alarm w i o new h = (h.0, length-set w.timers i o ∙ h.1, λ linux u a e. go linux u a e (cases_eq u i) (cases_lt i (length w.timers)))
-    where
-      go : world.is_by_linux w ≡ true → (u : ℕ) (a : Alarm) → get_or (set w.timers i o) u None ≡ Some a → (u ≡ i) ⊎ (u ≡ i → ⊥) → (i < length w.timers) ⊎ (length w.timers ≤ i) → IsDueFor j w.clock u a
-      go linux u a e (inl is) (inl l) = rw is (new a (sym (get_or-set_same w.timers i o None l) ∙ (ap (λ x. get_or (set w.timers i o) x None) (sym is) ∙ e)))
-      go linux u a e (inl is) (inr past) = h.2 linux u a (ap (λ (xs : List (Option Alarm)). get_or xs u None) (sym (set_past w.timers i o past)) ∙ e)
-      go linux u a e (inr d) l = h.2 linux u a (sym (get_or-set_other w.timers i u o None d) ∙ e)
+  due_alarm w i o new h = (h.0, length-set w.timers i o ∙ h.1, λ linux. each_written (λ u (b : Option Alarm). (a : Alarm) → b ≡ Some a → IsDueFor j w.clock u a) w.timers i o None new (h.2 linux))
 
-  due_started : (w : WorldState) (i ns : ℕ) → AreDue n k j w → AreDue n k j (with_timer w i (Some (alarm_in w ns)))
-  due_started w i ns h = due_alarm w i (Some (alarm_in w ns)) (λ a e. subst (IsDueFor j w.clock i) (same_alarm (alarm_in w ns) a e) (omega (arith, soon), λ l. soon)) h
-    where
-      soon : w.clock < w.clock + delay_ms ns
-      soon = started_later w.clock _
+  -- each small change of a query
+  due_kept : KeepsQueries (AreDue n k j)
+  due_kept = off_queues (AreDue n k j) (λ w x other h. h) (λ w i o later h. due_alarm w i o (λ a e. (omega (arith, later a e), λ l. later a e)) h) (λ w t s v c h. due_task w t _ h) (λ w q i m a b c d r ns h. h)
 
-  due_cancelled : (w : WorldState) (i : ℕ) → AreDue n k j w → AreDue n k j (with_timer w i None)
-  due_cancelled w i h = due_alarm w i None (λ a e. absurd (no_alarm a e)) h
-
-  -- as the processor of a task, its slice and sets of processors change, timers are as they were
-  due_marks : KeepsMarks Anywhere (AreDue n k j)
-  due_marks = record { there = λ w c h l. tt; homed = λ w t c l h. due_task w t (with_home (task_at w t) c) h; sliced = λ w t s h. due_task w t (with_slice (task_at w t) s) h; sets = λ w a b c d h. h }
-
-  due_entered : (w : WorldState) (t : ℕ) (i : Insert) → AreDue n k j w → AreDue n k j (after_enter w t i)
-  due_entered w t i h = kept_entered Anywhere (AreDue n k j) due_marks w t i (let x = due_task w t (task_after_insert (task_at w t) i) h in (x.0, x.1, x.2)) h
-
-  due_released : (w : WorldState) (t : Option ℕ) (i : Insert) → AreDue n k j w → AreDue n k j (after_release w t i)
-  due_released w None i h = h
-  due_released w (Some t) i h = let x = due_entered (after_leave w t) t i h in (x.0, x.1, x.2)
-
-  due_inserted : (w : WorldState) (o : Option Fault) (t : Option ℕ) (i : Insert) → AreDue n k j w → AreDue n k j (insert_or_fault w o t i)
-  due_inserted w None t i h = keeps_if (AreDue n k j) (is_dispatch w.call.callback) (after_release w t (for_cpu w.call.cpu i)) (with_insert w i) (due_released w t (for_cpu w.call.cpu i) h) h
-  due_inserted w (Some f) t i h = h
-
-  due_moved : (w : WorldState) (o : Option ℕ) → AreDue n k j w → AreDue n k j (moved_to_local w o)
-  due_moved w None h = h
-  due_moved w (Some t) h = let x = kept_local Anywhere (AreDue n k j) due_marks (after_leave w t) w.call.cpu t tt h in (x.0, x.1, x.2)
-
-  due_brought : (o : Option ℕ) (w : WorldState) (c : ℕ) → AreDue n k j w → AreDue n k j (brought o w c)
-  due_brought None w c h = h
-  due_brought (Some t) w c h = kept_local Anywhere (AreDue n k j) due_marks (after_leave w t) c t tt h
-
-  due_helper : (w : WorldState) (f : Helper) (a : List Arg) → AreDue n k j w → AreDue n k j (helper_after w f a)
-  due_helper w f a h = by_helper (AreDue n k j) w (record {
-    same = h;
-    faulty = λ f other. h;
-    ended = λ n. h;
-    created = λ q. h;
-    inserted = λ t i flags back none. due_inserted w None t i h;
-    late = λ linux here. h;
-    claimed = λ o. kept_claim Anywhere (AreDue n k j) due_marks w o h;
-    kicked = λ c x. kept_kicked_so Anywhere (AreDue n k j) due_marks w c x h;
-    started = λ i ns. due_started w i ns h;
-    cancelled = λ i. due_cancelled w i h;
-    drawn = h;
-    moved = λ q here low. due_moved w (next_for w q w.call.cpu) h;
-  }) f a
-
-  due_query : (w : WorldState) (q : Query) → AreDue n k j w → AreDue n k j (after_query world_functions w q)
-  due_query w (Call f a) h = due_helper w f (map argument_of a) h
-  due_query w (Load t f) h = h
-  due_query w (Store t f x) h = due_task w t.0 _ h
-
-  due_put_builtin : (w : WorldState) (t : ℕ) → AreDue n k j w → AreDue n k j (put_builtin w t)
-  due_put_builtin w t h = keeps_if (AreDue n k j) (nat_lt t (length w.tasks)) _ w (due_task w t _ h) h
-
-  due_weighed : (w : WorldState) (t x : ℕ) → AreDue n k j w → AreDue n k j (after_own_weight w t x)
-  due_weighed w t x h = keeps_if (AreDue n k j) (is_none (own_weight_fault w.tree t x)) (with_tree w (with_own_weight w.tree t x)) w h h
-
-  -- small steps keep it
-  due_steps : IsKeptBySteps n (λ m hand on w. AreDue n k j w)
-  due_steps = record {
-    more = λ m hand on w h. h;
-    known = λ m hand on w h. h.0;
-    query = λ m hand on w q h. due_query w q h;
-    begun = λ m hand on w b t c l h. h;
-    quiet = λ m hand on w h. h;
-    moved = λ m hand on w b h. h;
-    cancelled = λ m hand on w i h. due_cancelled w i h;
-    cycling = λ m hand on w o h. kept_cycling (AreDue n k j) (λ v p a x r. r) w o h;
-    sets = λ m hand on w a b c d o h. h;
-    homed = λ m hand on w t c l may h. due_task w t _ h;
-    sliced = λ m hand on w t x h. due_task w t _ h;
-    wants = λ m hand on w c l calm may h. h;
-    entered = λ m on w t i l x may h. due_entered w t i h;
-    filled = λ m on w q c apart l h. due_brought (fill_front w q c) w c h;
-    stopped = λ m on w c t l within runs h. due_task w t _ h;
-    started = λ m on w c t l free front may h. due_task w t _ h;
-    ran = λ m on w c t l free here may h. due_task w t _ h;
-    put_parked = λ m on w t l may-not h. keeps_if (AreDue n k j) (nat_lt t (length w.tasks)) _ w (due_task w t _ h) h;
-    left = λ m on w q t apart there h. h;
-    kept = λ m on w t h. due_task w t _ h;
-    asleep = λ m on w t l h. keeps_if (AreDue n k j) (nat_lt t (length w.tasks)) _ w (due_task w t _ h) h;
-    put_out = λ m hand on w x h. (h.0, h.1, λ linux. absurd (not_linux (are_linux w.rules) linux));
-    evict = λ m hand on w t l h. keeps_if (AreDue n k j) (waits w t) (put_builtin (after_leave w t) t) w (due_put_builtin (after_leave w t) t h) h;
-    cut = λ m hand on w t h. due_task w t _ h;
-    put_builtin = λ m on w t l h. due_put_builtin w t h;
-    overtaken = λ m hand on w t h. h;
-    charged = λ m hand on w t out h. due_task w t _ h;
+  -- and of a world
+  due_alone : KeepsAlone n (AreDue n k j)
+  due_alone = record {
+    known = λ w h. h.0;
+    queries = due_kept;
+    waits_now = λ w t h. due_task w t _ h;
+    waits_not = λ w t c h. due_task w t _ h;
+    builtin = λ w t s v h. due_task w t _ h;
+    popped = λ w q h. h;
+    out = λ w x h. (h.0, h.1, λ linux. absurd (not_linux (are_linux w.rules) linux));
+    rest = λ w cpus o x a b c tree call clock ns h. h;
   }
 
 -- ---- events
@@ -180,17 +87,7 @@ abbrev IsRightAndDue : (n e k j m : ℕ) → Option ℕ → List (Option ℕ) �
 IsRightAndDue n e k j = Both (IsFine n e) (λ m hand on w. AreDue n k j w)
 
 due_events : (n e k j : ℕ) → IsKeptByEvents n (IsRightAndDue n e k j)
-due_events n e k j = record {
-  steps = both_steps n (IsFine n e) (λ m hand on w. AreDue n k j w) (fine_steps n e) (due_steps n k j);
-  sound = λ m hand on w h. h.one.sound;
-  allowed = λ m hand on w h. h.one.allowed;
-  woken = λ m on w t within resting h. record { one = (fine_events n e).woken m on w t within resting h.one; two = due_task n k j w t _ h.two };
-  let_go = λ m on w t within there h. record { one = (fine_events n e).let_go m on w t within there h.one; two = due_task n k j w t _ h.two };
-  left = λ m on w t within runnable off h. record { one = (fine_events n e).left m on w t within runnable off h.one; two = (due_steps n k j).asleep m on (after_leave w t) t within h.two };
-  removed = λ m on w t within here h. record { one = (fine_events n e).removed m on w t within here h.one; two = h.two };
-  weighed = λ m hand on w t x h. record { one = (fine_events n e).weighed m hand on w t x h.one; two = due_weighed n k j w t x h.two };
-  anew = λ m i on w force h. record { one = (fine_events n e).anew m i on w force h.one; two = h.two };
-}
+due_events n e k j = alone_events n e (AreDue n k j) (due_alone n k j)
 
 -- ---- timers that run
 
@@ -353,4 +250,4 @@ pub timers_first : (p : PolicyState) (tree : Hierarchy) (cpus : ℕ) (t : State)
 timers_first p tree cpus t shape e =
     let n = length tree.homes in
     let k = p.timers in
-    later_of n k t.world (steps_started (λ m hand on w. AreDue n k k w) p tree cpus t (due_steps n k k) (λ v u c x. due_task n k k v u _ x) shape e (length-replicate n new_task, length-replicate {A = Option Alarm} k None, λ linux i a x. absurd (no_alarm a (sym (none_started k i) ∙ x))))
+    later_of n k t.world (steps_started (λ m hand on w. AreDue n k k w) p tree cpus t (alone_steps n (AreDue n k k) (due_alone n k k)) (λ v u c x. due_task n k k v u _ x) shape e (length-replicate n new_task, length-replicate {A = Option Alarm} k None, λ linux i a x. absurd (no_alarm a (sym (none_started k i) ∙ x))))

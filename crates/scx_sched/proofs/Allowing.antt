@@ -1,5 +1,5 @@
 -- The small steps of a world keep each task where it may run.
-use Rattle.std.proofs.Common.{arith, ◌≡◌, ℕ, ◌+◌, ◌-◌, ◌<◌, ◌≤◌, Bool, true, false, ◌==◌, ◌&&◌, nat_lt, nat_le, ◌⊎◌, inl, inr, if◌then◌else◌, List, length, set, get_or, Option, Some, None, is_some, is_none, option_map, refl, sym, ap, ◌∙◌, subst, ◌||◌, map}
+use Rattle.std.proofs.Common.{arith, ◌≡◌, ℕ, ◌+◌, ◌-◌, ◌<◌, ◌≤◌, Bool, true, false, ◌==◌, ◌&&◌, nat_lt, nat_le, ◌⊎◌, inl, inr, if◌then◌else◌, List, length, set, get_or, Option, Some, None, is_some, is_none, option_map, refl, sym, ap, ◌∙◌, subst, map}
 use Rattle.std.proofs.lemmas.Bool.{cases_eq, cases_lt, and_parts, eqb-true}
 use Rattle.std.proofs.lemmas.Bool.Decides.{nat_tests}
 use Rattle.std.proofs.lemmas.List.{length-set, get_or-set_same, get_or-set_other, set_past}
@@ -16,26 +16,25 @@ use Rattle.scx_sched_world.specs.declared.call.Insert.{Insert}
 use Rattle.scx_sched_world.specs.declared.faults.Fault.TheVariants.{NotAllowed}
 use Rattle.scx_sched_world.specs.declared.notes.What.{What}
 use Rattle.scx_sched_world.specs.Ids.{local, local_on, parked_queue, builtin_queue}
-use Rattle.scx_sched_world.specs.World.{WorldState, with_queues, with_task, with_note, task_at, running, is_this, is_by_linux, may_run, with_cpu, with_kick, at_callback, after_claim, waits}
+use Rattle.scx_sched_world.specs.World.{WorldState, with_queues, with_task, with_note, task_at, running, is_this, is_by_linux, may_run, with_cpu, at_callback, waits}
 use Rattle.scx_sched_world.specs.Tasks.{with_home, with_slice, homed, homed_at, local_cpu, after_local, after_leave, task_after_insert, rank_by, after_preempt_of, after_preempt_at, after_preempt, after_enter, for_cpu, local_len, next_for, brought, fill_front, after_fill, with_since, with_builtin, after_stop, started_at, after_run, on_cpu, put_parked, to_local, after_wake, after_sleep, let_go, used_ms, later, begun_periods, after_reweigh, after_own_weight}
-use Rattle.scx_sched_world.specs.Helpers.{is_dispatch, is_at_hand, may_insert_in, cpu_meant, may_go, insert_fault, with_move, with_insert, after_release, insert_or_fault, moved_to_local, kicked_so, helper_after, stored_in, world_functions}
+use Rattle.scx_sched_world.specs.Helpers.{is_dispatch, is_at_hand, may_insert_in, cpu_meant, may_go, insert_fault, with_move, with_insert, after_release, insert_or_fault, moved_to_local, helper_after, stored_in, world_functions}
 use Rattle.scx_sched_machine.proofs.Choices.{keeps_if}
 use Rattle.scx_sched.specs.Allowed.{AreAllowed, MayGo, IsAllowedIn}
 use Rattle.scx_sched.proofs.Marks.{local_there}
 use Rattle.scx_sched.proofs.Seen.{next_seen}
 use Rattle.scx_sched.proofs.Sound.{is_fit, given_home, stored_home}
 use Rattle.scx_sched_world.specs.Ejecting.{builtin_vtime, put_builtin, evict, put_out}
-use Rattle.scx_sched_world.specs.declared.kicks.Kick.{Kick}
-use Rattle.scx_sched_world.specs.declared.kicks.Kick.TheVariants.{Any, IfIdle, Preempt}
 use Rattle.scx_isa_semantics.specs.declared.host_tables.Helper.{Helper}
 use Rattle.scx_isa_semantics.specs.Effects.{Query, Call, Load, Store}
 use Rattle.scx_vm.specs.declared.arguments.Arg.{Arg}
 use Rattle.scx_vm.specs.Arguments.{argument_of}
 use Rattle.scx_vm.specs.Host.{after_query}
 use Rattle.scx_sched_world.proofs.Fronts.{front_in}
-use Rattle.scx_sched_machine.proofs.HelperCalls.{by_helper}
 use Rattle.scx_weights.specs.Refusals.{weight_fault, own_weight_fault}
 use Rattle.scx_sched_world.specs.declared.eject.Eject.{Eject}
+use Rattle.scx_sched.proofs.Queries.{kept_apart}
+use Rattle.scx_sched.proofs.Written.{each_written}
 
 -- ---- where a task waits, as it comes and goes
 
@@ -105,12 +104,7 @@ module _ (on : List (Option ℕ)) (n : ℕ) where
 
   -- another record of a task, whose processor is one on which it may run
   pub allowed_task : (w : WorldState) (t : ℕ) (x : Task) → (t < n → may_run w t x.prev_cpu ≡ true) → IsAllowedIn on n w → IsAllowedIn on n (with_task w t x)
-  allowed_task w t x new h = record { runs = h.runs; local = h.local; home = λ u l. go u l (cases_eq u t) (cases_lt t (length w.tasks)); asks = h.asks }
-    where
-      go : (u : ℕ) → u < n → (u ≡ t) ⊎ (u ≡ t → ⊥) → (t < length w.tasks) ⊎ (length w.tasks ≤ t) → may_run w u (get_or (set w.tasks t x) u no_task).prev_cpu ≡ true
-      go u l (inl is) (inl within) = rw (is, get_or-set_same w.tasks t x no_task within) (new (omega (arith, l, is)))
-      go u l (inl is) (inr past) = rw (set_past w.tasks t x past) (h.home u l)
-      go u l (inr d) within = rw (get_or-set_other w.tasks t u x no_task d) (h.home u l)
+  allowed_task w t x new h = record { runs = h.runs; local = h.local; home = each_written (λ u (y : Task). u < n → may_run w u y.prev_cpu ≡ true) w.tasks t x no_task new h.home; asks = h.asks }
 
   -- or stays
   pub allowed_same : (w : WorldState) (t : ℕ) (x : Task) → x.prev_cpu ≡ (task_at w t).prev_cpu → IsAllowedIn on n w → IsAllowedIn on n (with_task w t x)
@@ -298,14 +292,7 @@ allowed_now w h = record { running = h.runs; local = h.local; home = h.home }
 module _ (on : List (Option ℕ)) (n : ℕ) where
   -- the task before, if another runs on one processor
   runs_set : (w : WorldState) (c : ℕ) (o : Option ℕ) → ((t : ℕ) → o ≡ Some t → may_run w t c ≡ true) → IsAllowedIn on n w → (d t : ℕ) → get_or (set on c o) d None ≡ Some t → may_run w t d ≡ true
-  runs_set w c o new h d t e = go (cases_eq d c) (cases_lt c (length on))
-    where
-      go : (d ≡ c) ⊎ (d ≡ c → ⊥) → (c < length on) ⊎ (length on ≤ c) → may_run w t d ≡ true
-      go (inl is) (inl l) =
-          let here : o ≡ Some t = sym (ap (λ k. get_or (set on c o) k None) is ∙ get_or-set_same {A = Option ℕ} on c o None l) ∙ e in
-          ap (λ k. may_run w t k) is ∙ new t here
-      go (inl is) (inr past) = h.runs d t (ap (λ xs. get_or xs d None) (sym (set_past on c o past)) ∙ e)
-      go (inr other) l = h.runs d t (sym (get_or-set_other {A = Option ℕ} on c d o None other) ∙ e)
+  runs_set w c o new h d t e = each_written (λ k (p : Option ℕ). (u : ℕ) → p ≡ Some u → may_run w u k ≡ true) on c o None new h.runs d t e
 
   -- a task leaves its processor
   pub allowed_stopped : (w : WorldState) (c t : ℕ) → IsAllowedIn on n w → IsAllowedIn (set on c None) n (after_stop w c t)
@@ -409,33 +396,13 @@ module _ (on : List (Option ℕ)) (n : ℕ) where
 
   -- ---- what a program asks
 
-  allowed_claimed : (w : WorldState) (o : Option ℕ) → IsAllowedIn on n w → IsAllowedIn on n (after_claim w o)
-  allowed_claimed w None h = h
-  allowed_claimed w (Some c) h = keeps_if (IsAllowedIn on n) (is_by_linux w) _ w (record { runs = h.runs; local = h.local; home = h.home; asks = h.asks }) h
-
-  allowed_kicked : (w : WorldState) (c : ℕ) (k : Kick) → IsAllowedIn on n w → IsAllowedIn on n (kicked_so w c k)
-  allowed_kicked w c Any h = record { runs = h.runs; local = h.local; home = h.home; asks = h.asks }
-  allowed_kicked w c IfIdle h = keeps_if (IsAllowedIn on n) (is_none (running w c) || is_this c w.cycling) (with_kick w c) w (record { runs = h.runs; local = h.local; home = h.home; asks = h.asks }) h
-  allowed_kicked w c Preempt h = record { runs = h.runs; local = h.local; home = h.home; asks = h.asks }
-
   allowed_created : (w : WorldState) (q : ℕ) → IsAllowedIn on n w → IsAllowedIn on n (with_queues w (after_create w.queues q))
   allowed_created w q h = keeps_if (λ (s : QueueState). IsAllowedIn on n (with_queues w s)) (is_none (create_refusal w.queues q)) (with_queue w.queues q) w.queues (record { runs = h.runs; local = h.local; home = h.home; asks = h.asks }) (record { runs = h.runs; local = h.local; home = h.home; asks = h.asks })
 
   allowed_helper : (w : WorldState) (f : Helper) (a : List Arg) → length w.cpus ≡ length on → IsAllowedIn on n w → IsAllowedIn on n (helper_after w f a)
-  allowed_helper w f a many h = by_helper (IsAllowedIn on n) w (record {
-    same = h;
-    faulty = λ f other. record { runs = h.runs; local = h.local; home = h.home; asks = h.asks };
-    ended = λ k. record { runs = h.runs; local = h.local; home = h.home; asks = h.asks };
-    created = λ q. allowed_created w q h;
-    inserted = λ t i flags behind none. allowed_inserted on n w t i flags many none h;
-    late = λ linux here. record { runs = h.runs; local = h.local; home = h.home; asks = h.asks };
-    claimed = λ o. allowed_claimed w o h;
-    kicked = λ c k. allowed_kicked w c k h;
-    started = λ t ns. record { runs = h.runs; local = h.local; home = h.home; asks = h.asks };
-    cancelled = λ t. record { runs = h.runs; local = h.local; home = h.home; asks = h.asks };
-    drawn = record { runs = h.runs; local = h.local; home = h.home; asks = h.asks };
-    moved = λ q here low. allowed_moved on n w (next_for w q w.call.cpu) (λ t e. (next_seen w q w.call.cpu t e).may) h;
-  }) f a
+  allowed_helper w f a many h =
+      kept_apart (IsAllowedIn on n) (λ v x m a b c d ts r l. record { runs = l.runs; local = l.local; home = l.home; asks = l.asks }) w h (λ q. allowed_created w q h)
+      (λ t i flags back none. allowed_inserted on n w t i flags many none h) (λ q here low. allowed_moved on n w (next_for w q w.call.cpu) (λ t e. (next_seen w q w.call.cpu t e).may) h) f a
 
   -- whatever a program asks
   pub allowed_query : (w : WorldState) (q : Query) → length w.cpus ≡ length on → IsAllowedIn on n w → IsAllowedIn on n (after_query world_functions w q)

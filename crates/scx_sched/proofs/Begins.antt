@@ -1,35 +1,21 @@
 -- What holds before any callback, and each callback keeps, holds once a machine is made.
-use Rattle.std.proofs.Common.{◌≡◌, ℕ, zero, suc, ◌<◌, ◌≤◌, Bool, true, false, if◌then◌else◌, ◌⊎◌, inl, inr, List, length, map, Option, Some, None, Result, Ok, Err, ℤ, subst, refl, ap, ◌∙◌, arith}
+use Rattle.std.proofs.Common.{◌≡◌, ℕ, zero, suc, ◌<◌, ◌≤◌, Bool, true, false, if◌then◌else◌, ◌⊎◌, inl, inr, List, length, Option, Some, None, Result, Ok, Err, ℤ, subst, refl, ap, ◌∙◌, arith}
 use Rattle.std.proofs.lemmas.List.{length-replicate}
 use Rattle.scx_isa_semantics.specs.declared.callbacks.Callback.{Callback}
 use Rattle.scx_isa_semantics.specs.declared.callbacks.Callback.TheVariants as callback
-use Rattle.scx_isa_semantics.specs.declared.host_tables.Helper.{Helper}
-use Rattle.scx_isa_semantics.specs.Code.{instruction_count}
 use Rattle.scx_isa_semantics.specs.Elements.{Maps}
-use Rattle.scx_isa_semantics.specs.Machine as start
-use Rattle.scx_isa_semantics.specs.Effects.{Query, Call, Load, Store}
-use Rattle.scx_isa_semantics.specs.Endings.{run_of}
-use Rattle.scx_isa_semantics.proofs.EndedRuns.{run_keeps}
 use Rattle.scx_vm.specs.declared.arguments.Args.{Args}
-use Rattle.scx_vm.specs.declared.arguments.Arg.{Arg}
-use Rattle.scx_vm.specs.Arguments.{program_arguments, argument_of}
-use Rattle.scx_vm.specs.Host.{answer_to, after_query}
 use Rattle.scx_vm.specs.Programs.{VerifiedProgram}
 use Rattle.scx_weights.specs.Hierarchy.{Hierarchy, own_weight}
-use Rattle.scx_sched_world.specs.declared.call.Insert.{Insert}
-use Rattle.scx_sched_world.specs.declared.faults.Fault.{Fault}
 use Rattle.scx_sched_world.specs.World.{WorldState, without_marks, at_callback}
-use Rattle.scx_sched_world.specs.Tasks.{after_leave, for_cpu, next_for, begun_periods}
-use Rattle.scx_sched_world.specs.Helpers.{is_dispatch, with_insert, after_release, insert_or_fault, moved_to_local, helper_after, world_functions}
+use Rattle.scx_sched_world.specs.Tasks.{begun_periods}
 use Rattle.scx_sched_machine.specs.Policy.{PolicyState}
 use Rattle.scx_sched_machine.specs.Steps.{State, with_world}
 use Rattle.scx_sched_machine.specs.Callbacks.{call_ending, acting, after_callback, no_arguments, one_task, task_and_number, two_numbers}
 use Rattle.scx_sched_machine.specs.Start.{blank, init_ending, bad_answer, ok_unless, after_init, begin_ending, failure, begin_with, has_by_linux, begin_by_linux, enable, then_weigh, then_enable, after_enables, then_idle, after_idles, unmarked, all_idle, then_all_idle, all_enabled, first_state, by_policy}
-use Rattle.scx_sched_machine.proofs.Choices.{keeps_if}
-use Rattle.scx_sched_machine.proofs.HelperCalls.{by_helper}
-use Rattle.scx_sched.proofs.Marks.{KeepsMarks, Anywhere, kept_kicked_so, kept_claim, kept_local, kept_entered}
 use Rattle.scx_sched.proofs.Homes.{keeps_homes}
 use Rattle.scx_sched_world.specs.First.{first_world}
+use Rattle.scx_sched.proofs.Queries.{KeepsQueries, off_queues, kept_called, kept_query}
 
 -- ---- who runs where
 
@@ -37,49 +23,12 @@ use Rattle.scx_sched_world.specs.First.{first_world}
 abbrev RunTheSame : WorldState → WorldState → Type 0
 RunTheSame v w = w.cpus ≡ v.cpus
 
-module _ (v : WorldState) where
-  run_marks : KeepsMarks Anywhere (RunTheSame v)
-  run_marks = record { there = λ w c h l. tt; homed = λ w t c l h. h; sliced = λ w t n h. h; sets = λ w a b c d h. h }
-
-  run_released : (w : WorldState) (t : Option ℕ) (i : Insert) → RunTheSame v w → RunTheSame v (after_release w t i)
-  run_released w None i h = h
-  run_released w (Some t) i h = kept_entered Anywhere (RunTheSame v) run_marks (after_leave w t) t i h h
-
-  run_inserted : (w : WorldState) (o : Option Fault) (t : Option ℕ) (i : Insert) → RunTheSame v w → RunTheSame v (insert_or_fault w o t i)
-  run_inserted w None t i h = keeps_if (RunTheSame v) (is_dispatch w.call.callback) (after_release w t (for_cpu w.call.cpu i)) (with_insert w i) (run_released w t (for_cpu w.call.cpu i) h) h
-  run_inserted w (Some f) t i h = h
-
-  run_moved : (w : WorldState) (o : Option ℕ) → RunTheSame v w → RunTheSame v (moved_to_local w o)
-  run_moved w None h = h
-  run_moved w (Some t) h = kept_local Anywhere (RunTheSame v) run_marks (after_leave w t) w.call.cpu t tt h
-
-  run_helper : (w : WorldState) (f : Helper) (a : List Arg) → RunTheSame v w → RunTheSame v (helper_after w f a)
-  run_helper w f a h = by_helper (RunTheSame v) w (record {
-    same = h;
-    faulty = λ f other. h;
-    ended = λ n. h;
-    created = λ q. h;
-    inserted = λ t i flags back none. run_inserted w None t i h;
-    late = λ linux here. h;
-    claimed = λ o. kept_claim Anywhere (RunTheSame v) run_marks w o h;
-    kicked = λ c k. kept_kicked_so Anywhere (RunTheSame v) run_marks w c k h;
-    started = λ t ns. h;
-    cancelled = λ t. h;
-    drawn = h;
-    moved = λ q here low. run_moved w (next_for w q w.call.cpu) h;
-  }) f a
-
-  run_query : (w : WorldState) (q : Query) → RunTheSame v w → RunTheSame v (after_query world_functions w q)
-  run_query w (Call f a) h = run_helper w f (map argument_of a) h
-  run_query w (Load t f) h = h
-  run_query w (Store t f k) h = h
+run_kept : (v : WorldState) → KeepsQueries (RunTheSame v)
+run_kept v = off_queues (RunTheSame v) (λ w x other h. h) (λ w n o later h. h) (λ w t s k c h. h) (λ w q i m a b c d n ns h. h)
 
 -- no callback changes that
 run_called : (p : Option VerifiedProgram) (b : Callback) (a : Args) (maps : Maps) (w : WorldState) → RunTheSame w (call_ending p b a maps w).outside
-unfolding call_ending run_of
-run_called None b a maps w = refl
-run_called (Some p) b a maps w =
-    run_keeps (answer_to world_functions) (after_query world_functions) (RunTheSame w) (run_query w) b p.code (suc (instruction_count p.code)) 0 (start.start (program_arguments a) maps) w refl
+run_called p b a maps w = kept_called (RunTheSame w) (kept_query (RunTheSame w) (run_kept w)) p b a maps w refl
 
 -- ---- the first callbacks
 

@@ -20,6 +20,7 @@ use Rattle.scx_sched_world.specs.World.{WorldState, is_runnable}
 use Rattle.scx_sched_world.specs.Tasks.{queue_for, rank_by}
 use Rattle.scx_sched_machine.proofs.Choices.{keeps_if}
 use Rattle.scx_sched.specs.Once.{IsOnce, HasQueues, sort_of, fits_queue, fits_sort, IsSorted, IsAlike, IsOpen, GoesSomewhere}
+use Rattle.scx_sched.proofs.Written.{each_written}
 
 -- ---- where a task may enter
 
@@ -41,12 +42,7 @@ nowhere w t once = go (entry_of w.queues t) (omega (arith, once t, one_le (is_ru
 
 -- what each entry passes, and a new one too, each entry passes then
 pub each_set : (f : Option Entry → Bool) (b : Bool) (places : Entries) (t : ℕ) (o : Option Entry) → f o ≡ b → ((u : ℕ) → f (entry_at places u) ≡ b) → (u : ℕ) → f (entry_at (set places t o) u) ≡ b
-each_set f b places t o new old u = go (cases_eq u t) (cases_lt t (length places))
-  where
-    go : (u ≡ t) ⊎ (u ≡ t → ⊥) → (t < length places) ⊎ (length places ≤ t) → f (entry_at (set places t o) u) ≡ b
-    go (inl e) (inl within) = rw (e, get_or-set_same places t o None within) new
-    go (inl e) (inr past) = rw (set_past places t o past) (old u)
-    go (inr n) l = rw (get_or-set_other places t u o None n) (old u)
+each_set f b places t o new old u = each_written (λ k (p : Option Entry). f p ≡ b) places t o None new old u
 
 -- a push that fits leaves each queue of its sort
 pub sorted_pushed : (s : QueueState) (q t : ℕ) (r : Rank) → fits_queue q r ≡ true → IsSorted s → IsSorted (after_push s q t r)

@@ -22,22 +22,19 @@ use Rattle.scx_sched_world.specs.declared.faults.Fault.{Fault}
 use Rattle.scx_sched_world.specs.declared.faults.Fault.TheVariants.{NoSuchQueue, NoSuchCpu, CannotCreate}
 use Rattle.scx_sched_world.specs.declared.kicks.Kick.{Kick}
 use Rattle.scx_sched_world.specs.World.{WorldState, with_queues, is_free, this_if, choice, after_claim, is_this}
-use Rattle.scx_sched_world.specs.Tasks.{after_leave, after_enter, for_cpu, next_for}
+use Rattle.scx_sched_world.specs.Tasks.{after_leave, for_cpu, next_for}
 use Rattle.scx_sched_world.specs.Helpers.{first_cause, with_cause, with_fault, is_there, can_create, is_dispatch, can_move, flags_fault, insert_fault, is_late, with_insert, after_release, insert_or_fault, after_late, after_insert, insert_of, insert_of_vtime, moved_to_local, after_choice, kick_of, kick_fault, kicked_or_fault, first_free_in, after_pick_by, given_number, given_task, helper_after, world_functions, untracked_fault, ask_fault, fault_or, pick_fault, timer_fault, with_timer, alarm_in}
 use Rattle.scx_sched_machine.proofs.Choices.{keeps_if}
-use Rattle.scx_sched_machine.proofs.HelperCalls.{by_helper}
 use Rattle.scx_sched.specs.Causes.{Of_call}
 use Rattle.scx_sched.specs.Exits.{ExitsAreCalls, CallsAreExits}
 use Rattle.scx_sched.proofs.Marks.{KeepsMarks, Anywhere, kept_kicked_so, kept_claim, kept_local, kept_entered}
+use Rattle.scx_sched.proofs.Queries.{KeepsQueries, off_queues, kept_query}
 
 -- ---- the first cause stays
 
 module _ (x : Cause) where
   abbrev HasCause : WorldState → Type 0
   HasCause w = w.call.cause ≡ Some x
-
-  cause_marks : KeepsMarks Anywhere HasCause
-  cause_marks = record { there = λ w c h l. tt; homed = λ w t c l h. h; sliced = λ w t n h. h; sets = λ w a b c d h. h }
 
   cause_stays : (w : WorldState) (y : Cause) → HasCause w → HasCause (with_cause w y)
   cause_stays w y h = go w.call.cause h
@@ -46,40 +43,9 @@ module _ (x : Cause) where
       go None e = absurd (cc)
       go (Some z) e = e
 
-  cause_entered : (w : WorldState) (t : ℕ) (i : Insert) → HasCause w → HasCause (after_enter w t i)
-  cause_entered w t i h = kept_entered Anywhere HasCause cause_marks w t i h h
-
-  cause_released : (w : WorldState) (t : Option ℕ) (i : Insert) → HasCause w → HasCause (after_release w t i)
-  cause_released w None i h = h
-  cause_released w (Some t) i h = cause_entered (after_leave w t) t i h
-
-  cause_inserted : (w : WorldState) (t : Option ℕ) (i : Insert) → HasCause w → HasCause (insert_or_fault w None t i)
-  cause_inserted w t i h = keeps_if HasCause (is_dispatch w.call.callback) (after_release w t (for_cpu w.call.cpu i)) (with_insert w i) (cause_released w t (for_cpu w.call.cpu i) h) h
-
-  cause_moved : (w : WorldState) (o : Option ℕ) → HasCause w → HasCause (moved_to_local w o)
-  cause_moved w None h = h
-  cause_moved w (Some t) h = kept_local Anywhere HasCause cause_marks (after_leave w t) w.call.cpu t tt h
-
-  cause_helper : (w : WorldState) (f : Helper) (a : List Arg) → HasCause w → HasCause (helper_after w f a)
-  cause_helper w f a h = by_helper HasCause w (record {
-    same = h;
-    faulty = λ f other. cause_stays w (reason.Fault f) h;
-    ended = λ n. cause_stays w (reason.Exit (cast_signed w64 n)) h;
-    created = λ q. h;
-    inserted = λ t i flags back none. cause_inserted w t i h;
-    late = λ linux here. h;
-    claimed = λ o. kept_claim Anywhere HasCause cause_marks w o h;
-    kicked = λ c k. kept_kicked_so Anywhere HasCause cause_marks w c k h;
-    started = λ t ns. h;
-    cancelled = λ t. h;
-    drawn = h;
-    moved = λ q here low. cause_moved w (next_for w q w.call.cpu) h;
-  }) f a
-
-  cause_query : (w : WorldState) (q : Query) → HasCause w → HasCause (after_query world_functions w q)
-  cause_query w (Call f a) h = cause_helper w f (map argument_of a) h
-  cause_query w (Load t f) h = h
-  cause_query w (Store t f k) h = h
+  -- nor does another cause take its place, whatever a query does
+  pub cause_kept : KeepsQueries HasCause
+  cause_kept = off_queues HasCause (λ w y other h. cause_stays w y h) (λ w n o later h. h) (λ w t s v c h. h) (λ w q i m a b c d n ns h. h)
 
 -- ---- no other helper is an exit
 
@@ -189,7 +155,7 @@ module _ (b : Callback) (p : Code) where
       go : (o : Outcome) → LeadsTo O o w t k v → v.call.cause ≡ Some x
       go Stuck l = absurd l
       go (Goes u y) (l₀, l₁, l₂) = ap (λ (v : WorldState). v.call.cause) l₂ ∙ h
-      go (Asks q u on) (y, (a₀, a₁, a₂), l₁, l₂) = ap (λ (v : WorldState). v.call.cause) a₁ ∙ cause_query x w q h
+      go (Asks q u on) (y, (a₀, a₁, a₂), l₁, l₂) = ap (λ (v : WorldState). v.call.cause) a₁ ∙ kept_query (HasCause x) (cause_kept x) w q h
       go (Ends y) l = absurd l
 
   -- where the call is found

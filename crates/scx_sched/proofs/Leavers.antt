@@ -1,6 +1,6 @@
 -- Who leaves a policy's custody in dispatch waits in GLOBAL or for a processor until dispatch has ended, and still as
 -- the policy hears of it.
-use Rattle.std.proofs.Common.{◌≡◌, ℕ, suc, ◌<◌, Bool, true, false, ◌==◌, ◌&&◌, nat_lt, if◌then◌else◌, inl, inr, cond, List, [], ◌∷◌, ◌++◌, length, get_or, map, Option, Some, None, is_some, is_none, option_map, refl, sym, ap, ◌∙◌, subst, arith}
+use Rattle.std.proofs.Common.{◌≡◌, ℕ, ◌<◌, Bool, true, false, ◌==◌, ◌&&◌, nat_lt, if◌then◌else◌, inl, inr, cond, List, [], ◌∷◌, ◌++◌, length, get_or, map, Option, Some, None, is_some, is_none, option_map, refl, sym, ap, ◌∙◌, subst, arith}
 use Rattle.std.proofs.lemmas.Bool.{ne_eqb, eqb-true}
 use Rattle.std.proofs.lemmas.Bool.Decides.{nat_tests}
 use Rattle.scx_dsq.specs.declared.entries.Entry.{Entry}
@@ -12,17 +12,14 @@ use Rattle.scx_dsq.proofs.Facts.{tasks_removed}
 use Rattle.scx_isa_semantics.specs.declared.callbacks.Callback.{Callback}
 use Rattle.scx_isa_semantics.specs.declared.callbacks.Callback.TheVariants as callback
 use Rattle.scx_isa_semantics.specs.declared.host_tables.Helper.{Helper}
-use Rattle.scx_isa_semantics.specs.Code.{instruction_count}
 use Rattle.scx_isa_semantics.specs.Effects.{Query, Call, Load, Store}
 use Rattle.scx_isa_semantics.specs.Elements.{Maps}
-use Rattle.scx_isa_semantics.specs.Endings.{Ending, run_of}
-use Rattle.scx_isa_semantics.proofs.EndedRuns.{run_keeps}
-use Rattle.scx_isa_semantics.specs.Machine as start
+use Rattle.scx_isa_semantics.specs.Endings.{Ending}
 use Rattle.scx_vm.specs.Programs.{VerifiedProgram}
-use Rattle.scx_vm.specs.Arguments.{program_arguments, argument_of}
+use Rattle.scx_vm.specs.Arguments.{argument_of}
 use Rattle.scx_vm.specs.declared.arguments.Arg.{Arg}
 use Rattle.scx_vm.specs.declared.arguments.Args.{Args}
-use Rattle.scx_vm.specs.Host.{answer_to, after_query}
+use Rattle.scx_vm.specs.Host.{after_query}
 use Rattle.scx_sched_world.specs.declared.call.Insert.{Insert}
 use Rattle.scx_sched_world.specs.declared.eject.Cause.{Cause}
 use Rattle.scx_sched_world.specs.declared.faults.Fault.TheVariants.{NoSuchQueue, NoSuchCpu}
@@ -40,11 +37,10 @@ use Rattle.scx_sched_machine.specs.Callbacks.{call_ending, calls_of, acting, aft
 use Rattle.scx_sched_machine.specs.Custody.{tells_dequeued, leaver, tells_of, tells_each, moved_as, hears_dequeue, tells_left}
 use Rattle.scx_sched_machine.specs.Cycle.{told_of, dispatch_called}
 use Rattle.scx_sched_machine.proofs.Choices.{keeps_if}
-use Rattle.scx_sched_machine.proofs.HelperCalls.{by_helper}
 use Rattle.scx_sched.specs.Once.{IsSound}
 use Rattle.scx_sched.specs.Ranges.{IsFine}
 use Rattle.scx_sched.specs.Leavers.{TakesToRun, WaitsToRun, TellsOfLeaver, LeaversWait}
-use Rattle.scx_sched.proofs.Marks.{KeepsMarks, Anywhere, kept_kicked_so, kept_claim, kept_local, kept_put}
+use Rattle.scx_sched.proofs.Marks.{KeepsMarks, Anywhere, kept_local, kept_put}
 use Rattle.scx_sched.proofs.Waiting.{pushed_here, pushed_other, removed_other}
 use Rattle.scx_sched.proofs.Sound.{not_timer, IsFit, is_fit, held_in_dispatch, held_waits, inside, sound_query, sound_begun, place_known}
 use Rattle.scx_sched.proofs.Pushes.{takes_held, takes_queued}
@@ -52,6 +48,7 @@ use Rattle.scx_sched.proofs.Unchanged.{eject_sets}
 use Rattle.scx_sched.proofs.Blaming.{eject_calls}
 use Rattle.scx_sched.proofs.Ready.{calm_called}
 use Rattle.scx_sched.proofs.Seen.{next_seen}
+use Rattle.scx_sched.proofs.Queries.{kept_called, kept_apart}
 
 -- ---- queues out of custody
 
@@ -126,9 +123,6 @@ same_task a b x = cc
 module _ (on : List (Option ℕ)) (n : ℕ) where
   abbrev Left : WorldState → Type 0
   Left w = HaveLeft w.queues w.notes
-
-  left_marks : KeepsMarks Anywhere Left
-  left_marks = record { there = λ w c h l. tt; homed = λ w t c l h. h; sliced = λ w t k h. h; sets = λ w a b c d h. h }
 
   left_created : (w : WorldState) (q : ℕ) → Left w → Left (with_queues w (after_create w.queues q))
   left_created w q h = keeps_if (λ (s : QueueState). HaveLeft s w.notes) (is_none (create_refusal w.queues q)) (with_queue w.queues q) w.queues (left_then w.queues (with_queue w.queues q) (λ t x. x) w.notes h) h
@@ -229,20 +223,9 @@ module _ (on : List (Option ℕ)) (n : ℕ) where
       new t y = subst (WaitsToRun s') (same_task u t y) (d, there, inr (omega arith))
 
   left_helper : (w : WorldState) (f : Helper) (a : List Arg) → IsSound None on n w → Left w → Left (helper_after w f a)
-  left_helper w f a h left = by_helper Left w (record {
-    same = left;
-    faulty = λ f other. left;
-    ended = λ k. left;
-    created = λ q. left_created w q left;
-    inserted = λ t i flags back none. left_inserted w t i flags none h left;
-    late = λ linux here. left;
-    claimed = λ o. kept_claim Anywhere Left left_marks w o left;
-    kicked = λ c k. kept_kicked_so Anywhere Left left_marks w c k left;
-    started = λ t ns. left;
-    cancelled = λ t. left;
-    drawn = left;
-    moved = λ q here low. left_moved w (next_for w q w.call.cpu) q (λ t e. (next_seen w q w.call.cpu t e).there) here low h left;
-  }) f a
+  left_helper w f a h left =
+      kept_apart Left (λ v x m a b c d ts r l. l) w left (λ q. left_created w q left) (λ t i flags back none. left_inserted w t i flags none h left)
+      (λ q here low. left_moved w (next_for w q w.call.cpu) q (λ t e. (next_seen w q w.call.cpu t e).there) here low h left) f a
 
   -- with each task in its place
   abbrev SoundAndLeft : WorldState → Type 0
@@ -254,10 +237,7 @@ module _ (on : List (Option ℕ)) (n : ℕ) where
   left_query w (Store t f k) h = (sound_query None on n w (Store t f k) h.0, h.1)
 
   left_called : (p : Option VerifiedProgram) (b : Callback) (a : Args) (maps : Maps) (w : WorldState) → SoundAndLeft w → SoundAndLeft (call_ending p b a maps w).outside
-  unfolding call_ending run_of
-  left_called None b a maps w h = h
-  left_called (Some p) b a maps w h =
-      run_keeps (answer_to world_functions) (after_query world_functions) SoundAndLeft left_query b p.code (suc (instruction_count p.code)) 0 (start.start (program_arguments a) maps) w h
+  left_called p b a maps w h = kept_called SoundAndLeft left_query p b a maps w h
 
 -- ---- the calls that follow
 

@@ -1,8 +1,11 @@
+pub mod Written
 pub mod Firsts
 pub mod Fronts
 pub mod Seen
 pub mod Homes
 pub mod Marks
+pub mod Queries
+pub mod Alone
 pub mod Entering
 pub mod Waiting
 pub mod Sound

@@ -17,22 +17,21 @@ use Rattle.scx_vm.specs.declared.arguments.Arg.{Arg}
 use Rattle.scx_weights.specs.Limits.{is_throttled, with_use}
 use Rattle.scx_weights.proofs.Throttled.{uses_keep_throttled}
 use Rattle.scx_sched_world.specs.declared.call.Insert.{Insert}
-use Rattle.scx_sched_world.specs.declared.faults.Fault.{Fault}
 use Rattle.scx_sched_world.specs.Ids.{held_queue, builtin_queue, parked_queue, local_on}
 use Rattle.scx_sched_world.specs.World.{WorldState, with_tree, waits_in, waits}
 use Rattle.scx_sched_world.specs.Tasks.{rank_by, after_leave, after_enter, for_cpu, brought, put_parked, next_for}
 use Rattle.scx_sched_world.specs.Helpers.{is_dispatch, is_held, with_insert, after_release, insert_or_fault, helper_after, world_functions, moved_to_local}
 use Rattle.scx_sched_world.specs.Ejecting.{builtin_vtime, put_builtin, evict}
 use Rattle.scx_sched_machine.proofs.Choices.{keeps_if}
-use Rattle.scx_sched_machine.proofs.HelperCalls.{by_helper}
 use Rattle.scx_sched.specs.Once.{IsSound, GoesSomewhere}
 use Rattle.scx_sched.specs.Kept.{IsWanted, ForAny, Nowhere, Inserted, InFront, Before}
 use Rattle.scx_sched.specs.Parked.{AreThrottled}
 use Rattle.scx_sched_world.proofs.Fronts.{front_in}
-use Rattle.scx_sched.proofs.Marks.{KeepsMarks, Anywhere, kept_kicked_so, kept_claim, kept_local, kept_entered}
+use Rattle.scx_sched.proofs.Marks.{KeepsMarks, Anywhere, kept_local, kept_entered}
 use Rattle.scx_sched.proofs.Waiting.{pushed_other, without_other}
 use Rattle.scx_sched.proofs.Sound.{IsFit, is_fit, fit_apart, held_in_dispatch, said_apart}
 use Rattle.scx_sched.proofs.Seen.{next_seen}
+use Rattle.scx_sched.proofs.Queries.{kept_apart}
 
 -- the same tasks are parked, in the same order
 pub record IsAsParked (s s' : QueueState) : Type 0 where
@@ -183,8 +182,8 @@ held_apart w t e x = go (entry_of w.queues t) e x
     go None y z = absurd (cc)
     go (Some p) y z = let bad : held_queue ≡ parked_queue = sym (eqb-true p.queue held_queue y) ∙ same_some p.queue parked_queue z in absurd (omega (arith, bad))
 
-as_inserted : (w : WorldState) (o : Option Fault) (t : Option ℕ) (i : Insert) → (o ≡ None → IsFit w t i) → StayParked w (insert_or_fault w o t i)
-as_inserted w None t i fine = go (is_dispatch w.call.callback) refl t (fine refl)
+as_inserted : (w : WorldState) (t : Option ℕ) (i : Insert) → IsFit w t i → StayParked w (insert_or_fault w None t i)
+as_inserted w t i fit = go (is_dispatch w.call.callback) refl t fit
   where
     go : (b : Bool) → is_dispatch w.call.callback ≡ b → (u : Option ℕ) → IsFit w u i → StayParked w (cond b (after_release w u (for_cpu w.call.cpu i)) (with_insert w i))
     go true x None fit = stay_here w
@@ -192,27 +191,15 @@ as_inserted w None t i fine = go (is_dispatch w.call.callback) refl t (fine refl
         as_then w.queues (after_leave w u).queues (after_enter (after_leave w u) u (for_cpu w.call.cpu i)).queues (as_removed w.queues u (held_apart w u (held_in_dispatch w (Some u) x fit.may)))
         (as_entered (after_leave w u) u (for_cpu w.call.cpu i) (fit_apart w i.queue w.call.cpu fit.queue))
     go false x u fit = stay_here w
-as_inserted w (Some f) t i fine = stay_here w
 
 as_moved : (w : WorldState) (o : Option ℕ) → ((t : ℕ) → o ≡ Some t → queue_of w.queues t ≡ Some parked_queue → ⊥) → StayParked w (moved_to_local w o)
 as_moved w None apart = stay_here w
 as_moved w (Some t) apart = as_brought (Some t) w w.call.cpu apart
 
 as_helper : (w : WorldState) (f : Helper) (a : List Arg) → StayParked w (helper_after w f a)
-as_helper w f a = by_helper (StayParked w) w (record {
-  same = stay_here w;
-  faulty = λ f other. stay_here w;
-  ended = λ n. stay_here w;
-  created = as_created w.queues;
-  inserted = λ t i flags back none. as_inserted w None t i (λ e. is_fit w t i flags none);
-  late = λ linux here. stay_here w;
-  claimed = λ o. kept_claim Anywhere (StayParked w) (parked_marks w) w o (stay_here w);
-  kicked = λ c k. kept_kicked_so Anywhere (StayParked w) (parked_marks w) w c k (stay_here w);
-  started = λ t ns. stay_here w;
-  cancelled = λ t. stay_here w;
-  drawn = stay_here w;
-  moved = λ q here low. as_moved w (next_for w q w.call.cpu) (λ t e. next_apart w q w.call.cpu t (ne_eqb q parked_queue (λ x. omega (arith, x, low))) e);
-}) f a
+as_helper w f a =
+    kept_apart (StayParked w) (λ v x m a b c d ts r h. h) w (stay_here w) (as_created w.queues) (λ t i flags back none. as_inserted w t i (is_fit w t i flags none))
+    (λ q here low. as_moved w (next_for w q w.call.cpu) (λ t e. next_apart w q w.call.cpu t (ne_eqb q parked_queue (λ x. omega (arith, x, low))) e)) f a
 
 -- as a program asks something of the world, the same tasks stay parked
 pub as_query : (w : WorldState) (q : Query) → StayParked w (after_query world_functions w q)

@@ -1,28 +1,21 @@
 -- A task that leaves its processor leaves the front of the local queue where it is, or the policy is put out of force
 -- and nobody is there. Under Linux rules it may come before that front, which was picked before and stays in the queue.
-use Rattle.std.proofs.Common.{◌≡◌, ℕ, zero, suc, ◌+◌, ◌<◌, nat_lt, Bool, true, false, ◌==◌, ◌&&◌, not, List, length, set, get_or, Option, Some, None, is_some, is_none, refl, sym, subst, ◌∙◌, ap, if◌then◌else◌}
+use Rattle.std.proofs.Common.{◌≡◌, ℕ, ◌+◌, ◌<◌, Bool, true, false, ◌==◌, ◌&&◌, not, List, length, set, get_or, Option, Some, None, is_some, is_none, refl, sym, subst, ◌∙◌, ap, if◌then◌else◌}
 use Rattle.std.proofs.lemmas.List.{length-set}
 use Rattle.scx_isa_semantics.specs.declared.callbacks.Callback.{Callback}
 use Rattle.scx_isa_semantics.specs.declared.callbacks.Callback.TheVariants as callback
-use Rattle.scx_isa_semantics.specs.Code.{instruction_count}
 use Rattle.scx_isa_semantics.specs.Elements.{Maps}
-use Rattle.scx_isa_semantics.specs.Endings.{run_of}
-use Rattle.scx_isa_semantics.proofs.EndedRuns.{run_keeps}
-use Rattle.scx_isa_semantics.specs.Machine as start
 use Rattle.scx_vm.specs.Programs.{VerifiedProgram}
-use Rattle.scx_vm.specs.Arguments.{program_arguments}
 use Rattle.scx_vm.specs.declared.arguments.Args.{Args}
-use Rattle.scx_vm.specs.Host.{answer_to, after_query}
-use Rattle.scx_sched_world.specs.declared.call.Call.{Call}
 use Rattle.scx_sched_world.specs.declared.eject.Cause.{Cause}
 use Rattle.scx_sched_world.specs.declared.eject.Eject.{Eject}
-use Rattle.scx_sched_world.specs.World.{WorldState, are_linux, task_at, waits, running, at_callback, quiet}
-use Rattle.scx_sched_world.specs.Tasks.{to_front, after_leave, after_stop}
-use Rattle.scx_sched_world.specs.Ejecting.{eject_of, put_out, put_builtin, after_evictions, after_cut, cut_task, after_charge}
-use Rattle.scx_sched_world.specs.Helpers.{is_dispatch, world_functions}
+use Rattle.scx_sched_world.specs.World.{WorldState, are_linux, task_at, at_callback, quiet}
+use Rattle.scx_sched_world.specs.Tasks.{to_front, after_stop}
+use Rattle.scx_sched_world.specs.Ejecting.{after_charge}
+use Rattle.scx_sched_world.specs.Helpers.{is_dispatch}
 use Rattle.scx_sched_machine.specs.Policy.{program_of}
 use Rattle.scx_sched_machine.specs.Steps.{State, Stepped, with_world, stays, is_ejected, is_by_linux}
-use Rattle.scx_sched_machine.specs.Ejecting.{moves_over, eject, ejected_for}
+use Rattle.scx_sched_machine.specs.Ejecting.{eject, ejected_for}
 use Rattle.scx_sched_machine.specs.Callbacks.{call_ending, acting, after_callback, cause_of, call_back, task_and_number, call_by_linux, two_numbers}
 use Rattle.scx_sched_machine.specs.Put.{enters, enqueue_choice, enters_builtin, comes_in, put}
 use Rattle.scx_sched_machine.specs.Cycle.{stopping_called, after_stopping, put_back, leave, tells_idle, tells_busy, makes_way}
@@ -37,13 +30,11 @@ use Rattle.scx_sched.proofs.Leaving.{LeavesPlainly, put_back_plain}
 use Rattle.scx_sched.proofs.Blaming.{plain_on, honest_call_back, honest_stopping}
 use Rattle.scx_sched.proofs.Going.{goes_over}
 use Rattle.scx_sched.proofs.Skeleton.{IsKnown, is_wanted, keeps_called, keeps_call_back, keeps_stopping}
+use Rattle.scx_sched.proofs.Queries.{KeepsQueries, KeepsCallbacks, off_queues, kept_called, kept_query, kept_ejecting, kept_call_back}
 
 -- a callback that isn't dispatch moves nobody
 pub calm_called : (p : Option VerifiedProgram) (b : Callback) (a : Args) (maps : Maps) (w : WorldState) (t c : ℕ) → is_dispatch b ≡ false → IsCalm w (call_ending p b a maps (at_callback w b t c)).outside
-unfolding call_ending run_of
-calm_called None b a maps w t c e = record { entries = refl; pushes = refl; tree = refl; ejected = refl; callback = e }
-calm_called (Some p) b a maps w t c e =
-    run_keeps (answer_to world_functions) (after_query world_functions) (IsCalm w) (calm_query w) b p.code (suc (instruction_count p.code)) 0 (start.start (program_arguments a) maps) (at_callback w b t c) (record { entries = refl; pushes = refl; tree = refl; ejected = refl; callback = e })
+calm_called p b a maps w t c e = kept_called (IsCalm w) (calm_query w) p b a maps (at_callback w b t c) (record { entries = refl; pushes = refl; tree = refl; ejected = refl; callback = e })
 
 calm_quiet : (v w : WorldState) → IsCalm v w → IsCalm v (quiet w)
 calm_quiet v w h = record { entries = h.entries; pushes = h.pushes; tree = h.tree; ejected = h.ejected; callback = h.callback }
@@ -67,36 +58,16 @@ not_out s e = go s.world.ejected e
 
 -- ---- the callback at hand
 
-call_evicted : (j : ℕ) (w : WorldState) → (after_evictions j w).call ≡ w.call
-call_evicted zero w = refl
-call_evicted (suc j) w =
-    let v = after_evictions j w in
-    let x = call_evicted j w in
-    keeps_if (λ (u : WorldState). u.call ≡ w.call) (waits v j) (put_builtin (after_leave v j) j) v (keeps_if (λ (u : WorldState). u.call ≡ w.call) (nat_lt j (length v.tasks)) _ (after_leave v j) x x) x
+-- stays as small changes of a query are made, and as a policy is ejected
+at_hand : (b : Callback) → KeepsQueries (λ (w : WorldState). w.call.callback ≡ b)
+at_hand b = off_queues (λ (w : WorldState). w.call.callback ≡ b) (λ w x other h. h) (λ w n o later h. h) (λ w t s v c h. h) (λ w q i m a b c d n ns h. h)
 
-call_cut_task : (o : Option ℕ) (w : WorldState) → (cut_task o w).call ≡ w.call
-call_cut_task None w = refl
-call_cut_task (Some t) w = refl
-
-call_cut : (j : ℕ) (w : WorldState) → (after_cut j w).call ≡ w.call
-call_cut zero w = refl
-call_cut (suc j) w = call_cut_task (running (after_cut j w) j) (after_cut j w) ∙ call_cut j w
-
--- an ejection leaves it
-callback_ejected : (o : Option Cause) (s : State) → (ejected_for o s).state.world.call.callback ≡ s.world.call.callback
-unfolding eject moves_over
-callback_ejected None s = refl
-callback_ejected (Some x) s =
-    let w = put_out s.world (eject_of x s.world.clock) in
-    let v = after_evictions (length w.tasks) w in
-    ap (λ (c : Call). c.callback) (call_cut (length v.cpus) v ∙ call_evicted (length w.tasks) w)
+at_hand_still : (b : Callback) → KeepsCallbacks (λ (w : WorldState). w.call.callback ≡ b)
+at_hand_still b = record { query = kept_query (λ w. w.call.callback ≡ b) (at_hand b); quiet = λ w h. h; out = λ w x h. h; ejecting = kept_ejecting (λ w. w.call.callback ≡ b) (at_hand b) (λ w t h. h) }
 
 -- where it isn't dispatch, it isn't once it has ended
 pub calm_call_back : (s : State) (b : Callback) (a : Args) (t c : ℕ) → is_dispatch b ≡ false → is_dispatch (call_back s b a t c).state.world.call.callback ≡ false
-unfolding call_back
-calm_call_back s b a t c calm =
-    let e = call_ending (acting s b) b a s.maps (at_callback s.world b t c) in
-    ap is_dispatch (callback_ejected (cause_of b e) (after_callback s.policy e)) ∙ (calm_called (acting s b) b a s.maps s.world t c calm).callback
+calm_call_back s b a t c calm = ap is_dispatch (kept_call_back (λ w. w.call.callback ≡ b) (at_hand_still b) s b a t c refl) ∙ calm
 
 module _ (n : ℕ) (I : ℕ → Option ℕ → List (Option ℕ) → WorldState → Type 0) (k : IsKeptBySteps n I) (sound : (m : ℕ) (hand : Option ℕ) (on : List (Option ℕ)) (w : WorldState) → I m hand on w → IsSound hand on n w) (c : ℕ) where
   ready_ejected_for : (m : ℕ) (hand : Option ℕ) (on : List (Option ℕ)) (o : Option Cause) (s : State) → I m hand on s.world → IsReady c s.world → IsReady c (ejected_for o s).state.world

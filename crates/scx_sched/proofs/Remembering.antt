@@ -1,20 +1,14 @@
 -- What select_cpu inserted may still be done once the policy has heard that the task is runnable: that callback inserts
 -- nothing, moves nobody, and no queue goes.
-use Rattle.std.proofs.Common.{◌≡◌, ℕ, suc, true, false, List, map, Option, Some, None, is_some, refl, sym, ap, ◌∙◌, subst}
+use Rattle.std.proofs.Common.{◌≡◌, ℕ, true, false, List, map, Option, Some, None, is_some, refl, sym, ap, ◌∙◌, subst}
 use Rattle.scx_dsq.specs.Calls.{after_create}
 use Rattle.scx_isa_semantics.specs.declared.callbacks.Callback.TheVariants as callback
 use Rattle.scx_isa_semantics.specs.declared.host_tables.Helper.{Helper}
-use Rattle.scx_isa_semantics.specs.Code.{instruction_count}
 use Rattle.scx_isa_semantics.specs.Effects.{Query, Call, Load, Store}
-use Rattle.scx_isa_semantics.specs.Elements.{Maps}
-use Rattle.scx_isa_semantics.specs.Endings.{run_of}
-use Rattle.scx_isa_semantics.proofs.EndedRuns.{run_keeps}
-use Rattle.scx_isa_semantics.specs.Machine as start
-use Rattle.scx_vm.specs.Programs.{VerifiedProgram}
-use Rattle.scx_vm.specs.Arguments.{program_arguments, argument_of}
+use Rattle.scx_vm.specs.Arguments.{argument_of}
 use Rattle.scx_vm.specs.declared.arguments.Arg.{Arg}
 use Rattle.scx_vm.specs.declared.arguments.Args.{Args}
-use Rattle.scx_vm.specs.Host.{answer_to, after_query}
+use Rattle.scx_vm.specs.Host.{after_query}
 use Rattle.scx_sched_world.specs.declared.call.Insert.{Insert}
 use Rattle.scx_sched_world.specs.declared.eject.Cause.{Cause}
 use Rattle.scx_sched_world.specs.World.{WorldState, at_callback}
@@ -23,20 +17,16 @@ use Rattle.scx_sched_world.specs.Helpers.{is_dispatch, may_insert_in, insert_fau
 use Rattle.scx_sched_machine.specs.Steps.{State, is_ejected}
 use Rattle.scx_sched_machine.specs.Ejecting.{ejected_for}
 use Rattle.scx_sched_machine.specs.Callbacks.{call_ending, acting, after_callback, cause_of, call_back}
-use Rattle.scx_sched_machine.proofs.HelperCalls.{by_helper}
 use Rattle.scx_sched.specs.Once.{GoesSomewhere}
-use Rattle.scx_sched.proofs.Marks.{KeepsMarks, Anywhere, kept_kicked_so, kept_claim}
 use Rattle.scx_sched.proofs.Entering.{open_created, goes_on}
 use Rattle.scx_sched.proofs.Sound.{is_fit}
 use Rattle.scx_sched.proofs.Unchanged.{eject_sets}
+use Rattle.scx_sched.proofs.Queries.{kept_called, kept_apart}
 
 module _ (cpus : ℕ) (o : Option Insert) where
   -- with `runnable` at hand
   abbrev IsRemembered : WorldState → Type 0
   IsRemembered w = (w.call.callback ≡ callback.Runnable) × (w.call.insert ≡ None) × GoesSomewhere w.queues cpus o
-
-  remembered_marks : KeepsMarks Anywhere IsRemembered
-  remembered_marks = record { there = λ w c h l. tt; homed = λ w t c l h. h; sliced = λ w t n h. h; sets = λ w a b c d h. h }
 
   not_dispatch : (w : WorldState) → IsRemembered w → is_dispatch w.call.callback ≡ true → ⊥
   not_dispatch w h here = let bad : false ≡ true = sym (ap is_dispatch h.0) ∙ here in absurd (cc)
@@ -45,31 +35,14 @@ module _ (cpus : ℕ) (o : Option Insert) where
   inserts_nothing w t i flags h none = let bad : false ≡ true = subst (λ b. may_insert_in b w t ≡ true) h.0 (is_fit w t i flags none).may in absurd (cc)
 
   remembered_helper : (w : WorldState) (f : Helper) (a : List Arg) → IsRemembered w → IsRemembered (helper_after w f a)
-  remembered_helper w f a h = by_helper IsRemembered w (record {
-    same = h;
-    faulty = λ f other. h;
-    ended = λ n. h;
-    created = λ q. (h.0, h.1, goes_on w.queues (after_create w.queues q) cpus o (λ x r y. open_created w.queues q x r y) h.2);
-    inserted = λ t i flags back none. absurd (inserts_nothing w t i flags h none);
-    late = λ linux here. absurd (not_dispatch w h here);
-    claimed = λ c. kept_claim Anywhere IsRemembered remembered_marks w c h;
-    kicked = λ c k. kept_kicked_so Anywhere IsRemembered remembered_marks w c k h;
-    started = λ t ns. h;
-    cancelled = λ t. h;
-    drawn = h;
-    moved = λ q here low. absurd (not_dispatch w h here);
-  }) f a
+  remembered_helper w f a h =
+      kept_apart IsRemembered (λ v x m a b c d ts r l. l) w h (λ q. (h.0, h.1, goes_on w.queues (after_create w.queues q) cpus o (λ x r y. open_created w.queues q x r y) h.2))
+      (λ t i flags back none. absurd (inserts_nothing w t i flags h none)) (λ q here low. absurd (not_dispatch w h here)) f a
 
   remembered_query : (w : WorldState) (q : Query) → IsRemembered w → IsRemembered (after_query world_functions w q)
   remembered_query w (Call f a) h = remembered_helper w f (map argument_of a) h
   remembered_query w (Load t f) h = h
   remembered_query w (Store t f k) h = h
-
-  remembered_called : (p : Option VerifiedProgram) (a : Args) (maps : Maps) (w : WorldState) → IsRemembered w → IsRemembered (call_ending p callback.Runnable a maps w).outside
-  unfolding call_ending run_of
-  remembered_called None a maps w h = h
-  remembered_called (Some p) a maps w h =
-      run_keeps (answer_to world_functions) (after_query world_functions) IsRemembered remembered_query callback.Runnable p.code (suc (instruction_count p.code)) 0 (start.start (program_arguments a) maps) w h
 
   -- what is so of a state is so once a callback has left the policy in force
   kept_in_force : (P : WorldState → Type 0) (x : Option Cause) (s : State) → is_ejected (ejected_for x s).state ≡ false → P s.world → P (ejected_for x s).state.world
@@ -81,4 +54,4 @@ module _ (cpus : ℕ) (o : Option Insert) where
   unfolding call_back
   remembers s a t c goes force =
       let e = call_ending (acting s callback.Runnable) callback.Runnable a s.maps (at_callback s.world callback.Runnable t c) in
-      kept_in_force IsRemembered (cause_of callback.Runnable e) (after_callback s.policy e) force (remembered_called (acting s callback.Runnable) a s.maps (at_callback s.world callback.Runnable t c) (refl, refl, goes))
+      kept_in_force IsRemembered (cause_of callback.Runnable e) (after_callback s.policy e) force (kept_called IsRemembered remembered_query (acting s callback.Runnable) callback.Runnable a s.maps (at_callback s.world callback.Runnable t c) (refl, refl, goes))

@@ -1,29 +1,20 @@
 -- What each small step of a world keeps, callbacks and ejections keep, and a task that is put.
-use Rattle.std.proofs.Common.{◌≡◌, ℕ, zero, suc, ◌+◌, ◌<◌, ◌≤◌, Bool, true, false, ◌==◌, ◌&&◌, not, is_some, if◌then◌else◌, List, length, Option, Some, None, refl, arith}
+use Rattle.std.proofs.Common.{◌≡◌, ℕ, ◌+◌, ◌<◌, Bool, true, false, ◌==◌, ◌&&◌, not, if◌then◌else◌, List, length, Option, Some, None, refl, arith}
 use Rattle.scx_isa_semantics.specs.declared.callbacks.Callback.{Callback}
 use Rattle.scx_isa_semantics.specs.declared.callbacks.Callback.TheVariants as callback
-use Rattle.scx_isa_semantics.specs.Code.{instruction_count}
 use Rattle.scx_isa_semantics.specs.Elements.{Maps}
-use Rattle.scx_isa_semantics.specs.Endings.{run_of}
-use Rattle.scx_isa_semantics.proofs.EndedRuns.{run_keeps}
-use Rattle.scx_isa_semantics.specs.Machine as start
 use Rattle.scx_vm.specs.Programs.{VerifiedProgram}
-use Rattle.scx_vm.specs.Arguments.{program_arguments}
 use Rattle.scx_vm.specs.declared.arguments.Args.{Args}
-use Rattle.scx_vm.specs.Host.{answer_to, after_query}
-use Rattle.scx_sched_world.specs.declared.eject.Cause.{Cause}
 use Rattle.scx_sched_world.specs.declared.eject.Eject.{Eject}
 use Rattle.scx_sched_world.specs.CpuSets.{and_cpu}
 use Rattle.scx_sched_world.specs.World as world
-use Rattle.scx_sched_world.specs.World.{WorldState, with_task, switch_at, with_switch, with_waker, task_at, is_idle, running, at_callback, nothing_passes, with_timer_at_hand, out_of_cycle, may_run}
+use Rattle.scx_sched_world.specs.World.{WorldState, with_task, switch_at, with_switch, with_waker, task_at, is_idle, nothing_passes, with_timer_at_hand, out_of_cycle, may_run}
 use Rattle.scx_sched_world.specs.Tasks.{with_home, homed, after_switch, for_cpu}
-use Rattle.scx_sched_world.specs.Ejecting.{put_out, after_evictions, after_cut, cut_task, after_charge, after_catch_up}
-use Rattle.scx_sched_world.specs.Helpers.{world_functions}
+use Rattle.scx_sched_world.specs.Ejecting.{put_out, after_charge, after_catch_up}
 use Rattle.scx_sched_machine.specs.Steps.{State, Stepped, stays, with_world, is_ejected, is_by_linux, kicked, kicked_if_idle}
-use Rattle.scx_sched_machine.specs.Ejecting.{moves_over, eject, ejected_for}
-use Rattle.scx_sched_machine.specs.Callbacks.{call_ending, acting, after_callback, cause_of, call_back, call_by_linux, one_task, task_and_number}
+use Rattle.scx_sched_machine.specs.Ejecting.{eject}
+use Rattle.scx_sched_machine.specs.Callbacks.{call_ending, call_back, call_by_linux, one_task, task_and_number}
 use Rattle.scx_sched_world.specs.declared.call.Insert.{Insert}
-use Rattle.scx_sched_machine.specs.Policy.{program_of}
 use Rattle.scx_sched_machine.specs.Put.{enters, enqueue_choice, enters_builtin, comes_in, put}
 use Rattle.scx_sched_machine.specs.Cycle.{stopping_called, after_stopping, switched, after_running}
 use Rattle.scx_sched_machine.specs.Events.{insert_or_put}
@@ -31,6 +22,7 @@ use Rattle.scx_sched_machine.proofs.Choices.{keeps_if}
 use Rattle.scx_sched.specs.Kept.{IsKeptBySteps, IsWanted, ForAny, Nowhere, Inserted}
 use Rattle.scx_sched.specs.Allowed.{MayGo}
 use Rattle.scx_sched.proofs.Placing.{MayPut}
+use Rattle.scx_sched.proofs.Queries.{KeepsCallbacks, kept_called, kept_eject, kept_call_back, kept_call_by_linux}
 
 -- the task before, if there is one, is a task that there is
 abbrev pub IsKnown : ℕ → Option ℕ → Type 0
@@ -53,41 +45,22 @@ module _ (n : ℕ) (I : ℕ → Option ℕ → List (Option ℕ) → WorldState 
   module _ (m : ℕ) (hand : Option ℕ) (on : List (Option ℕ)) where
     -- the run of a callback
     pub keeps_called : (p : Option VerifiedProgram) (b : Callback) (a : Args) (maps : Maps) (w : WorldState) → I m hand on w → I m hand on (call_ending p b a maps w).outside
-    unfolding call_ending run_of
-    keeps_called None b a maps w h = h
-    keeps_called (Some p) b a maps w h =
-        run_keeps (answer_to world_functions) (after_query world_functions) (I m hand on) (λ v q. k.query m hand on v q) b p.code (suc (instruction_count p.code)) 0 (start.start (program_arguments a) maps) w h
+    keeps_called p b a maps w h = kept_called (I m hand on) (λ v q. k.query m hand on v q) p b a maps w h
 
-    pub keeps_evicted : (j : ℕ) (w : WorldState) → j ≤ n → I m hand on w → I m hand on (after_evictions j w)
-    keeps_evicted zero w l h = h
-    keeps_evicted (suc j) w l h = k.evict m hand on (after_evictions j w) j (omega (arith, l)) (keeps_evicted j w (omega (arith, l)) h)
-
-    keeps_cut_task : (o : Option ℕ) (w : WorldState) → I m hand on w → I m hand on (cut_task o w)
-    keeps_cut_task None w h = h
-    keeps_cut_task (Some t) w h = k.cut m hand on w t h
-
-    keeps_cut : (j : ℕ) (w : WorldState) → I m hand on w → I m hand on (after_cut j w)
-    keeps_cut zero w h = h
-    keeps_cut (suc j) w h = keeps_cut_task (running (after_cut j w) j) (after_cut j w) (keeps_cut j w h)
+    keeps_callbacks : KeepsCallbacks (I m hand on)
+    keeps_callbacks = record {
+      query = λ w q h. k.query m hand on w q h;
+      quiet = λ w h. k.quiet m hand on w h;
+      out = λ w x h. k.put_out m hand on w x h;
+      ejecting = record { evict = λ w t l h. k.evict m hand on w t (omega (arith, l, k.known m hand on w h)) h; cut = λ w t h. k.cut m hand on w t h };
+    }
 
     pub keeps_eject : (s : State) (x : Eject) → I m hand on s.world → I m hand on (eject s x).state.world
-    unfolding eject moves_over
-    keeps_eject s x h =
-        let w = put_out s.world x in
-        let out : I m hand on w = k.put_out m hand on s.world x h in
-        let v = after_evictions (length w.tasks) w in
-        keeps_cut (length v.cpus) v (keeps_evicted (length w.tasks) w (omega (arith, k.known m hand on w out)) out)
-
-    keeps_ejected_for : (o : Option Cause) (s : State) → I m hand on s.world → I m hand on (ejected_for o s).state.world
-    keeps_ejected_for None s h = h
-    keeps_ejected_for (Some x) s h = keeps_eject s _ h
+    keeps_eject s x h = kept_eject (I m hand on) keeps_callbacks.ejecting s x (k.put_out m hand on s.world x h)
 
     -- a callback, on a processor that there is, or `timer`
     pub keeps_call_back_if : (s : State) (b : Callback) (a : Args) (t c : ℕ) → ((b ≡ callback.Timer → ⊥) → c < length on) → I m hand on s.world → I m hand on (call_back s b a t c).state.world
-    unfolding call_back
-    keeps_call_back_if s b a t c l h =
-        let e = call_ending (acting s b) b a s.maps (at_callback s.world b t c) in
-        keeps_ejected_for (cause_of b e) (after_callback s.policy e) (k.quiet m hand on e.outside (keeps_called (acting s b) b a s.maps (at_callback s.world b t c) (k.begun m hand on s.world b t c l h)))
+    keeps_call_back_if s b a t c l h = kept_call_back (I m hand on) keeps_callbacks s b a t c (k.begun m hand on s.world b t c l h)
 
     -- a callback on a processor that there is
     pub keeps_call_back : (s : State) (b : Callback) (a : Args) (t c : ℕ) → c < length on → I m hand on s.world → I m hand on (call_back s b a t c).state.world
@@ -113,13 +86,11 @@ module _ (n : ℕ) (I : ℕ → Option ℕ → List (Option ℕ) → WorldState 
 
     -- a callback that Linux rules call more
     pub keeps_call_by_linux : (s : State) (b : Callback) (a : Args) (t c : ℕ) → c < length on → I m hand on s.world → I m hand on (call_by_linux s b a t c).state.world
-    unfolding call_by_linux
-    keeps_call_by_linux s b a t c l h = keeps_if (λ (r : Stepped). I m hand on r.state.world) (is_by_linux s && is_some (program_of s.policy b)) (call_back s b a t c) (stays s) (keeps_call_back s b a t c l h) h
+    keeps_call_by_linux s b a t c l h = kept_call_by_linux (I m hand on) keeps_callbacks s b a t c (k.begun m hand on s.world b t c (λ other. l) h) h
 
     -- `timer`, wherever it runs
     pub keeps_timer_called : (s : State) (a : Args) (c : ℕ) → I m hand on s.world → I m hand on (call_by_linux s callback.Timer a 0 c).state.world
-    unfolding call_by_linux
-    keeps_timer_called s a c h = keeps_if (λ (r : Stepped). I m hand on r.state.world) (is_by_linux s && is_some (program_of s.policy callback.Timer)) (call_back s callback.Timer a 0 c) (stays s) (keeps_call_back_if s callback.Timer a 0 c (λ other. absurd (other refl)) h) h
+    keeps_timer_called s a c h = kept_call_by_linux (I m hand on) keeps_callbacks s callback.Timer a 0 c (k.begun m hand on s.world callback.Timer 0 c (λ other. absurd (other refl)) h) h
 
     -- a processor that begins to switch
     pub keeps_switch : (w : WorldState) (c : ℕ) → I m hand on w → I m hand on (with_switch w c)

@@ -2,11 +2,10 @@
 use Rattle.std.proofs.Common.{◌≡◌, ℕ, suc, ◌+◌, ◌-◌, ◌<◌, ◌≤◌, Bool, true, false, ◌==◌, nat_lt, nat_le, ◌&&◌, ◌||◌, ◌⊎◌, inl, inr, cond, if◌then◌else◌, List, [], ◌∷◌, length, set, get_or, map, Option, Some, None, is_some, is_none, option_map, refl, sym, ◌∙◌, ap, subst, arith, position}
 use Rattle.std.proofs.lemmas.Bool.{cases_eq, cases_lt, eq-eqb, ne_eqb, lt-ltb, eqb-true}
 use Rattle.std.proofs.lemmas.Bool.Decides.{nat_tests}
-use Rattle.std.proofs.lemmas.List.{length-set, get_or-set_same, get_or-set_other, get_or_past, set_past}
+use Rattle.std.proofs.lemmas.List.{length-set, get_or-set_same, get_or-set_other, get_or_past}
 use Rattle.std.specs.List.{list_any, position_or_len}
 use Rattle.std.proofs.lemmas.List.Sums.{sum_by-cons}
 use Rattle.std.proofs.lemmas.List.Sums.{sum_by-set, fails_before_first}
-use Rattle.std.specs.Int.{w64, cast_signed}
 use Rattle.scx_dsq.specs.Queues.{QueueState, exists, task_count, entry_of, queue_of, is_in, front_of}
 use Rattle.scx_dsq.specs.Calls.{clashes, push_refusal, after_push, after_pop, after_remove, with_queue, after_create, create_refusal}
 use Rattle.scx_dsq.specs.Entries.{same_sort}
@@ -20,7 +19,6 @@ use Rattle.scx_weights.specs.Refusals.{own_weight_fault}
 use Rattle.scx_isa_semantics.specs.declared.callbacks.Callback.{Callback}
 use Rattle.scx_isa_semantics.specs.declared.callbacks.Callback.TheVariants as callback
 use Rattle.scx_isa_semantics.specs.declared.host_tables.Field.{Field}
-use Rattle.scx_isa_semantics.specs.declared.host_tables.Field.TheVariants.{Pid, Weight, Slice, DsqVtime, PrevCpu, Group, RunNs, Cpus}
 use Rattle.scx_isa_semantics.specs.declared.host_tables.Helper.{Helper}
 use Rattle.scx_isa_semantics.specs.Effects.{Query, Call, Load, Store}
 use Rattle.scx_vm.specs.Arguments.{argument_of}
@@ -33,46 +31,33 @@ use Rattle.scx_sched_world.specs.declared.cpu_set.CpuSet.{CpuSet}
 use Rattle.scx_sched_world.specs.declared.notes.What.{What}
 use Rattle.scx_sched_world.specs.declared.faults.Fault.{Fault}
 use Rattle.scx_sched_world.specs.declared.faults.Fault.TheVariants.{NoSuchQueue, CannotInsert, NoSuchCpu, BuiltinVtime, Mixed}
-use Rattle.scx_sched_world.specs.declared.eject.Cause.{Cause}
-use Rattle.scx_sched_world.specs.declared.eject.Cause.TheVariants as reason
 use Rattle.scx_sched_world.specs.declared.eject.Eject.{Eject}
 use Rattle.scx_sched_world.specs.declared.passing.Passing.{Passing}
 use Rattle.scx_sched_world.specs.declared.timers.Alarm.{Alarm}
 use Rattle.scx_sched_world.specs.Ids.{global, local, held_queue, builtin_queue, parked_queue, local_on, policy_end}
 use Rattle.scx_sched_world.specs.Ejecting.{put_out, builtin_vtime, put_builtin, evict, cut_task, after_catch_up, after_charge}
 use Rattle.scx_sched_world.specs.World.{WorldState, is_by_linux, with_queues, with_tree, with_cycling, with_task, task_at, waits_in, waits, is_this, is_runnable, cpu_of, quiet, at_callback, with_note}
-use Rattle.scx_sched_world.specs.Tasks.{with_slice, with_home, rank_by, to_local, to_front, after_local, after_run, after_wake, after_sleep, after_leave, given_slice, given_vtime, task_after_insert, after_enter, queue_for, for_cpu, to_held, to_global, brought, fill_front, after_fill, local_len, after_stop, started_at, with_new_slice, after_keep, ran_a_tick, after_tick, later, after_own_weight, next_for}
-use Rattle.scx_sched_world.specs.Helpers.{with_cause, flags_fault, is_dispatch, is_held, may_insert_in, may_insert, queue_fault, is_vtime, rank_fault, or_fault, insert_fault, with_insert, with_move, after_release, insert_or_fault, helper_after, stored_in, world_functions, moved_to_local, after_random, placing_fault}
+use Rattle.scx_sched_world.specs.Tasks.{with_slice, with_home, rank_by, to_local, to_front, after_local, after_run, after_wake, after_sleep, after_leave, task_after_insert, after_enter, queue_for, for_cpu, to_held, to_global, brought, fill_front, after_fill, local_len, after_stop, started_at, with_new_slice, after_keep, ran_a_tick, after_tick, later, after_own_weight, next_for}
+use Rattle.scx_sched_world.specs.Helpers.{flags_fault, is_dispatch, is_held, may_insert_in, may_insert, queue_fault, is_vtime, rank_fault, or_fault, insert_fault, with_insert, with_move, after_release, insert_or_fault, helper_after, stored_in, world_functions, moved_to_local, placing_fault}
 use Rattle.scx_sched_machine.proofs.Choices.{keeps_if}
-use Rattle.scx_sched_machine.proofs.HelperCalls.{by_helper}
 use Rattle.scx_sched.specs.Once.{runs, appearances, IsOnce, HasQueues, sort_of, IsSorted, IsAlike, IsOpen, IsBehind, IsSound, GoesSomewhere}
 use Rattle.scx_sched.specs.Kept.{with_sets, with_moved, IsWanted, ForAny, Nowhere, Inserted, InFront, Before}
-use Rattle.scx_sched.proofs.Marks.{KeepsMarks, KeepsCycles, kept_cycling, kept_kicked_so, kept_claim, kept_local, kept_put}
+use Rattle.scx_sched.proofs.Marks.{KeepsMarks, KeepsCycles, kept_cycling, kept_local, kept_put}
 use Rattle.scx_sched.proofs.Waiting.{waiting, waits_there, without_other, removed_other, same_waiting, waiting_pushed, waiting_left, set_since, one_same, waits_sum, waits_by_sum, since_set, stored_since, given_since, renewed_since, waits_at_hand, waits_asleep, waits_on_cpu, place_waits_here}
 use Rattle.scx_sched.proofs.Entering.{nowhere, sorted_pushed, sorted_popped, sorted_removed, stamped_pushed, stamped_popped, stamped_removed, stamped_created, own_open, alike_from, is_accepted, Stay, stay_pushed, stay_without, stay_removed, stay_created, queues_stay, open_without, open_removed, open_created, open_own, open_same, same_itself, same_key, open_by, goes_on, local_fits, local_sort, low_fits}
 use Rattle.scx_sched.proofs.Seen.{next_seen}
+use Rattle.scx_sched.proofs.Queries.{KeepsApart, kept_apart, given_so, stored_so}
+use Rattle.scx_sched.proofs.Written.{each_written}
 
 -- ---- changes of queues, tasks and the callback at hand
 
 -- once a record was set, still each task ran last on a processor that is there
 pub homes_set : (tasks : List Task) (t : ℕ) (x : Task) (k : ℕ) → x.prev_cpu < k → ((u : ℕ) → (get_or tasks u no_task).prev_cpu < k) → (u : ℕ) → (get_or (set tasks t x) u no_task).prev_cpu < k
-homes_set tasks t x k new old u = go (cases_eq u t) (cases_lt t (length tasks))
-  where
-    go : (u ≡ t) ⊎ (u ≡ t → ⊥) → (t < length tasks) ⊎ (length tasks ≤ t) → (get_or (set tasks t x) u no_task).prev_cpu < k
-    go (inl e) (inl within) = rw (e, get_or-set_same tasks t x no_task within) new
-    go (inl e) (inr past) = rw (set_past tasks t x past) (old u)
-    go (inr d) l = rw (get_or-set_other tasks t u x no_task d) (old u)
+homes_set tasks t x k new old u = each_written (λ j (y : Task). y.prev_cpu < k) tasks t x no_task new old u
 
 -- a field that a program stores leaves the processor of a task
 pub stored_home : (x : Task) (f : Field) (n : ℕ) → (stored_in x f n).prev_cpu ≡ x.prev_cpu
-stored_home x Pid n = refl
-stored_home x Weight n = refl
-stored_home x Slice n = refl
-stored_home x DsqVtime n = refl
-stored_home x PrevCpu n = refl
-stored_home x Group n = refl
-stored_home x RunNs n = refl
-stored_home x Cpus n = refl
+stored_home x f n = stored_so x (λ y. y.prev_cpu ≡ x.prev_cpu) (λ s v. refl) f n
 
 module _ (hand : Option ℕ) (on : List (Option ℕ)) (n : ℕ) where
   -- other queues, in which each task stands as often
@@ -307,12 +292,7 @@ held_in_dispatch w t = go w.call.callback
 
 -- so does an insert
 pub given_home : (x : Task) (i : Insert) → (task_after_insert x i).prev_cpu ≡ x.prev_cpu
-given_home x i = vtime i.rank ∙ keeps_if (λ (y : Task). y.prev_cpu ≡ x.prev_cpu) (i.slice == 0) _ _ (keeps_if (λ (y : Task). y.prev_cpu ≡ x.prev_cpu) (i.refills && (x.slice == 0)) _ x refl refl) refl
-  where
-    vtime : (r : Rank) → (given_vtime (given_slice x i) r).prev_cpu ≡ (given_slice x i).prev_cpu
-    vtime Fifo = refl
-    vtime Front = refl
-    vtime (Vtime k) = refl
+given_home x i = given_so x (λ y. y.prev_cpu ≡ x.prev_cpu) (λ s v. refl) i
 
 -- a task that there is
 pub inside : (n : ℕ) (w : WorldState) (t : ℕ) → t < n → length w.tasks ≡ n → nat_lt t (length w.tasks) ≡ true
@@ -323,8 +303,9 @@ pub not_timer : (b : Callback) → is_dispatch b ≡ true → b ≡ callback.Tim
 not_timer b x e = let bad : false ≡ true = sym (ap is_dispatch e) ∙ x in absurd (cc)
 
 module _ (hand : Option ℕ) (on : List (Option ℕ)) (n : ℕ) where
-  sound_caused : (w : WorldState) (x : Cause) → IsSound hand on n w → IsSound hand on n (with_cause w x)
-  sound_caused w x h = record { cpus = h.cpus; tasks = h.tasks; even = h.even; flags = h.flags; members = h.members; homes = h.homes; queues = h.queues; sorted = h.sorted; stamped = h.stamped; once = h.once; here = h.here; goes = h.goes; behind = h.behind; waiting = h.waiting; at_once = h.at_once }
+  -- what a callback does apart from tasks and queues
+  sound_apart : KeepsApart (IsSound hand on n)
+  sound_apart w x m a b c d ts r h = record { cpus = h.cpus; tasks = h.tasks; even = h.even; flags = h.flags; members = h.members; homes = h.homes; queues = h.queues; sorted = h.sorted; stamped = h.stamped; once = h.once; here = h.here; goes = h.goes; behind = h.behind; waiting = h.waiting; at_once = h.at_once }
 
   -- a task goes from one queue to another
   sound_replaced : (w : WorldState) (t q : ℕ) (r : Rank) (x : Task) → x.prev_cpu ≡ (task_at w t).prev_cpu → x.since ≡ (task_at w t).since → waits_in (queue_of w.queues t) ≡ true → t < task_count w.queues → entry_of (after_remove w.queues t) t ≡ None → IsOpen w.queues q r → (q == parked_queue) ≡ false
@@ -363,16 +344,8 @@ module _ (hand : Option ℕ) (on : List (Option ℕ)) (n : ℕ) where
   sound_moving : (w : WorldState) (x : What) → IsSound hand on n w → IsSound hand on n (with_note (with_move w) x)
   sound_moving w x h = record { cpus = h.cpus; tasks = h.tasks; even = h.even; flags = h.flags; members = h.members; homes = h.homes; queues = h.queues; sorted = h.sorted; stamped = h.stamped; once = h.once; here = h.here; goes = h.goes; behind = h.behind; waiting = h.waiting; at_once = h.at_once }
 
-  -- a random number
-  sound_drawn : (w : WorldState) → IsSound hand on n w → IsSound hand on n (after_random w)
-  sound_drawn w h = record { cpus = h.cpus; tasks = h.tasks; even = h.even; flags = h.flags; members = h.members; homes = h.homes; queues = h.queues; sorted = h.sorted; stamped = h.stamped; once = h.once; here = h.here; goes = h.goes; behind = h.behind; waiting = h.waiting; at_once = h.at_once }
-
-  -- a late insert, which counts as one
-  sound_late : (w : WorldState) → IsSound hand on n w → IsSound hand on n (with_move w)
-  sound_late w h = record { cpus = h.cpus; tasks = h.tasks; even = h.even; flags = h.flags; members = h.members; homes = h.homes; queues = h.queues; sorted = h.sorted; stamped = h.stamped; once = h.once; here = h.here; goes = h.goes; behind = h.behind; waiting = h.waiting; at_once = h.at_once }
-
-  sound_inserted : (w : WorldState) (o : Option Fault) (t : Option ℕ) (i : Insert) → (is_by_linux w ≡ false → IsBehind i.rank) → (o ≡ None → IsFit w t i) → IsSound hand on n w → IsSound hand on n (insert_or_fault w o t i)
-  sound_inserted w None t i back fine h = go (is_dispatch w.call.callback) refl t (fine refl)
+  sound_inserted : (w : WorldState) (t : Option ℕ) (i : Insert) → (is_by_linux w ≡ false → IsBehind i.rank) → IsFit w t i → IsSound hand on n w → IsSound hand on n (insert_or_fault w None t i)
+  sound_inserted w t i back fit h = go (is_dispatch w.call.callback) refl t fit
     where
       go : (b : Bool) → is_dispatch w.call.callback ≡ b → (u : Option ℕ) → IsFit w u i → IsSound hand on n (if b then after_release w u (for_cpu w.call.cpu i) else with_insert w i)
       go true x None fit = h
@@ -380,7 +353,6 @@ module _ (hand : Option ℕ) (on : List (Option ℕ)) (n : ℕ) where
           sound_moving (after_enter (after_leave w u) u (for_cpu w.call.cpu i)) _
           (sound_released w u (for_cpu w.call.cpu i) (h.at_once x) (held_waits w u (held_in_dispatch w (Some u) x fit.may)) (fit_open on hand n w (Some u) i w.call.cpu (h.here (not_timer w.call.callback x)) fit h) (fit_apart w i.queue w.call.cpu fit.queue) h)
       go false x u fit = record { cpus = h.cpus; tasks = h.tasks; even = h.even; flags = h.flags; members = h.members; homes = h.homes; queues = h.queues; sorted = h.sorted; stamped = h.stamped; once = h.once; here = h.here; goes = λ c l. (fit_open on hand n w u i c l fit h, fit_apart w i.queue c fit.queue); behind = back; waiting = h.waiting; at_once = λ y. absurd (cc (sym x ∙ y)) }
-  sound_inserted w (Some f) t i back fine h = sound_caused w (reason.Fault f) h
 
   sound_moved : (w : WorldState) (o : Option ℕ) (q : ℕ) → is_dispatch w.call.callback ≡ true → ((t : ℕ) → o ≡ Some t → queue_of w.queues t ≡ Some q) → (q == parked_queue) ≡ false → IsSound hand on n w → IsSound hand on n (moved_to_local w o)
   sound_moved w None q x e apart h = h
@@ -389,20 +361,9 @@ module _ (hand : Option ℕ) (on : List (Option ℕ)) (n : ℕ) where
       sound_moving (after_local (after_leave w t) w.call.cpu t) _ (kept_local (λ c. c < length on) (IsSound hand on n) (sound_marks hand on n) (after_leave w t) w.call.cpu t here (sound_brought hand on n w q (local_on w.call.cpu) t (e t refl) (h.queues.locals w.call.cpu here) (omega arith) (local_sort w.call.cpu) apart (ne_eqb (local_on w.call.cpu) parked_queue (λ x. omega (arith, x))) h))
 
   sound_helper : (w : WorldState) (f : Helper) (a : List Arg) → IsSound hand on n w → IsSound hand on n (helper_after w f a)
-  sound_helper w f a h = by_helper (IsSound hand on n) w (record {
-    same = h;
-    faulty = λ f other. sound_caused w (reason.Fault f) h;
-    ended = λ k. sound_caused w (reason.Exit (cast_signed w64 k)) h;
-    created = λ q. sound_created hand on n w q h;
-    inserted = λ t i flags back none. sound_inserted w None t i back (λ e. is_fit w t i flags none) h;
-    late = λ linux here. sound_late w h;
-    claimed = λ o. kept_claim (λ c. c < length on) (IsSound hand on n) (sound_marks hand on n) w o h;
-    kicked = λ c k. kept_kicked_so (λ c. c < length on) (IsSound hand on n) (sound_marks hand on n) w c k h;
-    started = λ t ns. sound_timers hand on n w _ h;
-    cancelled = λ t. sound_timers hand on n w _ h;
-    drawn = sound_drawn w h;
-    moved = λ q here low. sound_moved w (next_for w q w.call.cpu) q here (λ t e. (next_seen w q w.call.cpu t e).there) (ne_eqb q parked_queue (λ x. omega (arith, x, low))) h;
-  }) f a
+  sound_helper w f a h =
+      kept_apart (IsSound hand on n) sound_apart w h (λ q. sound_created hand on n w q h) (λ t i flags back none. sound_inserted w t i back (is_fit w t i flags none) h)
+      (λ q here low. sound_moved w (next_for w q w.call.cpu) q here (λ t e. (next_seen w q w.call.cpu t e).there) (ne_eqb q parked_queue (λ x. omega (arith, x, low))) h) f a
 
   -- whatever a program asks
   pub sound_query : (w : WorldState) (q : Query) → IsSound hand on n w → IsSound hand on n (after_query world_functions w q)

@@ -1,79 +1,40 @@
 -- What no query of a program changes: the clock, whether the policy is in force, the cycle under way, the tree of
 -- weights with who is runnable in it, the rules, and what an event by Linux rules keeps until it ends.
-use Rattle.std.proofs.Common.{◌≡◌, ℕ, zero, suc, Bool, true, false, ◌&&◌, if◌then◌else◌, nat_lt, List, length, map, Option, Some, None, is_none, refl, sym, ap, ◌∙◌}
+use Rattle.std.proofs.Common.{◌≡◌, ℕ, Bool, true, false, ◌&&◌, if◌then◌else◌, nat_lt, length, Option, Some, None, is_none, refl, sym, ap, ◌∙◌}
 use Rattle.scx_isa_semantics.specs.declared.callbacks.Callback.{Callback}
-use Rattle.scx_isa_semantics.specs.declared.host_tables.Helper.{Helper}
-use Rattle.scx_isa_semantics.specs.Code.{instruction_count}
-use Rattle.scx_isa_semantics.specs.Effects.{Query, Call, Load, Store}
 use Rattle.scx_isa_semantics.specs.Elements.{Maps}
-use Rattle.scx_isa_semantics.specs.Endings.{run_of}
-use Rattle.scx_isa_semantics.proofs.EndedRuns.{run_keeps}
-use Rattle.scx_isa_semantics.specs.Machine as start
 use Rattle.scx_vm.specs.Programs.{VerifiedProgram}
-use Rattle.scx_vm.specs.Arguments.{program_arguments, argument_of}
-use Rattle.scx_vm.specs.declared.arguments.Arg.{Arg}
 use Rattle.scx_vm.specs.declared.arguments.Args.{Args}
-use Rattle.scx_vm.specs.Host.{answer_to, after_query}
 use Rattle.scx_sched_world.specs.declared.call.Insert.{Insert}
-use Rattle.scx_sched_world.specs.declared.faults.Fault.{Fault}
 use Rattle.scx_sched_world.specs.declared.eject.Eject.{Eject}
-use Rattle.scx_sched_world.specs.World.{WorldState, nothing_passes, are_linux, is_by_linux, with_cycling, cycling_by_linux, switch_at, with_switch, waits, running}
-use Rattle.scx_sched_world.specs.Tasks.{after_leave, after_enter, for_cpu, brought, after_keep, put_parked, next_for}
-use Rattle.scx_sched_world.specs.Ejecting.{put_out, put_builtin, after_evictions, after_cut, cut_task}
-use Rattle.scx_sched_world.specs.Helpers.{is_dispatch, with_insert, after_release, insert_or_fault, moved_to_local, helper_after, world_functions}
+use Rattle.scx_sched_world.specs.World.{WorldState, nothing_passes, are_linux, is_by_linux, with_cycling, cycling_by_linux, switch_at, with_switch}
+use Rattle.scx_sched_world.specs.Tasks.{after_enter, brought, after_keep, put_parked}
+use Rattle.scx_sched_world.specs.Ejecting.{put_out, put_builtin}
 use Rattle.scx_sched_machine.specs.Steps.{State}
 use Rattle.scx_sched_machine.specs.Callbacks.{call_ending}
-use Rattle.scx_sched_machine.specs.Ejecting.{moves_over, eject}
+use Rattle.scx_sched_machine.specs.Ejecting.{eject}
 use Rattle.scx_sched_machine.proofs.Choices.{keeps_if}
-use Rattle.scx_sched_machine.proofs.HelperCalls.{by_helper}
-use Rattle.scx_sched.proofs.Marks.{KeepsMarks, Anywhere, kept_switch, kept_cycling, kept_kicked_so, kept_claim, kept_local, kept_entered}
+use Rattle.scx_sched.proofs.Marks.{KeepsMarks, Anywhere, kept_switch, kept_cycling}
+use Rattle.scx_sched.proofs.Queries.{KeepsQueries, off_queues, kept_called, kept_marks, kept_enter, kept_brought, kept_query, kept_ejecting, kept_eject}
 
 -- from the first world to the second
 abbrev pub IsAsBefore : WorldState → WorldState → Type 0
 IsAsBefore v w = (w.clock ≡ v.clock) × (w.ejected ≡ v.ejected) × (w.cycling ≡ v.cycling) × (w.tree ≡ v.tree) × (w.rules ≡ v.rules) × (w.passing ≡ v.passing)
 
+as_before : (w : WorldState) → IsAsBefore w w
+as_before w = (refl, refl, refl, refl, refl, refl)
+
+-- nor does any small change of a query
+same_so : (v : WorldState) → KeepsQueries (IsAsBefore v)
+same_so v = off_queues (IsAsBefore v) (λ w x other h. h) (λ w n o later h. h) (λ w t s k c h. h) (λ w q i m a b c d n ns h. h)
+
 module _ (v : WorldState) where
-  -- nor is it changed as the processor of a task, its slice or sets of processors are
+  -- as the processor of a task, its slice or sets of processors change
   pub same_marks : KeepsMarks Anywhere (IsAsBefore v)
-  same_marks = record { there = λ w c h l. tt; homed = λ w t c l h. h; sliced = λ w t n h. h; sets = λ w a b c d h. h }
+  same_marks = kept_marks (IsAsBefore v) (same_so v)
 
   pub same_entered : (w : WorldState) (t : ℕ) (i : Insert) → IsAsBefore v w → IsAsBefore v (after_enter w t i)
-  same_entered w t i h = kept_entered Anywhere (IsAsBefore v) same_marks w t i h h
-
-  same_released : (w : WorldState) (t : Option ℕ) (i : Insert) → IsAsBefore v w → IsAsBefore v (after_release w t i)
-  same_released w None i h = h
-  same_released w (Some t) i h = same_entered (after_leave w t) t i h
-
-  same_inserted : (w : WorldState) (o : Option Fault) (t : Option ℕ) (i : Insert) → IsAsBefore v w → IsAsBefore v (insert_or_fault w o t i)
-  same_inserted w None t i h = keeps_if (IsAsBefore v) (is_dispatch w.call.callback) (after_release w t (for_cpu w.call.cpu i)) (with_insert w i) (same_released w t (for_cpu w.call.cpu i) h) h
-  same_inserted w (Some f) t i h = h
-
-  same_moved : (w : WorldState) (o : Option ℕ) → IsAsBefore v w → IsAsBefore v (moved_to_local w o)
-  same_moved w None h = h
-  same_moved w (Some t) h = kept_local Anywhere (IsAsBefore v) same_marks (after_leave w t) w.call.cpu t tt h
-
-  same_helper : (w : WorldState) (f : Helper) (a : List Arg) → IsAsBefore v w → IsAsBefore v (helper_after w f a)
-  same_helper w f a h = by_helper (IsAsBefore v) w (record {
-    same = h;
-    faulty = λ f other. h;
-    ended = λ n. h;
-    created = λ q. h;
-    inserted = λ t i flags back none. same_inserted w None t i h;
-    late = λ linux here. h;
-    claimed = λ o. kept_claim Anywhere (IsAsBefore v) same_marks w o h;
-    kicked = λ c k. kept_kicked_so Anywhere (IsAsBefore v) same_marks w c k h;
-    started = λ t ns. h;
-    cancelled = λ t. h;
-    drawn = h;
-    moved = λ q here low. same_moved w (next_for w q w.call.cpu) h;
-  }) f a
-
-  same_query : (w : WorldState) (q : Query) → IsAsBefore v w → IsAsBefore v (after_query world_functions w q)
-  same_query w (Call f a) h = same_helper w f (map argument_of a) h
-  same_query w (Load t f) h = h
-  same_query w (Store t f k) h = h
-
-  -- ---- an ejection
+  same_entered w t i h = kept_enter (IsAsBefore v) (same_so v) w t i h
 
   pub same_put_builtin : (w : WorldState) (t : ℕ) → IsAsBefore v w → IsAsBefore v (put_builtin w t)
   same_put_builtin w t h = keeps_if (IsAsBefore v) (nat_lt t (length w.tasks)) _ w h h
@@ -81,47 +42,24 @@ module _ (v : WorldState) where
   pub same_put_parked : (w : WorldState) (t : ℕ) → IsAsBefore v w → IsAsBefore v (put_parked w t)
   same_put_parked w t h = keeps_if (IsAsBefore v) (nat_lt t (length w.tasks)) _ w h h
 
-  same_evicted : (j : ℕ) (w : WorldState) → IsAsBefore v w → IsAsBefore v (after_evictions j w)
-  same_evicted zero w h = h
-  same_evicted (suc j) w h =
-      let u = after_evictions j w in
-      let x = same_evicted j w h in
-      keeps_if (IsAsBefore v) (waits u j) (put_builtin (after_leave u j) j) u (same_put_builtin (after_leave u j) j x) x
-
-  same_cut_task : (o : Option ℕ) (w : WorldState) → IsAsBefore v w → IsAsBefore v (cut_task o w)
-  same_cut_task None w h = h
-  same_cut_task (Some t) w h = h
-
-  same_cut : (j : ℕ) (w : WorldState) → IsAsBefore v w → IsAsBefore v (after_cut j w)
-  same_cut zero w h = h
-  same_cut (suc j) w h = same_cut_task (running (after_cut j w) j) (after_cut j w) (same_cut j w h)
-
 -- nor does a run
 pub same_called : (p : Option VerifiedProgram) (b : Callback) (a : Args) (maps : Maps) (w : WorldState) → IsAsBefore w (call_ending p b a maps w).outside
-unfolding call_ending run_of
-same_called None b a maps w = (refl, refl, refl, refl, refl, refl)
-same_called (Some p) b a maps w =
-    run_keeps (answer_to world_functions) (after_query world_functions) (IsAsBefore w) (same_query w) b p.code (suc (instruction_count p.code)) 0 (start.start (program_arguments a) maps) w (refl, refl, refl, refl, refl, refl)
+same_called p b a maps w = kept_called (IsAsBefore w) (kept_query (IsAsBefore w) (same_so w)) p b a maps w (as_before w)
 
 -- an ejection puts the policy out of force, and changes no more of these
 pub eject_sets : (s : State) (x : Eject) → IsAsBefore (put_out s.world x) (eject s x).state.world
-unfolding eject moves_over
-eject_sets s x =
-    let w = put_out s.world x in
-    let v = after_evictions (length w.tasks) w in
-    same_cut w (length v.cpus) v (same_evicted w (length w.tasks) w (refl, refl, refl, refl, refl, refl))
+eject_sets s x = let w = put_out s.world x in kept_eject (IsAsBefore w) (kept_ejecting (IsAsBefore w) (same_so w) (λ v t h. h)) s x (as_before w)
 
 -- ---- other small steps
 
 -- as a front goes to a local queue, clock, ejection, cycle, tree and rules stay as they are
 pub same_brought : (o : Option ℕ) (w : WorldState) (c : ℕ) → IsAsBefore w (brought o w c)
-same_brought None w c = (refl, refl, refl, refl, refl, refl)
-same_brought (Some t) w c = kept_local Anywhere (IsAsBefore w) (same_marks w) (after_leave w t) c t tt (refl, refl, refl, refl, refl, refl)
+same_brought o w c = kept_brought (IsAsBefore w) (same_so w) o w c (as_before w)
 
 -- as a task keeps its processor, clock, ejection, cycle, tree and rules stay as they are
 pub same_kept : (w : WorldState) (o : Option ℕ) → IsAsBefore w (after_keep w o)
-same_kept w None = (refl, refl, refl, refl, refl, refl)
-same_kept w (Some t) = (refl, refl, refl, refl, refl, refl)
+same_kept w None = as_before w
+same_kept w (Some t) = as_before w
 
 -- ---- what begins and ends with cycles
 

@@ -1,20 +1,10 @@
 -- No policy is put out of force for being stuck: each callback comes to an answer, and no helper call has that fault.
-use Rattle.std.proofs.Common.{◌≡◌, ℕ, suc, List, length, map, Option, Some, None, refl, sym, ap, ◌∙◌, subst}
-use Rattle.std.specs.Int.{w64, cast_signed}
+use Rattle.std.proofs.Common.{◌≡◌, ℕ, length, Option, Some, None, refl, sym, ap, ◌∙◌, subst}
 use Rattle.scx_isa_semantics.specs.declared.callbacks.Callback.{Callback}
-use Rattle.scx_isa_semantics.specs.declared.host_tables.Helper.{Helper}
-use Rattle.scx_isa_semantics.specs.Code.{instruction_count}
-use Rattle.scx_isa_semantics.specs.Effects.{Query, Call, Load, Store}
 use Rattle.scx_isa_semantics.specs.Elements.{Maps}
-use Rattle.scx_isa_semantics.specs.Endings.{Ending, run_of}
-use Rattle.scx_isa_semantics.proofs.EndedRuns.{run_keeps}
-use Rattle.scx_isa_semantics.specs.Machine as start
+use Rattle.scx_isa_semantics.specs.Endings.{Ending}
 use Rattle.scx_vm.specs.Programs.{VerifiedProgram}
-use Rattle.scx_vm.specs.Arguments.{program_arguments, argument_of}
-use Rattle.scx_vm.specs.declared.arguments.Arg.{Arg}
 use Rattle.scx_vm.specs.declared.arguments.Args.{Args}
-use Rattle.scx_vm.specs.Host.{answer_to, after_query}
-use Rattle.scx_sched_world.specs.declared.call.Insert.{Insert}
 use Rattle.scx_sched_world.specs.declared.eject.Cause.{Cause}
 use Rattle.scx_sched_world.specs.declared.eject.Cause.TheVariants as reason
 use Rattle.scx_sched_world.specs.declared.eject.Eject.{Eject}
@@ -23,8 +13,8 @@ use Rattle.scx_sched_world.specs.declared.faults.Fault.{Fault}
 use Rattle.scx_sched_world.specs.declared.faults.Fault.TheVariants.{Stuck}
 use Rattle.scx_sched_world.specs.World.{WorldState}
 use Rattle.scx_sched_world.specs.Ejecting.{eject_of}
-use Rattle.scx_sched_world.specs.Tasks.{after_leave, after_enter, for_cpu, later, begun_periods, next_for}
-use Rattle.scx_sched_world.specs.Helpers.{first_cause, with_cause, is_dispatch, with_insert, after_release, insert_or_fault, moved_to_local, helper_after, world_functions}
+use Rattle.scx_sched_world.specs.Tasks.{later, begun_periods}
+use Rattle.scx_sched_world.specs.Helpers.{first_cause, with_cause}
 use Rattle.scx_sched_machine.specs.declared.events.Event.{Event}
 use Rattle.scx_sched_machine.specs.declared.events.Event.TheVariants.{Wake, Sleep, Tick, Clock, SetWeight, SetTaskWeight}
 use Rattle.scx_sched_machine.specs.Steps.{State, Stepped, CallMade, with_world, stays, one_after_other}
@@ -34,16 +24,14 @@ use Rattle.scx_sched_machine.specs.Firing.{fire_all}
 use Rattle.scx_sched_machine.specs.Events.{refusal, overdue, eject_if_stalled, clock, event_step, watch, timers_and_watchdog}
 use Rattle.scx_sched_machine.specs.Rounds.{with_rounds}
 use Rattle.scx_sched_machine.specs.Callbacks.{call_ending, AreAnswered}
-use Rattle.scx_sched_machine.proofs.Choices.{keeps_if}
-use Rattle.scx_sched_machine.proofs.HelperCalls.{by_helper, IsOther, no_fault}
 use Rattle.scx_sched.specs.Causes.{HasFault, Of_helper, Of_answer, HasReason, IsNeverStuck}
 use Rattle.scx_sched.specs.Decided.{tree_after}
-use Rattle.scx_sched.proofs.Marks.{KeepsMarks, Anywhere, kept_kicked_so, kept_claim, kept_local, kept_entered}
 use Rattle.scx_sched.proofs.Unchanged.{eject_sets}
 use Rattle.scx_sched.proofs.Events.{IsFineNow, IsTaken, Wakes, Sleeps, Ticks, Clocks, Weighs, is_taken, WeighsTask}
 use Rattle.scx_sched.proofs.Blaming.{IsHonest, state_with_tree, same_eject, honest_let_all_go, honest_joined, honest_stays, honest_with_rounds, no_rounds, honest_fire_all}
 use Rattle.scx_sched.proofs.Deciding.{IsHonestEvent, wake_is_honest, sleep_is_honest, tick_is_honest, weight_is_honest, task_weight_is_honest}
 use Rattle.scx_sched.proofs.Causing.{last_answered, computes, has_reason}
+use Rattle.scx_sched.proofs.Queries.{KeepsQueries, off_queues, kept_called, kept_query}
 
 -- ---- the run of a program
 
@@ -51,11 +39,8 @@ use Rattle.scx_sched.proofs.Causing.{last_answered, computes, has_reason}
 abbrev IsOtherCause : Option Cause → Type 0
 IsOtherCause o = o ≡ Some (reason.Fault Stuck) → ⊥
 
-other_fault : (f : Fault) → IsOther (Some f) → IsOtherCause (Some (reason.Fault f))
-other_fault f other e = other (same e)
-  where
-    same : Some (reason.Fault f) ≡ Some (reason.Fault Stuck) → Some f ≡ Some Stuck
-    same x = cc
+same_cause : (x y : Cause) → Some x ≡ Some y → x ≡ y
+same_cause x y e = cc
 
 abbrev IsUnstuck : WorldState → Type 0
 IsUnstuck w = IsOtherCause w.call.cause
@@ -67,49 +52,11 @@ unstuck_caused w x other h = go w.call.cause h
     go None k = other
     go (Some y) k = k
 
-unstuck_marks : KeepsMarks Anywhere IsUnstuck
-unstuck_marks = record { there = λ w c h l. tt; homed = λ w t c l h. h; sliced = λ w t n h. h; sets = λ w a b c d h. h }
-
-unstuck_entered : (w : WorldState) (t : ℕ) (i : Insert) → IsUnstuck w → IsUnstuck (after_enter w t i)
-unstuck_entered w t i h = kept_entered Anywhere IsUnstuck unstuck_marks w t i h h
-
-unstuck_released : (w : WorldState) (t : Option ℕ) (i : Insert) → IsUnstuck w → IsUnstuck (after_release w t i)
-unstuck_released w None i h = h
-unstuck_released w (Some t) i h = unstuck_entered (after_leave w t) t i h
-
-unstuck_inserted : (w : WorldState) (o : Option Fault) (t : Option ℕ) (i : Insert) → IsOther o → IsUnstuck w → IsUnstuck (insert_or_fault w o t i)
-unstuck_inserted w None t i other h = keeps_if IsUnstuck (is_dispatch w.call.callback) (after_release w t (for_cpu w.call.cpu i)) (with_insert w i) (unstuck_released w t (for_cpu w.call.cpu i) h) h
-unstuck_inserted w (Some f) t i other h = unstuck_caused w (reason.Fault f) (other_fault f other) h
-
-unstuck_moved : (w : WorldState) (o : Option ℕ) → IsUnstuck w → IsUnstuck (moved_to_local w o)
-unstuck_moved w None h = h
-unstuck_moved w (Some t) h = kept_local Anywhere IsUnstuck unstuck_marks (after_leave w t) w.call.cpu t tt h
-
-unstuck_helper : (w : WorldState) (f : Helper) (a : List Arg) → IsUnstuck w → IsUnstuck (helper_after w f a)
-unstuck_helper w f a h = by_helper IsUnstuck w (record {
-  same = h;
-  faulty = λ f other. unstuck_caused w (reason.Fault f) (other_fault f other) h;
-  ended = λ n. unstuck_caused w (reason.Exit (cast_signed w64 n)) (λ e. absurd (cc)) h;
-  created = λ q. h;
-  inserted = λ t i flags back none. unstuck_inserted w None t i no_fault h;
-  late = λ linux here. h;
-  claimed = λ o. kept_claim Anywhere IsUnstuck unstuck_marks w o h;
-  kicked = λ c k. kept_kicked_so Anywhere IsUnstuck unstuck_marks w c k h;
-  started = λ t ns. h;
-  cancelled = λ t. h;
-  drawn = h;
-  moved = λ q here low. unstuck_moved w (next_for w q w.call.cpu) h;
-}) f a
-
-unstuck_query : (w : WorldState) (q : Query) → IsUnstuck w → IsUnstuck (after_query world_functions w q)
-unstuck_query w (Call f a) h = unstuck_helper w f (map argument_of a) h
-unstuck_query w (Load t f) h = h
-unstuck_query w (Store t f k) h = h
+unstuck_kept : KeepsQueries IsUnstuck
+unstuck_kept = off_queues IsUnstuck (λ w x other h. unstuck_caused w x (λ e. other (same_cause x (reason.Fault Stuck) e)) h) (λ w n o later h. h) (λ w t s v c h. h) (λ w q i m a b c d n ns h. h)
 
 unstuck_called : (p : VerifiedProgram) (b : Callback) (a : Args) (maps : Maps) (w : WorldState) → w.call.cause ≡ None → IsUnstuck (call_ending (Some p) b a maps w).outside
-unfolding call_ending run_of
-unstuck_called p b a maps w fresh =
-    run_keeps (answer_to world_functions) (after_query world_functions) IsUnstuck unstuck_query b p.code (suc (instruction_count p.code)) 0 (start.start (program_arguments a) maps) w (subst IsOtherCause (sym fresh) (λ e. absurd (cc)))
+unstuck_called p b a maps w fresh = kept_called IsUnstuck (kept_query IsUnstuck unstuck_kept) (Some p) b a maps w (subst IsOtherCause (sym fresh) (λ e. absurd (cc)))
 
 -- ---- a callback that is called
 

@@ -1,26 +1,26 @@
 -- Who has a wait is in a queue, or is the task at hand: how each small step of a world keeps that.
-use Rattle.std.proofs.Common.{◌≡◌, ℕ, ◌+◌, ◌<◌, ◌≤◌, Bool, true, false, ◌==◌, ◌&&◌, ◌||◌, ◌⊎◌, inl, inr, List, length, set, get_or, Option, Some, None, is_some, is_none, option_map, not, if◌then◌else◌, refl, sym, ap, ◌∙◌, arith}
-use Rattle.std.proofs.lemmas.Bool.{cases_eq, cases_lt, eq-eqb, ne_eqb}
-use Rattle.std.proofs.lemmas.List.{get_or-set_same, get_or-set_other, set_past}
+use Rattle.std.proofs.Common.{◌≡◌, ℕ, ◌+◌, ◌<◌, ◌≤◌, Bool, true, false, ◌==◌, ◌||◌, ◌⊎◌, inl, inr, List, length, set, get_or, Option, Some, None, is_some, is_none, option_map, not, if◌then◌else◌, refl, sym, ap, ◌∙◌, arith}
+use Rattle.std.proofs.lemmas.Bool.{cases_eq, eq-eqb, ne_eqb}
+use Rattle.std.proofs.lemmas.List.{get_or-set_same, get_or-set_other}
 use Rattle.scx_dsq.specs.Queues.{QueueState, task_count, entry_of, queue_of}
 use Rattle.scx_dsq.specs.Calls.{push_refusal, next_entry, with_task as with_place, without_task, after_push, after_remove}
 use Rattle.scx_dsq.specs.declared.entries.Entry.{Entry}
 use Rattle.scx_dsq.specs.Laws.{one_if, standing}
 use Rattle.scx_dsq.specs.declared.entries.Rank.{Rank}
-use Rattle.scx_dsq.specs.declared.entries.Rank.TheVariants.{Fifo, Front, Vtime}
 use Rattle.scx_isa_semantics.specs.declared.host_tables.Field.{Field}
-use Rattle.scx_isa_semantics.specs.declared.host_tables.Field.TheVariants.{Pid, Weight, Slice, DsqVtime, PrevCpu, Group, RunNs, Cpus}
 use Rattle.scx_sched_tasks.specs.declared.task.Task.{Task}
 use Rattle.scx_sched_tasks.specs.Tasks.{no_task}
 use Rattle.scx_sched_world.specs.declared.call.Insert.{Insert}
 use Rattle.scx_sched_world.specs.Ids.{parked_queue}
 use Rattle.scx_sched_world.specs.World.{WorldState, waits_in, with_queues, with_task, task_at, waits, is_this, is_runnable}
-use Rattle.scx_sched_world.specs.Tasks.{given_slice, given_vtime, task_after_insert, with_new_slice}
+use Rattle.scx_sched_world.specs.Tasks.{task_after_insert, with_new_slice}
 use Rattle.scx_sched_world.specs.Helpers.{stored_in}
 use Rattle.scx_sched_machine.proofs.Choices.{keeps_if}
 use Rattle.scx_sched.specs.Waits.{HasWaits}
 use Rattle.scx_sched.specs.Once.{IsOnce}
 use Rattle.scx_sched.proofs.Entering.{one_le, nowhere}
+use Rattle.scx_sched.proofs.Written.{each_written}
+use Rattle.scx_sched.proofs.Queries.{given_so, stored_so}
 
 -- ---- truth values that are counted
 
@@ -138,32 +138,15 @@ waits_by_sum hand w h u = sum_or (is_some (task_at w u).since) (waits w u) (is_t
 
 -- each wait goes on
 pub since_set : (tasks : List Task) (t : ℕ) (x : Task) → x.since ≡ (get_or tasks t no_task).since → (u : ℕ) → (get_or (set tasks t x) u no_task).since ≡ (get_or tasks u no_task).since
-since_set tasks t x same u = go (cases_eq u t) (cases_lt t (length tasks))
-  where
-    go : (u ≡ t) ⊎ (u ≡ t → ⊥) → (t < length tasks) ⊎ (length tasks ≤ t) → (get_or (set tasks t x) u no_task).since ≡ (get_or tasks u no_task).since
-    go (inl e) (inl within) = rw (e, get_or-set_same tasks t x no_task within) same
-    go (inl e) (inr past) = rw (set_past tasks t x past) refl
-    go (inr d) l = rw (get_or-set_other tasks t u x no_task d) refl
+since_set tasks t x same u = each_written (λ k (y : Task). y.since ≡ (get_or tasks k no_task).since) tasks t x no_task same (λ k. refl) u
 
 -- a field that a program stores
 pub stored_since : (x : Task) (f : Field) (k : ℕ) → (stored_in x f k).since ≡ x.since
-stored_since x Pid k = refl
-stored_since x Weight k = refl
-stored_since x Slice k = refl
-stored_since x DsqVtime k = refl
-stored_since x PrevCpu k = refl
-stored_since x Group k = refl
-stored_since x RunNs k = refl
-stored_since x Cpus k = refl
+stored_since x f k = stored_so x (λ y. y.since ≡ x.since) (λ s v. refl) f k
 
 -- an insert
 pub given_since : (x : Task) (i : Insert) → (task_after_insert x i).since ≡ x.since
-given_since x i = vtime i.rank ∙ keeps_if (λ (y : Task). y.since ≡ x.since) (i.slice == 0) _ _ (keeps_if (λ (y : Task). y.since ≡ x.since) (i.refills && (x.slice == 0)) _ x refl refl) refl
-  where
-    vtime : (r : Rank) → (given_vtime (given_slice x i) r).since ≡ (given_slice x i).since
-    vtime Fifo = refl
-    vtime Front = refl
-    vtime (Vtime k) = refl
+given_since x i = given_so x (λ y. y.since ≡ x.since) (λ s v. refl) i
 
 -- a slice
 pub renewed_since : (x : Task) → (with_new_slice x).since ≡ x.since

@@ -1,12 +1,12 @@
 -- The watchdog: while a policy is in force no event lets a task wait longer than the policy may.
 use Rattle.std.proofs.Common.{◌≡◌, ℕ, ◌+◌, ◌<◌, ◌≤◌, List, length, get_or, Option, Some, None, is_some, is_none, nat_lt, if◌then◌else◌, refl, sym, ap, ◌∙◌, subst, arith}
-use Rattle.scx_weights.specs.Hierarchy.{with_weight, with_own_weight}
+use Rattle.scx_weights.specs.Hierarchy.{with_weight}
 use Rattle.scx_weights.specs.Limits.{with_use}
-use Rattle.scx_weights.specs.Refusals.{weight_fault, own_weight_fault}
+use Rattle.scx_weights.specs.Refusals.{weight_fault}
 use Rattle.scx_sched_world.specs.declared.eject.Eject.{Eject}
 use Rattle.scx_sched_world.specs.declared.eject.Eject.TheVariants as cause
-use Rattle.scx_sched_world.specs.World.{WorldState, with_tree, wait}
-use Rattle.scx_sched_world.specs.Tasks.{after_leave, used_ms, later, begun_periods}
+use Rattle.scx_sched_world.specs.World.{WorldState, with_task, task_at, with_tree, wait}
+use Rattle.scx_sched_world.specs.Tasks.{with_since, after_leave, used_ms, later, begun_periods}
 use Rattle.scx_sched_world.specs.Waits.{first_overdue}
 use Rattle.scx_sched_machine.specs.declared.events.Event.{Event}
 use Rattle.scx_sched_machine.specs.Policy.{PolicyState}
@@ -21,8 +21,9 @@ use Rattle.scx_sched.specs.Ranges.{IsFine}
 use Rattle.scx_sched.proofs.Unchanged.{eject_sets}
 use Rattle.scx_sched.proofs.Blaming.{apart, honest_let_all_go, honest_fire_all}
 use Rattle.scx_sched.proofs.Fine.{fine_steps}
-use Rattle.scx_sched.proofs.Timely.{IsInTime, AreInTime, time_woken, time_ticked, time_let_go, time_stopped, time_steps, nobody_late}
+use Rattle.scx_sched.proofs.Timely.{IsInTime, AreInTime, time_ticked, time_stopped, time_alone, nobody_late}
 use Rattle.scx_sched.proofs.Events.{IsKeptByEvents, IsKeptByTick, IsTaken, Wakes, Sleeps, Ticks, Clocks, Weighs, is_taken, IsFineNow, fine_events, one_more, fine_ticked, fine_clock, fine_reweighed, keeps_wake, keeps_sleep, keeps_tick, keeps_with_rounds, WeighsTask, keeps_now, keeps_reweigh}
+use Rattle.scx_sched.proofs.Alone.{KeepsAlone, alone_tree, alone_weighed, alone_steps}
 
 -- ---- two facts at once
 
@@ -62,22 +63,26 @@ both_steps n I J a b = record {
   charged = λ m hand on w t out h. record { one = a.charged m hand on w t out h.one; two = b.charged m hand on w t out h.two };
 }
 
+-- where small steps keep what is said of the world alone, events keep it with each task in its place
+pub alone_events : (n e : ℕ) (P : WorldState → Type 0) → KeepsAlone n P → IsKeptByEvents n (Both (IsFine n e) (λ m hand on w. P w))
+alone_events n e P k = record {
+  steps = both_steps n (IsFine n e) (λ m hand on w. P w) (fine_steps n e) (alone_steps n P k);
+  sound = λ m hand on w h. h.one.sound;
+  allowed = λ m hand on w h. h.one.allowed;
+  woken = λ m on w t within resting h. record { one = (fine_events n e).woken m on w t within resting h.one; two = alone_tree n P k (with_task w t (with_since (task_at w t) (Some w.clock))) _ (k.waits_now w t h.two) };
+  let_go = λ m on w t within there h. record { one = (fine_events n e).let_go m on w t within there h.one; two = k.queries.removed (with_task w t (with_since (task_at w t) (Some w.clock))) t (k.waits_now w t h.two) };
+  left = λ m on w t within runnable off h. record { one = (fine_events n e).left m on w t within runnable off h.one; two = (alone_steps n P k).asleep m on (after_leave w t) t within (k.queries.removed w t h.two) };
+  removed = λ m on w t within here h. record { one = (fine_events n e).removed m on w t within here h.one; two = k.queries.removed w t h.two };
+  weighed = λ m hand on w t x h. record { one = (fine_events n e).weighed m hand on w t x h.one; two = alone_weighed n P k w t x h.two };
+  anew = λ m j on w force h. record { one = (fine_events n e).anew m j on w force h.one; two = h.two };
+}
+
 -- each task in its place, and in time
 abbrev IsWatched : ℕ → ℕ → ℕ → ℕ → Option ℕ → List (Option ℕ) → WorldState → Type 0
 IsWatched limit n e = Both (IsFine n e) (λ m hand on w. AreInTime limit n w)
 
 watched_events : (limit n e : ℕ) → IsKeptByEvents n (IsWatched limit n e)
-watched_events limit n e = record {
-  steps = both_steps n (IsFine n e) (λ m hand on w. AreInTime limit n w) (fine_steps n e) (time_steps limit n);
-  sound = λ m hand on w h. h.one.sound;
-  allowed = λ m hand on w h. h.one.allowed;
-  woken = λ m on w t within resting h. record { one = (fine_events n e).woken m on w t within resting h.one; two = time_woken limit n w t h.two };
-  let_go = λ m on w t within there h. record { one = (fine_events n e).let_go m on w t within there h.one; two = time_let_go limit n w t h.two };
-  left = λ m on w t within runnable off h. record { one = (fine_events n e).left m on w t within runnable off h.one; two = (time_steps limit n).asleep m on (after_leave w t) t within h.two };
-  removed = λ m on w t within here h. record { one = (fine_events n e).removed m on w t within here h.one; two = h.two };
-  weighed = λ m hand on w t x h. record { one = (fine_events n e).weighed m hand on w t x h.one; two = keeps_if (AreInTime limit n) (is_none (own_weight_fault w.tree t x)) (with_tree w (with_own_weight w.tree t x)) w h.two h.two };
-  anew = λ m k on w force h. record { one = (fine_events n e).anew m k on w force h.one; two = h.two };
-}
+watched_events limit n e = alone_events n e (AreInTime limit n) (time_alone limit n)
 
 -- ---- the clock
 

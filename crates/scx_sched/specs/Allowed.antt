@@ -5,8 +5,8 @@ use Rattle.scx_sched_world.specs.declared.call.Insert.{Insert}
 use Rattle.scx_sched_world.specs.Ids.{local_on}
 use Rattle.scx_sched_world.specs.World.{WorldState, task_at, running, may_run}
 
--- a task may run on the processor on which it runs, on that in whose local queue it waits, and on its
--- own
+-- a task may run on the processor on which it runs, on that in whose local queue it waits, and on
+-- its own
 pub record AreAllowed (w : WorldState) : Type 0 where
   pub running : (c t : ℕ) → running w c ≡ Some t → may_run w t c ≡ true
   pub local : (c t : ℕ)

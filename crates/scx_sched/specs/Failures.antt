@@ -1,5 +1,6 @@
 -- Why the machine of a policy can't begin: its init, enable or `set_weight` of a task, or
--- `update_idle` of a processor called `exit` or had a fault, or init answered a number that isn't 0.
+-- `update_idle` of a processor called `exit` or had a fault, or init answered a number that isn't
+-- 0.
 use Rattle.std.specs.Prelude.{◌≡◌, ℕ, ℤ, ⊤, List, None}
 use Rattle.std.specs.Int.{w64, cast_signed}
 use Rattle.scx_isa_semantics.specs.declared.callbacks.Callback.TheVariants.{Init}

@@ -10,8 +10,8 @@ use Rattle.scx_sched_machine.specs.Rounds.{most_rounds, next_to_look, round, wit
 use Rattle.scx_sched_machine.specs.declared.events.Event.{Event}
 use Rattle.scx_sched_machine.specs.declared.events.Event.TheVariants.{Wake, Sleep, Tick, Clock, SetWeight, SetTaskWeight}
 
--- nobody is in the local queue, nor anybody who may run on the processor in the global one, or, once
--- the policy is ejected, in the built-in one
+-- nobody is in the local queue, nor anybody who may run on the processor in the global one, or,
+-- once the policy is ejected, in the built-in one
 pub record LeavesNothing (w : WorldState) (c : ℕ) : Type 0 where
   pub local : local_len w c ≡ 0
   pub global : next_for w global c ≡ None

@@ -33,8 +33,8 @@ tells_dequeued_if b s t c flags = if b then tells_dequeued s t c flags else stay
 
 -- ---- out of dispatch
 
--- the task that left custody as that was noted of dispatch: one that was moved, or one that was held
--- and put into a queue that isn't the policy's; else none
+-- the task that left custody as that was noted of dispatch: one that was moved, or one that was
+-- held and put into a queue that isn't the policy's; else none
 abbrev pub leaver : What → Option ℕ
 leaver (note.Insert t q) = if nat_lt q policy_end then None else Some t
 leaver (note.Move t c) = Some t
@@ -80,8 +80,8 @@ ended why s =
     let q = with_world s (quiet s.world) in
     one_after_other (record { state = q; notes = s.world.notes; calls = [] }) (ejected_for why q)
 
--- what dispatch noted is handed on, and the policy hears of each task that left custody in the first
--- that many of its notes
+-- what dispatch noted is handed on, and the policy hears of each task that left custody in the
+-- first that many of its notes
 unfoldable pub told_first : ℕ → Option Cause → State → ℕ → Stepped
 told_first n why s c =
     let r = ended why s in one_after_other r (tells_each (take n s.world.notes) r.state c)

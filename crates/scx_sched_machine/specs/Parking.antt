@@ -39,8 +39,8 @@ park_then next s None = stays s
 park_then next s (Some t) =
     let p = park (with_world s (after_leave s.world t)) t in one_after_other p (next p.state)
 
--- as long as the first task of a queue that may run on that processor is throttled, it is parked, at
--- most so often
+-- as long as the first task of a queue that may run on that processor is throttled, it is parked,
+-- at most so often
 unfoldable pub park_next : ℕ → State → ℕ → ℕ → Stepped
 park_next zero s q c = stays s
 park_next (suc n) s q c = park_then (λ r. park_next n r q c) s (throttled_next s q c)

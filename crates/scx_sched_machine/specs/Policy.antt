@@ -18,8 +18,8 @@ Programs = PerCallback (Option VerifiedProgram)
 
 -- a policy: the shapes of its maps, how many milliseconds a task may wait, by whose rules the
 -- machine goes while it is in force, how many milliseconds there are from tick to tick (0 where
--- slices end exactly), whether the host tracks idle processors beside `update_idle`, how many timers
--- it has, where its random numbers begin, and its programs
+-- slices end exactly), whether the host tracks idle processors beside `update_idle`, how many
+-- timers it has, where its random numbers begin, and its programs
 pub record PolicyState : Type 0 where
   pub shapes : List Shape
   pub timeout_ms : ℕ
@@ -70,8 +70,8 @@ policy_of shapes timeout callbacks = policy_by Plain shapes timeout callbacks
 abbrev pub program_of : PolicyState → Callback → Option VerifiedProgram
 program_of p b = at p.callbacks b
 
--- whether the host tracks idle processors: by Linux rules a policy with `update_idle` does so itself
--- (ext/idle.c, `scx_idle_enable`)
+-- whether the host tracks idle processors: by Linux rules a policy with `update_idle` does so
+-- itself (ext/idle.c, `scx_idle_enable`)
 abbrev pub tracks_idle : PolicyState → Bool
 tracks_idle p =
     p.keeps_idle || not (are_linux p.rules && is_some (program_of p callback.UpdateIdle))

@@ -37,8 +37,8 @@ abbrev pub by_policy : PolicyState → WorldState → WorldState
 by_policy p w =
     with_random (with_timers (with_tracking (with_rules w p.rules) (tracks_idle p)) p.timers) p.seed
 
--- before any callback, by the policy's rules; periods of all groups begin, and bound tasks are where
--- they may run
+-- before any callback, by the policy's rules; periods of all groups begin, and bound tasks are
+-- where they may run
 abbrev pub blank : PolicyState → Hierarchy → ℕ → State
 blank p tree cpus = record {
   policy = p;
@@ -234,8 +234,8 @@ calls_after_init (Ok s) =
     calls_below (length s.world.tasks) s
     ++ calls_after_enables (after_enables (length s.world.tasks) s)
 
--- the callbacks that are called as a machine begins: init, enable and `set_weight` of each task, and
--- `update_idle` of each processor
+-- the callbacks that are called as a machine begins: init, enable and `set_weight` of each task,
+-- and `update_idle` of each processor
 abbrev pub start_calls : PolicyState → Hierarchy → ℕ → List CallMade
 start_calls p tree cpus =
     init_calls (blank p tree cpus) ++ calls_after_init (after_init (blank p tree cpus))

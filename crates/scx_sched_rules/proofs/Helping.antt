@@ -18,7 +18,7 @@ use Rattle.scx_dsq.specs.declared.errors.QueueError.TheVariants as queue_error
 use Rattle.scx_isa_semantics.specs.declared.callbacks.Callback.{Callback}
 use Rattle.scx_isa_semantics.specs.declared.callbacks.Callback.TheVariants as callback
 use Rattle.scx_isa_semantics.specs.declared.host_tables.Helper.{Helper}
-use Rattle.scx_isa_semantics.specs.declared.host_tables.Helper.TheVariants.{MapLookupElem, KtimeGetNs, CreateDsq, DsqInsert, DsqInsertVtime, DsqMoveToLocal, SelectCpuDfl, CpuIdle, TaskByPid, DsqNrQueued, KickCpu, SmpProcessorId, Exit, CpuCurr, DsqPeek, TaskRunning, TaskCpu, PickIdle, ClaimIdle, TimerStart, TimerCancel, PrandomU32, MayRun}
+use Rattle.scx_isa_semantics.specs.declared.host_tables.Helper.TheVariants.{MapLookupElem, KtimeGetNs, CreateDsq, DsqInsert, DsqInsertVtime, DsqMoveToLocal, SelectCpuDfl, CpuIdle, TaskByPid, DsqNrQueued, KickCpu, SmpProcessorId, Exit, CpuCurr, DsqPeek, TaskRunning, TaskCpu, PickIdle, ClaimIdle, TimerStart, TimerCancel, PrandomU32, MayRun, OnMap}
 use Rattle.scx_vm.specs.declared.arguments.Arg.{Arg}
 use Rattle.scx_vm.specs.declared.arguments.Answer.{Answer}
 use Rattle.scx_vm.specs.declared.arguments.Answer.TheVariants.{Num, Task}
@@ -867,7 +867,8 @@ helper_allowed w TimerStart a own = start_allowed w a
 helper_allowed w TimerCancel a own = cancel_allowed w a
 helper_allowed w PrandomU32 a own = random_allowed w a
 helper_allowed w MayRun a own = may_allowed w a
-helper_allowed w MapLookupElem a own = absurd (own refl)
+helper_allowed w MapLookupElem a own = absurd (cc)
+helper_allowed w (OnMap h) a own = absurd (cc)
 
 -- ---- and nothing else
 
@@ -1075,3 +1076,6 @@ only_helper w MayRun a x v e = only_may w a x v e
 only_helper w MapLookupElem a x v (Done n j d e) = absurd j
 only_helper w MapLookupElem a x v (NamesTask o j m e k) = absurd m
 only_helper w MapLookupElem a x v (Wrong f j e k) = absurd j
+only_helper w (OnMap h) a x v (Done n j d e) = absurd j
+only_helper w (OnMap h) a x v (NamesTask o j m e k) = absurd m
+only_helper w (OnMap h) a x v (Wrong f j e k) = absurd j

@@ -11,7 +11,7 @@ use Rattle.scx_dsq.specs.declared.entries.Rank.{Rank}
 use Rattle.scx_dsq.specs.declared.entries.Rank.TheVariants.{Fifo, Vtime}
 use Rattle.scx_isa_semantics.specs.declared.callbacks.Callback.TheVariants.{SelectCpu, Enqueue, Dispatch}
 use Rattle.scx_isa_semantics.specs.declared.host_tables.Helper.{Helper}
-use Rattle.scx_isa_semantics.specs.declared.host_tables.Helper.TheVariants.{MapLookupElem, KtimeGetNs, CreateDsq, DsqInsert, DsqInsertVtime, DsqMoveToLocal, SelectCpuDfl, CpuIdle, TaskByPid, DsqNrQueued, KickCpu, SmpProcessorId, Exit, CpuCurr, DsqPeek, TaskRunning, TaskCpu, PickIdle, ClaimIdle, TimerStart, TimerCancel, PrandomU32, MayRun}
+use Rattle.scx_isa_semantics.specs.declared.host_tables.Helper.TheVariants.{MapLookupElem, KtimeGetNs, CreateDsq, DsqInsert, DsqInsertVtime, DsqMoveToLocal, SelectCpuDfl, CpuIdle, TaskByPid, DsqNrQueued, KickCpu, SmpProcessorId, Exit, CpuCurr, DsqPeek, TaskRunning, TaskCpu, PickIdle, ClaimIdle, TimerStart, TimerCancel, PrandomU32, MayRun, OnMap}
 use Rattle.scx_vm.specs.declared.arguments.Arg.{Arg}
 use Rattle.scx_vm.specs.declared.arguments.Answer.{Answer}
 use Rattle.scx_vm.specs.declared.arguments.Answer.TheVariants.{Num}
@@ -298,6 +298,7 @@ Judges w TimerCancel a o = JudgesTimer w (given_number a 0) o
 Judges w PrandomU32 a o = o ≡ None
 Judges w MayRun a o = JudgesCpu w (given_number a 1) o
 Judges w MapLookupElem a o = ⊥
+Judges w (OnMap h) a o = ⊥
 
 -- ---- what a call does where nothing is wrong: its answer, and the world that it leaves
 
@@ -451,8 +452,8 @@ pub record IsDelay (ns delay : ℕ) : Type 0 where
   pub long : ns ≤ delay * 1000000
   pub least : (n : ℕ) → 1 ≤ n → ns ≤ n * 1000000 → delay ≤ n
 
--- a timer is started, whether or not it was before: it is due after that delay, for the processor of
--- the callback that starts it (kernel/bpf/helpers.c, `bpf_timer_start`)
+-- a timer is started, whether or not it was before: it is due after that delay, for the processor
+-- of the callback that starts it (kernel/bpf/helpers.c, `bpf_timer_start`)
 pub record StartsTimer (w : WorldState) (t ns : ℕ) (v : WorldState) : Type 0 where
   pub delay : ℕ
   pub delays : IsDelay ns delay
@@ -502,6 +503,7 @@ Does w CpuCurr a n v = ⊥
 Does w DsqPeek a n v = ⊥
 Does w TaskByPid a n v = ⊥
 Does w MapLookupElem a n v = ⊥
+Does w (OnMap h) a n v = ⊥
 
 -- the task that a call answers without a fault, or none; most answer a number
 abbrev pub Names : WorldState → Helper → List Arg → Option ℕ → Type 0
@@ -528,6 +530,7 @@ Names w TimerCancel a o = ⊥
 Names w PrandomU32 a o = ⊥
 Names w MayRun a o = ⊥
 Names w MapLookupElem a o = ⊥
+Names w (OnMap h) a o = ⊥
 
 -- the answer of a call with a fault: that it is invalid, but 0 of a call that answers a task
 abbrev pub wrong_answer : Helper → ℕ

@@ -3,7 +3,7 @@ use Rattle.std.specs.Prelude.{◌≡◌, ◌≢◌, ℕ, ℤ, ◌^◌, ◌<◌, 
 use Rattle.std.specs.Int.{w64, cast_signed}
 use Rattle.scx_isa_semantics.specs.declared.callbacks.Callback.{Callback}
 use Rattle.scx_isa_semantics.specs.declared.host_tables.Helper.{Helper}
-use Rattle.scx_isa_semantics.specs.declared.host_tables.Helper.TheVariants.{MapLookupElem}
+use Rattle.scx_isa_semantics.specs.HostTables.{is_of_map}
 use Rattle.scx_vm.specs.declared.arguments.Arg.{Arg}
 use Rattle.scx_vm.specs.declared.arguments.Answer.{Answer}
 use Rattle.scx_vm.specs.declared.arguments.Args.{Args}
@@ -28,11 +28,11 @@ use Rattle.scx_sched_rules.specs.Events.{Happens}
 use Rattle.scx_sched_rules.specs.Refusals.{Refuses}
 use Rattle.scx_sched_rules.specs.Starts.{HasBadShape, Begins}
 
--- what a helper answers and leaves; elements of maps are looked up by the run itself
+-- what a helper answers and leaves; those on maps are a run's own
 abbrev pub RulesAllowHelpers : Type 0
 RulesAllowHelpers =
     (w : WorldState) (h : Helper) (a : List Arg)
-    → ¬ (h ≡ MapLookupElem) → IsEffect w h a (helper_answer w h a) (helper_after w h a)
+    → is_of_map h ≡ false → IsEffect w h a (helper_answer w h a) (helper_after w h a)
 
 -- of a helper call the rules allow no other answer, and no other world, than are computed
 abbrev pub RulesAllowHelpersOnly : Type 0

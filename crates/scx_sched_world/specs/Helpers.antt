@@ -13,7 +13,7 @@ use Rattle.scx_weights.specs.Weights.{task_weight}
 use Rattle.scx_isa_semantics.specs.declared.callbacks.Callback.{Callback}
 use Rattle.scx_isa_semantics.specs.declared.callbacks.Callback.TheVariants as callback
 use Rattle.scx_isa_semantics.specs.declared.host_tables.Helper.{Helper}
-use Rattle.scx_isa_semantics.specs.declared.host_tables.Helper.TheVariants.{MapLookupElem, KtimeGetNs, CreateDsq, DsqInsert, DsqInsertVtime, DsqMoveToLocal, SelectCpuDfl, CpuIdle, TaskByPid, DsqNrQueued, KickCpu, SmpProcessorId, Exit, CpuCurr, DsqPeek, TaskRunning, TaskCpu, PickIdle, ClaimIdle, TimerStart, TimerCancel, PrandomU32, MayRun}
+use Rattle.scx_isa_semantics.specs.declared.host_tables.Helper.TheVariants.{KtimeGetNs, CreateDsq, DsqInsert, DsqInsertVtime, DsqMoveToLocal, SelectCpuDfl, CpuIdle, TaskByPid, DsqNrQueued, KickCpu, SmpProcessorId, Exit, CpuCurr, DsqPeek, TaskRunning, TaskCpu, PickIdle, ClaimIdle, TimerStart, TimerCancel, PrandomU32, MayRun}
 use Rattle.scx_isa_semantics.specs.declared.host_tables.TaskId.{TaskId}
 use Rattle.scx_isa_semantics.specs.declared.host_tables.Field.{Field}
 use Rattle.scx_isa_semantics.specs.declared.host_tables.Field.TheVariants.{Pid, Weight, Slice, DsqVtime, PrevCpu, Group, RunNs, Cpus}
@@ -323,8 +323,8 @@ after_move w q =
     if can_move w q then moved_to_local w (next_for w q w.call.cpu)
     else with_fault w NoSuchQueue
 
--- what a move answers: 1, 0 where no task waits that may run on the processor, or -22 where none may
--- be moved
+-- what a move answers: 1, 0 where no task waits that may run on the processor, or -22 where none
+-- may be moved
 abbrev pub move_answer : WorldState → ℕ → ℕ
 move_answer w q = if can_move w q then one_if_some (next_for w q w.call.cpu) else invalid
 
@@ -621,7 +621,7 @@ helper_answer w TimerCancel a = answer.Num (timer_cancel_answer w (given_number 
 helper_answer w PrandomU32 a = answer.Num (random_answer w)
 helper_answer w MayRun a =
     answer.Num (may_run_answer w (given_task a 0) (given_number a 1))
-helper_answer w MapLookupElem a = answer.Num 0
+helper_answer w h a = answer.Num 0
 
 -- the world that a helper call with these arguments leaves
 abbrev pub helper_after : WorldState → Helper → List Arg → WorldState

@@ -69,8 +69,8 @@ HoldPending bits w = (c : ℕ) → c < length w.cpus → bit_at bits c ≡ 0 →
 abbrev pub IsEmpty : QueueState → ℕ → Type 0
 IsEmpty s q = (t : ℕ) → queue_of s t ≢ Some q
 
--- a processor on which nobody runs, whose bit is clear and on which no cycle is under way has nobody
--- in its local queue
+-- a processor on which nobody runs, whose bit is clear and on which no cycle is under way has
+-- nobody in its local queue
 abbrev pub AreSettled : ℕ → List (Option ℕ) → Option ℕ → QueueState → Type 0
 AreSettled bits cpus cycling s =
     (c : ℕ) → c < length cpus → bit_at bits c ≡ 0 → slice_index_or cpus c None ≡ None

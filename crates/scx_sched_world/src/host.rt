@@ -61,8 +61,8 @@ impl Env for World {
                 given_task(arguments[0]),
                 given_number(arguments[1]),
             )),
-            // A run looks up elements itself.
-            Helper::MapLookupElem => Answer::Num(0),
+            // A run does the work of helpers on maps itself.
+            Helper::MapLookupElem | Helper::OnMap(_) => Answer::Num(0),
         }
     }
 

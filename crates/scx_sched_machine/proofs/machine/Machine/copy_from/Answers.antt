@@ -1,15 +1,21 @@
 use Rattle.std.proofs.Common.{◌≡◌, map, replicate, sym, ap, ◌∙◌, subst}
 use Rattle.scx_maps.specs.declared.shape.Shape.{Shape}
-use Rattle.scx_maps.specs.Contents.{HasShapes}
+use Rattle.scx_maps.specs.Slots.{slots}
+use Rattle.scx_maps.specs.Contents.{kinds, HasShapes}
 use Rattle.scx_sched_world.specs.World.{IsLike}
 use Rattle.scx_sched_machine.specs.Policy.{PolicyState}
 use Rattle.scx_sched_machine.specs.Steps.{State}
 use Rattle.scx_sched_machine.proofs.machine.Machine.copy_from.Goals as goal
 
-pub copy_from-requires : goal.copy_from-requires
-copy_from-requires c =
+pub copy_from-requires-clause-kinds : goal.copy_from-requires-clause-kinds
+copy_from-requires-clause-kinds c =
     let same : c.self.inside.policy ≡ c.other.inside.policy = ap (λ (s : State). s.policy) c.self.view_is ∙ (c.requires.policy ∙ sym (ap (λ (s : State). s.policy) c.other.view_is)) in
-    c.self.invariant.lengths ∙ (ap (λ (p : PolicyState). map (λ (s : Shape). replicate s.entries s.value_size) p.shapes) same ∙ sym c.other.invariant.lengths)
+    c.self.invariant.kinds ∙ (ap (λ (p : PolicyState). kinds p.shapes) same ∙ sym c.other.invariant.kinds)
+
+pub copy_from-requires-clause-lengths : goal.copy_from-requires-clause-lengths
+copy_from-requires-clause-lengths c =
+    let same : c.self.inside.policy ≡ c.other.inside.policy = ap (λ (s : State). s.policy) c.self.view_is ∙ (c.requires.policy ∙ sym (ap (λ (s : State). s.policy) c.other.view_is)) in
+    c.self.invariant.lengths ∙ (ap (λ (p : PolicyState). map (λ (s : Shape). replicate (slots s) s.value_size) p.shapes) same ∙ sym c.other.invariant.lengths)
 
 pub copy_from-requires-2 : goal.copy_from-requires-2
 copy_from-requires-2 c =
