@@ -1,42 +1,27 @@
 -- A scheduling cycle leaves the groups and tasks, who is active, how many tasks and processors there are, and how long
 -- each task has run.
-use Rattle.std.proofs.Common.{◌≡◌, ℕ, zero, suc, ◌<◌, ◌≤◌, ◌⊎◌, inl, inr, Bool, true, false, ◌&&◌, ◌==◌, not, nat_lt, if◌then◌else◌, List, [], ◌∷◌, length, set, get_or, map, Option, Some, None, is_some, Result, Ok, Err, ℤ, refl, ◌∙◌, subst, arith}
-use Rattle.std.proofs.lemmas.Bool.{cases_eq, cases_lt}
-use Rattle.std.proofs.lemmas.List.{length-set, length-replicate, get_or-set_same, get_or-set_other, set_past}
+use Rattle.std.proofs.Common.{◌≡◌, ℕ, zero, suc, ◌≤◌, Bool, true, false, ◌&&◌, ◌==◌, not, nat_lt, if◌then◌else◌, List, [], ◌∷◌, length, set, get_or, Option, Some, None, Result, Ok, Err, ℤ, refl, ◌∙◌, subst, arith}
+use Rattle.std.proofs.lemmas.List.{length-set, length-replicate}
 use Rattle.scx_dsq.specs.Queues.{len_of, front_of, behind_of}
 use Rattle.scx_isa_semantics.specs.declared.callbacks.Callback.{Callback}
 use Rattle.scx_isa_semantics.specs.declared.callbacks.Callback.TheVariants as callback
-use Rattle.scx_isa_semantics.specs.declared.host_tables.Helper.{Helper}
-use Rattle.scx_isa_semantics.specs.Code.{instruction_count}
-use Rattle.scx_isa_semantics.specs.Effects.{Query, Call, Load, Store}
-use Rattle.scx_isa_semantics.specs.Elements.{Maps}
-use Rattle.scx_isa_semantics.specs.Endings.{run_of}
-use Rattle.scx_isa_semantics.proofs.EndedRuns.{run_keeps}
-use Rattle.scx_isa_semantics.specs.Machine as start
-use Rattle.scx_vm.specs.Programs.{VerifiedProgram}
-use Rattle.scx_vm.specs.Arguments.{program_arguments, argument_of}
-use Rattle.scx_vm.specs.declared.arguments.Arg.{Arg}
 use Rattle.scx_vm.specs.declared.arguments.Args.{Args}
-use Rattle.scx_vm.specs.Host.{answer_to, after_query}
 use Rattle.scx_weights.specs.Hierarchy.{Hierarchy, own_weight}
 use Rattle.scx_sched_world.specs.declared.call.Insert.{Insert}
 use Rattle.scx_sched_tasks.specs.declared.task.Task.{Task}
 use Rattle.scx_sched_tasks.specs.Tasks.{no_task}
-use Rattle.scx_sched_world.specs.declared.eject.Cause.{Cause}
-use Rattle.scx_sched_world.specs.declared.faults.Fault.{Fault}
 use Rattle.scx_sched_world.specs.declared.notes.Note.{Note}
 use Rattle.scx_sched_world.specs.CpuSets.{is_in_set}
 use Rattle.scx_sched_world.specs.Ids.{global, builtin_queue, parked_queue, local_on}
 use Rattle.scx_sched_world.specs.First.{first_world, with_homes_below, at_first_homes}
-use Rattle.scx_sched_world.specs.World.{WorldState, binds, with_switch, with_task, out_of_cycle, without_kick, task_at, is_throttled, is_idle, waits, running, at_callback}
-use Rattle.scx_sched_world.specs.Tasks.{begun_periods, with_home, with_slice, to_front, after_leave, after_enter, for_cpu, brought, fill_front, next_for, after_stop, started_at, after_run, after_switch, after_cut_off, put_parked, let_go}
-use Rattle.scx_sched_world.specs.Helpers.{is_dispatch, with_insert, after_release, insert_or_fault, moved_to_local, helper_after, stored_in, world_functions}
-use Rattle.scx_sched_machine.specs.Policy.{PolicyState, program_of}
+use Rattle.scx_sched_world.specs.World.{WorldState, binds, with_switch, with_task, out_of_cycle, without_kick, task_at, is_throttled, is_idle, running, at_callback}
+use Rattle.scx_sched_world.specs.Tasks.{begun_periods, to_front, after_leave, for_cpu, fill_front, after_stop, started_at, after_run, after_switch, after_cut_off, put_parked, let_go}
+use Rattle.scx_sched_machine.specs.Policy.{PolicyState}
 use Rattle.scx_sched_world.specs.declared.eject.Eject.{Eject}
-use Rattle.scx_sched_world.specs.Ejecting.{put_out, put_builtin, after_evictions, after_cut, cut_task, after_charge, after_catch_up}
+use Rattle.scx_sched_world.specs.Ejecting.{after_charge, after_catch_up}
 use Rattle.scx_sched_machine.specs.Steps.{State, Stepped, one_after_other, stays, with_world, is_ejected, is_by_linux, kicked, kicked_if_idle}
-use Rattle.scx_sched_machine.specs.Ejecting.{moves_over, eject, ejected_for}
-use Rattle.scx_sched_machine.specs.Callbacks.{call_ending, acting, cause_of, call_back, call_by_linux, after_callback, noted_by, no_arguments, one_task, task_and_number, two_numbers, cpu_and_task}
+use Rattle.scx_sched_machine.specs.Ejecting.{eject}
+use Rattle.scx_sched_machine.specs.Callbacks.{acting, call_back, call_by_linux, after_callback, noted_by, no_arguments, one_task, task_and_number, two_numbers, cpu_and_task}
 use Rattle.scx_sched_machine.specs.Custody.{tells_dequeued, leaver, tells_of, tells_each, moved_as, hears_dequeue, tells_left}
 use Rattle.scx_sched_machine.specs.Put.{enters, enqueue_choice, enters_builtin, comes_in, put}
 use Rattle.scx_sched_machine.specs.Events.{insert_or_put}
@@ -46,9 +31,10 @@ use Rattle.scx_sched_machine.specs.Cycle.{has_local, keeps_slice, supply_unless_
 use Rattle.scx_sched_machine.specs.Rounds.{most_rounds, next_to_look, cut_off_if, look_past, look_from, round, round_then, rounds, with_rounds}
 use Rattle.scx_sched_machine.specs.Start.{by_policy, blank, init_ending, bad_answer, ok_unless, after_init, begin_ending, failure, begin_with, has_by_linux, begin_by_linux, enable, then_weigh, then_enable, after_enables, then_idle, after_idles, unmarked, all_idle, then_all_idle, all_enabled, first_state}
 use Rattle.scx_sched_machine.proofs.Choices.{keeps_if}
-use Rattle.scx_sched_machine.proofs.HelperCalls.{by_helper}
-use Rattle.scx_sched.proofs.Marks.{KeepsMarks, KeepsCycles, Anywhere, kept_switch, kept_cycling, kept_kicked_so, kept_claim, kept_local, kept_entered}
-use Rattle.scx_sched.proofs.Fine.{stored_run, given_run, renewed_run}
+use Rattle.scx_sched.proofs.Marks.{KeepsMarks, KeepsCycles, Anywhere, kept_switch, kept_cycling}
+use Rattle.scx_sched.proofs.Fine.{renewed_run}
+use Rattle.scx_sched.proofs.Queries.{KeepsQueries, KeepsBuiltin, KeepsEjecting, KeepsCallbacks, off_queues, kept_marks, kept_called, kept_enter, kept_brought, kept_query, kept_put_builtin, kept_ejecting, kept_eject, kept_call_back, kept_call_by_linux}
+use Rattle.scx_sched.proofs.Written.{each_written}
 
 -- the same groups and tasks, each with the same weight of its own and the same mask, of which the
 -- same are active
@@ -74,12 +60,7 @@ times_of n w = record { many = n; most = λ u. (task_at w u).run_ns }
 
 -- another record of a task, which has run as long
 pub timed_set : (n : Times) (xs : List Task) (t : ℕ) (x : Task) → x.run_ns ≡ (get_or xs t no_task).run_ns → AreTimed n xs → AreTimed n (set xs t x)
-timed_set n xs t x same h = (length-set xs t x ∙ h.0, λ u. go u (cases_eq u t) (cases_lt t (length xs)))
-  where
-    go : (u : ℕ) → (u ≡ t) ⊎ (u ≡ t → ⊥) → (t < length xs) ⊎ (length xs ≤ t) → (get_or (set xs t x) u no_task).run_ns ≤ n.most u
-    go u (inl e) (inl within) = rw (e, get_or-set_same xs t x no_task within) (omega (arith, same, h.1 t))
-    go u (inl e) (inr past) = rw (set_past xs t x past) (h.1 u)
-    go u (inr d) l = rw (get_or-set_other xs t u x no_task d) (h.1 u)
+timed_set n xs t x same h = (length-set xs t x ∙ h.0, each_written (λ u (y : Task). y.run_ns ≤ n.most u) xs t x no_task (omega (arith, same, h.1 t)) h.1)
 
 -- a world like a tree has its groups
 pub like_groups : (h : Hierarchy) (n : Times) (c : ℕ) (w : WorldState) → IsLike h n c w → w.tree.groups ≡ h.groups
@@ -103,54 +84,16 @@ module _ (h : Hierarchy) (n : Times) (c : ℕ) where
   like_task : (w : WorldState) (t : ℕ) (x : Task) → x.run_ns ≡ (task_at w t).run_ns → IsLike h n c w → IsLike h n c (with_task w t x)
   like_task w t x same i = (i.0, timed_set n w.tasks t x same i.1, i.2)
 
+  -- each small change of a query
+  like_kept : KeepsQueries (IsLike h n c)
+  like_kept = off_queues (IsLike h n c) (λ w x other i. i) (λ w k o later i. i) (λ w t s v d i. like_task w t _ refl i) (λ w q k m a b d e r ns i. i)
+
+  like_builtin : KeepsBuiltin (IsLike h n c)
+  like_builtin w t i = like_task w t _ refl i
+
   -- processors of tasks, slices and sets of processors are no part of it
   pub like_marks : KeepsMarks Anywhere (IsLike h n c)
-  like_marks = record {
-    there = λ w d i l. tt;
-    homed = λ w t d l i. like_task w t (with_home (task_at w t) d) refl i;
-    sliced = λ w t k i. like_task w t (with_slice (task_at w t) k) refl i;
-    sets = λ w claimed kicked preempted claims i. i;
-  }
-
-  like_entered : (w : WorldState) (t : ℕ) (k : Insert) → IsLike h n c w → IsLike h n c (after_enter w t k)
-  like_entered w t k i = kept_entered Anywhere (IsLike h n c) like_marks w t k (like_task w t _ (given_run (task_at w t) k) i) i
-
-  like_released : (w : WorldState) (t : Option ℕ) (k : Insert) → IsLike h n c w → IsLike h n c (after_release w t k)
-  like_released w None k i = i
-  like_released w (Some t) k i = let x = like_entered (after_leave w t) t k i in (x.0, x.1, x.2)
-
-  like_inserted : (w : WorldState) (o : Option Fault) (t : Option ℕ) (k : Insert) → IsLike h n c w → IsLike h n c (insert_or_fault w o t k)
-  like_inserted w None t k i = keeps_if (IsLike h n c) (is_dispatch w.call.callback) (after_release w t (for_cpu w.call.cpu k)) (with_insert w k) (like_released w t (for_cpu w.call.cpu k) i) i
-  like_inserted w (Some f) t k i = i
-
-  like_moved : (w : WorldState) (o : Option ℕ) → IsLike h n c w → IsLike h n c (moved_to_local w o)
-  like_moved w None i = i
-  like_moved w (Some t) i = let x = kept_local Anywhere (IsLike h n c) like_marks (after_leave w t) w.call.cpu t tt i in (x.0, x.1, x.2)
-
-  like_brought : (o : Option ℕ) (w : WorldState) (d : ℕ) → IsLike h n c w → IsLike h n c (brought o w d)
-  like_brought None w d i = i
-  like_brought (Some t) w d i = kept_local Anywhere (IsLike h n c) like_marks (after_leave w t) d t tt i
-
-  like_helper : (w : WorldState) (f : Helper) (a : List Arg) → IsLike h n c w → IsLike h n c (helper_after w f a)
-  like_helper w f a i = by_helper (IsLike h n c) w (record {
-    same = i;
-    faulty = λ f other. i;
-    ended = λ k. i;
-    created = λ q. i;
-    inserted = λ t k flags back none. like_inserted w None t k i;
-    late = λ linux here. i;
-    claimed = λ o. kept_claim Anywhere (IsLike h n c) like_marks w o i;
-    kicked = λ d k. kept_kicked_so Anywhere (IsLike h n c) like_marks w d k i;
-    started = λ k ns. i;
-    cancelled = λ k. i;
-    moved = λ q here low. like_moved w (next_for w q w.call.cpu) i;
-    drawn = i;
-  }) f a
-
-  like_query : (w : WorldState) (q : Query) → IsLike h n c w → IsLike h n c (after_query world_functions w q)
-  like_query w (Call f a) i = like_helper w f (map argument_of a) i
-  like_query w (Load t f) i = i
-  like_query w (Store t f k) i = like_task w t.0 (stored_in (task_at w t.0) f k) (stored_run (task_at w t.0) f k) i
+  like_marks = kept_marks (IsLike h n c) like_kept
 
   pub like_stopped : (w : WorldState) (d t : ℕ) → IsLike h n c w → IsLike h n c (after_stop w d t)
   like_stopped w d t i = (i.0, timed_set n w.tasks t _ refl i.1, length-set w.cpus d None ∙ i.2)
@@ -167,54 +110,24 @@ module _ (h : Hierarchy) (n : Times) (c : ℕ) where
 
   -- ---- an ejection
 
-  like_put_builtin : (w : WorldState) (t : ℕ) → IsLike h n c w → IsLike h n c (put_builtin w t)
-  like_put_builtin w t i = keeps_if (IsLike h n c) (nat_lt t (length w.tasks)) _ w (like_task w t _ refl i) i
-
-  like_evicted : (j : ℕ) (w : WorldState) → IsLike h n c w → IsLike h n c (after_evictions j w)
-  like_evicted zero w i = i
-  like_evicted (suc j) w i =
-      let v = after_evictions j w in
-      let x = like_evicted j w i in
-      keeps_if (IsLike h n c) (waits v j) (put_builtin (after_leave v j) j) v (like_put_builtin (after_leave v j) j x) x
-
-  like_cut_task : (o : Option ℕ) (w : WorldState) → IsLike h n c w → IsLike h n c (cut_task o w)
-  like_cut_task None w i = i
-  like_cut_task (Some t) w i = like_task w t _ refl i
-
-  like_cut : (j : ℕ) (w : WorldState) → IsLike h n c w → IsLike h n c (after_cut j w)
-  like_cut zero w i = i
-  like_cut (suc j) w i = like_cut_task (running (after_cut j w) j) (after_cut j w) (like_cut j w i)
+  like_ejecting : KeepsEjecting (IsLike h n c)
+  like_ejecting = kept_ejecting (IsLike h n c) like_kept like_builtin
 
   pub like_eject : (s : State) (x : Eject) → IsLike h n c s.world → IsLike h n c (eject s x).state.world
-  unfolding eject moves_over
-  like_eject s x i =
-      let w = put_out s.world x in
-      let v = after_evictions (length w.tasks) w in
-      like_cut (length v.cpus) v (like_evicted (length w.tasks) w (i.0, i.1, i.2))
-
-  like_ejected_for : (o : Option Cause) (s : State) → IsLike h n c s.world → IsLike h n c (ejected_for o s).state.world
-  like_ejected_for None s i = i
-  like_ejected_for (Some x) s i = like_eject s _ i
+  like_eject s x i = kept_eject (IsLike h n c) like_ejecting s x (i.0, i.1, i.2)
 
   -- ---- callbacks
 
-  like_called : (p : Option VerifiedProgram) (b : Callback) (a : Args) (maps : Maps) (w : WorldState) → IsLike h n c w → IsLike h n c (call_ending p b a maps w).outside
-  unfolding call_ending run_of
-  like_called None b a maps w i = i
-  like_called (Some p) b a maps w i =
-      run_keeps (answer_to world_functions) (after_query world_functions) (IsLike h n c) like_query b p.code (suc (instruction_count p.code)) 0 (start.start (program_arguments a) maps) w i
+  like_callbacks : KeepsCallbacks (IsLike h n c)
+  like_callbacks = record { query = kept_query (IsLike h n c) like_kept; quiet = λ w i. i; out = λ w x i. i; ejecting = like_ejecting }
 
   -- a callback
   pub like_call_back : (s : State) (b : Callback) (a : Args) (t d : ℕ) → IsLike h n c s.world → IsLike h n c (call_back s b a t d).state.world
-  unfolding call_back
-  like_call_back s b a t d i =
-      let e = call_ending (acting s b) b a s.maps (at_callback s.world b t d) in
-      like_ejected_for (cause_of b e) (after_callback s.policy e) (like_called (acting s b) b a s.maps (at_callback s.world b t d) i)
+  like_call_back s b a t d i = kept_call_back (IsLike h n c) like_callbacks s b a t d i
 
   -- a callback that Linux rules call more
   pub like_call_by_linux : (s : State) (b : Callback) (a : Args) (t d : ℕ) → IsLike h n c s.world → IsLike h n c (call_by_linux s b a t d).state.world
-  unfolding call_by_linux
-  like_call_by_linux s b a t d i = keeps_if (λ (r : Stepped). IsLike h n c r.state.world) (is_by_linux s && is_some (program_of s.policy b)) (call_back s b a t d) (stays s) (like_call_back s b a t d i) i
+  like_call_by_linux s b a t d i = kept_call_by_linux (IsLike h n c) like_callbacks s b a t d i i
 
   -- the policy hears that a task left its custody
   pub like_dequeued : (s : State) (t d flags : ℕ) → IsLike h n c s.world → IsLike h n c (tells_dequeued s t d flags).state.world
@@ -266,7 +179,7 @@ module _ (h : Hierarchy) (n : Times) (c : ℕ) where
   unfolding comes_in enters enters_builtin
   like_comes_in s t d i =
       let k = enqueue_choice s.policy.callbacks.enqueue d s.world.call.insert in
-      keeps_if (λ (r : Stepped). IsLike h n c r.state.world) (is_ejected s) (enters_builtin s t) (enters s t k) (like_put_builtin s.world t i) (like_entered s.world t k i)
+      keeps_if (λ (r : Stepped). IsLike h n c r.state.world) (is_ejected s) (enters_builtin s t) (enters s t k) (kept_put_builtin (IsLike h n c) like_kept like_builtin s.world t i) (kept_enter (IsLike h n c) like_kept s.world t k i)
 
   pub like_put : (s : State) (t d flags : ℕ) → IsLike h n c s.world → IsLike h n c (put s t d flags).state.world
   unfolding put
@@ -278,11 +191,11 @@ module _ (h : Hierarchy) (n : Times) (c : ℕ) where
   pub like_settled : (o : Option Insert) (s : State) (t d : ℕ) → IsLike h n c s.world → IsLike h n c (insert_or_put o s t d).state.world
   unfolding enters
   like_settled None s t d i = like_put s t d 1 i
-  like_settled (Some k) s t d i = like_entered s.world t (for_cpu d k) i
+  like_settled (Some k) s t d i = kept_enter (IsLike h n c) like_kept s.world t (for_cpu d k) i
 
   like_fill : (s : State) (q d : ℕ) → IsLike h n c s.world → IsLike h n c (fill s q d).state.world
   unfolding fill
-  like_fill s q d i = like_brought (fill_front s.world q d) s.world d i
+  like_fill s q d i = kept_brought (IsLike h n c) like_kept (fill_front s.world q d) s.world d i
 
   -- ---- parking
 
@@ -383,7 +296,7 @@ module _ (h : Hierarchy) (n : Times) (c : ℕ) where
 
   like_put_back : (s : State) (d t : ℕ) → IsLike h n c s.world → IsLike h n c (put_back s d t).state.world
   unfolding put_back enters
-  like_put_back s d t i = keeps_if (λ (r : Stepped). IsLike h n c r.state.world) (keeps_slice s (Some t)) (enters s t (to_front d)) (put s t d 0) (like_entered s.world t (to_front d) i) (like_put s t d 0 i)
+  like_put_back s d t i = keeps_if (λ (r : Stepped). IsLike h n c r.state.world) (keeps_slice s (Some t)) (enters s t (to_front d)) (put s t d 0) (kept_enter (IsLike h n c) like_kept s.world t (to_front d) i) (like_put s t d 0 i)
 
   like_leave : (s : State) (d : ℕ) (p : Option ℕ) → IsLike h n c s.world → IsLike h n c (leave s d p).state.world
   unfolding leave
@@ -553,7 +466,7 @@ module _ (h : Hierarchy) (n : Times) (c : ℕ) where
   like_initialized s t e i = go (bad_answer (init_ending s).outside.call.cause (init_ending s).answer) e
     where
       after : IsLike h n c (after_callback s.policy (init_ending s)).world
-      after = like_called (acting s callback.Init) callback.Init no_arguments s.maps (at_callback s.world callback.Init 0 0) i
+      after = kept_called (IsLike h n c) (kept_query (IsLike h n c) like_kept) (acting s callback.Init) callback.Init no_arguments s.maps (at_callback s.world callback.Init 0 0) i
 
       go : (o : Option ℤ) → ok_unless o (after_callback s.policy (init_ending s)) ≡ Ok t → IsLike h n c t.world
       go None e = subst (λ (x : State). IsLike h n c x.world) (same_ok _ _ e) after
@@ -564,7 +477,7 @@ module _ (h : Hierarchy) (n : Times) (c : ℕ) where
   like_begun s t b a k d e i = go (failure (begin_ending s b a k d).outside.call.cause (begin_ending s b a k d).answer) e
     where
       after : IsLike h n c (after_callback s.policy (begin_ending s b a k d)).world
-      after = like_called (acting s b) b a s.maps (at_callback s.world b k d) i
+      after = kept_called (IsLike h n c) (kept_query (IsLike h n c) like_kept) (acting s b) b a s.maps (at_callback s.world b k d) i
 
       go : (o : Option ℤ) → ok_unless o (after_callback s.policy (begin_ending s b a k d)) ≡ Ok t → IsLike h n c t.world
       go None e = subst (λ (x : State). IsLike h n c x.world) (same_ok _ _ e) after

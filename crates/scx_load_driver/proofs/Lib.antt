@@ -12,3 +12,5 @@ pub mod Quiet
 pub mod Sleeping
 pub mod Remaining
 pub mod Calm
+pub mod Going
+pub mod Whole

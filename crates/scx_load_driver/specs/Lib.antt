@@ -7,3 +7,4 @@ pub mod Changes
 pub mod Watch
 pub mod Driver
 pub mod Laws
+pub mod Headline

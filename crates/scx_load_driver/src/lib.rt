@@ -8,13 +8,21 @@
 //!
 //! Few tasks are looked at for an event. A `Calendar` has the tasks of each day, which is a remainder of the
 //! millisecond in which they wake, and a driver watches only the tasks that may have run enough.
+//!
+//! The headline: for every policy whose callbacks `verify` accepts and every list of events, the recorded
+//! run is the machine's; in it no callback is ever stuck or takes more steps than it has instructions,
+//! every runnable task appears exactly once on a processor or in a queue, and while the policy is in force
+//! no task has waited longer than its limit. `run_events` does such a run, and its contract says so. The
+//! contracts of `simulate` and `report` say it of the runs that they write of.
 #![tactic(auto)]
 
 mod blocks;
 mod calendar;
 mod driver;
 mod laws;
+mod run;
 mod set;
 
 pub use driver::{Driver, Phase};
 pub use laws::no_event_is_refused;
+pub use run::run_events;

@@ -11,8 +11,8 @@ mod slots;
 mod toml_fault;
 mod values;
 
-pub use lines::place_of_line;
+pub use lines::{place_in_line, place_of_line};
 pub use place::{Place, line_at};
 pub use search::place_of_key;
-pub use slots::place_of_slot;
+pub use slots::{place_of_slot, text_at};
 pub use toml_fault::{TomlFault, first_toml_fault};

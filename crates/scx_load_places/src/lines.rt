@@ -11,6 +11,39 @@ pub fn place_of_line(alloc: Global, text: &str, path: &str, line: usize) -> Opti
     Some(place_at(text, begin.saturating_add(within)))
 }
 
+/// The place of a byte of a line, from 1, of the text that is the value of a key: `at` bytes after the first one of the
+/// line that isn't blank. None where there is no such key with a text.
+pub fn place_in_line(
+    alloc: Global,
+    text: &str,
+    path: &str,
+    line: usize,
+    at: usize,
+) -> Option<Place> {
+    let value = find(alloc, text, path)?.value_at(path)?;
+    let begin = text.len().saturating_sub(value.len());
+    let within = begin_of_line(value, line);
+    let far = written_length(value.get(within..)?, at, quotes_of(value).has_escapes);
+    Some(place_at(text, begin.saturating_add(within).saturating_add(far)))
+}
+
+/// The number of bytes that the first `count` bytes of a string take as it is written.
+fn written_length(written: &str, count: usize, has_escapes: bool) -> usize {
+    let mut last = Last::Character;
+    let mut met = 0usize;
+    for (at, byte) in written.as_bytes().iter().enumerate() {
+        if met >= count {
+            return at;
+        }
+        let now = next(last, *byte, has_escapes);
+        if now == Last::Character {
+            met = met.saturating_add(1);
+        }
+        last = now;
+    }
+    written.len()
+}
+
 /// The quoting of a TOML string.
 #[derive(Clone, Copy)]
 struct Quotes {
@@ -38,9 +71,9 @@ fn opening(value: &str) -> usize {
     }
 }
 
-/// The context of a byte: the bytes before it.
+/// The last thing before a byte.
 #[derive(Clone, Copy, PartialEq, Eq)]
-enum Behind {
+enum Last {
     Character,
     /// A backslash.
     Backslash,
@@ -51,38 +84,38 @@ enum Behind {
 /// The offset, in the string as it is written, at which that line of its text begins. Lines count from 1.
 fn begin_of_line(value: &str, line: usize) -> usize {
     let quotes = quotes_of(value);
-    let mut behind = Behind::Character;
+    let mut last = Last::Character;
     let mut number = 1usize;
     for (at, byte) in value.as_bytes().iter().enumerate() {
         if at >= quotes.opening {
             if number >= line && !is_blank(*byte) {
                 return at;
             }
-            if ends_line(behind, *byte) {
+            if ends_line(last, *byte) {
                 number = number.saturating_add(1);
             }
-            behind = next(behind, *byte, quotes.has_escapes);
+            last = next(last, *byte, quotes.has_escapes);
         }
     }
     value.len()
 }
 
 /// True if a line of the string's text ends with that byte.
-fn ends_line(behind: Behind, byte: u8) -> bool {
-    match behind {
-        Behind::Character => byte == b'\n',
-        Behind::Backslash => byte == b'n',
-        Behind::Joint => false,
+fn ends_line(last: Last, byte: u8) -> bool {
+    match last {
+        Last::Character => byte == b'\n',
+        Last::Backslash => byte == b'n',
+        Last::Joint => false,
     }
 }
 
-fn next(behind: Behind, byte: u8, has_escapes: bool) -> Behind {
-    match behind {
-        Behind::Backslash if byte == b'\n' || is_blank(byte) => Behind::Joint,
-        Behind::Backslash => Behind::Character,
-        Behind::Joint if byte == b'\n' || is_blank(byte) => Behind::Joint,
-        _ if byte == b'\\' && has_escapes => Behind::Backslash,
-        _ => Behind::Character,
+fn next(last: Last, byte: u8, has_escapes: bool) -> Last {
+    match last {
+        Last::Backslash if byte == b'\n' || is_blank(byte) => Last::Joint,
+        Last::Backslash => Last::Character,
+        Last::Joint if byte == b'\n' || is_blank(byte) => Last::Joint,
+        _ if byte == b'\\' && has_escapes => Last::Backslash,
+        _ => Last::Character,
     }
 }
 

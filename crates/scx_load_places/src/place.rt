@@ -13,7 +13,7 @@ pub struct Place {
 pub(crate) fn place_at(text: &str, offset: usize) -> Place {
     let mut place = Place { line: 1, column: 1 };
     for byte in before(text, offset) {
-        place = behind(place, *byte);
+        place = moved_past(place, *byte);
     }
     place
 }
@@ -25,7 +25,7 @@ fn before(text: &str, offset: usize) -> &[u8] {
 }
 
 /// The place after a byte. Only the first byte of a character counts.
-fn behind(place: Place, byte: u8) -> Place {
+fn moved_past(place: Place, byte: u8) -> Place {
     if byte == b'\n' {
         Place {
             line: place.line.saturating_add(1),

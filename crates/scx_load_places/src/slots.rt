@@ -11,11 +11,15 @@ use toml_parser::{quoted, starts_string};
 /// The place of the line of assembler text whose instruction takes a slot. The text is the value of the key at that
 /// path; none where there is no such text.
 pub fn place_of_slot(alloc: Global, text: &str, path: &str, slot: usize) -> Option<Place> {
-    let value = find(alloc, text, path)?.value_at(path)?;
-    let code = string_of(alloc, value)?;
+    let code = text_at(alloc, text, path)?;
     let line = line_of_slot(alloc, &code, slot);
     drop(code);
     place_of_line(alloc, text, path, line?)
+}
+
+/// The text that is the value of the key at that path. None where there is no such text.
+pub fn text_at(alloc: Global, text: &str, path: &str) -> Option<String> {
+    string_of(alloc, find(alloc, text, path)?.value_at(path)?)
 }
 
 fn string_of(alloc: Global, value: &str) -> Option<String> {

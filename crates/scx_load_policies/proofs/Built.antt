@@ -1,5 +1,5 @@
 -- What is verified callback by callback is all verified, or is refused at the first that isn't safe.
-use Rattle.std.proofs.Common.{◌≡◌, List, [], ◌∷◌, Option, Some, None, Result, Ok, Err, IfOk, IfErr, refl}
+use Rattle.std.proofs.Common.{List, [], ◌∷◌, Option, Some, None, Result, Ok, Err, IfOk, IfErr, refl}
 use denote.Param.Members.{Shared}
 use Rattle.std.specs.Fn.{FnReturns}
 use Rattle.scx_isa_semantics.specs.Code.{Code}

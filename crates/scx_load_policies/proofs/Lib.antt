@@ -1,4 +1,3 @@
-mod Keys
 mod Timing
 mod Within
 mod Built

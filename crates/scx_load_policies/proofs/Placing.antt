@@ -1,5 +1,5 @@
 -- The programs of the callbacks, as a loop puts one after another into its place.
-use Rattle.std.proofs.Common.{◌≡◌, ℕ, ◌+◌, ◌<◌, List, drop, length, get_or, string_bytes, Option, None, Ok, Err, refl, sym, ap, ◌∙◌}
+use Rattle.std.proofs.Common.{◌≡◌, ℕ, ◌+◌, ◌<◌, drop, length, get_or, string_bytes, Option, Ok, Err, refl, sym, ap, ◌∙◌}
 use Rattle.std.proofs.lemmas.List.{at_drop_more}
 use Rattle.scx_isa_semantics.specs.Code.{Code}
 use Rattle.scx_isa_semantics.specs.Results.{◌>>=◌}

@@ -18,7 +18,7 @@ use Rattle.scx_load_files.specs.Paths.{below, element}
 use Rattle.scx_load_files.specs.Values.{found_or, integer_of, table_of, elements_of, item_count, each_from, required, optional}
 use Rattle.scx_load_files.proofs.Counts.{count_of_view}
 use Rattle.scx_load_policies.specs.Reading.{tick_limits, tick_in}
-use Rattle.scx_load_policies.specs.Maps.{entry_limits, size_limits, shape_in, map_at, fitting}
+use Rattle.scx_load_policies.specs.Maps.{entry_limits, size_limits, kind_in, shape_in, map_at, fitting}
 
 -- ---- readings that gave a value
 
@@ -86,10 +86,11 @@ ticks_given ms (Err e) g = tt
 shape_within : (path : List ℕ) (ms : Members) (s : Shape) → shape_in path ms ≡ Ok s → IsWithinLimits s
 shape_within path ms s e =
     let (n, entries, rest) = bind_ok (required (integer_of entry_limits) path (codes "entries") ms) _ s e in
-    let (m, size, made) = bind_ok (required (integer_of size_limits) path (codes "value_size") ms) _ s rest in
+    let (m, size, more) = bind_ok (required (integer_of size_limits) path (codes "value_size") ms) _ s rest in
+    let (kind, found, made) = bind_ok (kind_in path ms) _ s more in
     let (low, high) = required_in entry_limits path (codes "entries") ms n entries in
     let (low', high') = required_in size_limits path (codes "value_size") ms m size in
-    let limits : IsWithinLimits (record { entries = n; value_size = m }) = record { entries = record { some = low; within = high }; value_size = record { some = low'; within = high' } } in
+    let limits : IsWithinLimits (record { entries = n; value_size = m; kind = kind }) = record { entries = record { some = low; within = high }; value_size = record { some = low'; within = high' } } in
     subst IsWithinLimits (ap (value_or s) made) limits
 
 map_within : (n : ℕ) (d : Data) (s : Shape) → map_at n d ≡ Ok s → IsWithinLimits s

@@ -1,11 +1,9 @@
 -- The result of `build` for a policy file: the policy of its programs, each verified as its
 -- callback, or the first callback, in their order, whose program is refused.
-use Rattle.std.specs.Prelude.{◌≡◌, ◌≢◌, ℕ, ⊤, List, [], ◌∷◌, Option, Some, None, option_map, All}
-use Rattle.scx_maps.specs.declared.shape.Shape.{Shape}
+use Rattle.std.specs.Prelude.{◌≡◌, ◌≢◌, ℕ, ⊤, List, [], ◌∷◌, Option, Some, None, option_map}
 use Rattle.scx_isa_semantics.specs.Code.{Code}
 use Rattle.scx_isa.specs.Flow.{Flows}
 use Rattle.scx_isa_semantics.specs.declared.callbacks.Callback.{Callback}
-use Rattle.scx_isa_semantics.specs.declared.rules.Rules.{Rules}
 use Rattle.scx_vm.specs.declared.context.Context.{Context}
 use Rattle.scx_isa_semantics.specs.Callbacks.{at, earlier}
 use Rattle.scx_verify.specs.declared.faults.Fault.{Fault}

@@ -27,9 +27,10 @@ file_keys Linux =
     codes "name" ∷ codes "timeout_ms" ∷ codes "rules" ∷ codes "tick_ms" ∷ codes "keep_idle"
     ∷ codes "map" ∷ codes "timer" ∷ codes "code" ∷ codes "slots" ∷ []
 
--- the keys that an element of the array `map` may have
-abbrev pub map_keys : List (List ℕ)
-map_keys = codes "entries" ∷ codes "value_size" ∷ []
+-- the keys that an element of the array `map` may have by those rules
+abbrev pub map_keys : Rules → List (List ℕ)
+map_keys Plain = codes "entries" ∷ codes "value_size" ∷ []
+map_keys Linux = codes "entries" ∷ codes "value_size" ∷ codes "kind" ∷ codes "key_size" ∷ []
 
 -- the keys that an element of the array `timer` may have
 abbrev pub timer_keys : List (List ℕ)
@@ -63,12 +64,13 @@ rules_meant ms = or_plain (rules_in ms)
 
 -- ---- unknown keys
 
--- the paths of all unknown keys of a file that may have these keys, and whose programs may have
--- those
-abbrev pub unknown_beside : List (List ℕ) → List (List ℕ) → Members → List (List ℕ)
-unknown_beside keys callbacks ms =
+-- the paths of all unknown keys of a file that may have these keys, whose maps may have those, and
+-- whose programs the last ones
+abbrev pub unknown_beside :
+    List (List ℕ) → List (List ℕ) → List (List ℕ) → Members → List (List ℕ)
+unknown_beside keys of_maps callbacks ms =
     unknown keys [] ms
-    ++ unknown_in_each map_keys [] (codes "map") ms
+    ++ unknown_in_each of_maps [] (codes "map") ms
     ++ unknown_in_each timer_keys [] (codes "timer") ms
     ++ unknown_in callbacks [] (codes "code") ms
     ++ unknown_in callbacks [] (codes "slots") ms
@@ -76,7 +78,8 @@ unknown_beside keys callbacks ms =
 -- the paths of all unknown keys of a file; which keys and callbacks are known its rules say
 abbrev pub unknown_keys : Members → List (List ℕ)
 unknown_keys ms =
-    unknown_beside (file_keys (rules_meant ms)) (callback_keys (rules_meant ms)) ms
+    unknown_beside (file_keys (rules_meant ms)) (map_keys (rules_meant ms))
+    (callback_keys (rules_meant ms)) ms
 
 -- ---- the values
 

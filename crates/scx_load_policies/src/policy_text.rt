@@ -2,7 +2,7 @@ ghost use Rattle.std.specs.Prelude.{◌≡◌, ◌≤◌, map, string_bytes};
 ghost use Rattle.scx_isa_semantics.specs.declared.rules.Rules.TheVariants.{Plain, Linux};
 ghost use Rattle.scx_sched_machine.specs.Policy.{IsTimeout};
 ghost use Rattle.scx_load_policies.specs.Policies.{IsTick, max_timers, callback_keys, program_of, without};
-ghost use Rattle.scx_load_policies.specs.Reading.{file_keys};
+ghost use Rattle.scx_load_policies.specs.Reading.{file_keys, map_keys};
 
 use scx_isa::{Callback, PerCallback, Program, Rules};
 use scx_maps::MapDefs;
@@ -186,4 +186,18 @@ pub(crate) fn linux_file_keys() -> [&'static str; 9]
         "code",
         "slots",
     ]
+}
+
+/// The keys of a map that plain rules know.
+pub(crate) fn plain_map_keys() -> [&'static str; 2]
+    ensures { map (λ key. key.now) result ≡ map_keys Plain }
+{
+    ["entries", "value_size"]
+}
+
+/// The keys of a map that Linux rules know.
+pub(crate) fn linux_map_keys() -> [&'static str; 4]
+    ensures { map (λ key. key.now) result ≡ map_keys Linux }
+{
+    ["entries", "value_size", "kind", "key_size"]
 }

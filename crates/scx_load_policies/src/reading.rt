@@ -9,7 +9,8 @@ ghost use Rattle.scx_load_policies.specs.Reading.{rules_meant, or_plain, unknown
 
 use crate::maps::read_maps;
 use crate::policy_text::{
-    PolicyText, Programs, linux_file_keys, linux_keys, plain_file_keys, plain_keys,
+    PolicyText, Programs, linux_file_keys, linux_keys, linux_map_keys, plain_file_keys, plain_keys,
+    plain_map_keys,
 };
 use crate::programs::{put_code, put_slots};
 use crate::timers::read_timers;
@@ -67,8 +68,24 @@ fn check_keys(alloc: Global, file: Section<'_>) -> Result<(), LoadError>
     ensures { Gives (λ t. t) result (known_alone (unknown_keys (table_view file.entry.table.now))) }
 {
     match rules_meant(file) {
-        Rules::Plain => check_beside(alloc, file, &plain_file_keys(), &plain_keys()),
-        Rules::Linux => check_beside(alloc, file, &linux_file_keys(), &linux_keys()),
+        Rules::Plain => {
+            check_beside(
+                alloc,
+                file,
+                &plain_file_keys(),
+                &plain_map_keys(),
+                &plain_keys(),
+            )
+        }
+        Rules::Linux => {
+            check_beside(
+                alloc,
+                file,
+                &linux_file_keys(),
+                &linux_map_keys(),
+                &linux_keys(),
+            )
+        }
     }
 }
 
@@ -102,17 +119,18 @@ fn check_beside(
     alloc: Global,
     file: Section<'_>,
     keys: &[&str],
+    of_maps: &[&str],
     callbacks: &[&str],
 ) -> Result<(), LoadError>
     requires { file.path.now ≡ [] }
     ensures { Gives (λ t. t) result
         (known_alone
-        (unknown_beside (words keys.now) (words callbacks.now)
+        (unknown_beside (words keys.now) (words of_maps.now) (words callbacks.now)
         (table_view file.entry.table.now))) }
 {
     let unknown = Unknown::none()
         .in_section(alloc, file, keys)?
-        .below_each(alloc, file, "map", &["entries", "value_size"])?
+        .below_each(alloc, file, "map", of_maps)?
         .below_each(alloc, file, "timer", &["name"])?
         .below(alloc, file, "code", callbacks)?
         .below(alloc, file, "slots", callbacks)?;

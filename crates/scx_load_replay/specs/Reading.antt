@@ -1,6 +1,6 @@
--- The reading of a file of events: unknown keys first, wherever they are; then `cpus`, `ms`, `seed`,
--- the groups and the tasks as in a workload, and `events`, line by line. Rules are those by which the
--- policy that it is read for goes.
+-- The reading of a file of events: unknown keys first, wherever they are; then `cpus`, `ms`,
+-- `seed`, the groups and the tasks as in a workload, and `events`, line by line. Rules are those by
+-- which the policy that it is read for goes.
 use Rattle.std.specs.Prelude.{ℕ, ◌+◌, ⊤, List, [], ◌∷◌, ◌++◌, Result, Ok, Err, codes}
 use Rattle.std.specs.Str.Lines.{lines}
 use Rattle.toml.specs.Data.{Members}

@@ -1,4 +1,4 @@
-use Rattle.std.proofs.Common.{[], codes, arith}
+use Rattle.std.proofs.Common.{codes, arith}
 use Rattle.toml.specs.View.{table_view}
 use Rattle.scx_load_policies.specs.Reading.{timeout_limits}
 use Rattle.scx_load_policies.proofs.Within.{optional_in}
