@@ -4,7 +4,8 @@ use Rattle.std.proofs.lemmas.Option.{same_Some}
 use Rattle.scx_isa_semantics.specs.declared.host_tables.Field.{Field}
 use Rattle.scx_isa_semantics.specs.declared.host_tables.Field.TheVariants.{Pid, Weight, Slice, DsqVtime, PrevCpu, Group, RunNs, Cpus}
 use Rattle.scx_isa_semantics.specs.declared.host_tables.Helper.{Helper}
-use Rattle.scx_isa_semantics.specs.declared.host_tables.Helper.TheVariants.{MapLookupElem}
+use Rattle.scx_isa_semantics.specs.declared.host_tables.Helper.TheVariants.{MapLookupElem, OnMap}
+use Rattle.scx_isa_semantics.specs.declared.host_tables.MapHelper.TheVariants.{Update}
 use Rattle.scx_isa_semantics.specs.HostTables.{field_offset, helpers, helper_number}
 use Rattle.scx_isa_semantics.specs.Tables.{first_with_code}
 
@@ -15,6 +16,8 @@ told_apart code all found x y e = same_Some x y (sym (found x) ∙ ap (λ n. fir
 -- each helper is found by its number
 helper_of : (h : Helper) → first_with_code helper_number helpers (helper_number h) ≡ Some h
 helper_of MapLookupElem = refl
+helper_of (OnMap Update) = refl
+helper_of (OnMap g) = refl
 helper_of h = refl
 
 -- no two have one number

@@ -228,7 +228,7 @@ queried w (Store t f n) fine h = h
 fine_insn : (c : Callback) (o : Option Insn) → inserts_by_vtime o ≡ false → MayAskAt IsFine stores_fine c o
 fine_insn c None e = tt
 fine_insn c (Some (insn.Load a d b offset)) e = λ t f is. tt
-fine_insn c (Some (insn.Call k)) e = λ f v is free. subst (λ o. is_by_vtime o ≡ false) is e
+fine_insn c (Some (insn.Call k)) e = (λ f v is free. subst (λ o. is_by_vtime o ≡ false) is e, λ f is free. refl)
 fine_insn c (Some i) e = tt
 
 -- a callback's program is run

@@ -13,17 +13,20 @@ use Rattle.scx_isa_semantics.specs.declared.values.Value.TheVariants as value
 use Rattle.scx_isa_semantics.specs.declared.callbacks.Callback.{Callback}
 use Rattle.scx_isa_semantics.specs.declared.host_tables.Field.{Field}
 use Rattle.scx_isa_semantics.specs.declared.host_tables.Helper.{Helper}
-use Rattle.scx_isa_semantics.specs.declared.host_tables.Helper.TheVariants.{MapLookupElem}
+use Rattle.scx_isa_semantics.specs.declared.host_tables.Helper.TheVariants.{MapLookupElem, SmpProcessorId, OnMap}
 use Rattle.scx_isa_semantics.specs.declared.host_tables.TaskId.{TaskId}
 use Rattle.scx_isa_semantics.specs.Registers.{number}
 use Rattle.scx_isa_semantics.specs.Arithmetic.{negative, sign_extension, byte_swapped, wide_immediate, at_distance}
 use Rattle.scx_isa_semantics.specs.Memory.{Stack, size_bytes, access_size, read_as, load, store}
-use Rattle.scx_isa_semantics.specs.Elements.{Maps, element, number_at}
+use Rattle.scx_isa_semantics.specs.declared.callbacks.Callback.TheVariants as callback
+use Rattle.scx_isa_semantics.specs.Elements.{Maps, directory, element, number_at}
 use Rattle.scx_isa_semantics.specs.HostTables.{field_at, helper_at, parameters, is_allowed, is_writable, answers}
 use Rattle.scx_isa_semantics.specs.Locations.{Location, Nowhere, OnStack, InElement, InTask, on_stack, in_element, in_task, address}
 use Rattle.scx_isa_semantics.specs.Code.{Code, at}
 use Rattle.scx_isa_semantics.specs.Machine.{Machine}
-use Rattle.scx_isa_semantics.specs.Calls.{takes_all, key, looked_up, call_effect, call_helper}
+use Rattle.scx_isa_semantics.specs.Calls.{takes_all, map_at_hand, key, nothing_given, asks_here, map_effect, looked_up_in, looked_up, call_effect, call_helper}
+use Rattle.scx_isa_semantics.specs.Directories as directories
+use Rattle.scx_isa_semantics.specs.Directories.{Directory}
 use Rattle.scx_isa_semantics.specs.Effects.{Query, Call, Load, Store, Effect, set_register, set_register_by_answer, set_stack, branch}
 use Rattle.scx_isa_semantics.specs.Effects as effect
 use Rattle.scx_isa_semantics.specs.Meaning.{operand_value, binary, on_number, map_reference, is_plain, load_effect, number_stored, pointer_stored, store_effect, comparison_answer, end_with, act}
@@ -52,7 +55,7 @@ module _ (P : Query → Type 0) (stores : (t : TaskId) (f : Field) (n : ℕ) →
   -- it holds of each query that an instruction may make, but for stores
   abbrev pub MayAsk : Callback → Insn → Type 0
   MayAsk c (insn.Load a d b offset) = (t : TaskId) (f : Field) → field_at (size_bytes (access_size a)) (at_distance 0 offset) ≡ Some f → P (Load t f)
-  MayAsk c (insn.Call k) = (f : Helper) (v : List Value) → helper_at k ≡ Some f → is_allowed f c ≡ true → P (Call f v)
+  MayAsk c (insn.Call k) = ((f : Helper) (v : List Value) → helper_at k ≡ Some f → is_allowed f c ≡ true → P (Call f v)) × ((f : Helper) → helper_at k ≡ Some f → is_allowed f c ≡ true → P (Call SmpProcessorId nothing_given))
   MayAsk c i = Unit {0}
 
   -- the same of what begins at a slot
@@ -126,21 +129,33 @@ module _ (P : Query → Type 0) (stores : (t : TaskId) (f : Field) (n : ℕ) →
   of_end (value.Pointer p) = tt
   of_end value.Unset = tt
 
-  of_look_up : (m : Machine) (v : Value) (o : Option ℕ) → AsksOpen (looked_up m v o)
-  of_look_up m (value.Pointer (pointer.Map k)) (Some n) = tt
-  of_look_up m (value.Pointer (pointer.Map k)) None = tt
-  of_look_up m v o = tt
+  -- a helper on a map asks for the CPU at hand at most
+  of_map : (m : Machine) (f : Helper) → P (Call SmpProcessorId nothing_given) → AsksOpen (map_effect m f)
+  of_map m f here = of_two (asks_here f (directory m.maps (map_at_hand m))) _ _ here tt
 
-  of_helper : (m : Machine) (f : Helper) → ((v : List Value) → P (Call f v)) → AsksOpen (call_effect m f)
-  of_helper m MapLookupElem e = of_look_up m (m.registers 1) (key m (m.registers 2))
-  of_helper m f e = e _
+  of_look_up : (m : Machine) (v : Value) (o : Option ℕ) → P (Call SmpProcessorId nothing_given) → AsksOpen (looked_up m v o)
+  of_look_up m (value.Pointer (pointer.Map k)) (Some n) here = go (directory m.maps k)
+    where
+      go : (d : Directory) → AsksOpen (looked_up_in m k n d)
+      go directories.Array = tt
+      go directories.PerCpu = of_map m MapLookupElem here
+      go (directories.Hash s ks) = of_map m MapLookupElem here
+      go (directories.Queue l) = of_map m MapLookupElem here
+      go (directories.Stack l) = of_map m MapLookupElem here
+  of_look_up m (value.Pointer (pointer.Map k)) None here = tt
+  of_look_up m v o here = tt
 
-  of_call : (c : Callback) (m : Machine) (o : Option Helper) → ((f : Helper) (v : List Value) → o ≡ Some f → is_allowed f c ≡ true → P (Call f v)) → AsksOpen (call_helper c m o)
-  of_call c m None e = tt
-  of_call c m (Some f) e = go (is_allowed f c) (takes_all m (parameters f) 1) refl
+  of_helper : (m : Machine) (f : Helper) → ((v : List Value) → P (Call f v)) → P (Call SmpProcessorId nothing_given) → AsksOpen (call_effect m f)
+  of_helper m MapLookupElem e here = of_look_up m (m.registers 1) (key m (m.registers 2)) here
+  of_helper m (OnMap g) e here = of_map m (OnMap g) here
+  of_helper m f e here = e _
+
+  of_call : (c : Callback) (m : Machine) (o : Option Helper) → ((f : Helper) (v : List Value) → o ≡ Some f → is_allowed f c ≡ true → P (Call f v)) → ((f : Helper) → o ≡ Some f → is_allowed f c ≡ true → P (Call SmpProcessorId nothing_given)) → AsksOpen (call_helper c m o)
+  of_call c m None e here = tt
+  of_call c m (Some f) e here = go (is_allowed f c) (takes_all m (parameters f) 1) refl
     where
       go : (b d : Bool) → is_allowed f c ≡ b → AsksOpen (if b && d then call_effect m f else effect.Stuck)
-      go true true free = of_helper m f (λ v. e f v refl free)
+      go true true free = of_helper m f (λ v. e f v refl free) (here f refl free)
       go true false free = tt
       go false d free = tt
 
@@ -156,7 +171,7 @@ module _ (P : Query → Type 0) (stores : (t : TaskId) (f : Field) (n : ℕ) →
   of_instruction c (insn.JumpIf w k r x offset) m e = of_branch m (comparison_answer m w k (m.registers (number r)) x)
   of_instruction c (insn.Goto offset) m e = tt
   of_instruction c (insn.GotoLong offset) m e = tt
-  of_instruction c (insn.Call k) m e = of_call c m (helper_at k) e
+  of_instruction c (insn.Call k) m e = of_call c m (helper_at k) e.0 e.1
   of_instruction c insn.Exit m e = of_two (answers c) _ _ (of_end (m.registers 0)) tt
 
   of_goes : (o : Option ℕ) (m : Machine) → StepsOpen (goes o m)
@@ -202,9 +217,14 @@ IsAllowed c q = Unit {0}
 pub stores_allowed : (c : Callback) (t : TaskId) (f : Field) (n : ℕ) → IsAllowed c (Store t f n)
 stores_allowed c t f n = tt
 
+-- where a helper may be called the CPU at hand may be asked for
+here_allowed : (c : Callback) (f : Helper) → is_allowed f c ≡ true → is_allowed SmpProcessorId c ≡ true
+here_allowed callback.Plain f e = absurd (cc)
+here_allowed c f e = refl
+
 -- no instruction calls another one
 pub asks_allowed : (c : Callback) (o : Option Insn) → MayAskAt (IsAllowed c) (stores_allowed c) c o
 asks_allowed c None = tt
 asks_allowed c (Some (insn.Load a d b offset)) = λ t f is. tt
-asks_allowed c (Some (insn.Call k)) = λ f v is free. free
+asks_allowed c (Some (insn.Call k)) = (λ f v is free. free, λ f is free. here_allowed c f free)
 asks_allowed c (Some i) = tt

@@ -24,7 +24,7 @@ module _ (h : Hidden) where
   open_insn : (c : Callback) (o : Option Insn) → may_read h o ≡ false → MayAskAt (IsOpen h) (λ t f n. tt) c o
   open_insn c None e = tt
   open_insn c (Some (insn.Load a d b offset)) e = λ t f is. subst (λ o. is_hidden_field h o ≡ false) is e
-  open_insn c (Some (insn.Call k)) e = λ f v is free. tt
+  open_insn c (Some (insn.Call k)) e = (λ f v is free. tt, λ f is free. tt)
   open_insn c (Some i) e = tt
 
   asks_open : (c : Callback) (code : Code) → IsUnreadBy h code → (s : ℕ) (m : Machine) → StepsOpen (IsOpen h) (λ t f n. tt) (step c code s m)

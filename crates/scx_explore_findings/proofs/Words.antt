@@ -1,9 +1,8 @@
 -- The words of a state don't depend on what is hidden, where that is left out of them.
-use Rattle.std.proofs.Common.{◌≡◌, ℕ, zero, suc, ◌+◌, ◌*◌, ◌/◌, ◌%◌, ◌||◌, if◌then◌else◌, not, min, Bool, true, false, cond, nat_lt, List, [], ◌∷◌, ◌++◌, length, Option, refl, sym, ap, ◌∙◌, subst}
+use Rattle.std.proofs.Common.{◌≡◌, ℕ, zero, suc, ◌+◌, ◌*◌, ◌%◌, ◌||◌, if◌then◌else◌, not, min, Bool, true, false, cond, nat_lt, List, [], ◌∷◌, ◌++◌, length, Option, refl, sym, ap, ◌∙◌, subst}
 use Rattle.scx_dsq.specs.declared.entries.Entry.{Entry}
 use Rattle.scx_dsq.specs.Queues.{entry_of}
 use Rattle.scx_weights.specs.Hierarchy as tree
-use Rattle.scx_maps.specs.Lending.{all_bytes}
 use Rattle.scx_sched_tasks.specs.declared.task.Task.{Task}
 use Rattle.scx_sched_tasks.specs.Waits.{time_since}
 use Rattle.scx_sched_world.specs.World.{WorldState, are_linux, task_at, cpu_of}
@@ -11,7 +10,7 @@ use Rattle.scx_sched_world.specs.Helpers.{cpus_of, alarm_at}
 use Rattle.scx_sched.specs.Sim.{SimState}
 use Rattle.scx_explore_states.specs.declared.form.Form.{Form}
 use Rattle.scx_explore_states.specs.Rows.{kept, is_by_vtime, ahead_of, entries_of, place_of, is_idle, spot_of, bit_of, row_of, no_row, task_row, rows_of}
-use Rattle.scx_explore_states.specs.Written.{home_at, task_words, time_words, usage_words, flags_word, flags_words, alarm_words, timer_words, past_tick, byte_words, state_words, IsWritten, AreKnown}
+use Rattle.scx_explore_states.specs.Written.{home_at, task_words, time_words, usage_words, flags_word, flags_words, alarm_words, timer_words, past_tick, map_words, state_words, IsWritten, AreKnown}
 use Rattle.scx_explore_findings.specs.Hidden.{Hidden, unless, since_unless, hide}
 use Rattle.scx_explore_findings.specs.HiddenMachines.{hide_machine}
 use Rattle.scx_explore_findings.specs.HiddenLaws.{LeavesOut, WordsDontDepend}
@@ -85,7 +84,7 @@ module _ (h : Hidden) (f : Form) (out : LeavesOut f h) (ids : List ℕ) where
   words_same order s =
       let w = s.state.world in
       let rules : List ℕ → List ℕ → List ℕ = λ fs ts. if are_linux w.rules then past_tick s.state.policy.tick_ms w.clock ∷ (fs ++ ts) else [] in
-      let rest : List ℕ → List ℕ → List ℕ = λ fs ts. time_words f w ++ (usage_words w ++ (rules fs ts ++ byte_words (all_bytes s.state.maps) ((length (all_bytes s.state.maps) + 7) / 8))) in
+      let rest : List ℕ → List ℕ → List ℕ = λ fs ts. time_words f w ++ (usage_words w ++ (rules fs ts ++ map_words s.state.maps)) in
       let flags = flags_words w (length w.cpus) in
       let timers = timer_words w (length w.timers) in
       ap (λ rows. task_words f rows order (min (length w.tasks) 8) ++ rest flags timers) (rows_same w)

@@ -1,8 +1,9 @@
 -- Words of a state, one part after another.
-use Rattle.std.proofs.Common.{◌≡◌, ℕ, suc, ◌+◌, ◌*◌, ◌<◌, ◌≤◌, List, [], ◌∷◌, ◌++◌, length, drop, get_or, Option, sym, ap, ◌∙◌, append_assoc, arith}
-use Rattle.std.proofs.lemmas.List.{drop_all, drop_more}
-use Rattle.std.specs.Prelude.{◌/◌, min}
-use Rattle.scx_maps.specs.Lending.{all_bytes}
+use Rattle.std.proofs.Common.{◌≡◌, ℕ, zero, suc, ◌+◌, ◌*◌, ◌<◌, ◌≤◌, List, [], ◌∷◌, ◌++◌, length, take, drop, get_or, Option, sym, ap, ◌∙◌, append_assoc, arith}
+use Rattle.std.proofs.lemmas.List.{drop_all, drop_more, take_all, take_more, append-nil}
+use Rattle.std.specs.Prelude.{min}
+use Rattle.scx_isa_semantics.specs.Directories.{Directory, Array}
+use Rattle.scx_maps.specs.Words.{part_words, parts_words}
 use Rattle.scx_weights.specs.Hierarchy.{Hierarchy}
 use Rattle.scx_weights.specs.Limits.{usage_of}
 use Rattle.scx_sched_world.specs.declared.timers.Alarm.{Alarm}
@@ -12,7 +13,7 @@ use Rattle.scx_sched.specs.Sim.{SimState}
 use Rattle.scx_explore_states.specs.declared.form.Form.{Form}
 use Rattle.scx_explore_states.specs.declared.rows.Row.{Row}
 use Rattle.scx_explore_states.specs.Rows.{entries_of, rows_of}
-use Rattle.scx_explore_states.specs.Written.{AreKnown, IsFair, IsWritten, byte_words, eight_at, joined, kept_word, row_in, flags_word, flags_words, until_due, cpu_of_alarm, alarm_words, timer_words, linux_words, past_tick, row_words, rows_words, rules_words, spot_words, state_words, task_words, time_words, usage_words, used_words, word_from, word_of}
+use Rattle.scx_explore_states.specs.Written.{AreKnown, IsFair, IsWritten, byte_words, map_words, eight_at, joined, kept_word, row_in, flags_word, flags_words, until_due, cpu_of_alarm, alarm_words, timer_words, linux_words, past_tick, row_words, rows_words, rules_words, spot_words, state_words, task_words, time_words, usage_words, used_words, word_from, word_of}
 
 -- a part behind others
 pub behind : (xs ys zs ps qs : List ℕ) → zs ≡ ys ++ qs → ys ≡ xs ++ ps → zs ≡ xs ++ (ps ++ qs)
@@ -89,16 +90,15 @@ five : (o ps qs rs ts us : List ℕ) → ((((o ++ ps) ++ qs) ++ rs) ++ ts) ++ us
 five o ps qs rs ts us = append_assoc (((o ++ ps) ++ qs) ++ rs) ts us ∙ four o ps qs rs (ts ++ us)
 
 -- all of them but the first word
-pub state_parts : (f : Form) (rows : List Row) (order : List ℕ) (s : SimState) (n : ℕ) (bytes old xs ys zs us new : List ℕ) → n ≡ min (length s.state.world.tasks) 8 → bytes ≡ all_bytes s.state.maps → xs ≡ old ++ task_words f rows order n → ys ≡ xs ++ time_words f s.state.world → zs ≡ ys ++ usage_words s.state.world → us ≡ zs ++ rules_words s.state → new ≡ us ++ byte_words bytes ((length bytes + 7) / 8) → new ≡ old ++ state_words f rows order s
-state_parts f rows order s n bytes old xs ys zs us new many maps first second third fourth last =
+pub state_parts : (f : Form) (rows : List Row) (order : List ℕ) (s : SimState) (n : ℕ) (old xs ys zs us new : List ℕ) → n ≡ min (length s.state.world.tasks) 8 → xs ≡ old ++ task_words f rows order n → ys ≡ xs ++ time_words f s.state.world → zs ≡ ys ++ usage_words s.state.world → us ≡ zs ++ rules_words s.state → new ≡ us ++ map_words s.state.maps → new ≡ old ++ state_words f rows order s
+state_parts f rows order s n old xs ys zs us new many first second third fourth last =
     let w = s.state.world in
-    let held : List ℕ → List ℕ = λ bs. byte_words bs ((length bs + 7) / 8) in
-    let rest : List ℕ → List ℕ = λ bs. time_words f w ++ (usage_words w ++ (rules_words s.state ++ held bs)) in
+    let held : List ℕ = map_words s.state.maps in
+    let rest : List ℕ = time_words f w ++ (usage_words w ++ (rules_words s.state ++ held)) in
     last
-    ∙ (ap (λ (l : List ℕ). l ++ held bytes) (fourth ∙ (ap (λ (l : List ℕ). l ++ rules_words s.state) (third ∙ (ap (λ (l : List ℕ). l ++ usage_words w) (second ∙ ap (λ (l : List ℕ). l ++ time_words f w) first)))))
-    ∙ (five old (task_words f rows order n) (time_words f w) (usage_words w) (rules_words s.state) (held bytes)
-    ∙ (ap (λ (k : ℕ). old ++ (task_words f rows order k ++ rest bytes)) many
-    ∙ ap (λ (bs : List ℕ). old ++ (task_words f rows order (min (length w.tasks) 8) ++ rest bs)) maps)))
+    ∙ (ap (λ (l : List ℕ). l ++ held) (fourth ∙ (ap (λ (l : List ℕ). l ++ rules_words s.state) (third ∙ (ap (λ (l : List ℕ). l ++ usage_words w) (second ∙ ap (λ (l : List ℕ). l ++ time_words f w) first)))))
+    ∙ (five old (task_words f rows order n) (time_words f w) (usage_words w) (rules_words s.state) held
+    ∙ ap (λ (k : ℕ). old ++ (task_words f rows order k ++ rest)) many))
 
 -- the flags of one more processor
 pub flags_more : (w : WorldState) (n k : ℕ) (xs ys zs : List ℕ) → zs ≡ ys ++ k ∷ [] → ys ≡ xs ++ flags_words w n → k ≡ flags_word w n → zs ≡ xs ++ flags_words w (n + 1)
@@ -152,3 +152,30 @@ state_written f ids s rows order b new kept all fair known = record {
   known = known;
   words = all ∙ ap (λ (rs : List Row). b ∷ state_words f rs order s) kept;
 }
+
+-- ---- what maps have beside their elements
+
+parts_words-suc : (parts : List Directory) (n : ℕ) → n < length parts → parts_words (take (suc n) parts) ≡ parts_words (take n parts) ++ part_words (get_or parts n Array)
+parts_words-suc [] n h = absurd (omega (arith, h))
+parts_words-suc (d ∷ parts) zero h = append-nil (part_words d)
+parts_words-suc (d ∷ parts) (suc n) h =
+    ap (λ (l : List ℕ). part_words d ++ l) (parts_words-suc parts n (omega (arith, h))) ∙ sym (append_assoc (part_words d) (parts_words (take n parts)) (part_words (get_or parts n Array)))
+
+-- one more map
+pub parts_more : (parts : List Directory) (n : ℕ) (xs ys zs : List ℕ) → n < length parts → zs ≡ ys ++ part_words (get_or parts n Array) → ys ≡ xs ++ parts_words (take n parts) → zs ≡ xs ++ parts_words (take (n + 1) parts)
+parts_more parts n xs ys zs h new old =
+    let on : n + 1 ≡ suc n = omega arith in
+    behind xs ys zs (parts_words (take n parts)) (part_words (get_or parts n Array)) new old
+    ∙ ap (λ (l : List ℕ). xs ++ l) (sym (parts_words-suc parts n h))
+    ∙ ap (λ (k : ℕ). xs ++ parts_words (take k parts)) (sym on)
+
+-- one more word of a map
+pub part_more : (ws : List ℕ) (n w : ℕ) (xs ys zs : List ℕ) → n < length ws → zs ≡ ys ++ w ∷ [] → ys ≡ xs ++ take n ws → w ≡ get_or ws n 0 → zs ≡ xs ++ take (n + 1) ws
+part_more ws n w xs ys zs h new old is =
+    behind xs ys zs (take n ws) (w ∷ []) new old
+    ∙ ap (λ (x : ℕ). xs ++ (take n ws ++ x ∷ [])) is
+    ∙ ap (λ (l : List ℕ). xs ++ l) (sym (take_more ws n 0 h))
+
+-- all words of a map
+pub part_all : (ws : List ℕ) (xs ys : List ℕ) (n : ℕ) → length ws ≤ n → ys ≡ xs ++ take n ws → ys ≡ xs ++ ws
+part_all ws xs ys n past is = is ∙ ap (λ (l : List ℕ). xs ++ l) (take_all n ws past)

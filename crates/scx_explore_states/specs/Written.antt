@@ -1,7 +1,9 @@
 -- The words of a state, as a function of the machine's state.
 use Rattle.std.specs.Prelude.{◌≡◌, ℕ, zero, suc, ◌+◌, ◌-◌, ◌*◌, ◌/◌, ◌%◌, ◌^◌, ◌<◌, ◌==◌, min, Bool, true, List, [], ◌∷◌, ◌++◌, length, take, drop, bit_or, nat_lt, Contains, slice_index, slice_index_or, All, Option, Some, None, IfSome, if◌then◌else◌}
 use Rattle.scx_dsq.specs.declared.entries.Entry.{Entry}
+use Rattle.scx_isa_semantics.specs.Elements.{Maps}
 use Rattle.scx_maps.specs.Lending.{all_bytes}
+use Rattle.scx_maps.specs.Words.{parts_words}
 use Rattle.scx_weights.specs.Hierarchy.{Hierarchy}
 use Rattle.scx_weights.specs.Limits.{usage_of, has_quota}
 use Rattle.scx_sched_world.specs.CpuSets.{is_in_set}
@@ -153,6 +155,11 @@ abbrev pub byte_words : List ℕ → ℕ → List ℕ
 byte_words bytes zero = []
 byte_words bytes (suc n) = byte_words bytes n ++ word_of (eight_at bytes n) ∷ []
 
+-- the bytes of all maps, and what maps have beside their elements
+abbrev pub map_words : Maps → List ℕ
+map_words maps =
+    byte_words (all_bytes maps) ((length (all_bytes maps) + 7) / 8) ++ parts_words maps.directories
+
 -- ---- all of a state
 
 -- what is kept of the tasks, in that order
@@ -164,7 +171,7 @@ abbrev pub state_words : Form → List Row → List ℕ → SimState → List �
 state_words f rows order s =
     task_words f rows order (min (length s.state.world.tasks) 8)
     ++ (time_words f s.state.world ++ (usage_words s.state.world ++ (rules_words s.state
-    ++ byte_words (all_bytes s.state.maps) ((length (all_bytes s.state.maps) + 7) / 8))))
+    ++ map_words s.state.maps)))
 
 -- each task that waits does so in a queue that has a number
 abbrev pub AreKnown : List ℕ → List (Option Entry) → Type 0

@@ -2,6 +2,7 @@ ghost use Rattle.std.specs.Prelude.{◌≤◌};
 
 use crate::rows::kept_tasks;
 use scx_isa::Rules;
+use scx_maps::Maps;
 use scx_sched::Sim;
 
 /// The most tasks of a machine that is searched.
@@ -59,7 +60,7 @@ impl Form {
             + usize::from(self.random)
             + usage_words(sim)
             + rules_words(sim)
-            + sim.maps().bytes().len().div_ceil(8)
+            + map_words(sim.maps())
     }
 
     /// The number of words of each task, beside half a word.
@@ -68,6 +69,20 @@ impl Form {
     {
         1 + usize::from(self.keys) + usize::from(self.vtime) + usize::from(self.run_ns)
     }
+}
+
+/// The most words that are counted for maps, more than any have.
+const MOST_MAP_WORDS: usize = 1 << 48;
+
+/// The number of words for the bytes of maps and for what maps have beside their elements.
+fn map_words(maps: &Maps) -> usize
+    ensures { result ≤ MOST_MAP_WORDS }
+{
+    let mut words = maps.bytes().len().div_ceil(8);
+    for part in 0..maps.parts() {
+        words = words.saturating_add(maps.part_words(part));
+    }
+    words.min(MOST_MAP_WORDS)
 }
 
 /// The number of words for the usages of groups.

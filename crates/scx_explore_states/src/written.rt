@@ -1,8 +1,10 @@
-ghost use Rattle.std.specs.Prelude.{ℕ, ◌≡◌, ◌+◌, ◌*◌, ◌/◌, ◌<◌, ◌≤◌, ◌∷◌, ◌++◌, [], true, length, Contains, IfSome};
+ghost use Rattle.std.specs.Prelude.{ℕ, ◌≡◌, ◌+◌, ◌*◌, ◌/◌, ◌<◌, ◌≤◌, ◌∷◌, ◌++◌, [], true, length, Contains, IfSome, take, slice_index_or};
+ghost use Rattle.scx_isa_semantics.specs.Directories.{Array};
+ghost use Rattle.scx_maps.specs.Words.{part_words, parts_words};
 ghost use Rattle.scx_sched_world.specs.Helpers.{alarm_at, cpus_of};
 ghost use Rattle.scx_explore_states.specs.Rows.{entries_of};
 ghost use Rattle.scx_explore_states.specs.Words.{number_in};
-ghost use Rattle.scx_explore_states.specs.Written.{AreAlike, AreKnown, IsFair, IsWritten, alarm_words, byte_words, cpu_of_alarm, eight_at, flags_word, flags_words, home_at, joined, kept_word, linux_words, own_order, past_tick, row_in, row_words, rows_words, rules_words, spot_words, state_words, task_in, task_words, time_words, timer_words, until_due, usage_words, used_words, word_of};
+ghost use Rattle.scx_explore_states.specs.Written.{AreAlike, AreKnown, IsFair, IsWritten, alarm_words, byte_words, cpu_of_alarm, eight_at, flags_word, flags_words, home_at, joined, kept_word, linux_words, own_order, past_tick, row_in, row_words, rows_words, rules_words, spot_words, state_words, task_in, task_words, time_words, timer_words, until_due, usage_words, used_words, word_of, map_words};
 
 use crate::form::{Form, MOST_TASKS};
 use crate::order::Order;
@@ -10,6 +12,7 @@ use crate::queue_numbers::QueueNumbers;
 use crate::rows::{Row, kept_tasks, rows_by, rows_of};
 use crate::words::{Words, put, word_of};
 use scx_isa::{Field, Rules, TaskId};
+use scx_maps::Maps;
 use scx_sched::{Entry, Sim};
 use scx_sched_world::Alarm;
 use scx_vm::Env;
@@ -121,8 +124,7 @@ impl Form {
         if !put_rules(sim, words) {
             return false;
         }
-        let bytes = sim.maps().bytes();
-        put_bytes(bytes, words)
+        put_maps(sim.maps(), words)
     }
 
     fn put_tasks(
@@ -298,6 +300,44 @@ fn put_used(sim: &Sim, groups: u32, words: &mut Vec<u64>) -> bool
 {
     for group in 0..groups {
         if !put(words, sim.usage(group)) {
+            return false;
+        }
+    }
+    true
+}
+
+/// The bytes of all maps, and the words of their parts beside elements.
+fn put_maps(maps: &Maps, words: &mut Vec<u64>) -> bool
+    ensures { result ≡ true → words.new.items ≡ words.old.items ++ map_words maps.now }
+{
+    if !put_bytes(maps.bytes(), words) {
+        return false;
+    }
+    put_parts(maps, maps.parts(), words)
+}
+
+/// The words of the first `parts` parts of maps.
+fn put_parts(maps: &Maps, parts: usize, words: &mut Vec<u64>) -> bool
+    requires { parts ≤ length maps.now.directories }
+    ensures { result ≡ true → words.new.items
+        ≡ words.old.items ++ parts_words (take parts maps.now.directories) }
+{
+    for part in 0..parts {
+        if !put_part(maps, part, words) {
+            return false;
+        }
+    }
+    true
+}
+
+/// The words of a map's part beside its elements.
+fn put_part(maps: &Maps, part: usize, words: &mut Vec<u64>) -> bool
+    requires { part < length maps.now.directories }
+    ensures { result ≡ true → words.new.items
+        ≡ words.old.items ++ part_words (slice_index_or maps.now.directories part Array) }
+{
+    for number in 0..maps.part_words(part) {
+        if !put(words, maps.part_word(part, number)) {
             return false;
         }
     }

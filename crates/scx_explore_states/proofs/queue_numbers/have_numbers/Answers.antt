@@ -1,4 +1,4 @@
-use Rattle.std.proofs.Common.{ℕ, ◌<◌, List, length, All, take, subst, arith}
+use Rattle.std.proofs.Common.{ℕ, ◌<◌, List, length, All, subst, arith}
 use Rattle.std.proofs.lemmas.List.{take_all}
 use Rattle.std.proofs.lemmas.List.Elements.{All-more}
 use Rattle.scx_explore_states.specs.Words.{number_in}
