@@ -1,7 +1,8 @@
 use crate::console::Console;
 use crate::ending::{Ending, end, end_unread};
 use crate::files::{RunFiles, files_of, hint_of_files};
-use crate::remarks::{named, remark_of_run};
+use crate::remarks::{hint_of_subject, named, remark_of_run};
+use scx_sched::Eject;
 use scxsim_charts::{Span, gantt, title};
 use scxsim_commands::{Fault, Hint, Out, Refusal, hint_of_refusal, text};
 use scxsim_page::{Paths, view};
@@ -10,7 +11,7 @@ use scxsim_remarks::Progress;
 use scxsim_simulation::{Listener, replay, report, simulate};
 use scxsim_steps::step;
 use scxsim_story::story;
-use scxsim_tables::{replay_csv, stats, stats_csv};
+use scxsim_tables::{check_run, replay_csv, stats, stats_csv};
 use scxsim_why::why;
 use scxsim_words::{Account, Part};
 use std::alloc::Global;
@@ -34,7 +35,7 @@ pub(crate) fn tell<R: AllocGlobal + Console, W: Out>(
 ) -> Ending {
     let files = match files_of(rt, words.policy, words.workload) {
         Ok(files) => files,
-        Err(unread) => return end_unread(unread, out),
+        Err(unread) => return end_unread(rt.alloc(), unread, out),
     };
     let mut progress = Progress::new(rt, is_progress_seen(rt, account));
     let outcome = write_account(rt.alloc(), account, &files, words, &mut progress, out);
@@ -44,15 +45,27 @@ pub(crate) fn tell<R: AllocGlobal + Console, W: Out>(
         None
     };
     progress.end();
-    let remark = remark_of_run(
-        rt.alloc(),
-        &outcome,
-        ejected,
-        named(words.policy, &files.policy),
-        named(words.workload, &files.workload),
-    );
+    let remark = remark_of_account(rt.alloc(), account, words, &files, &outcome, ejected);
     let hint = hint_of_outcome(&outcome, &files);
     end(outcome, hint, remark, out)
+}
+
+/// A hint at a word that was refused, or a remark on the files.
+fn remark_of_account(
+    alloc: Global,
+    account: Account,
+    words: RunWords<'_>,
+    files: &RunFiles,
+    outcome: &Result<bool, Fault>,
+    ejected: Option<Eject>,
+) -> Option<String> {
+    let policy = named(words.policy, &files.policy);
+    let workload = named(words.workload, &files.workload);
+    let subject = words.subject.unwrap_or("");
+    match hint_of_subject(alloc, outcome, account, policy, workload, subject) {
+        Some(hint) => Some(hint),
+        None => remark_of_run(alloc, outcome, ejected, policy, workload),
+    }
 }
 
 /// A hint at what may help, where the run was refused.
@@ -83,7 +96,7 @@ fn is_written_meanwhile(account: Account) -> bool {
 /// True if standard error says where the fault came for which the policy was ejected: if the output only names
 /// the fault.
 fn is_ejection_told(account: Account) -> bool {
-    matches!(account, Account::Trace | Account::Report)
+    matches!(account, Account::Trace | Account::Report | Account::Check)
 }
 
 /// Writes an account of the run of these files, of which the second is a workload or a file of events.
@@ -107,6 +120,7 @@ fn write_account<L: Listener, W: Out>(
             view(alloc, paths, policy, second, span, listener, out)
         }
         Account::Report => report(alloc, policy, second, listener, out),
+        Account::Check => check_run(alloc, policy, second, listener, out),
         Account::Stats => stats(alloc, policy, second, listener, out),
         Account::StatsCsv => stats_csv(alloc, policy, second, listener, out),
         Account::Why => why(alloc, policy, second, listener, out),

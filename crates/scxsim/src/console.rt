@@ -1,11 +1,13 @@
-use scxsim_commands::read_file;
+use scxsim_commands::{FILE_LIMIT, read_file};
+use scxsim_remarks::STANDARD_INPUT;
 use std::io;
-use std::io::IsTerminal;
+use std::io::{IsTerminal, Read};
 use std::rt::Clock;
 
 /// The program's surroundings, apart from its words and its output.
 pub trait Console: Clock + Eprint {
-    /// The bytes of the file at a path, or as many of them as show that it is too large.
+    /// The bytes of the file at a path, or of standard input at `-`, or as many of them as show that there are too
+    /// many.
     ///
     /// # Errors
     ///
@@ -21,7 +23,11 @@ pub trait Console: Clock + Eprint {
 
 impl Console for HostRuntime {
     fn read(&self, path: &str) -> io::Result<Vec<u8>> {
-        read_file(self, path)
+        if path == STANDARD_INPUT {
+            read_input(self)
+        } else {
+            read_file(self, path)
+        }
     }
 
     fn shows_errors(&self) -> bool {
@@ -31,4 +37,13 @@ impl Console for HostRuntime {
     fn shows_output(&self) -> bool {
         self.stdout().is_terminal()
     }
+}
+
+/// Reads standard input, as `read_file` does a file.
+fn read_input<R: AllocGlobal + Input>(rt: &R) -> io::Result<Vec<u8>> {
+    let mut bytes = Vec::new(rt.alloc());
+    rt.reader()
+        .take(FILE_LIMIT as u64 + 1)
+        .read_to_end(&mut bytes)?;
+    Ok(bytes)
 }

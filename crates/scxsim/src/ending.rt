@@ -1,5 +1,7 @@
 use crate::files::Unread;
 use scxsim_commands::{FAILED, Fault, Hint, Out, Refusal, finish, write_unread};
+use scxsim_remarks::{STANDARD_INPUT, hint_on_both, hint_on_unread};
+use std::alloc::Global;
 
 /// The end of the program: its status, and the message on a refused file.
 #[derive(Drop)]
@@ -57,13 +59,23 @@ pub fn end_without_memory<W: Out>(out: &mut W) -> u8 {
     finish(Err(Fault::Refused(Refusal::NoMemory)), out)
 }
 
-/// Ends a command that has a file which isn't read.
-pub(crate) fn end_unread<W: Out>(unread: Unread<'_>, out: &mut W) -> Ending {
+/// Ends a command that has a file which isn't read, with a hint at the reason.
+pub(crate) fn end_unread<W: Out>(alloc: Global, unread: Unread<'_>, out: &mut W) -> Ending {
     match unread {
         Unread::NoMemory => in_silence(end_without_memory(out)),
-        Unread::At(path) => {
+        Unread::At(path, kind) => {
             let _ = write_unread(path, out);
-            in_silence(FAILED)
+            Ending {
+                status: FAILED,
+                said: said_of(None, hint_on_unread(alloc, path, kind)),
+            }
+        }
+        Unread::Both => {
+            let _ = write_unread(STANDARD_INPUT, out);
+            Ending {
+                status: FAILED,
+                said: said_of(None, hint_on_both(alloc)),
+            }
         }
     }
 }

@@ -1,5 +1,6 @@
 use crate::console::Console;
 use scxsim_commands::{Hint, hint_of_text};
+use scxsim_remarks::STANDARD_INPUT;
 use std::io::ErrorKind;
 
 /// The bytes of the files of a run.
@@ -13,7 +14,10 @@ pub(crate) struct RunFiles {
 #[derive(Drop)]
 pub(crate) enum Unread<'a> {
     NoMemory,
-    At(&'a str),
+    /// The file at a path can't be read.
+    At(&'a str, ErrorKind),
+    /// Both files of a run are to be standard input.
+    Both,
 }
 
 /// The bytes of both files of a run, of which the policy is read first.
@@ -22,6 +26,9 @@ pub(crate) fn files_of<'a, R: Console>(
     policy: &'a str,
     workload: &'a str,
 ) -> Result<RunFiles, Unread<'a>> {
+    if policy == STANDARD_INPUT && workload == STANDARD_INPUT {
+        return Err(Unread::Both);
+    }
     let policy = bytes_of(rt, policy)?;
     let workload = bytes_of(rt, workload)?;
     Ok(RunFiles { policy, workload })
@@ -40,6 +47,6 @@ pub(crate) fn bytes_of<'a, R: Console>(rt: &R, path: &'a str) -> Result<Vec<u8>,
     match rt.read(path) {
         Ok(bytes) => Ok(bytes),
         Err(error) if error.kind() == ErrorKind::OutOfMemory => Err(Unread::NoMemory),
-        Err(_) => Err(Unread::At(path)),
+        Err(error) => Err(Unread::At(path, error.kind())),
     }
 }

@@ -33,7 +33,7 @@ use scxsim_commands::FAILED;
 pub use scxsim_commands::{
     Counted, Failed, Fault, Out, Refusal, asm, check, dis, exec, finish, text,
 };
-pub use scxsim_explain::explain;
+pub use scxsim_explain::{explain, explain_one};
 pub use scxsim_explore::explore;
 use scxsim_output::Blocks;
 pub use scxsim_page::view;
@@ -41,7 +41,7 @@ pub use scxsim_pictures::{picture, timeline};
 pub use scxsim_simulation::{Listener, replay, report, simulate};
 pub use scxsim_steps::step;
 pub use scxsim_story::story;
-pub use scxsim_tables::{replay_csv, stats, stats_csv};
+pub use scxsim_tables::{check_run, replay_csv, stats, stats_csv};
 pub use scxsim_why::why;
 use std::io;
 use std::io::BufWriter;

@@ -1,8 +1,10 @@
 use scx_sched::Eject;
-use scxsim_commands::{Fault, Verdicts};
+use scxsim_commands::{Fault, Refusal, Verdicts};
 use scxsim_remarks::{
-    NamedText, remark_on_fault, remark_on_file, remark_on_run, remarks_on_callbacks,
+    NamedText, hint_on_callback, hint_on_moment, hint_on_task, remark_on_fault, remark_on_file,
+    remark_on_run, remarks_on_callbacks,
 };
+use scxsim_words::Account;
 use std::alloc::Global;
 
 /// A file's text, if it is one.
@@ -25,6 +27,38 @@ pub(crate) fn remark_of_run(
         (Ok(_), Some(Eject::Fault(_, clock) | Eject::Exit(_, clock))) => {
             remark_on_fault(alloc, policy?, workload?, clock)
         }
+        _ => None,
+    }
+}
+
+/// A hint at a word of an account of a run that was refused: the name of a task, or a millisecond.
+pub(crate) fn hint_of_subject(
+    alloc: Global,
+    outcome: &Result<bool, Fault>,
+    account: Account,
+    policy: Option<NamedText<'_>>,
+    workload: Option<NamedText<'_>>,
+    subject: &str,
+) -> Option<String> {
+    match (outcome, account) {
+        (Err(Fault::Refused(Refusal::NoSuchTask)), _) => {
+            hint_on_task(alloc, policy?, workload?, subject)
+        }
+        (Ok(false), Account::Step) => hint_on_moment(alloc, policy?, workload?),
+        _ => None,
+    }
+}
+
+/// The place where a policy's file is wrong, if it was refused, or a hint at the name of a callback that it hasn't.
+pub(crate) fn remark_of_callback(
+    alloc: Global,
+    outcome: &Result<bool, Fault>,
+    policy: Option<NamedText<'_>>,
+    callback: &str,
+) -> Option<String> {
+    match outcome {
+        Err(Fault::Refused(refusal)) => remark_on_file(alloc, refusal, policy?),
+        Ok(false) => hint_on_callback(alloc, policy?, callback),
         _ => None,
     }
 }

@@ -5,7 +5,7 @@ use crate::files::{RunFiles, files_of};
 use crate::remarks::{named, remark_of_run};
 use scxsim_commands::{Fault, Out, text};
 use scxsim_explore::{Lists, Watcher, explore};
-use scxsim_remarks::SearchProgress;
+use scxsim_remarks::{SearchProgress, hint_on_lists};
 use std::alloc::Global;
 
 /// The words of a search: the paths of its files, and the lists of events that it goes through.
@@ -25,20 +25,33 @@ pub(crate) fn search<R: AllocGlobal + Console, W: Out>(
 ) -> Ending {
     let files = match files_of(rt, words.policy, words.workload) {
         Ok(files) => files,
-        Err(unread) => return end_unread(unread, out),
+        Err(unread) => return end_unread(rt.alloc(), unread, out),
     };
     let mut progress = SearchProgress::new(rt, rt.shows_errors());
     let outcome = write_search(rt.alloc(), &files, words.lists, &mut progress, out);
     progress.pause();
-    let remark = remark_of_run(
-        rt.alloc(),
-        &outcome,
-        None,
-        named(words.policy, &files.policy),
-        named(words.workload, &files.workload),
-    );
+    let remark = remark_of_search(rt.alloc(), &outcome, &files, words);
     let hint = hint_of_outcome(&outcome, &files);
     end(outcome, hint, remark, out)
+}
+
+/// A hint at a word that was refused, or a remark on the files.
+fn remark_of_search(
+    alloc: Global,
+    outcome: &Result<bool, Fault>,
+    files: &RunFiles,
+    words: SearchWords<'_>,
+) -> Option<String> {
+    match outcome {
+        Ok(false) => hint_on_lists(alloc, words.lists),
+        _ => remark_of_run(
+            alloc,
+            outcome,
+            None,
+            named(words.policy, &files.policy),
+            named(words.workload, &files.workload),
+        ),
+    }
 }
 
 fn write_search<V: Watcher, W: Out>(

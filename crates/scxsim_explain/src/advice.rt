@@ -1,6 +1,6 @@
 use scx_abs::Kind;
 use scx_asm_text::field_name;
-use scx_isa::{CALLBACKS, Field, Helper, Rules, Size};
+use scx_isa::{CALLBACKS, Field, Helper, Parameter, Rules, Size};
 use scx_verify_explain::{BadAccess, BadCall, BadField, BadFlow, BadValue, Origin, Reason};
 use scxsim_output::Text;
 
@@ -112,7 +112,20 @@ fn push_advice_on_call(line: &mut Text, rules: Rules, call: BadCall) {
     match call {
         BadCall::Unknown(_) => line.push("take the number from the table of helpers"),
         BadCall::NotHere { number, .. } => push_callbacks(line, rules, number),
-        BadCall::Argument { .. } => line.push("put the arguments in r1, r2 and so on"),
+        BadCall::Argument {
+            kind,
+            parameter,
+            ..
+        } => line.push(advice_on_argument(kind, parameter)),
+    }
+}
+
+fn advice_on_argument(kind: Kind, parameter: Parameter) -> &'static str {
+    match (kind, parameter) {
+        (Kind::MapRef(_), Parameter::Map | Parameter::PerCpuMap | Parameter::LineMap) => {
+            "use a map of such a kind"
+        }
+        _ => "put the arguments in r1, r2 and so on",
     }
 }
 

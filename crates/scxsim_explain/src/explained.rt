@@ -8,6 +8,7 @@ ghost use Rattle.scxsim_commands.specs.Verdicts.{IsVerdict, IsVerdictOf, HasVerd
 ghost use Rattle.scxsim_explain.specs.Explained.{IsExplained, IsSo, HasJumps, ArePrograms};
 ghost use Rattle.scxsim_explain.specs.Explained.{first_line};
 ghost use Rattle.scxsim_explain.specs.Listed.{line_on, first_lines};
+ghost use Rattle.scxsim_explain.specs.One.{IsTaken};
 
 use crate::writing::room_for_line;
 use scx_isa::{CALLBACKS, Callback, PerCallback, Program, Rules};
@@ -103,13 +104,35 @@ fn explain_callback(
     ensures memory { IfErr result (λ refusal. refusal ≡ NoMemory) }
     ensures rest { policy.new ≡ without policy.old callback }
 {
+    match explain_taken(alloc, policy, callback)? {
+        Some(explained) => {
+            let verdict = explained.verdict;
+            keep(programs, explained)?;
+            Ok(Some(verdict))
+        }
+        None => Ok(None),
+    }
+}
+
+/// Takes the program of a callback out, if there is one, and explains it.
+///
+/// # Errors
+///
+/// Memory ran out.
+pub(crate) fn explain_taken(
+    alloc: Global,
+    policy: &mut PolicyText,
+    callback: Callback,
+) -> Result<Option<Explained>, Refusal>
+    ensures taken { IfOk result (IsTaken policy.old callback) }
+    ensures memory { IfErr result (λ refusal. refusal ≡ NoMemory) }
+    ensures rest { policy.new ≡ without policy.old callback }
+{
     match policy.take(callback) {
         Some(program) => {
             let defs = *policy.defs();
             let explained = explain_program(alloc, program, callback, policy.rules(), &defs)?;
-            let verdict = explained.verdict;
-            keep(programs, explained)?;
-            Ok(Some(verdict))
+            Ok(Some(explained))
         }
         None => Ok(None),
     }

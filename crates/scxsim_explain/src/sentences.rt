@@ -14,6 +14,14 @@ const MARGIN: &str = "      = ";
 
 /// Appends why a program is refused by those rules, and how control came there.
 pub(crate) fn push_explanation(line: &mut Text, rules: Rules, explanation: &Explanation) {
+    push_why(line, rules, explanation);
+    if let Some(trail) = &explanation.trail {
+        push_way(line, &trail.legs);
+    }
+}
+
+/// Appends why a program is refused by those rules, in one line.
+pub(crate) fn push_why(line: &mut Text, rules: Rules, explanation: &Explanation) {
     let (origin, is_copied) = match &explanation.trail {
         Some(trail) => (trail.origin, trail.is_copied),
         None => (None, false),
@@ -25,9 +33,6 @@ pub(crate) fn push_explanation(line: &mut Text, rules: Rules, explanation: &Expl
         rules,
     };
     push_sentence(line, &advice);
-    if let Some(trail) = &explanation.trail {
-        push_way(line, &trail.legs);
-    }
 }
 
 /// Appends what is wrong, where the value at fault comes from, and what to change.
@@ -233,7 +238,7 @@ fn push_call(line: &mut Text, call: BadCall) {
 /// Appends what a call takes in a register, and what is there.
 fn push_argument(line: &mut Text, register: Register, kind: Kind, parameter: Parameter) {
     line.push(" takes ");
-    line.push(wanted(parameter));
+    line.push(wanted(parameter, matches!(kind, Kind::MapRef(_))));
     line.push(" in ");
     push_register(line, register);
     line.push(", which holds ");

@@ -120,11 +120,16 @@ pub(crate) fn push_spoken(line: &mut Text, kind: Kind) {
     }
 }
 
-/// The argument that a helper takes, in a sentence.
-pub(crate) fn wanted(parameter: Parameter) -> &'static str {
+/// The argument that a helper takes; the one given may be a map.
+pub(crate) fn wanted(parameter: Parameter, is_map: bool) -> &'static str {
     match parameter {
+        Parameter::Map if is_map => "a reference to a map with keys",
         Parameter::Map => "a reference to a map",
+        Parameter::PerCpuMap => "a reference to a map of kind percpu",
+        Parameter::LineMap => "a reference to a queue or a stack",
         Parameter::Key => "a pointer to a key",
+        Parameter::Value => "a pointer to a value",
+        Parameter::Room => "a pointer to room for a value",
         Parameter::Task => "a task",
         Parameter::Number => "a number",
     }

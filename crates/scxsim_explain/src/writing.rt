@@ -49,7 +49,11 @@ fn write_rest<W: Out>(programs: &[Explained], line: &mut Text, out: &mut W) -> R
 }
 
 /// Writes the verdict on a program and its listing.
-fn write_program<W: Out>(explained: &Explained, line: &mut Text, out: &mut W) -> Result<(), Failed>
+pub(crate) fn write_program<W: Out>(
+    explained: &Explained,
+    line: &mut Text,
+    out: &mut W,
+) -> Result<(), Failed>
     ensures ok { OnOk result ((listing : List ℕ)
         × Appends (W.contents out.old) (W.contents out.new)
         (first_line explained.now ++ listing)) }

@@ -24,7 +24,12 @@ fn meaning_at(helper: Helper, index: usize) -> Option<Meaning> {
     match helper.parameter(index)? {
         Parameter::Task => Some(Meaning::Task),
         Parameter::Number => Some(meaning_of_number(helper, index)),
-        Parameter::Map | Parameter::Key => None,
+        Parameter::Map
+        | Parameter::PerCpuMap
+        | Parameter::LineMap
+        | Parameter::Key
+        | Parameter::Value
+        | Parameter::Room => None,
     }
 }
 

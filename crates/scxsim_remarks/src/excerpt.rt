@@ -16,12 +16,17 @@ pub(crate) fn write_excerpt(said: &mut Text, text: &str, place: Place) {
 fn write_line(said: &mut Text, line: &str, place: Place) {
     said.number_right(place.line as u64, 5);
     said.push(" | ");
-    for c in line.chars().take(SHOWN) {
-        said.character(shown(c));
-    }
+    push_shown(said, line);
     said.push("\n      | ");
     said.spaces(place.column.saturating_sub(1));
     said.push("^\n");
+}
+
+/// Appends the first characters of a text, each as one column of a terminal.
+pub(crate) fn push_shown(said: &mut Text, text: &str) {
+    for c in text.chars().take(SHOWN) {
+        said.character(shown(c));
+    }
 }
 
 /// A character as one column of a terminal; what controls one is shown as a blank.

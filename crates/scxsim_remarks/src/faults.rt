@@ -28,10 +28,8 @@ fn remark_of(
 ) -> Option<String> {
     let fault = find_fault(alloc, policy.text, workload, clock).ok()??;
     let what = words_of(alloc, &fault, workload);
-    match policy.line_of(alloc, fault.callback, fault.slot) {
-        Some(place) => policy.error_at(alloc, place, &what).ok(),
-        None => policy.error(alloc, &what).ok(),
-    }
+    let place = policy.line_of(alloc, fault.callback, fault.slot);
+    policy.error_below(alloc, place, &what, "").ok()
 }
 
 fn words_of(alloc: Global, fault: &FaultPlace, workload: &Workload) -> Text {

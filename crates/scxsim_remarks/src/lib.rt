@@ -1,12 +1,14 @@
 //! Standard error: remarks on a refused file, and the progress of a run or a search.
 //!
 //! A remark goes with the refusal's line: the place, as compilers write it, so that editors go there; the line
-//! itself; and what may have been meant. The same is said of the call for whose fault a policy was ejected.
+//! itself; below it the reason; and what may have been meant. The call for whose fault a policy was ejected has one
+//! too. A hint says what to do: of a word, a file of another kind, or one that can't be read.
 //!
 //! Progress says which part of a run is over and how long the rest takes; of a search, how far it is and how fast. It
 //! takes one line of a terminal, which is taken back at the end.
 #![tactic(auto)]
 
+mod assembler;
 mod callbacks;
 mod estimate;
 mod excerpt;
@@ -14,10 +16,14 @@ mod faults;
 mod line;
 mod meant;
 mod named_text;
+mod natures;
+mod nearest;
 mod pace;
 mod progress;
 mod remarks;
 mod search;
+mod unread;
+mod word_hints;
 
 pub use callbacks::remarks_on_callbacks;
 pub use estimate::Estimate;
@@ -27,3 +33,5 @@ pub use pace::Pace;
 pub use progress::Progress;
 pub use remarks::{remark_on_file, remark_on_run};
 pub use search::SearchProgress;
+pub use unread::{STANDARD_INPUT, hint_on_both, hint_on_unread};
+pub use word_hints::{hint_on_callback, hint_on_lists, hint_on_moment, hint_on_task};

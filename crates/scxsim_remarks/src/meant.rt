@@ -1,6 +1,6 @@
+use crate::nearest::Nearest;
 use scx_isa::{CALLBACKS, Rules};
-use std::alloc::{AllocError, Global};
-use strsim::levenshtein;
+use std::alloc::Global;
 
 /// The format of a file, which decides the keys that its tables take.
 #[derive(Clone, Copy)]
@@ -33,34 +33,21 @@ struct Key<'a> {
     word: &'a str,
 }
 
-/// The greatest number of letters that a near key may have changed, added or left out.
-const FEW: usize = 2;
-
-/// The nearest key that was met, and its distance in letters.
-#[derive(Clone, Copy)]
-struct Nearest {
-    known: Option<&'static str>,
-    distance: usize,
-}
-
 /// The key of the same table that is nearest to the key at the end of a path, if one is near.
 pub(crate) fn nearest_key(alloc: Global, format: Format, path: &str) -> Option<&'static str> {
     let key = key_of(path);
-    let mut nearest = Nearest {
-        known: None,
-        distance: FEW.saturating_add(1),
-    };
+    let mut nearest = Nearest::none();
     for known in keys_of(format, key.table) {
-        nearest = nearer(alloc, nearest, key.word, known).ok()?;
+        nearest = nearest.or_nearer(alloc, key.word, known).ok()?;
     }
     if let (Format::Policy(rules), Table::Programs) = (format, key.table) {
         for callback in CALLBACKS {
             if callback.is_known(rules) {
-                nearest = nearer(alloc, nearest, key.word, callback.name()).ok()?;
+                nearest = nearest.or_nearer(alloc, key.word, callback.name()).ok()?;
             }
         }
     }
-    nearest.known
+    nearest.word()
 }
 
 /// The keys that the table takes, but for callbacks. None if the format has no such table.
@@ -113,7 +100,7 @@ fn is_among(word: &str, keys: &[&str]) -> bool {
 fn policy_keys(rules: Rules, table: Table) -> &'static [&'static str] {
     match table {
         Table::Top => top_policy_keys(rules),
-        Table::Map => &["entries", "value_size"],
+        Table::Map => map_keys(rules),
         Table::Timer => timer_keys(rules),
         Table::Programs | Table::Group | Table::Task | Table::Change => &[],
     }
@@ -142,6 +129,14 @@ fn top_policy_keys(rules: Rules) -> &'static [&'static str] {
             "code",
             "slots",
         ],
+    }
+}
+
+/// The keys of a map of a policy.
+fn map_keys(rules: Rules) -> &'static [&'static str] {
+    match rules {
+        Rules::Plain => &["entries", "value_size"],
+        Rules::Linux => &["entries", "value_size", "kind", "key_size"],
     }
 }
 
@@ -210,24 +205,6 @@ fn listed_task_keys(rules: Rules) -> &'static [&'static str] {
         Rules::Plain => &["name", "group"],
         Rules::Linux => &["name", "group", "weight", "cpus"],
     }
-}
-
-/// This key, if it is nearer than the nearest so far, isn't the same word, and shares at least half of its
-/// letters.
-fn nearer(
-    alloc: Global,
-    nearest: Nearest,
-    key: &str,
-    known: &'static str,
-) -> Result<Nearest, AllocError> {
-    let distance = levenshtein(alloc, key, known)?;
-    if distance != 0 && distance < nearest.distance && distance <= known.len() / 2 {
-        return Ok(Nearest {
-            known: Some(known),
-            distance,
-        });
-    }
-    Ok(nearest)
 }
 
 /// The key at the end of a path. A path is `KEY`, `code.KEY`, `slots.KEY` or `ARRAY.NUMBER.KEY`.

@@ -19,24 +19,30 @@ impl<'a> NamedText<'a> {
         place: Place,
         what: &Text,
     ) -> Result<String, AllocError> {
-        let mut said = Text::new(alloc);
-        said.push(self.path);
-        said.number(":", place.line as u64);
-        said.number(":", place.column as u64);
-        said.push(": error: ");
-        said.append(what);
-        said.push("\n");
-        write_excerpt(&mut said, self.text, place);
-        said.finish()
+        self.error_below(alloc, Some(place), what, "")
     }
 
-    /// `PATH: error: WHAT`.
-    pub(crate) fn error(self, alloc: Global, what: &Text) -> Result<String, AllocError> {
+    /// The error at a place, or `PATH: error: WHAT` without one, and the lines of a reason below it.
+    pub(crate) fn error_below(
+        self,
+        alloc: Global,
+        place: Option<Place>,
+        what: &Text,
+        reason: &str,
+    ) -> Result<String, AllocError> {
         let mut said = Text::new(alloc);
         said.push(self.path);
+        if let Some(place) = place {
+            said.number(":", place.line as u64);
+            said.number(":", place.column as u64);
+        }
         said.push(": error: ");
         said.append(what);
         said.push("\n");
+        if let Some(place) = place {
+            write_excerpt(&mut said, self.text, place);
+        }
+        said.push(reason);
         said.finish()
     }
 

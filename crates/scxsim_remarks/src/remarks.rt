@@ -1,16 +1,18 @@
+use crate::assembler::{remark_on_code, remark_on_line};
 use crate::faults::remark_on_fault;
 use crate::meant::{Format, is_known_by_linux, nearest_key};
 use crate::named_text::NamedText;
-use scx_asm::AsmFault;
+use crate::natures::{Nature, hint_on_nature};
+use crate::word_hints::hint_on_bound;
 use scx_isa::{Callback, Rules};
 use scx_load_files::Cause;
 use scx_load_places::{Place, first_toml_fault, line_at, place_of_key, place_of_line};
 use scx_load_policies::read_policy;
-use scx_load_workloads::read_workload_by;
 use scx_verify::Fault;
 use scxsim_commands::Refusal;
+use scxsim_explain::reason_of_refusal;
 use scxsim_output::Text;
-use std::alloc::{AllocError, Global};
+use std::alloc::Global;
 
 /// A remark on a refusal of a run's files, of which the second may be a file of events: its place,
 /// and what may have been meant. None where it has no place in a text, or memory ran out.
@@ -24,11 +26,11 @@ pub fn remark_on_run(
         Refusal::Policy { path, cause } => remark_on_policy(alloc, policy, path, *cause),
         Refusal::Workload { path, cause } => {
             let format = Format::Workload(rules_of(alloc, policy.text));
-            remark_on_key(alloc, workload, format, path, *cause)
+            remark_on_second(alloc, workload, format, path, *cause)
         }
         Refusal::Events { path, cause } => {
             let format = Format::Events(rules_of(alloc, policy.text));
-            remark_on_key(alloc, workload, format, path, *cause)
+            remark_on_second(alloc, workload, format, path, *cause)
         }
         Refusal::Callback {
             callback,
@@ -36,6 +38,7 @@ pub fn remark_on_run(
             slot,
         } => remark_on_callback(alloc, policy, *callback, *fault, *slot),
         Refusal::Init(_) => remark_on_fault(alloc, policy, workload, 0),
+        Refusal::OutOfRange(word) => hint_on_bound(alloc, policy, workload, *word),
         _ => None,
     }
 }
@@ -75,45 +78,43 @@ pub fn remark_on_file(alloc: Global, refusal: &Refusal, file: NamedText<'_>) -> 
     }
 }
 
-/// A remark on a line of assembler text.
-fn remark_on_line(
-    alloc: Global,
-    file: NamedText<'_>,
-    fault: AsmFault,
-    line: usize,
-) -> Option<String> {
-    let mut what = Text::new(alloc);
-    what.number("asm ", u64::from(fault.number()));
-    what.push(" ");
-    what.push(fault.name());
-    file.error_at(alloc, Place { line, column: 1 }, &what).ok()
-}
-
-/// A remark on a key of a policy file. A text that is no policy may be a workload.
+/// A remark on a key of a policy file. A text that is no policy may be another file.
 fn remark_on_policy(
     alloc: Global,
     policy: NamedText<'_>,
     path: &str,
     cause: Cause,
 ) -> Option<String> {
-    match read_workload_by(alloc, Rules::Linux, policy.text) {
-        Ok(workload) => {
-            drop(workload);
-            hint_at_workload(alloc, policy.path).ok()
-        }
-        Err(_) => {
+    match hint_on_nature(alloc, policy, Nature::Policy) {
+        Some(hint) => Some(hint),
+        None => {
             let format = Format::Policy(rules_named(alloc, policy.text));
             remark_on_key(alloc, policy, format, path, cause)
         }
     }
 }
 
-fn hint_at_workload(alloc: Global, path: &str) -> Result<String, AllocError> {
-    let mut said = Text::new(alloc);
-    said.push("hint: ");
-    said.push(path);
-    said.push(" is a workload, and a policy is wanted there\n");
-    said.finish()
+/// A remark on a key of a workload or of a file of events. A text that is neither may be another file.
+fn remark_on_second(
+    alloc: Global,
+    file: NamedText<'_>,
+    format: Format,
+    path: &str,
+    cause: Cause,
+) -> Option<String> {
+    match hint_on_nature(alloc, file, nature_in(format)) {
+        Some(hint) => Some(hint),
+        None => remark_on_key(alloc, file, format, path, cause),
+    }
+}
+
+/// The kind of file of a format.
+fn nature_in(format: Format) -> Nature {
+    match format {
+        Format::Policy(_) => Nature::Policy,
+        Format::Workload(_) => Nature::Workload,
+        Format::Events(_) => Nature::Events,
+    }
 }
 
 /// A remark on a key of a file.
@@ -127,10 +128,7 @@ fn remark_on_key(
     match cause {
         Cause::NotToml => remark_on_toml(alloc, file),
         Cause::Unknown => remark_on_unknown(alloc, file, format, path),
-        Cause::Asm { line, .. } => {
-            let place = place_of_line(alloc, file.text, path, line);
-            remark_at(alloc, file, place, path, cause)
-        }
+        Cause::Asm { fault, line } => remark_on_code(alloc, file, path, fault, line),
         Cause::Event { line, .. } => {
             let place = place_of_line(alloc, file.text, path, line);
             remark_at(alloc, file, place, path, cause)
@@ -185,7 +183,7 @@ fn remark_on_unknown(
     file.error_at(alloc, place, &what).ok()
 }
 
-/// A remark on a callback that the verifier refuses. One that is given as slots has no line.
+/// A remark on a callback that the verifier refuses, with the reason below it. One that is given as slots has no line.
 pub(crate) fn remark_on_callback(
     alloc: Global,
     policy: NamedText<'_>,
@@ -193,12 +191,17 @@ pub(crate) fn remark_on_callback(
     fault: Fault,
     slot: usize,
 ) -> Option<String> {
-    let place = policy.line_of(alloc, callback, slot)?;
+    let place = policy.line_of(alloc, callback, slot);
     let mut what = Text::new(alloc);
     what.push(callback.name());
     what.number(": ", u64::from(fault.number()));
     what.push(" ");
     what.push(fault.name());
     what.number(" at ", slot as u64);
-    policy.error_at(alloc, place, &what).ok()
+    match reason_of_refusal(alloc, policy.text, callback) {
+        Some(reason) => policy
+            .error_below(alloc, place, &what, reason.as_str())
+            .ok(),
+        None => policy.error_below(alloc, place, &what, "").ok(),
+    }
 }

@@ -23,7 +23,7 @@ use Rattle.scx_load_policies.specs.Building.{IsBuilt}
 use Rattle.scx_load_workloads.specs.Workload.{WorkloadState, first_tree}
 use Rattle.scx_load_driver.proofs.Alike.{IsLike, Times, times_of, like_first, like_rounds}
 use Rattle.scx_load_driver.proofs.Happening.{like_clock, like_tick, like_wake, like_sleep, like_weighed_task}
-use Rattle.scxsim_headline.specs.Headline.{Run, states_from, run_from, run_if, machine_run}
+use Rattle.scx_load_driver.specs.Headline.{Run, states_from, run_from, run_if, machine_run}
 use Rattle.scxsim_trace.specs.Runs.{StaysInOrder}
 use Rattle.scxsim_simulation.specs.Machines.{HasGroups, IsMachineOf, weights_given, weights_after, AreMachinesOf}
 

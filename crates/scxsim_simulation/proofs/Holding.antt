@@ -11,9 +11,9 @@ use Rattle.scx_sched.specs.Waits.{IsTimely, HasWaits}
 use Rattle.scx_sched.specs.Usages.{AreBounded}
 use Rattle.scx_sched.proofs.First.{policy_started}
 use Rattle.scx_load_workloads.specs.Workload.{WorkloadState, IsWorkload, first_tree}
-use Rattle.scxsim_headline.specs.Headline.{states_from, calls_of_all, NoneIsLate, EachFollows}
-use Rattle.scxsim_headline.proofs.Going.{follows_before}
-use Rattle.scxsim_headline.proofs.Whole.{run_notes, run_last, run_never_stuck, run_once, run_counted, run_timely, run_bounded, run_follows}
+use Rattle.scx_load_driver.specs.Headline.{states_from, calls_of_all, NoneIsLate, EachFollows}
+use Rattle.scx_load_driver.proofs.Going.{follows_before}
+use Rattle.scx_load_driver.proofs.Whole.{run_notes, run_last, run_never_stuck, run_once, run_counted, run_timely, run_bounded, run_follows}
 use Rattle.scxsim_trace.specs.Lines.{NameLists, names_of}
 use Rattle.scxsim_trace.specs.Runs.{IsInOrder, StaysInOrder, StopsAtFailure}
 use Rattle.scxsim_simulation.specs.Runs.{IsBegun, run_of, IsOfHeadline, IsCutOff}

@@ -20,7 +20,7 @@ use Rattle.scx_load_workloads.specs.Workload.{WorkloadState, first_tree}
 use Rattle.scx_load_workloads.specs.Reading.{workload_by}
 use Rattle.scx_load_driver.specs.Runs.{stepped_all, notes_of_all, AreAccepted}
 use Rattle.scx_load_driver.specs.Events.{workload_events}
-use Rattle.scxsim_headline.specs.Headline.{Run, machine_run, IsLast, NoneIsStuck, EachIsOnce, EachWaitIsCounted, NoneIsLate, EachUsageIsBounded, EachFollows}
+use Rattle.scx_load_driver.specs.Headline.{Run, machine_run, IsLast, NoneIsStuck, EachIsOnce, EachWaitIsCounted, NoneIsLate, EachUsageIsBounded, EachFollows}
 use Rattle.scxsim_trace.specs.Lines.{names_of, note_lines}
 use Rattle.scxsim_trace.specs.Runs.{IsCutIn}
 use Rattle.scxsim_trace.specs.Report as reports
@@ -29,8 +29,8 @@ use Rattle.scxsim_commands.specs.declared.refusal.Refusal.TheVariants.{NoMemory,
 use Rattle.scxsim_simulation.specs.Machines.{AreMachinesOf}
 
 -- the policy of the text begins with that state, on these processors and with these
--- groups and tasks, and its random numbers begin at the workload's seed; no callback got stuck before
--- the first event
+-- groups and tasks, and its random numbers begin at the workload's seed; no callback got stuck
+-- before the first event
 pub record IsBegun (policy : List ℕ) (w : WorkloadState) (s : SimState) : Type 0 where
   pub file : PolicyFile
   pub machine : PolicyState

@@ -1,6 +1,7 @@
 use crate::places::Place;
 use crate::words::{push_number, push_value};
-use scx_isa::{Helper, Insn, Operand, Pointer, Register, Value, Width};
+use scx_asm_text::helper_name;
+use scx_isa::{Helper, Insn, MapHelper, Operand, Parameter, Pointer, Register, Value, Width};
 use scx_isa_semantics::immediate;
 use scx_sched::What;
 use scx_sched_world::{Cause, World};
@@ -102,6 +103,7 @@ fn operand_value(operand: Operand, core: &Core) -> Value {
 fn push_call<N: Names>(number: i32, core: &Core, names: &N, words: &mut Text) {
     match Helper::new(number) {
         Some(Helper::MapLookupElem) => push_lookup(core, names, words),
+        Some(Helper::OnMap(helper)) => push_on_map(helper, core, names, words),
         Some(helper) => {
             let call = HelperCall {
                 helper,
@@ -118,6 +120,33 @@ fn push_call<N: Names>(number: i32, core: &Core, names: &N, words: &mut Text) {
         }
         None => words.push("no helper"),
     }
+}
+
+/// Appends a helper on a map: the map, and what it takes beside.
+fn push_on_map<N: Names>(helper: MapHelper, core: &Core, names: &N, words: &mut Text) {
+    words.push(helper_name(Helper::OnMap(helper)));
+    words.push("(");
+    push_value(core.read(Register::R1), names, words);
+    push_argument(helper.parameter(1), core.read(Register::R2), names, words);
+    push_argument(helper.parameter(2), core.read(Register::R3), names, words);
+    push_argument(helper.parameter(3), core.read(Register::R4), names, words);
+    words.push(")");
+}
+
+/// Appends an argument of a helper on a map, if it takes one there.
+fn push_argument<N: Names>(
+    parameter: Option<Parameter>,
+    value: Value,
+    names: &N,
+    words: &mut Text,
+) {
+    match parameter {
+        None => return,
+        Some(Parameter::Key) => words.push(", key at "),
+        Some(Parameter::Value | Parameter::Room) => words.push(", value at "),
+        Some(_) => words.push(", "),
+    }
+    push_value(value, names, words);
 }
 
 /// Appends the look-up of an element: the map, and the place of the key.

@@ -1,5 +1,5 @@
 -- The figures of a run as tables for people, with a line of heads above each.
-use Rattle.std.specs.Prelude.{ℕ, ℤ, Bool, true, false, if◌then◌else◌, List, [], ◌∷◌, ◌++◌, codes, decimal, length, Option, Some, None}
+use Rattle.std.specs.Prelude.{ℕ, ℤ, Bool, true, false, if◌then◌else◌, List, [], ◌∷◌, ◌++◌, codes, decimal, length, Option, Some, None, is_none}
 use Rattle.std.specs.Fmt.{signed_decimal}
 use Rattle.scx_sched_world.specs.Faults.{fault_number}
 use Rattle.scx_sched_world.specs.declared.eject.Eject.{Eject}
@@ -137,6 +137,14 @@ policy_end f (Some (cause.Exit n clock)) words = exit_end n clock words
 -- the line of the policy
 unfoldable pub policy_row : Figures → List ℕ → List ℕ
 policy_row f words = codes "policy  " ++ policy_end f f.ejected words
+
+-- what `check` writes: the line of the policy, with these words to a fault or exit
+unfoldable pub check_line : Figures → List ℕ → List ℕ
+check_line f words = codes "policy " ++ policy_end f f.ejected words
+
+-- the policy is in force at the end
+abbrev pub is_in_force : Figures → Bool
+is_in_force f = is_none f.ejected
 
 -- ---- all of them
 

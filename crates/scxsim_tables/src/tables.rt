@@ -1,7 +1,7 @@
 ghost use Rattle.std.specs.Prelude.{◌<◌, length, Bool};
 ghost use Rattle.scxsim_output.specs.Texts.{Puts};
 ghost use Rattle.scxsim_tables.specs.Cells.{all_below};
-ghost use Rattle.scxsim_tables.specs.Tables.{wait_cells, task_cells, parked_cell, task_row, task_heads, task_table, cpu_line, cpu_row, cpu_table, group_line, group_row, group_table, quota_cells, quota_row, quota_rows, quota_table, when_ejected, stall_end, fault_end, exit_end, policy_end, policy_row, lower_rows, table_rows};
+ghost use Rattle.scxsim_tables.specs.Tables.{wait_cells, task_cells, parked_cell, task_row, task_heads, task_table, cpu_line, cpu_row, cpu_table, group_line, group_row, group_table, quota_cells, quota_row, quota_rows, quota_table, when_ejected, stall_end, fault_end, exit_end, policy_end, policy_row, check_line, lower_rows, table_rows};
 
 use crate::names::{group_name, has_quota, limit_of, task_name};
 use crate::numbers::{
@@ -60,6 +60,15 @@ fn write_policy(figures: &Figures, words: &str, page: &mut Text)
     ensures { Puts page.old (policy_row figures.now words.now) page.new }
 {
     page.push("policy  ");
+    write_end(figures, figures.ejected, words, page);
+}
+
+/// Writes the line of `check`: that the policy is in force at the end, or the clock and the cause of its ejection.
+#[tactic(auto, unfolding(crate::specs::Tables::check_line))]
+pub(crate) fn write_check(figures: &Figures, words: &str, page: &mut Text)
+    ensures { Puts page.old (check_line figures.now words.now) page.new }
+{
+    page.push("policy ");
     write_end(figures, figures.ejected, words, page);
 }
 

@@ -191,7 +191,11 @@ fn table_rows(alloc: Global, figures: &Figures, start: Sim) -> Result<String, Al
 }
 
 /// The words to the fault or exit for which the policy was ejected, if it was ejected for one.
-fn words_of_cause(alloc: Global, figures: &Figures, start: Sim) -> Result<String, AllocError> {
+pub(crate) fn words_of_cause(
+    alloc: Global,
+    figures: &Figures,
+    start: Sim,
+) -> Result<String, AllocError> {
     let place = place_of_cause(alloc, figures, start)?;
     let mut words = Text::new(alloc);
     write_cause(figures, place, &mut words);

@@ -5,6 +5,8 @@ use crate::requests::{Account, PolicyCommand, ProgramCommand};
 pub(crate) enum Kind {
     Program(ProgramCommand),
     Policy(PolicyCommand),
+    /// One callback of a policy.
+    Callback(PolicyCommand),
     Run(Account),
     /// A part of a run.
     Part(Account),
@@ -27,6 +29,7 @@ pub(crate) enum Argument {
     Slots,
     Text,
     Policy,
+    Callback,
     Workload,
     /// A workload for a search.
     SmallWorkload,
@@ -46,6 +49,8 @@ const SLOTS: [Argument; 1] = [Argument::Slots];
 const TEXT: [Argument; 1] = [Argument::Text];
 
 const POLICY: [Argument; 1] = [Argument::Policy];
+
+const CALLBACK: [Argument; 2] = [Argument::Policy, Argument::Callback];
 
 const RUN: [Argument; 2] = [Argument::Policy, Argument::Workload];
 
@@ -86,6 +91,7 @@ impl Kind {
             Kind::Program(ProgramCommand::Asm) => &TEXT,
             Kind::Program(_) => &SLOTS,
             Kind::Policy(_) => &POLICY,
+            Kind::Callback(_) => &CALLBACK,
             Kind::Run(_) => &RUN,
             Kind::Part(_) => &PART,
             Kind::Task(_) => &TASK,
@@ -104,6 +110,7 @@ impl Argument {
         match self {
             Argument::Slots | Argument::Text | Argument::Cases => "FILE",
             Argument::Policy => "POLICY",
+            Argument::Callback => "CALLBACK",
             Argument::Workload | Argument::SmallWorkload => "WORKLOAD",
             Argument::Events => "EVENTS",
             Argument::From => "FROM",
@@ -130,6 +137,7 @@ impl Argument {
             Argument::Policy => {
                 "A policy file (TOML, at most 1 MiB): programs for callbacks, and maps; see docs/FILES.md"
             }
+            Argument::Callback => "The name of a callback of the policy, as enqueue",
             Argument::Workload => {
                 "A workload file (TOML, at most 1 MiB): 1 to 64 CPUs, groups and tasks; see docs/FILES.md"
             }
@@ -171,7 +179,7 @@ pub(crate) fn forms() -> &'static [Form] {
     &FORMS
 }
 
-const FORMS: [Form; 24] = [
+const FORMS: [Form; 26] = [
     Form {
         name: "verify",
         kind: Kind::Policy(PolicyCommand::Verify),
@@ -185,6 +193,12 @@ const FORMS: [Form; 24] = [
         example: "Example: scxsim explain examples/policies/fifo.toml\nprints:  for each callback the line of verify, and then its instructions, as in\n         init ok 3\n            0  r1 = 0                 nothing\n            1  call 1001  create_dsq  r1 number 0\n            2  exit                   r0 number\nand, below a refused instruction, the reason. docs/FILES.md explains these lines.",
     },
     Form {
+        name: "explain-one",
+        kind: Kind::Callback(PolicyCommand::ExplainOne),
+        about: "Show what the verifier knows before each instruction of one callback",
+        example: "Example: scxsim explain-one examples/policies/fifo.toml init\nprints:  init ok 3\n            0  r1 = 0                 nothing\n            1  call 1001  create_dsq  r1 number 0\n            2  exit                   r0 number\nThe status is 1 if the callback is refused. docs/FILES.md explains these lines.",
+    },
+    Form {
         name: "run",
         kind: Kind::Run(Account::Trace),
         about: "Run a workload under a policy, and print a line for each event",
@@ -195,6 +209,12 @@ const FORMS: [Form; 24] = [
         kind: Kind::Run(Account::Report),
         about: "Run a workload, and print how long each task ran",
         example: "Example: scxsim report examples/policies/short_slices.toml examples/workloads/two_tasks.toml\nprints:  task a run 2 share 5000\n         task b run 2 share 5000\n         total 4\n         policy in force\nrun is in milliseconds, and share in parts of 10000 of the total.",
+    },
+    Form {
+        name: "check",
+        kind: Kind::Run(Account::Check),
+        about: "Run a workload, and print one line on how the policy ended; the status is 1 if it was ejected",
+        example: "Example: scxsim check examples/policies/short_slices.toml examples/workloads/two_tasks.toml\nprints:  policy in force\nor, with status 1, when and why the policy was ejected, as in\n         policy ejected at 0 ms: fault 1 in enqueue at slot 3 (no such queue)\nand, on standard error, the line of the policy's file. docs/CI.md uses it.",
     },
     Form {
         name: "stats",

@@ -11,6 +11,8 @@ pub enum ProgramCommand {
 pub enum PolicyCommand {
     Verify,
     Explain,
+    /// As `Explain`, of one callback.
+    ExplainOne,
 }
 
 /// An account of a run.
@@ -18,6 +20,8 @@ pub enum PolicyCommand {
 pub enum Account {
     Trace,
     Report,
+    /// One line on how the policy ended.
+    Check,
     Stats,
     StatsCsv,
     Why,
@@ -50,6 +54,8 @@ pub enum Request<'a> {
     Policy {
         command: PolicyCommand,
         path: &'a str,
+        /// The name of a callback, if the output is about one.
+        callback: Option<&'a str>,
     },
     Run {
         account: Account,

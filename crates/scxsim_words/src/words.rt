@@ -5,7 +5,7 @@ use std::alloc::{AllocError, Global};
 use std::convert::AsStr;
 
 /// The version. It is written here alone: scripts ask the program for it.
-const VERSION: &str = "0.14.0";
+const VERSION: &str = "0.15.0";
 
 /// The request of a command line. `clap` refuses words that name no command and its files, so there is a
 /// request wherever it accepts them.
@@ -31,9 +31,10 @@ fn request_of<'a>(name: &str, command: &ArgMatches<'a>) -> Option<Request<'a>> {
             command: of,
             path: text_of(command, Argument::Slots)?,
         }),
-        Kind::Policy(of) => Some(Request::Policy {
+        Kind::Policy(of) | Kind::Callback(of) => Some(Request::Policy {
             command: of,
             path: text_of(command, Argument::Policy)?,
+            callback: text_of(command, Argument::Callback),
         }),
         Kind::Run(account) | Kind::Part(account) | Kind::Task(account) | Kind::Moment(account) =>
             run_of(account, command, Argument::Workload),

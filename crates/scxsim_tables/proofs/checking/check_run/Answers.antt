@@ -1,0 +1,11 @@
+use Rattle.scxsim_tables.proofs.checking.check_run.Goals as goal
+
+pub returns-clause-done : goal.returns-clause-done
+returns-clause-done g c =
+    let found = c.in_ok-checked.ensures.checked in
+    (found.0, found.1, found.2, found.3, rw (c.as_bytes.ensures.value, c.as_str.ensures.value, found.4) at c.in_ok-write_all.ensures.ok)
+
+pub returns-in_err-write_all-clause-cut : goal.returns-in_err-write_all-clause-cut
+returns-in_err-write_all-clause-cut g c = λ _.
+    let found = c.in_ok-checked.ensures.checked in
+    (found.0, found.1, found.3, rw (c.as_bytes.ensures.value, c.as_str.ensures.value, found.4) at c.in_err-write_all.ensures.err)

@@ -1,0 +1,101 @@
+ghost use Rattle.std.specs.Prelude.{◌≡◌, ℕ, List, Err, IfOk, IfErr, OnOk, string_bytes};
+ghost use Rattle.std.specs.Io.KnownBytes.{Appends};
+ghost use Rattle.scxsim_output.specs.Output.{HasFailed, AppendsBeginning};
+ghost use Rattle.scxsim_commands.specs.Outcome.{IfRefused, IsRefused};
+ghost use Rattle.scxsim_simulation.specs.Runs.{IsCause};
+ghost use Rattle.scxsim_statistics.specs.Figures.{AreOfTexts};
+ghost use Rattle.scxsim_statistics.specs.declared.gathering.Figures.{Figures as AllFigures};
+ghost use Rattle.scxsim_tables.specs.Tables.{check_line, is_in_force};
+
+use crate::tables::write_check;
+use crate::telling::words_of_cause;
+use scx_sched::Sim;
+use scxsim_commands::{Fault, Refusal};
+use scxsim_output::{Out, Text, write_all};
+use scxsim_simulation::Listener;
+use scxsim_statistics::{Figures, FiguresAndStart, figures_and_start};
+use std::alloc::{AllocError, Global};
+
+/// The line of a run, and whether its policy is in force at the end.
+#[derive(Drop)]
+struct Checked {
+    line: String,
+    is_in_force: bool,
+}
+
+/// Writes one line on the run of a policy file's text and a workload file's: that the policy is in force at the end,
+/// or when and why it was ejected. The answer is whether it is in force.
+///
+/// # Errors
+///
+/// The texts are refused, or memory runs out, and then nothing is written, or writing the line fails.
+pub fn check_run<L: Listener, W: Out>(
+    alloc: Global,
+    policy: &str,
+    workload: &str,
+    listener: &mut L,
+    out: &mut W,
+) -> Result<bool, Fault>
+    // The line is of the run's figures, with some words to a fault or exit.
+    ensures done { IfOk result (λ answer. (f : AllFigures)
+        × AreOfTexts policy.now workload.now f × (answer ≡ is_in_force f) × (words : List ℕ)
+        × Appends (W.contents out.old) (W.contents out.new) (check_line f words)) }
+    ensures unfailed { OnOk result (W.failure_count out.new ≡ W.failure_count out.old) }
+
+    // A refusal has its cause in the texts, and comes before any byte is written.
+    ensures refused { IfRefused result (IsCause policy.now workload.now) }
+    ensures quiet { IsRefused result → out.new ≡ out.old }
+
+    // The line is cut off where writing fails.
+    ensures cut { result ≡ Err Fault.WriteFailed
+        → (f : AllFigures) × AreOfTexts policy.now workload.now f × (words : List ℕ)
+        × AppendsBeginning (W.contents out.old) (W.contents out.new) (check_line f words) }
+    ensures counted { result ≡ Err Fault.WriteFailed
+        → HasFailed (W.failure_count out.old) (W.failure_count out.new) }
+{
+    let checked = checked_of(alloc, policy, workload, listener)?;
+    write_all(out, checked.line.as_str().as_bytes())?;
+    Ok(checked.is_in_force)
+}
+
+/// The line of the run. All memory is taken before the first byte is written.
+fn checked_of<L: Listener>(
+    alloc: Global,
+    policy: &str,
+    workload: &str,
+    listener: &mut L,
+) -> Result<Checked, Refusal>
+    ensures checked { IfOk result (λ checked. (f : AllFigures)
+        × AreOfTexts policy.now workload.now f × (checked.is_in_force ≡ is_in_force f)
+        × (words : List ℕ) × (string_bytes checked.line ≡ check_line f words)) }
+    ensures refused { IfErr result (IsCause policy.now workload.now) }
+{
+    let FiguresAndStart { figures, start } = figures_and_start(alloc, policy, workload, listener)?;
+    let is_in_force = stays_in_force(&figures);
+    let line = line_of(alloc, &figures, start);
+    drop(figures);
+    let line = line?;
+    Ok(Checked { line, is_in_force })
+}
+
+/// True if the policy is in force at the end.
+fn stays_in_force(figures: &Figures) -> bool
+    ensures { result ≡ is_in_force figures.now }
+{
+    match figures.ejected {
+        None => true,
+        Some(_) => false,
+    }
+}
+
+/// The line of these figures, of a run that begins with that machine.
+fn line_of(alloc: Global, figures: &Figures, start: Sim) -> Result<String, AllocError>
+    ensures { IfOk result (λ line. (words : List ℕ)
+        × (string_bytes line ≡ check_line figures.now words)) }
+{
+    let words = words_of_cause(alloc, figures, start)?;
+    let mut line = Text::new(alloc);
+    write_check(figures, words.as_str(), &mut line);
+    drop(words);
+    line.finish()
+}
