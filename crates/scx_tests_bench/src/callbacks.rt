@@ -7,7 +7,7 @@ ghost use Rattle.scx_vm.specs.Arguments as values;
 use crate::Sum;
 use crate::programs::{accepted, assembled, encoded, verify_times};
 use scx_isa::{Callback, TaskId};
-use scx_maps::{Maps, Shape};
+use scx_maps::{MapKind, Maps, Shape};
 use scx_tests_examples::{OneTask, WITHOUT_SELECT_CPU};
 use scx_verify::Verified;
 use scx_vm::{Arg, Args};
@@ -54,6 +54,7 @@ exit
 const CLOCK: [Shape; 1] = [Shape {
     entries: 1,
     value_size: 8,
+    kind: MapKind::Array,
 }];
 
 /// Verifies each callback `times` times.

@@ -1,13 +1,14 @@
 //! An array map whose numbers are counted up.
 
 use crate::Sum;
-use scx_maps::{MapDefs, Maps, Shape, Size};
+use scx_maps::{MapDefs, MapKind, Maps, Shape, Size};
 use std::alloc::Global;
 
 /// One map of 4096 values of 64 bytes.
 const SHAPES: [Shape; 1] = [Shape {
     entries: 4096,
     value_size: 64,
+    kind: MapKind::Array,
 }];
 
 /// Adds 1 to a number of some element of a map, over and over.

@@ -8,7 +8,7 @@ ghost use Rattle.scx_vm.specs.Programs.{context};
 use crate::Sum;
 use scx_asm::{assemble, disassemble};
 use scx_isa::{Callback, Program, decode, encode};
-use scx_maps::{MapDefs, Shape};
+use scx_maps::{MapDefs, MapKind, Shape};
 use scx_verify::{Fault, Verified, verify};
 use scx_vm_run::run_alone;
 use std::alloc::Global;
@@ -17,6 +17,7 @@ use std::alloc::Global;
 const VALUE: [Shape; 1] = [Shape {
     entries: 1,
     value_size: 64,
+    kind: MapKind::Array,
 }];
 
 fn decoded(alloc: Global, bytes: &[u8]) -> Option<Program> {

@@ -1,5 +1,5 @@
 use crate::same::expect_same;
-use scx_maps::{BadShape, MapDefs, Maps, Shape, Size};
+use scx_maps::{BadShape, MapDefs, MapKind, Maps, Shape, Size};
 use std::process::Abort;
 use std::test::Fail;
 
@@ -8,6 +8,7 @@ macro_rules! shape {
         Shape {
             entries: $entries,
             value_size: $value_size,
+            kind: MapKind::Array,
         }
     };
 }
@@ -58,8 +59,8 @@ fn bytes(maps: &Maps, map: u8, index: u32) -> &[u8] {
 
 /// Writes a byte over each byte of an element.
 fn fill(maps: &mut Maps, map: u8, index: u32, byte: u8) {
-    if 0 < maps.value_size(map, index) {
-        maps.value_mut(map, index).fill(byte);
+    for offset in 0..maps.value_size(map, index) {
+        store(maps, map, index, offset, Size::Byte, u64::from(byte));
     }
 }
 

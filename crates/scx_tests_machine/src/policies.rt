@@ -2,7 +2,7 @@
 
 use scx_asm::assemble;
 use scx_isa::Callback;
-use scx_maps::{MapDefs, Shape};
+use scx_maps::{MapDefs, MapKind, Shape};
 use scx_sched::{Callbacks, Policy};
 use scx_tests_examples::{DISPATCH, INIT};
 use scx_verify::{Verified, verify};
@@ -16,6 +16,7 @@ pub(crate) fn defs(rt: &impl Abort) -> MapDefs {
     let shape = Shape {
         entries: 1,
         value_size: 8,
+        kind: MapKind::Array,
     };
     MapDefs::new(&[shape]).expect(rt, "the shape is within the limits")
 }

@@ -5,7 +5,7 @@
 use crate::same::expect_same;
 use scx_asm::assemble;
 use scx_isa::{Callback, decode, encode, flow};
-use scx_maps::{MapDefs, Shape};
+use scx_maps::{MapDefs, MapKind, Shape};
 use scx_tests_examples::{WITHOUT_SELECT_CPU, xorshift};
 use scx_verify::verify;
 use std::alloc::{AllocError, Global};
@@ -37,6 +37,7 @@ fn defs<R: Abort>(rt: &R) -> MapDefs {
     let clock = [Shape {
         entries: 1,
         value_size: 8,
+        kind: MapKind::Array,
     }];
     MapDefs::new(&clock).expect(rt, "the shapes are within the limits")
 }

@@ -9,7 +9,7 @@ use scxsim_pictures::{picture, timeline};
 use scxsim_simulation::{Listener, report, simulate};
 use scxsim_steps::step;
 use scxsim_story::story;
-use scxsim_tables::{stats, stats_csv};
+use scxsim_tables::{check_run, stats, stats_csv};
 use scxsim_why::why;
 use std::alloc::Global;
 
@@ -18,6 +18,7 @@ use std::alloc::Global;
 pub(crate) enum RunCommand {
     Trace,
     Report,
+    Check,
     Stats,
     StatsCsv,
     Why,
@@ -29,9 +30,10 @@ pub(crate) enum RunCommand {
     Picture,
 }
 
-pub(crate) const RUN_COMMANDS: [RunCommand; 11] = [
+pub(crate) const RUN_COMMANDS: [RunCommand; 12] = [
     RunCommand::Trace,
     RunCommand::Report,
+    RunCommand::Check,
     RunCommand::Stats,
     RunCommand::StatsCsv,
     RunCommand::Why,
@@ -60,6 +62,7 @@ pub(crate) fn execute<L: Listener, W: Out>(
     match command {
         RunCommand::Trace => simulate(alloc, policy, workload, listener, out),
         RunCommand::Report => report(alloc, policy, workload, listener, out),
+        RunCommand::Check => check_run(alloc, policy, workload, listener, out),
         RunCommand::Stats => stats(alloc, policy, workload, listener, out),
         RunCommand::StatsCsv => stats_csv(alloc, policy, workload, listener, out),
         RunCommand::Why => why(alloc, policy, workload, listener, out),

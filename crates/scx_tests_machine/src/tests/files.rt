@@ -6,7 +6,7 @@ use scx_load::{
     Cause, Change, Group, LoadError, PolicyText, Timing, Weighed, Workload, build, read_policy,
     read_workload,
 };
-use scx_maps::Shape;
+use scx_maps::{MapKind, Shape};
 use std::process::Abort;
 
 /// Tasks wait in queue 0, in order of arrival, and run for 2 ms.
@@ -51,6 +51,7 @@ fn a_policy_has_a_timeout_and_maps(rt: HostRuntime) {
     let shape = Shape {
         entries: 1,
         value_size: 8,
+        kind: MapKind::Array,
     };
     expect_same(&rt, head_of(&rt, POLICY), (5, 1, Some(shape)), "a policy");
     expect_same(&rt, head_of(&rt, ""), (30_000, 0, None), "an empty file");

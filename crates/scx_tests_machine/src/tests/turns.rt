@@ -5,8 +5,8 @@ use crate::policies::{TWO_MILLISECONDS, policy, tree};
 use crate::recorder::Recorder;
 use crate::same::expect_same;
 use crate::session::Session;
+use scx_load_driver::run_events;
 use scx_sched::{Event, Place, Refused};
-use scxsim_headline::run_events;
 use std::process::Abort;
 
 /// Both tasks wake, and four milliseconds go by.

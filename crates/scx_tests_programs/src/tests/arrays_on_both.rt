@@ -1,7 +1,7 @@
 //! Programs with masked and tested offsets into a value, run in operations and by the machine with tags.
 
 use super::both_machines::{Texts, expect_left_the_same};
-use scx_maps::Shape;
+use scx_maps::{MapKind, Shape};
 use scx_tests_examples::Numbers;
 use std::alloc::{AllocError, Global};
 use std::fmt::Write;
@@ -10,6 +10,7 @@ use std::fmt::Write;
 pub(crate) const ARRAYS: [Shape; 1] = [Shape {
     entries: 4,
     value_size: 64,
+    kind: MapKind::Array,
 }];
 
 /// r6 becomes the map value of the key 1, and r8 a number of which nothing is known.

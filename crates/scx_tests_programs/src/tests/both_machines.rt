@@ -7,7 +7,7 @@ ghost use Rattle.scx_vm.specs.Programs.{context};
 use crate::same::expect_same;
 use scx_asm::assemble;
 use scx_isa::{Callback, TaskId, flow};
-use scx_maps::{MapDefs, Maps, Shape};
+use scx_maps::{MapDefs, MapKind, Maps, Shape};
 use scx_tests_examples::{Numbers, OneTask};
 use scx_verify::{Verified, verify};
 use scx_vm::{Arg, Args, Done};
@@ -27,6 +27,7 @@ const TRIED: u32 = 400_000;
 pub(crate) const SHAPES: [Shape; 1] = [Shape {
     entries: 4,
     value_size: 8,
+    kind: MapKind::Array,
 }];
 
 /// A run's answer and length, and what it left.

@@ -3,7 +3,7 @@
 use crate::same::expect_same;
 use scx_asm::assemble;
 use scx_isa::{Callback, Helper, Program, TaskId, flow};
-use scx_maps::{MapDefs, Maps, Shape, Size};
+use scx_maps::{MapDefs, MapKind, Maps, Shape, Size};
 use scx_tests_examples::{DISPATCH, ENABLE, ENQUEUE, INIT, OneTask, RUNNING, STOPPING};
 use scx_vm::{Arg, Args};
 use scx_vm_tagged::{Ending, run_unwatched};
@@ -65,6 +65,7 @@ fn map_of(alloc: Global, number: u64) -> Option<Maps> {
     let shapes = [Shape {
         entries: 1,
         value_size: 8,
+        kind: MapKind::Array,
     }];
     let defs = MapDefs::new(&shapes).ok()?;
     let mut maps = Maps::new(alloc, &defs).ok()?;
