@@ -5,7 +5,7 @@
  *
  *   case NAME                           begins a policy with its workload
  *   ops TYPE SIZE OF                    type of the struct_ops map's value, its size, and the type of sched_ext_ops
- *   map ENTRIES SIZE                    an array map; programs name it by its place, and the last is that of exit
+ *   map TYPE KEY_SIZE ENTRIES SIZE      a map; programs name it by its place, and the last is that of exit
  *   timers COUNT                        an array map whose values are timers
  *   set OFFSET SIZE NUMBER              a field of the value
  *   name OFFSET TEXT                    the policy's name, in the value
@@ -17,6 +17,7 @@
  *   load                                loads alone, and writes the verdict on each program
  */
 #define _GNU_SOURCE
+#include <dirent.h>
 #include <errno.h>
 #include <fcntl.h>
 #include <sched.h>
@@ -44,6 +45,7 @@
 #define TASKS 64
 #define SCHED_EXT 7
 #define MS 1000000ull
+#define TICK (4 * MS)
 
 /* Of linux/bpf.h only what is used, as the headers of an older system lack some of it. */
 enum { MAP_CREATE = 0, MAP_LOOKUP = 1, MAP_UPDATE = 2, PROGRAM_LOAD = 5, BTF_LOAD = 18, LINK_CREATE = 28 };
@@ -133,6 +135,24 @@ static void wait_until(uint64_t when)
 
 	while (clock_nanosleep(CLOCK_MONOTONIC, TIMER_ABSTIME, &time, 0) == EINTR)
 		;
+}
+
+/* Lets a process run on these CPUs alone, a bit for each. */
+static int keep_to(pid_t pid, unsigned long long mask)
+{
+	cpu_set_t set;
+
+	CPU_ZERO(&set);
+	for (int cpu = 0; cpu < 64; cpu++)
+		if (mask >> cpu & 1)
+			CPU_SET(cpu, &set);
+	return sched_setaffinity(pid, sizeof(set), &set);
+}
+
+/* The number of our own CPU, after those of the workload. */
+static int own_cpu(void)
+{
+	return sysconf(_SC_NPROCESSORS_ONLN) - 1;
 }
 
 static int write_file(const char *path, const char *text)
@@ -312,18 +332,18 @@ static void make_timers(int count)
 		fprintf(out, "error no map of %d timers: %s\n", count, strerror(errno));
 }
 
-static void make_map(int entries, int size)
+static void make_map(int type, int key_size, int entries, int size)
 {
 	union request request;
 
 	memset(&request, 0, sizeof(request));
-	request.map.type = TYPE_ARRAY;
-	request.map.key_size = 4;
+	request.map.type = type;
+	request.map.key_size = key_size;
 	request.map.value_size = size;
 	request.map.entries = entries;
 	maps[map_count] = bpf(MAP_CREATE, &request);
 	if (maps[map_count++] < 0)
-		fprintf(out, "error no map of %d elements of %d bytes: %s\n", entries, size, strerror(errno));
+		fprintf(out, "error no map of type %d with %d elements of %d bytes: %s\n", type, entries, size, strerror(errno));
 }
 
 /* Loads the programs and puts their files into the value; whether all were accepted. */
@@ -414,28 +434,37 @@ static uint64_t own_time(void)
 	return time.tv_sec * 1000 * MS + time.tv_nsec;
 }
 
-/* What a process of the workload does, to its end. */
-static void be_task(const struct task *task, int cpus)
+/*
+ * Makes the process a task of the policy, 50 ms before all begin and in the order of the workload. Until then it waits
+ * on the lowest CPU on which it may run, so that it wakes there first, and the policy has seen no sleep of it.
+ */
+static void become_task(const struct task *task, int cpus)
 {
 	struct sched_param parameter = { 0 };
+	unsigned long long mask = task->mask & (cpus < 64 ? (1ull << cpus) - 1 : ~0ull);
 	char path[160];
-	cpu_set_t set;
 
-	CPU_ZERO(&set);
-	for (int cpu = 0; cpu < cpus; cpu++)
-		if (task->mask >> cpu & 1)
-			CPU_SET(cpu, &set);
 	prctl(PR_SET_NAME, task->name);
-	sched_setaffinity(0, sizeof(set), &set);
+	prctl(PR_SET_TIMERSLACK, 1);
+	keep_to(0, mask & -mask);
 	if (task->group >= 0) {
 		snprintf(path, sizeof(path), "%s/cgroup.procs", groups[task->group].path);
 		write_file(path, "0");
 	}
 	setpriority(PRIO_PROCESS, 0, task->nice);
-	syscall(SYS_sched_setscheduler, 0, SCHED_EXT, &parameter);
+	counter += own_time();	/* their pages are there from now on */
 	__sync_fetch_and_add(&shared->ready, 1);
 	while (!shared->begin)
 		usleep(3000);
+	wait_until(shared->begin - 50 * MS + (task - tasks) * MS / 2);
+	keep_to(0, mask);
+	syscall(SYS_sched_setscheduler, 0, SCHED_EXT, &parameter);
+}
+
+/* What a process of the workload does, to its end. */
+static void be_task(const struct task *task, int cpus)
+{
+	become_task(task, cpus);
 	wait_until(shared->begin + task->start * MS);
 	while (!task->run)
 		counter++;
@@ -494,10 +523,10 @@ static void start_tasks(int cpus)
 		fprintf(out, "error %d tasks aren't ready\n", task_count - shared->ready);
 }
 
-/* All begin at one moment, and what they ran before doesn't count. */
+/* All begin at one moment, with a tick, and what they ran before doesn't count. */
 static uint64_t run_tasks(int ms)
 {
-	uint64_t begin = now() + 50 * MS;
+	uint64_t begin = (now() + 100 * MS) / TICK * TICK;
 	unsigned long long run[TASKS];
 	unsigned long turns[TASKS];
 	char state[64];
@@ -569,7 +598,7 @@ static void take_turns(void)
 {
 	char text[24];
 
-	snprintf(text, sizeof(text), "%ld", sysconf(_SC_NPROCESSORS_ONLN) - 1);
+	snprintf(text, sizeof(text), "%d", own_cpu());
 	write_file("/proc/irq/8/smp_affinity_list", text);
 	if (ioperm(0x70, 2, 1) < 0) {
 		fprintf(out, "note no ioperm: %s\n", strerror(errno));
@@ -579,11 +608,35 @@ static void take_turns(void)
 	write_clock_register(0x0b, read_clock_register(0x0b) | 0x40);
 }
 
+/*
+ * Keeps what the kernel does of its own off the workload's CPUs: after such a thread, and at a timer of the server of
+ * fair tasks, a CPU looks for a task of the policy, although no one kicked it. Threads of one CPU stay.
+ */
+static void keep_kernel_away(void)
+{
+	DIR *folder = opendir("/proc");
+	struct dirent *entry;
+	char text[80];
+
+	while (folder && (entry = readdir(folder)))
+		if (atoi(entry->d_name) > 1)
+			keep_to(atoi(entry->d_name), 1ull << own_cpu());
+	if (folder)
+		closedir(folder);
+	snprintf(text, sizeof(text), "%llx", 1ull << own_cpu());
+	write_file("/sys/devices/virtual/workqueue/cpumask", text);
+	for (int cpu = 0; cpu < own_cpu(); cpu++) {
+		snprintf(text, sizeof(text), "/sys/kernel/debug/sched/fair_server/cpu%d/runtime", cpu);
+		write_file(text, "0");
+	}
+}
+
 static void go(int cpus, int ms)
 {
 	int ops = -1, link;
 	uint64_t begin;
 
+	keep_kernel_away();
 	take_turns();
 	klogctl(5, 0, 0);
 	link = attach(&ops);
@@ -635,7 +688,7 @@ static void take_program(const char *rest)
 
 static void take_line(const char *word, const char *rest)
 {
-	int offset, size, length = 0;
+	int type, key_size, offset, size, length = 0;
 	unsigned long long number;
 
 	if (!strcmp(word, "case")) {
@@ -643,8 +696,8 @@ static void take_line(const char *word, const char *rest)
 		fprintf(out, "case %s\n", rest);
 	} else if (!strcmp(word, "ops")) {
 		sscanf(rest, "%u %u %u", &value_type, &value_size, &ops_type);
-	} else if (!strcmp(word, "map") && sscanf(rest, "%d %d", &offset, &size) == 2) {
-		make_map(offset, size);
+	} else if (!strcmp(word, "map") && sscanf(rest, "%d %d %d %d", &type, &key_size, &offset, &size) == 4) {
+		make_map(type, key_size, offset, size);
 	} else if (!strcmp(word, "timers") && sscanf(rest, "%d", &size) == 1) {
 		make_timers(size);
 	} else if (!strcmp(word, "behind") && sscanf(rest, "%d", &offset) == 1) {
@@ -672,23 +725,22 @@ static void take_line(const char *word, const char *rest)
 static void set_up(void)
 {
 	struct sched_param first = { 50 };
-	cpu_set_t last;
 
 	mount("devtmpfs", "/dev", "devtmpfs", 0, 0);
 	mount("proc", "/proc", "proc", 0, 0);
 	mount("sysfs", "/sys", "sysfs", 0, 0);
+	mount("debugfs", "/sys/kernel/debug", "debugfs", 0, 0);
 	mkdir("/cgroups", 0755);
 	mount("cgroup2", "/cgroups", "cgroup2", 0, 0);
 	write_file("/cgroups/cgroup.subtree_control", "+cpu");
 	write_file("/proc/sys/kernel/sched_schedstats", "1");
+	write_file("/proc/sys/vm/stat_interval", "3600");
 	shared = mmap(0, 4096, PROT_READ | PROT_WRITE, MAP_SHARED | MAP_ANONYMOUS, -1, 0);
 	out = fopen("/dev/ttyS1", "w");
 	if (!out)
 		out = stdout;
 	sched_setscheduler(0, SCHED_FIFO | SCHED_RESET_ON_FORK, &first);
-	CPU_ZERO(&last);
-	CPU_SET(sysconf(_SC_NPROCESSORS_ONLN) - 1, &last);
-	sched_setaffinity(0, sizeof(last), &last);
+	keep_to(0, 1ull << own_cpu());
 }
 
 int main(void)

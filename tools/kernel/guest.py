@@ -18,6 +18,8 @@ MACHINE += ["-nodefaults", "-display", "none", "-no-reboot", "-serial", "stdio"]
 # any, which may be many milliseconds.
 MACHINE += ["-rtc", "base=2026-01-01,clock=vm"]
 WORDS = "console=ttyS0 quiet panic=-1 mitigations=off rdinit=/init nokaslr tsc=reliable no_timer_check audit=0"
+# Without these a kernel has work of its own to do beside the workload, and tests its ciphers meanwhile.
+WORDS += " nowatchdog psi=0 deferred_probe_timeout=0 workqueue.power_efficient=1 cryptomgr.notests=1"
 
 
 class Failed(Exception):

@@ -8,7 +8,7 @@ import tomllib
 from pathlib import Path
 
 from kernel_types import NoCounterpart
-from translate import ARGUMENTS, code_of, shapes_of_maps
+from translate import ARGUMENTS, code_of, map_tables
 from kernel import slots
 
 SUBTRACT, DIVIDE, MODULO, SHIFTS = 0x10, 0x30, 0x90, (0x60, 0x70, 0xc0)
@@ -114,8 +114,7 @@ def mended(scxsim, path):
     found = list(findings(listings))
     keys = [key for key in ("name", "timeout_ms", "rules", "tick_ms", "keep_idle") if key in policy]
     lines = [f'{key} = "{policy[key]}"' if key in ("name", "rules") else f"{key} = {policy[key]}" for key in keys]
-    lines += [f"[[map]]\nentries = {entries}\nvalue_size = {size}" for entries, size in shapes_of_maps(policy)]
-    lines += [*(["[[timer]]"] * len(policy.get("timer", []))), "[slots]"]
+    lines += [*map_tables(policy), *(["[[timer]]"] * len(policy.get("timer", []))), "[slots]"]
     for callback in ARGUMENTS:
         code = code_of(scxsim, policy, callback)
         if code is not None:

@@ -8,7 +8,7 @@ from random import Random
 
 from kernel_types import NoCounterpart
 from mending import callbacks_of, explained, findings, mended
-from translate import callback_lines, code_of, known, ops_lines, rules_of
+from translate import callback_lines, code_of, known, map_tables, ops_lines, rules_of
 
 sys.path.append(str(Path(__file__).resolve().parents[2] / "tests"))
 from generator.pairs import SORTS
@@ -82,8 +82,7 @@ def alone(path, callback, folder, number):
     """The policy file with that one callback."""
     policy = tomllib.loads(Path(path).read_text())
     lines = ['rules = "linux"'] * (rules_of(policy) == "linux") + [f"keep_idle = {number}" for number in [policy.get("keep_idle")] if number]
-    lines += [f"[[map]]\nentries = {one['entries']}\nvalue_size = {one['value_size']}" for one in policy.get("map", [])]
-    lines += ["[[timer]]"] * len(policy.get("timer", []))
+    lines += [*map_tables(policy), *(["[[timer]]"] * len(policy.get("timer", [])))]
     table = "code" if callback in policy.get("code", {}) else "slots"
     lines += [f"[{table}]", f"{callback} = '''", policy[table][callback].strip("\n"), "'''"]
     target = folder / f"{number:05}.toml"

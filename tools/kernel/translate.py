@@ -26,6 +26,7 @@ GROUP, CPUS = 28, 40
 NICE = [88761, 71755, 56483, 46273, 36291, 29154, 23254, 18705, 14949, 11916, 9548, 7620, 6100, 4904, 3906, 3121, 2501, 1991,
         1586, 1277, 1024, 820, 655, 526, 423, 335, 272, 215, 172, 137, 110, 87, 70, 56, 45, 36, 29, 23, 18, 15]
 EXIT_VALUE = 24		# bytes that the exit callback keeps: kind, code and time
+MAP_TYPES = {"hash": 1, "array": 2, "percpu": 6, "queue": 22, "stack": 23}	# the kernel's numbers of the kinds of maps
 INSERT_FLAGS = {"SCX_ENQ_PREEMPT": 32, "SCX_ENQ_HEAD": 48}	# the bits that these have here
 LOST_BY_CALLS = re.compile(r"\br[0-5](?:\.\.r[0-5])? [^,]*(?:, )?")	# what explain says of r0 to r5
 ANSWERS_0 = slots.move_number(0, 0).bytes() + slots.Instruction(slots.EXIT).bytes()
@@ -291,7 +292,7 @@ def ops_lines(types, policy, more=()):
     start = types.offset("bpf_struct_ops_sched_ext_ops", "data")
     members = dict(types.members("sched_ext_ops"))
     yield f"ops {types.struct('bpf_struct_ops_sched_ext_ops')} {types.size('bpf_struct_ops_sched_ext_ops')} {types.struct('sched_ext_ops')}"
-    yield from map_lines(shapes_of_maps(policy))
+    yield from map_lines(policy.get("map", []))
     if "timer" in policy:
         yield f"timers {len(policy['timer'])}"
     yield from map_lines(more)
@@ -310,12 +311,21 @@ def mask_of(cpus):
     return mask
 
 
-def map_lines(shapes):
-    return [f"map {entries} {size}" for entries, size in shapes]
+def map_lines(maps):
+    """For each map the kernel's number of its kind, the bytes of a key, and how many values it has, of how many bytes."""
+    for one in maps:
+        kind = one.get("kind", "array")
+        if kind not in MAP_TYPES:
+            raise NoCounterpart(f"a kernel has no map of kind {kind}")
+        key_size = 0 if kind in ("queue", "stack") else one.get("key_size", 4)
+        yield f"map {MAP_TYPES[kind]} {key_size} {one['entries']} {one['value_size']}"
 
 
-def shapes_of_maps(policy):
-    return [(one["entries"], one["value_size"]) for one in policy.get("map", [])]
+def map_tables(policy):
+    """The tables of a policy's maps, as a policy file has them."""
+    for one in policy.get("map", []):
+        yield "[[map]]"
+        yield from (f'{key} = "{value}"' if key == "kind" else f"{key} = {value}" for key, value in one.items())
 
 
 def program_line(types, callback, code):
@@ -354,13 +364,13 @@ def callback_lines(types, callback, codes, facts, policy):
 def policy_lines(types, scxsim, path):
     """The lines for a policy with all its callbacks."""
     policy, facts = tomllib.loads(Path(path).read_text()), known(scxsim, path)
-    yield from ops_lines(types, policy, [(1, EXIT_VALUE)])
+    yield from ops_lines(types, policy, [{"entries": 1, "value_size": EXIT_VALUE}])
     has_timers, codes = "timer" in policy, {callback: code_of(scxsim, policy, callback) for callback in ARGUMENTS}
     for callback in ARGUMENTS:
         is_there = codes[callback] is not None or callback == "init" and has_timers
         if is_there and callback != "timer":
             yield from callback_lines(types, callback, codes, facts, policy)
-    yield program_line(types, "exit", exit_code(types, len(shapes_of_maps(policy)) + has_timers))
+    yield program_line(types, "exit", exit_code(types, len(policy.get("map", [])) + has_timers))
 
 
 def nice_of(weight):
