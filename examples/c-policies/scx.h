@@ -68,7 +68,7 @@ struct task {
 #define SCX_KICK_PREEMPT 2ull		/* in flags of a kick: the task that runs there loses its slice */
 
 /* The helpers, at their numbers. */
-static void *(*const map_lookup_elem)(u64 map, const u32 *key) = (void *)1;
+static void *(*const map_lookup_elem)(u64 map, const void *key) = (void *)1;
 static u64 (*const ktime_get_ns)(void) = (void *)5;
 static s64 (*const create_dsq)(u64 queue) = (void *)1001;
 static s64 (*const dsq_insert)(struct task *task, u64 queue, u64 slice, u64 flags) = (void *)1002;
@@ -79,8 +79,14 @@ static s64 (*const cpu_idle)(u64 cpu) = (void *)1006;
 static struct task *(*const task_by_pid)(u64 pid) = (void *)1007;
 static s64 (*const dsq_nr_queued)(u64 queue) = (void *)1008;
 /* By Linux rules alone. */
+static s64 (*const map_update_elem)(u64 map, const void *key, const void *value, u64 flags) = (void *)2;
+static s64 (*const map_delete_elem)(u64 map, const void *key) = (void *)3;
 static u64 (*const get_prandom_u32)(void) = (void *)7;
 static u64 (*const get_smp_processor_id)(void) = (void *)8;
+static s64 (*const map_push_elem)(u64 map, const void *value, u64 flags) = (void *)87;
+static s64 (*const map_pop_elem)(u64 map, void *room) = (void *)88;
+static s64 (*const map_peek_elem)(u64 map, void *room) = (void *)89;
+static void *(*const map_lookup_percpu_elem)(u64 map, const u32 *key, u64 cpu) = (void *)195;
 static s64 (*const kick_cpu)(u64 cpu, u64 flags) = (void *)1009;
 static s64 (*const exit_policy)(s64 code, u64 message) = (void *)1010;
 static struct task *(*const cpu_curr)(u64 cpu) = (void *)1011;
@@ -94,8 +100,16 @@ static s64 (*const timer_cancel)(u64 timer) = (void *)1018;
 static s64 (*const may_run)(struct task *task, u64 cpu) = (void *)1019;
 
 /* Map NUMBER of the policy, counted from 0, with this number of values of that type. */
-#define DEFINE_MAP(number, entries, type) \
-	SEC("maps") static const u32 map_##number[3] = { number, entries, sizeof(type) }
+#define DEFINE_MAP(number, entries, type) MAP_OF_KIND(number, entries, type, 0, 0)
+
+/* By Linux rules: such a map of another kind. A key of a hash has 4 or 8 bytes. */
+#define DEFINE_HASH(number, entries, key, type) MAP_OF_KIND(number, entries, type, 1, sizeof(key))
+#define DEFINE_QUEUE(number, entries, type) MAP_OF_KIND(number, entries, type, 2, 0)
+#define DEFINE_STACK(number, entries, type) MAP_OF_KIND(number, entries, type, 3, 0)
+#define DEFINE_PERCPU(number, entries, type) MAP_OF_KIND(number, entries, type, 4, 0)
+
+#define MAP_OF_KIND(number, entries, type, kind, key_size) \
+	SEC("maps") static const u32 map_##number[5] = { number, entries, sizeof(type), kind, key_size }
 
 /* The milliseconds that a task may wait; 30000 if nothing is said. */
 #define DEFINE_TIMEOUT(ms) \
@@ -120,13 +134,29 @@ static s64 (*const may_run)(struct task *task, u64 cpu) = (void *)1019;
 		map_; \
 	})
 
-/* A pointer to the element of a map at an index, or 0. The empty asm keeps clang from testing a copy for 0. */
+/* The pointer that a helper answers, or 0. The empty asm keeps clang from testing a copy for 0. */
+#define ELEMENT(answer) \
+	({ \
+		void *element_ = (answer); \
+		asm volatile("" : "+r"(element_)); \
+		element_; \
+	})
+
+/* A pointer to the element of a map at an index, or 0. */
 #define LOOKUP(number, index) \
 	({ \
 		u32 key_ = (index); \
-		void *element_ = map_lookup_elem(MAP(number), &key_); \
-		asm volatile("" : "+r"(element_)); \
-		element_; \
+		ELEMENT(map_lookup_elem(MAP(number), &key_)); \
+	})
+
+/* A pointer to the element of a hash with a key, whose address is given, or 0. */
+#define LOOKUP_KEY(number, key) ELEMENT(map_lookup_elem(MAP(number), key))
+
+/* A pointer to the element at an index in the copy of a CPU, or 0. */
+#define LOOKUP_CPU(number, index, cpu) \
+	({ \
+		u32 key_ = (index); \
+		ELEMENT(map_lookup_percpu_elem(MAP(number), &key_, cpu)); \
 	})
 
 /* A number of which clang knows nothing, so that a mask or a test of it is done, in 64 bits, on the register that is used. */

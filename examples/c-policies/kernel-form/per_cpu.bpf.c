@@ -3,8 +3,6 @@
 
 char _license[] SEC("license") = "GPL";
 
-UEI_DEFINE(uei);
-
 #define CPUS 2
 #define SLICE 4000000
 
@@ -32,14 +30,8 @@ s32 BPF_STRUCT_OPS_SLEEPABLE(per_cpu_init)
 	return 0;
 }
 
-void BPF_STRUCT_OPS(per_cpu_exit, struct scx_exit_info *ei)
-{
-	UEI_RECORD(uei, ei);
-}
-
 SCX_OPS_DEFINE(per_cpu_ops,
 	       .enqueue = (void *)per_cpu_enqueue,
 	       .dispatch = (void *)per_cpu_dispatch,
 	       .init = (void *)per_cpu_init,
-	       .exit = (void *)per_cpu_exit,
 	       .name = "per_cpu");

@@ -6,8 +6,6 @@
 
 char _license[] SEC("license") = "GPL";
 
-UEI_DEFINE(uei);
-
 #define SLICE 4000000
 
 enum {
@@ -37,16 +35,10 @@ s32 BPF_STRUCT_OPS_SLEEPABLE(round_robin_init)
 	return scx_bpf_create_dsq(STOPPED, -1);
 }
 
-void BPF_STRUCT_OPS(round_robin_exit, struct scx_exit_info *ei)
-{
-	UEI_RECORD(uei, ei);
-}
-
 SCX_OPS_DEFINE(round_robin_ops,
 	       .enqueue = (void *)round_robin_enqueue,
 	       .dispatch = (void *)round_robin_dispatch,
 	       .init = (void *)round_robin_init,
-	       .exit = (void *)round_robin_exit,
 	       .flags = SCX_OPS_ENQ_EXITING,
 	       .timeout_ms = 1000,
 	       .name = "round_robin");

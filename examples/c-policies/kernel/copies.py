@@ -6,7 +6,7 @@ here ends at each place to which a jump leads.
 """
 from . import slots
 
-POINTER_ANSWERS = (1, 1007, 1011, 1012)	# helpers that answer a pointer or NULL
+POINTER_ANSWERS = (1, 195, 1007, 1011, 1012)	# helpers that answer a pointer or NULL
 IS_NULL, IS_NOT_NULL = 0x15, 0x55
 LOADS, NUMBER_STORES, STORES, ALU, LONG_ALU = 1, 2, 3, 4, 7
 

@@ -122,8 +122,8 @@ NOTE_ERROR = 6
 ROUNDS = 8	# of a loop whose bounds aren't constant
 
 NOT_HERE = [
-    ("bpf_map_delete_elem", "write zeros into the element"),
-    ("bpf_map_lookup_percpu_elem", "use a map of type ARRAY, with an index for each CPU"),
+    ("bpf_map_delete_elem", "by plain rules write zeros into the element; Linux rules have it"),
+    ("bpf_map_lookup_percpu_elem", "by plain rules use a map of type ARRAY, with an index for each CPU; Linux rules have it"),
     ("bpf_task_storage_delete", "write zeros into the element"),
     ("bpf_cgrp_storage_get", "an array map by p->group, the number of the task's group in the workload"),
     ("bpf_timer_.*", "by plain rules do it in a callback, by scx_bpf_now(); Linux rules have timers"),
@@ -232,9 +232,9 @@ NO_FIELD = {
 MAP_KINDS = {1: "HASH", 2: "ARRAY", 5: "PERCPU_HASH", 6: "PERCPU_ARRAY", 9: "LRU_HASH", 12: "ARRAY_OF_MAPS", 13: "HASH_OF_MAPS",
              22: "QUEUE", 23: "STACK", 27: "RINGBUF", 29: "TASK_STORAGE", 31: "USER_RINGBUF", 32: "CGRP_STORAGE", 33: "ARENA"}
 NO_MAP = {
-    "HASH": "an array map by pid, or by another number that is small",
-    "PERCPU_HASH": "an array map by pid, or by another number that is small",
-    "LRU_HASH": "an array map by pid, or by another number that is small",
+    "HASH": "an array map by pid, or by another number that is small; Linux rules have hashes",
+    "PERCPU_HASH": "a hash, by Linux rules; else an array map by pid, or by another number that is small",
+    "LRU_HASH": "a hash, by Linux rules; else an array map by pid, or by another number that is small",
     "RINGBUF": "leave it out; nothing in user space reads it",
     "USER_RINGBUF": "leave it out; nothing in user space writes it",
     "CGRP_STORAGE": "an array map by p->group",

@@ -8,6 +8,7 @@ from .btf import Types, read_lines
 from .callback import Callback, NEVER_THERE
 from .elf import FUNCTION, Elf, text_at
 from .globals import GREATEST, Globals, holds_variables
+from .maps import KINDS, Map, is_one_copy, refusal, ring, unknown
 from .timer_callback import OfTimers
 from .timers import FIRST_FUNCTION, TimerMap, timer_offset
 from listing import tables, with_text
@@ -315,36 +316,39 @@ class Policy:
         return self.number_of_map(next((each for each in self.elf.objects_in(symbol.section) if each.value == start), symbol))
 
     def number_of_map(self, found):
-        if found.name not in [name for name, _, _ in self.maps]:
-            self.maps.append((found.name, *self.read_map(found)))
-        return [name for name, _, _ in self.maps].index(found.name) + (self.globals.size > 0)
+        if found.name not in [one.name for one in self.maps]:
+            self.maps.append(self.read_map(found))
+        return [one.name for one in self.maps].index(found.name) + (self.globals.size > 0)
 
     def name_of_map(self, number):
         """The name of a map, as words that follow its number."""
-        known = ["the variables"] * (self.globals.size > 0) + [name for name, _, _ in self.maps]
+        known = ["the variables"] * (self.globals.size > 0) + [one.name for one in self.maps]
         return f" ({known[number]})" if number < len(known) else ""
 
     def read_map(self, symbol):
-        """How many elements a map has, and of how many bytes."""
-        types, place = self.types, self.place_of_text(symbol.name)
+        """A map, as C says it."""
+        place, name = self.place_of_text(symbol.name), symbol.name
         pointed, numbers = self.said_of_map(symbol)
         kind = names.MAP_KINDS.get(numbers.get("type"), f"of the number {numbers.get('type')}")
-        entries, size = numbers.get("max_entries", 0), numbers.get("value_size") or types.size(pointed.get("value", 0))
-        key = numbers.get("key_size") or types.size(pointed.get("key", 0))
+        entries, size = numbers.get("max_entries", 0), numbers.get("value_size") or self.types.size(pointed.get("value", 0))
+        key = numbers.get("key_size") or self.types.size(pointed.get("key", 0))
+        is_shared = is_one_copy(kind, entries, size, self.rules)
         if kind == "TASK_STORAGE":
-            entries = self.tasks + 1	# pids are counted from 1
-        elif kind in ("QUEUE", "STACK"):
-            entries, size, key = entries + 1, max(8, -(-size // 8) * 8), 4	# element 0 has the counts
-        elif kind == "PERCPU_ARRAY":
-            self.warn(f"{place}: warning: {symbol.name} is an array of one copy, which all CPUs share")
-        elif kind != "ARRAY":
-            self.refuse(f"{place}: {symbol.name}: a map of type {kind} isn't here: {names.NO_MAP.get(kind, 'use an array map')}")
-            return 1, 8
-        if key != 4:
-            self.refuse(f"{place}: {symbol.name}: the key of an array has 4 bytes, not {key}")
-        if not 1 <= entries <= 65536 or not 1 <= size <= 4096:
-            self.refuse(f"{place}: {symbol.name}: {entries} elements of {size} bytes; a map has 1 to 65536, of 1 to 4096 bytes")
-        return entries, size
+            made = Map(name, self.tasks + 1, size, key=key)	# pids are counted from 1
+        elif kind == "ARRAY" or is_shared:
+            made = Map(name, entries, size, key=key)
+        elif kind in ("QUEUE", "STACK") and self.rules == "plain":
+            made = ring(name, entries, size)
+        elif kind in KINDS and self.rules == "linux":
+            made = Map(name, entries, size, KINDS[kind], key)
+        else:
+            self.refuse(f"{place}: {name}: {unknown(kind)}")
+            return Map(name, 1, 8)
+        if is_shared:
+            self.warn(f"{place}: warning: {name} is an array of one copy, which all CPUs share")
+        if wrong := refusal(made):
+            self.refuse(f"{place}: {name}: {wrong}")
+        return made
 
     # The policy file.
 
@@ -382,8 +386,8 @@ class Policy:
             lines.append('rules = "linux"')
         if self.keeps_idle:
             lines.append("keep_idle = 1")
-        maps = [("", 1, self.globals.size)] * (self.globals.size > 0) + self.maps
-        lines += [f"\n[[map]]\nentries = {entries}\nvalue_size = {size}" for _, entries, size in maps]
+        maps = [Map("", 1, self.globals.size)] * (self.globals.size > 0) + self.maps
+        lines += [one.text() for one in maps]
         lines += [f"\n[[timer]]{named(name)}" for shape in self.timers for name in shape.names()]
         codes = {callback: self.callbacks[callback] for callback in names.CALLBACKS if callback in self.callbacks}
         return "\n".join([*lines, "", *tables(codes, self.comment, program)]) + "\n"

@@ -358,6 +358,12 @@ static s64 (*const host_cpu_idle)(u64 cpu) = (void *)1006;
 static struct task_struct *(*const host_task_by_pid)(u64 pid) = (void *)1007;
 static s64 (*const host_dsq_nr_queued)(u64 queue) = (void *)1008;
 /* By Linux rules. */
+static s64 (*const host_map_update_elem)(void *map, const void *key, const void *value, u64 flags) = (void *)2;
+static s64 (*const host_map_delete_elem)(void *map, const void *key) = (void *)3;
+static s64 (*const host_map_push_elem)(void *map, const void *value, u64 flags) = (void *)87;
+static s64 (*const host_map_pop_elem)(void *map, void *value) = (void *)88;
+static s64 (*const host_map_peek_elem)(void *map, void *value) = (void *)89;
+static void *(*const host_map_lookup_percpu_elem)(void *map, const void *key, u64 cpu) = (void *)195;
 static u64 (*const host_get_prandom_u32)(void) = (void *)7;
 static u64 (*const host_get_smp_processor_id)(void) = (void *)8;
 static s64 (*const host_kick_cpu)(u64 cpu, u64 flags) = (void *)1009;
@@ -374,14 +380,41 @@ INSTEAD void *bpf_map_lookup_elem(void *map, const void *key)
 	return FORGOTTEN(host_map_lookup_elem(map, key));
 }
 
-/* An array's elements are all there from the start, so none is new. */
-#define bpf_map_update_elem(map, key, value, flags) \
+/* A map that a map of maps gave is a void pointer, and build refuses that map. */
+struct host_any_map {
+	int (*type)[BPF_MAP_TYPE_QUEUE];
+	int (*max_entries)[1];
+};
+#define HOST_MAP(map) ((__typeof__(_Generic((map), void *: (struct host_any_map *)NULL, default: (map))))(map))
+#define HOST_ENTRIES(map) (sizeof(*HOST_MAP(map)->max_entries) / sizeof(int))
+#define HOST_MAP_IS(map, kind) (sizeof(*HOST_MAP(map)->type) / sizeof(int) == BPF_MAP_TYPE_##kind)
+
+/* An array's elements are all there from the start, so none is new. Bytes that nothing wrote may be copied. */
+#define HOST_REPLACE(map, key, value, flags) \
 	({ \
 		__typeof__(*(value)) *element_ = bpf_map_lookup_elem(map, key); \
 		if (element_ && !((flags) & BPF_NOEXIST)) \
 			*element_ = *(value); \
 		!element_ ? -7l : (flags) & BPF_NOEXIST ? -17l : 0l; \
 	})
+#ifdef HOST_LINUX
+#define bpf_map_update_elem(map, key, value, flags) \
+	(HOST_MAP_IS(map, HASH) ? host_map_update_elem(map, key, value, flags) : HOST_REPLACE(map, key, value, flags))
+
+INSTEAD long bpf_map_delete_elem(void *map, const void *key)
+{
+	return host_map_delete_elem(map, key);
+}
+
+INSTEAD void *bpf_map_lookup_percpu_elem(void *map, const void *key, u32 cpu)
+{
+	return FORGOTTEN(host_map_lookup_percpu_elem(map, key, cpu));
+}
+#else
+#define bpf_map_update_elem(map, key, value, flags) HOST_REPLACE(map, key, value, flags)
+extern long bpf_map_delete_elem(void *map, const void *key);
+extern void *bpf_map_lookup_percpu_elem(void *map, const void *key, u32 cpu);
+#endif
 
 #define bpf_task_storage_get(map, p, value, flags) \
 	({ \
@@ -679,18 +712,26 @@ INSTEAD u32 bpf_get_prandom_u32(void)
 }
 #endif
 
+#ifdef HOST_LINUX
+INSTEAD long bpf_map_push_elem(void *map, const void *value, u64 flags)
+{
+	return host_map_push_elem(map, value, flags);
+}
+
+INSTEAD long bpf_map_pop_elem(void *map, void *value)
+{
+	return host_map_pop_elem(map, value);
+}
+
+INSTEAD long bpf_map_peek_elem(void *map, void *value)
+{
+	return host_map_peek_elem(map, value);
+}
+#else
 /*
  * A map that is a queue or a stack is an array map with an element more. Element 0 counts what was taken and what was
  * put; the others are a ring. The last of a stack is taken by one step back of what was put.
  */
-struct host_any_map {
-	int (*type)[BPF_MAP_TYPE_QUEUE];
-	int (*max_entries)[1];
-};
-/* A map that a map of maps gave is a void pointer, and build refuses that map. */
-#define HOST_MAP(map) ((__typeof__(_Generic((map), void *: (struct host_any_map *)NULL, default: (map))))(map))
-#define HOST_ENTRIES(map) (sizeof(*HOST_MAP(map)->max_entries) / sizeof(int))
-#define HOST_IS_STACK(map) (sizeof(*HOST_MAP(map)->type) / sizeof(int) == BPF_MAP_TYPE_STACK)
 #define bpf_map_push_elem(map, value, flags) \
 	({ \
 		u32 at_ = 0; \
@@ -717,11 +758,11 @@ struct host_any_map {
 		NOTE(NOTE_RING); \
 		if (counts_ && counts_[1] != counts_[0]) { \
 			__typeof__(value) element_; \
-			at_ = 1 + (HOST_IS_STACK(map) ? counts_[1] - 1 : counts_[0]) % HOST_ENTRIES(map); \
+			at_ = 1 + (HOST_MAP_IS(map, STACK) ? counts_[1] - 1 : counts_[0]) % HOST_ENTRIES(map); \
 			element_ = bpf_map_lookup_elem(map, &at_); \
 			if (element_) { \
 				*(value) = *element_; \
-				counts_[HOST_IS_STACK(map)] += HOST_IS_STACK(map) ? -(taken) : (taken); \
+				counts_[HOST_MAP_IS(map, STACK)] += HOST_MAP_IS(map, STACK) ? -(taken) : (taken); \
 				answer_ = 0; \
 			} \
 		} \
@@ -729,6 +770,7 @@ struct host_any_map {
 	})
 #define bpf_map_pop_elem(map, value) HOST_FRONT(map, value, 1)
 #define bpf_map_peek_elem(map, value) HOST_FRONT(map, value, 0)
+#endif
 
 /* An array that user space makes as long as there are CPUs: here as long as there are at most. */
 #define RESIZABLE_ARRAY(section, array) array[64]
@@ -1090,8 +1132,6 @@ extern void host_error(const char *message) asm("scx_bpf_error");
 	})
 
 /* Functions of the kernel that aren't here. build refuses a call with its line, and says what to write. */
-extern long bpf_map_delete_elem(void *map, const void *key);
-extern void *bpf_map_lookup_percpu_elem(void *map, const void *key, u32 cpu);
 extern long bpf_task_storage_delete(void *map, struct task_struct *p);
 extern void *bpf_cgrp_storage_get(void *map, struct cgroup *cgrp, void *value, u64 flags);
 extern long bpf_loop(u32 rounds, void *callback, void *context, u64 flags);
