@@ -21,17 +21,20 @@ _scxsim() {
     local current=${COMP_WORDS[COMP_CWORD]}
     COMPREPLY=()
     if [ "$COMP_CWORD" -eq 1 ]; then
-        _scxsim_words "verify explain run report stats stats-csv why story step timeline picture picture-part view view-part gantt gantt-part replay replay-csv explore explore-few exec asm dis cases help --help --version"
+        _scxsim_words "verify explain explain-one run report check stats stats-csv why story step timeline picture picture-part view view-part gantt gantt-part replay replay-csv explore explore-few exec asm dis cases help --help --version"
         return
     fi
     case ${COMP_WORDS[1]},$COMP_CWORD in
-        help,2) _scxsim_words "verify explain run report stats stats-csv why story step timeline picture picture-part view view-part gantt gantt-part replay replay-csv explore explore-few exec asm dis cases" ;;
+        help,2) _scxsim_words "verify explain explain-one run report check stats stats-csv why story step timeline picture picture-part view view-part gantt gantt-part replay replay-csv explore explore-few exec asm dis cases" ;;
         verify,2) _scxsim_files toml ;;
         explain,2) _scxsim_files toml ;;
+        explain-one,2) _scxsim_files toml ;;
         run,2) _scxsim_files toml ;;
         run,3) _scxsim_files toml ;;
         report,2) _scxsim_files toml ;;
         report,3) _scxsim_files toml ;;
+        check,2) _scxsim_files toml ;;
+        check,3) _scxsim_files toml ;;
         stats,2) _scxsim_files toml ;;
         stats,3) _scxsim_files toml ;;
         stats-csv,2) _scxsim_files toml ;;
