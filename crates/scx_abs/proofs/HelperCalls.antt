@@ -118,7 +118,7 @@ key_passes shapes a m z k v h w g = tt
 
 -- ---- values
 
--- so many bytes fit where more do
+-- fewer bytes fit where more do
 fewer_fit : (at n more size : ℕ) (P : Option ℕ → Type 0) → n ≤ more → at + more ≤ size → P (Some at) → P (fitting size n at)
 fewer_fit at n more size P fewer fits some = rw (le-leb (at + n) size (omega (arith, fewer, fits))) some
 

@@ -67,7 +67,7 @@ still_waits p s id t e passes w = (entry_only p s.entries t ∙ rw passes w.0, w
 pub first_is_known : (p : ℕ → Bool) (s : QueueState) (id : ℕ) (o : Option ℕ) → o ≡ front_of (only p s) id → IfSome o (λ t. t < task_count s)
 first_is_known p s id o e = subst (λ n. IfSome o (λ t. t < n)) (entries_long p 0 s.entries) (front_is_known (only p s) id o e)
 
--- where nobody waits none of them does
+-- in an empty queue none of them waits
 pub first_of_nobody : (p : ℕ → Bool) (s : QueueState) (id : ℕ) → NobodyIn s id → front_of (only p s) id ≡ None
 first_of_nobody p s id nobody = no_front (only p s) id (λ t e w. nobody t e (waits_only p s id t e w).1)
 

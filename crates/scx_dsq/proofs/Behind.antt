@@ -35,7 +35,7 @@ right_false true b e = e
 right_false false b e = refl
 
 module _ (s : QueueState) (links : List Link) (q : Queue) (stamps : HasOwnStamps s) (f : IsThreaded s.entries links q.id q.ends) (t : ℕ) (p : Entry) (w : In s.entries q.id t p) where
-  -- behind the last is nobody
+  -- no task comes after the last
   nobody_behind : IsLast s.entries q.id t → position (is_right_behind s.entries p) s.entries ≡ None
   nobody_behind l = no_position (is_right_behind s.entries p) s.entries (λ k d lt. go k (get_or s.entries k d) (get_or_default s.entries k None d lt))
     where
@@ -135,12 +135,12 @@ behind_at i k t p q h w fifo =
     go (by_heap held none) =
         absurd (both_ways (same_sort p.rank Fifo) (holds_vtime i.entries.items q.id q.heap.items held t p (w.waits, sym w.is)) fifo)
 
--- behind a task that waits nowhere is nobody
+-- no task comes after one that waits nowhere
 pub nobody_behind_none : (s : QueueState) (t : ℕ) → entry_of s t ≡ None → behind_of s t ≡ None
 unfolding behind_of
 nobody_behind_none s t e = ap (λ o. right_behind s.entries o) e
 
--- behind a task that waits by virtual time nobody is looked for
+-- after a task that waits by virtual time none is looked for
 pub nobody_behind_vtime : (s : QueueState) (t key : ℕ) (p : Entry) → entry_of s t ≡ Some p → p.rank ≡ Vtime key → behind_of s t ≡ None
 unfolding behind_of
 nobody_behind_vtime s t key p e r = ap (λ o. right_behind s.entries o) e ∙ ap (λ k. next_by k s.entries p) r

@@ -38,7 +38,7 @@ not_some (Some t) e = absurd (cc)
 same_ends : (f l : Option ℕ) (n : ℕ) → f ≡ None → l ≡ None → n ≡ 0 → ◌≡◌ {A = Ends} (record { first = f; last = l; count = n }) no_ends
 same_ends f l n a b c = rw (a, b, c) refl
 
--- a queue in which nobody waits has no ends
+-- an empty queue has no ends
 ends_of_nobody : (s : QueueState) (links : List Link) (id : ℕ) (ends : Ends) → NobodyIn s id → ends.first ≡ None → IsThreaded s.entries links id ends → ends ≡ no_ends
 ends_of_nobody s links id ends nobody none h = same_ends ends.first ends.last ends.count none (go ends.last h.last) (h.count ∙ nobody_counts s id nobody)
   where

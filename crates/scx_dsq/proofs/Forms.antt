@@ -27,7 +27,7 @@ use Rattle.scx_dsq.proofs.Holdings.{holds_front, holds_vtime}
 
 -- ---- an empty queue
 
--- a queue in which nobody waits is threaded, with no ends
+-- an empty queue is threaded, with no ends
 pub threaded_empty : (s : QueueState) (links : List Link) (id : ℕ) → NobodyIn s id → IsThreaded s.entries links id no_ends
 threaded_empty s links id nobody = record {
   first = nobody;
@@ -58,7 +58,7 @@ first_is_front s id f stamps sort h = record {
         let apart = two_turns other h.entry (stamps u f other h.entry n w.0 h.waits.0) in
         before_turns h.entry other a b (apart_turns (turn h.entry) (turn other) le (λ same. apart (sym same)))
 
--- the front that a queue answers is its front, and none if nobody waits there
+-- the front that a queue answers is its front, and none if no task waits there
 pub form_front : (s : QueueState) (links : List Link) (q : Queue) → HasOwnStamps s → IsHeap q.heap.items → IsOfOneSort s.entries links q → MatchOption (front_in q) (NobodyIn s q.id) (IsFront s q.id)
 form_front s links q stamps heap (by_links h empty) = go q.ends.first q.heap.items empty h.first
   where
@@ -77,7 +77,7 @@ pub front_first : (s : QueueState) (id : ℕ) (o : Option ℕ) → MatchOption o
 front_first s id None nobody = tt
 front_first s id (Some t) f = f
 
--- where none is answered nobody waits
+-- where none is answered no task waits
 pub front_none : (s : QueueState) (id : ℕ) (o : Option ℕ) → MatchOption o (NobodyIn s id) (IsFront s id) → IfNone o (NobodyIn s id)
 front_none s id None nobody = nobody
 front_none s id (Some t) f = tt

@@ -76,7 +76,7 @@ module _ (links : List Link) (ends : Ends) (t : ℕ) (within : t < length links)
   pub appended_ahead : (link_at (links_appended links ends t) t).ahead ≡ ends.last
   appended_ahead = ahead_stays (set links t new) ends.last (Some t) t still ∙ ap (λ (l : Link). l.ahead) (get_or-set_same links t new no_link within)
 
-  -- and nobody waits behind it
+  -- and no task waits after it
   pub appended_behind : ends.last ≢ Some t → (link_at (links_appended links ends t) t).behind ≡ None
   appended_behind n = ap (λ (l : Link). l.behind) (behind_kept (set links t new) ends.last (Some t) t n ∙ get_or-set_same links t new no_link within)
 
@@ -107,7 +107,7 @@ module _ (links : List Link) (ends : Ends) (t : ℕ) (within : t < length links)
   pub prepended_behind : (link_at (links_prepended links ends t) t).behind ≡ ends.first
   prepended_behind = behind_stays (set links t head) ends.first (Some t) t first_still ∙ ap (λ (l : Link). l.behind) (get_or-set_same links t head no_link within)
 
-  -- and it waits behind nobody
+  -- and it waits after no task
   pub prepended_ahead : ends.first ≢ Some t → (link_at (links_prepended links ends t) t).ahead ≡ None
   prepended_ahead n = ap (λ (l : Link). l.ahead) (ahead_kept (set links t head) ends.first (Some t) t n ∙ get_or-set_same links t head no_link within)
 
