@@ -18,7 +18,7 @@ use Rattle.scx_sched_machine.specs.Custody.{tells_dequeued, leaver, tells_of, te
 use Rattle.scx_sched_machine.specs.Put.{enters, put}
 use Rattle.scx_sched_machine.specs.Filling.{fill}
 use Rattle.scx_sched_machine.specs.Parking.{park_next, supply}
-use Rattle.scx_sched_machine.specs.Cycle.{has_local, keeps_slice, supply_unless_kept, told_of, dispatch_called, after_dispatch, asks_again, tries, stopping_called, after_stopping, after_running, put_back, leave, switched, started_if, start, hears_idle, tells_idle, idle_note, rest, swap, swap_or_rest, builtin_dispatch, builtin_fill, builtin_ask, builtin_cycle, start_or_cycle, refilled, is_local, start_picked, start_picked_or_cycle, picked, tells_busy, makes_way, pick, pick_or_rest, keep_or_pick, conclude, give_up, ask, seek, look, cycling, falls_idle, notes_idle, idle_or_anew, becomes_idle, concluded, cycle}
+use Rattle.scx_sched_machine.specs.Cycle.{has_local, keeps_slice, supply_unless_kept, told_of, dispatch_called, after_dispatch, asks_again, tries, stopping_called, after_stopping, after_running, put_back, leave, switched, started_if, start, hears_idle, tells_idle, idle_note, rest_notes, kept, rest, swap, swap_or_rest, builtin_dispatch, builtin_fill, builtin_ask, builtin_cycle, start_or_cycle, refilled, is_local, start_picked, start_picked_or_cycle, picked, tells_busy, makes_way, pick, pick_or_rest, keep_or_pick, conclude, give_up, ask, seek, look, cycling, falls_idle, notes_idle, idle_or_anew, becomes_idle, concluded, cycle}
 use Rattle.scx_sched_machine.specs.Rounds.{most_rounds, next_to_look, cut_off_if, look_past, look_from, round, round_then, rounds, with_rounds}
 use Rattle.scx_explore_findings.specs.Hidden.{Hidden, hide}
 use Rattle.scx_explore_findings.specs.HiddenStates.{hide_state, hide_step}
@@ -163,9 +163,18 @@ module _ (h : Hidden) (p : PolicyState) (unread : (b : Callback) → IsUnread h 
   note_same w None false c = refl
   note_same w (Some t) ran c = refl
 
+  -- who keeps the processor
+  turns_kept : (o : Option ℕ) → Turns h p (λ s. kept s o)
+  turns_kept None s = (ap (λ (u : WorldState). with_world s u) (plain h s.world), refl)
+  turns_kept (Some t) s = turns_switched t s
+
   passes_rest : (c : ℕ) (o : Option ℕ) (ran : Bool) → On h p (λ s. rest s c o ran)
   unfolding rest hears_idle
-  passes_rest c o ran s is = single h p s (after_keep s.world o) (after_keep (hide h s.world) o) _ _ (hides_keep h o s.world) (note_same s.world o (ran && not (hears_idle s)) c) is
+  passes_rest c o ran s is =
+      let r : Stepped = record { state = with_world s (after_keep s.world o); notes = rest_notes s c o ran; calls = [] } in
+      let q : Stepped = record { state = with_world (hide_state h s) (after_keep (hide h s.world) o); notes = rest_notes (hide_state h s) c o ran; calls = [] } in
+      turned h p (λ x. kept x o) (turns_kept o) r q
+      (single h p s (after_keep s.world o) (after_keep (hide h s.world) o) r.notes q.notes (hides_keep h o s.world) (note_same s.world o (ran && not (hears_idle s)) c) is)
 
   -- the policy hears that a processor is idle, or idle no more
   passes_tells_idle : (c n : ℕ) → On h p (λ s. tells_idle s c n)
@@ -246,7 +255,8 @@ module _ (h : Hidden) (p : PolicyState) (unread : (b : Callback) → IsUnread h 
   passes_keep_or_pick : (c : ℕ) (o : Option ℕ) (ran : Bool) → On h p (λ s. keep_or_pick s c o ran)
   unfolding keep_or_pick
   passes_keep_or_pick c o ran s is =
-      choose h p (keeps_slice s o) (keeps_slice (hide_state h s) o) (stays s) (stays (hide_state h s)) (pick_or_rest s c o ran) (pick_or_rest (hide_state h s) c o ran) (keeps_same s o) (rests h p s is) (passes_pick_or_rest c o ran s is)
+      choose h p (keeps_slice s o) (keeps_slice (hide_state h s) o) (stays (kept s o)) (stays (kept (hide_state h s) o)) (pick_or_rest s c o ran) (pick_or_rest (hide_state h s) c o ran) (keeps_same s o)
+      (turned h p (λ x. kept x o) (turns_kept o) (stays s) (stays (hide_state h s)) (rests h p s is)) (passes_pick_or_rest c o ran s is)
 
   passes_conclude : (c : ℕ) (o : Option ℕ) (ran : Bool) → On h p (λ s. conclude s c o ran)
   unfolding conclude

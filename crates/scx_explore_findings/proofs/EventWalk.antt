@@ -32,7 +32,7 @@ use Rattle.scx_sched_machine.specs.Firing.{due, fires, fire, fire_below, fire_al
 use Rattle.scx_sched_machine.specs.Put.{enters, enqueue_choice, enters_builtin, comes_in, put}
 use Rattle.scx_sched_machine.specs.Filling.{fill}
 use Rattle.scx_sched_machine.specs.Parking.{park, throttled_front, throttled_next, park_then, park_next, clear, in_reach, supply, let_go_one, let_go_from, let_all_go}
-use Rattle.scx_sched_machine.specs.Cycle.{has_local, keeps_slice, supply_unless_kept, told_of, dispatch_called, after_dispatch, asks_again, tries, stopping_called, after_stopping, after_running, put_back, leave, switched, started_if, start as begin, tells_idle, rest, swap, swap_or_rest, builtin_dispatch, builtin_fill, builtin_ask, builtin_cycle, start_or_cycle, picked, refilled, is_local, start_picked, start_picked_or_cycle, tells_busy, makes_way, pick, pick_or_rest, keep_or_pick, conclude, give_up, ask, seek, look, cycling, ends, falls_idle, notes_idle, idle_or_anew, becomes_idle, concluded, cycle}
+use Rattle.scx_sched_machine.specs.Cycle.{has_local, keeps_slice, supply_unless_kept, told_of, dispatch_called, after_dispatch, asks_again, tries, stopping_called, after_stopping, after_running, put_back, leave, switched, started_if, start as begin, tells_idle, kept, rest, swap, swap_or_rest, builtin_dispatch, builtin_fill, builtin_ask, builtin_cycle, start_or_cycle, picked, refilled, is_local, start_picked, start_picked_or_cycle, tells_busy, makes_way, pick, pick_or_rest, keep_or_pick, conclude, give_up, ask, seek, look, cycling, ends, falls_idle, notes_idle, idle_or_anew, becomes_idle, concluded, cycle}
 use Rattle.scx_sched_machine.specs.Rounds.{most_rounds, next_to_look, cut_off_if, look_past, look_from, round, round_then, rounds, with_rounds}
 use Rattle.scx_vm.specs.Programs.{VerifiedProgram}
 use Rattle.scx_sched_machine.specs.Events.{target, insert_or_put, woken, wake_target, comes_to, told_runnable, settle, chosen_by_default, chosen, ask_target, asks_target, settle_at_home, select, from_waker, wake, told_of_sleep, falls_asleep, looks_after_sleep, leaves_cpu, leaves_queue, sleep_from_cpu, sleep_from_queue, sleep_from, sleep, throttle, ends_slices, expire, use_up, hears_tick, tick_heard, count_down, tick_idle, tick_of, tick, overdue, eject_if_stalled, watch, timers_and_watchdog, clock, restore_flag, change_flags, takes_weight, changes_weight, reweigh_running, reweigh_waiting, reweigh_off_cpu, reweigh_at, reweigh_by_linux, reweigh, own_step, event_step}
@@ -249,9 +249,14 @@ module _ (old : PolicyState) (I : WorldState → Type 0) (k : IsKeptBySmallSteps
           let u = with_world s (started_at (Some t) s.world c) in
           walk_running (switched u t) c t (walk_switched u t (h.0, k.started s.world t c h.1))
 
+  -- who keeps the processor
+  walk_keeper : (s : State) (p : Option ℕ) → Kept s → Kept (kept s p)
+  walk_keeper s None h = h
+  walk_keeper s (Some t) h = walk_switched s t h
+
   walk_rest : (s : State) (c : ℕ) (p : Option ℕ) (ran : Bool) → Kept s → Leaves (rest s c p ran)
   unfolding rest
-  walk_rest s c p ran h = (h.0, k.kept s.world p h.1)
+  walk_rest s c p ran h = walk_keeper (with_world s (after_keep s.world p)) p (h.0, k.kept s.world p h.1)
 
   -- ---- a cycle of the built-in scheduler
 
@@ -322,7 +327,7 @@ module _ (old : PolicyState) (I : WorldState → Type 0) (k : IsKeptBySmallSteps
 
   walk_keep_or_pick : (s : State) (c : ℕ) (p : Option ℕ) (ran : Bool) → Kept s → Leaves (keep_or_pick s c p ran)
   unfolding keep_or_pick
-  walk_keep_or_pick s c p ran h = keeps_if Leaves (keeps_slice s p) (stays s) (pick_or_rest s c p ran) h (walk_pick_or_rest s c p ran h)
+  walk_keep_or_pick s c p ran h = keeps_if Leaves (keeps_slice s p) (stays (kept s p)) (pick_or_rest s c p ran) (walk_keeper s p h) (walk_pick_or_rest s c p ran h)
 
   walk_conclude : (s : State) (c : ℕ) (p : Option ℕ) (ran : Bool) → Kept s → Leaves (conclude s c p ran)
   unfolding conclude

@@ -15,7 +15,7 @@ use Rattle.scx_sched_world.specs.CpuSets.{is_in_set}
 use Rattle.scx_sched_world.specs.Ids.{global, builtin_queue, parked_queue, local_on}
 use Rattle.scx_sched_world.specs.First.{first_world, with_homes_below, at_first_homes}
 use Rattle.scx_sched_world.specs.World.{WorldState, binds, with_switch, with_task, out_of_cycle, without_kick, task_at, is_throttled, is_idle, running, at_callback}
-use Rattle.scx_sched_world.specs.Tasks.{begun_periods, to_front, after_leave, for_cpu, fill_front, after_stop, started_at, after_run, after_switch, after_cut_off, put_parked, let_go}
+use Rattle.scx_sched_world.specs.Tasks.{begun_periods, to_front, after_leave, for_cpu, fill_front, after_stop, started_at, after_run, after_keep, after_switch, after_cut_off, put_parked, let_go}
 use Rattle.scx_sched_machine.specs.Policy.{PolicyState}
 use Rattle.scx_sched_world.specs.declared.eject.Eject.{Eject}
 use Rattle.scx_sched_world.specs.Ejecting.{after_charge, after_catch_up}
@@ -27,7 +27,7 @@ use Rattle.scx_sched_machine.specs.Put.{enters, enqueue_choice, enters_builtin, 
 use Rattle.scx_sched_machine.specs.Events.{insert_or_put}
 use Rattle.scx_sched_machine.specs.Filling.{fill}
 use Rattle.scx_sched_machine.specs.Parking.{park, throttled_front, throttled_next, park_then, park_next, clear, in_reach, supply, let_go_one, let_go_from, let_all_go}
-use Rattle.scx_sched_machine.specs.Cycle.{has_local, keeps_slice, supply_unless_kept, told_of, dispatch_called, after_dispatch, asks_again, tries, stopping_called, after_stopping, after_running, put_back, leave, switched, started_if, start as run_front, tells_idle, rest, swap, swap_or_rest, builtin_dispatch, builtin_fill, builtin_ask, builtin_cycle, start_or_cycle, picked, refilled, is_local, start_picked, start_picked_or_cycle, tells_busy, makes_way, pick, pick_or_rest, keep_or_pick, conclude, give_up, ask, seek, look, cycling, ends, falls_idle, notes_idle, idle_or_anew, becomes_idle, concluded, cycle}
+use Rattle.scx_sched_machine.specs.Cycle.{has_local, keeps_slice, supply_unless_kept, told_of, dispatch_called, after_dispatch, asks_again, tries, stopping_called, after_stopping, after_running, put_back, leave, switched, started_if, start as run_front, tells_idle, kept, rest, swap, swap_or_rest, builtin_dispatch, builtin_fill, builtin_ask, builtin_cycle, start_or_cycle, picked, refilled, is_local, start_picked, start_picked_or_cycle, tells_busy, makes_way, pick, pick_or_rest, keep_or_pick, conclude, give_up, ask, seek, look, cycling, ends, falls_idle, notes_idle, idle_or_anew, becomes_idle, concluded, cycle}
 use Rattle.scx_sched_machine.specs.Rounds.{most_rounds, next_to_look, cut_off_if, look_past, look_from, round, round_then, rounds, with_rounds}
 use Rattle.scx_sched_machine.specs.Start.{by_policy, blank, init_ending, bad_answer, ok_unless, after_init, begin_ending, failure, begin_with, has_by_linux, begin_by_linux, enable, then_weigh, then_enable, after_enables, then_idle, after_idles, unmarked, all_idle, then_all_idle, all_enabled, first_state}
 use Rattle.scx_sched_machine.proofs.Choices.{keeps_if}
@@ -279,6 +279,10 @@ module _ (h : Hierarchy) (n : Times) (c : ℕ) where
   unfolding switched
   like_switched s t i = keeps_if (λ (r : State). IsLike h n c r.world) (is_by_linux s && not (s.policy.tick_ms == 0)) (with_world s (after_switch s.world t)) s (like_task s.world t _ refl i) i
 
+  like_keeper : (s : State) (p : Option ℕ) → IsLike h n c s.world → IsLike h n c (kept s p).world
+  like_keeper s None i = i
+  like_keeper s (Some t) i = like_switched s t i
+
   like_start : (s : State) (d : ℕ) → IsLike h n c s.world → IsLike h n c (run_front s d).state.world
   unfolding run_front
   like_start s d i = go (front_of s.world.queues (local_on d))
@@ -292,7 +296,7 @@ module _ (h : Hierarchy) (n : Times) (c : ℕ) where
   like_rest : (s : State) (d : ℕ) (p : Option ℕ) (ran : Bool) → IsLike h n c s.world → IsLike h n c (rest s d p ran).state.world
   unfolding rest
   like_rest s d None ran i = i
-  like_rest s d (Some t) ran i = like_task s.world t _ (renewed_run (task_at s.world t)) i
+  like_rest s d (Some t) ran i = like_switched (with_world s (after_keep s.world (Some t))) t (like_task s.world t _ (renewed_run (task_at s.world t)) i)
 
   like_put_back : (s : State) (d t : ℕ) → IsLike h n c s.world → IsLike h n c (put_back s d t).state.world
   unfolding put_back enters
@@ -365,7 +369,7 @@ module _ (h : Hierarchy) (n : Times) (c : ℕ) where
 
   like_keep_or_pick : (s : State) (d : ℕ) (p : Option ℕ) (ran : Bool) → IsLike h n c s.world → IsLike h n c (keep_or_pick s d p ran).state.world
   unfolding keep_or_pick
-  like_keep_or_pick s d p ran i = keeps_if (λ (r : Stepped). IsLike h n c r.state.world) (keeps_slice s p) (stays s) (pick_or_rest s d p ran) i (like_pick_or_rest s d p ran i)
+  like_keep_or_pick s d p ran i = keeps_if (λ (r : Stepped). IsLike h n c r.state.world) (keeps_slice s p) (stays (kept s p)) (pick_or_rest s d p ran) (like_keeper s p i) (like_pick_or_rest s d p ran i)
 
   like_conclude : (s : State) (d : ℕ) (p : Option ℕ) (ran : Bool) → IsLike h n c s.world → IsLike h n c (conclude s d p ran).state.world
   unfolding conclude

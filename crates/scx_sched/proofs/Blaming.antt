@@ -38,7 +38,7 @@ use Rattle.scx_sched_machine.specs.Put.{enters, enqueue_choice, enters_builtin, 
 use Rattle.scx_sched_machine.specs.Filling.{fill}
 use Rattle.scx_sched_machine.specs.Parking.{park, throttled_front, throttled_next, park_next, clear, in_reach, supply, let_go_one, let_go_from, let_all_go}
 use Rattle.scx_sched_machine.specs.Custody.{is_in_custody, tells_dequeued, leaver, tells_of, tells_each, moved_as, hears_dequeue, tells_left}
-use Rattle.scx_sched_machine.specs.Cycle.{has_local, keeps_slice, supply_unless_kept, told_of, after_dispatch, asks_again, tries, stopping_called, after_stopping, switched, after_running, put_back, leave, started_if, start, rest, swap, swap_or_rest, builtin_dispatch, builtin_fill, builtin_ask, builtin_cycle, start_or_cycle, picked, refilled, is_local, start_picked, start_picked_or_cycle, give_up, pick, pick_or_rest, keep_or_pick, conclude, ask, seek, look, cycling, cycle, dispatch_called, tells_idle, tells_busy, makes_way, ends, falls_idle, notes_idle, idle_or_anew, becomes_idle, concluded}
+use Rattle.scx_sched_machine.specs.Cycle.{has_local, keeps_slice, supply_unless_kept, told_of, after_dispatch, asks_again, tries, stopping_called, after_stopping, switched, after_running, put_back, leave, started_if, start, rest_notes, kept, rest, swap, swap_or_rest, builtin_dispatch, builtin_fill, builtin_ask, builtin_cycle, start_or_cycle, picked, refilled, is_local, start_picked, start_picked_or_cycle, give_up, pick, pick_or_rest, keep_or_pick, conclude, ask, seek, look, cycling, cycle, dispatch_called, tells_idle, tells_busy, makes_way, ends, falls_idle, notes_idle, idle_or_anew, becomes_idle, concluded}
 use Rattle.scx_sched_machine.specs.Firing.{due, fired, fires, fire, fire_below, fire_all}
 use Rattle.scx_sched_machine.specs.Events.{target, insert_or_put, woken, wake_target, comes_to, while_in_force, told_runnable, settle, inserted_by_choice, chosen_by_default, chosen, ask_target, asks_target, select, from_waker, wake, told_of_sleep, falls_asleep, looks_after_sleep, leaves_cpu, sleep_from_cpu, sleep_from, sleep, throttle, ends_slices, expire, use_up, hears_tick, tick_heard, count_down, tick_idle, tick_of, tick, leaves_queue, sleep_from_queue, restore_flag, change_flags, takes_weight, changes_weight, reweigh_running, reweigh_waiting, reweigh_off_cpu, reweigh_at, reweigh_by_linux, reweigh, settle_at_home}
 use Rattle.scx_sched_machine.specs.Rounds.{most_rounds, next_to_look, cut_off_if, look_past, look_from, round, round_then, rounds, with_rounds}
@@ -481,9 +481,14 @@ honest_start s c = go (front_of s.world.queues (local_on c))
     go None = honest_stays s
     go (Some t) = honest_runs s (started_at (Some t) s.world c) c t (refl, refl, refl, refl, refl, refl)
 
+-- a task that keeps the processor
+honest_kept : (s : State) (p : Option ℕ) (ns : List Note) → IsHonest s (record { state = kept s p; notes = ns; calls = [] })
+honest_kept s None ns = honest_plain s s.world ns (refl, refl, refl, refl, refl, refl)
+honest_kept s (Some t) ns = honest_switched s t _ (honest_plain (switched s t) (switched s t).world ns (refl, refl, refl, refl, refl, refl))
+
 honest_rest : (s : State) (c : ℕ) (p : Option ℕ) (ran : Bool) → IsHonest s (rest s c p ran)
 unfolding rest
-honest_rest s c p ran = honest_plain s (after_keep s.world p) _ (same_kept s.world p)
+honest_rest s c p ran = honest_from s (after_keep s.world p) _ (same_kept s.world p) (honest_kept (with_world s (after_keep s.world p)) p (rest_notes s c p ran))
 
 -- ---- the built-in scheduler
 
@@ -568,7 +573,7 @@ honest_pick_or_rest s c p ran = keeps_if (IsHonest s) (has_local s c) (pick s c 
 
 honest_keep_or_pick : (s : State) (c : ℕ) (p : Option ℕ) (ran : Bool) → IsHonest s (keep_or_pick s c p ran)
 unfolding keep_or_pick
-honest_keep_or_pick s c p ran = keeps_if (IsHonest s) (keeps_slice s p) (stays s) (pick_or_rest s c p ran) (honest_stays s) (honest_pick_or_rest s c p ran)
+honest_keep_or_pick s c p ran = keeps_if (IsHonest s) (keeps_slice s p) (stays (kept s p)) (pick_or_rest s c p ran) (honest_kept s p []) (honest_pick_or_rest s c p ran)
 
 honest_conclude : (s : State) (c : ℕ) (p : Option ℕ) (ran : Bool) → IsHonest s (conclude s c p ran)
 unfolding conclude

@@ -13,7 +13,7 @@ use Rattle.scx_sched_world.specs.World.{WorldState, task_at, out_of_cycle, runni
 use Rattle.scx_sched_world.specs.declared.eject.Eject.{Eject}
 use Rattle.scx_sched_world.specs.declared.notes.What.TheVariants.{Idle}
 use Rattle.scx_sched_world.specs.declared.notes.Note.{Note}
-use Rattle.scx_sched_world.specs.Tasks.{local_len, to_front, after_stop, started_at, after_run, after_leave}
+use Rattle.scx_sched_world.specs.Tasks.{local_len, to_front, after_stop, started_at, after_run, after_keep, after_leave}
 use Rattle.scx_sched_world.proofs.Fronts.{front_in}
 use Rattle.scx_sched_machine.specs.Steps.{State, Stepped, one_after_other, stays, with_world, is_ejected, is_by_linux, kicked}
 use Rattle.scx_sched_machine.specs.Callbacks.{call_back, cpu_and_task, call_by_linux, noted_by, task_and_number, two_numbers}
@@ -21,7 +21,7 @@ use Rattle.scx_sched_machine.specs.Put.{enters, put}
 use Rattle.scx_sched_machine.specs.Filling.{fill}
 use Rattle.scx_sched_machine.specs.Parking.{park, throttled_front, throttled_next, park_next, clear, in_reach, supply}
 use Rattle.scx_sched_machine.specs.Custody.{tells_dequeued, leaver, tells_of, tells_each, moved_as, hears_dequeue, tells_left}
-use Rattle.scx_sched_machine.specs.Cycle.{has_local, keeps_slice, supply_unless_kept, told_of, after_dispatch, asks_again, tries, after_stopping, switched, put_back, leave, started_if, start as run_front, rest, swap, swap_or_rest, builtin_dispatch, builtin_fill, builtin_ask, builtin_cycle, start_or_cycle, picked, refilled, is_local, start_picked, start_picked_or_cycle, give_up, pick, pick_or_rest, keep_or_pick, conclude, ask, seek, look, cycling, cycle, dispatch_called, hears_idle, tells_idle, tells_busy, makes_way, ends, falls_idle, notes_idle, idle_or_anew, becomes_idle, concluded}
+use Rattle.scx_sched_machine.specs.Cycle.{has_local, keeps_slice, supply_unless_kept, told_of, after_dispatch, asks_again, tries, after_stopping, switched, put_back, leave, started_if, start as run_front, kept, rest, swap, swap_or_rest, builtin_dispatch, builtin_fill, builtin_ask, builtin_cycle, start_or_cycle, picked, refilled, is_local, start_picked, start_picked_or_cycle, give_up, pick, pick_or_rest, keep_or_pick, conclude, ask, seek, look, cycling, cycle, dispatch_called, hears_idle, tells_idle, tells_busy, makes_way, ends, falls_idle, notes_idle, idle_or_anew, becomes_idle, concluded}
 use Rattle.scx_sched_machine.proofs.Choices.{keeps_if}
 use Rattle.scx_sched.specs.Kept.{IsKeptBySteps, InFront, with_moved}
 use Rattle.scx_sched.specs.Once.{IsSound}
@@ -191,7 +191,7 @@ module _ (n : ℕ) (I : ℕ → Option ℕ → List (Option ℕ) → WorldState 
   keeps_rest : (m : ℕ) (on : List (Option ℕ)) (s : State) (c : ℕ) (p : Option ℕ) (ran : Bool) → c < length on → I m None on s.world → Some-on c (once_for p m) (rest s c p ran).state.world
   unfolding rest
   keeps_rest m on s c None ran l h = (on, l, h)
-  keeps_rest m on s c (Some t) ran l h = (on, l, k.steps.more m None on _ (k.steps.kept m on s.world t h))
+  keeps_rest m on s c (Some t) ran l h = (on, l, k.steps.more m None on _ (keeps_switched n I k.steps m None on (with_world s (after_keep s.world (Some t))) t (k.steps.kept m on s.world t h)))
 
   -- a task is put for a processor on which it may run
   pub keeps_put_at : (m : ℕ) (on : List (Option ℕ)) (s : State) (t c flags : ℕ) → t < n → c < length on → may_run s.world t c ≡ true → I m (Some t) on s.world → I m None on (put s t c flags).state.world
@@ -366,12 +366,12 @@ module _ (n : ℕ) (I : ℕ → Option ℕ → List (Option ℕ) → WorldState 
   unfolding keep_or_pick
   keeps_keep_or_pick m on s c p ran l known runs may h = go (keeps_slice s p) refl
     where
-      go : (b : Bool) → keeps_slice s p ≡ b → Some-on c (once_for p m) (if b then stays s else pick_or_rest s c p ran).state.world
-      go true kept = (on, l, stays_on p)
+      go : (b : Bool) → keeps_slice s p ≡ b → Some-on c (once_for p m) (if b then stays (kept s p) else pick_or_rest s c p ran).state.world
+      go true keeps = (on, l, stays_on p)
         where
-          stays_on : (p : Option ℕ) → I (once_for p m) None on s.world
+          stays_on : (p : Option ℕ) → I (once_for p m) None on (kept s p).world
           stays_on None = h
-          stays_on (Some t) = k.steps.more m None on s.world h
+          stays_on (Some t) = k.steps.more m None on _ (keeps_switched n I k.steps m None on s t h)
       go false off = keeps_pick_or_rest m on s c p ran l known runs (clear_now m on s c h (may off)) h
 
   keeps_conclude : (m : ℕ) (on : List (Option ℕ)) (s : State) (c : ℕ) (p : Option ℕ) (ran : Bool) → c < length on → IsKnown n p → get_or on c None ≡ p → MayStartUnlessKept m on c p s → I m None on s.world → Some-on c (once_for p m) (conclude s c p ran).state.world

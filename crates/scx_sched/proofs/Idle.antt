@@ -1,5 +1,5 @@
 -- After a tick that leaves a processor idle, no task is left behind for it.
-use Rattle.std.proofs.Common.{◌≡◌, ℕ, zero, suc, ◌+◌, ◌<◌, ◌≤◌, Bool, true, false, ◌==◌, nat_lt, if◌then◌else◌, List, length, set, get_or, Option, Some, None, is_none, is_some, refl, sym, ap, ◌∙◌, subst, arith, ◌&&◌}
+use Rattle.std.proofs.Common.{◌≡◌, ℕ, zero, suc, ◌+◌, ◌<◌, ◌≤◌, Bool, true, false, not, ◌==◌, nat_lt, if◌then◌else◌, List, length, set, get_or, Option, Some, None, is_none, is_some, refl, sym, ap, ◌∙◌, subst, arith, ◌&&◌}
 use Rattle.std.proofs.lemmas.Bool.{eq-eqb, ne_eqb}
 use Rattle.std.proofs.lemmas.Bool.Decides.{nat_tests}
 use Rattle.std.proofs.lemmas.List.{length-set, get_or-set_same}
@@ -15,13 +15,13 @@ use Rattle.scx_sched_world.specs.declared.eject.Eject.{Eject}
 use Rattle.scx_sched_world.specs.Ids.{global, builtin_queue, parked_queue, local_on}
 use Rattle.scx_sched_world.specs.World as world
 use Rattle.scx_sched_world.specs.World.{WorldState, with_switch, task_at, is_throttled, running}
-use Rattle.scx_sched_world.specs.Tasks.{after_local, local_len, brought, after_stop, started_at, after_tick, used_ms, after_leave, next_for}
+use Rattle.scx_sched_world.specs.Tasks.{after_local, local_len, brought, after_stop, started_at, after_switch, after_keep, after_tick, used_ms, after_leave, next_for}
 use Rattle.scx_sched_machine.specs.Steps.{State, Stepped, with_world, stays, one_after_other, is_ejected, is_by_linux, kicked}
 use Rattle.scx_sched_machine.specs.Policy.{program_of}
 use Rattle.scx_sched_machine.specs.Callbacks.{call_back, one_task}
 use Rattle.scx_sched_machine.specs.Filling.{fill}
 use Rattle.scx_sched_machine.specs.Parking.{park, throttled_front, park_next, clear, in_reach, supply}
-use Rattle.scx_sched_machine.specs.Cycle.{has_local, keeps_slice, supply_unless_kept, after_dispatch, asks_again, tries, after_stopping, switched, leave, started_if, start as run_front, rest, swap, swap_or_rest, builtin_dispatch, builtin_fill, builtin_ask, builtin_cycle, start_or_cycle, picked, refilled, start_picked_or_cycle, give_up, pick, pick_or_rest, keep_or_pick, conclude, ask, seek, look, cycling, cycle, dispatch_called, makes_way, hears_idle, falls_idle, becomes_idle, concluded}
+use Rattle.scx_sched_machine.specs.Cycle.{has_local, keeps_slice, supply_unless_kept, after_dispatch, asks_again, tries, after_stopping, switched, leave, started_if, start as run_front, kept, rest, swap, swap_or_rest, builtin_dispatch, builtin_fill, builtin_ask, builtin_cycle, start_or_cycle, picked, refilled, start_picked_or_cycle, give_up, pick, pick_or_rest, keep_or_pick, conclude, ask, seek, look, cycling, cycle, dispatch_called, makes_way, hears_idle, falls_idle, becomes_idle, concluded}
 use Rattle.scx_sched_machine.specs.declared.events.Event.{Event}
 use Rattle.scx_sched_machine.specs.declared.events.Event.TheVariants.{Wake, Sleep, Tick, Clock, SetWeight, SetTaskWeight}
 use Rattle.scx_sched_machine.specs.declared.events.Refused.TheVariants.{UnknownCpu}
@@ -189,10 +189,15 @@ module _ (n e : ℕ) (c : ℕ) where
 
   -- ---- the built-in scheduler
 
+  -- a slice that grows leaves whoever waits
+  switched_leaves : (s : State) (t : ℕ) → LeavesNothing s.world c → LeavesNothing (switched s t).world c
+  unfolding switched
+  switched_leaves s t h = keeps_if (λ (r : State). LeavesNothing r.world c) (is_by_linux s && not (s.policy.tick_ms == 0)) (with_world s (after_switch s.world t)) s (record { local = h.local; global = h.global; builtin = h.builtin }) h
+
   rest_leaves : (s : State) (p : Option ℕ) (ran : Bool) → LeavesNothing s.world c → LeavesIfIdle c (rest s c p ran).state.world
   unfolding rest
   rest_leaves s None ran h idle = h
-  rest_leaves s (Some t) ran h idle = record { local = h.local; global = h.global; builtin = h.builtin }
+  rest_leaves s (Some t) ran h idle = switched_leaves (with_world s (after_keep s.world (Some t))) t (record { local = h.local; global = h.global; builtin = h.builtin })
 
   -- where its dispatch leaves the local queue empty, its own is empty too
   builtin_fill_leaves : (m : ℕ) (on : List (Option ℕ)) (s : State) → c < length on → IsFine n e m None on s.world → LeavesGlobal c s.world → local_len (builtin_fill s c).state.world c ≡ 0 → LeavesNothing (builtin_fill s c).state.world c
@@ -279,17 +284,20 @@ module _ (n e : ℕ) (c : ℕ) where
   LeavesGlobalUnlessKept p s = keeps_slice s p ≡ false → LeavesGlobal c s.world
 
   -- who keeps the processor runs there
-  kept_is_busy : (m : ℕ) (on : List (Option ℕ)) (s : State) (p : Option ℕ) → get_or on c None ≡ p → keeps_slice s p ≡ true → IsFine n e m None on s.world → is_none (running s.world c) ≡ false
-  kept_is_busy m on s None runs kept h = absurd (cc)
-  kept_is_busy m on s (Some t) runs kept h = ap (λ (xs : List (Option ℕ)). is_none (get_or xs c None)) h.sound.cpus ∙ ap (λ o. is_none o) runs
+  kept_is_busy : (m : ℕ) (on : List (Option ℕ)) (s : State) (p : Option ℕ) → get_or on c None ≡ p → keeps_slice s p ≡ true → IsFine n e m None on s.world → is_none (running (kept s p).world c) ≡ false
+  unfolding switched
+  kept_is_busy m on s None runs keeps h = absurd (cc)
+  kept_is_busy m on s (Some t) runs keeps h =
+      let there : is_none (running s.world c) ≡ false = ap (λ (xs : List (Option ℕ)). is_none (get_or xs c None)) h.sound.cpus ∙ ap (λ o. is_none o) runs in
+      keeps_if (λ (r : State). is_none (running r.world c) ≡ false) (is_by_linux s && not (s.policy.tick_ms == 0)) (with_world s (after_switch s.world t)) s there there
 
   keep_or_pick_leaves : (m : ℕ) (on : List (Option ℕ)) (s : State) (p : Option ℕ) (ran : Bool) → is_by_linux s ≡ false → c < length on → IsKnown n p → get_or on c None ≡ p → is_ejected s ≡ false → MayStartUnlessKept n (IsFine n e) (fine_inside n e) m on c p s → IsFine n e m None on s.world → LeavesGlobalUnlessKept p s
       → LeavesIfIdle c (keep_or_pick s c p ran).state.world
   unfolding keep_or_pick
   keep_or_pick_leaves m on s p ran plain l known runs force may h g = go (keeps_slice s p) refl
     where
-      go : (b : Bool) → keeps_slice s p ≡ b → LeavesIfIdle c (if b then stays s else pick_or_rest s c p ran).state.world
-      go true kept = busy c s.world (kept_is_busy m on s p runs kept h)
+      go : (b : Bool) → keeps_slice s p ≡ b → LeavesIfIdle c (if b then stays (kept s p) else pick_or_rest s c p ran).state.world
+      go true keeps = busy c (kept s p).world (kept_is_busy m on s p runs keeps h)
       go false off = pick_or_rest_leaves m on s p ran plain l known runs force (clear_now n (IsFine n e) (fine_inside n e) m on s c h (may off)) h (g off)
 
   conclude_leaves : (m : ℕ) (on : List (Option ℕ)) (s : State) (p : Option ℕ) (ran : Bool) → is_by_linux s ≡ false → c < length on → IsKnown n p → get_or on c None ≡ p → MayStartUnlessKept n (IsFine n e) (fine_inside n e) m on c p s → IsFine n e m None on s.world → LeavesGlobalUnlessKept p s → LeavesIfIdle c (conclude s c p ran).state.world

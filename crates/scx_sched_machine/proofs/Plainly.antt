@@ -16,7 +16,7 @@ use Rattle.scx_sched_machine.specs.Policy.{program_of}
 use Rattle.scx_sched_machine.specs.Custody.{hears_dequeue}
 use Rattle.scx_sched_machine.specs.Put.{enters, enters_builtin, enqueue_choice, comes_in, put}
 use Rattle.scx_sched_machine.specs.Parking.{supply}
-use Rattle.scx_sched_machine.specs.Cycle.{keeps_slice, supply_unless_kept, told_of, after_dispatch, moved_in_vain, asks_again, tries, after_stopping, put_back, leave, builtin_cycle, start_or_cycle, picked, refilled, start_picked_or_cycle, tells_idle, tells_busy, makes_way, pick, pick_or_rest, keep_or_pick, conclude, give_up, cycle}
+use Rattle.scx_sched_machine.specs.Cycle.{keeps_slice, supply_unless_kept, told_of, after_dispatch, moved_in_vain, asks_again, tries, after_stopping, put_back, leave, builtin_cycle, start_or_cycle, picked, refilled, start_picked_or_cycle, tells_idle, tells_busy, makes_way, pick, pick_or_rest, kept, keep_or_pick, conclude, give_up, cycle}
 use Rattle.scx_sched_machine.specs.Events.{target, insert_or_put, woken, wake_target, comes_to, told_runnable, settle, settle_at_home, inserted_by_choice, chosen, ask_target, select, from_waker}
 use Rattle.scx_sched_machine.proofs.Choices.{keeps_if}
 use Rattle.scx_sched_machine.proofs.Leaving.{dispatch_unheard}
@@ -156,8 +156,8 @@ pub ruleset tries_plainly = (tries_none, tries_on, tries_no_more)
 pub concludes : (s : State) (c : ℕ) (p : Option ℕ) (ran : Bool) → is_by_linux s ≡ false → conclude (give_up s c p) c p ran ≡ (if is_ejected s then builtin_cycle s c p ran else pick_or_rest s c p ran)
 unfolding conclude give_up keep_or_pick
 concludes s c p ran plain =
-    ap (λ b. let v = if b && asks_again s c p then kicked s c else s in if is_ejected v then builtin_cycle v c p ran else (if keeps_slice v p then stays v else pick_or_rest v c p ran)) plain
-    ∙ ap (λ b. if is_ejected s then builtin_cycle s c p ran else (if b then stays s else pick_or_rest s c p ran)) (keeps_plainly s p plain)
+    ap (λ b. let v = if b && asks_again s c p then kicked s c else s in if is_ejected v then builtin_cycle v c p ran else (if keeps_slice v p then stays (kept v p) else pick_or_rest v c p ran)) plain
+    ∙ ap (λ b. if is_ejected s then builtin_cycle s c p ran else (if b then stays (kept s p) else pick_or_rest s c p ran)) (keeps_plainly s p plain)
 
 -- ---- a cycle
 

@@ -137,10 +137,16 @@ idle_note w (Some t) ran c = []
 abbrev pub rest_notes : State → ℕ → Option ℕ → Bool → List Note
 rest_notes s c p ran = idle_note s.world p (ran && not (hears_idle s)) c
 
+-- a task that keeps the processor got its slice in this cycle, once the time up to now was taken
+-- from it: that one is a nanosecond longer too (ext.c, `dispatch_one` calls `update_curr_scx` first)
+abbrev pub kept : State → Option ℕ → State
+kept s None = s
+kept s (Some t) = switched s t
+
 -- nobody comes: the task before stays, or the processor is idle
 unfoldable pub rest : State → ℕ → Option ℕ → Bool → Stepped
 rest s c p ran = record {
-  state = with_world s (after_keep s.world p);
+  state = kept (with_world s (after_keep s.world p)) p;
   notes = rest_notes s c p ran;
   calls = [];
 }
@@ -230,7 +236,7 @@ pick_or_rest s c p ran = if has_local s c then pick s c p ran else rest s c p ra
 
 -- a task that keeps the processor stays, and nothing is noted
 unfoldable pub keep_or_pick : State → ℕ → Option ℕ → Bool → Stepped
-keep_or_pick s c p ran = if keeps_slice s p then stays s else pick_or_rest s c p ran
+keep_or_pick s c p ran = if keeps_slice s p then stays (kept s p) else pick_or_rest s c p ran
 
 -- once dispatch was asked; where it ejected the policy, the cycle begins anew
 unfoldable pub conclude : State → ℕ → Option ℕ → Bool → Stepped

@@ -317,7 +317,9 @@ impl Machine {
         ensures { Goes H.noted H.takes H.told H.hears pick_pushes
             (keep_or_pick self.old cpu before ran) self.old hearer.old self.new hearer.new }
     {
-        if !self.keeps_slice(before) {
+        if self.keeps_slice(before) {
+            self.lengthen_kept(before);
+        } else {
             self.pick_or_rest(cpu, before, ran, hearer);
         }
     }

@@ -69,6 +69,7 @@ impl Machine {
             hearer.note(self.world.note(What::Idle(cpu)));
         }
         self.world.keep(before);
+        self.lengthen_kept(before);
     }
 
     /// True if no task came to a CPU on which one ran, and the policy hears of that.

@@ -3,7 +3,7 @@ ghost use Rattle.std.specs.Prelude.{◌≡◌, false};
 ghost use Rattle.scx_sched_machine.specs.Budgets.{HasRoom, callback_pushes, leave_pushes, put_pushes};
 ghost use Rattle.scx_sched_machine.specs.Does.{Goes};
 ghost use Rattle.scx_sched_machine.specs.Steps.{is_by_linux};
-ghost use Rattle.scx_sched_machine.specs.Cycle.{after_stopping, after_running, put_back, leave, switched, start, start_picked};
+ghost use Rattle.scx_sched_machine.specs.Cycle.{after_stopping, after_running, put_back, leave, switched, kept, start, start_picked};
 
 use crate::callbacks::{one_task, task_and_number};
 use crate::machine::Machine;
@@ -107,6 +107,17 @@ impl Machine {
     {
         if self.is_by_linux() && self.policy.tick_ms() != 0 {
             self.world.lengthen_slice(task);
+        }
+    }
+
+    /// A task that keeps the CPU got its slice in this cycle, which is a nanosecond longer too.
+    #[inline(always)]
+    pub(crate) fn lengthen_kept(&mut self, before: Option<u16>)
+        ensures state { self.new ≡ kept self.old before }
+        ensures few { self.new.world.queues.pushes ≡ self.old.world.queues.pushes }
+    {
+        if let Some(task) = before {
+            self.switch(task);
         }
     }
 

@@ -24,8 +24,8 @@ use Rattle.scx_sched.proofs.Supplying.{park_left, park_next_from, clear_from, em
 use Rattle.scx_sched.proofs.Firsts.{no_front_is_empty}
 use Rattle.scx_sched.proofs.Seen.{next_seen}
 use Rattle.scx_sched_world.proofs.Fronts.{front_in}
-use Rattle.scx_sched_machine.specs.Cycle.{keeps_slice, supply_unless_kept, dispatch_called, after_dispatch, asks_again, tries, stopping_called, after_stopping, after_running, put_back, leave, switched, started_if, start, hears_idle, tells_idle, idle_note, rest, swap, swap_or_rest, builtin_dispatch, builtin_fill, builtin_ask, builtin_cycle, start_or_cycle, picked, refilled, is_local, start_picked, start_picked_or_cycle, tells_busy, makes_way, pick, pick_or_rest, keep_or_pick, conclude, give_up, ask, seek, look, cycling, falls_idle, notes_idle, idle_or_anew, becomes_idle, concluded, cycle}
-use Rattle.scx_sched_rules.specs.Differences.{KeepsSlice, GivesWay, IsToAsk}
+use Rattle.scx_sched_machine.specs.Cycle.{keeps_slice, supply_unless_kept, dispatch_called, after_dispatch, asks_again, tries, stopping_called, after_stopping, after_running, put_back, leave, switched, started_if, start, hears_idle, tells_idle, idle_note, kept, rest, swap, swap_or_rest, builtin_dispatch, builtin_fill, builtin_ask, builtin_cycle, start_or_cycle, picked, refilled, is_local, start_picked, start_picked_or_cycle, tells_busy, makes_way, pick, pick_or_rest, keep_or_pick, conclude, give_up, ask, seek, look, cycling, falls_idle, notes_idle, idle_or_anew, becomes_idle, concluded, cycle}
+use Rattle.scx_sched_rules.specs.Differences.{KeepsSlice, HasLeft, GivesWay, IsToAsk}
 use Rattle.scx_sched_rules.specs.Cycles.{noting, silent, entering, enqueue_called, dispatch_run, dispatch_noted, CallsDispatch, gone_off, gone_on, picked_on, HasStopped, Policy_hears, Is_charged, HasStarted, Policy_learns, Catches_up, Enters, For_builtin, Default, Held, Inserted, Puts, Fills, HasLocal, NoOther, Moves, Parks, NextIsFree, ParksFirst, NoneLeft, OneMore, Supplies, Supplied, ParkedOne, FillsBuiltin, HasOne, Looked, Dispatches, Supplied_then, Kept_then, Asks, Enough, Came, NothingMoved, KeptOn, Again, PutsBack, Is_put, Goes_first, Leaves, Nobody, Stops, Starts, Empty, Front, Rests, Keeps, Idles, IdlesUnheard, WasIdle, Swaps, SwapsOrRests, Swapped, Kept, CyclesBuiltin, StartsOrAnew, Runs_front, Emptied, StartsPicked, picking, TellsBusy, WasAtRest, HadTask, HadRun, MakesWay, Picks, Picks_then, Picks_before, Picks_anew, Ends, Anew, KeepsOn, Picked, Rested, Seeks, Filled, Asked, Looks, Of_policy, Of_builtin, FallsIdle, StaysIdle, IsNoted, CyclesAnew, HearsOfIdle, Concludes, FellIdle, HasEnded, Cycles}
 use Rattle.scx_sched_rules.proofs.Differing.{both_true, and_true, false_from, not_so, then_stays, calls_if_there, only_calls_if_there, hears_idle_is, hears_idle_of, unheard_is, unheard_of, in_is, in_of, homes, only_homes, begins_cycle, only_begins_cycle, ends_cycle, only_ends_cycle, keeps, gives, keeps_or_gives, switches, only_switches, asks_of, asks_is, gives_up, only_gives_up}
 use Rattle.scx_sched_rules.specs.Bound.{IsNextFor}
@@ -425,7 +425,7 @@ rested_as s c b = record { state = with_world s (after_keep s.world None); notes
 
 rests : (s : State) (c : ℕ) (p : Option ℕ) (ran : Bool) → Rests s c p ran (rest s c p ran)
 unfolding rest
-rests s c (Some t) ran = Keeps t ran _ refl
+rests s c (Some t) ran = let v = with_world s (after_keep s.world (Some t)) in Keeps t ran (switched v t) _ (switches v t) refl
 rests s c None true = go (hears_idle s) refl
   where
     go : (b : Bool) → hears_idle s ≡ b → Rests s c None true (rested_as s c b)
@@ -435,7 +435,7 @@ rests s c None false = WasIdle _ refl
 
 only_rests : (s : State) (c : ℕ) (p : Option ℕ) (ran : Bool) (r : Stepped) → Rests s c p ran r → r ≡ rest s c p ran
 unfolding rest
-only_rests s c (Some t) ran r (Keeps _ _ _ k) = k
+only_rests s c (Some t) ran r (Keeps _ _ on _ w k) = k ∙ ap (λ (v : State). stays v) (only_switches (with_world s (after_keep s.world (Some t))) t on w)
 only_rests s c None true r (Idles _ n k) = k ∙ ap (λ b. rested_as s c b) (sym (unheard_of s n))
 only_rests s c None true r (IdlesUnheard _ h k) = k ∙ ap (λ b. rested_as s c b) (sym (hears_idle_of s h))
 only_rests s c None false r (WasIdle _ k) = k
@@ -638,16 +638,20 @@ abbrev concluded_as : State → ℕ → Option ℕ → Bool → Option Eject →
 concluded_as s c p ran x = if is_some x then builtin_cycle s c p ran else keep_or_pick s c p ran
 
 abbrev kept_as : State → ℕ → Option ℕ → Bool → Bool → Stepped
-kept_as s c p ran b = if b then stays s else pick_or_rest s c p ran
+kept_as s c p ran b = if b then stays (kept s p) else pick_or_rest s c p ran
+
+keeps_on : (s : State) (c : ℕ) (p : Option ℕ) (ran : Bool) → s.world.ejected ≡ None → KeepsSlice s p → Ends s c p ran (stays (kept s p))
+keeps_on s c (Some t) ran e k = KeepsOn t (switched s t) e refl k (switches s t) refl
+keeps_on s c None ran e (HasLeft t y z l) = absurd (cc)
 
 ends : (s : State) (c : ℕ) (p : Option ℕ) (ran : Bool) → Ends s c p ran (conclude s c p ran)
 unfolding conclude keep_or_pick pick_or_rest
 ends s c p ran = go s.world.ejected refl (keeps_or_gives s p) (any_here s c)
   where
     go : (x : Option Eject) → s.world.ejected ≡ x → KeepsSlice s p ⊎ GivesWay s p → HasAny s c
-        → Ends s c p ran (if is_some x then builtin_cycle s c p ran else (if keeps_slice s p then stays s else pick_if s c p ran (not (local_len s.world c == 0))))
+        → Ends s c p ran (if is_some x then builtin_cycle s c p ran else (if keeps_slice s p then stays (kept s p) else pick_if s c p ran (not (local_len s.world c == 0))))
     go (Some x) e way any = Anew x e (cycles_builtin s c p ran)
-    go None e (inl k) any = rw (keeps s p k) (KeepsOn e k refl)
+    go None e (inl k) any = rw (keeps s p k) (keeps_on s c p ran e k)
     go None e (inr g) (inl l) = rw (gives s p g, has_some s c l) (Picked e g l (picks s c p ran l))
     go None e (inr g) (inr z) = rw (gives s p g, is_empty s c z) (Rested e g z (rests s c p ran))
 
@@ -666,7 +670,7 @@ rest_is s c p ran z = ap (λ b. pick_if s c p ran b) (sym (is_empty s c z))
 only_ends : (s : State) (c : ℕ) (p : Option ℕ) (ran : Bool) (r : Stepped) → Ends s c p ran r → r ≡ conclude s c p ran
 unfolding conclude
 only_ends s c p ran r (Anew x e h) = only_cycles_builtin s c p ran r h ∙ ap (λ o. concluded_as s c p ran o) (sym e)
-only_ends s c p ran r (KeepsOn e h k) = k ∙ kept_is s c p ran true (keeps s p h) ∙ ap (λ o. concluded_as s c p ran o) (sym e)
+only_ends s c p ran r (KeepsOn t on e y h w k) = k ∙ ap (λ (v : State). stays v) (only_switches s t on w) ∙ ap (λ o. stays (kept s o)) (sym y) ∙ kept_is s c p ran true (keeps s p h) ∙ ap (λ o. concluded_as s c p ran o) (sym e)
 only_ends s c p ran r (Picked e g l h) = only_picks s c p ran r h ∙ pick_is s c p ran l ∙ kept_is s c p ran false (gives s p g) ∙ ap (λ o. concluded_as s c p ran o) (sym e)
 only_ends s c p ran r (Rested e g z h) = only_rests s c p ran r h ∙ rest_is s c p ran z ∙ kept_is s c p ran false (gives s p g) ∙ ap (λ o. concluded_as s c p ran o) (sym e)
 

@@ -218,8 +218,9 @@ pub data Starts (s : State) (c : ℕ) (r : Stepped) : Type 0 where
 -- nobody came: the task before keeps the processor, or it is idle, which is noted where a task
 -- ran there as the event began; not yet where the policy hears of it first
 pub data Rests (s : State) (c : ℕ) : Option ℕ → Bool → Stepped → Type 0 where
-  Keeps : (t : ℕ) (ran : Bool) (r : Stepped)
-      → r ≡ silent s (after_keep s.world (Some t)) → Rests s c (Some t) ran r
+  Keeps : (t : ℕ) (ran : Bool) (on : State) (r : Stepped)
+      → Switches (with_world s (after_keep s.world (Some t))) t on
+      → r ≡ stays on → Rests s c (Some t) ran r
   Idles : (r : Stepped)
       → ¬ HearsIdle s → r ≡ noting s s.world (note.Idle c) → Rests s c None true r
   IdlesUnheard : (r : Stepped) → HearsIdle s → r ≡ stays s → Rests s c None true r
@@ -310,7 +311,9 @@ pub data Picks (s : State) (c : ℕ) (p : Option ℕ) (ran : Bool) (r : Stepped)
 -- once dispatch was asked; a task that keeps its slice stays, and nothing is noted
 pub data Ends (s : State) (c : ℕ) (p : Option ℕ) (ran : Bool) (r : Stepped) : Type 0 where
   Anew : (x : Eject) → s.world.ejected ≡ Some x → CyclesBuiltin s c p ran r → Ends s c p ran r
-  KeepsOn : s.world.ejected ≡ None → KeepsSlice s p → r ≡ stays s → Ends s c p ran r
+  KeepsOn : (t : ℕ) (on : State)
+      → s.world.ejected ≡ None → p ≡ Some t → KeepsSlice s p → Switches s t on
+      → r ≡ stays on → Ends s c p ran r
   Picked : s.world.ejected ≡ None → GivesWay s p → 0 < local_len s.world c → Picks s c p ran r
       → Ends s c p ran r
   Rested : s.world.ejected ≡ None → GivesWay s p → local_len s.world c ≡ 0 → Rests s c p ran r
