@@ -1,3 +1,6 @@
+pub mod Values
+pub mod Pieces
+pub mod Places
 mod Shapes
 pub mod Running
 mod Passing
