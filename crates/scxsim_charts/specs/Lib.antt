@@ -1,1 +1,3 @@
 pub mod Charts
+pub mod Marks
+pub mod Times

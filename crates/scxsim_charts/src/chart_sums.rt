@@ -1,4 +1,5 @@
 use crate::activities::{Activities, Activity, Interval};
+use crate::due_times::DueTimes;
 use crate::grids::Grid;
 use crate::rows::Rows;
 use crate::scales::Scale;
@@ -12,26 +13,31 @@ use std::alloc::{AllocError, Global};
 /// The time of each activity, by row and character.
 #[derive(Drop)]
 pub(crate) struct Sums {
-    /// Rows of processors.
+    /// Rows of CPUs.
     pub(crate) cpus: Grid,
     /// Rows of tasks, or of groups.
     pub(crate) ran: Grid,
     pub(crate) waited: Grid,
     pub(crate) held: Grid,
     pub(crate) parked: Grid,
-    /// Rows of processors: how long each was idle while a task waited.
+    /// Lines of CPUs: how long they were idle while a task waited.
     pub(crate) lost: Grid,
+    /// Rows of all groups, where tasks are added up: the time that was due to each, in parts.
+    pub(crate) due: Grid,
 }
 
 impl Sums {
-    fn new(alloc: Global, rows: Rows) -> Result<Sums, AllocError> {
+    fn new(alloc: Global, rows: Rows, cells: usize) -> Result<Sums, AllocError> {
+        let tasks = rows.of_tasks();
+        let groups = if rows.by_group { tasks } else { 0 };
         Ok(Sums {
-            cpus: Grid::new(alloc, rows.of_cpus())?,
-            ran: Grid::new(alloc, rows.of_tasks())?,
-            waited: Grid::new(alloc, rows.of_tasks())?,
-            held: Grid::new(alloc, rows.of_tasks())?,
-            parked: Grid::new(alloc, rows.of_tasks())?,
-            lost: Grid::new(alloc, rows.cpus)?,
+            cpus: Grid::new(alloc, rows.of_cpus(), cells)?,
+            ran: Grid::new(alloc, tasks, cells)?,
+            waited: Grid::new(alloc, tasks, cells)?,
+            held: Grid::new(alloc, tasks, cells)?,
+            parked: Grid::new(alloc, tasks, cells)?,
+            lost: Grid::new(alloc, rows.cpu_lines(), cells)?,
+            due: Grid::new(alloc, groups, cells)?,
         })
     }
 }
@@ -66,9 +72,11 @@ pub(crate) fn gather<L: Listener>(
     let Gathering {
         gathered,
         activities,
+        dues,
         ..
     } = gathering;
     drop(activities);
+    drop(dues);
     give_back(events, sim);
     Ok(chart_of(workload, scale, gathered))
 }
@@ -102,6 +110,8 @@ struct Gathering<'a> {
     workload: &'a Workload,
     scale: Scale,
     activities: Activities,
+    /// The time due to groups, where tasks are added up.
+    dues: Option<DueTimes>,
     gathered: Gathered,
 }
 
@@ -110,11 +120,13 @@ impl<'a> Gathering<'a> {
     fn new(alloc: Global, workload: &'a Workload, scale: Scale) -> Result<Self, AllocError> {
         let rows = Rows::new(workload);
         let activities = Activities::new(alloc, workload.tasks().len())?;
-        let sums = Sums::new(alloc, rows)?;
+        let dues = dues_of(alloc, workload, rows)?;
+        let sums = Sums::new(alloc, rows, scale.cells())?;
         Ok(Gathering {
             workload,
             scale,
             activities,
+            dues,
             gathered: Gathered {
                 rows,
                 sums,
@@ -132,17 +144,19 @@ impl<'a> Gathering<'a> {
         self.gathered.add(self.scale, interval, row);
     }
 
-    /// Adds the current millisecond to each processor that runs nobody, if a task waits.
+    /// Adds the current millisecond to the line of each CPU that runs no task, if a task waits.
     fn lose(&mut self, sim: &Sim) {
         if !self.activities.somebody_waits() {
             return;
         }
         let clock = sim.clock();
         let scale = self.scale;
+        let rows = self.gathered.rows;
         let lost = &mut self.gathered.sums.lost;
         for cpu in 0..sim.cpus() {
             if sim.running(cpu).is_none() {
-                lost.add(cpu as usize, scale, clock, clock.saturating_add(1));
+                let line = rows.line_of_cpu(cpu as usize);
+                lost.add(line, scale, clock, clock.saturating_add(1));
             }
         }
     }
@@ -179,21 +193,36 @@ impl Gathered {
     }
 }
 
+/// The time due to groups, if tasks are added up by them.
+fn dues_of(alloc: Global, workload: &Workload, rows: Rows) -> Result<Option<DueTimes>, AllocError> {
+    if rows.by_group {
+        Ok(Some(DueTimes::new(alloc, workload)?))
+    } else {
+        Ok(None)
+    }
+}
+
 impl Observer for Gathering<'_> {
     ghost use Rattle.std.specs.Prelude.{false};
 
     ghost has_failed = { λ _. false };
 
-    /// The ticks of a millisecond begin with that of processor 0.
+    /// The ticks of a millisecond begin with that of CPU 0.
     fn expect(&mut self, sim: &Sim, event: Event) {
         if let Event::Tick(0) = event {
             self.lose(sim);
+        }
+        if let Some(dues) = &mut self.dues {
+            dues.expect(sim, event, self.scale, &mut self.gathered.sums.due);
         }
     }
 
     fn show(&mut self, moment: u64, _clock: u64, what: What) {
         let interval = self.activities.show(moment, what);
         self.add(interval);
+        if let Some(dues) = &mut self.dues {
+            dues.show(self.workload, what);
+        }
         if let Some(ejection) = Ejection::of(moment, what) {
             self.gathered.ejection = Some(ejection);
         }

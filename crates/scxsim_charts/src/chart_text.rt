@@ -1,6 +1,6 @@
 use crate::chart_sums::Chart;
+use crate::legends::write_legend;
 use crate::marks::letter;
-use crate::scales::CELLS;
 use scxsim_commands::Ejection;
 use scxsim_output::Text;
 use scxsim_trace::Names;
@@ -14,15 +14,10 @@ const NUMBER: usize = 8;
 /// The number of characters in the words of an ejection.
 const EJECTED: usize = 9;
 
-const TASK_LEGEND: &str = "
-cpu:   A letter: that task for at least half; * several; . idle; ! idle while somebody waited
-task:  # ran; + ran for a part; - waited; h held; p parked; blank slept
-";
+/// The characters of the time that a line ran, and of the time that it waited.
+const RAN: usize = 9;
 
-const GROUP_LEGEND: &str = "
-cpu:   1-9 tenths that ran; . idle; ! idle while somebody waited
-group: 0-9 tenths of all processors' time that its tasks ran; - they waited; blank slept
-";
+const WAITED: usize = 11;
 
 impl Chart {
     /// The name of the task of that number; an empty one where there is none.
@@ -31,6 +26,18 @@ impl Chart {
             Ok(task) => self.workload.task(task),
             Err(_) => "",
         }
+    }
+
+    /// The time that tasks ran on a line of CPUs.
+    fn ran_on(&self, line: usize) -> u64 {
+        if self.rows.by_group {
+            return self.sums.cpus.total(0);
+        }
+        let mut ran = 0u64;
+        for task in 0..self.rows.tasks {
+            ran = ran.saturating_add(self.sums.cpus.total(self.rows.of_cpu(line, task)));
+        }
+        ran
     }
 
     /// The name of the group of that number; an empty one where there is none.
@@ -46,8 +53,8 @@ impl Chart {
 pub(crate) fn write_chart(chart: &Chart, page: &mut Text) {
     write_end(chart, page);
     write_axis(chart, page);
-    for cpu in 0..chart.rows.cpus {
-        write_cpu(chart, cpu, page);
+    for line in 0..chart.rows.cpu_lines() {
+        write_cpus(chart, line, page);
     }
     for row in 0..chart.rows.of_tasks() {
         write_row(chart, row, page);
@@ -79,50 +86,58 @@ fn write_end(chart: &Chart, page: &mut Text) {
     }
 }
 
-/// Adds the line above the chart: the moments with which some characters begin.
+/// Adds the line above the chart: the moments with which some characters begin, and what is at the right.
 fn write_axis(chart: &Chart, page: &mut Text) {
+    let cells = chart.scale.cells();
     page.left("ms", NAME);
     let start = page.len();
     let apart = chart.scale.apart().max(1);
-    for number in 0..CELLS {
+    for number in 0..cells {
         let cell = number.saturating_mul(apart);
-        if cell >= chart.scale.used() || cell.saturating_add(NUMBER) > CELLS {
+        if cell >= chart.scale.used() || cell.saturating_add(NUMBER) > cells {
             break;
         }
         let wide = page.len().saturating_sub(start);
         page.spaces(cell.saturating_sub(wide));
         page.number("", chart.scale.moment(cell));
     }
+    page.spaces(cells.saturating_sub(page.len().saturating_sub(start)));
+    page.right("ran ms", RAN);
+    page.right("waited ms", WAITED);
     page.push("\n");
 }
 
-fn write_cpu(chart: &Chart, cpu: usize, page: &mut Text) {
-    page.push("cpu ");
-    page.number_left(cpu as u64, 14);
+/// Adds the line of a CPU, or of all: its characters, and the time that tasks ran there.
+fn write_cpus(chart: &Chart, line: usize, page: &mut Text) {
+    if chart.rows.by_group {
+        page.left("all cpus", NAME - 1);
+    } else {
+        page.push("cpu ");
+        page.number_left(line as u64, 14);
+    }
     page.push("|");
     for cell in 0..chart.scale.used() {
-        page.character(chart.cpu_mark(cpu, cell));
+        page.character(chart.cpu_character(line, cell));
     }
+    page.spaces(chart.scale.unused());
+    page.number_right(chart.scale.ms(chart.ran_on(line)), RAN);
     page.push("\n");
 }
 
-/// Adds the line of a task or of a group. Blanks at its end are left out, and so is a group without tasks.
+/// Adds the line of a task or of a group, with the time that it ran and waited. A group without tasks is left out.
 fn write_row(chart: &Chart, row: usize, page: &mut Text) {
     if !has_tasks(chart, row) {
         return;
     }
     write_name(chart, row, page);
-    let mut blanks = 0usize;
     for cell in 0..chart.scale.used() {
-        let mark = chart.task_mark(row, cell);
-        if mark == ' ' {
-            blanks = blanks.saturating_add(1);
-        } else {
-            page.spaces(blanks);
-            blanks = 0;
-            page.character(mark);
-        }
+        page.character(chart.task_character(row, cell));
     }
+    page.spaces(chart.scale.unused());
+    let sums = &chart.sums;
+    let waited = sums.waited.total(row).saturating_add(sums.held.total(row));
+    page.number_right(chart.scale.ms(sums.ran.total(row)), RAN);
+    page.number_right(chart.scale.ms(waited), WAITED);
     page.push("\n");
 }
 
@@ -161,44 +176,21 @@ fn write_task_name(task: usize, name: &str, page: &mut Text) {
 fn write_ejection(chart: &Chart, page: &mut Text) {
     match chart.ejection {
         Some(ejection) if chart.scale.has(ejection.moment()) => {
-            write_mark(chart.scale.cell(ejection.moment()), page);
+            let cell = chart.scale.cell(ejection.moment());
+            write_mark(cell, chart.scale.cells(), page);
         }
         _ => {}
     }
 }
 
 /// Marks the character in which the policy was ejected.
-fn write_mark(cell: usize, page: &mut Text) {
+fn write_mark(cell: usize, cells: usize, page: &mut Text) {
     let column = NAME.saturating_add(cell);
-    if column.saturating_add(EJECTED) <= NAME.saturating_add(CELLS) {
+    if cell.saturating_add(EJECTED) <= cells {
         page.spaces(column);
         page.push("^ ejected\n");
     } else {
         page.spaces(column.saturating_sub(EJECTED - 1));
         page.push("ejected ^\n");
     }
-}
-
-/// Adds the legend: the meaning of each character, and its length.
-fn write_legend(chart: &Chart, page: &mut Text) {
-    page.push(if chart.rows.by_group {
-        GROUP_LEGEND
-    } else {
-        TASK_LEGEND
-    });
-    match chart.scale.ms_a_cell() {
-        Some(ms) => {
-            page.number("       a character is ", ms);
-            page.push(" ms");
-        }
-        None => {
-            page.number("       ", chart.scale.cells_a_ms());
-            page.push(" characters are a millisecond");
-        }
-    }
-    page.push(if chart.rows.by_group {
-        "; tasks are added up by groups\n"
-    } else {
-        "\n"
-    });
 }

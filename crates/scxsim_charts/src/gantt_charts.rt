@@ -8,12 +8,14 @@ ghost use Rattle.scxsim_charts.specs.Charts.{chart};
 use crate::chart_sums::{Chart, gather};
 use crate::chart_text::write_chart;
 use crate::scales::Scale;
+use crate::sheets::{Sheet, cells_of};
 use scxsim_commands::{Fault, Refusal, Span};
 use scxsim_output::{Failed, Out, Text, write_all};
 use scxsim_simulation::{Listener, RunPart, prepare_part};
 use std::alloc::{AllocError, Global};
 
-/// Writes the chart of the run of a policy file and a workload file, or of a part of it. The answer is true.
+/// Writes the chart of the run of a policy file and a workload file, or of a part of it. The answer is true. Its
+/// lines are at most as wide as the sheet, between 72 and 1,000 columns, but for a long title.
 ///
 /// # Errors
 ///
@@ -21,7 +23,7 @@ use std::alloc::{AllocError, Global};
 /// the chart fails.
 pub fn gantt<L: Listener, W: Out>(
     alloc: Global,
-    title: &str,
+    sheet: Sheet<'_>,
     policy: &str,
     workload: &str,
     span: Option<Span<'_>>,
@@ -29,7 +31,7 @@ pub fn gantt<L: Listener, W: Out>(
     out: &mut W,
 ) -> Result<bool, Fault>
     ensures done { IfOk result (λ answer. (answer ≡ true) × (lines : List ℕ)
-        × Appends (W.contents out.old) (W.contents out.new) (chart title.now lines)) }
+        × Appends (W.contents out.old) (W.contents out.new) (chart sheet.entry.title.now lines)) }
     ensures unfailed { OnOk result (W.failure_count out.new ≡ W.failure_count out.old) }
 
     // A refusal has its cause in the texts or in the words, and comes before any byte is written.
@@ -38,8 +40,8 @@ pub fn gantt<L: Listener, W: Out>(
     ensures counted { result ≡ Err Fault.WriteFailed
         → HasFailed (W.failure_count out.old) (W.failure_count out.new) }
 {
-    let lines = lines_of(alloc, policy, workload, span, listener)?;
-    write_lines(title, lines.as_str(), out)?;
+    let lines = lines_of(alloc, sheet.columns, policy, workload, span, listener)?;
+    write_lines(sheet.title, lines.as_str(), out)?;
     Ok(true)
 }
 
@@ -58,6 +60,7 @@ fn write_lines<W: Out>(title: &str, lines: &str, out: &mut W) -> Result<(), Fail
 #[tactic(auto, using(scxsim_simulation::proofs::PartCauses::out_of_memory))]
 fn lines_of<L: Listener>(
     alloc: Global,
+    columns: u64,
     policy: &str,
     workload: &str,
     span: Option<Span<'_>>,
@@ -66,7 +69,7 @@ fn lines_of<L: Listener>(
     ensures { IfErr result (IsPartCause policy.now workload.now span.entry) }
 {
     let RunPart { run, window } = prepare_part(alloc, policy, workload, span)?;
-    let chart = gather(alloc, run, Scale::new(window), listener)?;
+    let chart = gather(alloc, run, Scale::new(window, cells_of(columns)), listener)?;
     let lines = lines_of_chart(alloc, &chart);
     drop(chart);
     Ok(lines?)

@@ -1,6 +1,9 @@
+ghost use Rattle.std.specs.Prelude.{◌≡◌};
+ghost use Rattle.scxsim_charts.specs.Times.{row_on};
+
 use scx_load_workloads::Workload;
 
-/// The most lines of a chart for processors and tasks; with more the tasks of a group share one.
+/// The most lines of a chart for CPUs and tasks; with more all CPUs share one, and the tasks of a group.
 const MOST_ROWS: usize = 64;
 
 /// The lines of a chart.
@@ -9,7 +12,7 @@ pub(crate) struct Rows {
     pub(crate) cpus: usize,
     pub(crate) tasks: usize,
     groups: usize,
-    /// True if tasks are added up by their groups.
+    /// True if CPUs are added up, and tasks by their groups.
     pub(crate) by_group: bool,
 }
 
@@ -34,10 +37,25 @@ impl Rows {
         }
     }
 
-    /// The number of rows of sums for processors: one for each task on each, unless tasks are added up.
+    /// The number of lines for CPUs.
+    pub(crate) fn cpu_lines(self) -> usize {
+        if self.by_group { 1 } else { self.cpus }
+    }
+
+    /// The line of a CPU.
+    pub(crate) fn line_of_cpu(self, cpu: usize) -> usize {
+        if self.by_group { 0 } else { cpu }
+    }
+
+    /// The number of CPUs of a line.
+    pub(crate) fn cpus_a_line(self) -> u64 {
+        if self.by_group { self.cpus as u64 } else { 1 }
+    }
+
+    /// The number of rows of sums for CPUs: one for each task on each, unless they are added up.
     pub(crate) fn of_cpus(self) -> usize {
         if self.by_group {
-            self.cpus
+            1
         } else {
             self.cpus.saturating_mul(self.tasks)
         }
@@ -54,10 +72,12 @@ impl Rows {
         }
     }
 
-    /// The row of a task on a processor.
-    pub(crate) fn of_cpu(self, cpu: usize, task: usize) -> usize {
+    /// The row of a task on a CPU.
+    pub(crate) fn of_cpu(self, cpu: usize, task: usize) -> usize
+        ensures { result ≡ row_on self cpu task }
+    {
         if self.by_group {
-            cpu
+            0
         } else {
             cpu.saturating_mul(self.tasks).saturating_add(task)
         }

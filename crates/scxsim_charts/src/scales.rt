@@ -1,10 +1,5 @@
 use scxsim_commands::Window;
 
-/// The number of a line's characters that show time.
-pub(crate) const CELLS: usize = 81;
-
-const WIDTH: u64 = CELLS as u64;
-
 /// The least number of characters between two numbers of the axis.
 const APART: u64 = 16;
 
@@ -13,6 +8,8 @@ const APART: u64 = 16;
 #[derive(Clone, Copy)]
 pub(crate) struct Scale {
     window: Window,
+    /// The most characters of a line that show time, at least 1.
+    cells: u64,
     /// The parts of a millisecond, at least 1.
     parts: u64,
     /// The parts of a character, at least 1.
@@ -20,15 +17,23 @@ pub(crate) struct Scale {
 }
 
 impl Scale {
-    pub(crate) fn new(window: Window) -> Scale {
+    /// A scale for lines in which that many characters show time.
+    pub(crate) fn new(window: Window, cells: u64) -> Scale {
+        let cells = cells.max(1);
         let length = window.to.saturating_sub(window.from).max(1);
-        let parts = (WIDTH / length).max(1);
-        let step = length.saturating_mul(parts).div_ceil(WIDTH).max(1);
+        let parts = (cells / length).max(1);
+        let step = length.saturating_mul(parts).div_ceil(cells).max(1);
         Scale {
             window,
+            cells,
             parts,
             step,
         }
+    }
+
+    /// The most characters of a line that show time.
+    pub(crate) fn cells(self) -> usize {
+        self.cells as usize
     }
 
     /// The parts between the beginning of the window and a moment of it.
@@ -42,13 +47,17 @@ impl Scale {
     /// The character in which a moment lies; the one after the last at the end of the window.
     pub(crate) fn cell(self, moment: u64) -> usize {
         let cell = self.place(moment) / self.step.max(1);
-        cell.min(WIDTH) as usize
+        cell.min(self.cells) as usize
     }
 
     /// The number of characters that are needed.
     pub(crate) fn used(self) -> usize {
-        let cells = self.place(self.window.to).div_ceil(self.step.max(1));
-        cells.min(WIDTH) as usize
+        self.end_cell(self.window.to)
+    }
+
+    /// The number of characters that aren't.
+    pub(crate) fn unused(self) -> usize {
+        self.cells().saturating_sub(self.used())
     }
 
     /// The time between two moments that lies in a character.
@@ -67,7 +76,7 @@ impl Scale {
     /// The first character after that moment.
     pub(crate) fn end_cell(self, until: u64) -> usize {
         let cells = self.place(until).div_ceil(self.step.max(1));
-        cells.min(WIDTH) as usize
+        cells.min(self.cells) as usize
     }
 
     /// True if the moment lies in the window.
@@ -94,6 +103,11 @@ impl Scale {
         } else {
             None
         }
+    }
+
+    /// A sum of time in whole milliseconds.
+    pub(crate) fn ms(self, sum: u64) -> u64 {
+        sum / self.parts.max(1)
     }
 
     /// The number of characters of a millisecond, where it has more than one.
