@@ -3,8 +3,10 @@ pub mod Below
 pub mod Percentiles
 mod Rows
 mod Told
+pub mod Merging
 mod Processors
 mod Awake
+mod Waking
 mod Lost
 mod Whole
 mod Staying

@@ -30,17 +30,20 @@ abbrev pub times_with : List ℕ → List (ℕ × ℕ) → List (ℕ × ℕ)
 times_with [] es = es
 times_with (l ∷ ls) es = times_with ls (one_more_of l es)
 
--- where one more of a length comes
-goes_first : (l : ℕ) (e : ℕ × ℕ) (es : List (ℕ × ℕ)) → l < e.0 → one_more_of l (e ∷ es) ≡ (l, 1) ∷ e ∷ es
+-- one of a length that is shorter than all comes first
+pub goes_first : (l : ℕ) (e : ℕ × ℕ) (es : List (ℕ × ℕ)) → l < e.0 → one_more_of l (e ∷ es) ≡ (l, 1) ∷ e ∷ es
 goes_first l e es less = rw (lt-ltb l e.0 less) refl
 
-goes_here : (l : ℕ) (e : ℕ × ℕ) (es : List (ℕ × ℕ)) → e.0 ≤ l → l ≡ e.0 → one_more_of l (e ∷ es) ≡ (e.0, up e.1) ∷ es
+-- one of the first length is one more of it
+pub goes_here : (l : ℕ) (e : ℕ × ℕ) (es : List (ℕ × ℕ)) → e.0 ≤ l → l ≡ e.0 → one_more_of l (e ∷ es) ≡ (e.0, up e.1) ∷ es
 goes_here l e es at_least same = rw (le-ltb l e.0 at_least, eq-eqb l e.0 same) refl
 
-goes_behind : (l : ℕ) (e : ℕ × ℕ) (es : List (ℕ × ℕ)) → e.0 ≤ l → (l ≡ e.0 → ⊥) → one_more_of l (e ∷ es) ≡ e ∷ one_more_of l es
+-- a longer one comes later
+pub goes_behind : (l : ℕ) (e : ℕ × ℕ) (es : List (ℕ × ℕ)) → e.0 ≤ l → (l ≡ e.0 → ⊥) → one_more_of l (e ∷ es) ≡ e ∷ one_more_of l es
 goes_behind l e es at_least other = rw (le-ltb l e.0 at_least, ne_eqb l e.0 other) refl
 
-up_0 : up 0 ≡ 1
+-- one more than none is one
+pub up_0 : up 0 ≡ 1
 up_0 = omega arith
 
 -- an insert of one more than was there is one more of that length

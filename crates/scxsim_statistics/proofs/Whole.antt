@@ -23,17 +23,21 @@ use Rattle.scxsim_views.proofs.Keeping.{run_is_kept}
 use Rattle.scxsim_statistics.specs.declared.tally.RunTally.{RunTally}
 use Rattle.scxsim_statistics.specs.declared.tally.TaskFigures.{TaskFigures}
 use Rattle.scxsim_statistics.specs.declared.tally.CpuFigures.{CpuFigures}
+use Rattle.scxsim_statistics.specs.declared.group_waits.GroupWaits.{GroupWaits}
 use Rattle.scx_sched_world.specs.declared.eject.Eject.{Eject}
 use Rattle.scxsim_statistics.specs.declared.gathering.Gathered.{Gathered}
-use Rattle.scxsim_statistics.specs.Lengths.{no_lengths, at_most_64_bits, length_of}
+use Rattle.scxsim_statistics.specs.Lengths.{Lengths, no_lengths, at_most_64_bits, length_of}
 use Rattle.scxsim_statistics.specs.Bursts.{no_bursts, bursts_at}
+use Rattle.scxsim_statistics.specs.Latencies.{no_latencies, latencies_at}
+use Rattle.scxsim_statistics.specs.Groups.{waits_in, waits_below, waits_at, merged_below, is_in}
 use Rattle.scxsim_statistics.specs.Losses.{lost_at}
 use Rattle.scxsim_statistics.specs.Counting.{RunCounts, counts_of, no_figures, unused_cpu, nothing, figures_at, cpu_at, with_run, with_pause, with_pause_of, after_pause, has_run, counts_after_note, counts_after_event, ended_below, counts_at_end}
-use Rattle.scxsim_statistics.specs.Figures.{does_after, to_list, pauses_in, pauses_of, waits_of, is_wait, longest_of, wakes_of, stops_in, busy_in, idle_in, lost_in, lost_anywhere_in, of_counts, of_gathered, all_asleep, IsOfTask, IsOfBursts, IsOfCpu, AreOfRun}
+use Rattle.scxsim_statistics.specs.Figures.{does_after, to_list, pauses_in, pauses_of, waits_of, is_wait, longest_of, wakes_of, stops_in, busy_in, idle_in, lost_in, lost_anywhere_in, of_counts, of_gathered, all_asleep, latencies_of, waits_of_group, latencies_of_group, IsOfTask, IsOfBursts, AreLatencies, AreOfGroup, IsOfCpu, AreOfRun}
 use Rattle.scxsim_statistics.proofs.Rows.{tasks_kept, with_option, pause_here, pause_there, of_pause, Row, row, row_all, IsThere, row_of_run}
 use Rattle.scxsim_statistics.proofs.Told.{wakes_told, stops_told, does_told, waits_told, waited_all, waited_append, pause_said, count_told, times_told, longest_told}
 use Rattle.scxsim_statistics.proofs.Processors.{cpu_told, cpus_stay}
-use Rattle.scxsim_statistics.proofs.Percentiles.{are_percentiles}
+use Rattle.scxsim_statistics.proofs.Merging.{IsOfLengths, percentiles_of, merged_told, greatest_of, length_below, at_below}
+use Rattle.scxsim_statistics.proofs.Waking.{latencies_told, latencies_stay}
 use Rattle.scxsim_statistics.proofs.Awake.{are_of_bursts}
 use Rattle.scxsim_statistics.proofs.Lost.{lost_told, anywhere_told}
 
@@ -138,9 +142,16 @@ first_is n m t below =
 abbrev pub final : WorkloadState → SimState → List Event → RunCounts
 final wl s es = counts_at_end (stepped_all s es).state.world (kept_of_all counts_after_event counts_after_note s es (nothing (length wl.homes) wl.cpus))
 
-task_of_run : (wl : WorkloadState) (s : SimState) (es : List Event) (t : ℕ) → t < length wl.homes → t < length (stepped_all s es).state.world.tasks
-    → IsOfTask t (stepped_all s es).state.world (notes_of_all s es) (figures_at (final wl s es).tasks t)
-task_of_run wl s es t below in_world =
+-- what is told of a task: how long it ran, its wakes and stops, and exactly its waits
+record IsToldOf (t : ℕ) (w : WorldState) (ns : List Note) (x : TaskFigures) : Type 0 where
+  pub run : x.run ≡ ran_ms (task_at w t)
+  pub wakes : x.wakes ≡ at_most_64_bits (wakes_of t ns)
+  pub stopped : x.stopped ≡ at_most_64_bits (stops_in t Sleeps ns)
+  pub waits : IsOfLengths (map length_of (waits_of t w.clock ns)) x.waits
+
+told_of_run : (wl : WorkloadState) (s : SimState) (es : List Event) (t : ℕ) → t < length wl.homes → t < length (stepped_all s es).state.world.tasks
+    → IsToldOf t (stepped_all s es).state.world (notes_of_all s es) (figures_at (final wl s es).tasks t)
+told_of_run wl s es t below in_world =
     let world = (stepped_all s es).state.world in
     let first = nothing (length wl.homes) wl.cpus in
     let k = kept_of_all counts_after_event counts_after_note s es first in
@@ -150,20 +161,91 @@ task_of_run wl s es t below in_world =
     let there : IsThere t k = run.0 in
     let told = task_told t world.clock (ran_ms (task_at world t)) ns (row t k) (figures_at (final wl s es).tasks t) all
     (is_ended (length world.tasks) t world k.doing k.tasks in_world there.tasks) in
-    let waits = ap (λ x. x.count) told.3 ∙ count_told (pauses_of t world.clock ns) no_lengths 0 refl ∙ ap at_most_64_bits (from_0 (length (waits_of t world.clock ns))) in
-    let lengths = map length_of (waits_of t world.clock ns) in
     record {
       run = told.0;
       wakes = told.1;
       stopped = told.2;
-      waits = waits;
-      longest = ap (λ x. x.longest) told.3 ∙ longest_told (pauses_of t world.clock ns) no_lengths (λ e. refl) ∙ from_none (longest_of (filter is_wait (pauses_of t world.clock ns)));
-      percentiles =
-          are_percentiles lengths (figures_at (final wl s es).tasks t).waits (waits ∙ ap at_most_64_bits (sym (length-map (waits_of t world.clock ns) length_of))) (ap (λ x. x.times) told.3 ∙ times_told (pauses_of t world.clock ns) no_lengths);
+      waits = record {
+        count =
+            ap (λ x. x.count) told.3 ∙ count_told (pauses_of t world.clock ns) no_lengths 0 refl ∙ ap at_most_64_bits (from_0 (length (waits_of t world.clock ns)))
+            ∙ ap at_most_64_bits (sym (length-map (waits_of t world.clock ns) length_of));
+        longest =
+            ap (λ x. x.longest) told.3 ∙ longest_told (pauses_of t world.clock ns) no_lengths (λ e. refl) ∙ from_none (longest_of (filter is_wait (pauses_of t world.clock ns)))
+            ∙ greatest_of (waits_of t world.clock ns);
+        times = ap (λ x. x.times) told.3 ∙ times_told (pauses_of t world.clock ns) no_lengths;
+      };
     }
   where
     from_none : (a : ℕ) → max 0 a ≡ a
     from_none a = omega arith
+
+task_of_run : (wl : WorkloadState) (s : SimState) (es : List Event) (t : ℕ) → t < length wl.homes → t < length (stepped_all s es).state.world.tasks
+    → IsOfTask t (stepped_all s es).state.world (notes_of_all s es) (figures_at (final wl s es).tasks t)
+task_of_run wl s es t below in_world =
+    let world = (stepped_all s es).state.world in
+    let waits = waits_of t world.clock (notes_of_all s es) in
+    let told = told_of_run wl s es t below in_world in
+    record {
+      run = told.run;
+      wakes = told.wakes;
+      stopped = told.stopped;
+      waits = told.waits.count ∙ ap at_most_64_bits (length-map waits length_of);
+      longest = told.waits.longest ∙ sym (greatest_of waits);
+      percentiles = percentiles_of (map length_of waits) (figures_at (final wl s es).tasks t).waits told.waits;
+    }
+
+-- exactly the wake-to-run latencies of a task are counted
+waking_of_run : (wl : WorkloadState) (s : SimState) (es : List Event) (t : ℕ) → t < length wl.homes → IsOfLengths (latencies_of t (notes_of_all s es)) (latencies_at (final wl s es).latencies t).lengths
+waking_of_run wl s es t below =
+    latencies_told t s es (nothing (length wl.homes) wl.cpus) (subst (λ k. t < k) (sym (length-replicate (length wl.homes) no_latencies)) below)
+    (get_or-replicate (length wl.homes) t no_latencies no_latencies below)
+
+latencies_of_run : (wl : WorkloadState) (s : SimState) (es : List Event) (t : ℕ) → t < length wl.homes → AreLatencies t (notes_of_all s es) (latencies_at (final wl s es).latencies t)
+latencies_of_run wl s es t below =
+    let told = waking_of_run wl s es t below in
+    record {
+      count = told.count;
+      longest = told.longest;
+      percentiles = percentiles_of (latencies_of t (notes_of_all s es)) (latencies_at (final wl s es).latencies t).lengths told;
+    }
+
+length_tasks : (wl : WorkloadState) (s : SimState) (es : List Event) → length (final wl s es).tasks ≡ length wl.homes
+length_tasks wl s es =
+    let world = (stepped_all s es).state.world in
+    let k = kept_of_all counts_after_event counts_after_note s es (nothing (length wl.homes) wl.cpus) in
+    length_ended (length world.tasks) world k.doing k.tasks ∙ tasks_kept es s (nothing (length wl.homes) wl.cpus) ∙ length-replicate (length wl.homes) no_figures
+
+length_latencies : (wl : WorkloadState) (s : SimState) (es : List Event) → length (final wl s es).latencies ≡ length wl.homes
+length_latencies wl s es =
+    latencies_stay es s (nothing (length wl.homes) wl.cpus) ∙ length-replicate (length wl.homes) no_latencies
+
+-- the lengths of what was counted of both are those of a group
+of_both : (wl : WorkloadState) (g clock : ℕ) (ns : List Note) (x : GroupWaits) → IsOfLengths (waits_of_group wl g clock ns) x.waits → IsOfLengths (latencies_of_group wl g ns) x.latencies → AreOfGroup wl g clock ns x
+of_both wl g clock ns x waits latencies = record {
+  waits = waits.count;
+  longest = waits.longest;
+  percentiles = percentiles_of (waits_of_group wl g clock ns) x.waits waits;
+  latencies = latencies.count;
+  longest_latency = latencies.longest;
+  latency_percentiles = percentiles_of (latencies_of_group wl g ns) x.latencies latencies;
+}
+
+group_of_run : (wl : WorkloadState) (s : SimState) (es : List Event) (g : ℕ) → g < length wl.groups → length wl.homes ≤ length (stepped_all s es).state.world.tasks
+    → AreOfGroup wl g (stepped_all s es).state.world.clock (notes_of_all s es) (waits_at (waits_below wl (final wl s es).tasks (final wl s es).latencies (length wl.groups)) g)
+group_of_run wl s es g below in_world =
+    let world = (stepped_all s es).state.world in
+    let ns = notes_of_all s es in
+    let k = final wl s es in
+    let waits_counted : ℕ → Lengths = λ t. (figures_at k.tasks t).waits in
+    let counted : ℕ → Lengths = λ t. (latencies_at k.latencies t).lengths in
+    let waits = merged_told wl g (λ t. map length_of (waits_of t world.clock ns)) waits_counted (length wl.homes)
+    (λ t there. (told_of_run wl s es t there (omega (arith, there, in_world))).waits) in
+    let latencies = merged_told wl g (λ t. latencies_of t ns) counted (length wl.homes) (λ t there. waking_of_run wl s es t there) in
+    let W : ℕ → Type 0 = λ n. IsOfLengths (waits_of_group wl g world.clock ns) (merged_below (is_in wl g) waits_counted n) in
+    let L : ℕ → Type 0 = λ n. IsOfLengths (latencies_of_group wl g ns) (merged_below (is_in wl g) counted n) in
+    let P : GroupWaits → Type 0 = λ x. AreOfGroup wl g world.clock ns x in
+    subst P (sym (at_below wl k.tasks k.latencies (length wl.groups) g below))
+    (of_both wl g world.clock ns (waits_in wl k.tasks k.latencies g) (subst W (sym (length_tasks wl s es)) waits) (subst L (sym (length_latencies wl s es)) latencies))
 
 cpu_of_run : (wl : WorkloadState) (s : SimState) (es : List Event) (c : ℕ) → c < wl.cpus → IsOfCpu c s es (cpu_at (final wl s es).cpus c)
 cpu_of_run wl s es c below =
@@ -188,23 +270,20 @@ anywhere_of_run wl s es =
     anywhere_told es s (nothing (length wl.homes) wl.cpus) 0 refl ∙ ap at_most_64_bits (from_0 (lost_anywhere_in (all_asleep wl) s es))
 
 -- what is counted in a whole run, with how the policy has ended, are the figures of that run
-pub figures_told : (wl : WorkloadState) (s : SimState) (es : List Event) → AreOfRun wl s es (of_counts (final wl s es) (stepped_all s es).state.world.ejected)
+pub figures_told : (wl : WorkloadState) (s : SimState) (es : List Event) → AreOfRun wl s es (of_counts wl (final wl s es) (stepped_all s es).state.world.ejected)
 figures_told wl s es = record {
-  all_tasks = tasks_stay wl s es;
+  all_tasks = length_tasks wl s es;
   all_cpus = cpus_stay es s (nothing (length wl.homes) wl.cpus) ∙ length-replicate wl.cpus unused_cpu;
   of_task = task_of_run wl s es;
   of_bursts = bursts_of_run wl s es;
+  of_latencies = latencies_of_run wl s es;
+  all_groups = length_below wl (final wl s es).tasks (final wl s es).latencies (length wl.groups);
+  of_group = group_of_run wl s es;
   of_cpu = cpu_of_run wl s es;
   of_loss = loss_of_run wl s es;
   anywhere = anywhere_of_run wl s es;
   ejected = refl;
 }
-  where
-    tasks_stay : (wl : WorkloadState) (s : SimState) (es : List Event) → length (final wl s es).tasks ≡ length wl.homes
-    tasks_stay wl s es =
-        let world = (stepped_all s es).state.world in
-        let k = kept_of_all counts_after_event counts_after_note s es (nothing (length wl.homes) wl.cpus) in
-        length_ended (length world.tasks) world k.doing k.tasks ∙ tasks_kept es s (nothing (length wl.homes) wl.cpus) ∙ length-replicate (length wl.homes) no_figures
 
 -- ---- what was gathered
 
@@ -224,11 +303,11 @@ gathered tally wl s t es first shown last begins watched ends well =
 
 -- an answer with the figures of a tally that counted all of a run has the figures of the run
 pub answered : {E : Type 0} (r : Result Gathered E) (x : RunTally) (wl : WorkloadState) (s t : SimState) (es : List Event) (ejected : Option Eject)
-    → IfOk r (λ f. of_gathered f ≡ of_counts (counts_of x) ejected) → OnOk r (is_err x.result ≡ false) → ejected ≡ t.state.world.ejected
+    → IfOk r (λ f. of_gathered f ≡ of_counts wl (counts_of x) ejected) → OnOk r (is_err x.result ≡ false) → ejected ≡ t.state.world.ejected
     → (is_err x.result ≡ false → (counts_of x ≡ final wl s es) × (t ≡ stepped_all s es)) → IfOk r (λ f. AreOfRun wl s es (of_gathered f))
 answered (Ok f) x wl s t es ejected same well end counts =
     let both = counts well in
     let how : ejected ≡ (stepped_all s es).state.world.ejected = end ∙ ap (λ (u : SimState). u.state.world.ejected) both.1 in
-    let all : of_gathered f ≡ of_counts (final wl s es) (stepped_all s es).state.world.ejected = same ∙ ap (λ k. of_counts k ejected) both.0 ∙ ap (λ o. of_counts (final wl s es) o) how in
+    let all : of_gathered f ≡ of_counts wl (final wl s es) (stepped_all s es).state.world.ejected = same ∙ ap (λ k. of_counts wl k ejected) both.0 ∙ ap (λ o. of_counts wl (final wl s es) o) how in
     subst (λ v. AreOfRun wl s es v) (sym all) (figures_told wl s es)
 answered (Err e) x wl s t es ejected same well end counts = tt

@@ -15,8 +15,10 @@ use Rattle.scxsim_views.specs.declared.pauses.PauseKind.TheVariants as kind
 use Rattle.scxsim_views.specs.Pauses.{sleeps, doing_at, doing_after, open_pause, ended_by}
 use Rattle.scxsim_statistics.specs.Lengths.{no_lengths, up, up_by, with_wait}
 use Rattle.scxsim_statistics.specs.Bursts.{no_bursts, slept_at, bursts_noted}
+use Rattle.scxsim_statistics.specs.Latencies.{no_latencies, latencies_noted}
 use Rattle.scxsim_statistics.specs.Losses.{loses, lost_if, anywhere_if}
 use Rattle.scxsim_statistics.specs.declared.bursts.BurstFigures.{BurstFigures}
+use Rattle.scxsim_statistics.specs.declared.latencies.LatencyFigures.{LatencyFigures}
 use Rattle.scxsim_statistics.specs.declared.tally.TaskFigures.{TaskFigures}
 use Rattle.scxsim_statistics.specs.declared.tally.CpuFigures.{CpuFigures}
 use Rattle.scxsim_statistics.specs.declared.tally.RunTally.{RunTally}
@@ -27,6 +29,7 @@ pub record RunCounts : Type 0 where
   pub cpus : List CpuFigures
   pub doing : List Doing
   pub bursts : List BurstFigures
+  pub latencies : List LatencyFigures
   pub lost : List ℕ  -- the milliseconds that each processor lost
   pub anywhere : ℕ  -- those in which some processor lost one
 
@@ -37,6 +40,7 @@ counts_of t = record {
   cpus = t.cpus.items;
   doing = t.pauses;
   bursts = t.bursts.items;
+  latencies = t.latencies.items;
   lost = t.losses.cpus.items;
   anywhere = t.losses.anywhere;
 }
@@ -56,6 +60,7 @@ nothing tasks cpus = record {
   cpus = replicate cpus unused_cpu;
   doing = replicate tasks Sleeps;
   bursts = replicate tasks no_bursts;
+  latencies = replicate tasks no_latencies;
   lost = replicate cpus 0;
   anywhere = 0;
 }
@@ -177,10 +182,15 @@ counts_after_step what k = record k {
 abbrev pub burst_counted : ℕ → What → RunCounts → RunCounts
 burst_counted clock what k = record k { bursts = bursts_noted clock what k.bursts }
 
+-- the latency that a note begins or ends
+abbrev pub latency_counted : ℕ → What → RunCounts → RunCounts
+latency_counted clock what k = record k { latencies = latencies_noted clock what k.latencies }
+
 -- a note
 abbrev pub counts_after_note : ℕ → What → RunCounts → RunCounts
 counts_after_note clock what k =
-    burst_counted clock what (counts_after_step what (pause_counted clock what k))
+    latency_counted clock what
+    (burst_counted clock what (counts_after_step what (pause_counted clock what k)))
 
 -- what processors lose of the millisecond whose ticks begin with this one
 abbrev pub loss_counted : WorldState → ℕ → RunCounts → RunCounts

@@ -1,9 +1,9 @@
 -- The figures of a run, from its notes and events.
-use Rattle.std.specs.Prelude.{◌≡◌, ℕ, ◌+◌, ◌<◌, ◌==◌, ◌&&◌, max, Bool, true, false, not, List, [], ◌∷◌, ◌++◌, length, map, replicate, sum, Option, Some, None, is_some, Ok, string_bytes, if◌then◌else◌, filter}
+use Rattle.std.specs.Prelude.{◌≡◌, ℕ, zero, suc, ◌+◌, ◌-◌, ◌<◌, ◌≤◌, ◌==◌, ◌&&◌, max, Bool, true, false, not, List, [], ◌∷◌, ◌++◌, length, map, replicate, sum, Option, Some, None, is_some, Ok, string_bytes, if◌then◌else◌, filter}
 use Rattle.std.specs.List.{list_any}
 use Rattle.scx_sched_world.specs.declared.notes.Note.{Note}
 use Rattle.scx_sched_world.specs.declared.notes.What.{What}
-use Rattle.scx_sched_world.specs.declared.notes.What.TheVariants.{Wake, Sleep, Stop}
+use Rattle.scx_sched_world.specs.declared.notes.What.TheVariants.{Wake, Sleep, Run, Stop}
 use Rattle.scx_sched_world.specs.declared.eject.Eject.{Eject}
 use Rattle.scx_sched_world.specs.World.{WorldState, task_at, running}
 use Rattle.scx_sched_machine.specs.declared.events.Event.{Event}
@@ -27,11 +27,15 @@ use Rattle.scxsim_views.specs.Watching.{noted_all}
 use Rattle.scxsim_statistics.specs.Lengths.{one_if, at_most_64_bits, length_of}
 use Rattle.scxsim_statistics.specs.Percentiles.{ArePercentiles}
 use Rattle.scxsim_statistics.specs.Bursts.{bursts_at, burst_ms}
+use Rattle.scxsim_statistics.specs.Latencies.{latencies_at}
+use Rattle.scxsim_statistics.specs.Groups.{is_in, waits_at, waits_below}
 use Rattle.scxsim_statistics.specs.Losses.{is_cpu_idle, idle_below, lost_at}
-use Rattle.scxsim_statistics.specs.Counting.{RunCounts, counts_of, figures_at, cpu_at}
+use Rattle.scxsim_statistics.specs.Counting.{RunCounts, figures_at, cpu_at}
 use Rattle.scxsim_statistics.specs.declared.tally.TaskFigures.{TaskFigures}
 use Rattle.scxsim_statistics.specs.declared.tally.CpuFigures.{CpuFigures}
 use Rattle.scxsim_statistics.specs.declared.bursts.BurstFigures.{BurstFigures}
+use Rattle.scxsim_statistics.specs.declared.latencies.LatencyFigures.{LatencyFigures}
+use Rattle.scxsim_statistics.specs.declared.group_waits.GroupWaits.{GroupWaits}
 use Rattle.scxsim_statistics.specs.declared.gathering.Figures.{Figures}
 use Rattle.scxsim_statistics.specs.declared.gathering.Gathered.{Gathered}
 
@@ -154,6 +158,56 @@ ran_asleep_in t ran s (e ∷ es) =
     ran_asleep_in t (if sends_to_sleep t e then ran_ms (task_at s.state.world t) else ran)
     (after_event s e) es
 
+-- ---- wake-to-run latencies
+
+-- the note says that this task runs, on whatever CPU
+abbrev pub is_run : ℕ → What → Bool
+is_run t (Run u c) = t == u
+is_run t what = false
+
+-- the clock at which a task woke that hasn't run since, after a note
+abbrev pub woke_after : ℕ → Note → Option ℕ → Option ℕ
+woke_after t n woke =
+    if is_wake t n.what then Some n.clock else if is_run t n.what then None else woke
+
+-- how many milliseconds passed from a wake to that clock, as a list; none where there was none
+abbrev pub since_wake : Option ℕ → ℕ → List ℕ
+since_wake None clock = []
+since_wake (Some woke) clock = (clock - woke) ∷ []
+
+-- the latency that a run of a task ends, as a list; none where it doesn't run
+abbrev pub latency_if : Bool → Option ℕ → ℕ → List ℕ
+latency_if true woke clock = since_wake woke clock
+latency_if false woke clock = []
+
+-- from each wake of a task to its first run after it, by how it woke before these notes
+abbrev pub latencies_in : ℕ → Option ℕ → List Note → List ℕ
+latencies_in t woke [] = []
+latencies_in t woke (n ∷ ns) =
+    latency_if (is_run t n.what) woke n.clock ++ latencies_in t (woke_after t n woke) ns
+
+-- the wake-to-run latencies of a task in a run with these notes, in their order; a wake after which
+-- it never runs has none
+abbrev pub latencies_of : ℕ → List Note → List ℕ
+latencies_of t ns = latencies_in t None ns
+
+-- ---- groups
+
+-- the numbers that are told of tasks, of all tasks below that number that are in a group
+abbrev pub told_below : WorkloadState → ℕ → (ℕ → List ℕ) → ℕ → List ℕ
+told_below w g told zero = []
+told_below w g told (suc t) =
+    told_below w g told t ++ (if is_in w g t then told t else [])
+
+-- the lengths of all waits of the tasks of a group in a run with these notes that ends at that clock
+abbrev pub waits_of_group : WorkloadState → ℕ → ℕ → List Note → List ℕ
+waits_of_group w g clock ns =
+    told_below w g (λ t. map length_of (waits_of t clock ns)) (length w.homes)
+
+-- the wake-to-run latencies of all tasks of a group in a run with these notes
+abbrev pub latencies_of_group : WorkloadState → ℕ → List Note → List ℕ
+latencies_of_group w g ns = told_below w g (λ t. latencies_of t ns) (length w.homes)
+
 -- ---- processors
 
 -- the event is a tick of this processor
@@ -202,21 +256,26 @@ lost_anywhere_in ds s (e ∷ es) =
 
 -- ---- a run
 
--- the figures of a run: of its tasks, their bursts and its processors, for how many milliseconds
--- each CPU and some CPU was idle while a task waited, and how the policy ended
+-- the figures of a run: of its tasks, their bursts and wake-to-run latencies, its groups and its CPUs,
+-- for how many milliseconds each CPU and some CPU was idle while a task waited, and how the policy
+-- ended
 pub record RunFigures : Type 0 where
   pub tasks : List TaskFigures
   pub bursts : List BurstFigures
+  pub latencies : List LatencyFigures
+  pub groups : List GroupWaits
   pub cpus : List CpuFigures
   pub lost : List ℕ
   pub anywhere : ℕ
   pub ejected : Option Eject
 
--- what was counted, and how the policy ended
-abbrev pub of_counts : RunCounts → Option Eject → RunFigures
-of_counts k o = record {
+-- what was counted, what that is for groups, and how the policy ended
+abbrev pub of_counts : WorkloadState → RunCounts → Option Eject → RunFigures
+of_counts w k o = record {
   tasks = k.tasks;
   bursts = k.bursts;
+  latencies = k.latencies;
+  groups = waits_below w k.tasks k.latencies (length w.groups);
   cpus = k.cpus;
   lost = k.lost;
   anywhere = k.anywhere;
@@ -225,13 +284,24 @@ of_counts k o = record {
 
 -- those that were gathered
 abbrev pub of_gathered : Gathered → RunFigures
-of_gathered g = of_counts (counts_of g.tally) g.ejected
+of_gathered g = record {
+  tasks = g.tally.tasks.items;
+  bursts = g.tally.bursts.items;
+  latencies = g.tally.latencies.items;
+  groups = g.waits.items;
+  cpus = g.tally.cpus.items;
+  lost = g.tally.losses.cpus.items;
+  anywhere = g.tally.losses.anywhere;
+  ejected = g.ejected;
+}
 
 -- those that are handed out
 abbrev pub of_figures : Figures → RunFigures
 of_figures f = record {
   tasks = f.tasks.items;
   bursts = f.bursts.items;
+  latencies = f.latencies.items;
+  groups = f.group_waits.items;
   cpus = f.cpus.items;
   lost = f.losses.cpus.items;
   anywhere = f.losses.anywhere;
@@ -256,6 +326,23 @@ pub record IsOfBursts (t : ℕ) (s : SimState) (es : List Event) (ns : List Note
   pub percentiles : ArePercentiles (bursts_of t ns) x.lengths
   pub ran : x.ran ≡ ran_asleep_in t 0 s es
 
+-- the wake-to-run latencies of a task in a run with these notes
+pub record AreLatencies (t : ℕ) (ns : List Note) (x : LatencyFigures) : Type 0 where
+  pub count : x.lengths.count ≡ at_most_64_bits (length (latencies_of t ns))
+  pub longest : x.lengths.longest ≡ greatest (latencies_of t ns)
+  pub percentiles : ArePercentiles (latencies_of t ns) x.lengths
+
+-- the waits and wake-to-run latencies of the tasks of a group and of groups below it, in a run with
+-- these notes that ends at that clock
+pub record AreOfGroup (w : WorkloadState) (g clock : ℕ) (ns : List Note) (x : GroupWaits) : Type 0
+  where
+    pub waits : x.waits.count ≡ at_most_64_bits (length (waits_of_group w g clock ns))
+    pub longest : x.waits.longest ≡ greatest (waits_of_group w g clock ns)
+    pub percentiles : ArePercentiles (waits_of_group w g clock ns) x.waits
+    pub latencies : x.latencies.count ≡ at_most_64_bits (length (latencies_of_group w g ns))
+    pub longest_latency : x.latencies.longest ≡ greatest (latencies_of_group w g ns)
+    pub latency_percentiles : ArePercentiles (latencies_of_group w g ns) x.latencies
+
 -- the figures of a processor in a run from that state through these events: its ticks, busy or idle
 pub record IsOfCpu (c : ℕ) (s : SimState) (es : List Event) (x : CpuFigures) : Type 0 where
   pub busy : x.busy ≡ at_most_64_bits (busy_in c s es)
@@ -274,6 +361,12 @@ pub record AreOfRun (w : WorkloadState) (s : SimState) (es : List Event) (f : Ru
       → IsOfTask t (stepped_all s es).state.world (notes_of_all s es) (figures_at f.tasks t)
   pub of_bursts : (t : ℕ) → t < length w.homes
       → IsOfBursts t s es (notes_of_all s es) (bursts_at f.bursts t)
+  pub of_latencies : (t : ℕ) → t < length w.homes
+      → AreLatencies t (notes_of_all s es) (latencies_at f.latencies t)
+  pub all_groups : length f.groups ≡ length w.groups
+  pub of_group : (g : ℕ) → g < length w.groups
+      → length w.homes ≤ length (stepped_all s es).state.world.tasks
+      → AreOfGroup w g (stepped_all s es).state.world.clock (notes_of_all s es) (waits_at f.groups g)
   pub of_cpu : (c : ℕ) → c < w.cpus → IsOfCpu c s es (cpu_at f.cpus c)
   pub of_loss : (c : ℕ) → c < w.cpus
       → lost_at f.lost c ≡ at_most_64_bits (lost_in c (all_asleep w) s es)

@@ -1,5 +1,5 @@
 -- Lengths of a task's waits or bursts, with their counts.
-use Rattle.std.specs.Prelude.{ℕ, ◌+◌, ◌-◌, ◌*◌, ◌/◌, ◌^◌, ◌==◌, ◌||◌, nat_lt, min, Bool, true, false, if◌then◌else◌, List, [], ◌∷◌}
+use Rattle.std.specs.Prelude.{ℕ, ◌+◌, ◌-◌, ◌*◌, ◌/◌, ◌^◌, ◌==◌, ◌||◌, nat_lt, min, max, Bool, true, false, if◌then◌else◌, List, [], ◌∷◌}
 use Rattle.scxsim_views.specs.declared.pauses.Pause.{Pause}
 
 -- what is counted of waits, or of bursts: how many, their milliseconds in all, the longest with its
@@ -60,6 +60,44 @@ length_of p = p.until - p.since
 -- what is counted with this pause as one wait more
 abbrev pub with_wait : Pause → Lengths → Lengths
 with_wait p x = with_length p.since (length_of p) x
+
+-- `times` more of that length, among how many there were of each
+abbrev pub more_of : ℕ → ℕ → List (ℕ × ℕ) → List (ℕ × ℕ)
+more_of times length [] = (length, up_by times 0) ∷ []
+more_of times length (e ∷ es) =
+    if nat_lt length e.0 then (length, up_by times 0) ∷ e ∷ es
+    else (if length == e.0 then (e.0, up_by times e.1) ∷ es else e ∷ more_of times length es)
+
+-- how many there were of each length, with those of the first list added to those of the second
+abbrev pub all_added : List (ℕ × ℕ) → List (ℕ × ℕ) → List (ℕ × ℕ)
+all_added [] es = es
+all_added (m ∷ ms) es = all_added ms (more_of m.1 m.0 es)
+
+-- when the first of the longest began, where two counts are as long: at the lower of both clocks
+abbrev pub first_since : Lengths → Lengths → ℕ
+first_since y x =
+    if y.longest == x.longest then min x.longest_since y.longest_since else x.longest_since
+
+-- when the first of the longest of two counts began; a count of none changes nothing
+abbrev pub longest_since_of : Lengths → Lengths → ℕ
+longest_since_of y x =
+    if y.count == 0 then x.longest_since
+    else (if is_longest y.longest x then y.longest_since else first_since y x)
+
+-- what is counted in both
+abbrev pub merged : Lengths → Lengths → Lengths
+merged y x = record {
+  count = up_by y.count x.count;
+  total = up_by y.total x.total;
+  longest = max x.longest y.longest;
+  longest_since = longest_since_of y x;
+  times = all_added y.times x.times;
+}
+
+-- what is counted in both, if the first count is to be added
+abbrev pub merged_if : Bool → Lengths → Lengths → Lengths
+merged_if true y x = merged y x
+merged_if false y x = x
 
 -- in hundredths, rounded down; of none it is 0
 abbrev pub mean : Lengths → ℕ

@@ -1,7 +1,9 @@
 pub mod Lengths
 pub mod Percentiles
 pub mod Bursts
+pub mod Latencies
 pub mod Losses
 pub mod Counting
+pub mod Groups
 pub mod Figures
 pub mod Shares

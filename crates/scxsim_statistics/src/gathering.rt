@@ -3,11 +3,14 @@ ghost use Rattle.scx_sched_world.specs.World.{running};
 ghost use Rattle.scx_sched_machine.specs.declared.events.Event.TheVariants.{Sleep, Tick};
 ghost use Rattle.scxsim_views.specs.Watching.{CountsEvent, CountsNote};
 ghost use Rattle.scxsim_statistics.specs.Counting.{counts_of, nothing, counts_after_event, counts_after_note, counts_at_end};
+ghost use Rattle.scxsim_statistics.specs.Groups.{waits_below};
 ghost use Rattle.scxsim_statistics.specs.Figures.{AreOfRun, of_counts, of_figures, of_gathered};
 
 use crate::bursts::BurstFigures;
 use crate::dues::Dues;
+use crate::group_waits::{GroupWaits, waits_of_groups};
 use crate::groups::{GroupFigures, group_figures};
+use crate::latencies::LatencyFigures;
 use crate::losses::Losses;
 use crate::quotas::Quotas;
 use crate::tally::{CpuFigures, RunTally, TaskFigures};
@@ -27,10 +30,14 @@ pub struct Figures {
     pub workload: Workload,
     pub tasks: Vec<TaskFigures>,
     pub bursts: Vec<BurstFigures>,
+    /// The wake-to-run latencies of each task.
+    pub latencies: Vec<LatencyFigures>,
     pub cpus: Vec<CpuFigures>,
     pub losses: Losses,
     /// The figures of each group, in the workload's order.
     pub groups: Vec<GroupFigures>,
+    /// The waits of each group.
+    pub group_waits: Vec<GroupWaits>,
     pub quotas: Quotas,
 }
 
@@ -74,12 +81,14 @@ fn figures_of(policy_name: String, workload: Workload, gathered: Gathered) -> Fi
         ejected,
         tally,
         groups,
+        waits,
         quotas,
     } = gathered;
     let RunTally {
         tasks,
         cpus,
         bursts,
+        latencies,
         losses,
         ..
     } = tally;
@@ -89,9 +98,11 @@ fn figures_of(policy_name: String, workload: Workload, gathered: Gathered) -> Fi
         workload,
         tasks,
         bursts,
+        latencies,
         cpus,
         losses,
         groups,
+        group_waits: waits,
         quotas,
     }
 }
@@ -102,6 +113,7 @@ struct Gathered {
     ejected: Option<Eject>,
     tally: RunTally,
     groups: Vec<GroupFigures>,
+    waits: Vec<GroupWaits>,
     quotas: Quotas,
 }
 
@@ -117,7 +129,7 @@ fn gather_from<E: Events>(
     let mut gathering = Gathering::new(alloc, workload)?;
     observe(sim, events, &mut gathering);
     gathering.end(sim);
-    gathering.gathered(alloc, sim.ejected())
+    gathering.gathered(alloc, workload, sim.ejected())
 }
 
 /// The figures of a run that goes on.
@@ -145,17 +157,24 @@ impl<'a> Gathering<'a> {
     }
 
     /// All figures, if there was memory for them.
-    fn gathered(self, alloc: Global, ejected: Option<Eject>) -> Result<Gathered, AllocError>
-        ensures figures { IfOk result (λ gathered.
-            of_gathered gathered ≡ of_counts (counts_of self.entry.tally) ejected) }
+    fn gathered(
+        self,
+        alloc: Global,
+        workload: &Workload,
+        ejected: Option<Eject>,
+    ) -> Result<Gathered, AllocError>
+        ensures figures { IfOk result (λ gathered. of_gathered gathered
+            ≡ of_counts workload.now (counts_of self.entry.tally) ejected) }
         ensures well { OnOk result (is_err self.entry.tally.result ≡ false) }
     {
         let groups = self.groups(alloc)?;
+        let waits = self.waits(alloc, workload)?;
         let Gathering { tally, dues, .. } = self;
         Ok(Gathered {
             ejected,
             tally,
             groups,
+            waits,
             quotas: dues.quotas,
         })
     }
@@ -167,6 +186,16 @@ impl<'a> Gathering<'a> {
         self.tally.result?;
         let tasks = self.tally.tasks.as_slice();
         group_figures(alloc, self.workload, tasks, self.dues.due.as_slice())
+    }
+
+    /// The waits of all groups of this workload.
+    fn waits(&self, alloc: Global, workload: &Workload) -> Result<Vec<GroupWaits>, AllocError>
+        ensures { IfOk result (λ waits. waits.items ≡ waits_below workload.now
+            self.now.tally.tasks.items self.now.tally.latencies.items
+            (length workload.now.groups)) }
+    {
+        let tasks = self.tally.tasks.as_slice();
+        waits_of_groups(alloc, workload, tasks, self.tally.latencies.as_slice())
     }
 
     /// The group of a task.

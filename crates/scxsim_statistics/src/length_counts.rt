@@ -2,7 +2,7 @@ ghost use Rattle.std.specs.Prelude.{◌≡◌, OnOk};
 ghost use Rattle.std.specs.Option.{unwrap_or};
 ghost use Rattle.std.specs.Ordering.{nat_cmp};
 ghost use Rattle.std.specs.BTreeMap.{get};
-ghost use Rattle.scxsim_statistics.specs.Lengths.{no_lengths, is_longest, one_more_of, with_length, mean, first_reaching, percentile};
+ghost use Rattle.scxsim_statistics.specs.Lengths.{no_lengths, is_longest, one_more_of, with_length, more_of, all_added, first_since, longest_since_of, merged, merged_if, mean, first_reaching, percentile};
 
 use std::alloc::{AllocError, Global};
 use std::collections::BTreeMap;
@@ -61,6 +61,53 @@ impl LengthCounts {
         self.count = self.count.saturating_add(1);
         self.total = self.total.saturating_add(length);
         Ok(())
+    }
+
+    /// Adds all that the other counted.
+    fn add_all(&mut self, other: &LengthCounts) -> Result<(), AllocError>
+        ensures { OnOk result (self.new ≡ merged other.now self.old) }
+    {
+        add_lengths(&mut self.lengths, &other.lengths)?;
+        self.longest_since = self.longest_since_of(other);
+        self.longest = self.longest.max(other.longest);
+        self.count = self.count.saturating_add(other.count);
+        self.total = self.total.saturating_add(other.total);
+        Ok(())
+    }
+
+    /// Adds all that the other counted, if it is to be added.
+    pub(crate) fn add_if(&mut self, is_added: bool, other: &LengthCounts) -> Result<(), AllocError>
+        ensures { OnOk result (self.new ≡ merged_if is_added other.now self.old) }
+    {
+        if is_added {
+            self.add_all(other)
+        } else {
+            Ok(())
+        }
+    }
+
+    /// The clock at which the first of the longest of both began.
+    fn longest_since_of(&self, other: &LengthCounts) -> u64
+        ensures { result ≡ longest_since_of other.now self.now }
+    {
+        if other.count == 0 {
+            return self.longest_since;
+        }
+        if self.is_longest(other.longest) {
+            return other.longest_since;
+        }
+        self.first_since(other)
+    }
+
+    /// The clock at which the first of the longest began, where the other's longest isn't longer.
+    fn first_since(&self, other: &LengthCounts) -> u64
+        ensures { result ≡ first_since other.now self.now }
+    {
+        if other.longest == self.longest {
+            self.longest_since.min(other.longest_since)
+        } else {
+            self.longest_since
+        }
     }
 
     fn is_longest(&self, length: u64) -> bool
@@ -124,6 +171,29 @@ fn add_length(lengths: &mut BTreeMap<u64, u64>, length: u64) -> Result<(), Alloc
 {
     let times = times_of(lengths, length);
     lengths.insert(length, times.saturating_add(1))?;
+    Ok(())
+}
+
+/// Adds all of those lengths.
+fn add_lengths(
+    lengths: &mut BTreeMap<u64, u64>,
+    more: &BTreeMap<u64, u64>,
+) -> Result<(), AllocError>
+    ensures { OnOk result (lengths.new.entries ≡ all_added more.now.entries lengths.old.entries) }
+{
+    for (length, times) in more.iter() {
+        add_times(lengths, *length, *times)?;
+    }
+    Ok(())
+}
+
+/// Adds `times` more of that length.
+#[tactic(auto, using(crate::proofs::Merging::insert_more))]
+fn add_times(lengths: &mut BTreeMap<u64, u64>, length: u64, times: u64) -> Result<(), AllocError>
+    ensures { OnOk result (lengths.new.entries ≡ more_of times length lengths.old.entries) }
+{
+    let before = times_of(lengths, length);
+    lengths.insert(length, before.saturating_add(times))?;
     Ok(())
 }
 

@@ -5,7 +5,9 @@
 mod bursts;
 mod dues;
 mod gathering;
+mod group_waits;
 mod groups;
+mod latencies;
 mod length_counts;
 mod losses;
 mod quotas;
@@ -14,7 +16,9 @@ mod tally;
 
 pub use bursts::BurstFigures;
 pub use gathering::Figures;
+pub use group_waits::GroupWaits;
 pub use groups::GroupFigures;
+pub use latencies::LatencyFigures;
 pub use length_counts::LengthCounts;
 pub use losses::Losses;
 pub use quotas::{QuotaFigures, Quotas};

@@ -2,9 +2,10 @@ ghost use Rattle.std.specs.Prelude.{◌≡◌, replicate, false, is_err, IfOk, O
 ghost use Rattle.scxsim_views.specs.Pauses.{open_pause};
 ghost use Rattle.scx_sched_world.specs.World.{task_at};
 ghost use Rattle.scxsim_trace.specs.Report.{ran_ms};
-ghost use Rattle.scxsim_statistics.specs.Counting.{counts_of, no_figures, unused_cpu, nothing, with_tick, with_begin, with_pause, with_wake_at, cut_off, has_run, with_pause_at, after_pause, stop_counted, with_tick_at, begun_on, pause_counted, counts_after_step, burst_counted, loss_counted, tick_counted, sleep_counted, counts_after_note, counts_at_end};
+ghost use Rattle.scxsim_statistics.specs.Counting.{counts_of, no_figures, unused_cpu, nothing, with_tick, with_begin, with_pause, with_wake_at, cut_off, has_run, with_pause_at, after_pause, stop_counted, with_tick_at, begun_on, pause_counted, counts_after_step, burst_counted, latency_counted, loss_counted, tick_counted, sleep_counted, counts_after_note, counts_at_end};
 
 use crate::bursts::{BurstFigures, note_burst, sleep, unused_bursts};
+use crate::latencies::{LatencyFigures, note_latency, unused_latencies};
 use crate::length_counts::LengthCounts;
 use crate::losses::Losses;
 use scx_sched::{Sim, What};
@@ -115,6 +116,7 @@ pub(crate) struct RunTally {
     pub(crate) tasks: Vec<TaskFigures>,
     pub(crate) cpus: Vec<CpuFigures>,
     pub(crate) bursts: Vec<BurstFigures>,
+    pub(crate) latencies: Vec<LatencyFigures>,
     pub(crate) losses: Losses,
     pauses: Pauses,
     /// An error once memory ran out.
@@ -130,6 +132,7 @@ impl RunTally {
             tasks: unused_tasks(alloc, tasks)?,
             cpus: unused_cpus(alloc, cpus)?,
             bursts: unused_bursts(alloc, tasks)?,
+            latencies: unused_latencies(alloc, tasks)?,
             losses: Losses::new(alloc, cpus)?,
             pauses: Pauses::new(alloc, tasks)?,
             result: Ok(()),
@@ -173,6 +176,7 @@ impl RunTally {
         self.count_pause(clock, what);
         self.count(what);
         self.count_burst(clock, what);
+        self.count_latency(clock, what);
     }
 
     /// Counts the pause that ends, if one does.
@@ -193,6 +197,17 @@ impl RunTally {
     {
         if self.result.is_ok() {
             self.result = note_burst(&mut self.bursts, clock, what);
+        }
+    }
+
+    /// Counts the latency that begins or ends, if one does.
+    fn count_latency(&mut self, clock: u64, what: What)
+        ensures counts { is_err self.new.result ≡ false
+            → counts_of self.new ≡ latency_counted clock what (counts_of self.old) }
+        ensures before { is_err self.new.result ≡ false → is_err self.old.result ≡ false }
+    {
+        if self.result.is_ok() {
+            self.result = note_latency(&mut self.latencies, clock, what);
         }
     }
 
@@ -222,6 +237,7 @@ impl RunTally {
             ≡ stop_counted self.old.pauses self.old.tasks.items task }
         ensures cpus { self.new.cpus ≡ self.old.cpus }
         ensures bursts { self.new.bursts ≡ self.old.bursts }
+        ensures latencies { self.new.latencies ≡ self.old.latencies }
         ensures losses { self.new.losses ≡ self.old.losses }
         ensures pauses { self.new.pauses ≡ self.old.pauses }
         ensures result { self.new.result ≡ self.old.result }
@@ -248,6 +264,7 @@ impl RunTally {
             ≡ after_pause (open_pause clock self.old.pauses task) self.old.tasks.items }
         ensures cpus { self.new.cpus ≡ self.old.cpus }
         ensures bursts { self.new.bursts ≡ self.old.bursts }
+        ensures latencies { self.new.latencies ≡ self.old.latencies }
         ensures losses { self.new.losses ≡ self.old.losses }
         ensures pauses { self.new.pauses ≡ self.old.pauses }
         ensures before { is_err self.new.result ≡ false → is_err self.old.result ≡ false }

@@ -31,11 +31,6 @@ all_put (Ok x) bytes a b piece empty put is =
     let P : Option (List ℕ) → Type 0 = λ o. Puts (Some []) piece o in
     subst P is (subst Q empty put)
 
--- with some words
-pub with_words : {A E : Type 0} (r : Result A E) (bytes : A → List ℕ) (text : List ℕ → List ℕ) (words : List ℕ) → IfOk r (λ x. bytes x ≡ text words) → IfOk r (λ x. (some : List ℕ) × (bytes x ≡ text some))
-with_words (Err e) bytes text words h = tt
-with_words (Ok x) bytes text words h = (words, h)
-
 -- a text of two parts that is cut off in the second
 pub cut_in_second : {A E : Type 0} (r : Result A E) (a b c : Option (List ℕ)) (head rows : List ℕ) → Appends a b head → OnErr r (AppendsBeginning b c rows) → OnErr r (AppendsBeginning a c (head ++ rows))
 cut_in_second (Ok x) a b c head rows first cut = cut

@@ -6,7 +6,9 @@ use Rattle.scxsim_trace.specs.Lines.{names_of}
 use Rattle.scxsim_statistics.specs.Counting.{figures_at, cpu_at}
 use Rattle.scxsim_statistics.specs.declared.bursts.BurstFigures.{BurstFigures}
 use Rattle.scxsim_statistics.specs.declared.gathering.Figures.{Figures}
+use Rattle.scxsim_statistics.specs.declared.group_waits.GroupWaits.{GroupWaits}
 use Rattle.scxsim_statistics.specs.declared.groups.GroupFigures.{GroupFigures}
+use Rattle.scxsim_statistics.specs.declared.latencies.LatencyFigures.{LatencyFigures}
 use Rattle.scxsim_statistics.specs.declared.quotas.QuotaFigures.{QuotaFigures}
 use Rattle.scxsim_statistics.specs.declared.tally.CpuFigures.{CpuFigures}
 use Rattle.scxsim_statistics.specs.declared.tally.TaskFigures.{TaskFigures}
@@ -26,6 +28,14 @@ of_task f t = figures_at f.tasks.items t
 -- the bursts of the task of that number, if they are there
 abbrev pub bursts_of : Figures → ℕ → Option BurstFigures
 bursts_of f t = slice_get f.bursts.items t
+
+-- the wake-to-run latencies of the task of that number, if they are there
+abbrev pub latencies_of : Figures → ℕ → Option LatencyFigures
+latencies_of f t = slice_get f.latencies.items t
+
+-- the waits of the group of that number, if they are there
+abbrev pub waits_of_group : Figures → ℕ → Option GroupWaits
+waits_of_group f g = slice_get f.group_waits.items g
 
 -- the figures of the CPU of that number
 abbrev pub of_cpu : Figures → ℕ → CpuFigures

@@ -6,12 +6,14 @@ use Rattle.scx_sched_world.specs.declared.eject.Eject.{Eject}
 use Rattle.scx_sched_world.specs.declared.eject.Eject.TheVariants as cause
 use Rattle.scxsim_statistics.specs.Lengths.{Lengths, mean, percentile}
 use Rattle.scxsim_statistics.specs.declared.gathering.Figures.{Figures}
+use Rattle.scxsim_statistics.specs.declared.group_waits.GroupWaits.{GroupWaits}
 use Rattle.scxsim_statistics.specs.declared.groups.GroupFigures.{GroupFigures}
+use Rattle.scxsim_statistics.specs.declared.latencies.LatencyFigures.{LatencyFigures}
 use Rattle.scxsim_statistics.specs.declared.quotas.QuotaFigures.{QuotaFigures}
 use Rattle.scxsim_statistics.specs.declared.tally.CpuFigures.{CpuFigures}
 use Rattle.scxsim_statistics.specs.declared.tally.TaskFigures.{TaskFigures}
 use Rattle.scxsim_tables.specs.Cells.{left, right, numbers_right, hundredths_right, all_below}
-use Rattle.scxsim_tables.specs.Figures.{task_name, group_name, of_task, of_cpu, of_group, limit_of, has_quota}
+use Rattle.scxsim_tables.specs.Figures.{task_name, group_name, of_task, latencies_of, waits_of_group, of_cpu, of_group, limit_of, has_quota}
 
 -- ---- tasks
 
@@ -108,6 +110,52 @@ quota_rows f =
 unfoldable pub quota_table : Figures → List ℕ
 quota_table f = if has_quota f then quota_rows f else []
 
+-- ---- waits by percent, and wake-to-run latencies
+
+-- the lengths that 50, 90 and 99 of 100 waits don't exceed
+unfoldable pub percent_cells : Lengths → List ℕ
+percent_cells x =
+    numbers_right (percentile 50 x ∷ percentile 90 x ∷ percentile 99 x ∷ [])
+
+-- the line of a task or group: its waits, how many wake-to-run latencies it has, these by percent,
+-- and the longest of these
+unfoldable pub percent_line : List ℕ → Lengths → Lengths → List ℕ
+percent_line name x y =
+    left 16 name ++ percent_cells x ++ numbers_right (y.count ∷ []) ++ percent_cells y
+    ++ numbers_right (y.longest ∷ []) ++ codes "\n"
+
+-- the line of a task, if its latencies are there
+abbrev pub task_percents_of : List ℕ → Lengths → Option LatencyFigures → List ℕ
+task_percents_of name x None = []
+task_percents_of name x (Some y) = percent_line name x y.lengths
+
+-- the line of the task of that number
+abbrev pub task_percents : Figures → ℕ → List ℕ
+task_percents f t = task_percents_of (task_name f t) (of_task f t).waits (latencies_of f t)
+
+-- the line of a group, if its waits are there
+abbrev pub group_percents_of : List ℕ → Option GroupWaits → List ℕ
+group_percents_of name None = []
+group_percents_of name (Some x) = percent_line name x.waits x.latencies
+
+-- the line of the group of that number
+abbrev pub group_percents : Figures → ℕ → List ℕ
+group_percents f g = group_percents_of (group_name f g) (waits_of_group f g)
+
+-- the tasks, after an empty line
+unfoldable pub task_percent_table : Figures → List ℕ
+task_percent_table f =
+    codes
+    "\ntask             wait 50%      90%      99% wake-run      50%      90%      99%  longest\n"
+    ++ all_below (task_percents f) (length f.tasks.items)
+
+-- the groups, after an empty line
+unfoldable pub group_percent_table : Figures → List ℕ
+group_percent_table f =
+    codes
+    "\ngroup            wait 50%      90%      99% wake-run      50%      90%      99%  longest\n"
+    ++ all_below (group_percents f) (length f.groups.items)
+
 -- ---- the policy
 
 -- when the policy was ejected
@@ -148,9 +196,14 @@ is_in_force f = is_none f.ejected
 
 -- ---- all of them
 
--- the tables of groups and quotas, and the line of the policy, with these words to a fault or exit
+-- the tables of waits by percent, and the line of the policy, with these words to a fault or exit
+unfoldable pub last_rows : Figures → List ℕ → List ℕ
+last_rows f words =
+    task_percent_table f ++ group_percent_table f ++ codes "\n" ++ policy_row f words
+
+-- the tables of groups and quotas, those of waits by percent, and the line of the policy
 unfoldable pub lower_rows : Figures → List ℕ → List ℕ
-lower_rows f words = group_table f ++ quota_table f ++ codes "\n" ++ policy_row f words
+lower_rows f words = group_table f ++ quota_table f ++ last_rows f words
 
 -- the tables of all figures, from the end of the first line on
 unfoldable pub table_rows : Figures → List ℕ → List ℕ

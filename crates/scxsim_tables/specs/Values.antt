@@ -6,15 +6,17 @@ use Rattle.scx_sched_world.specs.Faults.{fault_number}
 use Rattle.scx_sched_world.specs.declared.eject.Eject.{Eject}
 use Rattle.scx_sched_world.specs.declared.eject.Eject.TheVariants as cause
 use Rattle.scxsim_statistics.specs.Bursts.{slowdown}
-use Rattle.scxsim_statistics.specs.Lengths.{mean, percentile}
+use Rattle.scxsim_statistics.specs.Lengths.{Lengths, mean, percentile}
 use Rattle.scxsim_statistics.specs.declared.bursts.BurstFigures.{BurstFigures}
 use Rattle.scxsim_statistics.specs.declared.gathering.Figures.{Figures}
+use Rattle.scxsim_statistics.specs.declared.group_waits.GroupWaits.{GroupWaits}
 use Rattle.scxsim_statistics.specs.declared.groups.GroupFigures.{GroupFigures}
+use Rattle.scxsim_statistics.specs.declared.latencies.LatencyFigures.{LatencyFigures}
 use Rattle.scxsim_statistics.specs.declared.quotas.QuotaFigures.{QuotaFigures}
 use Rattle.scxsim_statistics.specs.declared.tally.CpuFigures.{CpuFigures}
 use Rattle.scxsim_statistics.specs.declared.tally.TaskFigures.{TaskFigures}
 use Rattle.scxsim_tables.specs.Cells.{hundredths, all_below}
-use Rattle.scxsim_tables.specs.Figures.{task_name, group_name, of_task, bursts_of, of_cpu, lost_of, of_group, limit_of, has_quota}
+use Rattle.scxsim_tables.specs.Figures.{task_name, group_name, of_task, bursts_of, latencies_of, waits_of_group, of_cpu, lost_of, of_group, limit_of, has_quota}
 
 -- the columns before a value, each with a comma after it
 unfoldable pub start : List ℕ → List ℕ → List ℕ → List ℕ
@@ -186,6 +188,86 @@ policy_values f =
     ++ line (codes "policy") (string_bytes f.policy_name) (codes "ended") (ending f f.ejected)
     ++ ejected_line (string_bytes f.policy_name) f.ejected
 
+-- ---- waits by percent, and wake-to-run latencies
+
+-- the lengths that 50 and 90 of 100 waits of a task don't exceed
+unfoldable pub half_lines : List ℕ → Lengths → List ℕ
+half_lines name x =
+    line (codes "task") name (codes "wait_50_percent_ms") (decimal (percentile 50 x))
+    ++ line (codes "task") name (codes "wait_90_percent_ms") (decimal (percentile 90 x))
+
+-- the lengths that 50, 90 and 99 of 100 wake-to-run latencies of a task don't exceed, and the longest
+unfoldable pub latency_lengths : List ℕ → Lengths → List ℕ
+latency_lengths name x =
+    line (codes "task") name (codes "wake_to_run_50_percent_ms") (decimal (percentile 50 x))
+    ++ line (codes "task") name (codes "wake_to_run_90_percent_ms") (decimal (percentile 90 x))
+    ++ line (codes "task") name (codes "wake_to_run_99_percent_ms") (decimal (percentile 99 x))
+    ++ line (codes "task") name (codes "longest_wake_to_run_ms") (decimal x.longest)
+
+-- after how many of its wakes a task ran and, if there are some, how long that took
+unfoldable pub latency_lines : List ℕ → Lengths → List ℕ
+latency_lines name x =
+    line (codes "task") name (codes "wakes_to_run") (decimal x.count)
+    ++ (if x.count == 0 then [] else latency_lengths name x)
+
+-- the lines of its latencies, if they are there
+abbrev pub latency_lines_of : List ℕ → Option LatencyFigures → List ℕ
+latency_lines_of name None = []
+latency_lines_of name (Some x) = latency_lines name x.lengths
+
+-- both of the task of that number
+unfoldable pub task_waits : Figures → ℕ → List ℕ
+task_waits f t =
+    half_lines (task_name f t) (of_task f t).waits
+    ++ latency_lines_of (task_name f t) (latencies_of f t)
+
+-- the lengths that 50, 90 and 99 of 100 waits of the tasks of a group don't exceed, and the longest
+unfoldable pub group_wait_lengths : List ℕ → Lengths → List ℕ
+group_wait_lengths name x =
+    line (codes "group") name (codes "group_wait_50_percent_ms") (decimal (percentile 50 x))
+    ++ line (codes "group") name (codes "group_wait_90_percent_ms") (decimal (percentile 90 x))
+    ++ line (codes "group") name (codes "group_wait_99_percent_ms") (decimal (percentile 99 x))
+    ++ line (codes "group") name (codes "group_longest_wait_ms") (decimal x.longest)
+
+-- how often the tasks of a group waited and, if they did, how long
+unfoldable pub group_wait_lines : List ℕ → Lengths → List ℕ
+group_wait_lines name x =
+    line (codes "group") name (codes "group_waits") (decimal x.count)
+    ++ (if x.count == 0 then [] else group_wait_lengths name x)
+
+-- the lengths that 50, 90 and 99 of 100 wake-to-run latencies of the tasks of a group don't exceed,
+-- and the longest
+unfoldable pub group_latency_lengths : List ℕ → Lengths → List ℕ
+group_latency_lengths name x =
+    line (codes "group") name (codes "group_wake_to_run_50_percent_ms") (decimal (percentile 50 x))
+    ++ line (codes "group") name (codes "group_wake_to_run_90_percent_ms")
+    (decimal (percentile 90 x))
+    ++ line (codes "group") name (codes "group_wake_to_run_99_percent_ms")
+    (decimal (percentile 99 x))
+    ++ line (codes "group") name (codes "group_longest_wake_to_run_ms") (decimal x.longest)
+
+-- after how many of their wakes the tasks of a group ran and, if there are some, how long that took
+unfoldable pub group_latency_lines : List ℕ → Lengths → List ℕ
+group_latency_lines name x =
+    line (codes "group") name (codes "group_wakes_to_run") (decimal x.count)
+    ++ (if x.count == 0 then [] else group_latency_lengths name x)
+
+-- both of a group, if they are there
+abbrev pub group_waits_of : List ℕ → Option GroupWaits → List ℕ
+group_waits_of name None = []
+group_waits_of name (Some x) =
+    group_wait_lines name x.waits ++ group_latency_lines name x.latencies
+
+-- both of the group of that number
+abbrev pub group_waits : Figures → ℕ → List ℕ
+group_waits f g = group_waits_of (group_name f g) (waits_of_group f g)
+
+-- both of all tasks and groups
+unfoldable pub wait_values : Figures → List ℕ
+wait_values f =
+    all_below (task_waits f) (length f.tasks.items)
+    ++ all_below (group_waits f) (length f.groups.items)
+
 -- ---- all of them
 
 -- the lines of all figures
@@ -194,7 +276,7 @@ value_rows f =
     all_below (task_values f) (length f.tasks.items)
     ++ all_below (cpu_values f) (length f.cpus.items)
     ++ all_below (group_values f) (length f.groups.items)
-    ++ limit_values f ++ policy_values f
+    ++ limit_values f ++ policy_values f ++ wait_values f
 
 -- what `stats-csv` writes of these figures: the line that names the columns, and then their lines
 abbrev pub values : Figures → List ℕ

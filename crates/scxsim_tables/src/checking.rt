@@ -8,12 +8,11 @@ ghost use Rattle.scxsim_statistics.specs.declared.gathering.Figures.{Figures as 
 ghost use Rattle.scxsim_tables.specs.Tables.{check_line, is_in_force};
 
 use crate::tables::write_check;
-use crate::telling::words_of_cause;
-use scx_sched::Sim;
+use crate::telling::figures_and_words;
 use scxsim_commands::{Fault, Refusal};
 use scxsim_output::{Out, Text, write_all};
 use scxsim_simulation::Listener;
-use scxsim_statistics::{Figures, FiguresAndStart, figures_and_start};
+use scxsim_statistics::Figures;
 use std::alloc::{AllocError, Global};
 
 /// The line of a run, and whether its policy is in force at the end.
@@ -70,10 +69,10 @@ fn checked_of<L: Listener>(
         × (words : List ℕ) × (string_bytes checked.line ≡ check_line f words)) }
     ensures refused { IfErr result (IsCause policy.now workload.now) }
 {
-    let FiguresAndStart { figures, start } = figures_and_start(alloc, policy, workload, listener)?;
-    let is_in_force = stays_in_force(&figures);
-    let line = line_of(alloc, &figures, start);
-    drop(figures);
+    let found = figures_and_words(alloc, policy, workload, listener)?;
+    let is_in_force = stays_in_force(&found.figures);
+    let line = line_of(alloc, &found.figures, found.words.as_str());
+    drop(found);
     let line = line?;
     Ok(Checked { line, is_in_force })
 }
@@ -88,14 +87,11 @@ fn stays_in_force(figures: &Figures) -> bool
     }
 }
 
-/// The line of these figures, of a run that begins with that machine.
-fn line_of(alloc: Global, figures: &Figures, start: Sim) -> Result<String, AllocError>
-    ensures { IfOk result (λ line. (words : List ℕ)
-        × (string_bytes line ≡ check_line figures.now words)) }
+/// The line of these figures, with these words to the fault or exit.
+fn line_of(alloc: Global, figures: &Figures, words: &str) -> Result<String, AllocError>
+    ensures { IfOk result (λ line. string_bytes line ≡ check_line figures.now words.now) }
 {
-    let words = words_of_cause(alloc, figures, start)?;
     let mut line = Text::new(alloc);
-    write_check(figures, words.as_str(), &mut line);
-    drop(words);
+    write_check(figures, words, &mut line);
     line.finish()
 }

@@ -8,6 +8,8 @@ mod numbers;
 mod tables;
 mod telling;
 mod values;
+mod wait_tables;
+mod wait_values;
 
 pub use checking::check_run;
 pub use scxsim_statistics::figures;

@@ -1,12 +1,13 @@
 ghost use Rattle.std.specs.Prelude.{◌<◌, length, Bool};
 ghost use Rattle.scxsim_output.specs.Texts.{Puts};
 ghost use Rattle.scxsim_tables.specs.Cells.{all_below};
-ghost use Rattle.scxsim_tables.specs.Tables.{wait_cells, task_cells, parked_cell, task_row, task_heads, task_table, cpu_line, cpu_row, cpu_table, group_line, group_row, group_table, quota_cells, quota_row, quota_rows, quota_table, when_ejected, stall_end, fault_end, exit_end, policy_end, policy_row, check_line, lower_rows, table_rows};
+ghost use Rattle.scxsim_tables.specs.Tables.{wait_cells, task_cells, parked_cell, task_row, task_heads, task_table, cpu_line, cpu_row, cpu_table, group_line, group_row, group_table, quota_cells, quota_row, quota_rows, quota_table, when_ejected, stall_end, fault_end, exit_end, policy_end, policy_row, check_line, last_rows, lower_rows, table_rows};
 
 use crate::names::{group_name, has_quota, limit_of, task_name};
 use crate::numbers::{
     write_hundredths_right, write_left, write_number_left, write_number_right, write_numbers,
 };
+use crate::wait_tables::{write_group_percents, write_task_percents};
 use scx_sched::{Eject, Fault};
 use scx_sched_world::Cause;
 use scxsim_faults::{FaultPlace, write_call, write_reason};
@@ -43,13 +44,23 @@ pub(crate) fn write_tables(figures: &Figures, words: &str, page: &mut Text)
     write_lower(figures, words, page);
 }
 
-/// Writes the tables of groups and quotas, and the line of the policy.
+/// Writes the tables of groups and quotas, those of waits by percent, and the line of the policy.
 #[tactic(auto, unfolding(crate::specs::Tables::lower_rows))]
 fn write_lower(figures: &Figures, words: &str, page: &mut Text)
     ensures { Puts page.old (lower_rows figures.now words.now) page.new }
 {
     write_groups(figures, page);
     write_quotas(figures, page);
+    write_last(figures, words, page);
+}
+
+/// Writes the tables of waits by percent, and the line of the policy.
+#[tactic(auto, unfolding(crate::specs::Tables::last_rows))]
+fn write_last(figures: &Figures, words: &str, page: &mut Text)
+    ensures { Puts page.old (last_rows figures.now words.now) page.new }
+{
+    write_task_percents(figures, page);
+    write_group_percents(figures, page);
     page.push("\n");
     write_policy(figures, words, page);
 }

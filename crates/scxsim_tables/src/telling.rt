@@ -172,30 +172,51 @@ fn tables_of<L: Listener>(
         × (words : List ℕ) × (string_bytes rows ≡ table_rows f words)) }
     ensures refused { IfErr result (IsCause policy.now workload.now) }
 {
-    let FiguresAndStart { figures, start } = figures_and_start(alloc, policy, workload, listener)?;
-    let rows = table_rows(alloc, &figures, start);
-    drop(figures);
+    let found = figures_and_words(alloc, policy, workload, listener)?;
+    let rows = table_rows(alloc, &found.figures, found.words.as_str());
+    drop(found);
     Ok(rows?)
 }
 
-/// The rows of the tables of these figures, of a run that begins with that machine.
-fn table_rows(alloc: Global, figures: &Figures, start: Sim) -> Result<String, AllocError>
-    ensures { IfOk result (λ rows. (words : List ℕ)
-        × (string_bytes rows ≡ table_rows figures.now words)) }
+/// The rows of the tables of these figures, with these words to the fault or exit.
+fn table_rows(alloc: Global, figures: &Figures, words: &str) -> Result<String, AllocError>
+    ensures { IfOk result (λ rows. string_bytes rows ≡ table_rows figures.now words.now) }
 {
-    let words = words_of_cause(alloc, figures, start)?;
     let mut rows = Text::new(alloc);
-    write_tables(figures, words.as_str(), &mut rows);
-    drop(words);
+    write_tables(figures, words, &mut rows);
     rows.finish()
 }
 
-/// The words to the fault or exit for which the policy was ejected, if it was ejected for one.
-pub(crate) fn words_of_cause(
+/// The figures of a run, and the words to the fault or exit for which its policy was ejected, if it was ejected for
+/// one.
+#[derive(Drop)]
+pub(crate) struct FiguresAndWords {
+    pub(crate) figures: Figures,
+    pub(crate) words: String,
+}
+
+/// The figures of the run of a policy file's text and a workload file's, and the words to its fault or exit.
+pub(crate) fn figures_and_words<L: Listener>(
     alloc: Global,
-    figures: &Figures,
-    start: Sim,
-) -> Result<String, AllocError> {
+    policy: &str,
+    workload: &str,
+    listener: &mut L,
+) -> Result<FiguresAndWords, Refusal>
+    ensures of_texts { IfOk result (λ found. AreOfTexts policy.now workload.now found.figures) }
+    ensures refused { IfErr result (IsCause policy.now workload.now) }
+{
+    let FiguresAndStart { figures, start } = figures_and_start(alloc, policy, workload, listener)?;
+    match words_of_cause(alloc, &figures, start) {
+        Ok(words) => Ok(FiguresAndWords { figures, words }),
+        Err(AllocError) => {
+            drop(figures);
+            Err(Refusal::NoMemory)
+        }
+    }
+}
+
+/// The words to the fault or exit for which the policy was ejected, if it was ejected for one.
+fn words_of_cause(alloc: Global, figures: &Figures, start: Sim) -> Result<String, AllocError> {
     let place = place_of_cause(alloc, figures, start)?;
     let mut words = Text::new(alloc);
     write_cause(figures, place, &mut words);

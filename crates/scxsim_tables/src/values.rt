@@ -2,10 +2,11 @@ ghost use Rattle.std.specs.Prelude.{◌<◌, length, codes, decimal};
 ghost use Rattle.scxsim_output.specs.Texts.{Puts};
 ghost use Rattle.scxsim_tables.specs.Cells.{hundredths, all_below};
 ghost use Rattle.scxsim_tables.specs.Figures.{bursts_of};
-ghost use Rattle.scxsim_tables.specs.Values.{start, line, wait_lines, longest_lines, stop_lines, most_lines, percent_lines, length_lines, burst_lines, burst_lines_of, task_values, cpu_lines, lost_line, cpu_values, group_lines, group_values, parked_value, use_lines, throttle_lines, period_lines, quota_lines, quota_values, limit_values, ending, ejected_line, policy_values, value_rows};
+ghost use Rattle.scxsim_tables.specs.Values.{start, line, wait_lines, longest_lines, stop_lines, most_lines, percent_lines, length_lines, burst_lines, burst_lines_of, task_values, cpu_lines, lost_line, cpu_values, group_lines, group_values, parked_value, use_lines, throttle_lines, period_lines, quota_lines, quota_values, limit_values, ending, ejected_line, policy_values, wait_values, value_rows};
 
 use crate::names::{group_name, has_quota, limit_of, task_name};
 use crate::numbers::write_hundredths;
+use crate::wait_values::list_wait_values;
 use itoa::Buffer;
 use scx_sched::Eject;
 use scxsim_output::Text;
@@ -27,6 +28,7 @@ pub(crate) fn write_list(figures: &Figures, page: &mut Text)
     list_groups(figures, page);
     list_limits(figures, page);
     list_policy(figures, page);
+    list_wait_values(figures, page);
 }
 
 #[tactic(auto, using(crate::proofs::Rows::puts_next))]
@@ -331,7 +333,7 @@ fn list_ejected(name: &str, ejected: Option<Eject>, page: &mut Text)
 
 /// Writes the line of a figure.
 #[tactic(auto, unfolding(crate::specs::Values::line))]
-fn list(page: &mut Text, kind: &str, name: &str, figure: &str, value: u64)
+pub(crate) fn list(page: &mut Text, kind: &str, name: &str, figure: &str, value: u64)
     ensures { Puts page.old (line kind.now name.now figure.now (decimal value)) page.new }
 {
     begin(page, kind, name, figure);

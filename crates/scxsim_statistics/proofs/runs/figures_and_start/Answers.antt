@@ -1,7 +1,3 @@
-use Rattle.std.proofs.Common.{sym, subst}
-use Rattle.scx_load_workloads.specs.Workload.{WorkloadState}
-use Rattle.scx_sched.specs.Sim.{SimState}
-use Rattle.scxsim_simulation.specs.Runs.{IsRun}
 use Rattle.scxsim_statistics.proofs.Reading.{of_texts, name_is, is_run_of}
 use Rattle.scxsim_statistics.proofs.runs.figures_and_start.Goals as goal
 

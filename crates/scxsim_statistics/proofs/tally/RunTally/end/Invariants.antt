@@ -9,6 +9,7 @@ invariant-loop-task l = record {
   tasks : is_err l.self.result ≡ false → l.self.tasks.items ≡ ended_below l.task l.sim.state.world l.initial.self.pauses l.initial.self.tasks.items;
   cpus : l.self.cpus ≡ l.initial.self.cpus;
   bursts : l.self.bursts ≡ l.initial.self.bursts;
+  latencies : l.self.latencies ≡ l.initial.self.latencies;
   losses : l.self.losses ≡ l.initial.self.losses;
   pauses : l.self.pauses ≡ l.initial.self.pauses;
 }

@@ -1,0 +1,7 @@
+use Rattle.scxsim_output.specs.Texts.{Puts}
+use Rattle.scxsim_tables.specs.Cells.{all_below}
+use Rattle.scxsim_tables.specs.Tables.{group_percents}
+use Rattle.scxsim_tables.proofs.wait_tables.write_group_lines.Given as goal
+
+abbrev pub invariant-loop-number : goal.invariant-loop-number
+invariant-loop-number l = Puts l.initial.page (all_below (group_percents l.figures) l.number) l.page

@@ -1,0 +1,7 @@
+use Rattle.scxsim_output.specs.Texts.{Puts}
+use Rattle.scxsim_tables.specs.Cells.{all_below}
+use Rattle.scxsim_tables.specs.Values.{task_waits}
+use Rattle.scxsim_tables.proofs.wait_values.list_task_waits.Given as goal
+
+abbrev pub invariant-loop-number : goal.invariant-loop-number
+invariant-loop-number l = Puts l.initial.page (all_below (task_waits l.figures) l.number) l.page
