@@ -29,8 +29,8 @@ pub struct Account {
     pub recent: Option<RecentNotes>,
     pub ejection: Option<Ejection>,
     moment: Moment,
-    /// The first task that waited as the ticks of the current millisecond began, and its queue.
-    waiting: Option<WaitingTask>,
+    /// The first task that waited for each CPU as the ticks of the current millisecond began, and its queue.
+    waiting: Vec<Option<WaitingTask>>,
     /// An error once memory has run out.
     result: Result<(), AllocError>,
 }
@@ -55,14 +55,14 @@ impl Account {
             stretches: IdleStretches::new(alloc, cpus)?,
             waits: Waits::new(alloc, worst, sim.world().rules(), tasks as usize, cpus)?,
             queues: QueueTraffic::new(alloc, tasks as usize, cpus)?,
-            calls: Calls::new(alloc, tasks as usize, cpus)?,
+            calls: Calls::new(alloc, tasks as usize, cpus, sim.world().timers())?,
             recent: RecentNotes::if_wanted(alloc, is_ejected, tasks as usize, cpus)?,
             ejection: None,
             moment: Moment {
                 event: Event::Clock,
                 running: None,
             },
-            waiting: None,
+            waiting: vec![in alloc; None; cpus as usize]?,
             result: Ok(()),
         })
     }
@@ -75,46 +75,63 @@ impl Account {
         self.moment.running = sim.runner(cpu);
         let before = self.idling.since(cpu);
         self.idling.expect(sim, Event::Tick(cpu));
-        self.begin_ticks(cpu);
-        self.change(cpu, before, sim.clock());
+        self.begin_ticks(sim.cpus(), cpu);
+        self.change(sim, cpu, before);
         self.waits.tick(sim.clock(), cpu, self.moment.running);
     }
 
-    /// Finds the first task that waits, and its queue, before the tick of CPU 0, since ticks may move tasks.
-    fn begin_ticks(&mut self, cpu: u32)
+    /// Finds the tasks that wait, and their queues, before the tick of CPU 0, since ticks may move tasks.
+    fn begin_ticks(&mut self, cpus: u32, cpu: u32)
         ensures idling { self.new.idling ≡ self.old.idling }
         ensures result { self.new.result ≡ self.old.result }
     {
         if cpu == 0 {
-            self.waiting = self.first_waiting();
+            self.find_waiting(cpus);
+        }
+    }
+
+    fn find_waiting(&mut self, cpus: u32)
+        ensures idling { self.new.idling ≡ self.old.idling }
+        ensures result { self.new.result ≡ self.old.result }
+    {
+        for cpu in 0..cpus {
+            let found = self.first_waiting(cpu);
+            if let Some(place) = self.waiting.get_mut(cpu as usize) {
+                *place = found;
+            }
         }
     }
 
     /// Keeps that a stretch of the CPU began or ended, if it did.
-    fn change(&mut self, cpu: u32, before: Option<u64>, clock: u64)
+    fn change(&mut self, sim: &Sim, cpu: u32, before: Option<u64>)
         ensures idling { self.new.idling ≡ self.old.idling }
         ensures result { self.new.result ≡ self.old.result }
     {
         match (before, self.idling.since(cpu)) {
             (None, Some(_)) => {
                 let beginning = Beginning {
-                    waiting: self.waiting,
+                    waiting: self.waiting_for(cpu),
                     calls: self.calls.for_cpu(cpu),
+                    is_claimed: is_claimed(sim.world(), cpu),
                 };
                 self.stretches.begin(cpu, beginning);
             }
             (Some(since), None) => self.end_stretch(IdleStretch {
                 cpu,
                 since,
-                until: clock,
+                until: sim.clock(),
             }),
             (None, None) | (Some(_), Some(_)) => {}
         }
     }
 
-    /// The first task in the workload's order that waits in the current millisecond, and its queue.
-    fn first_waiting(&self) -> Option<WaitingTask> {
-        let task = self.idling.waiting()?;
+    fn waiting_for(&self, cpu: u32) -> Option<WaitingTask> {
+        *self.waiting.get(cpu as usize)?
+    }
+
+    /// The first task in the workload's order that waits for the CPU in the current millisecond, and its queue.
+    fn first_waiting(&self, cpu: u32) -> Option<WaitingTask> {
+        let task = self.idling.waiting(cpu)?;
         Some(WaitingTask {
             task,
             queue: self.queues.places.at(task),
@@ -161,6 +178,11 @@ impl Account {
             }
         }
     }
+}
+
+/// True if the CPU is idle, and a callback has claimed it.
+fn is_claimed(world: &World, cpu: u32) -> bool {
+    world.is_idle(cpu) && !world.is_free(cpu)
 }
 
 impl Observer for Account {

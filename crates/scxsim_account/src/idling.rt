@@ -1,12 +1,14 @@
-ghost use Rattle.std.specs.Prelude.{◌≡◌, length, false, is_some, is_none, slice_index_or, slice_set, IfOk};
-ghost use Rattle.scxsim_account.specs.Idling.{none_idle, since_at, first_waiting, begun_after, ticks_begin, one_lost, closed, ticked, idle_after_event, idle_after_note, figures_of, since_of, waits_since};
+ghost use Rattle.std.specs.Prelude.{◌≡◌, length, false, ◌&&◌, is_some, is_none, slice_index_or, slice_set, IfOk};
+ghost use Rattle.scx_sched_world.specs.World.{may_run};
+ghost use Rattle.scxsim_account.specs.Idling.{none_idle, since_at, waiting_at, first_waiting, first_bound, first_for, waiting_below, noticed, begun_after, ticks_begin, one_lost, closed, ticked, idle_after_event, idle_after_note, figures_of, since_of, waits_since};
 
 use scx_sched::{Event, Sim, What};
+use scx_sched_world::World;
 use scxsim_views::{PauseKind, Pauses};
 use std::alloc::{AllocError, Global};
 use std::marker::Model;
 
-/// The figures of CPUs that were idle while a task waited.
+/// The figures of CPUs that were idle while a task waited that may run there.
 #[derive(Clone, Copy)]
 pub struct IdleFigures {
     /// The number of stretches: each began on a CPU.
@@ -17,19 +19,19 @@ pub struct IdleFigures {
     pub has_waited: bool,
 }
 
-/// The CPUs that are idle while a task waits, and the tasks that have begun to run.
+/// The CPUs that are idle while a task waits that may run there, and the tasks that have begun to run.
 ///
 /// In a contract it is the sums of these stretches, with each task's state.
 #[derive(Drop)]
 pub struct Idling {
     pub(crate) pauses: Pauses,
-    /// The first task that waited as the ticks of the current millisecond began.
-    waiting: Option<u16>,
-    /// True if there was such a task in some millisecond.
+    /// The first task that waited for each CPU as the ticks of the current millisecond began.
+    waiting: Vec<Option<u16>>,
+    /// True if a task waited in some millisecond.
     has_waited: bool,
     /// True for each task that has begun to run.
     begun: Vec<bool>,
-    /// The clock since which each CPU has been idle while a task waited.
+    /// The clock since which each CPU has been idle while a task waited for it.
     since: Vec<Option<u64>>,
     /// The number of stretches that have begun.
     count: u64,
@@ -44,7 +46,7 @@ impl Model for Idling {
 
     ghost view = { λ i. record {
       doing = i.pauses;
-      waiting = i.waiting;
+      waiting = i.waiting.items;
       has_waited = i.has_waited;
       begun = i.begun.items;
       since = i.since.items;
@@ -60,7 +62,7 @@ impl Idling {
     {
         Ok(Idling {
             pauses: Pauses::new(alloc, tasks as usize)?,
-            waiting: None,
+            waiting: vec![in alloc; None; cpus as usize]?,
             has_waited: false,
             begun: vec![in alloc; false; tasks as usize]?,
             since: vec![in alloc; None; cpus as usize]?,
@@ -75,7 +77,7 @@ impl Idling {
     {
         match event {
             Event::Tick(cpu) => {
-                self.begin_ticks(sim.tasks(), cpu);
+                self.begin_ticks(sim.world(), cpu);
                 self.tick(sim.clock(), cpu, sim.runner(cpu).is_none());
             }
             Event::Wake(_)
@@ -94,11 +96,11 @@ impl Idling {
         note_run(&mut self.begun, what);
     }
 
-    /// The first task in the workload's order that waited as the ticks of the current millisecond began.
-    pub(crate) fn waiting(&self) -> Option<u16>
-        ensures { result ≡ self.now.waiting }
+    /// The first task in the workload's order that waited for the CPU as the ticks of the current millisecond began.
+    pub(crate) fn waiting(&self, cpu: u32) -> Option<u16>
+        ensures { result ≡ waiting_at self.now.waiting cpu }
     {
-        self.waiting
+        *self.waiting.get(cpu as usize)?
     }
 
     /// True if the task has begun to run.
@@ -111,7 +113,7 @@ impl Idling {
         }
     }
 
-    /// The clock since which the CPU has been idle while a task waited, if it has.
+    /// The clock since which the CPU has been idle while a task waited for it, if it has.
     pub(crate) fn since(&self, cpu: u32) -> Option<u64>
         ensures { result ≡ since_at self.now.since cpu }
     {
@@ -129,27 +131,34 @@ impl Idling {
         }
     }
 
-    /// Finds the first task that waits, before the tick of CPU 0, since ticks may stop tasks.
-    fn begin_ticks(&mut self, tasks: u16, cpu: u32)
-        ensures { self.new ≡ ticks_begin tasks cpu self.old }
+    /// Finds the tasks that wait, before the tick of CPU 0, since ticks may stop tasks.
+    fn begin_ticks(&mut self, world: &World, cpu: u32)
+        ensures { self.new ≡ ticks_begin world.now cpu self.old }
     {
         if cpu == 0 {
-            self.waiting = first_waiting(&self.pauses, tasks);
-            self.has_waited = self.has_waited || self.waiting.is_some();
+            self.notice(world);
         }
+    }
+
+    fn notice(&mut self, world: &World)
+        ensures { self.new ≡ noticed world.now self.old }
+    {
+        let first = first_waiting(&self.pauses, world.tasks());
+        self.has_waited = self.has_waited || first.is_some();
+        find_waiting(&mut self.waiting, world, &self.pauses, first);
     }
 
     fn tick(&mut self, clock: u64, cpu: u32, is_idle: bool)
         ensures { self.new ≡ ticked clock cpu is_idle self.old }
     {
-        if self.waiting.is_some() && is_idle {
+        if self.waiting(cpu).is_some() && is_idle {
             self.lose(clock, cpu);
         } else {
             self.close(cpu);
         }
     }
 
-    /// Adds a millisecond in which the CPU is idle while a task waits.
+    /// Adds a millisecond in which the CPU is idle while a task waits for it.
     fn lose(&mut self, clock: u64, cpu: u32)
         ensures { self.new ≡ one_lost clock cpu self.old }
     {
@@ -165,6 +174,59 @@ impl Idling {
     {
         set(&mut self.since, cpu, None);
     }
+}
+
+/// Finds the first task that waits for each CPU, where `first` is the first that waits at all.
+#[tactic(auto, using(crate::proofs::Waiting::waiting_more))]
+fn find_waiting(waiting: &mut Vec<Option<u16>>, world: &World, pauses: &Pauses, first: Option<u16>)
+    requires { first ≡ first_waiting (length world.now.tasks) 0 pauses.now }
+    ensures { waiting.new.items
+        ≡ waiting_below (length world.now.cpus) world.now pauses.now waiting.old.items }
+{
+    for cpu in 0..world.cpus() {
+        let found = first_for(world, cpu, pauses, first);
+        keep_waiting(waiting, cpu, found);
+    }
+}
+
+fn keep_waiting(waiting: &mut Vec<Option<u16>>, cpu: u32, task: Option<u16>)
+    ensures { waiting.new.items ≡ slice_set waiting.old.items cpu task }
+{
+    if let Some(place) = waiting.get_mut(cpu as usize) {
+        *place = task;
+    }
+}
+
+/// The first task that waits for the CPU, where `first` is the first that waits at all.
+fn first_for(world: &World, cpu: u32, pauses: &Pauses, first: Option<u16>) -> Option<u16>
+    requires { first ≡ first_waiting (length world.now.tasks) 0 pauses.now }
+    ensures { result ≡ first_for world.now cpu pauses.now }
+{
+    if world.binds() {
+        first_bound(world, cpu, pauses)
+    } else {
+        first
+    }
+}
+
+/// The first task, in the workload's order, that waits and may run on the CPU.
+#[tactic(auto, using(crate::proofs::Waiting::bound_here, crate::proofs::Waiting::bound_later))]
+fn first_bound(world: &World, cpu: u32, pauses: &Pauses) -> Option<u16>
+    ensures { result ≡ first_bound world.now cpu (length world.now.tasks) 0 pauses.now }
+{
+    for task in 0..world.tasks() {
+        if waits_for(world, pauses, task, cpu) {
+            return Some(task);
+        }
+    }
+    None
+}
+
+/// True if the task waits, and may run on the CPU.
+fn waits_for(world: &World, pauses: &Pauses, task: u16, cpu: u32) -> bool
+    ensures { result ≡ (is_some (waits_since pauses.now task) && may_run world.now task cpu) }
+{
+    waits_since(pauses, task).is_some() && world.may_run(task, cpu)
 }
 
 fn set(since: &mut Vec<Option<u64>>, cpu: u32, value: Option<u64>)

@@ -106,21 +106,21 @@ all_watched has_failed whose told (e ∷ es) s v w (u, (x, (same, expected), sho
 
 -- ---- a whole run
 
--- a view that heard a whole run from nothing on, and then writes the line that is missing, has told all occurrences
-pub run_is_told : {V : Type 0} (has_failed : V → Bool) (whose : V → Subject) (told : V → Told) (events : List Event) (s t : SimState) (v w : V) (x : Subject) (last : List ℕ)
+-- a view that heard a whole run, and then writes the line that is missing, has told all occurrences after its first text
+pub run_is_told : {V : Type 0} (has_failed : V → Bool) (whose : V → Subject) (told : V → Told) (events : List Event) (s t : SimState) (v w : V) (x : Subject) (first last : List ℕ)
     → Watches (λ x _ _ y. ExpectsEvent has_failed whose told x y) has_failed (λ x moment clock what y. HearsNote has_failed whose told x clock what y) events s v t w
-    → has_failed w ≡ false → whose v ≡ x → (told v).pending ≡ None → (told v).text ≡ [] → Writes (told w).pending (told w).text last
-    → Tells (occurrences x (notes_of_all s events)) [] last
-run_is_told has_failed whose told events s t v w x last watched well is none empty written =
+    → has_failed w ≡ false → whose v ≡ x → (told v).pending ≡ None → (told v).text ≡ first → Writes (told w).pending (told w).text last
+    → Tells (occurrences x (notes_of_all s events)) first last
+run_is_told has_failed whose told events s t v w x first last watched well is none begun written =
     let whole : events ≡ watched.done = watched.whole ∙ ap (λ rest. watched.done ++ rest) (watched.all well) ∙ append-nil watched.done in
     let os = occurrences (whose v) (notes_of_all s watched.done) in
     let end : Told = record { text = last; pending = None } in
     let all = all_watched has_failed whose told watched.done s v w watched.shown well in
     let ended = told_both (told v) (told w) end os [] all.2 (told_settled (told w) end (written, refl)) in
     let P : List ℕ → Type 0 = λ text. Tells ended.0 text last in
-    let Q : List Note → Type 0 = λ l. Tells l [] last in
-    let R : List Event → Type 0 = λ es. Tells (occurrences (whose v) (notes_of_all s es)) [] last in
-    let S : Subject → Type 0 = λ y. Tells (occurrences y (notes_of_all s events)) [] last in
+    let Q : List Note → Type 0 = λ l. Tells l first last in
+    let R : List Event → Type 0 = λ es. Tells (occurrences (whose v) (notes_of_all s es)) first last in
+    let S : Subject → Type 0 = λ y. Tells (occurrences y (notes_of_all s events)) first last in
     let lists : ended.0 ≡ os =
     sym (append-nil ended.0) ∙ sym ended.1 ∙ ap (λ p. owed p ++ (os ++ [])) none ∙ append-nil os in
-    subst S is (subst R (sym whole) (subst Q lists (subst P empty ended.2)))
+    subst S is (subst R (sym whole) (subst Q lists (subst P begun ended.2)))

@@ -10,9 +10,9 @@ use Rattle.scxsim_commands.specs.declared.refusal.Refusal.TheVariants.{NoMemory,
 use Rattle.scxsim_simulation.specs.Runs.{IsRun, IsCause}
 use Rattle.scxsim_simulation.proofs.PartCauses.{are_read}
 use Rattle.scx_sched_world.specs.declared.notes.Note.{Note}
+use Rattle.scxsim_views.specs.BoundTasks.{bound_mask}
 use Rattle.scxsim_story.specs.declared.subject.Subject.{Subject}
-use Rattle.scxsim_story.specs.Occurrences.{occurrences, Tells}
-use Rattle.scxsim_story.specs.Stories.{IsSubject, IsNoTask, IsToldIn, IsStory, IsStoryCause}
+use Rattle.scxsim_story.specs.Stories.{IsSubject, IsNoTask, TellsAll, IsToldIn, IsStory, IsStoryCause}
 
 -- the run is that of the texts, and memory ran out, or the word names no task
 pub cause_of_run : (policy workload task : List ℕ) (w : WorkloadState) (s : SimState) (r : Refusal) → IsRun policy workload w s → (r ≡ NoMemory) ⊎ ((r ≡ NoSuchTask) × IsNoTask w task) → IsStoryCause policy workload task r
@@ -25,6 +25,6 @@ story_of_run policy workload task w s es text x events told =
     let P : List Event → Type 0 = λ l. IsToldIn w task (notes_of_all s l) text in
     record { of_workload = w; first = s; run = x; told = subst P events told }
 
--- the task has that name, and its occurrences were told
-pub told_of_subject : (w : WorkloadState) (task : List ℕ) (notes : List Note) (text : List ℕ) (x : Subject) → IsSubject w task x → Tells (occurrences x notes) [] text → IsToldIn w task notes text
+-- the task has that name, and its story was told
+pub told_of_subject : (w : WorkloadState) (task : List ℕ) (notes : List Note) (text : List ℕ) (x : Subject) → IsSubject w task x → TellsAll task (bound_mask w x.task) x notes text → IsToldIn w task notes text
 told_of_subject w task notes text x named told = record { subject = x; named = named; told = told }

@@ -1,11 +1,12 @@
 -- The text of `story`, and the causes of its refusals.
-use Rattle.std.specs.Prelude.{◌≡◌, ℕ, ◌<◌, List, [], length, slice_index_or, ◌⊎◌}
+use Rattle.std.specs.Prelude.{◌≡◌, ℕ, ◌<◌, List, [], ◌++◌, codes, length, Option, None, Some, slice_index_or, ◌⊎◌}
 use Rattle.scx_sched_world.specs.declared.notes.Note.{Note}
 use Rattle.scx_sched.specs.Sim.{SimState}
 use Rattle.scx_load_workloads.specs.Workload.{WorkloadState}
 use Rattle.scx_load_driver.specs.Runs.{notes_of_all}
 use Rattle.scx_load_driver.specs.Events.{workload_events}
 use Rattle.scxsim_trace.specs.Lines.{names_of, task_name}
+use Rattle.scxsim_views.specs.BoundTasks.{bound_mask}
 use Rattle.scxsim_commands.specs.declared.refusal.Refusal.{Refusal}
 use Rattle.scxsim_commands.specs.declared.refusal.Refusal.TheVariants.{NoSuchTask}
 use Rattle.scxsim_simulation.specs.Runs.{IsRun, AreRead, IsCause}
@@ -22,14 +23,25 @@ pub record IsSubject (w : WorkloadState) (name : List ℕ) (x : Subject) : Type 
 abbrev pub IsNoTask : WorkloadState → List ℕ → Type 0
 IsNoTask w name = (t : ℕ) → t < length w.homes → ¬ (task_name (names_of w) t ≡ name)
 
--- a line for each occurrence of the task of that name among these notes
+-- a story opens with the CPUs on which its task may run, if they aren't all, in some words
+abbrev pub Opens : List ℕ → Option ℕ → List ℕ → Type 0
+Opens name None text = text ≡ []
+Opens name (Some mask) text =
+    (cpus : List ℕ) × (text ≡ name ++ codes " may run on " ++ cpus ++ codes "\n")
+
+-- an opening, and a line for each occurrence of the task among these notes
+abbrev pub TellsAll : List ℕ → Option ℕ → Subject → List Note → List ℕ → Type 0
+TellsAll name mask x notes text =
+    (opening : List ℕ) × Opens name mask opening × Tells (occurrences x notes) opening text
+
+-- the story of the task of that name among these notes
 pub record IsToldIn (w : WorkloadState) (task : List ℕ) (notes : List Note)
     (text : List ℕ) : Type 0 where
   pub subject : Subject
   pub named : IsSubject w task subject
-  pub told : Tells (occurrences subject notes) [] text
+  pub told : TellsAll task (bound_mask w subject.task) subject notes text
 
--- a line for each occurrence of the task in the run of the two texts
+-- the story of the task in the run of the two texts
 pub record IsStory (policy workload task text : List ℕ) : Type 0 where
   pub of_workload : WorkloadState
   pub first : SimState

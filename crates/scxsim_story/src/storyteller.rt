@@ -1,4 +1,4 @@
-ghost use Rattle.std.specs.Prelude.{◌≡◌, ◌++◌, false, is_err, [], None, Some, OnOk, string_bytes};
+ghost use Rattle.std.specs.Prelude.{◌≡◌, ◌++◌, false, is_err, None, Some, OnOk, string_bytes};
 ghost use Rattle.scxsim_story.specs.Occurrences.{concerns, line, Writes, ExpectsEvent, HearsNote};
 
 use crate::life::Life;
@@ -29,17 +29,22 @@ pub(crate) struct Storyteller<'w> {
 }
 
 impl<'w> Storyteller<'w> {
-    /// A story without lines.
-    pub(crate) fn new(alloc: Global, workload: &'w Workload, subject: Subject) -> Storyteller<'w>
+    /// A story that has this opening, and no lines yet.
+    pub(crate) fn new(
+        alloc: Global,
+        workload: &'w Workload,
+        subject: Subject,
+        opening: String,
+    ) -> Storyteller<'w>
         ensures subject { result.subject ≡ subject }
-        ensures text { string_bytes result.text ≡ [] }
+        ensures text { result.text ≡ opening }
         ensures pending { result.pending ≡ None }
         ensures well { is_err result.result ≡ false }
     {
         Storyteller {
             subject,
             workload,
-            text: String::new(alloc),
+            text: opening,
             pending: None,
             moment: 0,
             life: Life::new(),

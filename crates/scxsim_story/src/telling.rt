@@ -1,13 +1,14 @@
-ghost use Rattle.std.specs.Prelude.{◌≡◌, ◌⊎◌, ℕ, List, [], true, Err, IfOk, IfErr, OnOk, string_bytes};
+ghost use Rattle.std.specs.Prelude.{◌≡◌, ◌⊎◌, ℕ, List, true, Err, IfOk, IfErr, OnOk, string_bytes};
 ghost use Rattle.std.specs.Io.KnownBytes.{Appends};
 ghost use Rattle.scx_load_driver.specs.Driver.{remaining};
 ghost use Rattle.scx_load_driver.specs.Runs.{notes_of_all};
 ghost use Rattle.scxsim_output.specs.Output.{HasFailed};
 ghost use Rattle.scxsim_commands.specs.Outcome.{IfRefused, IsRefused};
 ghost use Rattle.scxsim_commands.specs.declared.refusal.Refusal.TheVariants.{NoMemory, NoSuchTask};
-ghost use Rattle.scxsim_story.specs.Occurrences.{occurrences, Tells};
-ghost use Rattle.scxsim_story.specs.Stories.{IsNoTask, IsStory, IsStoryCause, IsToldIn};
+ghost use Rattle.scxsim_views.specs.BoundTasks.{bound_mask};
+ghost use Rattle.scxsim_story.specs.Stories.{IsNoTask, IsStory, IsStoryCause, IsToldIn, TellsAll};
 
+use crate::opening::opening_of;
 use crate::storyteller::Storyteller;
 use crate::subject::{Subject, subject_of};
 use scx_load_workloads::Workload;
@@ -33,7 +34,7 @@ pub fn story<L: Listener, W: Out>(
     listener: &mut L,
     out: &mut W,
 ) -> Result<bool, Fault>
-    // A line for each occurrence of the task in the run.
+    // An opening, and a line for each occurrence of the task in the run.
     ensures done { IfOk result (λ answer. (answer ≡ true) × (text : List ℕ)
         × IsStory policy.now workload.now task.now text
         × Appends (W.contents out.old) (W.contents out.new) text) }
@@ -81,7 +82,7 @@ fn told_of_run<L: Listener>(
         ⊎ ((refusal ≡ NoSuchTask) × IsNoTask run.workload task.now)) }
 {
     match subject_of(&run.workload, task) {
-        Some(subject) => Ok(tell(alloc, run, subject, listener)?),
+        Some(subject) => Ok(tell(alloc, run, task, subject, listener)?),
         None => {
             drop(run);
             Err(Refusal::NoSuchTask)
@@ -89,16 +90,16 @@ fn told_of_run<L: Listener>(
     }
 }
 
-/// The story of this task in this run.
+/// The story of this task, by its name, in this run.
 fn tell<L: Listener>(
     alloc: Global,
     run: Run,
+    name: &str,
     subject: Subject,
     listener: &mut L,
 ) -> Result<String, AllocError>
-    ensures { IfOk result (λ text. Tells
-        (occurrences subject (notes_of_all run.sim (remaining run.driver run.sim))) []
-        (string_bytes text)) }
+    ensures { IfOk result (λ text. TellsAll name.now (bound_mask run.workload subject.task) subject
+        (notes_of_all run.sim (remaining run.driver run.sim)) (string_bytes text)) }
 {
     let Run {
         workload,
@@ -107,7 +108,7 @@ fn tell<L: Listener>(
         ..
     } = run;
     let mut events = Heard::new(driver, workload.ms(), listener);
-    let text = tell_from(alloc, &workload, subject, &mut events, &mut sim);
+    let text = tell_from(alloc, &workload, name, subject, &mut events, &mut sim);
     give_back(events, sim);
     drop(workload);
     text
@@ -117,15 +118,16 @@ fn tell<L: Listener>(
 fn tell_from<E: Events>(
     alloc: Global,
     workload: &Workload,
+    name: &str,
     subject: Subject,
     events: &mut E,
     sim: &mut Sim,
 ) -> Result<String, AllocError>
-    ensures { IfOk result (λ text. Tells
-        (occurrences subject (notes_of_all sim.old (E.remaining events.old sim.old))) []
-        (string_bytes text)) }
+    ensures { IfOk result (λ text. TellsAll name.now (bound_mask workload.now subject.task) subject
+        (notes_of_all sim.old (E.remaining events.old sim.old)) (string_bytes text)) }
 {
-    let mut storyteller = Storyteller::new(alloc, workload, subject);
+    let opening = opening_of(alloc, workload, name, subject.task)?;
+    let mut storyteller = Storyteller::new(alloc, workload, subject, opening);
     observe(sim, events, &mut storyteller);
     storyteller.result?;
     storyteller.end(sim)?;

@@ -1,3 +1,4 @@
 pub mod Watching
 pub mod Pauses
 pub mod Keys
+pub mod BoundTasks

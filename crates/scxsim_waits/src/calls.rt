@@ -1,12 +1,16 @@
 ghost use Rattle.std.specs.Prelude.{◌≡◌};
 
+use crate::timers::{TimerKick, TimerKicks};
 use scx_isa::{Callback, PerCallback};
 use scx_sched::{Note, Rank, What};
 use scx_sched_world::World;
 use scx_vm::{Arg, Args};
-use scxsim_views::{key_of_time, rules_in_force};
+use scxsim_views::{has_cpu, key_of_time, rules_in_force};
 use std::alloc::{AllocError, Global};
 use std::marker::Model;
+
+/// The nanoseconds of a millisecond.
+const MILLISECOND: u64 = 1_000_000;
 
 /// A call of dispatch.
 #[derive(Clone, Copy)]
@@ -16,13 +20,22 @@ pub struct LastCall {
     pub took: bool,
 }
 
-/// The calls of dispatch for a CPU.
+/// The calls of dispatch for a CPU, and the last time that a timer kicked it.
 #[derive(Clone, Copy, Default)]
 pub struct CpuCalls {
     /// The number of calls that took no task, and the clock of the last of them.
     pub vain: u64,
     pub last_vain: Option<u64>,
     pub last: Option<LastCall>,
+    pub kick: Option<TimerKick>,
+}
+
+/// A slice that a task was given.
+#[derive(Clone, Copy)]
+pub struct GivenSlice {
+    pub task: u16,
+    pub slice: u64,
+    pub clock: u64,
 }
 
 /// The calls of the callbacks of a policy.
@@ -34,6 +47,9 @@ pub struct Calls {
     by_cpu: Vec<CpuCalls>,
     /// The rank by which each task last came into a queue, with the key of a virtual time, if that is known.
     ranks: Vec<Option<Rank>>,
+    pub timers: TimerKicks,
+    /// The first of the shortest slices below 1 ms that select_cpu or enqueue gave.
+    pub shortest: Option<GivenSlice>,
 }
 
 impl Model for Calls {
@@ -44,17 +60,20 @@ impl Model for Calls {
 
 impl Calls {
     /// No calls.
-    pub fn new(alloc: Global, tasks: usize, cpus: u32) -> Result<Calls, AllocError> {
+    pub fn new(alloc: Global, tasks: usize, cpus: u32, timers: u32) -> Result<Calls, AllocError> {
         Ok(Calls {
             counts: PerCallback::none(),
             by_cpu: vec![in alloc; CpuCalls::default(); cpus as usize]?,
             ranks: vec![in alloc; None; tasks]?,
+            timers: TimerKicks::new(alloc, timers)?,
+            shortest: None,
         })
     }
 
     /// Counts a callback that was called with these arguments and has run. Its notes are still in the world.
     pub fn heed(&mut self, callback: Callback, arguments: Args, world: &World) {
         self.count(callback);
+        self.heed_kicks(callback, arguments, world);
         match callback {
             Callback::Dispatch => self.heed_dispatch(arguments, world),
             Callback::SelectCpu | Callback::Enqueue => self.heed_insert(arguments, world),
@@ -89,6 +108,29 @@ impl Calls {
         self.counts.set(callback, Some(count));
     }
 
+    /// Keeps the CPUs that a timer has kicked, if the callback is that of a timer.
+    fn heed_kicks(&mut self, callback: Callback, arguments: Args, world: &World) {
+        if world.timers() == 0 {
+            return;
+        }
+        let kicked = self.timers.heed(world);
+        if callback == Callback::Timer {
+            if let Arg::Num(timer) = arguments.first {
+                self.timers.count(timer, kicked);
+                self.set_kicks(timer, kicked, world.clock());
+            }
+        }
+    }
+
+    /// Keeps that a timer has kicked the CPUs of a mask.
+    fn set_kicks(&mut self, timer: u64, kicked: u64, clock: u64) {
+        for (cpu, calls) in self.by_cpu.iter_mut().enumerate() {
+            if has_cpu(kicked, u32::try_from(cpu).unwrap_or(u32::MAX)) {
+                calls.kick = Some(TimerKick { timer, clock });
+            }
+        }
+    }
+
     fn heed_dispatch(&mut self, arguments: Args, world: &World) {
         let Arg::Num(cpu) = arguments.first else {
             return;
@@ -121,8 +163,22 @@ impl Calls {
             return;
         };
         match world.insert() {
-            Some(insert) => self.set_rank(task.0, Some(rank_for(world, insert.rank))),
+            Some(insert) => {
+                self.set_rank(task.0, Some(rank_for(world, insert.rank)));
+                self.keep_slice(task.0, insert.slice, world.clock());
+            }
             None => self.set_rank(task.0, None),
+        }
+    }
+
+    /// Keeps the slice that a task is given, if it is the shortest below 1 ms. A slice of 0 is the one that the task has.
+    fn keep_slice(&mut self, task: u16, slice: u64, clock: u64) {
+        let most = match self.shortest {
+            Some(shortest) => shortest.slice,
+            None => MILLISECOND,
+        };
+        if 0 < slice && slice < most {
+            self.shortest = Some(GivenSlice { task, slice, clock });
         }
     }
 

@@ -1,4 +1,4 @@
-use crate::CpuCalls;
+use crate::{CpuCalls, TimerKick};
 use arrayvec::ArrayVec;
 use std::alloc::{AllocError, Global};
 
@@ -31,6 +31,8 @@ pub struct WaitingTask {
 pub struct Beginning {
     pub waiting: Option<WaitingTask>,
     pub calls: CpuCalls,
+    /// True if a callback had claimed the CPU, and it hadn't looked for a task since.
+    pub is_claimed: bool,
 }
 
 /// A stretch, its beginning, and the calls of dispatch for the CPU up to its end.
@@ -45,6 +47,14 @@ impl SeenStretch {
     /// The calls of dispatch for the CPU that took no task meanwhile.
     pub fn vain(self) -> u64 {
         self.calls.vain.saturating_sub(self.beginning.calls.vain)
+    }
+
+    /// The last kick of the CPU by a timer since its beginning.
+    pub fn kick(self) -> Option<TimerKick> {
+        match self.calls.kick {
+            Some(kick) if self.stretch.since < kick.clock => Some(kick),
+            Some(_) | None => None,
+        }
     }
 }
 

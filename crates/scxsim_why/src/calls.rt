@@ -1,8 +1,10 @@
+use crate::words::write_count;
 use scx_isa::{CALLBACKS, Callback, PerCallback, Program};
 use scxsim_output::Text;
-use scxsim_waits::Calls;
+use scxsim_views::write_cpus;
+use scxsim_waits::{Calls, TimerFigures};
 
-/// Writes the number of calls of each callback of the policy, except init and enable.
+/// Writes the number of calls of each callback of the policy, except init and enable, and the CPUs that timers kicked.
 pub fn write_calls(programs: &PerCallback<Option<Program>>, calls: &Calls, page: &mut Text) {
     page.push("\n    calls  of the callback\n");
     for callback in CALLBACKS {
@@ -13,5 +15,30 @@ pub fn write_calls(programs: &PerCallback<Option<Program>>, calls: &Calls, page:
             page.push(callback.name());
             page.push("\n");
         }
+    }
+    for (timer, figures) in calls.timers.figures.as_slice().iter().enumerate() {
+        if 0 < figures.runs {
+            write_timer(timer as u64, *figures, page);
+        }
+    }
+}
+
+/// Writes the number of runs of a timer, and the CPUs that it kicked.
+fn write_timer(timer: u64, figures: TimerFigures, page: &mut Text) {
+    page.number("           timer ", timer);
+    write_count(" ran ", figures.runs, "time", page);
+    if 0 < figures.kicks {
+        page.push(" and kicked ");
+        write_cpus(figures.kicked, page);
+        write_kicks(figures, page);
+    }
+    page.push("\n");
+}
+
+/// Writes the number of kicks, unless it is that of the CPUs.
+fn write_kicks(figures: TimerFigures, page: &mut Text) {
+    if figures.kicks != u64::from(figures.kicked.count_ones()) {
+        page.number(", ", figures.kicks);
+        page.push(" times in all");
     }
 }

@@ -16,16 +16,27 @@ pub fn write_idle(
     page: &mut Text,
 ) {
     let Some(longest) = stretches.longest.as_slice().first() else {
-        page.push("no processor was idle while a task waited\n");
+        page.push("no processor was idle while a task waited");
+        write_if_bound(workload, page);
+        page.push("\n");
         return;
     };
-    page.number("idle while tasks waited: ", lost);
+    page.push("idle while tasks waited");
+    write_if_bound(workload, page);
+    page.number(": ", lost);
     page.push(" ms in all; ");
     match unwoken_for(*longest, rules) {
         Some((waiting, queue)) => write_sleep(workload, longest, waiting, queue, page),
         None => write_stretch(workload, longest, page),
     }
     page.push("\n");
+}
+
+/// Writes that the tasks of idle CPUs may run there, where tasks are bound.
+fn write_if_bound(workload: &Workload, page: &mut Text) {
+    if workload.is_bound() {
+        page.push(" that may run there");
+    }
 }
 
 /// The task that waited as a stretch began, and its queue, where the CPU slept and nothing woke it for that queue.
@@ -72,6 +83,23 @@ fn write_sleep(
     } else {
         ": an insert into a policy's queue wakes no CPU; kick one"
     });
+    write_claim(seen, page);
+    write_kick(seen, page);
+}
+
+/// Writes that a CPU was claimed for a task that didn't come, if it was.
+fn write_claim(seen: &SeenStretch, page: &mut Text) {
+    if seen.beginning.is_claimed {
+        page.push("; a callback had claimed this one, and sent no task there");
+    }
+}
+
+/// Writes the timer that kicked the CPU, if one did.
+fn write_kick(seen: &SeenStretch, page: &mut Text) {
+    if let Some(kick) = seen.kick() {
+        page.number("; timer ", kick.timer);
+        page.number(" kicked it at ", kick.clock);
+    }
 }
 
 fn write_stretch(workload: &Workload, seen: &SeenStretch, page: &mut Text) {
@@ -103,7 +131,9 @@ pub fn write_stretches(
     if longest.is_empty() {
         return;
     }
-    write_count("\nidle while tasks waited, ", count, "time", page);
+    page.push("\nidle while tasks waited");
+    write_if_bound(workload, page);
+    write_count(", ", count, "time", page);
     page.push("; the longest are\n");
     for seen in longest {
         page.push("  ");

@@ -5,6 +5,7 @@
 //! these are watched the second time. So memory doesn't grow with the length of a run.
 #![tactic(auto)]
 
+mod bound_waits;
 mod calls;
 mod ending;
 mod finding;

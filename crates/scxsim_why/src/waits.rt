@@ -1,3 +1,4 @@
+use crate::bound_waits::{write_bound, write_elsewhere, write_unless_allowed};
 use crate::runners::{ms_at, runners, write_ran};
 use crate::spells::write_spell;
 use crate::words::tasks_of;
@@ -34,6 +35,7 @@ pub fn write_worst(
         Ok(each) => write_runners(alloc, workload, each.as_slice(), "processors were ", page),
         Err(_) => page.cut(),
     }
+    write_elsewhere(workload, wait, page);
     page.push("\n");
 }
 
@@ -84,6 +86,7 @@ pub fn write_waits(alloc: Global, workload: &Workload, waits: &Waits, page: &mut
         page.push("\n");
         write_wait(workload, wait, page);
         page.push("\n");
+        write_bound(workload, wait.wait.task, page);
         for station in wait.stations.as_slice() {
             write_station(*station, waits.rules, page);
         }
@@ -91,6 +94,7 @@ pub fn write_waits(alloc: Global, workload: &Workload, waits: &Waits, page: &mut
             page.number("  processor ", u64::from(cpu));
             page.push(":");
             write_runners(alloc, workload, wait.ran_on(cpu), "", page);
+            write_unless_allowed(workload, wait.wait.task, cpu, page);
             page.push("\n");
         }
         for spell in wait.spells.as_slice() {
