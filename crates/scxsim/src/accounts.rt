@@ -3,12 +3,12 @@ use crate::ending::{Ending, end, end_unread};
 use crate::files::{RunFiles, files_of, hint_of_files};
 use crate::remarks::{hint_of_subject, named, remark_of_run};
 use scx_sched::Eject;
-use scxsim_charts::{Span, gantt, title};
+use scxsim_charts::{Sheet, Span, WIDTH, gantt, title};
 use scxsim_commands::{Fault, Hint, Out, Refusal, hint_of_refusal, text};
 use scxsim_page::{Paths, view};
 use scxsim_pictures::{picture, timeline};
 use scxsim_remarks::Progress;
-use scxsim_simulation::{Listener, replay, report, simulate};
+use scxsim_simulation::{Listener, maps_at_end, replay, report, simulate};
 use scxsim_steps::step;
 use scxsim_story::story;
 use scxsim_tables::{check_run, replay_csv, stats, stats_csv};
@@ -38,7 +38,16 @@ pub(crate) fn tell<R: AllocGlobal + Console, W: Out>(
         Err(unread) => return end_unread(rt.alloc(), unread, out),
     };
     let mut progress = Progress::new(rt, is_progress_seen(rt, account));
-    let outcome = write_account(rt.alloc(), account, &files, words, &mut progress, out);
+    let columns = rt.columns().unwrap_or(WIDTH);
+    let outcome = write_account(
+        rt.alloc(),
+        account,
+        &files,
+        words,
+        columns,
+        &mut progress,
+        out,
+    );
     let ejected = if is_ejection_told(account) {
         progress.ejected()
     } else {
@@ -93,18 +102,23 @@ fn is_written_meanwhile(account: Account) -> bool {
     )
 }
 
-/// True if standard error says where the fault came for which the policy was ejected: if the output only names
-/// the fault.
+/// True if standard error says where the fault came for which the policy was ejected: if the output names the fault
+/// at most.
 fn is_ejection_told(account: Account) -> bool {
-    matches!(account, Account::Trace | Account::Report | Account::Check)
+    matches!(
+        account,
+        Account::Trace | Account::Report | Account::Check | Account::Maps
+    )
 }
 
-/// Writes an account of the run of these files, of which the second is a workload or a file of events.
+/// Writes an account of the run of these files, of which the second is a workload or a file of events. A chart has these
+/// columns.
 fn write_account<L: Listener, W: Out>(
     alloc: Global,
     account: Account,
     files: &RunFiles,
     words: RunWords<'_>,
+    columns: u64,
     listener: &mut L,
     out: &mut W,
 ) -> Result<bool, Fault> {
@@ -126,13 +140,18 @@ fn write_account<L: Listener, W: Out>(
         Account::Why => why(alloc, policy, second, listener, out),
         Account::Story => story(alloc, policy, second, subject, listener, out),
         Account::Step => step(alloc, policy, second, subject, listener, out),
+        Account::Maps => maps_at_end(alloc, policy, second, listener, out),
         Account::Picture => {
             let title = title_of(alloc, words)?;
             picture(alloc, title.as_str(), policy, second, span, listener, out)
         }
         Account::Gantt => {
             let title = title_of(alloc, words)?;
-            gantt(alloc, title.as_str(), policy, second, span, listener, out)
+            let sheet = Sheet {
+                title: title.as_str(),
+                columns,
+            };
+            gantt(alloc, sheet, policy, second, span, listener, out)
         }
         Account::Replay => replay(alloc, policy, second, listener, out),
         Account::ReplayCsv => replay_csv(alloc, policy, second, listener, out),

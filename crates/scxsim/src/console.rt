@@ -1,8 +1,8 @@
 use scxsim_commands::{FILE_LIMIT, read_file};
 use scxsim_remarks::STANDARD_INPUT;
-use std::io;
 use std::io::{IsTerminal, Read};
 use std::rt::Clock;
+use std::{env, io};
 
 /// The program's surroundings, apart from its words and its output.
 pub trait Console: Clock + Eprint {
@@ -19,6 +19,9 @@ pub trait Console: Clock + Eprint {
 
     /// True if standard output is one.
     fn shows_output(&self) -> bool;
+
+    /// The columns of the terminal, if the environment says them by `COLUMNS`.
+    fn columns(&self) -> Option<u64>;
 }
 
 impl Console for HostRuntime {
@@ -36,6 +39,12 @@ impl Console for HostRuntime {
 
     fn shows_output(&self) -> bool {
         self.stdout().is_terminal()
+    }
+
+    fn columns(&self) -> Option<u64> {
+        let columns = env::var(self, "COLUMNS").ok()?;
+        let columns = columns.as_str().parse::<u32>().ok()?;
+        Some(u64::from(columns))
     }
 }
 

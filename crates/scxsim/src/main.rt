@@ -38,7 +38,7 @@ pub use scxsim_explore::explore;
 use scxsim_output::Blocks;
 pub use scxsim_page::view;
 pub use scxsim_pictures::{picture, timeline};
-pub use scxsim_simulation::{Listener, replay, report, simulate};
+pub use scxsim_simulation::{Listener, maps_at_end, replay, report, simulate};
 pub use scxsim_steps::step;
 pub use scxsim_story::story;
 pub use scxsim_tables::{check_run, replay_csv, stats, stats_csv};

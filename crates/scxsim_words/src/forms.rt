@@ -179,7 +179,7 @@ pub(crate) fn forms() -> &'static [Form] {
     &FORMS
 }
 
-const FORMS: [Form; 26] = [
+const FORMS: [Form; 27] = [
     Form {
         name: "verify",
         kind: Kind::Policy(PolicyCommand::Verify),
@@ -245,6 +245,12 @@ const FORMS: [Form; 26] = [
         kind: Kind::Moment(Account::Step),
         about: "Run a workload, and show one millisecond, instruction by instruction",
         example: "Example: scxsim step examples/policies/short_slices.toml examples/workloads/two_tasks.toml 1\nprints:  the running and waiting tasks before that millisecond; each callback that is called\n         in it, with its instructions and their results; the lines of run; and the running\n         and waiting tasks after it\ndocs/WHY.md explains these lines.",
+    },
+    Form {
+        name: "maps",
+        kind: Kind::Run(Account::Maps),
+        about: "Run a workload, and print what the policy's maps hold at the end",
+        example: "Example: scxsim maps examples/policies/simple_vtime.toml examples/workloads/limited.toml\nprints:  map 0 key 0 value 160000 bytes 00 71 02 00 00 00 00 00\nand a line for each other element that isn't zero, or that a hash, a queue or a stack has.\ndocs/FILES.md explains these lines.",
     },
     Form {
         name: "timeline",

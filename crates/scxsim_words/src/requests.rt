@@ -27,6 +27,8 @@ pub enum Account {
     Why,
     Story,
     Step,
+    /// The contents of the policy's maps at the end.
+    Maps,
     Timeline,
     Picture,
     View,

@@ -13,7 +13,7 @@ pub(crate) struct StagedFile<'a> {
     pub(crate) bytes: Vec<u8>,
 }
 
-/// The surroundings of a command: files in memory, of which the last of a name counts, no terminal,
+/// The surroundings of a command: files in memory, of which the last of a name counts, no terminal and no environment,
 /// and a clock that stays at one time.
 #[derive(Drop)]
 pub(crate) struct Stage<'a> {
@@ -65,5 +65,9 @@ impl Console for Stage<'_> {
 
     fn shows_output(&self) -> bool {
         false
+    }
+
+    fn columns(&self) -> Option<u64> {
+        None
     }
 }
