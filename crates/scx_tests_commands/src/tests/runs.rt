@@ -1,7 +1,7 @@
 //! The commands that run a workload.
 
 use super::texts::SHORT_SLICES;
-use scxsim_charts::gantt;
+use scxsim_charts::{Sheet, WIDTH, gantt};
 use scxsim_commands::Fault;
 use scxsim_output::Out;
 use scxsim_page::{Paths, view};
@@ -50,6 +50,11 @@ const PATHS: Paths<'static> = Paths {
     workload: "b",
 };
 
+const SHEET: Sheet<'static> = Sheet {
+    title: "a on b",
+    columns: WIDTH,
+};
+
 /// Runs the command on the workload, under a policy of short slices.
 pub(crate) fn execute<L: Listener, W: Out>(
     command: RunCommand,
@@ -68,7 +73,7 @@ pub(crate) fn execute<L: Listener, W: Out>(
         RunCommand::Why => why(alloc, policy, workload, listener, out),
         RunCommand::Story => story(alloc, policy, workload, "a", listener, out),
         RunCommand::Step => step(alloc, policy, workload, "4", listener, out),
-        RunCommand::Gantt => gantt(alloc, "a on b", policy, workload, None, listener, out),
+        RunCommand::Gantt => gantt(alloc, SHEET, policy, workload, None, listener, out),
         RunCommand::Timeline => timeline(alloc, policy, workload, listener, out),
         RunCommand::View => view(alloc, PATHS, policy, workload, None, listener, out),
         RunCommand::Picture => picture(alloc, "a on b", policy, workload, None, listener, out),
