@@ -24,7 +24,9 @@ class Types:
         name, info, size = self.take("III")
         kind, count = info >> 24 & 31, info & 0xffff
         parts = []
-        if kind in (INTEGER, VARIABLE, 17):
+        if kind == INTEGER:
+            parts = [self.take("I")]
+        elif kind in (VARIABLE, 17):
             self.take("I")
         elif kind == ARRAY:
             parts = [self.take("III")]
@@ -72,6 +74,25 @@ class Types:
         if kind == ARRAY:
             return self.size(parts[0][0]) * parts[0][2]
         return size if kind in (INTEGER, STRUCT, UNION, ENUM, LARGE_ENUM) else 0
+
+    def is_signed(self, number):
+        kind, _, _, parts = self.plain(number)
+        return kind == INTEGER and bool(parts[0][0] >> 24 & 1)
+
+    def numbers(self, of, name="", start=0):
+        """Each number in a value of a type: its name, its offset, its size, whether it is signed, and how many there are."""
+        kind, _, _, parts = self.plain(of)
+        if kind in (STRUCT, UNION):
+            for member, inner, offset in parts:
+                dot = "." * bool(name and member)
+                yield from self.numbers(inner, f"{name}{dot}{member}", start + offset)
+        elif kind == ARRAY and self.plain(parts[0][0])[0] in (ARRAY, STRUCT, UNION):
+            for at in range(parts[0][2]):
+                yield from self.numbers(parts[0][0], f"{name}[{at}]", start + at * self.size(parts[0][0]))
+        elif kind == ARRAY:
+            yield name, start, self.size(parts[0][0]), self.is_signed(parts[0][0]), parts[0][2]
+        else:
+            yield name, start, self.size(of), self.is_signed(of), 1
 
     def fields(self, number, before="", start=0):
         """Each member that holds no others, as its offset, its size and its name with those around it."""

@@ -40,9 +40,11 @@ class Globals:
         self.contents[symbol.section.name][symbol.value:symbol.value + symbol.size] = value
         return None
 
-    def names(self):
-        inside = [one for one in self.variables() if one.section.name in self.starts]
-        return ", ".join(f"{one.name} at {self.starts[one.section.name] + one.value}" for one in inside)
+    def numbers(self, types):
+        """Each number in the variables, as `Types.numbers` gives them."""
+        for one in self.variables():
+            if one.section.name in self.starts and (of := types.of_variable(one.name)):
+                yield from types.numbers(of, one.name, self.starts[one.section.name] + one.value)
 
     def stores(self):
         """What writes the values that aren't 0, in eight bytes each; r0 is the element."""

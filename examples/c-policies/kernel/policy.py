@@ -2,6 +2,7 @@
 import bisect
 import os
 import re
+from itertools import islice
 
 from . import names, slots
 from .btf import Types, read_lines
@@ -11,6 +12,7 @@ from .globals import GREATEST, Globals, holds_variables
 from .maps import KINDS, Map, is_one_copy, refusal, ring, unknown
 from .timer_callback import OfTimers
 from .timers import FIRST_FUNCTION, TimerMap, timer_offset
+from held import MOST, comment_of
 from listing import tables, with_text
 
 PARTS = {"enable": ["init_task", "enable"]}
@@ -34,6 +36,7 @@ class Policy:
         self.refusals, self.warnings, self.warned = [], [], set()
         self.elf = Elf(data)
         self.messages, self.maps, self.callbacks, self.instructions = [], [], {}, {}
+        self.value_types, self.stored = {}, set()	# of maps by name: the types of values, and those of task storage
         self.name, self.timeout, self.has_enq_last = "", 0, False
         self.left_out = {}
         self.keeps_idle, self.timers, self.timer_functions = False, [], []
@@ -333,7 +336,9 @@ class Policy:
         entries, size = numbers.get("max_entries", 0), numbers.get("value_size") or self.types.size(pointed.get("value", 0))
         key = numbers.get("key_size") or self.types.size(pointed.get("key", 0))
         is_shared = is_one_copy(kind, entries, size, self.rules)
+        self.value_types[name] = None if kind in ("QUEUE", "STACK") and self.rules == "plain" else pointed.get("value")
         if kind == "TASK_STORAGE":
+            self.stored.add(name)
             made = Map(name, self.tasks + 1, size, key=key)	# pids are counted from 1
         elif kind == "ARRAY" or is_shared:
             made = Map(name, entries, size, key=key)
@@ -351,6 +356,14 @@ class Policy:
         return made
 
     # The policy file.
+
+    def names_of_maps(self):
+        """A comment for each map: the names of the numbers in its values."""
+        if self.globals.size:
+            yield comment_of(0, "variables", self.globals.numbers(self.types))
+        for number, one in enumerate(self.maps, self.globals.size > 0):
+            of = self.value_types.get(one.name)
+            yield comment_of(number, one.name, islice(self.types.numbers(of), MOST) if of else [], one.name in self.stored)
 
     def has_values(self):
         return any(True for _ in self.globals.stores())
@@ -376,8 +389,7 @@ class Policy:
         for number, (message, place) in enumerate(self.messages):
             what = f"Message {1 + number}:" if self.rules == "linux" else f"The queue {NEVER_THERE + number} is never there:"
             lines.append(f"# {what} {place} says {quoted(message)}")
-        if self.globals.size:
-            lines.append(f"# Map 0 has the variables: {self.globals.names()}")
+        lines += self.names_of_maps()
         if self.name:
             lines.append(f'name = "{self.name}"')
         if self.timeout:
