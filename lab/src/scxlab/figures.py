@@ -16,10 +16,15 @@ COLUMNS = ["kind", "name", "figure", "value"]
 OF_STATS = {
     "task": ["run_ms", "waits", "mean_wait_ms", "wait_99_percent_ms", "longest_wait_ms", "longest_wait_since_ms",
              "wakes", "stopped", "parked_ms", "bursts", "mean_burst_ms", "burst_50_percent_ms", "burst_90_percent_ms",
-             "burst_99_percent_ms", "longest_burst_ms", "slowdown"],
+             "burst_99_percent_ms", "longest_burst_ms", "slowdown", "wait_50_percent_ms", "wait_90_percent_ms",
+             "wakes_to_run", "wake_to_run_50_percent_ms", "wake_to_run_90_percent_ms", "wake_to_run_99_percent_ms",
+             "longest_wake_to_run_ms"],
     "cpu": ["busy_ms", "idle_ms", "changes", "idle_while_waiting_ms"],
     "group": ["share_percent", "due_percent", "quota_ms", "period_ms", "most_in_a_period_ms", "periods",
-              "throttled_periods", "throttled_ms"],
+              "throttled_periods", "throttled_ms", "group_waits", "group_wait_50_percent_ms",
+              "group_wait_90_percent_ms", "group_wait_99_percent_ms", "group_longest_wait_ms", "group_wakes_to_run",
+              "group_wake_to_run_50_percent_ms", "group_wake_to_run_90_percent_ms", "group_wake_to_run_99_percent_ms",
+              "group_longest_wake_to_run_ms"],
     "policy": ["ejected_at_ms", "idle_while_waiting_ms"],
 }
 KNOWN = list(dict.fromkeys(figure for figures in OF_STATS.values() for figure in figures))
