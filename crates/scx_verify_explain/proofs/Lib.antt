@@ -3,3 +3,4 @@ mod Ends
 mod Coming
 mod Leading
 mod Sums
+mod Tracks

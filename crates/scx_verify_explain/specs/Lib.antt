@@ -4,4 +4,5 @@ pub mod Places
 pub mod Reasons
 pub mod Said
 pub mod Leading
+pub mod Lost
 pub mod Laws

@@ -10,6 +10,7 @@
 mod jumps;
 mod laws;
 mod listing;
+mod lost;
 mod named;
 mod origins;
 mod places;
@@ -19,6 +20,7 @@ mod trails;
 pub use jumps::Jumps;
 pub use laws::listings_end_with_verify;
 pub use listing::{Arrival, Listing, Way, byte_kind, cell_of, is_pointer, target_of};
+pub use lost::{Found, LostRange, Point};
 pub use origins::{Brought, Origin, Subject};
 pub use places::{Memory, Place, Reach};
 pub use reasons::{

@@ -1,6 +1,8 @@
 use crate::listing::{Arrival, Listing, byte_kind, cell_of, is_pointer, plain};
+use crate::lost::{Role, greatest, role_of};
 use crate::named::written_register;
 use scx_abs::{AbsState, Area, Kind, area_of};
+use scx_abs_ranges::Numbers;
 use scx_isa::{Access, Insn, Operand, Operation, Register, Size, Width};
 
 /// A value of which something is known.
@@ -10,6 +12,8 @@ pub enum Subject {
     Register(Register),
     /// The value of a byte of the stack, counted from the lowest.
     Byte(u16),
+    /// The greatest number in a register, or the greatest offset.
+    Greatest(Register),
 }
 
 /// The value that a way brought to a slot.
@@ -74,10 +78,14 @@ pub(crate) enum Source {
 
 /// The kind of the subject's value.
 pub(crate) fn known_of(state: &AbsState, subject: Subject) -> Kind {
-    plain(match subject {
-        Subject::Register(register) => state.kind(register),
-        Subject::Byte(byte) => byte_kind(state, byte),
-    })
+    match subject {
+        Subject::Register(register) => plain(state.kind(register)),
+        Subject::Byte(byte) => plain(byte_kind(state, byte)),
+        Subject::Greatest(register) => match greatest(&state.kind(register)) {
+            Some(number) => Kind::Num(Numbers::single(number)),
+            None => Kind::Unusable,
+        },
+    }
 }
 
 /// Where the subject, of which something is known as it arrives, was before the instruction that it
@@ -92,6 +100,13 @@ pub(crate) fn source_of(listing: &Listing, arrival: &Arrival, subject: Subject) 
             source_of_register(listing, before, insn, arrival, register)
         }
         Subject::Byte(byte) => source_of_byte(listing, before, insn, arrival, byte),
+        Subject::Greatest(register) => match role_of(insn, register) {
+            Role::Copied(source) | Role::Moved(source) => {
+                Source::Copied(Subject::Greatest(source))
+            }
+            Role::Written => Source::Begins(Origin::Written(arrival.from)),
+            Role::Compared | Role::Computed | Role::Untouched => Source::Same,
+        },
     }
 }
 

@@ -12,8 +12,10 @@ ghost use Rattle.scx_verify_explain.specs.Named.{Reads, Takes, HasArgument, Load
 ghost use Rattle.scx_verify_explain.specs.Said.{IsOf, is_map_taken, is_taken, IsUnwritten, IsFlowSaid, IsValueSaid};
 ghost use Rattle.scx_verify_explain.specs.Said.{IsAccessSaid, IsFieldSaid, IsCallSaid, IsRuleSaid};
 ghost use Rattle.scx_verify_explain.specs.Said.{IsSaid};
+ghost use Rattle.scx_verify_explain.specs.Lost.{IsLostAt};
 
 use crate::listing::{Listing, byte_kind, is_pointer};
+use crate::lost::{LostRange, lost_range};
 use crate::named::{
     Address, ValueBytes, address_in, address_of, argument_of, called_in, distance_of, first_read,
     second_read, stored_register, value_in, written_register,
@@ -132,6 +134,8 @@ pub enum BadCall {
 pub struct Explanation {
     pub slot: usize,
     pub reason: Reason,
+    /// The number by which a pointer came out of its memory, if one did.
+    pub lost: Option<LostRange>,
     /// Where the flow is refused the pass doesn't begin.
     pub trail: Option<Trail>,
 }
@@ -159,23 +163,55 @@ pub fn explanation_of(
         (λ found. IfSome found (λ e. (e.slot ≡ slot) × (fault_of e.reason ≡ fault))) }
     ensures said { IfOk result
         (λ found. IfSome found (λ e. IsSaid listing.now e.slot e.reason)) }
+    ensures lost { IfOk result
+        (λ found. IfSome found (λ e. IfSome e.lost (IsLostAt listing.now e.slot))) }
 {
     let Some(reason) = reason_of(listing, fault, slot) else {
         return Ok(None);
     };
+    let lost = lost_by(listing, slot, reason);
     let trail = match listing.state(slot) {
-        Some(_) => Some(trail_of(alloc, listing, slot, subject_of(reason))?),
+        Some(_) => Some(trail_of(
+            alloc,
+            listing,
+            slot,
+            subject_of(listing, reason, lost, slot),
+        )?),
         None => None,
     };
     Ok(Some(Explanation {
         slot,
         reason,
+        lost,
         trail,
     }))
 }
 
+/// The number by which a pointer came out of its memory, if the reason is that one did.
+fn lost_by(listing: &Listing, slot: usize, reason: Reason) -> Option<LostRange>
+    ensures { IfSome result (IsLostAt listing.now slot) }
+{
+    match reason {
+        Reason::Access(access) => lost_range(listing, slot, access),
+        _ => None,
+    }
+}
+
 /// The value that is at fault, if it is one.
-fn subject_of(reason: Reason) -> Option<Subject> {
+fn subject_of(
+    listing: &Listing,
+    reason: Reason,
+    lost: Option<LostRange>,
+    slot: usize,
+) -> Option<Subject> {
+    match lost {
+        Some(lost) if lost.pointer.slot == slot => Some(Subject::Greatest(lost.number)),
+        Some(_) => Some(Subject::Greatest(address_of(listing.insn(slot)?)?.base)),
+        None => subject_of_reason(reason),
+    }
+}
+
+fn subject_of_reason(reason: Reason) -> Option<Subject> {
     match reason {
         Reason::Value(value) => Some(Subject::Register(register_of(value)?)),
         Reason::Access(BadAccess::Unwritten { byte, .. }) => Some(Subject::Byte(byte)),
