@@ -1,3 +1,5 @@
 mod Listing
 mod Taking
 mod Telling
+mod Objects
+mod Tokens

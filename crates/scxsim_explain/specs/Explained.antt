@@ -4,6 +4,7 @@ use Rattle.scx_verify_explain.specs.declared.reasons.Explanation.{Explanation}
 use Rattle.scx_verify_explain.specs.Reasons.{fault_of}
 use Rattle.scx_verify_explain.specs.Said.{IsSaid}
 use Rattle.scx_verify_explain.specs.Leading.{AreJumps}
+use Rattle.scx_verify_explain.specs.Lost.{IsLostAt}
 use Rattle.scxsim_commands.specs.declared.verdict.Verdict.{Verdict}
 use Rattle.scxsim_commands.specs.declared.verdict.Verdict.TheVariants.{Accepted, Refused}
 use Rattle.scxsim_commands.specs.VerdictLines.{verdict_line}
@@ -25,6 +26,11 @@ IsExplained explained = IsExplanation explained.verdict explained.explanation
 -- what its explanation says is so, if it has one
 abbrev pub IsSo : Explained → Type 0
 IsSo explained = IfSome explained.explanation (λ e. IsSaid explained.listing e.slot e.reason)
+
+-- where its number comes from by which a pointer came out of its memory is so, if it has one
+abbrev pub IsTraced : Explained → Type 0
+IsTraced explained =
+    IfSome explained.explanation (λ e. IfSome e.lost (IsLostAt explained.listing e.slot))
 
 -- the jumps that are named in its listing are all of them
 abbrev pub HasJumps : Explained → Type 0

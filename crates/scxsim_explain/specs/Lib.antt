@@ -1,3 +1,4 @@
 pub mod Listed
 pub mod Explained
 pub mod One
+pub mod VerdictObjects

@@ -12,7 +12,7 @@ use Rattle.scxsim_commands.specs.VerdictLines.{verdict_line}
 use Rattle.scxsim_commands.specs.declared.verdict.Verdict.{Verdict}
 use Rattle.scxsim_commands.specs.Verdicts.{IsVerdictOf, is_accepted}
 use Rattle.scxsim_explain.specs.declared.explained.Explained.{Explained}
-use Rattle.scxsim_explain.specs.Explained.{IsExplained, IsSo, HasJumps, first_line}
+use Rattle.scxsim_explain.specs.Explained.{IsExplained, IsSo, IsTraced, HasJumps, first_line}
 
 -- the callback of that name, if a policy may have one
 abbrev pub callback_named : List ℕ → Option Callback
@@ -25,6 +25,7 @@ pub record IsExplainedAs (policy : PolicyFile) (b : Callback) (explained : Expla
   pub line : first_line explained ≡ verdict_line b explained.verdict
   pub explanation : IsExplained explained
   pub so : IsSo explained
+  pub traced : IsTraced explained
   pub jumps : HasJumps explained
 
 -- the callback's program, explained, or there is none

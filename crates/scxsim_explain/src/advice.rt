@@ -1,16 +1,17 @@
+use crate::lost_numbers::advice_on_lost;
 use scx_abs::Kind;
 use scx_asm_text::field_name;
 use scx_isa::{CALLBACKS, Field, Helper, Parameter, Rules, Size};
-use scx_verify_explain::{BadAccess, BadCall, BadField, BadFlow, BadValue, Origin, Reason};
+use scx_verify_explain::{
+    BadAccess, BadCall, BadField, BadFlow, BadValue, LostRange, Origin, Reason,
+};
 use scxsim_output::Text;
-
-/// Advice on a pointer into a map value that a number moves.
-const COMPARE_OR_MASK: &str = "compare the number first, or mask it";
 
 /// A change that would help.
 #[derive(Clone, Copy)]
 pub(crate) struct Advice {
     pub(crate) reason: Reason,
+    pub(crate) lost: Option<LostRange>,
     pub(crate) origin: Option<Origin>,
     pub(crate) is_copied: bool,
     pub(crate) rules: Rules,
@@ -46,21 +47,29 @@ impl Advice {
         }
     }
 
-    fn on_access(self, access: BadAccess) -> &'static str {
+    fn on_access(&self, access: BadAccess) -> &'static str {
         match access {
             BadAccess::Unwritten { .. } => advice_on_unwritten(self.origin),
             BadAccess::PartOfPointer { .. } => {
                 "load a stored pointer by u64, from where it was stored"
             }
             BadAccess::NoPointer(_, kind) => advice_on_address(kind, self.origin),
-            BadAccess::Outside(reach) if !reach.place.is_single() => COMPARE_OR_MASK,
+            BadAccess::Outside(reach) if !reach.place.is_single() => self.on_number(),
             BadAccess::Outside(_) => "keep within it",
-            BadAccess::MovedOut { place, .. } if !place.is_single() => COMPARE_OR_MASK,
+            BadAccess::MovedOut { place, .. } if !place.is_single() => self.on_number(),
             BadAccess::MovedOut { .. } => "keep a pointer in its memory or at its end",
             BadAccess::Misaligned(reach) if !reach.place.is_single() => {
                 "make the number a multiple by a mask or a shift, or use smaller accesses"
             }
             BadAccess::Misaligned(_) => "move it to a multiple, or use smaller accesses",
+        }
+    }
+
+    /// Advice on a number that moves a pointer into a map value.
+    fn on_number(&self) -> &'static str {
+        match self.lost.as_ref() {
+            Some(lost) => advice_on_lost(lost),
+            None => "compare the number first, or mask it",
         }
     }
 }

@@ -5,7 +5,7 @@ ghost use Rattle.scx_load_policies.specs.Building.{context_of};
 ghost use Rattle.scx_vm.specs.Programs.{context, by_rules};
 ghost use Rattle.scx_verify_explain.specs.Listings.{IsListing};
 ghost use Rattle.scxsim_commands.specs.Verdicts.{IsVerdict, IsVerdictOf, HasVerdicts};
-ghost use Rattle.scxsim_explain.specs.Explained.{IsExplained, IsSo, HasJumps, ArePrograms};
+ghost use Rattle.scxsim_explain.specs.Explained.{IsExplained, IsSo, IsTraced, HasJumps, ArePrograms};
 ghost use Rattle.scxsim_explain.specs.Explained.{first_line};
 ghost use Rattle.scxsim_explain.specs.Listed.{line_on, first_lines};
 ghost use Rattle.scxsim_explain.specs.One.{IsTaken};
@@ -159,6 +159,7 @@ fn explain_program(
         IsListing (by_rules rules (context callback defs.now)) program explained.listing) }
     ensures explanation { IfOk result IsExplained }
     ensures so { IfOk result IsSo }
+    ensures traced { IfOk result IsTraced }
     ensures jumps { IfOk result HasJumps }
     ensures memory { IfErr result (λ refusal. refusal ≡ NoMemory) }
 {
@@ -175,6 +176,7 @@ fn explain_verdict(alloc: Global, listing: Listing, verdict: Verdict) -> Result<
     ensures listing { IfOk result (λ explained. explained.listing ≡ listing) }
     ensures explanation { IfOk result IsExplained }
     ensures so { IfOk result IsSo }
+    ensures traced { IfOk result IsTraced }
     ensures jumps { IfOk result HasJumps }
     ensures memory { IfErr result (λ refusal. refusal ≡ NoMemory) }
 {

@@ -47,7 +47,7 @@ pub fn explain<W: Out>(alloc: Global, bytes: &[u8], out: &mut W) -> Result<bool,
 
 /// Explains the programs of a policy file. All memory is taken here, so that none runs out once a line
 /// is written.
-fn explained_in(alloc: Global, text: &str) -> Result<ExplainedPolicy, Refusal>
+pub(crate) fn explained_in(alloc: Global, text: &str) -> Result<ExplainedPolicy, Refusal>
     requires { IsText text.now }
     ensures verdicts { IfOk result (λ policy. AreVerdicts text.now policy.verdicts) }
     ensures programs { IfOk result ArePrograms }

@@ -1,4 +1,5 @@
 use crate::advice::Advice;
+use crate::lost_numbers::push_lost;
 use crate::words::{Members, from_top, push_register, push_spoken, step_of, wanted};
 use scx_abs::Kind;
 use scx_asm_text::field_name;
@@ -28,18 +29,25 @@ pub(crate) fn push_why(line: &mut Text, rules: Rules, explanation: &Explanation)
     };
     let advice = Advice {
         reason: explanation.reason,
+        lost: explanation.lost,
         origin,
         is_copied,
         rules,
     };
-    push_sentence(line, &advice);
+    push_sentence(line, &advice, explanation.slot);
 }
 
-/// Appends what is wrong, where the value at fault comes from, and what to change.
-fn push_sentence(line: &mut Text, advice: &Advice) {
+/// Appends what is wrong at the slot, where the value at fault comes from, and what to change.
+fn push_sentence(line: &mut Text, advice: &Advice, slot: usize) {
     line.push(MARGIN);
     push_reason(line, advice.reason);
-    push_known_origin(line, advice.origin);
+    match advice.lost.as_ref() {
+        Some(lost) => {
+            line.push(": ");
+            push_lost(line, lost, slot);
+        }
+        None => push_known_origin(line, advice.origin),
+    }
     line.push("; ");
     advice.push(line);
     line.push("\n");

@@ -41,7 +41,7 @@ pub(crate) fn push_brief(line: &mut Text, kind: &Kind) {
 }
 
 impl Members {
-    fn of(range: Range) -> Members {
+    pub(crate) fn of(range: Range) -> Members {
         Members {
             low: i128::from(range.low),
             high: i128::from(range.high),
