@@ -4,3 +4,4 @@ mod TriedPaths
 mod Numbered
 mod Passing
 mod Settled
+mod Matched

@@ -1,5 +1,6 @@
 pub mod Claims
 pub mod Closed
 pub mod Laws
+pub mod Rows
 pub mod Marks
 pub mod Steps

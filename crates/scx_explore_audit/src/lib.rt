@@ -20,5 +20,8 @@ mod table;
 mod walking;
 
 pub use audit::none_in_lists;
-pub use laws::{closed_tables_cover, lists_are_of_events, refused_events_show_nothing};
+pub use laws::{
+    closed_tables_cover, lists_are_of_events, order_numbers_are_respected,
+    refused_events_show_nothing,
+};
 pub use table::{Moves, Table};

@@ -23,6 +23,14 @@ pub mod Loads
 pub mod FifoQueues
 pub mod First
 pub mod Shown
+pub mod SameQueues
+pub mod SameWorlds
+pub mod SameRuns
+pub mod SameSteps
+pub mod SameCycles
+pub mod SameEvents
+pub mod SameMachines
+pub mod SameShown
 mod Ending
 mod Running
 mod IdleCpus

@@ -16,3 +16,4 @@ pub mod HiddenLaws
 pub mod HiddenLoads
 pub mod FifoOnly
 pub mod ReachedStates
+pub mod QueueOrder

@@ -1,4 +1,5 @@
 ghost use Rattle.scx_explore_findings.specs.FifoOnly.{FirstStatesAreInOrder, NobodyWaitsByVtime};
+ghost use Rattle.scx_explore_findings.specs.QueueOrder.{EventsDontDependOnPushes, ListsDontDependOnPushes, PushesShowNothing};
 ghost use Rattle.scx_explore_findings.specs.ReachedStates.{SameMachinesShowTheSame, ReachedStatesGoAlike};
 ghost use Rattle.scx_explore_findings.specs.HiddenLoads.{LoadsAreTold};
 ghost use Rattle.scx_explore_findings.specs.HiddenLaws.{EventsDontDepend, ListsDontDepend, NobodyIsLate, WordsDontDepend};
@@ -55,4 +56,15 @@ pub fn same_machines_show_the_same()
 /// contract is the law.
 pub fn reached_states_go_alike()
     ensures { ReachedStatesGoAlike }
+{}
+
+/// The order numbers of pushes are only compared within one queue. Under any policy, if in two machines the same tasks wait
+/// in the same queues and leave them in the same order, and all else is the same, an event is refused for the same cause,
+/// the same is noted, and so it is again after it; and after a list of events. Both show the same: the cause of an
+/// ejection, idle CPUs, and the words of a form that leaves out the number of pushes. How many events each machine has
+/// accepted may differ, while there is room for more. The function does nothing: its contract is the law.
+pub fn order_numbers_change_nothing()
+    ensures event { EventsDontDependOnPushes }
+    ensures list { ListsDontDependOnPushes }
+    ensures shown { PushesShowNothing }
 {}

@@ -31,7 +31,8 @@ pub use counted::run_counted;
 pub use finding::{Finding, Pair, SORTS, Sort};
 pub use laws::{
     events_dont_depend, lists_dont_depend, loads_are_told, nobody_is_late, nobody_waits_by_vtime,
-    reached_states_go_alike, same_machines_show_the_same, words_dont_depend,
+    order_numbers_change_nothing, reached_states_go_alike, same_machines_show_the_same,
+    words_dont_depend,
 };
 pub use outcome::{Outcome, replay};
 pub use path::Path;
