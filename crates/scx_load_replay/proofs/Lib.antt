@@ -5,3 +5,5 @@ pub mod Remaining
 pub mod Accepting
 pub mod Keys
 pub mod Listing
+pub mod Meaning
+pub mod Scenarios

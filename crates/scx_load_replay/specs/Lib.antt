@@ -5,3 +5,5 @@ pub mod Reading
 pub mod Events
 pub mod Replayer
 pub mod Laws
+pub mod Sources
+pub mod Scenarios

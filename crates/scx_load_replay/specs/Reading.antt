@@ -1,9 +1,10 @@
 -- The reading of a file of events: unknown keys first, wherever they are; then `cpus`, `ms`,
 -- `seed`, the groups and the tasks as in a workload, and `events`, line by line. Rules are those by
 -- which the policy that it is read for goes.
-use Rattle.std.specs.Prelude.{ℕ, ◌+◌, ⊤, List, [], ◌∷◌, ◌++◌, Result, Ok, Err, codes}
+use Rattle.std.specs.Prelude.{ℕ, ◌+◌, ⊤, Bool, false, List, [], ◌∷◌, ◌++◌, is_some, Result, Ok, Err, codes}
 use Rattle.std.specs.Str.Lines.{lines}
-use Rattle.toml.specs.Data.{Members}
+use Rattle.toml.specs.Data.{Members, get_member}
+use Rattle.toml.specs.Parse.{parse_document}
 use Rattle.scx_isa_semantics.specs.Results.{◌>>=◌}
 use Rattle.scx_isa_semantics.specs.declared.rules.Rules.{Rules}
 use Rattle.scx_isa_semantics.specs.declared.rules.Rules.TheVariants.{Plain, Linux}
@@ -11,7 +12,7 @@ use Rattle.scx_load_files.specs.declared.event_fault.EventFault.{EventFault}
 use Rattle.scx_load_files.specs.declared.fault.Cause.TheVariants as cause
 use Rattle.scx_load_files.specs.Faults.{Reading, refusal}
 use Rattle.scx_load_files.specs.Unknown.{known_alone, unknown, unknown_in_each}
-use Rattle.scx_load_files.specs.Values.{document, required, text_of}
+use Rattle.scx_load_files.specs.Values.{found_or, document, required, text_of}
 use Rattle.scx_load_workloads.specs.Workload.{WorkloadState}
 use Rattle.scx_load_workloads.specs.Reading.{group_keys, workload_in}
 use Rattle.scx_load_replay.specs.Replay.{ReplayState}
@@ -79,3 +80,13 @@ replay_by rules text = document text >>= replay_file rules
 -- the file of events that a text is for a policy by plain rules
 abbrev pub replay_of : List ℕ → Reading ReplayState
 replay_of text = replay_by Plain text
+
+-- ---- files of events among other texts
+
+-- the table of a file has a key `events`
+abbrev pub has_key_events : Members → Bool
+has_key_events ms = is_some (get_member (codes "events") ms)
+
+-- the text is a TOML document, and its top table has a key `events`
+abbrev pub has_events : List ℕ → Bool
+has_events text = found_or has_key_events false (parse_document text)

@@ -4,6 +4,9 @@
 //! `read_replay` reads a file (TOML 1.1), or names its first fault with its path. `Replayer::next` answers the
 //! next event: in each millisecond weights change, tasks wake, each CPU ticks, tasks go to sleep, and the
 //! clock grows.
+//!
+//! A `Scenario` is a workload or a file of events: the key `events` decides (`is_events`). Its events come from a
+//! `Source`.
 #![tactic(auto)]
 
 mod laws;
@@ -12,9 +15,13 @@ mod progress;
 mod reading;
 mod replay;
 mod replayer;
+mod scenario;
+mod source;
 
 pub use laws::{each_line_comes, no_event_is_refused};
 pub use lines::Line;
-pub use reading::{read_replay, read_replay_by};
+pub use reading::{is_events, read_replay, read_replay_by};
 pub use replay::Replay;
 pub use replayer::Replayer;
+pub use scenario::Scenario;
+pub use source::Source;

@@ -6,7 +6,7 @@ ghost use Rattle.scx_load_files.specs.Faults.{Gives, refusal};
 ghost use Rattle.scx_load_files.specs.Unknown.{words};
 ghost use Rattle.scx_load_replay.specs.Lines.{line_behind, text_behind};
 ghost use Rattle.scx_load_replay.specs.Kept.{progress_of};
-ghost use Rattle.scx_load_replay.specs.Reading.{at_line, lines_in, file_keys, task_keys, replay_by, replay_of, replay_file, known_file_keys, replay_with};
+ghost use Rattle.scx_load_replay.specs.Reading.{at_line, lines_in, file_keys, task_keys, replay_by, replay_of, replay_file, known_file_keys, replay_with, has_key_events, has_events};
 
 use crate::lines::{Line, line_in};
 use crate::progress::Progress;
@@ -15,6 +15,7 @@ use scx_isa_semantics::Rules;
 use scx_load_files::{Cause, EventFault, LoadError, Section, Unknown, read_document, refused};
 use scx_load_workloads::{Workload, read_known_keys_by};
 use std::alloc::{AllocError, Global};
+use toml::Table;
 
 /// Reads a file of events for a policy by plain rules, as `read_replay_by` does.
 pub fn read_replay(alloc: Global, text: &str) -> Result<Replay, LoadError>
@@ -34,6 +35,34 @@ pub fn read_replay_by(alloc: Global, rules: Rules, text: &str) -> Result<Replay,
     let replay = read_table(alloc, rules, Section::whole(&table));
     drop(table);
     replay
+}
+
+/// True if a text is meant as a file of events, and not as a workload: its top table has a key `events`. A text
+/// that is no TOML document isn't.
+///
+/// # Errors
+///
+/// Memory runs out.
+#[tactic(auto, using(crate::proofs::Meaning::no_document, crate::proofs::Meaning::document_is))]
+pub fn is_events(alloc: Global, text: &str) -> Result<bool, AllocError>
+    ensures { IfOk result (λ found. found ≡ has_events text.now) }
+{
+    match read_document(alloc, text) {
+        Ok(table) => {
+            let found = has_key_events(&table);
+            drop(table);
+            Ok(found)
+        }
+        Err(LoadError::NoMemory) => Err(AllocError),
+        Err(_) => Ok(false),
+    }
+}
+
+#[tactic(auto, using(crate::proofs::Meaning::some_in_view))]
+fn has_key_events(table: &Table) -> bool
+    ensures { result ≡ has_key_events (table_view table.now) }
+{
+    Section::whole(table).value("events").is_some()
 }
 
 fn read_table(alloc: Global, rules: Rules, file: Section<'_>) -> Result<Replay, LoadError>

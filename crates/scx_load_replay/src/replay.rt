@@ -1,10 +1,11 @@
-ghost use Rattle.std.specs.Prelude.{◌≡◌};
+ghost use Rattle.std.specs.Prelude.{◌≡◌, IfOk};
 ghost use Rattle.scx_load_replay.specs.Events.{replay_events};
 ghost use Rattle.scx_load_replay.specs.Replayer.{remaining};
 
 use crate::lines::Line;
 use crate::replayer::Replayer;
 use scx_load_workloads::Workload;
+use std::alloc::{AllocError, Global};
 use std::marker::Model;
 
 /// A workload's CPUs, groups and tasks, and the lines of events.
@@ -49,6 +50,24 @@ impl Replay {
         let Replay { workload, lines } = self;
         let replayer = Replayer::new(workload.cpus(), workload.ms(), lines);
         (workload, replayer)
+    }
+
+    /// The workload, without the events.
+    pub fn into_workload(self) -> Workload
+        ensures { result ≡ self.workload }
+    {
+        let Replay { workload, lines } = self;
+        drop(lines);
+        workload
+    }
+
+    /// All of its events, with a copy of its lines.
+    pub fn events(&self, alloc: Global) -> Result<Replayer, AllocError>
+        ensures { IfOk result (λ replayer. remaining replayer ≡ replay_events self.now) }
+    {
+        self.workload.is_whole();
+        let lines = Vec::from_slice(alloc, self.lines.as_slice())?;
+        Ok(Replayer::new(self.workload.cpus(), self.workload.ms(), lines))
     }
 
     /// The lines that say an event, in the order of the file.

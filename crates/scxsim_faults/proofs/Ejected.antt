@@ -18,8 +18,8 @@ use Rattle.scx_sched.specs.Sim.{SimState, IsFirstState, after_event, calls_of}
 use Rattle.scx_weights.specs.Hierarchy.{Hierarchy}
 use Rattle.scx_load_policies.specs.Policies.{PolicyFile}
 use Rattle.scx_load_policies.specs.Building.{IsBuilt}
-use Rattle.scx_load_driver.specs.Driver.{DriverState, remaining}
-use Rattle.scx_load_driver.specs.Events.{workload_events}
+use Rattle.scx_load_replay.specs.declared.scenario.Scenario.{Scenario}
+use Rattle.scx_load_replay.specs.Scenarios.{workload_of, scenario_events}
 use Rattle.scx_load_workloads.specs.Workload.{WorkloadState, first_tree}
 use Rattle.scxsim_faults.specs.declared.finder.Finder.{Finder}
 use Rattle.scxsim_faults.specs.declared.place.FaultPlace.{FaultPlace}
@@ -92,12 +92,12 @@ place_later s e es p in_rest = record {
 }
 
 -- a machine that took the first event has the places of the others
-pub place_back : (d : DriverState) (s t : SimState) (e : Event) (es : List Event) (p : FaultPlace) → es ≡ e ∷ remaining d (after_event s e) → t ≡ after_event s e
-    → IsPlaceIn t (remaining d t) p → IsPlaceIn s es p
-place_back d s t e es p whole to there =
-    let From : SimState → Type 0 = λ x. IsPlaceIn x (remaining d x) p in
+pub place_back : (remaining : SimState → List Event) (s t : SimState) (e : Event) (es : List Event) (p : FaultPlace) → es ≡ e ∷ remaining (after_event s e) → t ≡ after_event s e
+    → IsPlaceIn t (remaining t) p → IsPlaceIn s es p
+place_back remaining s t e es p whole to there =
+    let From : SimState → Type 0 = λ x. IsPlaceIn x (remaining x) p in
     let In : List Event → Type 0 = λ xs. IsPlaceIn s xs p in
-    subst In (sym whole) (place_later s e (remaining d (after_event s e)) p (subst From to there))
+    subst In (sym whole) (place_later s e (remaining (after_event s e)) p (subst From to there))
 
 -- what is found in the first event is found in all
 pub places_first : (s : SimState) (e : Event) (es rest : List Event) (o : Option FaultPlace) → es ≡ e ∷ rest → IfSome o (IsPlaceAt s e) → IfSome o (IsPlaceIn s es)
@@ -119,12 +119,12 @@ if_found_in P Q (Err e) h there = tt
 -- ---- the run under a policy
 
 -- in an event
-pub in_event : {E : Type 0} (policy : PolicyState) (w : WorkloadState) (tree : Hierarchy) (cpus : ℕ) (s : SimState) (r : Result (Option FaultPlace) E) → tree ≡ first_tree w → cpus ≡ w.cpus
-    → IsFirstState policy tree cpus s → IfOk r (λ o. IfSome o (IsPlaceIn s (workload_events w s))) → IfOk r (λ o. IfSome o (IsPlaceUnder policy w))
-in_event policy w tree cpus s r same count first there =
-    let First : Hierarchy → Type 0 = λ t. IsFirstState policy t w.cpus s in
+pub in_event : {E : Type 0} (policy : PolicyState) (x : Scenario) (tree : Hierarchy) (cpus : ℕ) (s : SimState) (r : Result (Option FaultPlace) E) → tree ≡ first_tree (workload_of x) → cpus ≡ (workload_of x).cpus
+    → IsFirstState policy tree cpus s → IfOk r (λ o. IfSome o (IsPlaceIn s (scenario_events x s))) → IfOk r (λ o. IfSome o (IsPlaceUnder policy x))
+in_event policy x tree cpus s r same count first there =
+    let First : Hierarchy → Type 0 = λ t. IsFirstState policy t (workload_of x).cpus s in
     let On : ℕ → Type 0 = λ n. IsFirstState policy tree n s in
-    if_found_in (IsPlaceIn s (workload_events w s)) (IsPlaceUnder policy w) r (λ p x. In_event s (subst First same (subst On count first)) x) there
+    if_found_in (IsPlaceIn s (scenario_events x s)) (IsPlaceUnder policy x) r (λ p h. In_event s (subst First same (subst On count first)) h) there
 
 -- a machine that can't begin
 begins : (policy : PolicyState) (w : WorkloadState) (tree : Hierarchy) (cpus : ℕ) (n : ℤ) (p : FaultPlace) → tree ≡ first_tree w → cpus ≡ w.cpus → first_state policy tree cpus ≡ Err n
@@ -137,15 +137,15 @@ begins policy w tree cpus n p same count fails found =
     record { answer = n; fails = subst Fails same (subst FailsOn count fails); failing = found.0; last = subst Last same (subst LastOn count found.1); place = found.2 }
 
 -- where the machine can't begin
-pub at_start : {E : Type 0} (policy : PolicyState) (w : WorkloadState) (tree : Hierarchy) (cpus : ℕ) (e : NewError) (f g : Finder) (r : Result (Option FaultPlace) E) → tree ≡ first_tree w → cpus ≡ w.cpus
+pub at_start : {E : Type 0} (policy : PolicyState) (x : Scenario) (tree : Hierarchy) (cpus : ℕ) (e : NewError) (f g : Finder) (r : Result (Option FaultPlace) E) → tree ≡ first_tree (workload_of x) → cpus ≡ (workload_of x).cpus
     → IsRefusal policy tree cpus e → f.found ≡ None → Hears Finds f (calls_before policy tree cpus e) g → (is_init_failed e ≡ false → IfOk r (λ o. o ≡ None)) → IfOk r (λ o. IfSome o (λ p. g.found ≡ Some p))
-    → IfOk r (λ o. IfSome o (IsPlaceUnder policy w))
-at_start policy w tree cpus e f g (Err x) same count refused empty hears none kept = tt
-at_start policy w tree cpus e f g (Ok None) same count refused empty hears none kept = tt
-at_start policy w tree cpus (start.InitFailed n) f g (Ok (Some p)) same count refused empty hears none kept =
-    At_start (begins policy w tree cpus n p same count refused.1 (last_found (start_calls policy tree cpus) f g p empty hears kept))
-at_start policy w tree cpus start.BadShape f g (Ok (Some p)) same count refused empty hears none kept = let bad : Some p ≡ None = none refl in absurd (cc)
-at_start policy w tree cpus start.OutOfMemory f g (Ok (Some p)) same count refused empty hears none kept = let bad : Some p ≡ None = none refl in absurd (cc)
+    → IfOk r (λ o. IfSome o (IsPlaceUnder policy x))
+at_start policy x tree cpus e f g (Err y) same count refused empty hears none kept = tt
+at_start policy x tree cpus e f g (Ok None) same count refused empty hears none kept = tt
+at_start policy x tree cpus (start.InitFailed n) f g (Ok (Some p)) same count refused empty hears none kept =
+    At_start (begins policy (workload_of x) tree cpus n p same count refused.1 (last_found (start_calls policy tree cpus) f g p empty hears kept))
+at_start policy x tree cpus start.BadShape f g (Ok (Some p)) same count refused empty hears none kept = let bad : Some p ≡ None = none refl in absurd (cc)
+at_start policy x tree cpus start.OutOfMemory f g (Ok (Some p)) same count refused empty hears none kept = let bad : Some p ≡ None = none refl in absurd (cc)
 
 -- the policy of a file stays that where its random numbers begin at a seed
 pub built_seeded : (text : PolicyFile) (p : PolicyState) (n : ℕ) → IsBuilt text p → IsBuilt text (with_seed p n)
@@ -164,7 +164,7 @@ built_seeded text p n b = record {
 }
 
 -- of the policy that a text stands for
-pub under_text : {E : Type 0} (text : List ℕ) (policy : Option PolicyState) (w : WorkloadState) (r : Result (Option FaultPlace) E) → IfSome policy (IsPolicyOf text w.seed)
-    → IfOk r (λ o. IfSome o (IsUnderAny policy w)) → IfOk r (λ o. IfSome o (IsPlaceFound text w))
-under_text text None w r reads there = if_found_in (IsUnderAny None w) (IsPlaceFound text w) r (λ p x. absurd x) there
-under_text text (Some policy) w r reads there = if_found_in (IsPlaceUnder policy w) (IsPlaceFound text w) r (λ p x. record { policy = policy; reads = reads; there = x }) there
+pub under_text : {E : Type 0} (text : List ℕ) (policy : Option PolicyState) (x : Scenario) (r : Result (Option FaultPlace) E) → IfSome policy (IsPolicyOf text (workload_of x).seed)
+    → IfOk r (λ o. IfSome o (IsUnderAny policy x)) → IfOk r (λ o. IfSome o (IsPlaceFound text x))
+under_text text None x r reads there = if_found_in (IsUnderAny None x) (IsPlaceFound text x) r (λ p h. absurd h) there
+under_text text (Some policy) x r reads there = if_found_in (IsPlaceUnder policy x) (IsPlaceFound text x) r (λ p h. record { policy = policy; reads = reads; there = h }) there

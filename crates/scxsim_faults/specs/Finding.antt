@@ -16,7 +16,7 @@ use Rattle.scx_sched_world.specs.World.{WorldState}
 use Rattle.scx_sched_machine.specs.declared.start.NewError.{NewError}
 use Rattle.scx_sched_machine.specs.declared.start.NewError.TheVariants as start
 use Rattle.scx_sched_machine.specs.Policy.{PolicyState}
-use Rattle.scx_load_workloads.specs.Workload.{WorkloadState}
+use Rattle.scx_load_replay.specs.declared.scenario.Scenario.{Scenario}
 use Rattle.scx_sched_machine.specs.Steps.{CallMade}
 use Rattle.scxsim_faults.specs.declared.policy_queues.PolicyQueues.{PolicyQueues}
 use Rattle.scxsim_faults.specs.declared.finder.Finder.{Finder}
@@ -77,6 +77,6 @@ is_init_failed (start.InitFailed n) = true
 is_init_failed e = false
 
 -- the place is found under that policy; there is none without a policy
-abbrev pub IsUnderAny : Option PolicyState → WorkloadState → FaultPlace → Type 0
-IsUnderAny None w p = ⊥
-IsUnderAny (Some policy) w p = IsPlaceUnder policy w p
+abbrev pub IsUnderAny : Option PolicyState → Scenario → FaultPlace → Type 0
+IsUnderAny None x p = ⊥
+IsUnderAny (Some policy) x p = IsPlaceUnder policy x p

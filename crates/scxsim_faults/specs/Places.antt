@@ -34,7 +34,8 @@ use Rattle.scx_load_policies.specs.Reading.{policy_text}
 use Rattle.scx_load_policies.specs.Building.{IsBuilt}
 use Rattle.scx_load_workloads.specs.Workload.{WorkloadState, first_tree}
 use Rattle.scx_load_driver.specs.Runs.{stepped_all}
-use Rattle.scx_load_driver.specs.Events.{workload_events}
+use Rattle.scx_load_replay.specs.declared.scenario.Scenario.{Scenario}
+use Rattle.scx_load_replay.specs.Scenarios.{workload_of, scenario_events}
 use Rattle.scxsim_faults.specs.declared.place.FaultPlace.{FaultPlace}
 use Rattle.scxsim_faults.specs.declared.place.HelperCall.{HelperCall}
 use Rattle.scxsim_faults.specs.declared.policy_queues.PolicyQueues.{PolicyQueues}
@@ -161,11 +162,12 @@ pub record IsPlaceAtStart (policy : PolicyState) (w : WorkloadState) (p : FaultP
   pub last : IsLast failing (start_calls policy (first_tree w) w.cpus)
   pub place : IsPlaceOf failing p
 
--- in the run of the workload under the policy the place is where it was ejected, or couldn't begin
-pub data IsPlaceUnder (policy : PolicyState) (w : WorkloadState) (p : FaultPlace) : Type 0 where
-  In_event : (s : SimState) → IsFirstState policy (first_tree w) w.cpus s
-      → IsPlaceIn s (workload_events w s) p → IsPlaceUnder policy w p
-  At_start : IsPlaceAtStart policy w p → IsPlaceUnder policy w p
+-- in the run of the scenario under the policy the place is where it was ejected, or couldn't begin
+pub data IsPlaceUnder (policy : PolicyState) (x : Scenario) (p : FaultPlace) : Type 0 where
+  In_event : (s : SimState)
+      → IsFirstState policy (first_tree (workload_of x)) (workload_of x).cpus s
+      → IsPlaceIn s (scenario_events x s) p → IsPlaceUnder policy x p
+  At_start : IsPlaceAtStart policy (workload_of x) p → IsPlaceUnder policy x p
 
 -- that is the policy of the text, and its random numbers begin at the seed
 pub record IsPolicyOf (text : List ℕ) (seed : ℕ) (policy : PolicyState) : Type 0 where
@@ -175,7 +177,7 @@ pub record IsPolicyOf (text : List ℕ) (seed : ℕ) (policy : PolicyState) : Ty
   pub seeded : policy.seed ≡ seed
 
 -- the place is where the policy of that text was ejected
-pub record IsPlaceFound (text : List ℕ) (w : WorkloadState) (p : FaultPlace) : Type 0 where
+pub record IsPlaceFound (text : List ℕ) (x : Scenario) (p : FaultPlace) : Type 0 where
   pub policy : PolicyState
-  pub reads : IsPolicyOf text w.seed policy
-  pub there : IsPlaceUnder policy w p
+  pub reads : IsPolicyOf text (workload_of x).seed policy
+  pub there : IsPlaceUnder policy x p

@@ -1,7 +1,7 @@
 ghost use Rattle.std.specs.Prelude.{◌≡◌, false, Some, None, IfOk, IfSome};
-ghost use Rattle.scx_load_driver.specs.Driver.{remaining};
 ghost use Rattle.scx_load_driver.specs.Events.{workload_events};
 ghost use Rattle.scx_load_policies.specs.Building.{IsBuilt};
+ghost use Rattle.scx_load_replay.specs.Scenarios.{workload_of, scenario_events};
 ghost use Rattle.scx_load_workloads.specs.Workload.{first_tree};
 ghost use Rattle.scx_sched.specs.Sim.{after_event};
 ghost use Rattle.scxsim_faults.specs.Finding.{is_init_failed, IsUnderAny};
@@ -12,13 +12,15 @@ use crate::place::FaultPlace;
 use scx_load_driver::Driver;
 use scx_load_files::LoadError;
 use scx_load_policies::{BuildError, PolicyText, build, read_policy};
+use scx_load_replay::Scenario;
 use scx_load_workloads::Workload;
 use scx_sched::{Event, MAX_EVENTS, NewError, Policy, Sim, Unseen};
 use scx_weights::Tree;
+use scxsim_trace::Events;
 use std::alloc::{AllocError, Global};
 
 /// Finds the first fault or exit of the callback for which a policy was ejected at that clock, in the run of a
-/// workload, or the first one in init or enable. None if there was none, or the policy's text is refused.
+/// scenario, or the first one in init or enable. None if there was none, or the policy's text is refused.
 ///
 /// # Errors
 ///
@@ -26,26 +28,26 @@ use std::alloc::{AllocError, Global};
 pub fn find_fault(
     alloc: Global,
     policy: &str,
-    workload: &Workload,
+    scenario: &Scenario,
     clock: u64,
 ) -> Result<Option<FaultPlace>, AllocError>
-    ensures { IfOk result (λ found. IfSome found (IsPlaceFound policy.now workload.now)) }
+    ensures { IfOk result (λ found. IfSome found (IsPlaceFound policy.now scenario.now)) }
 {
-    let policy = policy_of(alloc, policy, workload.seed())?;
-    find_under_any(alloc, policy, workload, clock)
+    let policy = policy_of(alloc, policy, scenario.workload().seed())?;
+    find_under_any(alloc, policy, scenario, clock)
 }
 
 /// The place of the fault or exit in the run under that policy, if there is one.
 fn find_under_any(
     alloc: Global,
     policy: Option<Policy>,
-    workload: &Workload,
+    scenario: &Scenario,
     clock: u64,
 ) -> Result<Option<FaultPlace>, AllocError>
-    ensures { IfOk result (λ found. IfSome found (IsUnderAny policy workload.now)) }
+    ensures { IfOk result (λ found. IfSome found (IsUnderAny policy scenario.now)) }
 {
     match policy {
-        Some(policy) => find_under(alloc, policy, workload, clock),
+        Some(policy) => find_under(alloc, policy, scenario, clock),
         None => Ok(None),
     }
 }
@@ -83,13 +85,13 @@ fn built(alloc: Global, text: PolicyText, seed: u64) -> Result<Option<Policy>, A
 fn find_under(
     alloc: Global,
     policy: Policy,
-    workload: &Workload,
+    scenario: &Scenario,
     clock: u64,
 ) -> Result<Option<FaultPlace>, AllocError>
-    ensures { IfOk result (λ found. IfSome found (IsPlaceUnder policy workload.now)) }
+    ensures { IfOk result (λ found. IfSome found (IsPlaceUnder policy scenario.now)) }
 {
-    match workload.tree(alloc) {
-        Ok(tree) => find_with(alloc, policy, tree, workload, clock),
+    match scenario.workload().tree(alloc) {
+        Ok(tree) => find_with(alloc, policy, tree, scenario, clock),
         Err(_) => {
             drop(policy);
             Err(AllocError)
@@ -102,21 +104,37 @@ fn find_with(
     alloc: Global,
     policy: Policy,
     tree: Tree,
-    workload: &Workload,
+    scenario: &Scenario,
     clock: u64,
 ) -> Result<Option<FaultPlace>, AllocError>
-    requires { tree ≡ first_tree workload.now }
-    ensures { IfOk result (λ found. IfSome found (IsPlaceUnder policy workload.now)) }
+    requires { tree ≡ first_tree (workload_of scenario.now) }
+    ensures { IfOk result (λ found. IfSome found (IsPlaceUnder policy scenario.now)) }
 {
     let mut finder = Finder::new();
-    match Sim::new_seen(alloc, policy, tree, workload.cpus(), &mut finder) {
+    match Sim::new_seen(alloc, policy, tree, scenario.workload().cpus(), &mut finder) {
         Ok(mut sim) => {
-            let found = find_fault_in(alloc, workload, &mut sim, clock);
+            let found = find_in_scenario(alloc, scenario, &mut sim, clock);
             drop(sim);
             found
         }
         Err(error) => not_begun(error, finder.found()),
     }
+}
+
+/// The place of the fault or exit in the run of a scenario that begins with that machine.
+fn find_in_scenario(
+    alloc: Global,
+    scenario: &Scenario,
+    sim: &mut Sim,
+    clock: u64,
+) -> Result<Option<FaultPlace>, AllocError>
+    ensures { IfOk result (λ found.
+        IfSome found (IsPlaceIn sim.old (scenario_events scenario.now sim.old))) }
+{
+    let mut events = scenario.events(alloc)?;
+    let found = find_fault_among(&mut events, sim, clock);
+    drop(events);
+    Ok(found)
 }
 
 /// The place of the fault or exit in init or enable, if one of them failed: what was found.
@@ -131,7 +149,7 @@ fn not_begun(error: NewError, found: Option<FaultPlace>) -> Result<Option<FaultP
     }
 }
 
-/// `find_fault` in the run that begins with that machine. None if the policy is ejected already.
+/// `find_fault` in the run of a workload that begins with that machine. None if the policy is ejected already.
 ///
 /// # Errors
 ///
@@ -145,22 +163,29 @@ pub fn find_fault_in(
     ensures { IfOk result (λ found.
         IfSome found (IsPlaceIn sim.old (workload_events workload.now sim.old))) }
 {
-    if sim.ejected().is_some() {
-        return Ok(None);
-    }
     let mut driver = Driver::new(alloc, workload)?;
-    let found = go_through(&mut driver, sim, clock);
+    let found = find_fault_among(&mut driver, sim, clock);
     drop(driver);
     Ok(found)
 }
 
+/// `find_fault` in the run of these events that begins with that machine. None if the policy is ejected already.
+pub fn find_fault_among<E: Events>(events: &mut E, sim: &mut Sim, clock: u64) -> Option<FaultPlace>
+    ensures { IfSome result (IsPlaceIn sim.old (E.remaining events.old sim.old)) }
+{
+    if sim.ejected().is_some() {
+        return None;
+    }
+    go_through(events, sim, clock)
+}
+
 /// Gives the machine the remaining events, up to the ejection.
-fn go_through(driver: &mut Driver, sim: &mut Sim, clock: u64) -> Option<FaultPlace>
+fn go_through<E: Events>(events: &mut E, sim: &mut Sim, clock: u64) -> Option<FaultPlace>
     requires { sim.old.state.world.ejected ≡ None }
-    ensures { IfSome result (IsPlaceIn sim.old (remaining driver.old sim.old)) }
+    ensures { IfSome result (IsPlaceIn sim.old (E.remaining events.old sim.old)) }
 {
     for _ in 0..MAX_EVENTS {
-        let Some(event) = driver.next(sim) else {
+        let Some(event) = events.next(sim) else {
             return None;
         };
         let found = step(sim, event, clock);

@@ -13,7 +13,7 @@ mod policy_queues;
 mod running;
 mod words;
 
-pub use finding::{find_fault, find_fault_in, policy_of};
+pub use finding::{find_fault, find_fault_among, find_fault_in, policy_of};
 pub use place::{FaultPlace, HelperCall};
 pub use running::{Answered, run_seen};
 pub use words::{

@@ -1,8 +1,10 @@
 use crate::named_text::NamedText;
 use crate::remarks::rules_of;
-use scx_load_workloads::{Workload, read_workload_by};
+use scx_load_replay::Scenario;
+use scx_load_workloads::Workload;
 use scxsim_faults::{FaultPlace, find_fault, write_place, write_reason};
 use scxsim_output::Text;
+use scxsim_simulation::read_scenario;
 use std::alloc::Global;
 
 /// A remark on the fault or exit for which the policy was ejected at that clock, or failed before the
@@ -10,24 +12,24 @@ use std::alloc::Global;
 pub fn remark_on_fault(
     alloc: Global,
     policy: NamedText<'_>,
-    workload: NamedText<'_>,
+    scenario: NamedText<'_>,
     clock: u64,
 ) -> Option<String> {
     let rules = rules_of(alloc, policy.text);
-    let workload = read_workload_by(alloc, rules, workload.text).ok()?;
-    let remark = remark_of(alloc, policy, &workload, clock);
-    drop(workload);
+    let scenario = read_scenario(alloc, rules, scenario.text).ok()?;
+    let remark = remark_of(alloc, policy, &scenario, clock);
+    drop(scenario);
     remark
 }
 
 fn remark_of(
     alloc: Global,
     policy: NamedText<'_>,
-    workload: &Workload,
+    scenario: &Scenario,
     clock: u64,
 ) -> Option<String> {
-    let fault = find_fault(alloc, policy.text, workload, clock).ok()??;
-    let what = words_of(alloc, &fault, workload);
+    let fault = find_fault(alloc, policy.text, scenario, clock).ok()??;
+    let what = words_of(alloc, &fault, scenario.workload());
     let place = policy.line_of(alloc, fault.callback, fault.slot);
     policy.error_below(alloc, place, &what, "").ok()
 }

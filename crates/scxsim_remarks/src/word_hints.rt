@@ -6,27 +6,28 @@ use crate::nearest::Nearest;
 use crate::remarks::rules_of;
 use scx_isa::CALLBACKS;
 use scx_load_policies::{Programs, read_policy};
-use scx_load_workloads::{Workload, numeral, read_workload_by};
+use scx_load_workloads::{Workload, numeral};
 use scxsim_commands::Word;
 use scxsim_explore::Lists;
 use scxsim_output::Text;
+use scxsim_simulation::read_scenario;
 use std::alloc::{AllocError, Global};
 
 /// The most names that are listed.
 const LISTED: usize = 8;
 
-/// A hint at a word that names no task of the workload: the name that may be meant, or the names that there are. None
-/// if the workload is refused, or memory ran out.
+/// A hint at a word that names no task of the scenario: the name that may be meant, or the names that there are. None
+/// if the scenario is refused, or memory ran out.
 pub fn hint_on_task(
     alloc: Global,
     policy: NamedText<'_>,
-    workload: NamedText<'_>,
+    scenario: NamedText<'_>,
     word: &str,
 ) -> Option<String> {
     let rules = rules_of(alloc, policy.text);
-    let workload = read_workload_by(alloc, rules, workload.text).ok()?;
-    let hint = hint_of_tasks(alloc, &workload, word);
-    drop(workload);
+    let scenario = read_scenario(alloc, rules, scenario.text).ok()?;
+    let hint = hint_of_tasks(alloc, scenario.workload(), word);
+    drop(scenario);
     hint.ok()
 }
 
@@ -132,28 +133,28 @@ fn push_callbacks(said: &mut Text, programs: &Programs) {
     said.push("\n");
 }
 
-/// A hint at a word that names no millisecond of the run: the range. None if the workload is refused, or memory ran
+/// A hint at a word that names no millisecond of the run: the range. None if the scenario is refused, or memory ran
 /// out.
 pub fn hint_on_moment(
     alloc: Global,
     policy: NamedText<'_>,
-    workload: NamedText<'_>,
+    scenario: NamedText<'_>,
 ) -> Option<String> {
-    let ms = length_of(alloc, policy, workload)?;
+    let ms = length_of(alloc, policy, scenario)?;
     let mut said = Text::new(alloc);
     said.number("hint: MS is 0 to ", u64::from(ms));
     said.push("\n");
     said.finish().ok()
 }
 
-/// A hint at a bound of a part of a run: the range. None if the workload is refused, or memory ran out.
+/// A hint at a bound of a part of a run: the range. None if the scenario is refused, or memory ran out.
 pub(crate) fn hint_on_bound(
     alloc: Global,
     policy: NamedText<'_>,
-    workload: NamedText<'_>,
+    scenario: NamedText<'_>,
     word: Word,
 ) -> Option<String> {
-    let ms = length_of(alloc, policy, workload)?;
+    let ms = length_of(alloc, policy, scenario)?;
     let mut said = Text::new(alloc);
     match word {
         Word::From => {
@@ -169,11 +170,11 @@ pub(crate) fn hint_on_bound(
 }
 
 /// The milliseconds of the run.
-fn length_of(alloc: Global, policy: NamedText<'_>, workload: NamedText<'_>) -> Option<u32> {
+fn length_of(alloc: Global, policy: NamedText<'_>, scenario: NamedText<'_>) -> Option<u32> {
     let rules = rules_of(alloc, policy.text);
-    let workload = read_workload_by(alloc, rules, workload.text).ok()?;
-    let ms = workload.ms();
-    drop(workload);
+    let scenario = read_scenario(alloc, rules, scenario.text).ok()?;
+    let ms = scenario.workload().ms();
+    drop(scenario);
     Some(ms)
 }
 

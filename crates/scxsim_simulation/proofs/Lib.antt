@@ -8,3 +8,5 @@ mod Belonging
 mod Holding
 mod Causing
 pub mod PartCauses
+pub mod Either
+mod ScenarioCauses

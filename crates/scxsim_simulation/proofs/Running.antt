@@ -16,8 +16,11 @@ use Rattle.scx_load_driver.specs.Events.{workload_events}
 use Rattle.scx_load_replay.specs.Replay.{ReplayState}
 use Rattle.scx_load_replay.specs.Reading.{replay_by}
 use Rattle.scx_load_replay.specs.Events.{replay_events}
+use Rattle.scx_load_replay.specs.declared.scenario.Scenario.{Scenario}
+use Rattle.scx_load_replay.specs.Scenarios.{workload_of, scenario_events, scenario_by}
 use Rattle.scxsim_simulation.specs.Runs.{IsRun}
 use Rattle.scxsim_simulation.specs.Replays.{IsReplayRun}
+use Rattle.scxsim_simulation.specs.Scenarios.{IsScenarioRun}
 
 -- the policy of a file stays that where its random numbers begin at a seed
 pub built_seeded : (text : PolicyFile) (p : PolicyState) (n : ℕ) → IsBuilt text p → IsBuilt text (with_seed p n)
@@ -61,3 +64,12 @@ pub replay_is : {R E : Type 0} (policy events : List ℕ) (file : PolicyFile) (m
 replay_is policy events file machine r workload_in machine_in events_in (Ok run) policy_read events_read built seeded same listed first accepted answered =
     (r, record { begun = record { file = file; machine = machine; policy_read = policy_read; built = built; seeded = seeded; first = first; answered = answered }; events_read = events_read; accepted = accepted }, same, listed)
 replay_is policy events file machine r workload_in machine_in events_in (Err e) policy_read events_read built seeded same listed first accepted answered = tt
+
+-- the same of a scenario
+pub scenario_is : {R E : Type 0} (policy scenario : List ℕ) (file : PolicyFile) (machine : PolicyState) (x : Scenario) (scenario_in : R → Scenario) (machine_in : R → SimState) (r : Result R E) → policy_text policy ≡ Ok file → scenario_by file.rules scenario ≡ Ok x → IsBuilt file machine → machine.seed ≡ (workload_of x).seed
+    → IfOk r (λ run. scenario_in run ≡ x) → IfOk r (λ run. IsFirstState machine (first_tree (workload_of x)) (workload_of x).cpus (machine_in run)) → IfOk r (λ run. AreAccepted (machine_in run) (scenario_events x (machine_in run)))
+    → OnOk r (AreAnswered (start_calls machine (first_tree (workload_of x)) (workload_of x).cpus))
+    → IfOk r (λ run. IsScenarioRun policy scenario (scenario_in run) (machine_in run))
+scenario_is policy scenario file machine x scenario_in machine_in (Ok run) policy_read scenario_read built seeded same first accepted answered =
+    subst (λ y. IsScenarioRun policy scenario y (machine_in run)) (sym same) (record { begun = record { file = file; machine = machine; policy_read = policy_read; built = built; seeded = seeded; first = first; answered = answered }; scenario_read = scenario_read; accepted = accepted })
+scenario_is policy scenario file machine x scenario_in machine_in (Err e) policy_read scenario_read built seeded same first accepted answered = tt

@@ -11,8 +11,8 @@ use Rattle.scx_isa_semantics.specs.Elements.{Maps, count, directory, number_at}
 use Rattle.scx_isa_semantics.specs.Serving.{slot_count}
 use Rattle.scx_maps.specs.Laws.{value_at, listed}
 use Rattle.scx_sched.specs.Sim.{SimState}
-use Rattle.scx_load_workloads.specs.Workload.{WorkloadState}
-use Rattle.scxsim_simulation.specs.Runs.{last_of}
+use Rattle.scx_load_replay.specs.declared.scenario.Scenario.{Scenario}
+use Rattle.scxsim_simulation.specs.Scenarios.{last_in}
 
 -- the pieces of all numbers below that one, in their order
 abbrev pub all_below : (ℕ → List ℕ) → ℕ → List ℕ
@@ -147,5 +147,5 @@ abbrev pub map_lines : Maps → List ℕ
 map_lines maps = all_below (kind_lines maps) (count maps)
 
 -- the lines of the maps after all events of a run
-abbrev pub maps_text : WorkloadState → SimState → List ℕ
-maps_text w s = map_lines (last_of w s).state.maps
+abbrev pub maps_text : Scenario → SimState → List ℕ
+maps_text x s = map_lines (last_in x s).state.maps

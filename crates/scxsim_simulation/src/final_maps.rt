@@ -1,25 +1,26 @@
 ghost use Rattle.std.specs.Prelude.{◌≡◌, true, Err, IfOk, IfErr, OnOk, string_bytes};
 ghost use Rattle.std.specs.Io.KnownBytes.{Appends};
 ghost use Rattle.scx_sched.specs.Sim.{SimState};
-ghost use Rattle.scx_load_workloads.specs.Workload.{WorkloadState};
-ghost use Rattle.scx_load_driver.specs.Driver.{remaining};
-ghost use Rattle.scx_load_driver.specs.Events.{workload_events};
+ghost use Rattle.scx_load_replay.specs.declared.scenario.Scenario.{Scenario};
+ghost use Rattle.scx_load_replay.specs.Scenarios.{scenario_events};
+ghost use Rattle.scx_load_replay.specs.Sources.{remaining};
 ghost use Rattle.scxsim_output.specs.Output.{HasFailed, AppendsBeginning};
 ghost use Rattle.scxsim_commands.specs.Outcome.{IfRefused, IsRefused};
-ghost use Rattle.scxsim_simulation.specs.Runs.{IsRun, IsCause};
+ghost use Rattle.scxsim_simulation.specs.Scenarios.{IsScenarioRun, IsScenarioCause};
 ghost use Rattle.scxsim_simulation.specs.MapLines.{map_lines, maps_text};
 
 use crate::listener::{Heard, Listener};
 use crate::map_lines::push_maps;
-use crate::preparing::{Run, give_back, prepare};
+use crate::preparing::give_back;
+use crate::scenarios::{ScenarioRun, prepare_scenario};
 use scx_maps::Maps;
 use scxsim_commands::{Fault, Refusal};
 use scxsim_output::{Out, Text, write_all};
 use scxsim_trace::run_silently;
 use std::alloc::{AllocError, Global};
 
-/// Writes what the policy's maps hold at the end of the run of a policy file's text and a workload file's. The answer
-/// is true.
+/// Writes what the policy's maps hold at the end of the run of a policy file's text and of a workload's or of a file
+/// of events. The answer is true.
 ///
 /// # Errors
 ///
@@ -27,28 +28,28 @@ use std::alloc::{AllocError, Global};
 pub fn maps_at_end<L: Listener, W: Out>(
     alloc: Global,
     policy: &str,
-    workload: &str,
+    scenario: &str,
     listener: &mut L,
     out: &mut W,
 ) -> Result<bool, Fault>
     // The lines are of the maps after the last event of a run.
     ensures done { IfOk result (λ answer. (answer ≡ true)
-        × (w : WorkloadState) × (s : SimState) × IsRun policy.now workload.now w s
-        × Appends (W.contents out.old) (W.contents out.new) (maps_text w s)) }
+        × (x : Scenario) × (s : SimState) × IsScenarioRun policy.now scenario.now x s
+        × Appends (W.contents out.old) (W.contents out.new) (maps_text x s)) }
     ensures unfailed { OnOk result (W.failure_count out.new ≡ W.failure_count out.old) }
 
     // A refusal has its cause in the texts, and comes before any byte is written.
-    ensures refused { IfRefused result (IsCause policy.now workload.now) }
+    ensures refused { IfRefused result (IsScenarioCause policy.now scenario.now) }
     ensures quiet { IsRefused result → out.new ≡ out.old }
 
     // The lines are cut off where writing fails.
     ensures cut { result ≡ Err Fault.WriteFailed
-        → (w : WorkloadState) × (s : SimState) × IsRun policy.now workload.now w s
-        × AppendsBeginning (W.contents out.old) (W.contents out.new) (maps_text w s) }
+        → (x : Scenario) × (s : SimState) × IsScenarioRun policy.now scenario.now x s
+        × AppendsBeginning (W.contents out.old) (W.contents out.new) (maps_text x s) }
     ensures counted { result ≡ Err Fault.WriteFailed
         → HasFailed (W.failure_count out.old) (W.failure_count out.new) }
 {
-    let text = text_of_run(alloc, policy, workload, listener)?;
+    let text = text_of_run(alloc, policy, scenario, listener)?;
     write_all(out, text.as_str().as_bytes())?;
     Ok(true)
 }
@@ -57,33 +58,37 @@ pub fn maps_at_end<L: Listener, W: Out>(
 fn text_of_run<L: Listener>(
     alloc: Global,
     policy: &str,
-    workload: &str,
+    scenario: &str,
     listener: &mut L,
 ) -> Result<String, Refusal>
-    ensures text { IfOk result (λ text. (w : WorkloadState) × (s : SimState)
-        × IsRun policy.now workload.now w s × (string_bytes text ≡ maps_text w s)) }
-    ensures refused { IfErr result (IsCause policy.now workload.now) }
+    ensures text { IfOk result (λ text. (x : Scenario) × (s : SimState)
+        × IsScenarioRun policy.now scenario.now x s × (string_bytes text ≡ maps_text x s)) }
+    ensures refused { IfErr result (IsScenarioCause policy.now scenario.now) }
 {
-    let run = prepare(alloc, policy, workload)?;
+    let run = prepare_scenario(alloc, policy, scenario)?;
     Ok(text_after(alloc, run, listener)?)
 }
 
 /// Goes through the run, and makes the lines of the maps.
-fn text_after<L: Listener>(alloc: Global, run: Run, listener: &mut L) -> Result<String, AllocError>
-    requires { remaining run.driver run.sim ≡ workload_events run.workload run.sim }
-    ensures { IfOk result (λ text. string_bytes text ≡ maps_text run.workload run.sim) }
+fn text_after<L: Listener>(
+    alloc: Global,
+    run: ScenarioRun,
+    listener: &mut L,
+) -> Result<String, AllocError>
+    requires { remaining run.events run.sim ≡ scenario_events run.scenario run.sim }
+    ensures { IfOk result (λ text. string_bytes text ≡ maps_text run.scenario run.sim) }
 {
-    let Run {
-        workload,
-        driver,
+    let ScenarioRun {
+        scenario,
+        events,
         mut sim,
         ..
     } = run;
-    let mut events = Heard::new(driver, workload.ms(), listener);
+    let mut events = Heard::new(events, scenario.workload().ms(), listener);
     run_silently(&mut sim, &mut events);
     let text = text_of(alloc, sim.maps());
     give_back(events, sim);
-    drop(workload);
+    drop(scenario);
     text
 }
 

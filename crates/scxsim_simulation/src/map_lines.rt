@@ -16,7 +16,7 @@ const COPIES: u32 = 64;
 
 /// Appends a line for each element that isn't zero, and for each value that a hash, a queue or a stack has.
 #[tactic(auto, using(crate::proofs::Pieces::puts_next))]
-pub(crate) fn push_maps(maps: &Maps, text: &mut Text)
+pub fn push_maps(maps: &Maps, text: &mut Text)
     ensures { Puts text.old (map_lines maps.now) text.new }
 {
     for map in 0..maps.count() as u8 {

@@ -154,7 +154,7 @@ pub(crate) fn begin_with<E: Drop>(
 
 /// The machine of a workload under a policy, before the first event.
 #[tactic(auto, using(crate::proofs::Shapes::shape_is_right))]
-fn start(alloc: Global, policy: Policy, workload: &Workload) -> Result<Sim, Refusal>
+pub(crate) fn start(alloc: Global, policy: Policy, workload: &Workload) -> Result<Sim, Refusal>
     ensures first { IfOk result
         (IsFirstState policy (first_tree workload.now) workload.now.cpus) }
     ensures answered { OnOk result (AreAnswered
@@ -180,7 +180,7 @@ pub(crate) fn policy_in(alloc: Global, text: &str) -> Result<PolicyText, Refusal
 }
 
 /// The workload of a text, for a policy by those rules.
-fn workload_in(alloc: Global, rules: Rules, text: &str) -> Result<Workload, Refusal>
+pub(crate) fn workload_in(alloc: Global, rules: Rules, text: &str) -> Result<Workload, Refusal>
     ensures read { IfOk result (λ workload. workload_by rules text.now ≡ Ok workload) }
     ensures refused { IfErr result (IsWorkloadFault rules text.now) }
 {

@@ -82,7 +82,7 @@ pub fn prepare_replay(alloc: Global, policy: &str, events: &str) -> Result<Run<R
 }
 
 /// The file of events of a text, for a policy by those rules.
-fn events_in(alloc: Global, rules: Rules, text: &str) -> Result<Replay, Refusal>
+pub(crate) fn events_in(alloc: Global, rules: Rules, text: &str) -> Result<Replay, Refusal>
     ensures read { IfOk result (λ replay. replay_by rules text.now ≡ Ok replay) }
     ensures refused { IfErr result (IsEventsFault rules text.now) }
 {

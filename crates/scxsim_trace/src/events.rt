@@ -3,9 +3,10 @@ ghost use Rattle.scx_sched_machine.specs.declared.events.Event.{Event};
 ghost use Rattle.scx_sched.specs.Sim.{SimState, after_event};
 ghost use Rattle.scx_load_driver.specs.Driver as driver;
 ghost use Rattle.scx_load_replay.specs.Replayer as replayer;
+ghost use Rattle.scx_load_replay.specs.Sources as sources;
 
 use scx_load_driver::Driver;
-use scx_load_replay::Replayer;
+use scx_load_replay::{Replayer, Source};
 use scx_sched::{Event, Sim};
 
 /// Events for a machine, one after another.
@@ -34,5 +35,14 @@ impl Events for Replayer {
 
     fn next(&mut self, _sim: &Sim) -> Option<Event> {
         Replayer::next(self)
+    }
+}
+
+impl Events for Source {
+    ghost remaining = { sources.remaining };
+
+    #[inline(always)]
+    fn next(&mut self, sim: &Sim) -> Option<Event> {
+        Source::next(self, sim)
     }
 }
