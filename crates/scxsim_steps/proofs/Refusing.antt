@@ -3,11 +3,11 @@ use Rattle.std.proofs.Common.{◌≡◌, arith, ℕ, ◌<◌, ◌^◌, List, fal
 use Rattle.std.specs.Prelude.{IfNone, codes}
 use Rattle.std.specs.Io.KnownBytes.{Appends}
 use Rattle.scx_sched_machine.specs.declared.events.Event.{Event}
-use Rattle.scx_load_workloads.specs.Workload.{WorkloadState}
-use Rattle.scx_load_driver.specs.Events.{workload_events}
+use Rattle.scx_load_replay.specs.declared.scenario.Scenario.{Scenario}
+use Rattle.scx_load_replay.specs.Scenarios.{workload_of, scenario_events}
 use Rattle.scx_sched.specs.Sim.{SimState}
 use Rattle.scxsim_trace.specs.Lines.{names_of}
-use Rattle.scxsim_simulation.specs.Runs.{IsRun}
+use Rattle.scxsim_simulation.specs.Scenarios.{IsScenarioRun}
 use Rattle.scxsim_steps.specs.Moments.{Says, IsMoment}
 use Rattle.scxsim_steps.specs.Stepping.{notes_within, HasLines, IsStepped, IsOutside, IsAnswer}
 
@@ -25,19 +25,19 @@ past all word n said l ms p =
     omega (arith, inside, same, l)
 
 -- the run is that of the texts, and its page was made
-pub stepped_of_run : (policy workload word text : List ℕ) (w : WorkloadState) (s : SimState) (ms : ℕ) (es : List Event) → IsRun policy workload w s → es ≡ workload_events w s → IsMoment w.ms word ms
-    → HasLines (names_of w) (notes_within ms s es) text → IsStepped policy workload word text
-stepped_of_run policy workload word text w s ms es run events named lines =
-    let P : List Event → Type 0 = λ l. HasLines (names_of w) (notes_within ms s l) text in
-    record { of_workload = w; first = s; run = run; ms = ms; named = named; has_lines = subst P events lines }
+pub stepped_of_run : (policy scenario word text : List ℕ) (x : Scenario) (s : SimState) (ms : ℕ) (es : List Event) → IsScenarioRun policy scenario x s → es ≡ scenario_events x s → IsMoment (workload_of x).ms word ms
+    → HasLines (names_of (workload_of x)) (notes_within ms s es) text → IsStepped policy scenario word text
+stepped_of_run policy scenario word text x s ms es run events named lines =
+    let P : List Event → Type 0 = λ l. HasLines (names_of (workload_of x)) (notes_within ms s l) text in
+    record { of_scenario = x; first = s; run = run; ms = ms; named = named; has_lines = subst P events lines }
 
 -- the run is that of the texts, and the word names no millisecond of it
-pub outside_of_run : (policy workload word : List ℕ) (w : WorkloadState) (s : SimState) → IsRun policy workload w s → ((ms : ℕ) → ¬ IsMoment w.ms word ms) → IsOutside policy workload word
-outside_of_run policy workload word w s run none = record { of_workload = w; first = s; run = run; none = none }
+pub outside_of_run : (policy scenario word : List ℕ) (x : Scenario) (s : SimState) → IsScenarioRun policy scenario x s → ((ms : ℕ) → ¬ IsMoment (workload_of x).ms word ms) → IsOutside policy scenario word
+outside_of_run policy scenario word x s run none = record { of_scenario = x; first = s; run = run; none = none }
 
 -- that it names none is said
-pub past_is_said : {A : Type 0} (policy workload word : List ℕ) (page : Option A) (old new : Option (List ℕ)) (bytes : List ℕ) → IfNone page (IsOutside policy workload word) → page ≡ None → bytes ≡ codes "refused: word MS: out of range\n" → Appends old new bytes
-    → (text : List ℕ) × IsAnswer false policy workload word text × Appends old new text
-past_is_said {A} policy workload word page old new bytes none is said grown =
-    let P : Option A → Type 0 = λ p. IfNone p (IsOutside policy workload word) in
+pub past_is_said : {A : Type 0} (policy scenario word : List ℕ) (page : Option A) (old new : Option (List ℕ)) (bytes : List ℕ) → IfNone page (IsOutside policy scenario word) → page ≡ None → bytes ≡ codes "refused: word MS: out of range\n" → Appends old new bytes
+    → (text : List ℕ) × IsAnswer false policy scenario word text × Appends old new text
+past_is_said {A} policy scenario word page old new bytes none is said grown =
+    let P : Option A → Type 0 = λ p. IfNone p (IsOutside policy scenario word) in
     (bytes, (subst P is none, said), grown)

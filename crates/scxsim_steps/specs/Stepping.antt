@@ -4,10 +4,10 @@ use Rattle.std.specs.List.{filter}
 use Rattle.scx_sched_world.specs.declared.notes.Note.{Note}
 use Rattle.scx_sched_machine.specs.declared.events.Event.{Event}
 use Rattle.scx_sched.specs.Sim.{SimState, after_event, notes_of}
-use Rattle.scx_load_workloads.specs.Workload.{WorkloadState}
-use Rattle.scx_load_driver.specs.Events.{workload_events}
+use Rattle.scx_load_replay.specs.declared.scenario.Scenario.{Scenario}
+use Rattle.scx_load_replay.specs.Scenarios.{workload_of, scenario_events}
 use Rattle.scxsim_trace.specs.Lines.{NameLists, names_of, note_line}
-use Rattle.scxsim_simulation.specs.Runs.{IsRun}
+use Rattle.scxsim_simulation.specs.Scenarios.{IsScenarioRun}
 use Rattle.scxsim_steps.specs.Moments.{IsMoment}
 
 -- the notes of a millisecond among those of events, up to the first event that comes after it
@@ -38,27 +38,27 @@ pub record HasLines (names : NameLists) (notes : List Note) (text : List ℕ) : 
 
 -- the word names a millisecond of the run of the two texts, and the page has
 -- the lines of its notes
-pub record IsStepped (policy workload word text : List ℕ) : Type 0 where
-  pub of_workload : WorkloadState
+pub record IsStepped (policy scenario word text : List ℕ) : Type 0 where
+  pub of_scenario : Scenario
   pub first : SimState
-  pub run : IsRun policy workload of_workload first
+  pub run : IsScenarioRun policy scenario of_scenario first
   pub ms : ℕ
-  pub named : IsMoment of_workload.ms word ms
-  pub has_lines : HasLines (names_of of_workload)
-      (notes_within ms first (workload_events of_workload first)) text
+  pub named : IsMoment (workload_of of_scenario).ms word ms
+  pub has_lines : HasLines (names_of (workload_of of_scenario))
+      (notes_within ms first (scenario_events of_scenario first)) text
 
 -- the word names no millisecond of the run of the two texts
-pub record IsOutside (policy workload word : List ℕ) : Type 0 where
-  pub of_workload : WorkloadState
+pub record IsOutside (policy scenario word : List ℕ) : Type 0 where
+  pub of_scenario : Scenario
   pub first : SimState
-  pub run : IsRun policy workload of_workload first
-  pub none : (ms : ℕ) → ¬ IsMoment of_workload.ms word ms
+  pub run : IsScenarioRun policy scenario of_scenario first
+  pub none : (ms : ℕ) → ¬ IsMoment (workload_of of_scenario).ms word ms
 
 -- what is written where the answer is true, and where it is false
 abbrev pub IsAnswer : Bool → List ℕ → List ℕ → List ℕ → List ℕ → Type 0
-IsAnswer true policy workload word text = IsStepped policy workload word text
-IsAnswer false policy workload word text =
-    IsOutside policy workload word × (text ≡ codes "refused: word MS: out of range\n")
+IsAnswer true policy scenario word text = IsStepped policy scenario word text
+IsAnswer false policy scenario word text =
+    IsOutside policy scenario word × (text ≡ codes "refused: word MS: out of range\n")
 
 -- ---- while a run goes on
 

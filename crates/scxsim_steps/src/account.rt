@@ -6,6 +6,7 @@ use scx_load_workloads::Workload;
 use scx_sched::{Event, Sim};
 use scx_vm::{Arg, Args};
 use scxsim_output::Text;
+use scxsim_simulation::push_maps;
 use scxsim_trace::Names;
 use std::alloc::Global;
 
@@ -88,6 +89,17 @@ impl<'a> Account<'a> {
         self.phase = Phase::Over;
         self.text.push("\nafter it\n");
         push_state(self.alloc, self.names, sim, &mut self.text);
+        self.push_map_values(sim);
+    }
+
+    /// Tells what the policy's maps hold, if it isn't all zero.
+    fn push_map_values(&mut self, sim: &Sim) {
+        let mut lines = Text::new(self.alloc);
+        push_maps(sim.maps(), &mut lines);
+        if !lines.is_empty() {
+            self.text.push("\nmaps after it\n");
+            self.text.append(&lines);
+        }
     }
 
     /// Begins the account of the event, as something comes of it.

@@ -1,10 +1,11 @@
 ghost use Rattle.std.specs.Prelude.{◌≡◌, ℕ, List, Err, IfOk, IfErr, OnOk, IfSome, IfNone};
 ghost use Rattle.std.specs.Io.KnownBytes.{Appends};
-ghost use Rattle.scx_load_driver.specs.Driver.{remaining};
+ghost use Rattle.scx_load_replay.specs.Scenarios.{workload_of};
+ghost use Rattle.scx_load_replay.specs.Sources.{remaining};
 ghost use Rattle.scxsim_trace.specs.Lines.{names_of};
 ghost use Rattle.scxsim_output.specs.Output.{HasFailed};
 ghost use Rattle.scxsim_commands.specs.Outcome.{IfRefused, IsRefused};
-ghost use Rattle.scxsim_simulation.specs.Runs.{IsCause};
+ghost use Rattle.scxsim_simulation.specs.Scenarios.{IsScenarioCause};
 ghost use Rattle.scxsim_steps.specs.Stepping.{notes_within, HasLines, IsStepped, IsOutside, IsAnswer};
 
 use crate::moments::moment_in;
@@ -15,13 +16,13 @@ use scx_load_workloads::Workload;
 use scx_sched::Sim;
 use scxsim_commands::{Fault, Refusal};
 use scxsim_output::{Out, write_all};
-use scxsim_simulation::{Heard, Listener, Run, give_back, prepare};
+use scxsim_simulation::{Heard, Listener, ScenarioRun, give_back, prepare_scenario};
 use scxsim_trace::Events;
 use std::alloc::{AllocError, Global};
 
-/// Writes what happens in that millisecond, by the clock of a trace, of the run of a policy file and a workload file:
-/// each callback that is called, instruction by instruction, and each note. The result is true, or false if the word
-/// is refused.
+/// Writes what happens in that millisecond, by the clock of a trace, of the run of a policy file and of a workload file
+/// or a file of events: each callback that is called, instruction by instruction, and each note. The result is true, or
+/// false if the word is refused.
 ///
 /// # Errors
 ///
@@ -29,24 +30,24 @@ use std::alloc::{AllocError, Global};
 pub fn step<L: Listener, W: Out>(
     alloc: Global,
     policy: &str,
-    workload: &str,
+    scenario: &str,
     ms: &str,
     listener: &mut L,
     out: &mut W,
 ) -> Result<bool, Fault>
     // The lines that a trace has of the millisecond stand on the page, or the word names none of the run.
     ensures done { IfOk result (λ answer. (text : List ℕ)
-        × IsAnswer answer policy.now workload.now ms.now text
+        × IsAnswer answer policy.now scenario.now ms.now text
         × Appends (W.contents out.old) (W.contents out.new) text) }
     ensures unfailed { OnOk result (W.failure_count out.new ≡ W.failure_count out.old) }
 
     // A refusal has its cause in the texts, and comes before any byte is written.
-    ensures refused { IfRefused result (IsCause policy.now workload.now) }
+    ensures refused { IfRefused result (IsScenarioCause policy.now scenario.now) }
     ensures quiet { IsRefused result → out.new ≡ out.old }
     ensures counted { result ≡ Err Fault.WriteFailed
         → HasFailed (W.failure_count out.old) (W.failure_count out.new) }
 {
-    match page_of(alloc, policy, workload, ms, listener)? {
+    match page_of(alloc, policy, scenario, ms, listener)? {
         Some(page) => {
             write_all(out, page.as_slice())?;
             Ok(true)
@@ -63,17 +64,17 @@ pub fn step<L: Listener, W: Out>(
 fn page_of<L: Listener>(
     alloc: Global,
     policy: &str,
-    workload: &str,
+    scenario: &str,
     ms: &str,
     listener: &mut L,
 ) -> Result<Option<Vec<u8>>, Refusal>
     ensures page { IfOk result
-        (λ page. IfSome page (λ page. IsStepped policy.now workload.now ms.now page.items)) }
-    ensures none { IfOk result (λ page. IfNone page (IsOutside policy.now workload.now ms.now)) }
-    ensures refused { IfErr result (IsCause policy.now workload.now) }
+        (λ page. IfSome page (λ page. IsStepped policy.now scenario.now ms.now page.items)) }
+    ensures none { IfOk result (λ page. IfNone page (IsOutside policy.now scenario.now ms.now)) }
+    ensures refused { IfErr result (IsScenarioCause policy.now scenario.now) }
 {
-    let run = prepare(alloc, policy, workload)?;
-    match moment_in(ms, run.workload.ms()) {
+    let run = prepare_scenario(alloc, policy, scenario)?;
+    match moment_in(ms, run.scenario.workload().ms()) {
         Some(ms) => Ok(Some(page_at(alloc, policy, run, ms, listener)?)),
         None => {
             drop(run);
@@ -86,23 +87,24 @@ fn page_of<L: Listener>(
 fn page_at<L: Listener>(
     alloc: Global,
     policy: &str,
-    run: Run,
+    run: ScenarioRun,
     ms: u64,
     listener: &mut L,
 ) -> Result<Vec<u8>, AllocError>
-    ensures { IfOk result (λ page. HasLines (names_of run.workload)
-        (notes_within ms run.sim (remaining run.driver run.sim)) page.items) }
+    ensures { IfOk result (λ page. HasLines (names_of (workload_of run.scenario))
+        (notes_within ms run.sim (remaining run.events run.sim)) page.items) }
 {
-    let Run {
-        workload,
-        driver,
+    let ScenarioRun {
+        scenario,
+        events,
         mut sim,
         ..
     } = run;
-    let mut events = Heard::new(driver, workload.ms(), listener);
-    let page = page_from(alloc, policy, &workload, ms, &mut events, &mut sim);
+    let workload = scenario.workload();
+    let mut events = Heard::new(events, workload.ms(), listener);
+    let page = page_from(alloc, policy, workload, ms, &mut events, &mut sim);
     give_back(events, sim);
-    drop(workload);
+    drop(scenario);
     page
 }
 

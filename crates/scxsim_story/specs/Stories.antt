@@ -4,12 +4,13 @@ use Rattle.scx_sched_world.specs.declared.notes.Note.{Note}
 use Rattle.scx_sched.specs.Sim.{SimState}
 use Rattle.scx_load_workloads.specs.Workload.{WorkloadState}
 use Rattle.scx_load_driver.specs.Runs.{notes_of_all}
-use Rattle.scx_load_driver.specs.Events.{workload_events}
+use Rattle.scx_load_replay.specs.declared.scenario.Scenario.{Scenario}
+use Rattle.scx_load_replay.specs.Scenarios.{workload_of, scenario_events}
 use Rattle.scxsim_trace.specs.Lines.{names_of, task_name}
 use Rattle.scxsim_views.specs.BoundTasks.{bound_mask}
 use Rattle.scxsim_commands.specs.declared.refusal.Refusal.{Refusal}
 use Rattle.scxsim_commands.specs.declared.refusal.Refusal.TheVariants.{NoSuchTask}
-use Rattle.scxsim_simulation.specs.Runs.{IsRun, AreRead, IsCause}
+use Rattle.scxsim_simulation.specs.Scenarios.{IsScenarioRun, IsScenarioRead, IsScenarioCause}
 use Rattle.scxsim_story.specs.declared.subject.Subject.{Subject}
 use Rattle.scxsim_story.specs.Occurrences.{occurrences, Tells}
 
@@ -42,21 +43,22 @@ pub record IsToldIn (w : WorkloadState) (task : List ℕ) (notes : List Note)
   pub told : TellsAll task (bound_mask w subject.task) subject notes text
 
 -- the story of the task in the run of the two texts
-pub record IsStory (policy workload task text : List ℕ) : Type 0 where
-  pub of_workload : WorkloadState
+pub record IsStory (policy scenario task text : List ℕ) : Type 0 where
+  pub of_scenario : Scenario
   pub first : SimState
-  pub run : IsRun policy workload of_workload first
+  pub run : IsScenarioRun policy scenario of_scenario first
   pub told :
-      IsToldIn of_workload task (notes_of_all first (workload_events of_workload first)) text
+      IsToldIn (workload_of of_scenario) task
+      (notes_of_all first (scenario_events of_scenario first)) text
 
--- both texts are read, and the word names none of the workload's tasks
-pub record IsUnknownTask (policy workload task : List ℕ) (r : Refusal) : Type 0 where
-  pub of_workload : WorkloadState
-  pub read : AreRead policy workload of_workload
-  pub none : IsNoTask of_workload task
+-- both texts are read, and the word names none of the scenario's tasks
+pub record IsUnknownTask (policy scenario task : List ℕ) (r : Refusal) : Type 0 where
+  pub of_scenario : Scenario
+  pub read : IsScenarioRead policy scenario of_scenario
+  pub none : IsNoTask (workload_of of_scenario) task
   pub refused : r ≡ NoSuchTask
 
 -- the texts are refused, or the word is
 abbrev pub IsStoryCause : List ℕ → List ℕ → List ℕ → Refusal → Type 0
-IsStoryCause policy workload task r =
-    IsCause policy workload r ⊎ IsUnknownTask policy workload task r
+IsStoryCause policy scenario task r =
+    IsScenarioCause policy scenario r ⊎ IsUnknownTask policy scenario task r

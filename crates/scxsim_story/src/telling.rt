@@ -1,7 +1,8 @@
 ghost use Rattle.std.specs.Prelude.{◌≡◌, ◌⊎◌, ℕ, List, true, Err, IfOk, IfErr, OnOk, string_bytes};
 ghost use Rattle.std.specs.Io.KnownBytes.{Appends};
-ghost use Rattle.scx_load_driver.specs.Driver.{remaining};
 ghost use Rattle.scx_load_driver.specs.Runs.{notes_of_all};
+ghost use Rattle.scx_load_replay.specs.Scenarios.{workload_of};
+ghost use Rattle.scx_load_replay.specs.Sources.{remaining};
 ghost use Rattle.scxsim_output.specs.Output.{HasFailed};
 ghost use Rattle.scxsim_commands.specs.Outcome.{IfRefused, IsRefused};
 ghost use Rattle.scxsim_commands.specs.declared.refusal.Refusal.TheVariants.{NoMemory, NoSuchTask};
@@ -15,38 +16,38 @@ use scx_load_workloads::Workload;
 use scx_sched::Sim;
 use scxsim_commands::{Fault, Refusal};
 use scxsim_output::{Out, write_all};
-use scxsim_simulation::{Heard, Listener, Run, give_back, prepare};
+use scxsim_simulation::{Heard, Listener, ScenarioRun, give_back, prepare_scenario};
 use scxsim_trace::{Events, observe};
 use std::alloc::{AllocError, Global};
 
-/// Writes the story of the task of that name in the run of the texts of a policy file and of a workload file. The
-/// answer is true.
+/// Writes the story of the task of that name in the run of the texts of a policy file and of a workload file or a file
+/// of events. The answer is true.
 ///
 /// # Errors
 ///
-/// The texts are refused, or the workload has no such task, or memory runs out, and then nothing is written, or
-/// writing the story fails.
+/// The texts are refused, or no task has that name, or memory runs out, and then nothing is written, or writing the
+/// story fails.
 pub fn story<L: Listener, W: Out>(
     alloc: Global,
     policy: &str,
-    workload: &str,
+    scenario: &str,
     task: &str,
     listener: &mut L,
     out: &mut W,
 ) -> Result<bool, Fault>
     // An opening, and a line for each occurrence of the task in the run.
     ensures done { IfOk result (λ answer. (answer ≡ true) × (text : List ℕ)
-        × IsStory policy.now workload.now task.now text
+        × IsStory policy.now scenario.now task.now text
         × Appends (W.contents out.old) (W.contents out.new) text) }
     ensures unfailed { OnOk result (W.failure_count out.new ≡ W.failure_count out.old) }
 
     // A refusal has its cause in the texts or in the name, and comes before any byte is written.
-    ensures refused { IfRefused result (IsStoryCause policy.now workload.now task.now) }
+    ensures refused { IfRefused result (IsStoryCause policy.now scenario.now task.now) }
     ensures quiet { IsRefused result → out.new ≡ out.old }
     ensures counted { result ≡ Err Fault.WriteFailed
         → HasFailed (W.failure_count out.old) (W.failure_count out.new) }
 {
-    let text = told(alloc, policy, workload, task, listener)?;
+    let text = told(alloc, policy, scenario, task, listener)?;
     write_all(out, text.as_bytes())?;
     Ok(true)
 }
@@ -56,15 +57,15 @@ pub fn story<L: Listener, W: Out>(
 fn told<L: Listener>(
     alloc: Global,
     policy: &str,
-    workload: &str,
+    scenario: &str,
     task: &str,
     listener: &mut L,
 ) -> Result<String, Refusal>
     ensures told { IfOk result
-        (λ text. IsStory policy.now workload.now task.now (string_bytes text)) }
-    ensures refused { IfErr result (IsStoryCause policy.now workload.now task.now) }
+        (λ text. IsStory policy.now scenario.now task.now (string_bytes text)) }
+    ensures refused { IfErr result (IsStoryCause policy.now scenario.now task.now) }
 {
-    let run = prepare(alloc, policy, workload)?;
+    let run = prepare_scenario(alloc, policy, scenario)?;
     told_of_run(alloc, run, task, listener)
 }
 
@@ -72,16 +73,16 @@ fn told<L: Listener>(
 #[tactic(auto, using(crate::proofs::Refusing::told_of_subject))]
 fn told_of_run<L: Listener>(
     alloc: Global,
-    run: Run,
+    run: ScenarioRun,
     task: &str,
     listener: &mut L,
 ) -> Result<String, Refusal>
-    ensures told { IfOk result (λ text. IsToldIn run.workload task.now
-        (notes_of_all run.sim (remaining run.driver run.sim)) (string_bytes text)) }
+    ensures told { IfOk result (λ text. IsToldIn (workload_of run.scenario) task.now
+        (notes_of_all run.sim (remaining run.events run.sim)) (string_bytes text)) }
     ensures refused { IfErr result (λ refusal. (refusal ≡ NoMemory)
-        ⊎ ((refusal ≡ NoSuchTask) × IsNoTask run.workload task.now)) }
+        ⊎ ((refusal ≡ NoSuchTask) × IsNoTask (workload_of run.scenario) task.now)) }
 {
-    match subject_of(&run.workload, task) {
+    match subject_of(run.scenario.workload(), task) {
         Some(subject) => Ok(tell(alloc, run, task, subject, listener)?),
         None => {
             drop(run);
@@ -93,24 +94,26 @@ fn told_of_run<L: Listener>(
 /// The story of this task, by its name, in this run.
 fn tell<L: Listener>(
     alloc: Global,
-    run: Run,
+    run: ScenarioRun,
     name: &str,
     subject: Subject,
     listener: &mut L,
 ) -> Result<String, AllocError>
-    ensures { IfOk result (λ text. TellsAll name.now (bound_mask run.workload subject.task) subject
-        (notes_of_all run.sim (remaining run.driver run.sim)) (string_bytes text)) }
+    ensures { IfOk result (λ text.
+        TellsAll name.now (bound_mask (workload_of run.scenario) subject.task) subject
+        (notes_of_all run.sim (remaining run.events run.sim)) (string_bytes text)) }
 {
-    let Run {
-        workload,
-        driver,
+    let ScenarioRun {
+        scenario,
+        events,
         mut sim,
         ..
     } = run;
-    let mut events = Heard::new(driver, workload.ms(), listener);
-    let text = tell_from(alloc, &workload, name, subject, &mut events, &mut sim);
+    let workload = scenario.workload();
+    let mut events = Heard::new(events, workload.ms(), listener);
+    let text = tell_from(alloc, workload, name, subject, &mut events, &mut sim);
     give_back(events, sim);
-    drop(workload);
+    drop(scenario);
     text
 }
 
