@@ -11,3 +11,4 @@ mod Lost
 mod Whole
 mod Staying
 mod Reading
+mod Levels

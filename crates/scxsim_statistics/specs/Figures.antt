@@ -11,11 +11,13 @@ use Rattle.scx_sched_machine.specs.declared.events.Event.TheVariants as event
 use Rattle.scx_sched.specs.Sim.{SimState, after_event, notes_of}
 use Rattle.scx_load_driver.specs.Runs.{stepped_all, notes_of_all}
 use Rattle.scxsim_trace.specs.Report.{ran_ms}
-use Rattle.scx_load_driver.specs.Events.{workload_events}
 use Rattle.scx_load_workloads.specs.Workload.{WorkloadState}
 use Rattle.scx_load_replay.specs.Replay.{ReplayState}
 use Rattle.scx_load_replay.specs.Events.{replay_events}
-use Rattle.scxsim_simulation.specs.Runs.{IsRun, last_of, name_in}
+use Rattle.scxsim_simulation.specs.Runs.{name_in}
+use Rattle.scxsim_simulation.specs.Scenarios.{IsScenarioRun}
+use Rattle.scx_load_replay.specs.declared.scenario.Scenario.{Scenario}
+use Rattle.scx_load_replay.specs.Scenarios.{workload_of, scenario_events}
 use Rattle.scxsim_simulation.specs.Replays.{IsReplayRun}
 use Rattle.scxsim_views.specs.declared.pauses.Doing.{Doing}
 use Rattle.scxsim_views.specs.declared.pauses.Doing.TheVariants.{Sleeps}
@@ -373,12 +375,16 @@ pub record AreOfRun (w : WorkloadState) (s : SimState) (es : List Event) (f : Ru
   pub anywhere : f.anywhere ≡ at_most_64_bits (lost_anywhere_in (all_asleep w) s es)
   pub ejected : f.ejected ≡ (stepped_all s es).state.world.ejected
 
--- the figures of the run of the two texts
-pub record AreOfTexts (policy workload : List ℕ) (f : Figures) : Type 0 where
+-- the figures of the run of the two texts, of which the second is a workload or a file of events
+pub record AreOfTexts (policy scenario : List ℕ) (f : Figures) : Type 0 where
+  pub x : Scenario
   pub first : SimState
-  pub run : IsRun policy workload f.workload first
-  pub all_there : length (last_of f.workload first).state.world.tasks ≡ length f.workload.homes
-  pub of_run : AreOfRun f.workload first (workload_events f.workload first) (of_figures f)
+  pub run : IsScenarioRun policy scenario x first
+  pub workload : f.workload ≡ workload_of x
+  pub all_there :
+      length (stepped_all first (scenario_events x first)).state.world.tasks
+      ≡ length (workload_of x).homes
+  pub of_run : AreOfRun (workload_of x) first (scenario_events x first) (of_figures f)
   pub named : name_in policy ≡ Ok (string_bytes f.policy_name)
 
 -- the figures of the run of a policy's text and a file of events

@@ -7,3 +7,4 @@ pub mod Counting
 pub mod Groups
 pub mod Figures
 pub mod Shares
+pub mod Claims

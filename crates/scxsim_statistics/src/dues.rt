@@ -1,4 +1,4 @@
-use crate::quotas::Quotas;
+use crate::quotas::{Quotas, add_share};
 use scx_load_workloads::Workload;
 use scx_weights::DueShares;
 use std::alloc::{AllocError, Global};
@@ -10,7 +10,8 @@ pub(crate) struct Dues {
     /// The sum of shares that were due to each group: one for each millisecond of each CPU that ran.
     pub(crate) due: Vec<u128>,
     pub(crate) quotas: Quotas,
-    /// The number of CPUs that ran in the current millisecond, whose shares aren't settled.
+    /// The milliseconds of CPUs that ran and whose shares aren't settled: those of the current millisecond, or under
+    /// quotas of a stretch of time.
     busy: u64,
 }
 
@@ -37,15 +38,47 @@ impl Dues {
     pub(crate) fn settle(&mut self) {
         if 0 < self.busy {
             self.shares.renew();
-            add_shares(self.due.as_mut_slice(), self.shares.as_slice(), self.busy);
+            self.add_due();
             self.busy = 0;
         }
     }
 
+    /// Adds what is due by weights, or under quotas by weights and quotas.
+    fn add_due(&mut self) {
+        let due = self.due.as_mut_slice();
+        if self.quotas.are_some() {
+            self.quotas.share(self.shares.as_slice(), self.busy, due);
+        } else {
+            add_shares(due, self.shares.as_slice(), self.busy);
+        }
+    }
+
+    /// Ends a stretch of time, before a weight or a group with runnable tasks changes.
+    pub(crate) fn end_stretch(&mut self) {
+        if self.quotas.are_some() {
+            self.settle();
+        }
+    }
+
+    /// The group has that weight from now on.
+    pub(crate) fn weigh(&mut self, group: u32, weight: u32) {
+        self.end_stretch();
+        self.shares.weigh(group, weight);
+        self.quotas.weigh(group, weight);
+    }
+
     /// Ends a millisecond, as the clock comes to `clock`.
     pub(crate) fn pass(&mut self, clock: u64) {
-        self.settle();
+        if !self.quotas.are_some() || self.quotas.begin_period(clock) {
+            self.settle();
+        }
         self.quotas.pass(clock);
+    }
+
+    /// Ends what goes on as the run ends at this clock.
+    pub(crate) fn end(&mut self, clock: u64) {
+        self.end_stretch();
+        self.quotas.end(clock);
     }
 }
 
@@ -53,12 +86,5 @@ impl Dues {
 fn add_shares(due: &mut [u128], shares: &[u128], cpus: u64) {
     for (group, share) in shares.iter().enumerate() {
         add_share(due, group, share.saturating_mul(u128::from(cpus)));
-    }
-}
-
-/// Adds to the share that is due to that group.
-fn add_share(due: &mut [u128], group: usize, more: u128) {
-    if let Some(due) = due.get_mut(group) {
-        *due = due.saturating_add(more);
     }
 }

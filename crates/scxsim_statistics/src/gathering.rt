@@ -233,15 +233,17 @@ impl<'a> Gathering<'a> {
         match what {
             What::Wake(task) => {
                 if let Some(group) = self.home(task) {
+                    self.dues.end_stretch();
                     self.dues.shares.activate(group);
                 }
             }
             What::Sleep(task) => {
                 if let Some(group) = self.home(task) {
+                    self.dues.end_stretch();
                     self.dues.shares.deactivate(group);
                 }
             }
-            What::Weight(group, weight) => self.dues.shares.weigh(group, weight),
+            What::Weight(group, weight) => self.dues.weigh(group, weight),
             What::TaskWeight(_, _)
             | What::Insert(_, _)
             | What::Move(_, _)
@@ -260,7 +262,7 @@ impl<'a> Gathering<'a> {
             × (counts_of self.new.tally ≡ counts_at_end sim.now.state.world (counts_of self.old.tally)) }
     {
         self.tally.end(sim);
-        self.dues.quotas.end(sim.clock());
+        self.dues.end(sim.clock());
     }
 }
 

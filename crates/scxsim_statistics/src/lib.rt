@@ -3,6 +3,7 @@
 #![tactic(auto)]
 
 mod bursts;
+mod claims;
 mod dues;
 mod gathering;
 mod group_waits;
@@ -15,6 +16,7 @@ mod runs;
 mod tally;
 
 pub use bursts::BurstFigures;
+pub use claims::dues_are_fair;
 pub use gathering::Figures;
 pub use group_waits::GroupWaits;
 pub use groups::GroupFigures;
@@ -22,5 +24,5 @@ pub use latencies::LatencyFigures;
 pub use length_counts::LengthCounts;
 pub use losses::Losses;
 pub use quotas::{QuotaFigures, Quotas};
-pub use runs::{FiguresAndStart, figures, figures_and_start, replay_figures};
+pub use runs::{FiguresAndStart, Start, figures, figures_and_start, replay_figures};
 pub use tally::{CpuFigures, TaskFigures};

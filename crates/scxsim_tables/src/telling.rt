@@ -3,7 +3,7 @@ ghost use Rattle.std.specs.Io.KnownBytes.{Appends};
 ghost use Rattle.scxsim_output.specs.Output.{Counts, HasFailed, AppendsBeginning};
 ghost use Rattle.scxsim_commands.specs.declared.refusal.Refusal.TheVariants.{NoMemory};
 ghost use Rattle.scxsim_commands.specs.Outcome.{IfRefused, IsRefused};
-ghost use Rattle.scxsim_simulation.specs.Runs.{IsCause};
+ghost use Rattle.scxsim_simulation.specs.Scenarios.{IsScenarioCause};
 ghost use Rattle.scxsim_simulation.specs.Replays.{IsReplayCause};
 ghost use Rattle.scxsim_statistics.specs.Figures.{AreOfTexts, AreOfEvents};
 ghost use Rattle.scxsim_statistics.specs.declared.gathering.Figures.{Figures as AllFigures};
@@ -12,15 +12,18 @@ ghost use Rattle.scxsim_tables.specs.Values.{value_rows, values};
 
 use crate::tables::{TASKS, write_cause, write_tables};
 use crate::values::{COLUMNS, write_list};
-use scx_sched::{Eject, Sim};
+use scx_sched::Eject;
 use scxsim_commands::{Fault, Refusal};
-use scxsim_faults::{FaultPlace, find_fault_in};
+use scxsim_faults::{FaultPlace, find_fault_among};
 use scxsim_output::{Failed, Out, Text, write_all};
 use scxsim_simulation::Listener;
-use scxsim_statistics::{Figures, FiguresAndStart, figures, figures_and_start, replay_figures};
+use scxsim_statistics::{
+    Figures, FiguresAndStart, Start, figures, figures_and_start, replay_figures,
+};
 use std::alloc::{AllocError, Global};
 
-/// Writes tables of the figures of the run of a policy file's text and a workload file's. The answer is true.
+/// Writes tables of the figures of the run of a policy file's text and of a workload's or of a file of events. The
+/// answer is true.
 ///
 /// # Errors
 ///
@@ -28,34 +31,34 @@ use std::alloc::{AllocError, Global};
 pub fn stats<L: Listener, W: Out>(
     alloc: Global,
     policy: &str,
-    workload: &str,
+    scenario: &str,
     listener: &mut L,
     out: &mut W,
 ) -> Result<bool, Fault>
     // The tables are those of the run's figures, with some words to a fault or exit.
     ensures done { IfOk result (λ answer. (answer ≡ true)
-        × (f : AllFigures) × AreOfTexts policy.now workload.now f × (words : List ℕ)
+        × (f : AllFigures) × AreOfTexts policy.now scenario.now f × (words : List ℕ)
         × Appends (W.contents out.old) (W.contents out.new) (tables f words)) }
     ensures unfailed { OnOk result (W.failure_count out.new ≡ W.failure_count out.old) }
 
     // A refusal has its cause in the texts, and comes before any byte is written.
-    ensures refused { IfRefused result (IsCause policy.now workload.now) }
+    ensures refused { IfRefused result (IsScenarioCause policy.now scenario.now) }
     ensures quiet { IsRefused result → out.new ≡ out.old }
 
     // The tables are cut off where writing fails.
     ensures cut { result ≡ Err Fault.WriteFailed
-        → (f : AllFigures) × AreOfTexts policy.now workload.now f × (words : List ℕ)
+        → (f : AllFigures) × AreOfTexts policy.now scenario.now f × (words : List ℕ)
         × AppendsBeginning (W.contents out.old) (W.contents out.new) (tables f words) }
     ensures counted { result ≡ Err Fault.WriteFailed
         → HasFailed (W.failure_count out.old) (W.failure_count out.new) }
 {
-    let rows = tables_of(alloc, policy, workload, listener)?;
+    let rows = tables_of(alloc, policy, scenario, listener)?;
     write_rows(TASKS, rows.as_str(), out)?;
     Ok(true)
 }
 
-/// Writes the figures of the run of a policy file's text and a workload file's as comma-separated values. The answer is
-/// true.
+/// Writes the figures of the run of a policy file's text and of a workload's or of a file of events as
+/// comma-separated values. The answer is true.
 ///
 /// # Errors
 ///
@@ -63,28 +66,28 @@ pub fn stats<L: Listener, W: Out>(
 pub fn stats_csv<L: Listener, W: Out>(
     alloc: Global,
     policy: &str,
-    workload: &str,
+    scenario: &str,
     listener: &mut L,
     out: &mut W,
 ) -> Result<bool, Fault>
     // The values are those of the run's figures.
     ensures done { IfOk result (λ answer. (answer ≡ true)
-        × (f : AllFigures) × AreOfTexts policy.now workload.now f
+        × (f : AllFigures) × AreOfTexts policy.now scenario.now f
         × Appends (W.contents out.old) (W.contents out.new) (values f)) }
     ensures unfailed { OnOk result (W.failure_count out.new ≡ W.failure_count out.old) }
 
     // A refusal has its cause in the texts, and comes before any byte is written.
-    ensures refused { IfRefused result (IsCause policy.now workload.now) }
+    ensures refused { IfRefused result (IsScenarioCause policy.now scenario.now) }
     ensures quiet { IsRefused result → out.new ≡ out.old }
 
     // The values are cut off where writing fails.
     ensures cut { result ≡ Err Fault.WriteFailed
-        → (f : AllFigures) × AreOfTexts policy.now workload.now f
+        → (f : AllFigures) × AreOfTexts policy.now scenario.now f
         × AppendsBeginning (W.contents out.old) (W.contents out.new) (values f) }
     ensures counted { result ≡ Err Fault.WriteFailed
         → HasFailed (W.failure_count out.old) (W.failure_count out.new) }
 {
-    let all = figures(alloc, policy, workload, listener)?;
+    let all = figures(alloc, policy, scenario, listener)?;
     write_values(alloc, all, out)
 }
 
@@ -165,14 +168,14 @@ fn write_rows<W: Out>(head: &str, rows: &str, out: &mut W) -> Result<(), Failed>
 fn tables_of<L: Listener>(
     alloc: Global,
     policy: &str,
-    workload: &str,
+    scenario: &str,
     listener: &mut L,
 ) -> Result<String, Refusal>
-    ensures rows { IfOk result (λ rows. (f : AllFigures) × AreOfTexts policy.now workload.now f
+    ensures rows { IfOk result (λ rows. (f : AllFigures) × AreOfTexts policy.now scenario.now f
         × (words : List ℕ) × (string_bytes rows ≡ table_rows f words)) }
-    ensures refused { IfErr result (IsCause policy.now workload.now) }
+    ensures refused { IfErr result (IsScenarioCause policy.now scenario.now) }
 {
-    let found = figures_and_words(alloc, policy, workload, listener)?;
+    let found = figures_and_words(alloc, policy, scenario, listener)?;
     let rows = table_rows(alloc, &found.figures, found.words.as_str());
     drop(found);
     Ok(rows?)
@@ -195,17 +198,18 @@ pub(crate) struct FiguresAndWords {
     pub(crate) words: String,
 }
 
-/// The figures of the run of a policy file's text and a workload file's, and the words to its fault or exit.
+/// The figures of the run of a policy file's text and of a workload's or of a file of events, and the words to its
+/// fault or exit.
 pub(crate) fn figures_and_words<L: Listener>(
     alloc: Global,
     policy: &str,
-    workload: &str,
+    scenario: &str,
     listener: &mut L,
 ) -> Result<FiguresAndWords, Refusal>
-    ensures of_texts { IfOk result (λ found. AreOfTexts policy.now workload.now found.figures) }
-    ensures refused { IfErr result (IsCause policy.now workload.now) }
+    ensures of_texts { IfOk result (λ found. AreOfTexts policy.now scenario.now found.figures) }
+    ensures refused { IfErr result (IsScenarioCause policy.now scenario.now) }
 {
-    let FiguresAndStart { figures, start } = figures_and_start(alloc, policy, workload, listener)?;
+    let FiguresAndStart { figures, start } = figures_and_start(alloc, policy, scenario, listener)?;
     match words_of_cause(alloc, &figures, start) {
         Ok(words) => Ok(FiguresAndWords { figures, words }),
         Err(AllocError) => {
@@ -216,30 +220,30 @@ pub(crate) fn figures_and_words<L: Listener>(
 }
 
 /// The words to the fault or exit for which the policy was ejected, if it was ejected for one.
-fn words_of_cause(alloc: Global, figures: &Figures, start: Sim) -> Result<String, AllocError> {
-    let place = place_of_cause(alloc, figures, start)?;
+fn words_of_cause(alloc: Global, figures: &Figures, start: Start) -> Result<String, AllocError> {
+    let place = place_of_cause(figures, start);
     let mut words = Text::new(alloc);
     write_cause(figures, place, &mut words);
     words.finish()
 }
 
 /// The place of the fault or exit for which the policy was ejected, if it was ejected for one.
-fn place_of_cause(
-    alloc: Global,
-    figures: &Figures,
-    mut start: Sim,
-) -> Result<Option<FaultPlace>, AllocError>
-    ensures { IfOk result (λ place. is_some place ≡ true
-        → is_for_callback figures.now.ejected ≡ true) }
+fn place_of_cause(figures: &Figures, start: Start) -> Option<FaultPlace>
+    ensures { is_some result ≡ true → is_for_callback figures.now.ejected ≡ true }
 {
+    let Start {
+        mut events,
+        mut sim,
+    } = start;
     let ejected = figures.ejected;
     let place = match ejected {
         Some(Eject::Fault(_, clock) | Eject::Exit(_, clock)) => {
-            find_fault_in(alloc, &figures.workload, &mut start, clock)
+            find_fault_among(&mut events, &mut sim, clock)
         }
-        Some(Eject::Stall(_, _)) | None => Ok(None),
+        Some(Eject::Stall(_, _)) | None => None,
     };
-    drop(start);
+    drop(events);
+    drop(sim);
     place
 }
 
