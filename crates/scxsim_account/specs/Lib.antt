@@ -1,1 +1,2 @@
 pub mod Idling
+pub mod Runs

@@ -1,2 +1,2 @@
-pub mod Idle
 pub mod Pages
+pub mod Json

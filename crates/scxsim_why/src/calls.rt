@@ -1,12 +1,14 @@
-use crate::words::write_count;
 use scx_isa::{CALLBACKS, Callback, PerCallback, Program};
+use scx_load_workloads::Workload;
 use scxsim_output::Text;
+use scxsim_trace::Names;
 use scxsim_views::write_cpus;
 use scxsim_waits::{Calls, TimerFigures};
+use scxsim_why_lines::write_count;
 
 /// Writes the number of calls of each callback of the policy, except init and enable, and the CPUs that timers kicked.
-pub fn write_calls(programs: &PerCallback<Option<Program>>, calls: &Calls, page: &mut Text) {
-    page.push("\n    calls  of the callback\n");
+pub(crate) fn write_calls(programs: &PerCallback<Option<Program>>, calls: &Calls, page: &mut Text) {
+    page.push("\n    calls  callback\n");
     for callback in CALLBACKS {
         let is_of_start = callback == Callback::Init || callback == Callback::Enable;
         if !is_of_start && programs.get(callback).is_some() {
@@ -20,6 +22,16 @@ pub fn write_calls(programs: &PerCallback<Option<Program>>, calls: &Calls, page:
         if 0 < figures.runs {
             write_timer(timer as u64, *figures, page);
         }
+    }
+}
+
+/// Writes the shortest slice below 1 ms that a callback gave, if one did.
+pub(crate) fn write_short_slice(workload: &Workload, calls: &Calls, page: &mut Text) {
+    if let Some(short) = calls.shortest {
+        page.push(workload.task(short.task));
+        page.number(" was given a slice of ", short.slice);
+        page.number(" ns at ", short.clock);
+        page.push(" ms, which is below 1 ms: slices are in nanoseconds\n");
     }
 }
 

@@ -3,24 +3,28 @@ use scx_sched::{Event, Fault, Note, Sink};
 use scxsim_output::{Counted, Text};
 use scxsim_trace::{Names, Trace};
 use scxsim_views::fault_words;
+use scxsim_why_lines::Length;
 use std::alloc::Global;
+
+/// The most tasks that a short page names.
+const NAMED: usize = 10;
 
 /// An ejection's task and CPU, as far as it has them, and the last notes of both.
 #[derive(Clone, Copy)]
-pub struct Ejected<'a> {
+pub(crate) struct Ejected<'a> {
     pub task: Option<u16>,
     pub cpu: Option<u32>,
     pub notes: &'a [Note],
 }
 
 /// Writes that a policy was ejected because that task had waited too long.
-pub fn write_stall(workload: &Workload, task: u16, page: &mut Text) {
+pub(crate) fn write_stall(workload: &Workload, task: u16, page: &mut Text) {
     page.push(workload.task(task));
     page.push(" had waited too long (stall)\n");
 }
 
 /// Writes a fault whose place isn't known.
-pub fn write_unplaced(workload: &Workload, fault: Fault, event: Event, page: &mut Text) {
+pub(crate) fn write_unplaced(workload: &Workload, fault: Fault, event: Event, page: &mut Text) {
     page.push(", ");
     page.push(fault_words(fault));
     page.push(", ");
@@ -29,14 +33,14 @@ pub fn write_unplaced(workload: &Workload, fault: Fault, event: Event, page: &mu
 }
 
 /// Writes the end of a line on an exit whose place isn't known.
-pub fn write_unplaced_exit(workload: &Workload, event: Event, page: &mut Text) {
+pub(crate) fn write_unplaced_exit(workload: &Workload, event: Event, page: &mut Text) {
     page.push(", ");
     write_event(workload, event, page);
     page.push("\n");
 }
 
 /// Writes the event at which a policy was ejected.
-pub fn write_event(workload: &Workload, event: Event, page: &mut Text) {
+pub(crate) fn write_event(workload: &Workload, event: Event, page: &mut Text) {
     match event {
         Event::Wake(task) => {
             page.push("as ");
@@ -48,7 +52,7 @@ pub fn write_event(workload: &Workload, event: Event, page: &mut Text) {
             page.push(workload.task(task));
             page.push(" went to sleep");
         }
-        Event::Tick(cpu) => page.number("at a tick of processor ", u64::from(cpu)),
+        Event::Tick(cpu) => page.number("at a tick of CPU ", u64::from(cpu)),
         Event::Clock => page.push("as the clock grew"),
         Event::SetWeight(_, _) => page.push("as a weight changed"),
         Event::SetTaskWeight(task, _) => {
@@ -60,37 +64,63 @@ pub fn write_event(workload: &Workload, event: Event, page: &mut Text) {
 }
 
 /// Writes the tasks that never ran, and those that began to run and ran for 0 ms.
-pub fn write_never(workload: &Workload, never_ran: &[u16], ran_briefly: &[u16], page: &mut Text) {
-    write_names(workload, "never ran: ", never_ran, page);
+pub(crate) fn write_never(
+    workload: &Workload,
+    never_ran: &[u16],
+    ran_briefly: &[u16],
+    length: Length,
+    page: &mut Text,
+) {
+    write_names(workload, "never ran: ", never_ran, length, page);
     if !never_ran.is_empty() && !ran_briefly.is_empty() {
         page.push("; ");
     }
-    write_names(workload, "ran for 0 ms: ", ran_briefly, page);
+    write_names(workload, "ran for 0 ms: ", ran_briefly, length, page);
     if never_ran.is_empty() && ran_briefly.is_empty() {
         page.push("each task ran");
     }
     page.push("\n");
 }
 
-/// Writes the names of some tasks after these words, or nothing if there are none.
-fn write_names(workload: &Workload, words: &'static str, tasks: &[u16], page: &mut Text) {
+/// Writes the names of some tasks after these words, or nothing if there are none. A short page has the first ones, and
+/// the number of the others.
+fn write_names(
+    workload: &Workload,
+    words: &'static str,
+    tasks: &[u16],
+    length: Length,
+    page: &mut Text,
+) {
+    let named = match length {
+        Length::Short => tasks.len().min(NAMED),
+        Length::Whole => tasks.len(),
+    };
     let mut before = words;
-    for task in tasks {
+    for task in tasks.iter().take(named) {
         page.push(before);
         page.push(workload.task(*task));
         before = ", ";
     }
+    if named < tasks.len() {
+        page.number(" and ", tasks.len().saturating_sub(named) as u64);
+        page.push(" more");
+    }
 }
 
 /// Writes the last lines of the trace up to an ejection, of its task and its CPU.
-pub fn write_last_lines(alloc: Global, workload: &Workload, of: Ejected<'_>, page: &mut Text) {
+pub(crate) fn write_last_lines(
+    alloc: Global,
+    workload: &Workload,
+    of: Ejected<'_>,
+    page: &mut Text,
+) {
     page.push("\nthe last lines of the trace up to there");
     if let Some(task) = of.task {
         page.push(", of ");
         page.push(workload.task(task));
     }
     if let Some(cpu) = of.cpu {
-        page.number(", of processor ", u64::from(cpu));
+        page.number(", of CPU ", u64::from(cpu));
     }
     page.push("\n");
     write_lines(alloc, workload, of.notes, page);

@@ -1,33 +1,18 @@
-//! Why a run went as it did, as one page for people: how it ended, which tasks waited longest and which ran meanwhile,
-//! which CPUs were idle while tasks waited, and what never happened. The page is written once the run is over.
-//!
-//! The run is gone through twice, on a machine and on a copy of it: its figures say which waits were the longest, and
-//! these are watched the second time. So memory doesn't grow with the length of a run.
+//! Why a run went as it did: how it ended, which tasks waited longest and which ran meanwhile, which CPUs were idle
+//! while tasks waited, and what never happened. `why` writes a page for people of at most 60 lines, `why_all` one with
+//! all lines, and `why_json` an object on each line, for programs. All is written once the run is over.
 #![tactic(auto)]
 
-mod bound_waits;
 mod calls;
 mod ending;
-mod finding;
-mod half_progress;
-mod idle;
-mod messages;
+mod ending_json;
+mod json;
+mod lines;
+mod objects;
 mod page;
 mod queues;
-mod runners;
-mod spells;
 mod telling;
-mod waits;
-mod words;
-mod worst;
+mod telling_json;
 
-pub use calls::write_calls;
-pub use ending::{
-    Ejected, write_event, write_last_lines, write_never, write_stall, write_unplaced,
-    write_unplaced_exit,
-};
-pub use finding::{Findings, examine};
-pub use idle::{write_idle, write_stretches};
-pub use queues::{write_queues, write_undrained};
-pub use telling::why;
-pub use waits::{write_waits, write_worst};
+pub use telling::{why, why_all};
+pub use telling_json::why_json;

@@ -1,36 +1,79 @@
-use crate::words::{tasks_of, write_count};
 use scx_load_workloads::Workload;
+use scx_sched_world::LOCAL_ON;
 use scxsim_output::Text;
 use scxsim_trace::Names;
 use scxsim_views::QueueName;
 use scxsim_waits::{QueueFigures, QueueTraffic};
+use scxsim_why_lines::{Length, tasks_of, write_count, write_more};
 
-/// The most held tasks that are named.
+/// The most queues, and the most held tasks, that are named.
 const NAMED: u64 = 10;
 
 /// Writes the queues that tasks came into and no task left.
-pub fn write_undrained(queues: &QueueTraffic, page: &mut Text) {
-    let mut before = "nobody left ";
+pub(crate) fn write_undrained(queues: &QueueTraffic, page: &mut Text) {
+    let mut undrained = 0u64;
     for figures in queues.figures.as_slice() {
         if figures.left == 0 {
-            page.show(before, &QueueName(figures.queue));
-            write_count(", into which came ", figures.came, "task", page);
-            before = "; ";
+            undrained = undrained.saturating_add(1);
+            if undrained <= NAMED {
+                page.push(if undrained == 1 {
+                    "no task left "
+                } else {
+                    "; "
+                });
+                page.show("", &QueueName(figures.queue));
+                write_count(", which received ", figures.came, "task", page);
+            }
         }
     }
-    if before == "nobody left " {
-        page.push("of each queue that tasks came into somebody left");
+    if undrained == 0 {
+        page.push("every queue that received tasks was drained");
     }
+    write_more("; and ", NAMED, undrained, page);
     page.push("\n");
 }
 
 /// Writes the number of tasks that came into each queue and left it, and the tasks that were held at the end.
-pub fn write_queues(workload: &Workload, queues: &QueueTraffic, page: &mut Text) {
-    page.push("\n     came     left    there  of those who came into\n");
+pub(crate) fn write_queues(
+    workload: &Workload,
+    queues: &QueueTraffic,
+    length: Length,
+    page: &mut Text,
+) {
+    page.push("\n     came     left    there  queue\n");
+    let joins = length.joins_cpus(workload);
     for figures in queues.figures.as_slice() {
-        write_queue(*figures, page);
+        if !joins || !is_local(figures.queue) {
+            write_queue(*figures, page);
+        }
+    }
+    if joins {
+        write_locals(queues, page);
     }
     write_held(workload, queues, page);
+}
+
+/// True for a queue of one CPU.
+fn is_local(queue: u64) -> bool {
+    LOCAL_ON <= queue
+}
+
+/// Writes the sums of the queues of all CPUs.
+fn write_locals(queues: &QueueTraffic, page: &mut Text) {
+    let mut sums = QueueFigures::default();
+    let mut count = 0u64;
+    for figures in queues.figures.as_slice() {
+        if is_local(figures.queue) {
+            sums.came = sums.came.saturating_add(figures.came);
+            sums.left = sums.left.saturating_add(figures.left);
+            count = count.saturating_add(1);
+        }
+    }
+    if 0 < count {
+        write_numbers(sums, page);
+        write_count("  ", count, "local queue", page);
+        page.push("\n");
+    }
 }
 
 fn write_held(workload: &Workload, queues: &QueueTraffic, page: &mut Text) {
@@ -46,19 +89,20 @@ fn write_held(workload: &Workload, queues: &QueueTraffic, page: &mut Text) {
             }
         }
     }
-    if NAMED < held {
-        page.number(" and ", held.saturating_sub(NAMED));
-        page.push(" more");
-    }
+    write_more(" and ", NAMED, held, page);
     if 0 < held {
         page.push("\n");
     }
 }
 
 fn write_queue(figures: QueueFigures, page: &mut Text) {
+    write_numbers(figures, page);
+    page.show("  ", &QueueName(figures.queue));
+    page.push("\n");
+}
+
+fn write_numbers(figures: QueueFigures, page: &mut Text) {
     page.number_right(figures.came, 9);
     page.number_right(figures.left, 9);
     page.number_right(figures.there(), 9);
-    page.show("  ", &QueueName(figures.queue));
-    page.push("\n");
 }

@@ -2,20 +2,21 @@ ghost use Rattle.std.specs.Prelude.{◌≡◌, ◌++◌, ℕ, List, true, Err, I
 ghost use Rattle.std.specs.Io.KnownBytes.{Appends};
 ghost use Rattle.scxsim_output.specs.Output.{Counts, HasFailed};
 ghost use Rattle.scxsim_commands.specs.Outcome.{IfRefused, IsRefused};
-ghost use Rattle.scxsim_simulation.specs.Runs.{IsCause};
+ghost use Rattle.scxsim_simulation.specs.Scenarios.{IsScenarioCause};
 ghost use Rattle.scxsim_why.specs.Pages.{page};
 
-use crate::finding::{Findings, examine};
 use crate::page::write_page;
+use scxsim_account::{Findings, examine};
 use scxsim_commands::{Fault, Refusal};
 use scxsim_output::{Failed, Out, Text, write_all};
 use scxsim_simulation::Listener;
+use scxsim_why_lines::Length;
 use std::alloc::{AllocError, Global};
 
 /// The page's first word.
 const POLICY: &str = "policy ";
 
-/// Writes why the run of a policy file's text and a workload file's went as it did: how it ended, which tasks waited
+/// Writes why the run of a policy file's text and of a workload's or of a file of events went as it did: how it ended, which tasks waited
 /// longest, which CPUs were idle meanwhile, and what never happened. The answer is true.
 ///
 /// # Errors
@@ -24,7 +25,7 @@ const POLICY: &str = "policy ";
 pub fn why<L: Listener, W: Out>(
     alloc: Global,
     policy: &str,
-    workload: &str,
+    scenario: &str,
     listener: &mut L,
     out: &mut W,
 ) -> Result<bool, Fault>
@@ -33,18 +34,63 @@ pub fn why<L: Listener, W: Out>(
     ensures unfailed { OnOk result (W.failure_count out.new ≡ W.failure_count out.old) }
 
     // A refusal has its cause in the texts, and comes before any byte is written.
-    ensures refused { IfRefused result (IsCause policy.now workload.now) }
+    ensures refused { IfRefused result (IsScenarioCause policy.now scenario.now) }
     ensures quiet { IsRefused result → out.new ≡ out.old }
     ensures counted { result ≡ Err Fault.WriteFailed
         → HasFailed (W.failure_count out.old) (W.failure_count out.new) }
 {
-    let rest = rest_of_page(alloc, policy, workload, listener)?;
+    write_account(alloc, Length::Short, policy, scenario, listener, out)
+}
+
+/// Writes what `why` does, without leaving lines out. The answer is true.
+///
+/// # Errors
+///
+/// The texts are refused, or memory runs out, and then nothing is written, or writing the page fails.
+pub fn why_all<L: Listener, W: Out>(
+    alloc: Global,
+    policy: &str,
+    scenario: &str,
+    listener: &mut L,
+    out: &mut W,
+) -> Result<bool, Fault>
+    ensures done { IfOk result (λ answer. (answer ≡ true) × (rest : List ℕ)
+        × Appends (W.contents out.old) (W.contents out.new) (page rest)) }
+    ensures unfailed { OnOk result (W.failure_count out.new ≡ W.failure_count out.old) }
+
+    // A refusal has its cause in the texts, and comes before any byte is written.
+    ensures refused { IfRefused result (IsScenarioCause policy.now scenario.now) }
+    ensures quiet { IsRefused result → out.new ≡ out.old }
+    ensures counted { result ≡ Err Fault.WriteFailed
+        → HasFailed (W.failure_count out.old) (W.failure_count out.new) }
+{
+    write_account(alloc, Length::Whole, policy, scenario, listener, out)
+}
+
+/// Writes a page of that length. The answer is true.
+fn write_account<L: Listener, W: Out>(
+    alloc: Global,
+    length: Length,
+    policy: &str,
+    scenario: &str,
+    listener: &mut L,
+    out: &mut W,
+) -> Result<bool, Fault>
+    ensures done { IfOk result (λ answer. (answer ≡ true) × (rest : List ℕ)
+        × Appends (W.contents out.old) (W.contents out.new) (page rest)) }
+    ensures unfailed { OnOk result (W.failure_count out.new ≡ W.failure_count out.old) }
+    ensures refused { IfRefused result (IsScenarioCause policy.now scenario.now) }
+    ensures quiet { IsRefused result → out.new ≡ out.old }
+    ensures counted { result ≡ Err Fault.WriteFailed
+        → HasFailed (W.failure_count out.old) (W.failure_count out.new) }
+{
+    let rest = rest_of_page(alloc, length, policy, scenario, listener)?;
     write_both(POLICY, rest.as_str(), out)?;
     Ok(true)
 }
 
-/// Writes the first word, and then the rest.
-fn write_both<W: Out>(first: &str, rest: &str, out: &mut W) -> Result<(), Failed>
+/// Writes a text, and then another.
+pub(crate) fn write_both<W: Out>(first: &str, rest: &str, out: &mut W) -> Result<(), Failed>
     ensures ok { OnOk result
         (Appends (W.contents out.old) (W.contents out.new) (first.now ++ rest.now)) }
     ensures failures { Counts result (W.failure_count out.old) (W.failure_count out.new) }
@@ -56,18 +102,24 @@ fn write_both<W: Out>(first: &str, rest: &str, out: &mut W) -> Result<(), Failed
 /// The page after its first word. All memory is taken before the first byte is written.
 fn rest_of_page<L: Listener>(
     alloc: Global,
+    length: Length,
     policy: &str,
-    workload: &str,
+    scenario: &str,
     listener: &mut L,
 ) -> Result<String, Refusal>
-    ensures { IfErr result (IsCause policy.now workload.now) }
+    ensures { IfErr result (IsScenarioCause policy.now scenario.now) }
 {
-    let found = examine(alloc, policy, workload, listener)?;
-    Ok(page_of(alloc, policy, &found)?)
+    let found = examine(alloc, policy, scenario, listener)?;
+    Ok(page_of(alloc, length, policy, &found)?)
 }
 
-fn page_of(alloc: Global, policy: &str, found: &Findings) -> Result<String, AllocError> {
+fn page_of(
+    alloc: Global,
+    length: Length,
+    policy: &str,
+    found: &Findings,
+) -> Result<String, AllocError> {
     let mut page = Text::new(alloc);
-    write_page(alloc, policy, found, &mut page);
+    write_page(alloc, policy, found, length, &mut page);
     page.finish()
 }

@@ -1,10 +1,11 @@
-use crate::words::write_count;
+use crate::length::Length;
+use crate::words::{bit_of, write_count};
 use scx_isa::Rules;
 use scx_load_workloads::Workload;
 use scx_sched_world::{GLOBAL, POLICY_END};
 use scxsim_output::Text;
 use scxsim_trace::Names;
-use scxsim_views::QueueName;
+use scxsim_views::{QueueName, write_cpus};
 use scxsim_waits::{CpuCalls, IdleStretches, LastCall, SeenStretch, WaitingTask};
 
 /// Writes the milliseconds in which CPUs were idle while a task waited, and the longest stretch of them.
@@ -16,7 +17,7 @@ pub fn write_idle(
     page: &mut Text,
 ) {
     let Some(longest) = stretches.longest.as_slice().first() else {
-        page.push("no processor was idle while a task waited");
+        page.push("no CPU was idle while a task waited");
         write_if_bound(workload, page);
         page.push("\n");
         return;
@@ -72,7 +73,7 @@ fn write_sleep(
     page: &mut Text,
 ) {
     let stretch = seen.stretch;
-    page.number("cpu ", u64::from(stretch.cpu));
+    page.number("CPU ", u64::from(stretch.cpu));
     page.number(" slept from ", stretch.since);
     page.number(" to ", stretch.until);
     page.push(" ms while ");
@@ -104,7 +105,7 @@ fn write_kick(seen: &SeenStretch, page: &mut Text) {
 
 fn write_stretch(workload: &Workload, seen: &SeenStretch, page: &mut Text) {
     let stretch = seen.stretch;
-    page.number("processor ", u64::from(stretch.cpu));
+    page.number("CPU ", u64::from(stretch.cpu));
     page.number(" for ", stretch.length());
     page.number(" ms from ", stretch.since);
     page.number(" to ", stretch.until);
@@ -125,6 +126,7 @@ pub fn write_stretches(
     rules: Rules,
     stretches: &IdleStretches,
     has_dispatch: bool,
+    length: Length,
     page: &mut Text,
 ) {
     let longest = stretches.longest.as_slice();
@@ -135,19 +137,89 @@ pub fn write_stretches(
     write_if_bound(workload, page);
     write_count(", ", count, "time", page);
     page.push("; the longest are\n");
-    for seen in longest {
-        page.push("  ");
-        match unwoken_for(*seen, rules) {
-            Some((waiting, queue)) => {
-                write_sleep(workload, seen, waiting, queue, page);
-                page.push("\n");
-            }
-            None => {
-                write_stretch(workload, seen, page);
-                write_asked(*seen, has_dispatch, page);
-            }
+    for (place, seen) in longest.iter().enumerate() {
+        if !length.joins_cpus(workload) {
+            write_seen(workload, *seen, 0, rules, has_dispatch, page);
+        } else if !is_told(longest, place, rules) {
+            let others = others_of(longest, place, rules);
+            write_seen(workload, *seen, others, rules, has_dispatch, page);
         }
     }
+}
+
+/// Writes a stretch, and the other CPUs that slept alike.
+fn write_seen(
+    workload: &Workload,
+    seen: SeenStretch,
+    others: u64,
+    rules: Rules,
+    has_dispatch: bool,
+    page: &mut Text,
+) {
+    page.push("  ");
+    match unwoken_for(seen, rules) {
+        Some((waiting, queue)) => {
+            write_sleep(workload, &seen, waiting, queue, page);
+            if others != 0 {
+                page.push("; so did ");
+                write_cpus(others, page);
+            }
+            page.push("\n");
+        }
+        None => {
+            write_stretch(workload, &seen, page);
+            write_asked(seen, has_dispatch, page);
+        }
+    }
+}
+
+/// True if a stretch before that one is told for it.
+fn is_told(longest: &[SeenStretch], place: usize, rules: Rules) -> bool {
+    let Some(seen) = longest.get(place) else {
+        return false;
+    };
+    for other in longest.iter().take(place) {
+        if are_alike(*other, *seen, rules) {
+            return true;
+        }
+    }
+    false
+}
+
+/// The CPUs of the stretches after that one that are like it, one bit each.
+fn others_of(longest: &[SeenStretch], place: usize, rules: Rules) -> u64 {
+    let Some(seen) = longest.get(place) else {
+        return 0;
+    };
+    let mut others = 0u64;
+    for other in longest.iter().skip(place.saturating_add(1)) {
+        if are_alike(*seen, *other, rules) {
+            others |= bit_of(other.stretch.cpu);
+        }
+    }
+    others
+}
+
+/// True if two CPUs slept at the same time, while the same task waited, and the same is told of both.
+fn are_alike(one: SeenStretch, other: SeenStretch, rules: Rules) -> bool {
+    let waiting = waiting_for(one, rules);
+    waiting.is_some()
+        && waiting == waiting_for(other, rules)
+        && one.stretch.since == other.stretch.since
+        && one.stretch.until == other.stretch.until
+        && one.beginning.is_claimed == other.beginning.is_claimed
+        && kicked_by(one) == kicked_by(other)
+}
+
+/// The task that waited while a CPU slept that nothing woke for it.
+fn waiting_for(seen: SeenStretch, rules: Rules) -> Option<u16> {
+    let (waiting, _queue) = unwoken_for(seen, rules)?;
+    Some(waiting.task)
+}
+
+/// The timer that kicked the CPU.
+fn kicked_by(seen: SeenStretch) -> Option<u64> {
+    Some(seen.kick()?.timer)
 }
 
 /// Writes the calls of dispatch that left a CPU idle.

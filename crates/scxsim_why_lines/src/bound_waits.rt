@@ -36,14 +36,17 @@ pub(crate) fn write_bound(workload: &Workload, task: u16, page: &mut Text) {
     }
 }
 
-/// Writes that the task may not run on the CPU, if it is bound to others.
-pub(crate) fn write_unless_allowed(workload: &Workload, task: u16, cpu: u32, page: &mut Text) {
+/// True if the task may run on the CPU.
+pub(crate) fn may_run_on(workload: &Workload, task: u16, cpu: u32) -> bool {
     match bound_mask(workload, task) {
-        Some(mask) if !has_cpu(mask, cpu) => {
-            page.push(" (");
-            page.push(workload.task(task));
-            page.push(" may not run there)");
-        }
-        Some(_) | None => {}
+        Some(mask) => has_cpu(mask, cpu),
+        None => true,
     }
+}
+
+/// Writes that the task may not run there.
+pub(crate) fn write_not_there(workload: &Workload, task: u16, page: &mut Text) {
+    page.push(" (");
+    page.push(workload.task(task));
+    page.push(" may not run there)");
 }

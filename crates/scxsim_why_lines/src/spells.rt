@@ -1,4 +1,4 @@
-use crate::words::write_count;
+use crate::words::{write_count, write_time};
 use scx_isa::Rules;
 use scx_sched::Rank;
 use scx_sched_world::{HELD, POLICY_END};
@@ -38,7 +38,7 @@ fn write_where(queue: u64, page: &mut Text) {
         page.push(" while it was held\n");
         return;
     }
-    page.show(" while it stood in ", &QueueName(queue));
+    page.show(" while it was in ", &QueueName(queue));
     page.push("\n");
 }
 
@@ -64,7 +64,7 @@ fn write_took(spell: &Spell, rules: Rules, page: &mut Text) {
 /// Writes why those that were taken came before the task.
 fn write_keys(spell: &Spell, rules: Rules, page: &mut Text) {
     match spell.rank {
-        Some(Rank::Fifo | Rank::Front) => page.push(", who came before it"),
+        Some(Rank::Fifo | Rank::Front) => page.push(", which came before it"),
         Some(Rank::Vtime(own)) => write_times(spell, own, rules, page),
         None => {}
     }
@@ -78,11 +78,11 @@ fn write_times(spell: &Spell, own: u64, rules: Rules, page: &mut Text) {
     let Some(KeyRange { low, high }) = spell.theirs else {
         return;
     };
-    page.number(", of virtual time ", time_of_key(rules, low));
+    write_time(", of virtual time ", time_of_key(rules, low), page);
     if low < high {
-        page.number(" to ", time_of_key(rules, high));
+        write_time(" to ", time_of_key(rules, high), page);
     }
-    page.number("; its own is ", time_of_key(rules, own));
+    write_time("; its own is ", time_of_key(rules, own), page);
 }
 
 /// Writes the number of calls that took tasks of other queues alone, and the queues of the first ones.
@@ -129,12 +129,12 @@ fn write_passed(spell: &Spell, page: &mut Text) {
         write_count("  ", spell.taken, "other", page);
         page.push(if spell.taken == 1 { " was" } else { " were" });
         page.show(" taken out of ", &queue);
-        page.push(" while it stood there\n");
+        page.push(" while it was there\n");
     }
     let calls = spell.calls();
     if 0 < calls {
         write_count("  ", calls, "call", page);
-        page.show(" of dispatch while it stood in ", &queue);
+        page.show(" of dispatch while it was in ", &queue);
         page.push(", out of which no call takes a task\n");
     }
 }

@@ -1,11 +1,15 @@
-use crate::bound_waits::{write_bound, write_elsewhere, write_unless_allowed};
-use crate::runners::{ms_at, runners, write_ran};
+use crate::alike::write_alike;
+use crate::bound_waits::{may_run_on, write_bound, write_elsewhere, write_not_there};
+use crate::length::Length;
+use crate::likewise::write_likewise;
+use crate::runners::{write_cpu, write_runners};
 use crate::spells::write_spell;
-use crate::words::tasks_of;
+use crate::words::write_time;
 use scx_isa::Rules;
 use scx_load_workloads::Workload;
 use scx_sched::Rank;
 use scxsim_output::Text;
+use scxsim_statistics::Figures;
 use scxsim_trace::Names;
 use scxsim_views::{QueueName, time_of_key};
 use scxsim_waits::{Station, Waits, WatchedWait};
@@ -32,7 +36,7 @@ pub fn write_worst(
     write_places(wait, page);
     page.push("; meanwhile");
     match wait.ran(alloc, workload.cpus()) {
-        Ok(each) => write_runners(alloc, workload, each.as_slice(), "processors were ", page),
+        Ok(each) => write_runners(alloc, workload, each.as_slice(), "CPUs were ", page),
         Err(_) => page.cut(),
     }
     write_elsewhere(workload, wait, page);
@@ -57,49 +61,48 @@ fn write_places(wait: &WatchedWait, page: &mut Text) {
     }
 }
 
-/// Writes the milliseconds that each task ran, and those in which CPUs were idle.
-fn write_runners(
+/// Writes of each of the longest waits the queues of the task, why it wasn't taken, and the tasks that ran meanwhile.
+pub fn write_waits(
     alloc: Global,
-    workload: &Workload,
-    each: &[u64],
-    processors: &str,
+    figures: &Figures,
+    waits: &Waits,
+    length: Length,
     page: &mut Text,
 ) {
-    let tasks = tasks_of(workload);
-    let Ok(ran) = runners(alloc, tasks, each) else {
-        page.cut();
-        return;
-    };
-    let before = write_ran(workload, ran.as_slice(), page);
-    let idle = ms_at(each, tasks);
-    if 0 < idle {
-        page.push(before);
-        page.push(processors);
-        page.number("idle for ", idle);
-        page.push(" ms");
-    }
-}
-
-/// Writes of each of the longest waits the queues of the task, the tasks that ran meanwhile, and why it wasn't taken.
-pub fn write_waits(alloc: Global, workload: &Workload, waits: &Waits, page: &mut Text) {
+    let workload = &figures.workload;
     for wait in waits.waits.as_slice() {
         page.push("\n");
         write_wait(workload, wait, page);
         page.push("\n");
+        write_likewise(workload, figures.tasks.as_slice(), wait.wait, page);
         write_bound(workload, wait.wait.task, page);
-        for station in wait.stations.as_slice() {
-            write_station(*station, waits.rules, page);
+        write_causes(wait, waits.rules, page);
+        if length.joins_cpus(workload) {
+            write_alike(alloc, workload, wait, page);
+        } else {
+            write_each_cpu(alloc, workload, wait, page);
         }
-        for cpu in 0..workload.cpus() {
-            page.number("  processor ", u64::from(cpu));
-            page.push(":");
-            write_runners(alloc, workload, wait.ran_on(cpu), "", page);
-            write_unless_allowed(workload, wait.wait.task, cpu, page);
-            page.push("\n");
+    }
+}
+
+/// Writes the queues of a task, and why it wasn't taken there.
+fn write_causes(wait: &WatchedWait, rules: Rules, page: &mut Text) {
+    for station in wait.stations.as_slice() {
+        write_station(*station, rules, page);
+    }
+    for spell in wait.spells.as_slice() {
+        write_spell(wait, spell, rules, page);
+    }
+}
+
+/// Writes the tasks that ran on each CPU.
+fn write_each_cpu(alloc: Global, workload: &Workload, wait: &WatchedWait, page: &mut Text) {
+    for cpu in 0..workload.cpus() {
+        write_cpu(alloc, workload, wait, cpu, page);
+        if !may_run_on(workload, wait.wait.task, cpu) {
+            write_not_there(workload, wait.wait.task, page);
         }
-        for spell in wait.spells.as_slice() {
-            write_spell(wait, spell, waits.rules, page);
-        }
+        page.push("\n");
     }
 }
 
@@ -108,7 +111,7 @@ fn write_station(station: Station, rules: Rules, page: &mut Text) {
     page.number("  at ", station.clock);
     page.show(" it came into ", &QueueName(station.queue));
     if let Some(Rank::Vtime(key)) = station.rank {
-        page.number(" by virtual time ", time_of_key(rules, key));
+        write_time(" by virtual time ", time_of_key(rules, key), page);
     }
     match station.ahead {
         Some(0) => page.push(", at its front"),

@@ -1,0 +1,11 @@
+use Rattle.std.proofs.Common.{ap, ◌∙◌}
+use Rattle.scxsim_account.specs.Idling.{figures_of}
+use Rattle.scxsim_account.proofs.finding.examine.Goals as goal
+
+pub returns-clause-idle : goal.returns-clause-idle
+returns-clause-idle g c = record {
+  of_scenario = c.in_ok-run.run'.scenario;
+  first = c.in_ok-run.run'.sim;
+  run = c.in_ok-run.ensures.run;
+  of_run = c.figures-idle.ensures ∙ ap figures_of c.in_ok-account.ensures;
+}

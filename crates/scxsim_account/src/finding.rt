@@ -1,0 +1,290 @@
+ghost use Rattle.std.specs.Prelude.{◌≡◌, IfOk, IfErr};
+ghost use Rattle.scx_load_replay.specs.Scenarios.{scenario_events};
+ghost use Rattle.scx_load_replay.specs.Sources.{remaining};
+ghost use Rattle.scxsim_simulation.specs.Scenarios.{IsScenarioRun, IsScenarioCause};
+ghost use Rattle.scxsim_statistics.specs.Figures.{AreOfTexts};
+ghost use Rattle.scxsim_account.specs.Idling.{idle_of};
+ghost use Rattle.scxsim_account.specs.Runs.{IsIdleOfTexts};
+
+use crate::account::{Account, account_of};
+use crate::call_end::{CallEnd, Wanted, last_end};
+use crate::half_progress::HalfProgress;
+use crate::idling::IdleFigures;
+use crate::worst::worst_of;
+use scx_load_policies::{Programs, read_policy};
+use scx_load_replay::Source;
+use scx_sched::{Eject, Sim};
+use scx_sched_world::HELD;
+use scxsim_commands::Refusal;
+use scxsim_faults::{FaultPlace, find_fault_among};
+use scxsim_simulation::{Heard, Listener, ScenarioRun, give_back, prepare_scenario};
+use scxsim_statistics::{Figures, figures};
+use scxsim_trace::Events;
+use scxsim_waits::Waits;
+use std::alloc::{AllocError, Global};
+
+/// The findings of a run.
+#[derive(Drop)]
+pub struct Findings {
+    /// The figures of the run, with each task's longest wait.
+    pub figures: Figures,
+    pub idle: IdleFigures,
+    pub account: Account,
+    /// The fault or exit for which the policy was ejected.
+    pub fault: Option<FoundFault>,
+    /// The first of the longest waits in which the task was held.
+    pub held: Option<HeldTask>,
+    /// The programs of the policy.
+    pub programs: Programs,
+}
+
+/// The place of a fault or exit, and the end of its callback.
+#[derive(Clone, Copy)]
+pub struct FoundFault {
+    pub place: FaultPlace,
+    pub end: Option<CallEnd>,
+}
+
+/// A task that enqueue put nowhere, the clock of it, and the end of that call.
+#[derive(Clone, Copy)]
+pub struct HeldTask {
+    pub task: u16,
+    pub clock: u64,
+    pub end: CallEnd,
+}
+
+/// The findings of the run of a policy file's text and of a workload's or of a file of events.
+///
+/// # Errors
+///
+/// The texts are refused, or memory runs out.
+pub fn examine<L: Listener>(
+    alloc: Global,
+    policy: &str,
+    scenario: &str,
+    listener: &mut L,
+) -> Result<Findings, Refusal>
+    ensures waits { IfOk result (λ found. AreOfTexts policy.now scenario.now found.figures) }
+    ensures idle { IfOk result (λ found. IsIdleOfTexts policy.now scenario.now found.idle) }
+    ensures refused { IfErr result (IsScenarioCause policy.now scenario.now) }
+{
+    let figures = first_time(alloc, policy, scenario, listener)?;
+    let run = prepare_scenario(alloc, policy, scenario)?;
+    let Watched {
+        account,
+        fault,
+        held,
+    } = watch(alloc, &figures, run, listener)?;
+    let idle = account.idling.figures();
+    let programs = programs_of(alloc, policy)?;
+    Ok(Findings {
+        figures,
+        idle,
+        account,
+        fault,
+        held,
+        programs,
+    })
+}
+
+/// The account of a run's longest waits, the fault or exit that ejected the policy, and a held task.
+#[derive(Drop)]
+struct Watched {
+    account: Account,
+    fault: Option<FoundFault>,
+    held: Option<HeldTask>,
+}
+
+/// Goes through the run the first time, for its figures.
+fn first_time<L: Listener>(
+    alloc: Global,
+    policy: &str,
+    scenario: &str,
+    listener: &mut L,
+) -> Result<Figures, Refusal>
+    ensures of_texts { IfOk result (AreOfTexts policy.now scenario.now) }
+    ensures refused { IfErr result (IsScenarioCause policy.now scenario.now) }
+{
+    let mut half = HalfProgress {
+        listener,
+        is_second: false,
+    };
+    figures(alloc, policy, scenario, &mut half)
+}
+
+/// Goes through the run again, for what these figures leave open.
+fn watch<L: Listener>(
+    alloc: Global,
+    figures: &Figures,
+    run: ScenarioRun,
+    listener: &mut L,
+) -> Result<Watched, AllocError>
+    ensures { IfOk result (λ watched. watched.account.idling
+        ≡ idle_of run.sim (scenario_events run.scenario run.sim)) }
+{
+    let watched = watch_copies(alloc, figures, &run, listener);
+    drop(run);
+    watched
+}
+
+/// Goes through copies of a run that is about to begin.
+fn watch_copies<L: Listener>(
+    alloc: Global,
+    figures: &Figures,
+    run: &ScenarioRun,
+    listener: &mut L,
+) -> Result<Watched, AllocError>
+    ensures { IfOk result (λ watched. watched.account.idling
+        ≡ idle_of run.now.sim (scenario_events run.now.scenario run.now.sim)) }
+{
+    let fault = fault_in(alloc, figures.ejected, run)?;
+    let account = second_time(alloc, figures, run, listener)?;
+    let held = held_in(alloc, &account.waits, run)?;
+    Ok(Watched {
+        account,
+        fault,
+        held,
+    })
+}
+
+/// Goes through the run a second time, and watches the longest waits of these figures.
+fn second_time<L: Listener>(
+    alloc: Global,
+    figures: &Figures,
+    run: &ScenarioRun,
+    listener: &mut L,
+) -> Result<Account, AllocError>
+    ensures { IfOk result (λ account. account.idling
+        ≡ idle_of run.now.sim (scenario_events run.now.scenario run.now.sim)) }
+{
+    let (events, sim) = run.duplicate(alloc)?;
+    let mut half = HalfProgress {
+        listener,
+        is_second: true,
+    };
+    watch_events(alloc, figures, events, sim, &mut half)
+}
+
+/// Gives these events to the machine, and watches the longest waits of these figures.
+fn watch_events<L: Listener>(
+    alloc: Global,
+    figures: &Figures,
+    source: Source,
+    mut sim: Sim,
+    listener: &mut L,
+) -> Result<Account, AllocError>
+    ensures { IfOk result (λ account. account.idling ≡ idle_of sim (remaining source sim)) }
+{
+    let mut events = Heard::new(source, figures.workload.ms(), listener);
+    let account = account_of_longest(alloc, figures, &mut events, &mut sim);
+    give_back(events, sim);
+    account
+}
+
+/// The account of the longest waits of these figures, in a run of these events.
+fn account_of_longest<E: Events>(
+    alloc: Global,
+    figures: &Figures,
+    events: &mut E,
+    sim: &mut Sim,
+) -> Result<Account, AllocError>
+    ensures { IfOk result (λ account. account.idling
+        ≡ idle_of sim.old (E.remaining events.old sim.old)) }
+{
+    let worst = worst_of(alloc, figures)?;
+    account_of(
+        alloc,
+        worst.as_slice(),
+        figures.ejected.is_some(),
+        events,
+        sim,
+    )
+}
+
+/// The programs of a policy file that was read before, so that only memory may run out.
+fn programs_of(alloc: Global, policy: &str) -> Result<Programs, AllocError> {
+    match read_policy(alloc, policy) {
+        Ok(text) => Ok(text.into_programs()),
+        Err(_) => Err(AllocError),
+    }
+}
+
+/// The fault or exit for which the policy was ejected, if it was, in copies of a run.
+fn fault_in(
+    alloc: Global,
+    ejected: Option<Eject>,
+    run: &ScenarioRun,
+) -> Result<Option<FoundFault>, AllocError> {
+    match ejected {
+        Some(Eject::Fault(_, clock) | Eject::Exit(_, clock)) => fault_at(alloc, clock, run),
+        Some(Eject::Stall(_, _)) | None => Ok(None),
+    }
+}
+
+/// The fault or exit at that clock, in copies of a run.
+fn fault_at(
+    alloc: Global,
+    clock: u64,
+    run: &ScenarioRun,
+) -> Result<Option<FoundFault>, AllocError> {
+    let Some(place) = place_at(alloc, clock, run)? else {
+        return Ok(None);
+    };
+    let end = end_at(alloc, Wanted::All, clock, run)?;
+    Ok(Some(FoundFault { place, end }))
+}
+
+/// The place of the fault or exit at that clock, in a copy of a run.
+fn place_at(
+    alloc: Global,
+    clock: u64,
+    run: &ScenarioRun,
+) -> Result<Option<FaultPlace>, AllocError> {
+    let (mut events, mut sim) = run.duplicate(alloc)?;
+    let place = find_fault_among(&mut events, &mut sim, clock);
+    drop(events);
+    drop(sim);
+    Ok(place)
+}
+
+/// The end of the last callback that is wanted, up to that clock, in a copy of a run.
+fn end_at(
+    alloc: Global,
+    wanted: Wanted,
+    clock: u64,
+    run: &ScenarioRun,
+) -> Result<Option<CallEnd>, AllocError> {
+    let (mut events, mut sim) = run.duplicate(alloc)?;
+    let end = last_end(&mut events, &mut sim, wanted, clock);
+    drop(events);
+    drop(sim);
+    Ok(end)
+}
+
+/// The first of these waits in which the task was held, with the end of the call of enqueue that put it nowhere, in a
+/// copy of a run.
+fn held_in(
+    alloc: Global,
+    waits: &Waits,
+    run: &ScenarioRun,
+) -> Result<Option<HeldTask>, AllocError> {
+    let Some((task, clock)) = first_hold(waits) else {
+        return Ok(None);
+    };
+    match end_at(alloc, Wanted::Holding(task, clock), clock, run)? {
+        Some(end) => Ok(Some(HeldTask { task, clock, end })),
+        None => Ok(None),
+    }
+}
+
+/// The task of the first wait in which it was held, and the clock of that.
+fn first_hold(waits: &Waits) -> Option<(u16, u64)> {
+    for wait in waits.waits.as_slice() {
+        for station in wait.stations.as_slice() {
+            if station.queue == HELD {
+                return Some((wait.wait.task, station.clock));
+            }
+        }
+    }
+    None
+}
