@@ -6,7 +6,7 @@ use crate::scales::Scale;
 use scx_load_workloads::Workload;
 use scx_sched::{Event, Sim, What};
 use scxsim_commands::Ejection;
-use scxsim_simulation::{Heard, Listener, Run, give_back};
+use scxsim_simulation::{Heard, Listener, ScenarioRun, give_back};
 use scxsim_trace::{Observer, observe};
 use std::alloc::{AllocError, Global};
 
@@ -55,18 +55,19 @@ pub(crate) struct Chart {
 /// Goes through the run, and returns its chart.
 pub(crate) fn gather<L: Listener>(
     alloc: Global,
-    run: Run,
+    run: ScenarioRun,
     scale: Scale,
     listener: &mut L,
 ) -> Result<Chart, AllocError> {
-    let Run {
-        workload,
-        driver,
+    let ScenarioRun {
+        scenario,
+        events,
         mut sim,
         ..
     } = run;
+    let workload = scenario.into_workload();
     let mut gathering = Gathering::new(alloc, &workload, scale)?;
-    let mut events = Heard::new(driver, workload.ms(), listener);
+    let mut events = Heard::new(events, workload.ms(), listener);
     observe(&mut sim, &mut events, &mut gathering);
     gathering.end(&sim);
     let Gathering {

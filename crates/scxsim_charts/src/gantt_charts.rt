@@ -2,7 +2,7 @@ ghost use Rattle.std.specs.Prelude.{◌≡◌, ℕ, List, true, Err, IfOk, IfErr
 ghost use Rattle.std.specs.Io.KnownBytes.{Appends};
 ghost use Rattle.scxsim_output.specs.Output.{Counts, HasFailed};
 ghost use Rattle.scxsim_commands.specs.Outcome.{IfRefused, IsRefused};
-ghost use Rattle.scxsim_simulation.specs.Parts.{IsPartCause};
+ghost use Rattle.scxsim_simulation.specs.ScenarioParts.{IsScenarioPartCause};
 ghost use Rattle.scxsim_charts.specs.Charts.{chart};
 
 use crate::chart_sums::{Chart, gather};
@@ -11,11 +11,11 @@ use crate::scales::Scale;
 use crate::sheets::{Sheet, cells_of};
 use scxsim_commands::{Fault, Refusal, Span};
 use scxsim_output::{Failed, Out, Text, write_all};
-use scxsim_simulation::{Listener, RunPart, prepare_part};
+use scxsim_simulation::{Listener, ScenarioPart, prepare_scenario_part};
 use std::alloc::{AllocError, Global};
 
-/// Writes the chart of the run of a policy file and a workload file, or of a part of it. The answer is true. Its
-/// lines are at most as wide as the sheet, between 72 and 1,000 columns, but for a long title.
+/// Writes the chart of the run of a policy file and of a workload or a file of events, or of a part of it. The answer
+/// is true. Its lines are at most as wide as the sheet, between 72 and 1,000 columns, but for a long title.
 ///
 /// # Errors
 ///
@@ -25,7 +25,7 @@ pub fn gantt<L: Listener, W: Out>(
     alloc: Global,
     sheet: Sheet<'_>,
     policy: &str,
-    workload: &str,
+    scenario: &str,
     span: Option<Span<'_>>,
     listener: &mut L,
     out: &mut W,
@@ -35,12 +35,12 @@ pub fn gantt<L: Listener, W: Out>(
     ensures unfailed { OnOk result (W.failure_count out.new ≡ W.failure_count out.old) }
 
     // A refusal has its cause in the texts or in the words, and comes before any byte is written.
-    ensures refused { IfRefused result (IsPartCause policy.now workload.now span.entry) }
+    ensures refused { IfRefused result (IsScenarioPartCause policy.now scenario.now span.entry) }
     ensures quiet { IsRefused result → out.new ≡ out.old }
     ensures counted { result ≡ Err Fault.WriteFailed
         → HasFailed (W.failure_count out.old) (W.failure_count out.new) }
 {
-    let lines = lines_of(alloc, sheet.columns, policy, workload, span, listener)?;
+    let lines = lines_of(alloc, sheet.columns, policy, scenario, span, listener)?;
     write_lines(sheet.title, lines.as_str(), out)?;
     Ok(true)
 }
@@ -57,18 +57,18 @@ fn write_lines<W: Out>(title: &str, lines: &str, out: &mut W) -> Result<(), Fail
 }
 
 /// The lines of the chart of a run, or of a part of it. All memory is taken before the first byte is written.
-#[tactic(auto, using(scxsim_simulation::proofs::PartCauses::out_of_memory))]
+#[tactic(auto, using(scxsim_simulation::proofs::PartCauses::out_of_memory_of_scenario))]
 fn lines_of<L: Listener>(
     alloc: Global,
     columns: u64,
     policy: &str,
-    workload: &str,
+    scenario: &str,
     span: Option<Span<'_>>,
     listener: &mut L,
 ) -> Result<String, Refusal>
-    ensures { IfErr result (IsPartCause policy.now workload.now span.entry) }
+    ensures { IfErr result (IsScenarioPartCause policy.now scenario.now span.entry) }
 {
-    let RunPart { run, window } = prepare_part(alloc, policy, workload, span)?;
+    let ScenarioPart { run, window } = prepare_scenario_part(alloc, policy, scenario, span)?;
     let chart = gather(alloc, run, Scale::new(window, cells_of(columns)), listener)?;
     let lines = lines_of_chart(alloc, &chart);
     drop(chart);

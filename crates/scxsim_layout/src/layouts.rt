@@ -2,7 +2,7 @@ ghost use Rattle.std.specs.Prelude.{IfOk};
 ghost use Rattle.scxsim_layout.specs.Columns.{Covers};
 
 use crate::colours::Colouring;
-use crate::groups::{depth, first_task_in, next_group, tasks_in};
+use crate::groups::{depth, first_task_in, next_group, sizes_of};
 use crate::rows::{Folding, Kind, MOST_ROWS, Row, place};
 use crate::scales::Scale;
 use scx_load_workloads::Workload;
@@ -72,7 +72,7 @@ impl Layout {
         Ok(plan.layout(from, to))
     }
 
-    /// The row of a processor.
+    /// The row of a CPU.
     #[inline(always)]
     pub fn cpu_row(&self, cpu: usize) -> usize {
         self.folding.cpu_row(cpu)
@@ -116,6 +116,16 @@ impl Layout {
         }
     }
 
+    /// True if each task is added up with others of its group.
+    pub fn is_by_group(&self) -> bool {
+        self.is_folded() && !self.rows.iter().any(|row| row.is_task())
+    }
+
+    /// True if tasks are added up with others of their group.
+    pub fn is_folded(&self) -> bool {
+        self.rows.iter().any(|row| row.is_folded())
+    }
+
     /// The strip that shows a group's share, if one does.
     pub fn strip(&self, group: u32) -> Option<usize> {
         self.groups.get(group as usize).copied()?
@@ -130,6 +140,8 @@ struct Plan {
     tasks: Vec<TaskPlace>,
     folding: Folding,
     colouring: Colouring,
+    /// The number of each group's own tasks.
+    sizes: Vec<u64>,
     /// True if there are several groups, so that shares are shown.
     has_shares: bool,
     /// The numbers of strips, of groups without a parent and of groups with tasks so far.
@@ -148,12 +160,14 @@ impl Plan {
         let rows = Vec::with_capacity(alloc, MOST_ROWS)?;
         let groups = vec![in alloc; None; workload.groups().len()]?;
         let tasks = vec![in alloc; unknown; workload.tasks().len()]?;
+        let sizes = sizes_of(alloc, workload)?;
         Ok(Plan {
             rows,
             groups,
             tasks,
-            folding: Folding::of(workload),
+            folding: Folding::of(workload, &sizes),
             colouring: Colouring::of(workload),
+            sizes,
             has_shares: workload.groups().len() > 1,
             strips: 0,
             tops: 0,
@@ -173,8 +187,10 @@ impl Plan {
             tasks,
             folding,
             strips,
+            sizes,
             ..
         } = self;
+        drop(sizes);
         let scale = Scale::new(from, to, most);
         Layout {
             scale,
@@ -186,6 +202,11 @@ impl Plan {
             strips,
             high,
         }
+    }
+
+    /// The number of a group's own tasks.
+    fn size_of(&self, group: u32) -> u64 {
+        self.sizes.get(group as usize).copied().unwrap_or(0)
     }
 
     fn push_cpus(&mut self, cpus: u32) -> Result<(), AllocError> {
@@ -221,12 +242,12 @@ impl Plan {
 
     fn push_group(&mut self, workload: &Workload, group: u32) -> Result<(), AllocError> {
         let depth = depth(workload.groups(), group);
-        let tasks = tasks_in(workload, group);
+        let tasks = self.size_of(group);
         let colour = self.leaves;
         if tasks > 0 {
             self.leaves = self.leaves.saturating_add(1);
         }
-        if self.has_shares || self.folding.by_group() {
+        if self.has_shares || self.folding.folds(tasks) {
             let first = first_task_in(workload, group).unwrap_or(colour);
             let strip = self.colouring.colour(first, colour);
             self.push_group_row(group, depth, tasks, strip)?;
@@ -243,7 +264,7 @@ impl Plan {
         tasks: u64,
         colour: usize,
     ) -> Result<(), AllocError> {
-        let members = if self.folding.by_group() { tasks } else { 0 };
+        let members = if self.folding.folds(tasks) { tasks } else { 0 };
         if self.folding.has_row(depth, self.tops) {
             let strip = self.next_strip();
             self.rows.push(Row {
@@ -331,7 +352,7 @@ impl Plan {
         group: usize,
     ) -> Result<(), AllocError> {
         let colour = self.colouring.colour(task as usize, group);
-        if !self.folding.by_group() {
+        if !self.folding.folds(self.size_of(home)) {
             self.rows.push(Row {
                 kind: Kind::Task(task),
                 members: 1,

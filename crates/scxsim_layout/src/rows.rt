@@ -1,89 +1,102 @@
-use crate::groups::tops;
+use crate::groups::{largest_below, tasks_of_small_groups, tops};
 use scx_load_workloads::Workload;
 
 /// The most rows of a picture.
 pub(crate) const MOST_ROWS: usize = 128;
 
-/// The rows left for groups where processors are added up by fours.
-const GROUP_ROWS: usize = 112;
+/// The most CPUs with a row each; more are added up by fours.
+const MOST_CPUS: u32 = 32;
 
-/// A way to keep the number of rows small: each variant adds up what those before it do, and more.
+/// The rows that are left for groups, however many CPUs there are.
+const GROUP_ROWS: usize = 96;
+
+/// The CPUs, tasks and groups that are added up, so that a picture has few rows.
 #[derive(Clone, Copy)]
-pub enum Folding {
-    Nothing,
-    /// The tasks of each group.
-    Tasks,
-    /// Processors by fours.
-    Cpus,
-    /// Groups with those within them, and this many groups without a parent in each row.
-    Groups(usize),
+pub struct Folding {
+    /// True if CPUs are added up by fours.
+    pub by_fours: bool,
+    /// The most tasks of a group whose tasks have rows of their own: those of larger groups are added up.
+    pub most_tasks: u64,
+    /// The number of groups without a parent in a row, with all within them; none if each group has a row.
+    pub tops_a_row: Option<usize>,
 }
 
 impl Folding {
-    pub(crate) fn of(workload: &Workload) -> Folding {
-        let cpus = workload.cpus() as usize;
+    /// The folding of a workload whose groups have these numbers of tasks.
+    pub(crate) fn of(workload: &Workload, sizes: &[u64]) -> Folding {
+        let by_fours = workload.cpus() > MOST_CPUS;
         let groups = workload.groups().len();
+        if groups > GROUP_ROWS {
+            return Folding {
+                by_fours,
+                most_tasks: 0,
+                tops_a_row: Some(tops(workload.groups()).div_ceil(GROUP_ROWS).max(1)),
+            };
+        }
+        let cpus = rows_of_cpus(workload.cpus(), by_fours);
         let shown = if groups > 1 { groups } else { 0 };
-        let rows = cpus
-            .saturating_add(shown)
-            .saturating_add(workload.tasks().len());
-        if rows <= MOST_ROWS {
-            Folding::Nothing
-        } else if cpus.saturating_add(groups) <= MOST_ROWS {
-            Folding::Tasks
-        } else if groups <= GROUP_ROWS {
-            Folding::Cpus
-        } else {
-            Folding::Groups(tops(workload.groups()).div_ceil(GROUP_ROWS).max(1))
+        let room = MOST_ROWS.saturating_sub(cpus).saturating_sub(shown);
+        Folding {
+            by_fours,
+            most_tasks: most_tasks(sizes, room as u64),
+            tops_a_row: None,
         }
     }
 
-    /// True if the tasks of a group are added up.
-    pub fn by_group(self) -> bool {
-        match self {
-            Folding::Nothing => false,
-            Folding::Tasks | Folding::Cpus | Folding::Groups(_) => true,
-        }
+    /// True if the tasks of a group with that many are added up.
+    pub(crate) fn folds(self, tasks: u64) -> bool {
+        tasks > self.most_tasks
     }
 
-    /// The number of processors added up in a row.
+    /// The number of CPUs added up in a row.
     pub(crate) fn cpus_a_row(self) -> u32 {
-        match self {
-            Folding::Nothing | Folding::Tasks => 1,
-            Folding::Cpus | Folding::Groups(_) => 4,
-        }
+        if self.by_fours { 4 } else { 1 }
     }
 
-    /// The row of a processor.
+    /// The row of a CPU.
     #[inline(always)]
     pub(crate) fn cpu_row(self, cpu: usize) -> usize {
-        match self {
-            Folding::Nothing | Folding::Tasks => cpu,
-            Folding::Cpus | Folding::Groups(_) => cpu / 4,
-        }
+        if self.by_fours { cpu / 4 } else { cpu }
     }
 
     /// True if a group at that depth has a row of its own, after `tops_before` groups without a parent.
     pub(crate) fn has_row(self, depth: u64, tops_before: usize) -> bool {
-        match self {
-            Folding::Nothing | Folding::Tasks | Folding::Cpus => true,
-            Folding::Groups(a_row) => depth == 0 && tops_before % a_row.max(1) == 0,
+        match self.tops_a_row {
+            None => true,
+            Some(a_row) => depth == 0 && tops_before % a_row.max(1) == 0,
         }
     }
 
     /// True if the share of a group at that depth is shown.
     pub(crate) fn has_strip(self, depth: u64) -> bool {
-        match self {
-            Folding::Nothing | Folding::Tasks | Folding::Cpus => true,
-            Folding::Groups(_) => depth == 0,
-        }
+        self.tops_a_row.is_none() || depth == 0
     }
 }
 
-/// The processors, groups or task of a row.
+/// The number of rows of CPUs.
+fn rows_of_cpus(cpus: u32, by_fours: bool) -> usize {
+    if by_fours {
+        cpus.div_ceil(4) as usize
+    } else {
+        cpus as usize
+    }
+}
+
+/// The most tasks of a group whose tasks have rows of their own, in that room: the largest groups are added up first.
+fn most_tasks(sizes: &[u64], room: u64) -> u64 {
+    let mut most = u64::MAX;
+    for _ in sizes {
+        if tasks_of_small_groups(sizes, most) > room {
+            most = largest_below(sizes, most).saturating_sub(1);
+        }
+    }
+    most
+}
+
+/// The CPUs, groups or task of a row.
 #[derive(Clone, Copy)]
 pub enum Kind {
-    /// Processors, from the first to the last.
+    /// CPUs, from the first to the last.
     Cpus { first: u32, last: u32 },
     /// A group, or several without a parent.
     Groups { first: u32, last: u32 },
@@ -108,7 +121,7 @@ impl Band {
 #[derive(Clone, Copy)]
 pub struct Row {
     pub kind: Kind,
-    /// The number of processors or tasks added up in it.
+    /// The number of CPUs or tasks added up in it.
     pub members: u64,
     /// The number of groups that it lies in.
     pub depth: u64,
@@ -164,7 +177,7 @@ impl Heights {
     }
 }
 
-/// The gap above a group, and between processors and tasks.
+/// The gap above a group, and between CPUs and tasks.
 const GROUP_GAP: u64 = 8;
 
 /// Gives each row its place, and returns the height of all rows.
@@ -193,7 +206,7 @@ pub(crate) fn place(rows: &mut [Row]) -> u64 {
 }
 
 impl Row {
-    /// The band of its runs. A row of processors has nothing else.
+    /// The band of its runs. A row of CPUs has nothing else.
     pub fn runs(self) -> Band {
         let high = self.tall.saturating_sub(4);
         Band {
@@ -240,7 +253,7 @@ impl Row {
         }
     }
 
-    /// True if it shows processors.
+    /// True if it shows CPUs.
     pub fn is_cpu(self) -> bool {
         match self.kind {
             Kind::Cpus { .. } => true,
@@ -254,5 +267,18 @@ impl Row {
             Kind::Groups { .. } => true,
             Kind::Cpus { .. } | Kind::Task(_) => false,
         }
+    }
+
+    /// True if it shows one task.
+    pub fn is_task(self) -> bool {
+        match self.kind {
+            Kind::Task(_) => true,
+            Kind::Cpus { .. } | Kind::Groups { .. } => false,
+        }
+    }
+
+    /// True if it shows the tasks of groups, added up.
+    pub fn is_folded(self) -> bool {
+        self.is_group() && self.has_runs()
     }
 }

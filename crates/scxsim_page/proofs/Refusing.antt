@@ -1,10 +1,11 @@
 -- Of a run of which no page is made.
 use Rattle.std.proofs.Common.{◌≡◌, ℕ, List, Option, Result, Ok, Err, IfErr, ◌⊎◌, inl, inr}
-use Rattle.scx_load_workloads.specs.Workload.{WorkloadState}
+use Rattle.scx_load_replay.specs.declared.scenario.Scenario.{Scenario}
+use Rattle.scx_load_replay.specs.Scenarios.{workload_of}
 use Rattle.scx_sched.specs.Sim.{SimState}
 use Rattle.scxsim_commands.specs.declared.refusal.Refusal.{Refusal}
 use Rattle.scxsim_commands.specs.declared.refusal.Refusal.TheVariants.{NoMemory}
-use Rattle.scxsim_simulation.specs.Runs.{IsRun}
+use Rattle.scxsim_simulation.specs.Scenarios.{IsScenarioRun}
 use Rattle.scxsim_simulation.proofs.PartCauses as causes
 use Rattle.scxsim_commands.specs.declared.windows.Window.{Window}
 use Rattle.scxsim_commands.specs.Windows.{IsWindow}
@@ -12,16 +13,16 @@ use Rattle.scxsim_commands.specs.declared.windows.Span.{Span}
 use Rattle.scxsim_page.specs.Pages.{IsPast, IsPageCause}
 
 -- memory ran out
-pub out_of_memory : (policy workload : List ℕ) (span : Option Span) (r : Refusal) → r ≡ NoMemory → IsPageCause policy workload span r
-out_of_memory policy workload span r e = inl (causes.out_of_memory policy workload span r e)
+pub out_of_memory : (policy scenario : List ℕ) (span : Option Span) (r : Refusal) → r ≡ NoMemory → IsPageCause policy scenario span r
+out_of_memory policy scenario span r e = inl (causes.out_of_memory_of_scenario policy scenario span r e)
 
 -- the run is that of the texts and the window that of the words, and memory ran out, or the window has too many stretches
-pub too_many_of : (policy workload : List ℕ) (w : WorkloadState) (s : SimState) (span : Option Span) (window : Window) (r : Refusal) → IsRun policy workload w s → IsWindow w.ms span window → (r ≡ NoMemory) ⊎ IsPast window w s r → IsPageCause policy workload span r
-too_many_of policy workload w s span window r x is (inl e) = out_of_memory policy workload span r e
-too_many_of policy workload w s span window r x is (inr past) = inr (w, s, x, (window, is, past))
+pub too_many_of : (policy scenario : List ℕ) (x : Scenario) (s : SimState) (span : Option Span) (window : Window) (r : Refusal) → IsScenarioRun policy scenario x s → IsWindow (workload_of x).ms span window → (r ≡ NoMemory) ⊎ IsPast window x s r → IsPageCause policy scenario span r
+too_many_of policy scenario x s span window r run is (inl e) = out_of_memory policy scenario span r e
+too_many_of policy scenario x s span window r run is (inr past) = inr (x, s, run, (window, is, past))
 
 -- a run of texts whose part is refused
-pub none_of : {A : Type 0} (made : Result A Refusal) (policy workload : List ℕ) (w : WorkloadState) (s : SimState) (span : Option Span) (window : Window) → IsRun policy workload w s → IsWindow w.ms span window
-    → IfErr made (λ r. (r ≡ NoMemory) ⊎ IsPast window w s r) → IfErr made (IsPageCause policy workload span)
-none_of (Ok x) policy workload w s span window run is why = tt
-none_of (Err r) policy workload w s span window run is why = too_many_of policy workload w s span window r run is why
+pub none_of : {A : Type 0} (made : Result A Refusal) (policy scenario : List ℕ) (x : Scenario) (s : SimState) (span : Option Span) (window : Window) → IsScenarioRun policy scenario x s → IsWindow (workload_of x).ms span window
+    → IfErr made (λ r. (r ≡ NoMemory) ⊎ IsPast window x s r) → IfErr made (IsPageCause policy scenario span)
+none_of (Ok made) policy scenario x s span window run is why = tt
+none_of (Err r) policy scenario x s span window run is why = too_many_of policy scenario x s span window r run is why

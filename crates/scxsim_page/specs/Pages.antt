@@ -1,12 +1,13 @@
 -- The text that `view` writes, and the causes of its refusals.
 use Rattle.std.specs.Prelude.{◌≡◌, ℕ, ◌<◌, List, ◌++◌, Option, ◌⊎◌}
 use Rattle.scx_sched.specs.Sim.{SimState}
-use Rattle.scx_load_workloads.specs.Workload.{WorkloadState}
+use Rattle.scx_load_replay.specs.declared.scenario.Scenario.{Scenario}
+use Rattle.scx_load_replay.specs.Scenarios.{workload_of}
 use Rattle.scxsim_commands.specs.declared.refusal.TheConstants.{MOST_STRETCHES}
 use Rattle.scxsim_commands.specs.declared.refusal.Refusal.{Refusal}
 use Rattle.scxsim_commands.specs.declared.refusal.Refusal.TheVariants.{TooManyStretches}
-use Rattle.scxsim_simulation.specs.Runs.{IsRun}
-use Rattle.scxsim_simulation.specs.Parts.{IsPartCause}
+use Rattle.scxsim_simulation.specs.Scenarios.{IsScenarioRun}
+use Rattle.scxsim_simulation.specs.ScenarioParts.{IsScenarioPartCause}
 use Rattle.scxsim_commands.specs.declared.windows.Window.{Window}
 use Rattle.scxsim_commands.specs.Windows.{IsWindow}
 use Rattle.scxsim_commands.specs.declared.windows.Span.{Span}
@@ -18,20 +19,21 @@ abbrev pub page : List ℕ → List ℕ
 page made = TOP.now ++ made ++ CODE.now
 
 -- in that window the run has more stretches than a page holds; the refusal has their number
-abbrev pub IsPast : Window → WorkloadState → SimState → Refusal → Type 0
-IsPast window w s r =
-    (r ≡ TooManyStretches (stretches_in window w s)) × MOST_STRETCHES < stretches_in window w s
+abbrev pub IsPast : Window → Scenario → SimState → Refusal → Type 0
+IsPast window x s r =
+    (r ≡ TooManyStretches (stretches_in window x s)) × MOST_STRETCHES < stretches_in window x s
 
 -- the part of the run that words name has too many
-abbrev pub HasTooMany : WorkloadState → SimState → Option Span → Refusal → Type 0
-HasTooMany w s span r = (window : Window) × IsWindow w.ms span window × IsPast window w s r
+abbrev pub HasTooMany : Scenario → SimState → Option Span → Refusal → Type 0
+HasTooMany x s span r =
+    (window : Window) × IsWindow (workload_of x).ms span window × IsPast window x s r
 
 -- the texts are those of a run of which that part has too many
 abbrev pub IsTooLarge : List ℕ → List ℕ → Option Span → Refusal → Type 0
-IsTooLarge policy workload span r =
-    (w : WorkloadState) × (s : SimState) × IsRun policy workload w s × HasTooMany w s span r
+IsTooLarge policy scenario span r =
+    (x : Scenario) × (s : SimState) × IsScenarioRun policy scenario x s × HasTooMany x s span r
 
 -- the texts are refused, or the words are, or a page would be too large
 abbrev pub IsPageCause : List ℕ → List ℕ → Option Span → Refusal → Type 0
-IsPageCause policy workload span r =
-    IsPartCause policy workload span r ⊎ IsTooLarge policy workload span r
+IsPageCause policy scenario span r =
+    IsScenarioPartCause policy scenario span r ⊎ IsTooLarge policy scenario span r

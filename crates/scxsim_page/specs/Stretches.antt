@@ -6,8 +6,8 @@ use Rattle.scx_sched_world.specs.declared.notes.What.{What}
 use Rattle.scx_sched_world.specs.declared.notes.What.TheVariants.{Wake, Sleep, Insert, Move, Run, Stop, Idle, Weight, TaskWeight, Stall, Fault, Exit}
 use Rattle.scx_sched_machine.specs.declared.events.Event.{Event}
 use Rattle.scx_sched.specs.Sim.{SimState, after_event, notes_of}
-use Rattle.scx_load_workloads.specs.Workload.{WorkloadState}
-use Rattle.scx_load_driver.specs.Events.{workload_events}
+use Rattle.scx_load_replay.specs.declared.scenario.Scenario.{Scenario}
+use Rattle.scx_load_replay.specs.Scenarios.{workload_of, scenario_events}
 use Rattle.scx_load_driver.specs.Runs.{stepped_all}
 use Rattle.scxsim_commands.specs.declared.windows.Window.{Window}
 use Rattle.scxsim_trace.specs.Observing.{is_at_end, moment}
@@ -87,7 +87,7 @@ stretches_of s es k = all_counted (stepped_all s es).state.world.clock (after_ev
 abbrev pub none_yet : Window → ℕ → Counts
 none_yet window tasks = record { window = window; since = replicate tasks None; count = 0 }
 
--- the stretches of a part of the run of a workload
-abbrev pub stretches_in : Window → WorkloadState → SimState → ℕ
-stretches_in window w s =
-    stretches_of s (workload_events w s) (none_yet window (length w.homes))
+-- the stretches of a part of the run of a scenario
+abbrev pub stretches_in : Window → Scenario → SimState → ℕ
+stretches_in window x s =
+    stretches_of s (scenario_events x s) (none_yet window (length (workload_of x).homes))

@@ -42,7 +42,7 @@ fn push_head(text: &mut Text, paths: Paths<'_>, contents: &Workload, window: Win
     text.push("]}</script>\n<script id=\"stretches\" type=\"text/plain\">\n");
 }
 
-/// The number of processors, the length of the run, and the part of it that is shown.
+/// The number of CPUs, the length of the run, and the part of it that is shown.
 fn push_lengths(text: &mut Text, contents: &Workload, window: Window) {
     text.number("\",\"processors\":", u64::from(contents.cpus()));
     text.number(",\"ms\":", u64::from(contents.ms()));
@@ -86,6 +86,10 @@ fn push_groups(text: &mut Text, contents: &Workload) {
         match group.parent {
             Some(parent) => text.number(",\"parent\":", u64::from(parent)),
             None => text.push(",\"parent\":-1"),
+        }
+        if let Some(quota) = group.quota_ms {
+            text.number(",\"quota\":", u64::from(quota));
+            text.number(",\"period\":", u64::from(group.period_ms));
         }
         text.push("}");
     }

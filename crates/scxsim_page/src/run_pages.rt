@@ -13,11 +13,12 @@ use scx_load_workloads::Workload;
 use scxsim_commands::{Fault, MOST_STRETCHES, Refusal, Span, Window};
 use scxsim_output::Out;
 use scxsim_pictures::write_document;
-use scxsim_simulation::{Listener, Run, RunPart, prepare_part};
+use scxsim_simulation::{Listener, ScenarioPart, ScenarioRun, prepare_scenario_part};
 use scxsim_template::{CODE, TOP};
 use std::alloc::Global;
 
-/// Writes the page of the run of a policy file and a workload file, or of a part of it. The answer is true.
+/// Writes the page of the run of a policy file and of a workload or a file of events, or of a part of it. The answer
+/// is true.
 ///
 /// # Errors
 ///
@@ -28,7 +29,7 @@ pub fn view<L: Listener, W: Out>(
     alloc: Global,
     paths: Paths<'_>,
     policy: &str,
-    workload: &str,
+    scenario: &str,
     span: Option<Span<'_>>,
     listener: &mut L,
     out: &mut W,
@@ -38,14 +39,14 @@ pub fn view<L: Listener, W: Out>(
     ensures unfailed { OnOk result (W.failure_count out.new ≡ W.failure_count out.old) }
 
     // A refusal has its cause in the texts or in the words, and comes before any byte is written.
-    ensures refused { IfRefused result (IsPageCause policy.now workload.now span.entry) }
+    ensures refused { IfRefused result (IsPageCause policy.now scenario.now span.entry) }
     ensures quiet { IsRefused result → out.new ≡ out.old }
     ensures counted { result ≡ Err Fault.WriteFailed
         → HasFailed (W.failure_count out.old) (W.failure_count out.new) }
 {
-    let RunPart { run, window } = part_of_texts(alloc, policy, workload, span, listener)?;
-    let draft = Draft::new(alloc, paths, &run.workload, window);
-    let pass = last_pass(&run.workload, window);
+    let ScenarioPart { run, window } = part_of_texts(alloc, policy, scenario, span, listener)?;
+    let draft = Draft::new(alloc, paths, run.scenario.workload(), window);
+    let pass = last_pass(run.scenario.workload(), window);
     let mut heard = PassListener { listener, pass };
     write_document(run, draft, TOP, CODE, &mut heard, out)
 }
@@ -55,20 +56,24 @@ pub fn view<L: Listener, W: Out>(
 fn part_of_texts<L: Listener>(
     alloc: Global,
     policy: &str,
-    workload: &str,
+    scenario: &str,
     span: Option<Span<'_>>,
     listener: &mut L,
-) -> Result<RunPart, Refusal>
-    ensures { IfErr result (IsPageCause policy.now workload.now span.entry) }
+) -> Result<ScenarioPart, Refusal>
+    ensures { IfErr result (IsPageCause policy.now scenario.now span.entry) }
 {
-    let part = prepare_part(alloc, policy, workload, span)?;
+    let part = prepare_scenario_part(alloc, policy, scenario, span)?;
     fitting(alloc, part, listener)
 }
 
 /// This part of a run, if its stretches fit a page.
-fn fitting<L: Listener>(alloc: Global, part: RunPart, listener: &mut L) -> Result<RunPart, Refusal>
+fn fitting<L: Listener>(
+    alloc: Global,
+    part: ScenarioPart,
+    listener: &mut L,
+) -> Result<ScenarioPart, Refusal>
     ensures { IfErr result (λ refusal. (refusal ≡ NoMemory)
-        ⊎ IsPast part.window part.run.workload part.run.sim refusal) }
+        ⊎ IsPast part.window part.run.scenario part.run.sim refusal) }
 {
     match check_size(alloc, &part.run, part.window, listener) {
         Ok(()) => Ok(part),
@@ -82,14 +87,14 @@ fn fitting<L: Listener>(alloc: Global, part: RunPart, listener: &mut L) -> Resul
 /// Checks that the stretches of a part of this run fit a page. They are counted where they may not.
 fn check_size<L: Listener>(
     alloc: Global,
-    run: &Run,
+    run: &ScenarioRun,
     window: Window,
     listener: &mut L,
 ) -> Result<(), Refusal>
     ensures { IfErr result (λ refusal. (refusal ≡ NoMemory)
-        ⊎ IsPast window run.now.workload run.now.sim refusal) }
+        ⊎ IsPast window run.now.scenario run.now.sim refusal) }
 {
-    if surely_fits(&run.workload, window) {
+    if surely_fits(run.scenario.workload(), window) {
         return Ok(());
     }
     let pass = RunPass::First;

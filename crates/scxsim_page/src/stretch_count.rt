@@ -1,10 +1,9 @@
 ghost use Rattle.std.specs.Prelude.{◌≡◌, IfOk, None, slice_index_or};
 ghost use Rattle.scxsim_page.specs.Stretches.{within, has_lasted, with_one, none_yet, turned, all_counted, stretches_of, stretches_in};
 
-use scx_load_driver::Driver;
 use scx_sched::{Event, Sim, What};
 use scxsim_commands::Window;
-use scxsim_simulation::{Heard, Listener, Run};
+use scxsim_simulation::{Heard, Listener, ScenarioRun};
 use scxsim_trace::{Events, Observer, observe};
 use std::alloc::{AllocError, Global};
 use std::marker::Model;
@@ -12,16 +11,17 @@ use std::marker::Model;
 /// Counts the stretches of a part of this run. A copy of its machine goes through the events.
 pub(crate) fn count_stretches<L: Listener>(
     alloc: Global,
-    run: &Run,
+    run: &ScenarioRun,
     window: Window,
     listener: &mut L,
 ) -> Result<u64, AllocError>
-    ensures { IfOk result (λ count. count ≡ stretches_in window run.now.workload run.now.sim) }
+    ensures { IfOk result (λ count. count ≡ stretches_in window run.now.scenario run.now.sim) }
 {
-    let driver = Driver::new(alloc, &run.workload)?;
+    let workload = run.scenario.workload();
+    let source = run.scenario.events(alloc)?;
     let sim = run.sim.duplicate(alloc)?;
-    let counting = Counting::new(alloc, run.workload.tasks().len(), window)?;
-    let events = Heard::new(driver, run.workload.ms(), listener);
+    let counting = Counting::new(alloc, workload.tasks().len(), window)?;
+    let events = Heard::new(source, workload.ms(), listener);
     Ok(count_events(events, sim, counting))
 }
 

@@ -7,7 +7,7 @@ ghost use Rattle.scxsim_commands.specs.declared.refusal.Refusal.TheVariants.{NoM
 use crate::sketches::{Sketch, write_sketch};
 use scxsim_commands::{Fault, Refusal};
 use scxsim_output::Out;
-use scxsim_simulation::{Heard, Listener, Run, give_back};
+use scxsim_simulation::{Heard, Listener, ScenarioRun, give_back};
 use std::alloc::AllocError;
 
 /// Goes through the run, and writes its sketch between a head and an end, if there was memory for the sketch. The
@@ -17,7 +17,7 @@ use std::alloc::AllocError;
 ///
 /// There was no memory for a sketch, and then nothing is written, or writing fails.
 pub fn write_document<S: Sketch + Drop, L: Listener, W: Out>(
-    run: Run,
+    run: ScenarioRun,
     sketch: Result<S, AllocError>,
     head: &str,
     end: &str,
@@ -36,25 +36,25 @@ pub fn write_document<S: Sketch + Drop, L: Listener, W: Out>(
         drop(run);
         return Err(Fault::Refused(Refusal::NoMemory));
     };
-    let Run {
-        workload,
-        driver,
+    let ScenarioRun {
+        scenario,
+        events,
         mut sim,
         ..
     } = run;
-    let mut events = Heard::new(driver, workload.ms(), listener);
+    let mut events = Heard::new(events, scenario.workload().ms(), listener);
     let written = write_sketch(
         &mut sim,
         &mut events,
         &mut sketch,
-        &workload,
+        scenario.workload(),
         head,
         end,
         out,
     );
     drop(sketch);
     give_back(events, sim);
-    drop(workload);
+    drop(scenario);
     written?;
     Ok(true)
 }

@@ -27,25 +27,32 @@ pub fn push_number(part: &mut Part, words: &str, number: u64)
     part.push_str(digits.format(number));
 }
 
+/// A task or a group, by its number.
+#[derive(Clone, Copy)]
+pub enum Named {
+    Task(u16),
+    Group(u32),
+}
+
 /// A line of a text.
 #[derive(Clone, Copy)]
 pub struct Line {
     pub start: Part,
-    /// The task whose name comes after the start, if there is one.
-    pub task: Option<u16>,
+    /// The task or the group whose name comes after the start, if there is one.
+    pub named: Option<Named>,
     pub end: Part,
 }
 
 impl Line {
-    /// A line that names no task.
+    /// A line without a name.
     pub fn nameless(text: Part) -> Line
         ensures start { result.start ≡ text }
-        ensures task { result.task ≡ None }
+        ensures named { result.named ≡ None }
         ensures end { result.end.bytes ≡ [] }
     {
         Line {
             start: text,
-            task: None,
+            named: None,
             end: Part::new(),
         }
     }
@@ -127,17 +134,18 @@ fn write_line<N: Names, W: Out>(names: &N, line: &Line, out: &mut W) -> Result<(
     write_named(
         out,
         line.start.as_str(),
-        name_of(names, line.task),
+        name_of(names, line.named),
         line.end.as_str(),
     )
 }
 
-/// The name of a task, if there is one.
-fn name_of<N: Names>(names: &N, task: Option<u16>) -> &str
-    ensures { result.now ≡ name_text (N.lists names.now) task }
+/// The name of a task or a group, if there is one.
+fn name_of<N: Names>(names: &N, named: Option<Named>) -> &str
+    ensures { result.now ≡ name_text (N.lists names.now) named }
 {
-    match task {
-        Some(task) => names.task(task),
+    match named {
+        Some(Named::Task(task)) => names.task(task),
+        Some(Named::Group(group)) => names.group(group),
         None => "",
     }
 }

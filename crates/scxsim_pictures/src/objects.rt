@@ -6,16 +6,16 @@ ghost use Rattle.std.specs.Prelude.{◌+◌, ◌≤◌, length};
 ghost use Rattle.arrayvec.specs.ArrayString.{array_string_len};
 
 use crate::arrows::Arrow;
-use crate::note_lines::{Line, Part, push_number};
-use crate::queue_lengths::Length;
-use crate::tracks::{CPUS, EJECTIONS, QUEUES, TASKS, WAITS, WAKES};
+use crate::note_lines::{Line, Named, Part, push_number};
+use crate::queue_lengths::Count;
+use crate::tracks::{CPUS, EJECTIONS, QUEUES, TASKS, WAITS, WAKES, WEIGHTS};
 use itoa::Buffer;
 use scx_sched_world::{BUILTIN, GLOBAL, HELD, PARKED, POLICY_END};
 
 /// A millisecond in microseconds.
 const MS: u64 = 1000;
 
-/// The slice of a task that ran on a processor, or was parked, between two moments.
+/// The slice of a task that ran on a CPU, or was parked, between two moments.
 pub(crate) fn slice(pid: u32, tid: u32, task: u16, since: u64, until: u64) -> Line {
     named(slice_start(pid, tid, since, until), task, name_end())
 }
@@ -50,7 +50,7 @@ pub(crate) fn arrow_start(task: u16, arrow: Arrow) -> Line {
     Line::nameless(text)
 }
 
-/// The end of an arrow, at the beginning of the task's run on a processor.
+/// The end of an arrow, at the beginning of the task's run on a CPU.
 pub(crate) fn arrow_end(cpu: u32, moment: u64, arrow: Arrow) -> Line {
     let mut text = arrow_at("f", CPUS, cpu, moment);
     push_number(&mut text, ",\"bp\":\"e\",\"id\":", arrow.number);
@@ -75,7 +75,7 @@ fn arrow_at(phase: &str, pid: u32, tid: u32, moment: u64) -> Part
 
 /// A task wakes.
 pub(crate) fn wake(moment: u64, task: u16) -> Line {
-    named(instant(moment, WAKES, "t"), task, name_end())
+    named(instant(moment, WAKES), task, name_end())
 }
 
 /// A task comes to a queue.
@@ -84,20 +84,20 @@ pub(crate) fn entry(moment: u64, track: u32, task: u16, queue: u64) -> Line {
     end.push_str(" to ");
     push_queue(&mut end, queue);
     end.push_str("\"}");
-    named(instant(moment, track, "t"), task, end)
+    named(instant(moment, track), task, end)
 }
 
 /// The policy is ejected because a task waited too long.
 pub(crate) fn stall(moment: u64, task: u16) -> Line {
-    let mut start = instant(moment, EJECTIONS, "g");
-    start.push_str("eject stall ");
+    let mut start = ejection(moment);
+    start.push_str("stall ");
     named(start, task, name_end())
 }
 
 /// The policy is ejected because of the fault of that number.
 pub(crate) fn fault(moment: u64, number: u8) -> Line {
-    let mut text = instant(moment, EJECTIONS, "g");
-    push_number(&mut text, "eject fault ", u64::from(number));
+    let mut text = ejection(moment);
+    push_number(&mut text, "fault ", u64::from(number));
     text.push_str("\"}");
     Line::nameless(text)
 }
@@ -105,37 +105,66 @@ pub(crate) fn fault(moment: u64, number: u8) -> Line {
 /// The policy is ejected because a callback ended it, with that code.
 pub(crate) fn exit(moment: u64, code: i64) -> Line {
     let mut digits = Buffer::new();
-    let mut text = instant(moment, EJECTIONS, "g");
-    text.push_str("eject exit ");
+    let mut text = ejection(moment);
+    text.push_str("exit ");
     text.push_str(digits.format(code));
     text.push_str("\"}");
     Line::nameless(text)
 }
 
-/// The length of a queue from now on.
-pub(crate) fn count(moment: u64, length: Length) -> Line {
-    let mut text = Part::new();
-    push_number(&mut text, ",\n{\"ph\":\"C\",\"pid\":", u64::from(QUEUES));
-    push_number(&mut text, ",\"ts\":", moment.saturating_mul(MS));
-    text.push_str(",\"name\":\"");
-    push_queue(&mut text, length.queue);
-    push_number(&mut text, "\",\"args\":{\"tasks\":", length.tasks);
+/// The length of a queue from its moment on.
+pub(crate) fn count(count: Count) -> Line {
+    let mut text = counter(QUEUES, count.moment);
+    push_queue(&mut text, count.queue);
+    push_number(&mut text, "\",\"args\":{\"tasks\":", count.tasks);
     text.push_str("}}");
     Line::nameless(text)
 }
 
-/// The start of an instant, up to its name; `scope` is `t` for one track and `g` for all.
-fn instant(moment: u64, track: u32, scope: &str) -> Part
-    requires { length scope.now ≤ 1 }
+/// The weight of a group from that moment on.
+pub(crate) fn weight(moment: u64, group: u32, weight: u32) -> Line {
+    let mut end = Part::new();
+    push_number(&mut end, "\",\"args\":{\"weight\":", u64::from(weight));
+    end.push_str("}}");
+    Line {
+        start: counter(WEIGHTS, moment),
+        named: Some(Named::Group(group)),
+        end,
+    }
+}
+
+/// The start of a counter, up to its name.
+fn counter(pid: u32, moment: u64) -> Part
+    ensures { array_string_len result ≤ 150 }
+{
+    let mut start = Part::new();
+    push_number(&mut start, ",\n{\"ph\":\"C\",\"pid\":", u64::from(pid));
+    push_number(&mut start, ",\"ts\":", moment.saturating_mul(MS));
+    start.push_str(",\"name\":\"");
+    start
+}
+
+/// The start of an instant of one track, up to its name.
+fn instant(moment: u64, track: u32) -> Part
     ensures { array_string_len result ≤ 150 }
 {
     let mut start = Part::new();
     push_number(&mut start, ",\n{\"ph\":\"i\",\"pid\":", u64::from(TASKS));
     push_number(&mut start, ",\"tid\":", u64::from(track));
     push_number(&mut start, ",\"ts\":", moment.saturating_mul(MS));
-    start.push_str(",\"s\":\"");
-    start.push_str(scope);
-    start.push_str("\",\"name\":\"");
+    start.push_str(",\"name\":\"");
+    start
+}
+
+/// The start of an ejection, which is an instant of all tracks.
+fn ejection(moment: u64) -> Part
+    ensures { array_string_len result ≤ 150 }
+{
+    let mut start = Part::new();
+    push_number(&mut start, ",\n{\"ph\":\"i\",\"pid\":", u64::from(TASKS));
+    push_number(&mut start, ",\"tid\":", u64::from(EJECTIONS));
+    push_number(&mut start, ",\"ts\":", moment.saturating_mul(MS));
+    start.push_str(",\"s\":\"g\",\"name\":\"eject ");
     start
 }
 
@@ -149,7 +178,7 @@ fn name_end() -> Part {
 fn named(start: Part, task: u16, end: Part) -> Line {
     Line {
         start,
-        task: Some(task),
+        named: Some(Named::Task(task)),
         end,
     }
 }

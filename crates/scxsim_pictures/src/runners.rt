@@ -7,21 +7,21 @@ pub(crate) struct Running {
     pub(crate) since: u64,
 }
 
-/// The task that runs on each processor.
+/// The task that runs on each CPU.
 #[derive(Drop)]
 pub(crate) struct Runners {
     by_cpu: Vec<Option<Running>>,
 }
 
 impl Runners {
-    /// All of these processors are idle.
+    /// All of these CPUs are idle.
     pub(crate) fn new(alloc: Global, cpus: u32) -> Result<Self, AllocError> {
         Ok(Runners {
             by_cpu: vec![in alloc; None; cpus as usize]?,
         })
     }
 
-    /// The task runs on the processor from that moment on.
+    /// The task runs on the CPU from that moment on.
     pub(crate) fn run(&mut self, moment: u64, task: u16, cpu: u32) {
         if let Some(running) = self.by_cpu.get_mut(cpu as usize) {
             *running = Some(Running {
@@ -31,7 +31,7 @@ impl Runners {
         }
     }
 
-    /// The processor becomes idle. Returns the task that ran there, if one did.
+    /// The CPU becomes idle. Returns the task that ran there, if one did.
     pub(crate) fn stop(&mut self, cpu: u32) -> Option<Running> {
         self.by_cpu.get_mut(cpu as usize)?.take()
     }

@@ -19,7 +19,7 @@ pub trait Sketch {
     /// Makes the text of a note.
     fn show(&mut self, moment: u64, clock: u64, what: What);
 
-    /// Makes the text of a processor as the run ends.
+    /// Makes the text of a CPU as the run ends.
     fn end_cpu(&mut self, moment: u64, cpu: u32);
 
     /// Makes the text of a task as the run ends.
@@ -125,7 +125,7 @@ fn write_notes<E: Events, S: Sketch, N: Names, W: Out>(
     Ok(())
 }
 
-/// Writes the text of each processor and then of each task, as the run ends, and the last text.
+/// Writes the text of each CPU and then of each task, as the run ends, and the last text.
 fn write_ends<S: Sketch, N: Names, W: Out>(
     sim: &Sim,
     sketch: &mut S,
@@ -143,7 +143,7 @@ fn write_ends<S: Sketch, N: Names, W: Out>(
     sketch.write(names, out)
 }
 
-/// Makes the text of the processor in that place, or of the task in a place after all processors.
+/// Makes the text of the CPU in that place, or of the task in a place after all CPUs.
 fn end_one<S: Sketch>(sketch: &mut S, moment: u64, cpus: u32, place: u32) {
     if place < cpus {
         sketch.end_cpu(moment, place);

@@ -2,18 +2,18 @@ ghost use Rattle.std.specs.Prelude.{◌≡◌, ℕ, List, true, Err, IfOk, IfErr
 ghost use Rattle.std.specs.Io.KnownBytes.{Appends};
 ghost use Rattle.scxsim_output.specs.Output.{Counts, HasFailed};
 ghost use Rattle.scxsim_commands.specs.Outcome.{IfRefused, IsRefused};
-ghost use Rattle.scxsim_simulation.specs.Parts.{IsPartCause};
+ghost use Rattle.scxsim_simulation.specs.ScenarioParts.{IsScenarioPartCause};
 ghost use Rattle.scxsim_pictures.specs.Pictures.{svg};
 
 use crate::gathering::gather;
 use scxsim_commands::{Fault, Refusal, Span};
 use scxsim_output::{Failed, Out, write_named};
 use scxsim_shapes::draw;
-use scxsim_simulation::{Listener, RunPart, prepare_part};
+use scxsim_simulation::{Listener, ScenarioPart, prepare_scenario_part};
 use std::alloc::Global;
 
-/// Writes the picture of the run of a policy file and a workload file, or of a part of it, in SVG of at most 2 MB.
-/// The answer is true.
+/// Writes the picture of the run of a policy file and of a workload or a file of events, or of a part of it, in SVG
+/// of at most 2 MB. The answer is true.
 ///
 /// # Errors
 ///
@@ -23,7 +23,7 @@ pub fn picture<L: Listener, W: Out>(
     alloc: Global,
     title: &str,
     policy: &str,
-    workload: &str,
+    scenario: &str,
     span: Option<Span<'_>>,
     listener: &mut L,
     out: &mut W,
@@ -33,12 +33,12 @@ pub fn picture<L: Listener, W: Out>(
     ensures unfailed { OnOk result (W.failure_count out.new ≡ W.failure_count out.old) }
 
     // A refusal has its cause in the texts or in the words, and comes before any byte is written.
-    ensures refused { IfRefused result (IsPartCause policy.now workload.now span.entry) }
+    ensures refused { IfRefused result (IsScenarioPartCause policy.now scenario.now span.entry) }
     ensures quiet { IsRefused result → out.new ≡ out.old }
     ensures counted { result ≡ Err Fault.WriteFailed
         → HasFailed (W.failure_count out.old) (W.failure_count out.new) }
 {
-    let drawn = drawn_of(alloc, title, policy, workload, span, listener)?;
+    let drawn = drawn_of(alloc, title, policy, scenario, span, listener)?;
     write_picture(drawn.as_str(), out)?;
     Ok(true)
 }
@@ -58,18 +58,18 @@ fn write_picture<W: Out>(drawn: &str, out: &mut W) -> Result<(), Failed>
 }
 
 /// The drawing of a run, or of a part of it. All memory is taken before the first byte is written.
-#[tactic(auto, using(scxsim_simulation::proofs::PartCauses::out_of_memory))]
+#[tactic(auto, using(scxsim_simulation::proofs::PartCauses::out_of_memory_of_scenario))]
 fn drawn_of<L: Listener>(
     alloc: Global,
     title: &str,
     policy: &str,
-    workload: &str,
+    scenario: &str,
     span: Option<Span<'_>>,
     listener: &mut L,
 ) -> Result<String, Refusal>
-    ensures { IfErr result (IsPartCause policy.now workload.now span.entry) }
+    ensures { IfErr result (IsScenarioPartCause policy.now scenario.now span.entry) }
 {
-    let RunPart { run, window } = prepare_part(alloc, policy, workload, span)?;
+    let ScenarioPart { run, window } = prepare_scenario_part(alloc, policy, scenario, span)?;
     let picture = gather(alloc, run, window, listener)?;
     let drawn = draw(alloc, &picture, title);
     drop(picture);

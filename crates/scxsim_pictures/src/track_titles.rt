@@ -1,4 +1,6 @@
-use crate::tracks::{CPUS, EJECTIONS, INSERTS, MOVES, PARKED, QUEUES, TASKS, WAITS, WAKES};
+use crate::tracks::{
+    CPUS, EJECTIONS, INSERTS, MOVES, PARKED, QUEUES, TASKS, WAITS, WAKES, WEIGHTS,
+};
 use arrayvec::ArrayString;
 use scx_load_workloads::Workload;
 use scxsim_output::Text;
@@ -11,10 +13,14 @@ pub(crate) const HEAD: &str = "{\"displayTimeUnit\":\"ms\",\"traceEvents\":[\n";
 
 pub(crate) const END: &str = "\n]}\n";
 
-/// The titles of all tracks, which are the first objects of a document.
-pub(crate) fn titles(alloc: Global, workload: &Workload) -> Result<String, AllocError> {
+/// The titles of all tracks, which are the first objects of a document, and the first weights of groups.
+pub(crate) fn titles(
+    alloc: Global,
+    title: &str,
+    workload: &Workload,
+) -> Result<String, AllocError> {
     let mut text = Text::new(alloc);
-    push_cpus(&mut text, workload.cpus());
+    push_cpus(&mut text, title, workload.cpus());
     push_tasks(&mut text);
     push_group(&mut text, QUEUES, 3, "queues");
     if has_quotas(workload) {
@@ -23,7 +29,29 @@ pub(crate) fn titles(alloc: Global, workload: &Workload) -> Result<String, Alloc
     }
     push_group(&mut text, WAITS, 1, "waits");
     push_names(&mut text, WAITS, workload);
+    if has_weights(workload) {
+        push_group(&mut text, WEIGHTS, 5, "weights");
+        push_weights(&mut text, workload);
+    }
     text.finish()
+}
+
+/// True if the weights of groups are shown: if there are several.
+pub(crate) fn has_weights(workload: &Workload) -> bool {
+    workload.groups().len() > 1
+}
+
+/// Appends the weight of each group at the beginning.
+fn push_weights(text: &mut Text, workload: &Workload) {
+    let mut number = 0u32;
+    for group in workload.groups() {
+        text.number(",\n{\"ph\":\"C\",\"pid\":", u64::from(WEIGHTS));
+        text.push(",\"ts\":0,\"name\":\"");
+        text.push(workload.group(number));
+        text.number("\",\"args\":{\"weight\":", u64::from(group.weight));
+        text.push("}}");
+        number = number.saturating_add(1);
+    }
 }
 
 /// True if a group of the workload has a quota.
@@ -34,17 +62,33 @@ fn has_quotas(workload: &Workload) -> bool {
         .any(|group| group.quota_ms.is_some())
 }
 
-fn push_cpus(text: &mut Text, cpus: u32) {
-    push_group(text, CPUS, 0, "processors");
+/// Appends a track for each CPU. The title of the timeline is in that of their group.
+fn push_cpus(text: &mut Text, title: &str, cpus: u32) {
+    push_head(text, "process_name", CPUS, 0);
+    text.push("\"name\":\"CPUs: ");
+    for letter in title.chars() {
+        text.character(plain(letter));
+    }
+    text.push("\"}}");
+    push_place(text, "process_sort_index", CPUS, 0, 0);
     for cpu in 0..cpus {
         push_title(text, "thread_name", CPUS, cpu, cpu_name(cpu).as_str());
         push_place(text, "thread_sort_index", CPUS, cpu, cpu);
     }
 }
 
+/// A character that needn't be quoted in JSON.
+fn plain(letter: char) -> char {
+    match letter {
+        '"' | '\\' => '?',
+        letter if letter.is_ascii_graphic() || letter == ' ' => letter,
+        _ => '?',
+    }
+}
+
 fn cpu_name(cpu: u32) -> ArrayString<16> {
     let mut name = ArrayString::new();
-    let _ = write!(name, "cpu {cpu}");
+    let _ = write!(name, "CPU {cpu}");
     name
 }
 

@@ -133,20 +133,56 @@ impl Picture {
     }
 }
 
-/// Classes of columns in which a processor was idle for up to a third of the time, for two, and for more.
-const IDLE: [&str; 3] = ["qi i1", "qi i2", "qi"];
+/// A reason for which CPUs are idle.
+#[derive(Clone, Copy)]
+pub(crate) struct Idleness {
+    /// The classes of columns in which a CPU was idle for up to a third of the time, for two, and for more.
+    classes: [&'static str; 3],
+    words: &'static str,
+}
+
+/// CPUs are idle while a task waits.
+pub(crate) const WAITED: Idleness = Idleness {
+    classes: ["qi i1", "qi i2", "qi"],
+    words: " was idle while a task waited, ",
+};
+
+/// CPUs are idle while tasks are parked and none waits.
+pub(crate) const USED_UP: Idleness = Idleness {
+    classes: ["qu i1", "qu i2", "qu"],
+    words: " was idle while a quota was used up, ",
+};
 
 impl Picture {
-    /// Hatches the columns in which a processor was idle while a task waited: the longer, the darker.
-    pub(crate) fn draw_idle(&self, sheet: &mut Sheet, levels: &Levels, row: Row) {
+    /// Hatches the columns in which a CPU was idle for that reason: the longer, the darker.
+    pub(crate) fn draw_idle(
+        &self,
+        sheet: &mut Sheet,
+        levels: &Levels,
+        row: Row,
+        idleness: Idleness,
+    ) {
         let mut third = 0u64;
-        for class in IDLE {
-            self.draw_third(sheet, levels, row, class, third);
+        for class in idleness.classes {
+            if self.draw_third(sheet, levels, row, class, third) {
+                sheet.put("\"><title>");
+                self.put_name(sheet, row);
+                sheet.put_number(idleness.words, levels.sum);
+                sheet.put(" ms in all</title></path>\n");
+            }
             third = third.saturating_add(1);
         }
     }
 
-    fn draw_third(&self, sheet: &mut Sheet, levels: &Levels, row: Row, class: &str, third: u64) {
+    /// Begins the path of the columns of one third, if there are some.
+    fn draw_third(
+        &self,
+        sheet: &mut Sheet,
+        levels: &Levels,
+        row: Row,
+        class: &str,
+        third: u64,
+    ) -> bool {
         let mut strokes = Hatches::new(self.gathered.layout.scale, row.runs());
         let mut column = 0u64;
         for level in &levels.levels {
@@ -156,13 +192,7 @@ impl Picture {
             column = column.saturating_add(1);
         }
         strokes.flush(sheet, class);
-        if !strokes.is_begun {
-            return;
-        }
-        sheet.put("\"><title>");
-        self.put_name(sheet, row);
-        sheet.put_number(" was idle while somebody waited, ", levels.sum);
-        sheet.put(" ms in all</title></path>\n");
+        strokes.is_begun
     }
 }
 

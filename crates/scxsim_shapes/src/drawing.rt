@@ -1,4 +1,4 @@
-use crate::cells::Coat;
+use crate::cells::{Coat, USED_UP, WAITED};
 use scx_load_workloads::Workload;
 use scxsim_layout::{DARK, LIGHT, Levels, OTHERS, QUEUES, Row, Shade, Sheet};
 use scxsim_sums::Gathered;
@@ -66,7 +66,9 @@ impl Picture {
             .saturating_add(BELOW);
         sheet.put_number("width=\"1600\" height=\"", high);
         sheet.put_number("\" viewBox=\"0 0 1600 ", high);
-        sheet.put("\" role=\"img\" font-family=\"system-ui, DejaVu Sans, sans-serif\" ");
+        sheet.put(
+            "\" style=\"max-width:100%;height:auto\" role=\"img\" font-family=\"system-ui, DejaVu Sans, sans-serif\" ",
+        );
         sheet.put("font-size=\"12\">\n<title>");
         sheet.put_quoted(title);
         sheet.put("</title>\n");
@@ -137,8 +139,10 @@ impl Picture {
         };
         if row.is_cpu() {
             self.draw_cpu(sheet, levels, place, coat);
+            levels.take(&self.gathered.sums.parked, place, unit);
+            self.draw_idle(sheet, levels, row, USED_UP);
             levels.take(&self.gathered.sums.waited, place, unit);
-            self.draw_idle(sheet, levels, row);
+            self.draw_idle(sheet, levels, row, WAITED);
             return;
         }
         let class = stroke(row.colour);
@@ -160,7 +164,7 @@ impl Picture {
         self.draw_cells(sheet, levels, place, parked);
     }
 
-    /// Draws the columns of a processor, in the colour of the tasks that ran, if all have one.
+    /// Draws the columns of a CPU, in the colour of the tasks that ran, if all have one.
     fn draw_cpu(&self, sheet: &mut Sheet, levels: &Levels, place: usize, coat: Coat) {
         for colour in 0..STROKES.len() {
             let one = Coat {

@@ -43,7 +43,7 @@ impl Picture {
         sheet.put("</text>\n");
     }
 
-    /// Draws the time that a row ran and waited. A processor has its share of the time in place of a length.
+    /// Draws the time that a row ran and waited. A CPU has its share of the time in place of a length.
     fn draw_figures(&self, sheet: &mut Sheet, row: Row, total: Total) {
         if !row.has_runs() {
             return;

@@ -1,6 +1,6 @@
 use crate::drawing::Picture;
 use scxsim_commands::Ejection;
-use scxsim_layout::{Folding, Sheet, put_time};
+use scxsim_layout::{Grid, Sheet, put_time};
 
 /// The top of a legend's first line, the distance between lines, and their right end, in pixels.
 const TOP: u64 = 56;
@@ -15,10 +15,12 @@ const TWO_LETTERS: u64 = 13;
 const SWATCH: u64 = 58;
 
 /// The most entries of a legend: the last ones are those of the policy's queues.
-const ENTRIES: usize = 27;
+const ENTRIES: usize = 31;
 
-/// The place in a legend of the first queue of the policy.
-const FIRST_QUEUE: usize = 11;
+/// The places in a legend of the first kind of wait, and of the first queue of the policy.
+const FIRST_WAIT: usize = 9;
+
+const FIRST_QUEUE: usize = 15;
 
 /// The place of an entry of the legend, in pixels.
 #[derive(Clone, Copy)]
@@ -72,16 +74,14 @@ impl Entry {
     }
 
     fn width(self) -> u64 {
-        let letters = (self.words.len() as u64).saturating_add(digits(self.number));
+        let number = self.number.map_or(0, digits);
+        let letters = (self.words.len() as u64).saturating_add(number);
         (letters.saturating_mul(TWO_LETTERS) / 2).saturating_add(SWATCH)
     }
 }
 
-/// The number of digits of a number, if there is one.
-fn digits(number: Option<u64>) -> u64 {
-    let Some(number) = number else {
-        return 0;
-    };
+/// The number of digits of a number.
+pub(crate) fn digits(number: u64) -> u64 {
     let mut rest = number;
     let mut count = 1u64;
     for _ in 0..20 {
@@ -103,7 +103,7 @@ fn entry_if(is_there: bool, swatch: &'static str, words: &'static str) -> Option
 }
 
 /// The swatches of the queues of a policy.
-const QUEUES: [&str; 8] = [
+const QUEUES: [&str; 16] = [
     "<path class=\"q0\" d=\"M0 0h30v12h-30z\"/>",
     "<path class=\"q1\" d=\"M0 0h30v12h-30z\"/>",
     "<path class=\"q2\" d=\"M0 0h30v12h-30z\"/>",
@@ -112,6 +112,14 @@ const QUEUES: [&str; 8] = [
     "<path class=\"q5\" d=\"M0 0h30v12h-30z\"/>",
     "<path class=\"q6\" d=\"M0 0h30v12h-30z\"/>",
     "<path class=\"q7\" d=\"M0 0h30v12h-30z\"/>",
+    "<path class=\"q8\" d=\"M0 0h30v12h-30z\"/>",
+    "<path class=\"q9\" d=\"M0 0h30v12h-30z\"/>",
+    "<path class=\"q10\" d=\"M0 0h30v12h-30z\"/>",
+    "<path class=\"q11\" d=\"M0 0h30v12h-30z\"/>",
+    "<path class=\"q12\" d=\"M0 0h30v12h-30z\"/>",
+    "<path class=\"q13\" d=\"M0 0h30v12h-30z\"/>",
+    "<path class=\"q14\" d=\"M0 0h30v12h-30z\"/>",
+    "<path class=\"q15\" d=\"M0 0h30v12h-30z\"/>",
 ];
 
 impl Picture {
@@ -177,7 +185,7 @@ impl Picture {
         let scale = self.gathered.layout.scale;
         let tasks = self.workload.tasks().len() as u64;
         let ms = u64::from(self.workload.ms());
-        put_count(sheet, u64::from(self.workload.cpus()), " processor");
+        put_count(sheet, u64::from(self.workload.cpus()), " CPU");
         sheet.put(", ");
         put_count(sheet, tasks, " task");
         sheet.put(", ");
@@ -193,23 +201,36 @@ impl Picture {
     /// Adds a line on columns and folded rows, below the legend.
     fn draw_notes(&self, sheet: &mut Sheet) {
         let layout = &self.gathered.layout;
-        let notes = match layout.folding {
-            Folding::Nothing => "",
-            Folding::Tasks => " Tasks are added up by groups.",
-            Folding::Cpus => " Processors are added up by fours, tasks by groups.",
-            Folding::Groups(_) => {
-                " Processors are added up by fours, and groups with those within them."
-            }
-        };
-        if layout.scale.step == 1 && notes.is_empty() {
+        let is_whole = !layout.folding.by_fours && !layout.is_folded();
+        if layout.scale.step == 1 && is_whole {
             return;
         }
         let y = self.legend_end().saturating_add(12);
         sheet.put_number("<text class=\"faint\" x=\"16\" y=\"", y);
         sheet.put_number("\">A column is ", layout.scale.step);
         sheet.put(" ms: the fuller its colour, the more of it ran or waited.");
-        sheet.put(notes);
+        self.put_folding(sheet);
         sheet.put("</text>\n");
+    }
+
+    /// Adds sentences on the CPUs, groups and tasks that are added up.
+    fn put_folding(&self, sheet: &mut Sheet) {
+        let layout = &self.gathered.layout;
+        let folding = layout.folding;
+        if folding.by_fours {
+            sheet.put(" CPUs are added up by fours.");
+        }
+        if folding.tops_a_row.is_some() {
+            sheet.put(" Groups are added up with those within them.");
+        } else if layout.is_by_group() {
+            sheet.put(" Tasks are added up by groups.");
+        } else if layout.is_folded() {
+            sheet.put_number(
+                " Tasks are added up in groups of more than ",
+                folding.most_tasks,
+            );
+            sheet.put(".");
+        }
     }
 
     /// The entry in that place of the legend, if there is one.
@@ -217,16 +238,15 @@ impl Picture {
         if place >= FIRST_QUEUE {
             return self.queue_entry(place.saturating_sub(FIRST_QUEUE));
         }
-        if place < 5 {
+        if place < FIRST_WAIT {
             self.entry_of_runs(place)
         } else {
-            self.entry_of_waits(place)
+            self.entry_of_waits(place.saturating_sub(FIRST_WAIT))
         }
     }
 
     fn entry_of_runs(&self, place: usize) -> Option<Entry> {
         let layout = &self.gathered.layout;
-        let is_folded = layout.folding.by_group() || layout.rows.len() > 40;
         match place {
             0 => Entry::new(
                 "<path class=\"b0\" d=\"M0 0h14v12h-14z\"/><path class=\"b1\" d=\"M16 0h14v12h-14z\"/>",
@@ -238,7 +258,7 @@ impl Picture {
                 "several of them in turn",
             ),
             2 => entry_if(
-                !is_folded,
+                !self.gathered.bars.wakes.is_empty(),
                 "<path class=\"ink\" d=\"M15 2l4 8h-8z\"/>",
                 "wakes",
             ),
@@ -246,12 +266,32 @@ impl Picture {
                 layout.strips > 0,
                 "<path class=\"b3\" opacity=\".5\" d=\"M0 7h30v5h-30z\"/>\
 <path class=\"qi\" d=\"M0 2h30v5h-30z\"/><path class=\"edge\" d=\"M0 1.5h30\"/>",
-                "a group's share; line: what is due by weight; hatched: it lacks",
+                "a group's share; line: what is due; hatched: what it lacks",
+            ),
+            4 => entry_if(
+                layout.strips > 0 && self.gathered.shares.has_quotas(),
+                "<path class=\"cap\" d=\"M0 6.5h30\"/>",
+                "what a group's quota allows",
+            ),
+            5 => entry_if(
+                layout.strips > 0 && self.gathered.queues.parked,
+                "<path class=\"qu\" d=\"M0 2h30v8h-30z\"/>",
+                "a group's lack with its quota used up",
+            ),
+            6 => entry_if(
+                self.is_some_idle(&self.gathered.sums.waited),
+                "<path class=\"qi\" d=\"M0 0h30v12h-30z\"/>",
+                "idle while a task waits",
+            ),
+            7 => entry_if(
+                self.is_some_idle(&self.gathered.sums.parked),
+                "<path class=\"qu\" d=\"M0 0h30v12h-30z\"/>",
+                "idle while a quota is used up",
             ),
             _ => entry_if(
-                self.is_some_idle(),
-                "<path class=\"qi\" d=\"M0 0h30v12h-30z\"/>",
-                "idle while somebody waits",
+                self.gathered.longest.are_some_framed(),
+                "<rect class=\"frame\" stroke-width=\"1.5\" x=\"1\" y=\"1\" width=\"28\" height=\"10\"/>",
+                self.frame_words(),
             ),
         }
     }
@@ -259,30 +299,30 @@ impl Picture {
     fn entry_of_waits(&self, place: usize) -> Option<Entry> {
         let queues = &self.gathered.queues;
         match place {
-            5 => entry_if(
+            0 => entry_if(
                 queues.short,
                 "<path class=\"cw\" stroke-width=\"12\" d=\"M0 6h30\"/>",
                 "waits, in any queue",
             ),
-            6 => entry_if(
+            1 => entry_if(
                 queues.global,
                 "<path class=\"qg\" d=\"M0 0h30v12h-30z\"/>",
-                "waits, global queue",
+                "waits in the global queue",
             ),
-            7 => entry_if(
+            2 => entry_if(
                 queues.local,
                 "<path class=\"ql\" d=\"M0 0h30v12h-30z\"/>",
-                "waits, local queue",
+                "waits in a CPU's own queue",
             ),
-            8 => entry_if(
+            3 => entry_if(
                 queues.held,
                 "<path class=\"qh\" d=\"M0 0h30v12h-30z\"/>",
-                "held: in no queue",
+                "held by the policy",
             ),
-            9 => entry_if(
+            4 => entry_if(
                 queues.built_in,
                 "<path class=\"qb\" d=\"M0 0h30v12h-30z\"/>",
-                "waits, built-in scheduler",
+                "waits for the built-in scheduler",
             ),
             _ => entry_if(
                 queues.parked,
@@ -295,28 +335,31 @@ impl Picture {
     /// The words for the colours of runs.
     fn runs_words(&self) -> &'static str {
         let layout = &self.gathered.layout;
-        if layout.folding.by_group() {
-            "runs, by group"
-        } else if layout.strips > 0 && self.workload.tasks().len() > 6 {
-            "runs (colour: its group, letter: the task)"
+        if layout.strips > 0 && self.workload.tasks().len() > 6 {
+            "runs (letter: its task; colour: its group)"
         } else {
-            "runs (letter and colour: the task)"
+            "runs (letter and colour: its task)"
         }
     }
 
-    /// True if a processor was idle while a task waited.
-    fn is_some_idle(&self) -> bool {
+    /// The words for the frames of waits.
+    fn frame_words(&self) -> &'static str {
+        if self.gathered.layout.scale.length() < u64::from(self.workload.ms()) {
+            "a wait of at least a twentieth of the part and four times the others' mean, or of a stall"
+        } else {
+            "a wait of at least a twentieth of the run and four times the others' mean, or of a stall"
+        }
+    }
+
+    /// True if a CPU has time in a grid of idle times.
+    fn is_some_idle(&self, idle_times: &Grid) -> bool {
         let layout = &self.gathered.layout;
         let mut place = 0usize;
         for row in &layout.rows {
             if !row.is_cpu() {
                 return false;
             }
-            let idle = self
-                .gathered
-                .sums
-                .waited
-                .sum_of(place, 0, layout.scale.columns);
+            let idle = idle_times.sum_of(place, 0, layout.scale.columns);
             if 0 < idle {
                 return true;
             }
@@ -325,7 +368,7 @@ impl Picture {
         false
     }
 
-    /// True if processors have columns, in which several tasks may run.
+    /// True if CPUs have columns, in which several tasks may run.
     fn has_several(&self) -> bool {
         self.gathered.layout.scale.step > 1
     }
@@ -336,8 +379,8 @@ impl Picture {
             return None;
         }
         Some(Entry {
-            swatch: QUEUES.get(place % 8)?,
-            words: "waits, queue ",
+            swatch: QUEUES.get(place % 16)?,
+            words: "waits in queue ",
             number: Some(used.id),
         })
     }

@@ -45,7 +45,7 @@ impl Picture {
     }
 
     /// The name of a group, if there is such a group.
-    fn group_name(&self, group: u32) -> &str {
+    pub(crate) fn group_name(&self, group: u32) -> &str {
         self.workload.is_whole();
         if (group as usize) < self.workload.groups().len() {
             self.workload.group_name(group)
@@ -58,7 +58,7 @@ impl Picture {
     pub(crate) fn put_name(&self, sheet: &mut Sheet, row: Row) {
         match row.kind {
             Kind::Cpus { first, last } => {
-                sheet.put_number("cpu ", u64::from(first));
+                sheet.put_number("CPU ", u64::from(first));
                 if first < last {
                     sheet.put_number(" to ", u64::from(last));
                 }
@@ -84,7 +84,7 @@ impl Picture {
             Queue::Global => sheet.put("waited in the global queue"),
             Queue::Held => sheet.put("was held"),
             Queue::BuiltIn => sheet.put("waited for the built-in scheduler"),
-            Queue::Local(cpu) => sheet.put_number("waited in the local queue of cpu ", cpu),
+            Queue::Local(cpu) => sheet.put_number("waited in the queue of CPU ", cpu),
             Queue::Parked => sheet.put("was parked"),
         }
     }

@@ -14,12 +14,15 @@ const GAP: u64 = 100;
 const TALL: u64 = 10;
 
 /// The classes of waits in a policy's queues.
-const QUEUES: [&str; 8] = ["q0", "q1", "q2", "q3", "q4", "q5", "q6", "q7"];
+const QUEUES: [&str; 16] = [
+    "q0", "q1", "q2", "q3", "q4", "q5", "q6", "q7", "q8", "q9", "q10", "q11", "q12", "q13", "q14",
+    "q15",
+];
 
 /// The class of a wait.
 fn class_of(queue: Queue) -> &'static str {
     match queue {
-        Queue::Policy(place) => QUEUES.get(place % 8).copied().unwrap_or("q0"),
+        Queue::Policy(place) => QUEUES.get(place % 16).copied().unwrap_or("q0"),
         Queue::Global => "qg",
         Queue::Held => "qh",
         Queue::BuiltIn => "qb",
@@ -69,7 +72,7 @@ impl Picture {
     fn put_doing(&self, sheet: &mut Sheet, doing: Doing) {
         sheet.put(" ");
         match doing {
-            Doing::Runs(cpu) => sheet.put_number("ran on cpu ", u64::from(cpu)),
+            Doing::Runs(cpu) => sheet.put_number("ran on CPU ", u64::from(cpu)),
             Doing::Waits(queue) => self.put_queue(sheet, queue),
         }
     }
@@ -110,24 +113,27 @@ impl Picture {
         sheet.put("\"><title>wakes</title></path>\n");
     }
 
-    /// Draws a frame round each notable wait.
+    /// Draws a frame round each wait that stands out, and round that of a stall.
     pub(crate) fn draw_waits(&self, sheet: &mut Sheet) {
-        let layout = &self.gathered.layout;
-        for wait in &self.gathered.longest.waits {
-            if self
-                .gathered
-                .longest
-                .stands_out(*wait, layout.scale.length())
-            {
-                if let Some(place) = layout.task(wait.task) {
-                    self.draw_wait(sheet, *wait, place.row);
-                }
+        let longest = &self.gathered.longest;
+        for wait in &longest.waits {
+            if longest.stands_out(*wait) {
+                self.draw_wait(sheet, *wait);
             }
+        }
+        if let Some(wait) = longest.stalled {
+            self.draw_wait(sheet, wait);
         }
     }
 
-    fn draw_wait(&self, sheet: &mut Sheet, wait: Wait, place: usize) {
-        let Some(row) = self.gathered.layout.row(place) else {
+    /// The row of a task, if there is such a task.
+    fn row_of(&self, task: u16) -> Option<Row> {
+        let place = self.gathered.layout.task(task)?;
+        self.gathered.layout.row(place.row)
+    }
+
+    fn draw_wait(&self, sheet: &mut Sheet, wait: Wait) {
+        let Some(row) = self.row_of(wait.task) else {
             return;
         };
         let scale = self.gathered.layout.scale;
@@ -148,7 +154,10 @@ impl Picture {
         sheet.put_hundredths("<text class=\"wrong h\" x=\"", x.saturating_add(500));
         sheet.put_number("\" y=\"", band.top.saturating_sub(4));
         sheet.put("\">waited ");
-        put_time(sheet, wait.length());
+        if wait.is_cut {
+            sheet.put("at least ");
+        }
+        put_time(sheet, wait.length);
         if wait.until == u64::from(self.workload.ms()) {
             sheet.put(", to the end");
         }

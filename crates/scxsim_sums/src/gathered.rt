@@ -1,7 +1,6 @@
-use crate::activities::{Doing, Stay};
+use crate::activities::{Doing, Instant, Stay};
 use crate::bars::{Bar, Bars};
-use crate::idles::Idles;
-use crate::longest_waits::Longest;
+use crate::longest_waits::{Longest, Wait};
 use crate::queues::{DrawnQueues, Queue};
 use crate::shares::Shares;
 use crate::sums::Sums;
@@ -89,7 +88,7 @@ impl Gathered {
         }
     }
 
-    /// Keeps a run in the row of its processor, as a bar or in columns.
+    /// Keeps a run in the row of its CPU, as a bar or in columns.
     #[inline(always)]
     fn add_cpu_run(&mut self, piece: Piece, cpu: u32) {
         let row = self.layout.cpu_row(cpu as usize);
@@ -121,9 +120,6 @@ impl Gathered {
     #[inline(always)]
     fn add_wait(&mut self, piece: Piece, queue: Queue) {
         let row = piece.place.row;
-        if !queue.is_parked() {
-            self.sums.add_wait(row, piece.ms);
-        }
         if piece.ms >= self.layout.least && self.keep_bar(row, piece, Doing::Waits(queue)) {
             self.queues.draw(queue);
         } else {
@@ -162,13 +158,35 @@ impl Gathered {
             })
     }
 
+    /// A task waits no more from that moment on, if it has waited since another one.
+    #[inline(always)]
+    pub(crate) fn end_wait(&mut self, task: u16, since: Option<Instant>, until: Instant) {
+        let Some(since) = since else {
+            return;
+        };
+        if since.moment < until.moment {
+            self.add_whole_wait(task, since, until);
+        }
+    }
+
+    /// Adds a wait to the time of its row by the clock, and to the longest ones.
+    fn add_whole_wait(&mut self, task: u16, since: Instant, until: Instant) {
+        let Some(wait) = Wait::within(self.layout.scale, task, since, until) else {
+            return;
+        };
+        if let Some(place) = self.layout.task(task) {
+            self.sums.add_wait(place.row, wait.length);
+        }
+        self.longest.end(self.layout.scale, wait);
+    }
+
     /// A task is runnable from now on.
     pub(crate) fn wake(&mut self, task: u16, moment: u64) {
         let Some(place) = self.layout.task(task) else {
             return;
         };
         self.shares.activate(place.home);
-        if !self.layout.folding.by_group() {
+        if self.layout.has_bars(place.row) {
             self.bars.wake(place.row, self.layout.scale, moment);
         }
     }
@@ -183,7 +201,10 @@ impl Gathered {
     /// Keeps a new weight, or an ejection.
     pub(crate) fn note(&mut self, moment: u64, what: What) {
         if let What::Weight(group, weight) = what {
-            self.shares.weigh(group, weight);
+            self.shares.weigh(moment, group, weight);
+        }
+        if let What::Stall(task) = what {
+            self.longest.stall(task, moment);
         }
         if let Some(ejection) = Ejection::of(moment, what) {
             self.ejection = Some(ejection);
@@ -191,10 +212,9 @@ impl Gathered {
     }
 
     /// The run is over, at that moment.
-    pub(crate) fn end(&mut self, idles: &Idles, moment: u64, homes: &[u32]) {
+    pub(crate) fn end(&mut self, moment: u64, homes: &[u32]) {
         self.shares.end(moment);
         self.shares
-            .take(&self.layout, homes, &self.sums.ran, &self.bars);
-        idles.end(&self.layout, &mut self.sums.waited);
+            .take(&self.layout, homes, &self.sums, &self.bars);
     }
 }

@@ -1,4 +1,4 @@
-use crate::activities::{Activities, Doing};
+use crate::activities::{Activities, Doing, Instant};
 use crate::gathered::Gathered;
 use crate::idles::Idles;
 use crate::queues::Queue;
@@ -14,9 +14,10 @@ use std::alloc::{AllocError, Global};
 pub struct Gathering {
     activities: Activities,
     idles: Idles,
+    /// Where a group has a quota: the time that CPUs were idle while tasks were parked and none waited.
+    quota_idles: Option<Idles>,
     now: Now,
-    /// True if waits of tasks may be bars of their own.
-    has_bars: bool,
+    clock: u64,
     gathered: Gathered,
 }
 
@@ -36,17 +37,21 @@ impl Gathering {
         let columns = layout.scale.columns as usize;
         let activities = Activities::new(alloc, workload.tasks().len())?;
         let idles = Idles::new(alloc, cpus, columns)?;
+        let gathered = Gathered::new(alloc, workload, layout)?;
+        let quota_idles = idles_of_quotas(alloc, &gathered, cpus, columns)?;
         Ok(Gathering {
             activities,
             idles,
-            now: Now::first(layout.scale),
-            has_bars: !layout.folding.by_group(),
-            gathered: Gathered::new(alloc, workload, layout)?,
+            quota_idles,
+            now: Now::first(gathered.layout.scale),
+            clock: 0,
+            gathered,
         })
     }
 
     /// The sums of the run, which ends at that moment. `homes` has the group of each task.
     pub fn end(mut self, moment: u64, homes: &[u32]) -> Gathered {
+        self.clock = moment;
         self.pass(moment);
         let mut task = 0u16;
         for _ in homes {
@@ -57,11 +62,17 @@ impl Gathering {
             mut gathered,
             activities,
             idles,
+            quota_idles,
             ..
         } = self;
-        gathered.end(&idles, moment, homes);
+        gathered.end(moment, homes);
+        idles.end(&gathered.layout, &mut gathered.sums.waited);
+        if let Some(idles) = &quota_idles {
+            idles.end(&gathered.layout, &mut gathered.sums.parked);
+        }
         drop(activities);
         drop(idles);
+        drop(quota_idles);
         gathered
     }
 
@@ -75,6 +86,10 @@ impl Gathering {
         self.now.pass(scale, moment);
         let waits = self.activities.waiting > 0;
         self.idles.pass(scale, self.now.mark, waits);
+        if let Some(idles) = &mut self.quota_idles {
+            let are_parked = self.activities.are_only_parked();
+            idles.pass(scale, self.now.mark, are_parked);
+        }
         self.gathered.shares.pass(moment);
     }
 
@@ -82,16 +97,18 @@ impl Gathering {
     #[inline(always)]
     fn change(&mut self, task: u16, doing: Option<Doing>) {
         let now = self.now.mark;
-        let Some(stay) = self.activities.change(task, doing, now) else {
+        let Some(stay) = self.activities.change(task, doing, now, self.clock) else {
             return;
         };
         if stay.since.moment < now.moment {
             self.gathered.add(task, stay, now);
         }
-        if self.has_bars && !waits(doing) {
-            self.gathered
-                .longest
-                .end(task, stay.waits_since, now.moment);
+        if !waits(doing) {
+            let end = Instant {
+                moment: now.moment,
+                clock: self.clock,
+            };
+            self.gathered.end_wait(task, stay.waits_since, end);
         }
     }
 
@@ -121,8 +138,7 @@ impl Gathering {
             }
             What::Stop(task, cpu) => {
                 self.change(task, None);
-                self.idles.stop(cpu);
-                self.gathered.shares.stop();
+                self.stop(cpu);
             }
             What::Idle(_)
             | What::Weight(_, _)
@@ -133,12 +149,24 @@ impl Gathering {
         }
     }
 
-    /// A processor begins to run.
+    /// A CPU begins to run.
     fn run(&mut self, cpu: u32) {
         let gathered = &mut self.gathered;
         self.idles
             .run(&gathered.layout, &mut gathered.sums.waited, cpu);
+        if let Some(idles) = &mut self.quota_idles {
+            idles.run(&gathered.layout, &mut gathered.sums.parked, cpu);
+        }
         gathered.shares.begin();
+    }
+
+    /// A CPU stops running.
+    fn stop(&mut self, cpu: u32) {
+        self.idles.stop(cpu);
+        if let Some(idles) = &mut self.quota_idles {
+            idles.stop(cpu);
+        }
+        self.gathered.shares.stop();
     }
 }
 
@@ -151,7 +179,8 @@ impl Observer for Gathering {
     fn expect(&mut self, _sim: &Sim, _event: Event) {}
 
     #[inline(always)]
-    fn show(&mut self, moment: u64, _clock: u64, what: What) {
+    fn show(&mut self, moment: u64, clock: u64, what: What) {
+        self.clock = clock;
         self.pass(moment);
         self.note(what);
     }
@@ -165,5 +194,19 @@ fn waits(doing: Option<Doing>) -> bool {
     match doing {
         Some(doing) => doing.waits(),
         None => false,
+    }
+}
+
+/// The idle time of CPUs while tasks are parked, before any has passed, if a group has a quota.
+fn idles_of_quotas(
+    alloc: Global,
+    gathered: &Gathered,
+    cpus: usize,
+    columns: usize,
+) -> Result<Option<Idles>, AllocError> {
+    if gathered.shares.has_quotas() {
+        Ok(Some(Idles::new(alloc, cpus, columns)?))
+    } else {
+        Ok(None)
     }
 }

@@ -1,20 +1,20 @@
 use scxsim_layout::{Grid, Layout, Mark, Scale};
 use std::alloc::{AllocError, Global};
 
-/// A processor is idle.
+/// A CPU is idle.
 #[derive(Clone, Copy)]
 struct Idle {
-    /// The time with a waiting task before that began, and its column.
-    waited: u64,
+    /// The time that counts before that began, and its column.
+    counted: u64,
     column: u64,
 }
 
-/// The time in which a task waited, and the beginning of each processor's idle time.
+/// The time that counts, such as that in which a task waited, and the beginning of each CPU's idle time.
 #[derive(Drop)]
 pub(crate) struct Idles {
     cpus: Vec<Option<Idle>>,
-    /// The milliseconds so far in which a task waited.
-    waited: u64,
+    /// The milliseconds so far that count.
+    counted: u64,
     /// Those milliseconds up to the end of each earlier column.
     ends: Vec<u64>,
     /// The millisecond of the window up to which this is known, and its column.
@@ -23,56 +23,56 @@ pub(crate) struct Idles {
 }
 
 impl Idles {
-    /// All processors are idle, and no task has waited.
+    /// All CPUs are idle, and no time has passed.
     pub(crate) fn new(alloc: Global, cpus: usize, columns: usize) -> Result<Idles, AllocError> {
         let idle = Some(Idle {
-            waited: 0,
+            counted: 0,
             column: 0,
         });
         Ok(Idles {
             cpus: vec![in alloc; idle; cpus]?,
-            waited: 0,
+            counted: 0,
             ends: vec![in alloc; 0; columns]?,
             now: 0,
             column: 0,
         })
     }
 
-    /// Time passes, while a task waits or none does.
+    /// Time passes, which counts or doesn't.
     #[inline(always)]
-    pub(crate) fn pass(&mut self, scale: Scale, to: Mark, waits: bool) {
+    pub(crate) fn pass(&mut self, scale: Scale, to: Mark, counts: bool) {
         if to.column != self.column {
-            self.end_columns(scale, to.column, waits);
+            self.end_columns(scale, to.column, counts);
         }
         let before = scale.before(to.moment);
-        self.wait(before, waits);
+        self.add_time(before, counts);
     }
 
-    /// A task waits up to that millisecond of the window, or none does.
+    /// The time up to that millisecond of the window counts, or doesn't.
     #[inline(always)]
-    fn wait(&mut self, before: u64, waits: bool) {
-        if waits {
+    fn add_time(&mut self, before: u64, counts: bool) {
+        if counts {
             let passed = before.saturating_sub(self.now);
-            self.waited = self.waited.saturating_add(passed);
+            self.counted = self.counted.saturating_add(passed);
         }
         self.now = before;
     }
 
     /// All columns before that one end.
-    fn end_columns(&mut self, scale: Scale, next: u64, waits: bool) {
+    fn end_columns(&mut self, scale: Scale, next: u64, counts: bool) {
         for column in self.column..next {
-            self.wait(column.saturating_add(1).saturating_mul(scale.step), waits);
+            self.add_time(column.saturating_add(1).saturating_mul(scale.step), counts);
             if let Some(end) = self.ends.get_mut(column as usize) {
-                *end = self.waited;
+                *end = self.counted;
             }
         }
         self.column = next;
     }
 
-    /// A processor becomes idle.
+    /// A CPU becomes idle.
     pub(crate) fn stop(&mut self, cpu: u32) {
         let idle = Idle {
-            waited: self.waited,
+            counted: self.counted,
             column: self.column,
         };
         if let Some(place) = self.cpus.get_mut(cpu as usize) {
@@ -80,7 +80,7 @@ impl Idles {
         }
     }
 
-    /// A processor runs. Adds the time that it was idle while a task waited.
+    /// A CPU runs. Adds the time that counts of its idle time.
     pub(crate) fn run(&mut self, layout: &Layout, grid: &mut Grid, cpu: u32) {
         self.add(layout, grid, cpu as usize);
         if let Some(place) = self.cpus.get_mut(cpu as usize) {
@@ -88,30 +88,30 @@ impl Idles {
         }
     }
 
-    /// The run ends. Adds the time that idle processors were idle while a task waited.
+    /// The run ends. Adds the time that counts of the idle time of idle CPUs.
     pub(crate) fn end(&self, layout: &Layout, grid: &mut Grid) {
         for cpu in 0..self.cpus.len() {
             self.add(layout, grid, cpu);
         }
     }
 
-    /// Adds the time that a processor was idle while a task waited, if it is idle.
+    /// Adds the time that counts of the idle time of a CPU, if it is idle.
     fn add(&self, layout: &Layout, grid: &mut Grid, cpu: usize) {
         let Some(Some(idle)) = self.cpus.get(cpu).copied() else {
             return;
         };
-        if idle.waited < self.waited {
+        if idle.counted < self.counted {
             self.add_columns(grid, layout.cpu_row(cpu), idle);
         }
     }
 
     fn add_columns(&self, grid: &mut Grid, row: usize, idle: Idle) {
-        let mut from = idle.waited;
+        let mut from = idle.counted;
         for column in idle.column..self.column {
             let end = self.ends.get(column as usize).copied().unwrap_or(from);
             grid.add_at(row, column, end.saturating_sub(from));
             from = end;
         }
-        grid.add_at(row, self.column, self.waited.saturating_sub(from));
+        grid.add_at(row, self.column, self.counted.saturating_sub(from));
     }
 }

@@ -11,6 +11,7 @@ mod idles;
 mod longest_waits;
 mod portions;
 mod queues;
+mod quotas;
 mod shares;
 mod sums;
 
@@ -21,5 +22,5 @@ pub use gathering::Gathering;
 pub use longest_waits::{Longest, Wait};
 pub use portions::{PARTS, Portions, Share};
 pub use queues::{DrawnQueues, Queue, Used};
-pub use shares::Shares;
+pub use shares::{Reweighed, Shares};
 pub use sums::{Sums, Total};

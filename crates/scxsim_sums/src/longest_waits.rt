@@ -1,27 +1,65 @@
+use crate::activities::Instant;
+use scxsim_layout::Scale;
 use std::alloc::{AllocError, Global};
 
 /// The number of longest waits that are kept.
-const MOST: usize = 16;
+const MOST: usize = 512;
 
-/// A task waited from one moment to another, whatever queues it was in.
+/// A task waited from one moment to another, whatever queues it was in. It is cut where the picture begins and ends.
 #[derive(Clone, Copy)]
 pub struct Wait {
     pub task: u16,
     pub since: u64,
     pub until: u64,
+    /// The milliseconds that it waited by the clock.
+    pub length: u64,
+    /// True if it began before the picture, or ended after it.
+    pub is_cut: bool,
 }
 
 impl Wait {
-    /// The milliseconds that it waited.
-    pub fn length(self) -> u64 {
-        self.until.saturating_sub(self.since)
+    /// The part of a wait that is in the picture, if there is one.
+    pub(crate) fn within(scale: Scale, task: u16, start: Instant, end: Instant) -> Option<Wait> {
+        let since = start.moment.max(scale.from);
+        let until = end.moment.min(scale.to);
+        if until <= since {
+            return None;
+        }
+        let is_early = start.moment < scale.from;
+        let is_late = scale.to < end.moment;
+        let first = if is_early { scale.from } else { start.clock };
+        let last = if is_late { scale.to } else { end.clock };
+        Some(Wait {
+            task,
+            since,
+            until,
+            length: last.saturating_sub(first),
+            is_cut: is_early || is_late,
+        })
+    }
+}
+
+/// The task whose wait led to an ejection, and the moment.
+#[derive(Clone, Copy)]
+struct Stall {
+    task: u16,
+    moment: u64,
+}
+
+impl Stall {
+    fn is_of(self, wait: Wait) -> bool {
+        self.task == wait.task && wait.since < self.moment && self.moment <= wait.until
     }
 }
 
 /// The longest waits, and the number and the time of all waits.
 #[derive(Drop)]
 pub struct Longest {
+    /// Waits of at least a twentieth of the picture.
     pub waits: Vec<Wait>,
+    /// The wait that ended in a stall.
+    pub stalled: Option<Wait>,
+    stall: Option<Stall>,
     count: u64,
     total: u64,
     /// The length of the shortest of those that are kept, once there is no room for more.
@@ -32,30 +70,42 @@ impl Longest {
     pub(crate) fn new(alloc: Global) -> Result<Longest, AllocError> {
         Ok(Longest {
             waits: Vec::with_capacity(alloc, MOST)?,
+            stalled: None,
+            stall: None,
             count: 0,
             total: 0,
             least: 0,
         })
     }
 
-    /// A task waits no more from that moment on, if it has waited since another one.
-    #[inline(always)]
-    pub(crate) fn end(&mut self, task: u16, since: Option<u64>, until: u64) {
-        let Some(since) = since else {
-            return;
-        };
-        if since < until {
-            self.add(Wait { task, since, until });
+    /// The policy is ejected at that moment, as the task has waited too long.
+    pub(crate) fn stall(&mut self, task: u16, moment: u64) {
+        self.stall = Some(Stall { task, moment });
+    }
+
+    /// A wait is over.
+    pub(crate) fn end(&mut self, scale: Scale, wait: Wait) {
+        self.count = self.count.saturating_add(1);
+        self.total = self.total.saturating_add(wait.length);
+        if self.ends_in_stall(wait) {
+            self.stalled = Some(wait);
+        } else if wait.length > 0 && wait.length.saturating_mul(20) >= scale.length() {
+            self.add(wait);
+        }
+    }
+
+    fn ends_in_stall(&self, wait: Wait) -> bool {
+        match self.stall {
+            Some(stall) => stall.is_of(wait),
+            None => false,
         }
     }
 
     fn add(&mut self, wait: Wait) {
-        self.count = self.count.saturating_add(1);
-        self.total = self.total.saturating_add(wait.length());
         if self.waits.len() < MOST {
             // There is room for it.
             let _ = self.waits.push(wait);
-        } else if self.least < wait.length() {
+        } else if self.least < wait.length {
             self.replace(wait);
         }
     }
@@ -64,20 +114,23 @@ impl Longest {
     fn replace(&mut self, wait: Wait) {
         let place = shortest(&self.waits);
         if let Some(shortest) = self.waits.get_mut(place) {
-            self.least = shortest.length();
-            if self.least < wait.length() {
+            self.least = shortest.length;
+            if self.least < wait.length {
                 *shortest = wait;
             }
         }
     }
 
-    /// True if a wait is notable: four times as long as the others on the average, and a twentieth of `length`.
-    pub fn stands_out(&self, wait: Wait, length: u64) -> bool {
-        let others = self.total.saturating_sub(wait.length());
+    /// True if one of the waits of at least a twentieth of the picture is four times as long as the others on average.
+    pub fn stands_out(&self, wait: Wait) -> bool {
+        let others = self.total.saturating_sub(wait.length);
         let count = self.count.saturating_sub(1);
-        count >= 4
-            && wait.length().saturating_mul(20) >= length
-            && wait.length().saturating_mul(count) >= others.saturating_mul(4)
+        count >= 4 && wait.length.saturating_mul(count) >= others.saturating_mul(4)
+    }
+
+    /// True if a wait stands out, or ended in a stall.
+    pub fn are_some_framed(&self) -> bool {
+        self.stalled.is_some() || self.waits.iter().any(|wait| self.stands_out(*wait))
     }
 }
 
@@ -87,8 +140,8 @@ fn shortest(waits: &[Wait]) -> usize {
     let mut found = 0usize;
     let mut least = u64::MAX;
     for wait in waits {
-        if wait.length() < least {
-            least = wait.length();
+        if wait.length < least {
+            least = wait.length;
             found = place;
         }
         place = place.saturating_add(1);

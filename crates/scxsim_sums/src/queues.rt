@@ -9,13 +9,13 @@ const MOST: usize = 16;
 pub enum Queue {
     /// A queue of the policy, by its place among those it has used.
     Policy(usize),
-    /// The queue of all processors.
+    /// The queue of all CPUs.
     Global,
     /// With the tasks that the policy has put into no queue.
     Held,
     /// With the built-in scheduler.
     BuiltIn,
-    /// In the local queue of that processor.
+    /// In the local queue of that CPU.
     Local(u64),
     /// A group that it lies in has used up its quota.
     Parked,

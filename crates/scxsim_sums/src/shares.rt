@@ -1,5 +1,7 @@
 use crate::activities::Doing;
 use crate::bars::{Bar, Bars};
+use crate::quotas::Allowance;
+use crate::sums::Sums;
 use scx_load_workloads::Workload;
 use scx_weights::MAX_DEPTH;
 use scxsim_layout::{Grid, Kind, Layout, Row, Scale};
@@ -7,6 +9,24 @@ use std::alloc::{AllocError, Global};
 
 /// A share of all, in the parts that dues are counted in.
 pub(crate) const WHOLE: u64 = 1_000_000_000;
+
+/// The most changes of weights that are kept.
+const MOST_CHANGES: usize = 1024;
+
+/// A group has another weight from that millisecond of the picture on.
+#[derive(Clone, Copy)]
+pub struct Reweighed {
+    pub at: u64,
+    pub group: u32,
+    pub weight: u32,
+}
+
+/// A way in which tasks spend time.
+#[derive(Clone, Copy)]
+enum Spent {
+    Running,
+    Parked,
+}
 
 /// A group, and the share due to it.
 #[derive(Clone, Copy)]
@@ -17,13 +37,16 @@ struct GroupShare {
     active: u32,
     /// Its share of all by weight, now.
     share: u64,
+    /// The amount due to it last, in parts of a millisecond, where quotas limit it.
+    amount: u64,
+    allowance: Option<Allowance>,
     strip: Option<usize>,
 }
 
 /// The time that each group ran and the time due to it by its weight, by steps.
 ///
 /// A group with a runnable task gets a part of its parent's share, or of all: its weight, divided by the sum of the
-/// weights of all groups beside it that have a runnable task too.
+/// weights of all groups beside it that have a runnable task too. In a period of its quota no more than that is due.
 #[derive(Drop)]
 pub struct Shares {
     groups: Vec<GroupShare>,
@@ -31,18 +54,24 @@ pub struct Shares {
     sums: Vec<u64>,
     /// True if shares are those of earlier weights.
     is_stale: bool,
-    /// The number of processors that run.
+    /// The number of CPUs that run.
     busy: u64,
-    /// The milliseconds of processors that have passed since dues were added last.
+    /// The milliseconds of CPUs that have passed since dues were added last.
     unpaid: u64,
-    /// The millisecond of the window up to which this is known, and the end of its step.
+    /// The millisecond of the window up to which this is known, and the end of its step, or the period that ends first.
     now: u64,
     end: u64,
+    /// The millisecond at which the next period of a quota begins; the greatest number if no group has one.
+    next_period: u64,
+    /// The changes of weights in the picture, in their order.
+    pub changes: Vec<Reweighed>,
     pub scale: Scale,
     /// The number of the picture's columns in a step.
     columns: u64,
     /// The time that ran, by strip and step, and last that of all groups.
     ran: Grid,
+    /// The time that tasks were parked, by strip and step, where a group has a quota.
+    parked: Grid,
     strips: usize,
     /// The time that was due, by strip and step.
     due: Vec<u64>,
@@ -59,8 +88,16 @@ impl Shares {
         let scale = layout.strip_scale();
         let steps = scale.columns as usize;
         let groups = groups_of(alloc, workload, layout)?;
+        let next_period = next_of(&groups);
+        let changes = Vec::with_capacity(alloc, MOST_CHANGES)?;
         let sums = vec![in alloc; 0; workload.groups().len().saturating_add(1)]?;
         let ran = Grid::new(alloc, layout.strips.saturating_add(1), steps)?;
+        let limited = if next_period < u64::MAX {
+            layout.strips
+        } else {
+            0
+        };
+        let parked = Grid::new(alloc, limited, steps)?;
         Ok(Shares {
             groups,
             sums,
@@ -68,10 +105,13 @@ impl Shares {
             busy: 0,
             unpaid: 0,
             now: 0,
-            end: scale.step,
+            end: scale.step.min(next_period),
+            next_period,
+            changes,
             scale,
             columns,
             ran,
+            parked,
             strips: layout.strips,
             due: vec![in alloc; 0; layout.strips.saturating_mul(steps)]?,
         })
@@ -115,20 +155,25 @@ impl Shares {
         group.parent
     }
 
-    /// The group has that weight from now on.
-    pub(crate) fn weigh(&mut self, group: u32, weight: u32) {
+    /// The group has that weight from that moment on.
+    pub(crate) fn weigh(&mut self, moment: u64, group: u32, weight: u32) {
         self.is_stale = true;
+        let at = self.scale.before(moment);
+        if self.scale.has(moment) && self.changes.len() < MOST_CHANGES {
+            // There is room for it.
+            let _ = self.changes.push(Reweighed { at, group, weight });
+        }
         if let Some(group) = self.groups.get_mut(group as usize) {
             group.weight = weight;
         }
     }
 
-    /// A processor begins to run.
+    /// A CPU begins to run.
     pub(crate) fn begin(&mut self) {
         self.busy = self.busy.saturating_add(1);
     }
 
-    /// A processor stops running.
+    /// A CPU stops running.
     pub(crate) fn stop(&mut self) {
         self.busy = self.busy.saturating_sub(1);
     }
@@ -160,7 +205,8 @@ impl Shares {
             self.pass_step(step, until);
         }
         let step = until / self.scale.step.max(1);
-        self.end = step.saturating_add(1).saturating_mul(self.scale.step);
+        let end = step.saturating_add(1).saturating_mul(self.scale.step);
+        self.end = end.min(self.next_period);
     }
 
     /// The run ends at that moment.
@@ -172,12 +218,41 @@ impl Shares {
     /// Time passes up to the end of a step, or to that millisecond of the window.
     fn pass_step(&mut self, step: u64, until: u64) {
         let end = step.saturating_add(1).saturating_mul(self.scale.step);
-        let passed = end.min(until).saturating_sub(self.now);
-        self.unpaid = self.unpaid.saturating_add(self.busy.saturating_mul(passed));
-        self.now = end.min(until);
+        self.pass_periods(step, end.min(until));
+        self.pass_time(end.min(until));
         if self.now == end || end >= self.scale.length() {
             self.pay(step);
         }
+    }
+
+    /// Time passes up to that millisecond of the window, with the same shares.
+    fn pass_time(&mut self, until: u64) {
+        let passed = until.saturating_sub(self.now);
+        self.unpaid = self.unpaid.saturating_add(self.busy.saturating_mul(passed));
+        self.now = until;
+    }
+
+    /// Time passes in a step up to the last period of a quota that begins before that millisecond.
+    fn pass_periods(&mut self, step: u64, until: u64) {
+        for _ in self.now..until {
+            if self.next_period >= until {
+                break;
+            }
+            self.pass_time(self.next_period);
+            self.pay(step);
+            self.begin_periods();
+        }
+    }
+
+    /// Begins the periods of quotas that begin now.
+    fn begin_periods(&mut self) {
+        let now = self.now;
+        for group in self.groups.iter_mut() {
+            if let Some(allowance) = &mut group.allowance {
+                allowance.begin(now);
+            }
+        }
+        self.next_period = next_of(&self.groups);
     }
 
     /// Adds the time due to all groups since dues were added last to a step.
@@ -185,6 +260,16 @@ impl Shares {
         if self.unpaid == 0 {
             return;
         }
+        if self.next_period < u64::MAX {
+            self.pay_within_quotas(step);
+        } else {
+            self.pay_by_weight(step);
+        }
+        self.unpaid = 0;
+    }
+
+    /// Adds the time due to all groups by their weights.
+    fn pay_by_weight(&mut self, step: u64) {
         for group in &self.groups {
             if let Some(strip) = group.strip {
                 let place = place_of(self.scale, strip, step);
@@ -193,18 +278,65 @@ impl Shares {
                 }
             }
         }
-        self.unpaid = 0;
     }
 
-    /// Takes the runs of all tasks, from the columns of rows and from bars.
-    pub(crate) fn take(&mut self, layout: &Layout, homes: &[u32], ran: &Grid, bars: &Bars) {
+    /// Adds the time due to all groups by their weights, or as much of it as their quotas allow.
+    fn pay_within_quotas(&mut self, step: u64) {
+        for group in 0..self.groups.len() {
+            let Some(of) = self.groups.get(group).copied() else {
+                return;
+            };
+            let amount = self.amount_by_share(of);
+            let allowed = self.allow(group, amount);
+            if let Some(strip) = of.strip {
+                let place = place_of(self.scale, strip, step);
+                if let Some(due) = self.due.get_mut(place) {
+                    *due = due.saturating_add(allowed);
+                }
+            }
+        }
+    }
+
+    /// The time due to a group by its share, of what is due to its parent. Weights and runnable tasks may be others by now.
+    fn amount_by_share(&self, of: GroupShare) -> u64 {
+        let whole = match of.parent {
+            None => WHOLE.saturating_mul(self.unpaid),
+            Some(parent) => self.amount_of(parent),
+        };
+        wide_part(whole, of.share, self.share_of(of.parent))
+    }
+
+    /// The time that was due to a group last.
+    fn amount_of(&self, group: u32) -> u64 {
+        match self.groups.get(group as usize) {
+            Some(group) => group.amount,
+            None => 0,
+        }
+    }
+
+    /// Keeps as much of an amount due to a group as its quota allows, and returns that.
+    fn allow(&mut self, group: usize, amount: u64) -> u64 {
+        let Some(group) = self.groups.get_mut(group) else {
+            return 0;
+        };
+        let allowed = match &mut group.allowance {
+            Some(allowance) => allowance.take(amount),
+            None => amount,
+        };
+        group.amount = allowed;
+        allowed
+    }
+
+    /// Takes the times that all tasks ran and were parked, from the columns of rows and from bars.
+    pub(crate) fn take(&mut self, layout: &Layout, homes: &[u32], sums: &Sums, bars: &Bars) {
         if self.strips == 0 {
             return;
         }
         let mut place = 0usize;
         for row in &layout.rows {
             if let Some(group) = group_of(*row, homes) {
-                self.take_row(ran, place, group);
+                self.take_row(&sums.ran, place, group, Spent::Running);
+                self.take_row(&sums.parked, place, group, Spent::Parked);
             }
             place = place.saturating_add(1);
         }
@@ -215,50 +347,64 @@ impl Shares {
         }
     }
 
-    /// Takes the runs in a row that shows tasks of a group.
-    fn take_row(&mut self, ran: &Grid, row: usize, group: u32) {
+    /// Takes the times in a row that shows tasks of a group.
+    fn take_row(&mut self, grid: &Grid, row: usize, group: u32, spent: Spent) {
         for step in 0..self.scale.columns {
             let first = step.saturating_mul(self.columns);
-            let ms = ran.sum_of(row, first, first.saturating_add(self.columns));
+            let ms = grid.sum_of(row, first, first.saturating_add(self.columns));
             if ms > 0 {
-                self.add_ran(group, step, ms);
+                self.add_spent(group, step, ms, spent);
             }
         }
     }
 
-    /// Takes a bar in the row of a task of that group, if it is a run.
+    /// Takes a bar in the row of a task of that group, if it isn't a wait.
     fn take_bar(&mut self, bar: Bar, group: Option<u32>) {
         let Some(group) = group else {
             return;
         };
-        if !bar.doing.runs() {
+        let spent = if bar.doing.runs() {
+            Spent::Running
+        } else if bar.doing.waits() {
             return;
-        }
+        } else {
+            Spent::Parked
+        };
         let since = self.scale.mark(bar.since);
         let until = self.scale.mark(bar.until);
         for step in since.column..until.column.saturating_add(1) {
             let ms = self.scale.overlap(step, since.moment, until.moment);
-            self.add_ran(group, step, ms);
+            self.add_spent(group, step, ms, spent);
         }
     }
 
-    /// Adds run time in a step to a group, to those that it lies in, and to all.
-    fn add_ran(&mut self, group: u32, step: u64, ms: u64) {
-        self.ran.add_at(self.strips, step, ms);
+    /// Adds time in a step to a group and to those that it lies in. All run time is added up too.
+    fn add_spent(&mut self, group: u32, step: u64, ms: u64, spent: Spent) {
+        if let Spent::Running = spent {
+            self.ran.add_at(self.strips, step, ms);
+        }
         let mut at = Some(group);
         for _ in 0..MAX_DEPTH {
-            at = self.add_ran_one(at, step, ms);
+            at = self.add_to_one(at, step, ms, spent);
         }
     }
 
-    /// Adds run time in a step to one group, and returns its parent.
-    fn add_ran_one(&mut self, group: Option<u32>, step: u64, ms: u64) -> Option<u32> {
+    /// Adds time in a step to one group, and returns its parent.
+    fn add_to_one(&mut self, group: Option<u32>, step: u64, ms: u64, spent: Spent) -> Option<u32> {
         let group = self.groups.get(group? as usize)?;
         let parent = group.parent;
         if let Some(strip) = group.strip {
-            self.ran.add_at(strip, step, ms);
+            match spent {
+                Spent::Running => self.ran.add_at(strip, step, ms),
+                Spent::Parked => self.parked.add_at(strip, step, ms),
+            }
         }
         parent
+    }
+
+    /// The milliseconds that tasks of a strip's groups were parked in a step.
+    pub fn parked(&self, strip: usize, step: u64) -> u64 {
+        self.parked.sum(strip, step)
     }
 
     /// The milliseconds that the groups of a strip ran in a step.
@@ -269,6 +415,25 @@ impl Shares {
     /// The milliseconds that all groups ran in a step.
     pub fn all(&self, step: u64) -> u64 {
         self.ran.sum(self.strips, step)
+    }
+
+    /// The milliseconds of a step.
+    pub fn length(&self, step: u64) -> u64 {
+        let begin = step.saturating_mul(self.scale.step);
+        let end = begin.saturating_add(self.scale.step);
+        end.min(self.scale.length()).saturating_sub(begin)
+    }
+
+    /// The time that a group's quota allows in that many milliseconds on average, in thousandths of a millisecond, if it
+    /// has a quota.
+    pub fn cap(&self, group: u32, ms: u64) -> Option<u64> {
+        let allowance = self.groups.get(group as usize)?.allowance?;
+        Some(allowance.average(ms))
+    }
+
+    /// True if a group has a quota.
+    pub fn has_quotas(&self) -> bool {
+        self.next_period < u64::MAX
     }
 
     /// The time due in a step, in parts of a millisecond.
@@ -347,6 +512,8 @@ fn groups_of(
             weight: group.weight,
             active: 0,
             share: 0,
+            amount: 0,
+            allowance: Allowance::of(group, layout.scale.from),
             strip: layout.strip(number),
         })?;
         number = number.saturating_add(1);
@@ -384,4 +551,24 @@ fn part(whole: u64, weight: u32, sum: u64) -> u64 {
         return 0;
     }
     whole.saturating_mul(u64::from(weight)) / sum
+}
+
+/// The part of an amount of time that a share has of another.
+fn wide_part(whole: u64, share: u64, of: u64) -> u64 {
+    if of == 0 {
+        return 0;
+    }
+    let part = u128::from(whole).saturating_mul(u128::from(share)) / u128::from(of);
+    u64::try_from(part).unwrap_or(u64::MAX)
+}
+
+/// The millisecond at which the next period of a quota begins; the greatest number if no group has one.
+fn next_of(groups: &[GroupShare]) -> u64 {
+    let mut next = u64::MAX;
+    for group in groups {
+        if let Some(allowance) = group.allowance {
+            next = next.min(allowance.next);
+        }
+    }
+    next
 }

@@ -1,7 +1,7 @@
 use scxsim_layout::{Grid, Shades};
 use std::alloc::{AllocError, Global};
 
-/// The time that a row ran and waited in all.
+/// The time that a row ran in all, and waited by the clock.
 #[derive(Clone, Copy)]
 pub struct Total {
     pub ran: u64,
@@ -15,18 +15,18 @@ const NOTHING: Total = Total { ran: 0, waited: 0 };
 pub struct Sums {
     /// Runs, except bars of their own.
     pub ran: Grid,
-    /// Waits that aren't bars in rows of tasks, and the time that they were idle while a task waited in rows of
-    /// processors.
+    /// Waits that aren't bars in rows of tasks, and in rows of CPUs the time that they were idle while a task waited.
     pub waited: Grid,
-    /// The time that tasks were parked, except bars.
+    /// The time that tasks were parked, except bars, and in rows of CPUs the time that they were idle meanwhile while no
+    /// task waited.
     pub parked: Grid,
-    /// The colours of the tasks that ran on processors.
+    /// The colours of the tasks that ran on CPUs.
     pub shades: Shades,
     totals: Vec<Total>,
 }
 
 impl Sums {
-    /// Sums of no time, for this many rows, of which the first ones are processors.
+    /// Sums of no time, for this many rows, of which the first ones are CPUs.
     pub(crate) fn new(
         alloc: Global,
         rows: usize,

@@ -171,20 +171,25 @@ const kind = run.cpu[i] !== NOWHERE ? 0 : run.queue[i] === PARKED ? 2 : 1;\n\
 addInterval(kinds[kind], cell, run.from[i], run.from[i] + run.length[i]);\n}\n}\nslices.forEach((slice, kind) => {\n\
 const { offsets, counts } = kinds[kind];\n\
 for (let k = 0, sum = 0, count = 0; k < row; count += counts[k], k++) slice[k] = sum += cell * count + offsets[k];\n\
-});\n}\nfunction sumDue({ groups, changes }, { cell, cells, row, ran, waited, parked, due, busy }) {\n\
+});\n}\nfunction sumDue({ groups, changes, begin }, { cell, cells, row, ran, waited, parked, due, busy }) {\n\
 const weights = groups.map((group) => group.weight), totals = new Float64Array(groups.length + 1);\n\
-const part = new Float64Array(groups.length), left = changes.slice();\nfor (let k = 0; k < cells; k++) {\n\
+const part = new Float64Array(groups.length), left = changes.slice(), room = new Float64Array(groups.length).fill(Infinity);\n\
+const limited = [...groups.keys()].filter((g) => groups[g].quota !== undefined);\nfor (let k = 0; k < cells; k++) {\n\
+for (const g of limited) {\nconst { quota, period } = groups[g];\n\
+if (k === 0) room[g] = quota * (1 - begin % period / period);\n\
+else if (beginsPeriod(groups[g], begin + k * cell, cell)) room[g] = quota;\n}\n\
 while (left.length && left[0][0] <= k * cell) { const [, g, weight] = left.shift(); weights[g] = weight; }\n\
 totals.fill(0);\nfor (let g = 0; g < groups.length; g++) {\nconst at = g * row + k;\n\
 part[g] = ran[at + 1] > ran[at] || waited[at + 1] > waited[at] || parked[at + 1] > parked[at] ? weights[g] : 0;\n\
 totals[groups[g].parent + 1] += part[g];\n}\nconst ranNow = busy[k + 1] - busy[k];\n\
 for (let g = 0; g < groups.length; g++) {\nconst above = groups[g].parent;\n\
-part[g] = part[g] && part[g] / totals[above + 1] * (above < 0 ? 1 : part[above]);\n\
-due[g * row + k] = part[g] * ranNow;\n}\n}\ngroups.forEach((group, g) => {\nlet sum = 0;\n\
-for (let k = 0; k < row; k++) [due[g * row + k], sum] = [sum, sum + due[g * row + k]];\n\
+const amount = part[g] && part[g] / totals[above + 1] * (above < 0 ? ranNow : due[above * row + k]);\n\
+due[g * row + k] = Math.min(amount, room[g]);\nroom[g] -= due[g * row + k];\n}\n}\ngroups.forEach((group, g) => {\n\
+let sum = 0;\nfor (let k = 0; k < row; k++) [due[g * row + k], sum] = [sum, sum + due[g * row + k]];\n\
 group.share = ran[g * row + cells] / (busy[cells] || 1);\ngroup.due = sum / (busy[cells] || 1);\n\
-group.isCapped = parked[g * row + cells] > 0;\n});\n}\nfunction sumQueues(run) {\n\
-const { duration, count, from, length, cpu, queue } = run, used = new Map();\n\
+group.isCapped = parked[g * row + cells] > 0;\n});\n}\n\
+const beginsPeriod = ({ period }, at, cell) => Math.floor(at / period) > Math.floor((at - cell) / period);\n\
+function sumQueues(run) {\nconst { duration, count, from, length, cpu, queue } = run, used = new Map();\n\
 for (let i = 0; i < count; i++) if (cpu[i] === NOWHERE && queue[i] !== PARKED) used.set(Math.min(queue[i], LOCAL), null);\n\
 let cell = 1;\nwhile (used.size * (duration / cell) > 4e6) cell *= 2;\n\
 const cells = Math.ceil(duration / cell), row = cells + 1;\n\
@@ -461,8 +466,13 @@ const top = end - Math.round(Math.min(1, share / view.top) * tall);\n\
 const line = end - thick - Math.round(Math.min(1, due / view.top) * (tall - thick));\n\
 const isShort = (due - share) / view.top > 0.03, isCapped = isShort && inWindow(windows, x, sums.parked, start) > 0;\n\
 const lack = isShort ? palette[isCapped ? \"parkedShades\" : \"wrongShades\"][26] : 0;\n\
-drawShareColumn(offset + x, end, top, line, before < 0 ? line : before, lack, colour);\nbefore = line;\n}\n\
-fill(offset, offset + width, end, end + thick, palette.line);\n}\n\
+drawShareColumn(offset + x, end, top, line, before < 0 ? line : before, lack, colour);\nbefore = line;\n\
+drawCap(run.groups[g], x, busy, end, tall);\n}\nfill(offset, offset + width, end, end + thick, palette.line);\n}\n\
+function drawCap({ quota, period }, x, busy, end, tall) {\nif (quota === undefined) return;\n\
+const { first, firstPart, last, lastPart } = view.windows, thick = high.grain;\n\
+const time = (last[x] + lastPart[x] - first[x] - firstPart[x]) * run.sums.cell, cap = quota / period * time / busy / view.top;\n\
+const y = end - thick - Math.round(cap * (tall - thick)), at = plotLeft() + x;\n\
+if (cap < 1 && x % (8 * thick) < 5 * thick) fill(at, at + 1, y, y + thick, palette.parked);\n}\n\
 function drawShareColumn(x, end, top, line, before, lack, colour) {\n\
 const thick = high.grain, tile = TILES[WRONG_TILE], first = Math.min(before, line), last = Math.max(before, line) + thick;\n\
 for (let at = Math.max(0, Math.min(top, first)); at < Math.min(pixelsHigh, end); at++) {\n\
@@ -759,10 +769,12 @@ const track = run.tracks[row.number], length = lengthOfTrack(track, at, Math.min
 return [track.name, (track.cell > 1 ? length.toFixed(1) + \" tasks on average\" : tasksText(length)) + \" at \" + momentText(at)];\n\
 }\nif (row.kind !== \"group\" || run.groups.length === 1) return null;\n\
 const [from, until] = shareWindow(time), { share, due, isCapped } = shareIn(row.number, from, until);\n\
-return [run.groups[row.number].name, \"share \" + percent(share) + \", due \" + percent(due) + (isCapped ? \"; its quota was used up\" : \"\"),\n\
+const words = \"share \" + percent(share) + \", due \" + percent(due) + (isCapped ? \"; its quota was used up\" : \"\");\n\
+return [run.groups[row.number].name, words, ...quotaWords(run.groups[row.number]),\n\
 \"from \" + momentText(Math.round(from)) + \" to \" + momentText(Math.round(until)), \"weight \" + weightAt(row.number, time)];\n\
 }\nconst tasksText = (count) => count + (count === 1 ? \" task\" : \" tasks\");\n\
 const weightAt = (g, time) => run.changes.filter(([at, group]) => group === g && at <= time).at(-1)?.[2] ?? run.groups[g].weight;\n\
+const quotaWords = ({ quota, period }) => quota === undefined ? [] : [\"quota \" + quota + \" ms in \" + period + \" ms\"];\n\
 function waitingWords(time, row) {\n\
 const kinds = run.tasks.map((_, task) => { const at = taskStretch(task, time, row); return at && kindOf(at.index); });\n\
 const named = (kind) => run.tasks.filter((_, task) => kinds[task] === kind).map(({ name }) => name);\n\
@@ -1001,6 +1013,8 @@ function addShares(items) {\nconst { names } = palette, lack = (kind) => (brush)
 paintBoxes(brush, [[names.tasks[3], 0, 8, 30, 6], [names.ink, 0, 3, 30, 1]]);\n\
 paintTile(brush, TILES[WRONG_TILE], names[kind], names.paper, 4, 8);\n};\n\
 items.push([shareWords(), lack(\"wrong\")]);\n\
+if (run.groups.some(({ quota }) => quota !== undefined)) items.push([\"what a group's quota allows\",\n\
+(brush) => paintBoxes(brush, [0, 8, 16, 24].map((x) => [names.parked, x, 6, 5, 1]))]);\n\
 if (run.groups.some(({ isCapped }) => isCapped)) items.push([\"a group's lack with its quota used up\", lack(\"parked\")]);\n\
 }\n\
 const frameWords = () => \"a wait of at least a twentieth of \" + (run.begin > 0 || run.duration < run.ms ? \"the part\" : \"the run\") +\n\
