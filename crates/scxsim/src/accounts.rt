@@ -12,7 +12,7 @@ use scxsim_simulation::{Listener, maps_at_end, replay, report, simulate};
 use scxsim_steps::step;
 use scxsim_story::story;
 use scxsim_tables::{check_run, replay_csv, stats, stats_csv};
-use scxsim_why::why;
+use scxsim_why::{why, why_all, why_json};
 use scxsim_words::{Account, Part};
 use std::alloc::Global;
 
@@ -107,7 +107,7 @@ fn is_written_meanwhile(account: Account) -> bool {
 fn is_ejection_told(account: Account) -> bool {
     matches!(
         account,
-        Account::Trace | Account::Report | Account::Check | Account::Maps
+        Account::Trace | Account::Report | Account::Check | Account::Maps | Account::Replay
     )
 }
 
@@ -128,7 +128,10 @@ fn write_account<L: Listener, W: Out>(
     let span = span_of(words.part);
     match account {
         Account::Trace => simulate(alloc, policy, second, listener, out),
-        Account::Timeline => timeline(alloc, policy, second, listener, out),
+        Account::Timeline => {
+            let title = title_of(alloc, words)?;
+            timeline(alloc, title.as_str(), policy, second, listener, out)
+        }
         Account::View => {
             let paths = paths_of(words);
             view(alloc, paths, policy, second, span, listener, out)
@@ -138,6 +141,8 @@ fn write_account<L: Listener, W: Out>(
         Account::Stats => stats(alloc, policy, second, listener, out),
         Account::StatsCsv => stats_csv(alloc, policy, second, listener, out),
         Account::Why => why(alloc, policy, second, listener, out),
+        Account::WhyAll => why_all(alloc, policy, second, listener, out),
+        Account::WhyJson => why_json(alloc, policy, second, listener, out),
         Account::Story => story(alloc, policy, second, subject, listener, out),
         Account::Step => step(alloc, policy, second, subject, listener, out),
         Account::Maps => maps_at_end(alloc, policy, second, listener, out),

@@ -33,7 +33,7 @@ use scxsim_commands::FAILED;
 pub use scxsim_commands::{
     Counted, Failed, Fault, Out, Refusal, asm, check, dis, exec, finish, text,
 };
-pub use scxsim_explain::{explain, explain_one};
+pub use scxsim_explain::{check_json, explain, explain_one};
 pub use scxsim_explore::explore;
 use scxsim_output::Blocks;
 pub use scxsim_page::view;
@@ -42,7 +42,7 @@ pub use scxsim_simulation::{Listener, maps_at_end, replay, report, simulate};
 pub use scxsim_steps::step;
 pub use scxsim_story::story;
 pub use scxsim_tables::{check_run, replay_csv, stats, stats_csv};
-pub use scxsim_why::why;
+pub use scxsim_why::{why, why_all, why_json};
 use std::io;
 use std::io::BufWriter;
 use std::process::ExitCode;

@@ -6,7 +6,7 @@ use crate::remarks::{named, remark_of_callback, remark_of_policy, remark_of_prog
 use crate::searches::{SearchWords, search};
 use crate::usage::write_usage;
 use scxsim_commands::{Fault, Out, Verdicts, asm, check, dis, exec, hint_of_slots, hint_of_text};
-use scxsim_explain::{explain, explain_one};
+use scxsim_explain::{check_json, explain, explain_one};
 use scxsim_explore::Lists;
 use scxsim_words::{PolicyCommand, ProgramCommand, Request};
 use std::alloc::Global;
@@ -126,7 +126,7 @@ fn work_on_policy<R: AllocGlobal + Console, W: Out>(
     );
     let policy = named(words.path, bytes.as_slice());
     let remark = match command {
-        PolicyCommand::Verify | PolicyCommand::Explain => {
+        PolicyCommand::Verify | PolicyCommand::VerifyJson | PolicyCommand::Explain => {
             remark_of_policy(rt.alloc(), &outcome, &verdicts, policy)
         }
         PolicyCommand::ExplainOne => {
@@ -136,7 +136,7 @@ fn work_on_policy<R: AllocGlobal + Console, W: Out>(
     end(outcome, hint_of_text(bytes.as_slice()), remark, out)
 }
 
-/// Leaves the verdicts of `verify`. What `explain` writes shows the places itself.
+/// Leaves the verdicts of `verify` and `verify-json`. What `explain` writes shows the places itself.
 fn do_policy<W: Out>(
     alloc: Global,
     command: PolicyCommand,
@@ -147,6 +147,7 @@ fn do_policy<W: Out>(
 ) -> Result<bool, Fault> {
     match command {
         PolicyCommand::Verify => check(alloc, bytes, verdicts, out),
+        PolicyCommand::VerifyJson => check_json(alloc, bytes, verdicts, out),
         PolicyCommand::Explain => explain(alloc, bytes, out),
         PolicyCommand::ExplainOne => explain_one(alloc, bytes, callback, out),
     }

@@ -7,6 +7,9 @@ pub(crate) enum Kind {
     Policy(PolicyCommand),
     /// One callback of a policy.
     Callback(PolicyCommand),
+    /// A run of a workload alone.
+    Workload(Account),
+    /// A run of a workload or of a file of events.
     Run(Account),
     /// A part of a run.
     Part(Account),
@@ -31,6 +34,8 @@ pub(crate) enum Argument {
     Policy,
     Callback,
     Workload,
+    /// A workload, or a file of events in its place.
+    Scenario,
     /// A workload for a search.
     SmallWorkload,
     Events,
@@ -52,18 +57,20 @@ const POLICY: [Argument; 1] = [Argument::Policy];
 
 const CALLBACK: [Argument; 2] = [Argument::Policy, Argument::Callback];
 
-const RUN: [Argument; 2] = [Argument::Policy, Argument::Workload];
+const WORKLOAD: [Argument; 2] = [Argument::Policy, Argument::Workload];
+
+const RUN: [Argument; 2] = [Argument::Policy, Argument::Scenario];
 
 const PART: [Argument; 4] = [
     Argument::Policy,
-    Argument::Workload,
+    Argument::Scenario,
     Argument::From,
     Argument::To,
 ];
 
-const TASK: [Argument; 3] = [Argument::Policy, Argument::Workload, Argument::Task];
+const TASK: [Argument; 3] = [Argument::Policy, Argument::Scenario, Argument::Task];
 
-const MOMENT: [Argument; 3] = [Argument::Policy, Argument::Workload, Argument::Moment];
+const MOMENT: [Argument; 3] = [Argument::Policy, Argument::Scenario, Argument::Moment];
 
 const REPLAY: [Argument; 2] = [Argument::Policy, Argument::Events];
 
@@ -92,6 +99,7 @@ impl Kind {
             Kind::Program(_) => &SLOTS,
             Kind::Policy(_) => &POLICY,
             Kind::Callback(_) => &CALLBACK,
+            Kind::Workload(_) => &WORKLOAD,
             Kind::Run(_) => &RUN,
             Kind::Part(_) => &PART,
             Kind::Task(_) => &TASK,
@@ -111,7 +119,7 @@ impl Argument {
             Argument::Slots | Argument::Text | Argument::Cases => "FILE",
             Argument::Policy => "POLICY",
             Argument::Callback => "CALLBACK",
-            Argument::Workload | Argument::SmallWorkload => "WORKLOAD",
+            Argument::Workload | Argument::Scenario | Argument::SmallWorkload => "WORKLOAD",
             Argument::Events => "EVENTS",
             Argument::From => "FROM",
             Argument::To => "TO",
@@ -141,6 +149,9 @@ impl Argument {
             Argument::Workload => {
                 "A workload file (TOML, at most 1 MiB): 1 to 64 CPUs, groups and tasks; see docs/FILES.md"
             }
+            Argument::Scenario => {
+                "A workload file (TOML, at most 1 MiB): 1 to 64 CPUs, groups and tasks; or a file of events in its place; see docs/FILES.md"
+            }
             Argument::SmallWorkload => {
                 "A workload file (TOML, at most 1 MiB) with at most 4 CPUs and 8 tasks; see docs/FILES.md"
             }
@@ -151,7 +162,7 @@ impl Argument {
             Argument::To => {
                 "The end of the part in milliseconds: more than FROM, at most the run's length"
             }
-            Argument::Task => "The name of a task in the workload",
+            Argument::Task => "The name of a task",
             Argument::Moment => "A millisecond of the run: at least 0, at most the run's length",
             Argument::Mode => {
                 "The sequences to try. events: any order of single events; ms: whole milliseconds, in which every CPU ticks once; workloads: only those that a workload file can produce [possible values: events, ms, workloads]"
@@ -179,12 +190,18 @@ pub(crate) fn forms() -> &'static [Form] {
     &FORMS
 }
 
-const FORMS: [Form; 27] = [
+const FORMS: [Form; 30] = [
     Form {
         name: "verify",
         kind: Kind::Policy(PolicyCommand::Verify),
         about: "Check each callback of a policy, and name the first fault",
         example: "Example: scxsim verify examples/policies/fifo.toml\nprints:  init ok 3\n         enqueue ok 5\n         dispatch ok 3\nFor a callback that isn't safe it prints the first fault and its slot, as in\n         enqueue refused 5 UnusableRegister at 1\nThe status is then 1. docs/VERIFIER.md has the rules.",
+    },
+    Form {
+        name: "verify-json",
+        kind: Kind::Policy(PolicyCommand::VerifyJson),
+        about: "Check each callback of a policy, and print a JSON object a line",
+        example: "Example: scxsim verify-json examples/policies/fifo.toml\nprints:  {\"callback\":\"init\",\"verdict\":\"accepted\",\"instructions\":3}\nand a line for each other callback. schemas/verify.schema.json has the members.",
     },
     Form {
         name: "explain",
@@ -200,13 +217,13 @@ const FORMS: [Form; 27] = [
     },
     Form {
         name: "run",
-        kind: Kind::Run(Account::Trace),
+        kind: Kind::Workload(Account::Trace),
         about: "Run a workload under a policy, and print a line for each event",
         example: "Example: scxsim run examples/policies/short_slices.toml examples/workloads/two_tasks.toml\nprints:  a line for each event, after its time in milliseconds, as in\n         0 wake a\n         0 insert a queue 0\n         0 move a local 0\n         0 run a cpu 0\ndocs/FILES.md lists the lines of a trace.",
     },
     Form {
         name: "report",
-        kind: Kind::Run(Account::Report),
+        kind: Kind::Workload(Account::Report),
         about: "Run a workload, and print how long each task ran",
         example: "Example: scxsim report examples/policies/short_slices.toml examples/workloads/two_tasks.toml\nprints:  task a run 2 share 5000\n         task b run 2 share 5000\n         total 4\n         policy in force\nrun is in milliseconds, and share in parts of 10000 of the total.",
     },
@@ -232,7 +249,19 @@ const FORMS: [Form; 27] = [
         name: "why",
         kind: Kind::Run(Account::Why),
         about: "Run a workload, and explain how the run ended, who waited longest and why",
-        example: "Example: scxsim why examples/gallery/undrained.toml examples/workloads/two_tasks.toml\nprints:  five lines on how the policy ended, the longest wait, CPUs that were idle while a\n         task waited, queues that were never drained, and tasks that never ran; then the\n         details of each\ndocs/WHY.md explains them.",
+        example: "Example: scxsim why examples/gallery/undrained.toml examples/workloads/two_tasks.toml\nprints:  five lines on how the policy ended, the longest wait, CPUs that were idle while a\n         task waited, queues that were never drained, and tasks that never ran; then the\n         details of each, 60 lines at most\ndocs/WHY.md explains them.",
+    },
+    Form {
+        name: "why-all",
+        kind: Kind::Run(Account::WhyAll),
+        about: "Run a workload, and explain the run as why does, with all lines",
+        example: "Example: scxsim why-all examples/gallery/undrained.toml examples/workloads/two_tasks.toml\nprints:  what why prints, with each CPU on a line of its own and no limit of lines\ndocs/WHY.md explains them.",
+    },
+    Form {
+        name: "why-json",
+        kind: Kind::Run(Account::WhyJson),
+        about: "Run a workload, and explain the run as why does, as a JSON object a line",
+        example: "Example: scxsim why-json examples/gallery/undrained.toml examples/workloads/two_tasks.toml\nprints:  {\"kind\":\"ending\",\"ms\":4,\"ejected\":false}\n         {\"kind\":\"idle\",\"ms\":4,\"times\":1}\n         {\"kind\":\"wait\",\"task\":\"a\",\"from\":0,\"to\":4,\"ms\":4,\"queues\":[\"queue 0\"]}\nand a line for each other wait, and for each task, callback and queue.\nschemas/why.schema.json has the members of each kind.",
     },
     Form {
         name: "story",
@@ -244,7 +273,7 @@ const FORMS: [Form; 27] = [
         name: "step",
         kind: Kind::Moment(Account::Step),
         about: "Run a workload, and show one millisecond, instruction by instruction",
-        example: "Example: scxsim step examples/policies/short_slices.toml examples/workloads/two_tasks.toml 1\nprints:  the running and waiting tasks before that millisecond; each callback that is called\n         in it, with its instructions and their results; the lines of run; and the running\n         and waiting tasks after it\ndocs/WHY.md explains these lines.",
+        example: "Example: scxsim step examples/policies/short_slices.toml examples/workloads/two_tasks.toml 1\nprints:  the running and waiting tasks before that millisecond; each callback that is called\n         in it, with its instructions and their results; the lines of run; and the running\n         and waiting tasks after it, with what the policy's maps hold then\ndocs/WHY.md explains these lines.",
     },
     Form {
         name: "maps",

@@ -10,6 +10,8 @@ pub enum ProgramCommand {
 #[derive(Clone, Copy)]
 pub enum PolicyCommand {
     Verify,
+    /// As `Verify`, in JSON.
+    VerifyJson,
     Explain,
     /// As `Explain`, of one callback.
     ExplainOne,
@@ -25,6 +27,10 @@ pub enum Account {
     Stats,
     StatsCsv,
     Why,
+    /// As `Why`, of any length.
+    WhyAll,
+    /// As `Why`, in JSON.
+    WhyJson,
     Story,
     Step,
     /// The contents of the policy's maps at the end.
@@ -33,7 +39,7 @@ pub enum Account {
     Picture,
     View,
     Gantt,
-    /// The trace of a file of events, in the place of a workload.
+    /// The trace of a file of events.
     Replay,
     /// The metrics of a file of events.
     ReplayCsv,

@@ -5,7 +5,7 @@ use std::alloc::{AllocError, Global};
 use std::convert::AsStr;
 
 /// The version. It is written here alone: scripts ask the program for it.
-const VERSION: &str = "0.16.0";
+const VERSION: &str = "0.17.0";
 
 /// The request of a command line. `clap` refuses words that name no command and its files, so there is a
 /// request wherever it accepts them.
@@ -36,8 +36,9 @@ fn request_of<'a>(name: &str, command: &ArgMatches<'a>) -> Option<Request<'a>> {
             path: text_of(command, Argument::Policy)?,
             callback: text_of(command, Argument::Callback),
         }),
+        Kind::Workload(account) => run_of(account, command, Argument::Workload),
         Kind::Run(account) | Kind::Part(account) | Kind::Task(account) | Kind::Moment(account) =>
-            run_of(account, command, Argument::Workload),
+            run_of(account, command, Argument::Scenario),
         Kind::Replay(account) => run_of(account, command, Argument::Events),
         Kind::Explore | Kind::ExploreFew => explore_of(command),
         Kind::Cases => Some(Request::Cases),
@@ -59,7 +60,7 @@ fn run_of<'a>(account: Account, command: &ArgMatches<'a>, second: Argument) -> O
 fn explore_of<'a>(command: &ArgMatches<'a>) -> Option<Request<'a>> {
     Some(Request::Explore {
         policy: text_of(command, Argument::Policy)?,
-        workload: text_of(command, Argument::Workload)?,
+        workload: text_of(command, Argument::SmallWorkload)?,
         mode: text_of(command, Argument::Mode)?,
         depth: text_of(command, Argument::Depth)?,
         few: text_of(command, Argument::Few),
