@@ -259,8 +259,18 @@ function drawShare(g, y, tall) {
     const lack = isShort ? palette[isCapped ? "parkedShades" : "wrongShades"][26] : 0;
     drawShareColumn(offset + x, end, top, line, before < 0 ? line : before, lack, colour);
     before = line;
+    drawCap(run.groups[g], x, busy, end, tall);
   }
   fill(offset, offset + width, end, end + thick, palette.line);
+}
+
+// What a group's quota allows on average, a dashed line, where that is less than the strip's top.
+function drawCap({ quota, period }, x, busy, end, tall) {
+  if (quota === undefined) return;
+  const { first, firstPart, last, lastPart } = view.windows, thick = high.grain;
+  const time = (last[x] + lastPart[x] - first[x] - firstPart[x]) * run.sums.cell, cap = quota / period * time / busy / view.top;
+  const y = end - thick - Math.round(cap * (tall - thick)), at = plotLeft() + x;
+  if (cap < 1 && x % (8 * thick) < 5 * thick) fill(at, at + 1, y, y + thick, palette.parked);
 }
 
 function drawShareColumn(x, end, top, line, before, lack, colour) {

@@ -42,12 +42,15 @@ function describePlace(row, time) {
   }
   if (row.kind !== "group" || run.groups.length === 1) return null;
   const [from, until] = shareWindow(time), { share, due, isCapped } = shareIn(row.number, from, until);
-  return [run.groups[row.number].name, "share " + percent(share) + ", due " + percent(due) + (isCapped ? "; its quota was used up" : ""),
+  const words = "share " + percent(share) + ", due " + percent(due) + (isCapped ? "; its quota was used up" : "");
+  return [run.groups[row.number].name, words, ...quotaWords(run.groups[row.number]),
     "from " + momentText(Math.round(from)) + " to " + momentText(Math.round(until)), "weight " + weightAt(row.number, time)];
 }
 
 const tasksText = (count) => count + (count === 1 ? " task" : " tasks");
 const weightAt = (g, time) => run.changes.filter(([at, group]) => group === g && at <= time).at(-1)?.[2] ?? run.groups[g].weight;
+
+const quotaWords = ({ quota, period }) => quota === undefined ? [] : ["quota " + quota + " ms in " + period + " ms"];
 
 // The tasks that waited at that moment, or if there were none, those that were parked.
 function waitingWords(time, row) {

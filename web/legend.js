@@ -40,6 +40,8 @@ function addShares(items) {
     paintTile(brush, TILES[WRONG_TILE], names[kind], names.paper, 4, 8);
   };
   items.push([shareWords(), lack("wrong")]);
+  if (run.groups.some(({ quota }) => quota !== undefined)) items.push(["what a group's quota allows",
+    (brush) => paintBoxes(brush, [0, 8, 16, 24].map((x) => [names.parked, x, 6, 5, 1]))]);
   if (run.groups.some(({ isCapped }) => isCapped)) items.push(["a group's lack with its quota used up", lack("parked")]);
 }
 

@@ -86,10 +86,18 @@ function sumLeaf(run, group, { cell, row }, slices) {
   });
 }
 
-function sumDue({ groups, changes }, { cell, cells, row, ran, waited, parked, due, busy }) {
+// What is due to a group in a cell is its part by weight of what is due to its parent, or of all that ran. In a period of
+// its quota no more than that is due.
+function sumDue({ groups, changes, begin }, { cell, cells, row, ran, waited, parked, due, busy }) {
   const weights = groups.map((group) => group.weight), totals = new Float64Array(groups.length + 1);
-  const part = new Float64Array(groups.length), left = changes.slice();
+  const part = new Float64Array(groups.length), left = changes.slice(), room = new Float64Array(groups.length).fill(Infinity);
+  const limited = [...groups.keys()].filter((g) => groups[g].quota !== undefined);
   for (let k = 0; k < cells; k++) {
+    for (const g of limited) {
+      const { quota, period } = groups[g];
+      if (k === 0) room[g] = quota * (1 - begin % period / period);
+      else if (beginsPeriod(groups[g], begin + k * cell, cell)) room[g] = quota;
+    }
     while (left.length && left[0][0] <= k * cell) { const [, g, weight] = left.shift(); weights[g] = weight; }
     totals.fill(0);
     for (let g = 0; g < groups.length; g++) {
@@ -100,8 +108,9 @@ function sumDue({ groups, changes }, { cell, cells, row, ran, waited, parked, du
     const ranNow = busy[k + 1] - busy[k];
     for (let g = 0; g < groups.length; g++) {
       const above = groups[g].parent;
-      part[g] = part[g] && part[g] / totals[above + 1] * (above < 0 ? 1 : part[above]);
-      due[g * row + k] = part[g] * ranNow;
+      const amount = part[g] && part[g] / totals[above + 1] * (above < 0 ? ranNow : due[above * row + k]);
+      due[g * row + k] = Math.min(amount, room[g]);
+      room[g] -= due[g * row + k];
     }
   }
   groups.forEach((group, g) => {
@@ -112,6 +121,8 @@ function sumDue({ groups, changes }, { cell, cells, row, ran, waited, parked, du
     group.isCapped = parked[g * row + cells] > 0;
   });
 }
+
+const beginsPeriod = ({ period }, at, cell) => Math.floor(at / period) > Math.floor((at - cell) / period);
 
 // The queues in which tasks waited: for each the sum of their waits before each cell. The CPUs' own queues are one.
 function sumQueues(run) {
