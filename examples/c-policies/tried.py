@@ -6,7 +6,7 @@ EJECTED = re.compile(r"policy ejected (at \d+ ms): (.*)")
 AT_SLOT = re.compile(r"((?:fault|exit) -?\d+) in (\w+) at slot (\d+)(.*)")
 BEFORE_EVENTS = re.compile(r": error: (\w+), slot (\d+): (.*)")
 MANY_QUEUES = re.compile(r"((?:\d+, ){4})(?:\d+, )+(\d+)$")
-FOUND = re.compile(r"nobody left .*", re.M)
+FOUND = re.compile(r"no task left .*", re.M)
 
 # What to write in C, by what is wrong.
 ADVICE = [
@@ -22,8 +22,8 @@ ADVICE = [
     (r"16 queues are there", "create 16 queues at most"),
     (r"a queue's number is below", "number the queues from 0"),
     (r"tracks idle CPUs itself", "set keep_idle: the flag SCX_OPS_KEEP_BUILTIN_IDLE, or DEFINE_KEEP_IDLE() of scx.h"),
-    (r"nobody left held|in held", "insert each task in enqueue, or later in dispatch"),
-    (r"nobody left", "move its tasks in dispatch, by scx_bpf_dsq_move_to_local"),
+    (r"no task left held|in held", "insert each task in enqueue, or later in dispatch"),
+    (r"no task left", "move its tasks in dispatch, by scx_bpf_dsq_move_to_local"),
     (r"refused: init", "init and init_task answer 0 if all is well"),
 ]
 
