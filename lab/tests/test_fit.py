@@ -22,7 +22,7 @@ PAIRS = [(policy, workload) for policy in sorted(EXAMPLES.glob("policies/*.toml"
 # Each fifth pair has each policy and each workload.
 SOME_AND_ALL = pytest.mark.parametrize(
     "pairs", [pytest.param(PAIRS[::5], id="some"), pytest.param(PAIRS, id="all", marks=pytest.mark.slow)])
-HEAD = '{"ph":"M","pid":0,"tid":0,"name":"thread_name","args":{"name":"cpu 0"}}'
+HEAD = '{"ph":"M","pid":1,"tid":0,"name":"thread_name","args":{"name":"cpu 0"}}'
 
 
 def timeline(tmp_path, *events):
@@ -30,10 +30,10 @@ def timeline(tmp_path, *events):
     lines = [HEAD]
     for what, task, at, *length in events:
         if what == "run":
-            lines.append(f'{{"ph":"X","pid":0,"tid":0,"ts":{at * 1000},"dur":{length[0] * 1000},"name":"{task}"}}')
+            lines.append(f'{{"ph":"X","pid":1,"tid":0,"ts":{at * 1000},"dur":{length[0] * 1000},"name":"{task}"}}')
         else:
             track, name = (0, task) if what == "wake" else (1, f"{task} to queue 0")
-            lines.append(f'{{"ph":"i","pid":1,"tid":{track},"ts":{at * 1000},"s":"t","name":"{name}"}}')
+            lines.append(f'{{"ph":"i","pid":2,"tid":{track},"ts":{at * 1000},"name":"{name}"}}')
     path = tmp_path / "t.json"
     path.write_text('{"displayTimeUnit":"ms","traceEvents":[\n' + ",\n".join(lines) + "\n]}")
     return path
@@ -140,8 +140,8 @@ def test_a_change_of_a_task_is_an_event(tmp_path):
 
 def test_a_timeline_is_not_kept_while_it_is_read():
     # 8,000 slices of one burst: 0.5 MB of lines, and 4 MB or more as objects. Threads of dask may hold memory too.
-    lines = (f'{{"ph":"X","pid":0,"tid":0,"ts":{at * 1000},"dur":1000,"name":"a"}},\n' for at in range(8000))
-    wake = '{"ph":"i","pid":1,"tid":0,"ts":0,"s":"t","name":"a"},\n'
+    lines = (f'{{"ph":"X","pid":1,"tid":0,"ts":{at * 1000},"dur":1000,"name":"a"}},\n' for at in range(8000))
+    wake = '{"ph":"i","pid":2,"tid":0,"ts":0,"name":"a"},\n'
     tracemalloc.start()
     recording = read_timeline("t", chain([HEAD, wake], lines))
     most = tracemalloc.get_traced_memory()[1]
@@ -159,8 +159,8 @@ def test_a_file_that_is_no_timeline_is_named(tmp_path, workloads, capsys):
     (tmp_path / "t.json").write_text("[]")
     assert main(["fit", str(tmp_path / "t.json")]) == 1
     assert "t.json: is no timeline of scxsim" in capsys.readouterr().err
-    (tmp_path / "t.json").write_text('{"displayTimeUnit":"ms","traceEvents":[\n{"ph":"X","pid":0,"tid":0,"ts":0\n]}')
-    with pytest.raises(LabError, match='t.json: is no timeline of scxsim: {"ph":"X","pid":0,"tid":0,"ts":0$'):
+    (tmp_path / "t.json").write_text('{"displayTimeUnit":"ms","traceEvents":[\n{"ph":"X","pid":1,"tid":0,"ts":0\n]}')
+    with pytest.raises(LabError, match='t.json: is no timeline of scxsim: {"ph":"X","pid":1,"tid":0,"ts":0$'):
         fit(tmp_path / "t.json")
     (tmp_path / "t.json").write_text('{"displayTimeUnit":"ms","traceEvents":[\n]}')
     with pytest.raises(LabError, match="or nothing wakes in it"):

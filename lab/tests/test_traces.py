@@ -121,5 +121,10 @@ def test_tables_have_what_stats_says(pairs):
 def slices_of_timeline(policy, workload):
     """The slices that the program draws in a timeline."""
     events = json.loads(PROGRAM.call("timeline", policy, workload))["traceEvents"]
-    return sorted(("run" if event["pid"] == 0 else "parked", event["name"], -1 if event["pid"] else event["tid"],
-                   event["ts"] // 1000, event["dur"] // 1000) for event in events if event["ph"] == "X" and event["pid"] != 4)
+    return sorted(("run", event["name"], event["tid"], *times_of(event)) if event["pid"] == 1 else
+                  ("parked", event["name"], -1, *times_of(event))
+                  for event in events if event["ph"] == "X" and event["pid"] in (1, 4))
+
+
+def times_of(event):
+    return event["ts"] // 1000, event["dur"] // 1000

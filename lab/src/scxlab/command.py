@@ -104,6 +104,20 @@ def search_command(words: argparse.Namespace) -> int:
     return 0
 
 
+def expand_command(words: argparse.Namespace) -> int:
+    """Writes the file that a template describes."""
+    from scxlab.sources import source_of
+    from scxlab.templates import expanded_text
+
+    template = source_of(Path(words.template), "template")
+    text = expanded_text(template.text, words.template, dict(words.values), words.seed)
+    if words.output:
+        Path(words.output).write_text(text)
+    else:
+        print(text, end="")
+    return 0
+
+
 def fit_command(words: argparse.Namespace) -> int:
     """Writes the workload of a recording."""
     from scxlab.fitting import fit
@@ -144,12 +158,20 @@ def at_least_one(text: str) -> int:
     return number
 
 
+def named_value(text: str) -> tuple[str, str]:
+    """Reads the name of a parameter and its value."""
+    name, sign, value = text.partition("=")
+    if not name or not sign:
+        raise argparse.ArgumentTypeError("has to be NAME=VALUE")
+    return name, value
+
+
 def parser() -> argparse.ArgumentParser:
     """The arguments of all commands."""
     top = argparse.ArgumentParser(prog="scxlab", description="Experiments with scheduling policies under scxsim.")
     top.add_argument("--program", help="the program scxsim, if it isn't that of this repository or on PATH")
     commands = top.add_subparsers(required=True, metavar="COMMAND")
-    for add in (add_compare, add_sweep, add_search, add_fit, add_check):
+    for add in (add_compare, add_sweep, add_search, add_expand, add_fit, add_check):
         add(commands)
     return top
 
@@ -195,6 +217,15 @@ def add_search(commands: "argparse._SubParsersAction[argparse.ArgumentParser]") 
     one.add_argument("--output", metavar="F", help="write the workload to this file")
     add_workers(one)
     one.set_defaults(do=search_command)
+
+
+def add_expand(commands: "argparse._SubParsersAction[argparse.ArgumentParser]") -> None:
+    one = commands.add_parser("expand", help="write the file that a template describes")
+    one.add_argument("template", metavar="TEMPLATE", help="a workload with `count`, ranges or {NAME}, as in docs/LAB.md")
+    one.add_argument("values", nargs="*", type=named_value, metavar="NAME=VALUE", help="the value of a parameter")
+    one.add_argument("--seed", type=int, metavar="N", help="draw the ranges by this seed, not by that of the template")
+    one.add_argument("--output", metavar="F", help="write it to this file")
+    one.set_defaults(do=expand_command)
 
 
 def add_fit(commands: "argparse._SubParsersAction[argparse.ArgumentParser]") -> None:

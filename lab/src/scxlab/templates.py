@@ -43,6 +43,17 @@ def workload_of(text: str, path: str, choose: Choose | None = None) -> str:
     return written(expanded(plan, path, choose or drawn_by(plan.get("seed", 0))))
 
 
+def expanded_text(text: str, path: str, values: Mapping[str, object], seed: int | None = None) -> str:
+    """The file that a template describes with these values of its parameters. A seed draws its ranges, and is the value
+    of `seed`; without one its own `seed` draws them."""
+    for name in values:
+        if name not in places(text):
+            raise LabError(f"{path}: there is no place {{{name}}}")
+    if seed is None:
+        return workload_of(filled(text, values, path), path)
+    return workload_of(filled(text, {**values, "seed": seed}, path), path, drawn_by(seed))
+
+
 def plan_of(text: str) -> Table | None:
     """The workload as a table; None if it isn't TOML."""
     try:

@@ -10,9 +10,9 @@ from scxlab.recording import Burst, Recording
 
 # The events that are read, by how their lines begin (docs/FILES.md, Timeline and picture): a task ran or was parked,
 # or it woke, came to a queue or was moved, or the policy was ejected.
-READ = ('{"ph":"X","pid":0,', '{"ph":"X","pid":3,', '{"ph":"i","pid":1,')
-A_CPU = '{"ph":"M","pid":0,'
-RUNS, WAKE, INSERT, EJECTION = ("X", 0), ("i", 0), ("i", 1), ("i", 3)
+READ = ('{"ph":"X","pid":1,', '{"ph":"X","pid":4,', '{"ph":"i","pid":2,')
+A_CPU = '{"ph":"M","pid":1,'
+RUNS, WAKE, INSERT, EJECTION = ("X", 1), ("i", 0), ("i", 1), ("i", 3)
 
 
 @dataclass
