@@ -323,7 +323,8 @@ def patterns(window, maker):
 
 
 def quotas(window, maker):
-    """A group isn't red for what its quota keeps from it; labels of changes don't overlap; what is due has exact steps."""
+    """A group isn't red for what its quota keeps from it; labels of changes don't overlap; what is due has exact steps, and
+    is no more than the quota in a period; a line says what the quota allows."""
     text = workload_text(2, 2000, [{"name": "web"}, {"name": "batch", "cpu_max": "20000 100000"}],
                          [{"name": f"{name}{number}", "group": name} for name in ("web", "batch") for number in (1, 2)])
     for at, weight in ((500, 1000), (1000, 50), (1010, 60)):
@@ -340,6 +341,17 @@ def quotas(window, maker):
     for time, due in ((495.5, "50.0%"), (505.5, "90.9%"), (995.5, "90.9%"), (1500.5, "37.5%")):
         window.hover(time, row)
         window.expect(f"due at {time}: " + window.text("tip"), f"due {due}" in window.text("tip"))
+    row = window.row("group", 1)
+    window.hover(1500.5, row)
+    window.expect("its quota: " + window.text("tip"), "quota 20 ms in 100 ms" in window.text("tip"))
+    # Five periods with the quota, five with a share by weight of 100 / 1100, and ten with the quota.
+    due = window.tell("run.groups[1].due * run.sums.busy[run.sums.cells]")
+    window.expect(f"due in all: {due}", abs(due - (15 * 20 + 5 * 200 / 11)) < 1)
+    x, y = 156 + 0.75 * chart_width(window), window.tell("34 + view.rows[arguments[0]].y - view.scroll", row)
+    tall = window.tell("view.rows[arguments[0]].high", row)
+    seen = {window.pixel(x + right, y + below) for right in (2, 5, 8) for below in range(int(tall))}
+    window.expect(f"a line: {seen}", window.tell("palette.names.parked") in seen)
+    window.expect("and words for it", "what a group's quota allows" in window.legend())
 
 
 def idle_by_quota(window, maker):
