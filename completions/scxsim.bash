@@ -21,12 +21,13 @@ _scxsim() {
     local current=${COMP_WORDS[COMP_CWORD]}
     COMPREPLY=()
     if [ "$COMP_CWORD" -eq 1 ]; then
-        _scxsim_words "verify explain explain-one run report check stats stats-csv why story step maps timeline picture picture-part view view-part gantt gantt-part replay replay-csv explore explore-few exec asm dis cases help --help --version"
+        _scxsim_words "verify verify-json explain explain-one run report check stats stats-csv why why-all why-json story step maps timeline picture picture-part view view-part gantt gantt-part replay replay-csv explore explore-few exec asm dis cases help --help --version"
         return
     fi
     case ${COMP_WORDS[1]},$COMP_CWORD in
-        help,2) _scxsim_words "verify explain explain-one run report check stats stats-csv why story step maps timeline picture picture-part view view-part gantt gantt-part replay replay-csv explore explore-few exec asm dis cases" ;;
+        help,2) _scxsim_words "verify verify-json explain explain-one run report check stats stats-csv why why-all why-json story step maps timeline picture picture-part view view-part gantt gantt-part replay replay-csv explore explore-few exec asm dis cases" ;;
         verify,2) _scxsim_files toml ;;
+        verify-json,2) _scxsim_files toml ;;
         explain,2) _scxsim_files toml ;;
         explain-one,2) _scxsim_files toml ;;
         run,2) _scxsim_files toml ;;
@@ -41,6 +42,10 @@ _scxsim() {
         stats-csv,3) _scxsim_files toml ;;
         why,2) _scxsim_files toml ;;
         why,3) _scxsim_files toml ;;
+        why-all,2) _scxsim_files toml ;;
+        why-all,3) _scxsim_files toml ;;
+        why-json,2) _scxsim_files toml ;;
+        why-json,3) _scxsim_files toml ;;
         story,2) _scxsim_files toml ;;
         story,3) _scxsim_files toml ;;
         story,4) _scxsim_words "$(_scxsim_tasks "${COMP_WORDS[3]}")" ;;
