@@ -3,7 +3,7 @@ use Rattle.std.proofs.Common.{◌≡◌, ℕ, zero, suc, ◌+◌, ◌<◌, ◌�
 use Rattle.std.proofs.lemmas.Bool.{lt-ltb, ne_eqb}
 use Rattle.std.proofs.lemmas.Bool.Decides.{nat_tests}
 use Rattle.std.proofs.lemmas.List.{length-set}
-use Rattle.scx_weights.specs.Hierarchy.{Hierarchy, is_active_task, with_weight}
+use Rattle.scx_weights.specs.Hierarchy.{Hierarchy, with_weight}
 use Rattle.scx_weights.specs.Hierarchy as tree
 use Rattle.scx_weights.specs.Refusals.{max_weight, is_outside, weight_fault}
 use Rattle.scx_sched_world.specs.World.{is_runnable, running}

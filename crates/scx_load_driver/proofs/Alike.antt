@@ -158,7 +158,7 @@ module _ (h : Hierarchy) (n : Times) (c : ℕ) where
 
   -- what an event by Linux rules keeps until it ends is no part of it
   like_cycles : KeepsCycles (IsLike h n c)
-  like_cycles w o claimed x i = i
+  like_cycles w o claimed x wakes i = i
 
   pub like_switch : (w : WorldState) (d : ℕ) → IsLike h n c w → IsLike h n c (with_switch w d)
   like_switch w d i = kept_switch (IsLike h n c) like_cycles w d i

@@ -111,6 +111,14 @@ noted_for_ticks due phase.Ticks m calendar h = h
 noted_for_ticks due phase.Sleeps m calendar h = h
 noted_for_ticks due phase.Clock m calendar h = h
 
+-- and no weight changes any more before the millisecond that is known
+pub later_for_ticks : (changes : List Change) (q : Phase) (m next : ℕ) → AreLater changes (changed_before q m) next → AreLater changes (m + 1) next
+later_for_ticks changes phase.Changes m next h = λ i l x. h i l (omega (arith, x))
+later_for_ticks changes phase.Wakes m next h = h
+later_for_ticks changes phase.Ticks m next h = h
+later_for_ticks changes phase.Sleeps m next h = h
+later_for_ticks changes phase.Clock m next h = h
+
 -- so they come next
 pub ticks_next : (d : DriverState) (q : Phase) (m n change : ℕ) (calendar : Calendar) (es : List Event) (s : SimState) → 0 < n → are_ticks_next q m change (soonest_of calendar m) ≡ true
     → AreLater d.plan.changes (changed_before q m) change → AreNoted d.memory.due (woken_before q m) calendar → blocks_left q m n ≡ d.blocks → is_empty d.pending ≡ true → es ≡ ticks_of d.plan.cpus

@@ -241,3 +241,19 @@ pub next_event : (c n i : ℕ) (es : List Event) (e : Event) → n ≤ c → i <
 next_event c n i es e l within is =
     ap (λ ts. ts ++ drop i es) (no_ticks n c l) ∙ drop_more es i e within ∙ ap (λ x. x ∷ drop (i + 1) es) is
     ∙ ap (λ ts. e ∷ (ts ++ drop (i + 1) es)) (sym (no_ticks n c l))
+
+-- the end of an empty list is empty
+empty_end : (es fs : List Event) → is_empty (es ++ fs) ≡ true → is_empty fs ≡ true
+empty_end [] fs e = e
+empty_end (x ∷ es) fs e = absurd (cc)
+
+-- where nothing is left all were taken
+pub all_taken : (c n i : ℕ) (es : List Event) → i ≤ length es → is_empty (drop c (ticks_of n) ++ drop i es) ≡ true → i ≡ length es
+all_taken c n i es l none = go (cases_lt i (length es))
+  where
+    go : (i < length es) ⊎ (length es ≤ i) → i ≡ length es
+    go (inr past) = omega (arith, l, past)
+    go (inl some) =
+        let rest : is_empty (drop i es) ≡ true = empty_end (drop c (ticks_of n)) (drop i es) none in
+        let more : is_empty (drop i es) ≡ false = rw (drop_more es i event.Clock some) refl in
+        absurd (cc)

@@ -130,10 +130,12 @@ state_of d = record {
   watched = d.watched;
 }
 
--- there is room for the events of a block, and no time grows out of its range
+-- there is room for the events of a block, no time grows out of its range, and all events before
+-- the ticks are taken once these begin
 pub record IsKept (d : Inside) : Type 0 where
   pub room : 1024 ≤ vec_capacity d.events
   pub taken : d.taken ≤ length d.events.items
+  pub ticked : d.phase ≡ phase.Sleeps → d.taken ≡ length d.events.items
   pub few_cpus : d.cpus ≤ 64
   pub cpu : d.cpu ≤ d.cpus
   pub few_tasks : length d.timings.items ≤ 1024

@@ -222,10 +222,12 @@ impl Driver {
         ensures { result ≡ is_empty self.now.pending }
     {
         if self.cpu < self.cpus {
-            false
-        } else {
-            self.taken == self.events.len()
+            return false;
         }
+        if self.phase == Phase::Sleeps {
+            return true;
+        }
+        self.taken == self.events.len()
     }
 
     /// The next event of the block at hand.

@@ -1,12 +1,13 @@
 -- A task has run for a millisecond: what comes of it, by whether the policy hears of the tick and by what is left of its
 -- slice.
-use Rattle.std.proofs.Common.{◌≡◌, ℕ, Bool, true, false, if◌then◌else◌, Option, Some, None, is_some, unwrap_or, refl, sym, ap, ◌∙◌}
+use Rattle.std.proofs.Common.{◌≡◌, ℕ, Bool, true, false, ◌&&◌, if◌then◌else◌, Option, Some, None, is_some, unwrap_or, refl, sym, ap, ◌∙◌}
 use Rattle.scx_isa_semantics.specs.declared.callbacks.Callback.TheVariants as callback
 use Rattle.scx_sched_world.specs.World.{WorldState, task_at, is_throttled}
 use Rattle.scx_sched_world.specs.Tasks.{after_tick, used_ms, slice_left}
-use Rattle.scx_sched_machine.specs.Steps.{State, Stepped, with_world, stays, one_after_other}
+use Rattle.scx_sched_machine.specs.Steps.{State, Stepped, with_world, stays, one_after_other, is_by_linux}
+use Rattle.scx_sched_machine.specs.Policy.{program_of}
 use Rattle.scx_sched_machine.specs.Callbacks.{call_back, one_task}
-use Rattle.scx_sched_machine.specs.Events.{throttle, expire, use_up, hears_tick, tick_heard, count_down}
+use Rattle.scx_sched_machine.specs.Events.{throttle, is_tick_time, expire, use_up, hears_tick, tick_heard, count_down}
 
 -- it has run for that long
 abbrev ran : State → ℕ → State
@@ -20,6 +21,11 @@ counted s t = with_world s (used_ms (after_tick s.world t) t)
 heard_after : (s : State) (t : ℕ) → hears_tick (ran s t) ≡ hears_tick s
 unfolding hears_tick
 heard_after s t = refl
+
+-- plain rules tell of no tick
+pub unheard_plainly : (s : State) → is_by_linux s ≡ false → hears_tick s ≡ false
+unfolding hears_tick
+unheard_plainly s plain = ap (λ b. (b && is_some (program_of s.policy callback.Tick)) && is_tick_time s) plain
 
 -- what a millisecond comes to, where the policy hears of its tick or doesn't
 abbrev counted_by : State → ℕ → ℕ → Bool → Stepped

@@ -1,61 +1,20 @@
 -- Where no group has a quota nobody is parked.
-use Rattle.std.proofs.Common.{arith, ◌≡◌, ℕ, zero, suc, ◌<◌, ◌&&◌, Bool, true, false, if◌then◌else◌, cond, ltb, [], ◌∷◌, ◌++◌, length, get_or, Option, Some, None, refl, sym, ap, ◌∙◌}
-use Rattle.std.specs.List.{count_by}
+use Rattle.std.proofs.Common.{arith, ◌≡◌, ℕ, zero, suc, ◌&&◌, Bool, true, false, cond, ltb, [], ◌++◌, length, Option, Some, None, refl, sym, ap, ◌∙◌}
 use Rattle.std.proofs.lemmas.List.{length-set}
-use Rattle.std.proofs.lemmas.List.Sums.{sum_by-cons}
-use Rattle.scx_dsq.specs.Queues.{Entries, QueueState, is_in, len_of, is_first, front_of, entries_of, only}
+use Rattle.scx_dsq.specs.Queues.{len_of, front_of}
 use Rattle.scx_dsq.specs.Calls.{after_push}
-use Rattle.scx_dsq.specs.declared.entries.Entry.{Entry}
 use Rattle.scx_dsq.specs.declared.entries.Rank.TheVariants.{Fifo}
-use Rattle.scx_dsq.proofs.Positions.{no_position}
-use Rattle.scx_weights.specs.Hierarchy.{is_in_mask}
 use Rattle.scx_weights.specs.Limits as limits
 use Rattle.scx_weights.specs.Limits.{has_quota}
 use Rattle.scx_weights.proofs.KnownLimits.{none_throttled}
 use Rattle.scx_sched_world.specs.Ids.{global, local_on}
-use Rattle.scx_sched_world.specs.World.{WorldState, with_queues, is_by_linux, task_at, with_task, is_throttled, binds}
+use Rattle.scx_sched_world.specs.World.{WorldState, with_queues, is_by_linux, task_at, with_task, is_throttled}
 use Rattle.scx_sched_world.specs.Tasks.{with_home, after_leave, homed, local_len, next_for, brought, fill_front, after_fill}
+use Rattle.scx_sched_world.proofs.Empty.{empty_next}
 use Rattle.scx_sched_machine.specs.Steps.{State, stays}
 use Rattle.scx_sched_machine.specs.Filling.{move_note, fill}
 use Rattle.scx_sched_machine.specs.Parking.{if_throttled, clear, in_reach, supply}
 use Rattle.scx_sched_machine.proofs.Choices.{keeps_if}
-
--- ---- an empty queue has no front
-
-one_or_none : (b : Bool) → cond {A = ℕ} b 1 0 ≡ 0 → b ≡ false
-one_or_none true e = absurd (omega (arith, e))
-one_or_none false e = refl
-
-none_in : (test : Option Entry → Bool) (xs : Entries) (k : ℕ) (d : Option Entry) → count_by test xs ≡ 0 → k < length xs → test (get_or xs k d) ≡ false
-none_in test [] k d none lt = absurd (omega (arith, lt))
-none_in test (x ∷ xs) zero d none lt = let parts = sum_by-cons (λ y. cond {A = ℕ} (test y) 1 0) x xs in one_or_none (test x) (omega (arith, parts, none))
-none_in test (x ∷ xs) (suc k) d none lt = let parts = sum_by-cons (λ y. cond {A = ℕ} (test y) 1 0) x xs in none_in test xs k d (omega (arith, parts, none)) (omega (arith, lt))
-
-first_in : (id : ℕ) (xs : Entries) (o : Option Entry) → is_in id o ≡ false → is_first xs id o ≡ false
-first_in id xs None e = refl
-first_in id xs (Some p) e = rw e refl
-
-empty_front : (s : QueueState) (id : ℕ) → len_of s id ≡ 0 → front_of s id ≡ None
-unfolding front_of
-empty_front s id none = no_position (is_first s.entries id) s.entries (λ k d lt. first_in id s.entries (get_or s.entries k d) (none_in (is_in id) s.entries k d none lt))
-
--- nor do some of its tasks alone
-none_of_those : (id : ℕ) (p : ℕ → Bool) (n : ℕ) (xs : Entries) → count_by (is_in id) xs ≡ 0 → count_by (is_in id) (entries_of p n xs) ≡ 0
-none_of_those id p n [] none = refl
-none_of_those id p n (x ∷ xs) none =
-    let kept : Option Entry = if p n then x else None in
-    let parts = sum_by-cons (λ y. cond {A = ℕ} (is_in id y) 1 0) x xs in
-    let more = sum_by-cons (λ y. cond {A = ℕ} (is_in id y) 1 0) kept (entries_of p (suc n) xs) in
-    let rest = none_of_those id p (suc n) xs (omega (arith, parts, none)) in
-    let here : cond {A = ℕ} (is_in id kept) 1 0 ≡ 0 = keeps_if (λ (o : Option Entry). cond {A = ℕ} (is_in id o) 1 0 ≡ 0) (p n) x None (omega (arith, parts, none)) refl in
-    omega (arith, more, rest, here)
-
--- and no processor sees a task in it
-empty_next : (w : WorldState) (q c : ℕ) → len_of w.queues q ≡ 0 → next_for w q c ≡ None
-empty_next w q c none =
-    let allowed : ℕ → Bool = λ t. is_in_mask w.tree t c in
-    keeps_if (λ (s : QueueState). front_of s q ≡ None) (binds w) (only allowed w.queues) w.queues
-    (empty_front (only allowed w.queues) q (none_of_those q allowed 0 w.queues.entries none)) (empty_front w.queues q none)
 
 -- ---- a local queue is filled, and no more
 

@@ -1,6 +1,6 @@
 -- Tasks are parked, and let go, one after another.
 use Rattle.std.proofs.Common.{arith, ◌≡◌, ℕ, zero, suc, ◌-◌, ◌<◌, Option, Some, None, true, false, refl, sub-one}
-use Rattle.scx_dsq.specs.Queues.{front_of, behind_of}
+use Rattle.scx_dsq.specs.Queues.{len_of, front_of, behind_of}
 use Rattle.scx_sched_world.specs.World.{is_throttled}
 use Rattle.scx_sched_world.specs.Tasks.{after_leave}
 use Rattle.scx_sched_world.specs.Kept.{NobodyIsFree}
@@ -97,5 +97,9 @@ go_nowhere (suc n) s (Some t) h at =
 -- from the front on
 pub all_stay : (n : ℕ) (s : State) (o : Option ℕ) → NobodyIsFree s.world → front_of s.world.queues parked_queue ≡ o → let_go_from n s o ≡ stays s
 all_stay n s o h e = go_nowhere n s o h (at_front s.world.queues o e)
+
+-- where nobody is parked who may run again, nobody is let go
+pub none_let_go : (s : State) → NobodyIsFree s.world → let_go_from (len_of s.world.queues parked_queue) s (front_of s.world.queues parked_queue) ≡ stays s
+none_let_go s h = all_stay (len_of s.world.queues parked_queue) s (front_of s.world.queues parked_queue) h refl
 
 pub ruleset let_go_steps = (go_none, go_nobody, go_past, go_one)

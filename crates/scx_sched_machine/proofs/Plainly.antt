@@ -4,11 +4,11 @@ use Rattle.scx_dsq.specs.Queues.{front_of}
 use Rattle.scx_isa_semantics.specs.declared.callbacks.Callback.TheVariants as callback
 use Rattle.scx_vm.specs.Programs.{VerifiedProgram}
 use Rattle.scx_sched_world.specs.declared.call.Insert.{Insert}
-use Rattle.scx_sched_world.specs.declared.notes.What.TheVariants.{Stop}
+use Rattle.scx_sched_world.specs.declared.notes.What.TheVariants.{Stop, Run}
 use Rattle.scx_sched_world.specs.Ids.{local_on}
 use Rattle.scx_sched_world.specs.World as world
 use Rattle.scx_sched_world.specs.World.{WorldState, with_task, with_waker, task_at, first_home, has_one_cpu, is_idle, choice, after_claim, note_now}
-use Rattle.scx_sched_world.specs.Tasks.{with_home, homed, after_stop, for_cpu, to_front}
+use Rattle.scx_sched_world.specs.Tasks.{with_home, homed, after_stop, started_at, after_switch, for_cpu, to_front}
 use Rattle.scx_sched_world.specs.Ejecting.{after_charge}
 use Rattle.scx_sched_machine.specs.Steps.{State, Stepped, with_world, stays, after, one_after_other, is_ejected, is_by_linux, kicked, kicked_if_idle}
 use Rattle.scx_sched_machine.specs.Callbacks.{acting, call_back, call_by_linux, answered_by, task_cpu_and_0, task_and_number, two_numbers, cpu_and_task}
@@ -16,7 +16,7 @@ use Rattle.scx_sched_machine.specs.Policy.{program_of}
 use Rattle.scx_sched_machine.specs.Custody.{hears_dequeue}
 use Rattle.scx_sched_machine.specs.Put.{enters, enters_builtin, enqueue_choice, comes_in, put}
 use Rattle.scx_sched_machine.specs.Parking.{supply}
-use Rattle.scx_sched_machine.specs.Cycle.{keeps_slice, supply_unless_kept, told_of, after_dispatch, moved_in_vain, asks_again, tries, after_stopping, put_back, leave, builtin_cycle, start_or_cycle, picked, refilled, start_picked_or_cycle, tells_idle, tells_busy, makes_way, pick, pick_or_rest, kept, keep_or_pick, conclude, give_up, cycle}
+use Rattle.scx_sched_machine.specs.Cycle.{keeps_slice, supply_unless_kept, told_of, after_dispatch, moved_in_vain, asks_again, tries, after_stopping, after_running, switched, started_if, start, put_back, leave, builtin_cycle, start_or_cycle, picked, refilled, start_picked_or_cycle, tells_idle, tells_busy, makes_way, pick, pick_or_rest, kept, keep_or_pick, conclude, give_up, cycle}
 use Rattle.scx_sched_machine.specs.Events.{target, insert_or_put, woken, wake_target, comes_to, told_runnable, settle, settle_at_home, inserted_by_choice, chosen, ask_target, select, from_waker}
 use Rattle.scx_sched_machine.proofs.Choices.{keeps_if}
 use Rattle.scx_sched_machine.proofs.Leaving.{dispatch_unheard}
@@ -180,6 +180,34 @@ leaves s c (Some t) plain =
     let stopped = with_world s (after_stop s.world c t) in
     let r = after_stopping stopped c t 1 in
     ap (λ (x : Stepped). after (note_now s.world (Stop t c) ∷ []) (one_after_other r x)) (puts_plainly r.state c t (plain_stopped stopped c t 1 plain))
+
+-- the machine goes on by plain rules
+pub plain_left : (s : State) (c : ℕ) (o : Option ℕ) → is_by_linux s ≡ false → is_by_linux (leave s c o).state ≡ false
+plain_left s c o plain = ap (λ (x : Stepped). is_by_linux x.state) (leaves s c o plain) ∙ go o
+  where
+    go : (o : Option ℕ) → is_by_linux (left_plainly s c o).state ≡ false
+    go None = plain
+    go (Some t) =
+        let stopped = with_world s (after_stop s.world c t) in
+        plain_put (after_stopping stopped c t 1).state t c 0 (plain_stopped stopped c t 1 plain)
+
+-- a task that begins to run keeps its slice
+switch_plainly : (s : State) (t : ℕ) → is_by_linux s ≡ false → switched s t ≡ s
+unfolding switched
+switch_plainly s t plain = ap (λ b. if b && not (s.policy.tick_ms == 0) then with_world s (after_switch s.world t) else s) plain
+
+-- the front of the local queue runs
+abbrev started_plainly : Option ℕ → State → ℕ → Stepped
+started_plainly None s c = stays s
+started_plainly (Some t) s c = after (note_now s.world (Run t c) ∷ []) (after_running (with_world s (started_at (Some t) s.world c)) c t)
+
+pub starts : (s : State) (c : ℕ) → is_by_linux s ≡ false → start s c ≡ started_plainly (front_of s.world.queues (local_on c)) s c
+unfolding start
+starts s c plain = go (front_of s.world.queues (local_on c))
+  where
+    go : (o : Option ℕ) → started_if o s c ≡ started_plainly o s c
+    go None = refl
+    go (Some t) = ap (λ (v : State). after (note_now s.world (Run t c) ∷ []) (after_running v c t)) (switch_plainly (with_world s (started_at (Some t) s.world c)) t plain)
 
 picked_none : (s : State) (c : ℕ) → is_by_linux s ≡ false → picked s c ≡ None
 unfolding picked

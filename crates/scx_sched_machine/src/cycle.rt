@@ -266,6 +266,22 @@ impl Machine {
         self.start_picked_or_cycle(picked, cpu, ran, hearer);
     }
 
+    /// `start_or_cycle` by plain rules.
+    #[inline(always)]
+    #[tactic(auto, unfolding(crate::specs::Cycle::start_or_cycle), using(crate::proofs::Taking::takings))]
+    fn start_or_cycle_plainly<H: Hearer>(&mut self, cpu: u32, ran: bool, hearer: &mut H)
+        requires plain { is_by_linux self.old ≡ false }
+        requires room { HasRoom builtin_cycle_pushes self.old }
+        ensures { Goes H.noted H.takes H.told H.hears builtin_cycle_pushes
+            (start_or_cycle self.old cpu ran) self.old hearer.old self.new hearer.new }
+    {
+        if self.has_local(cpu) {
+            self.start_plainly(cpu, hearer);
+        } else {
+            self.builtin_cycle(cpu, None, ran, hearer);
+        }
+    }
+
     /// By plain rules the task before leaves, and then the front of the local queue runs.
     #[inline(always)]
     #[tactic(auto, using(crate::proofs::Taking::takings, crate::proofs::Plainly::picks))]
@@ -276,7 +292,7 @@ impl Machine {
             self.old hearer.old self.new hearer.new }
     {
         self.leave_plainly(cpu, before, hearer);
-        self.start_or_cycle(cpu, ran, hearer);
+        self.start_or_cycle_plainly(cpu, ran, hearer);
     }
 
     /// The front of the local queue runs in the place of the task before.
@@ -450,7 +466,7 @@ impl Machine {
         self.policy.program(Callback::Dispatch).is_none()
             && !self.is_ejected()
             && !self.world.is_limited()
-            && self.world.local_len(cpu) == 0
+            && self.world.is_local_empty(cpu)
             && !self.world.has_global_for(cpu)
     }
 

@@ -1,4 +1,4 @@
-ghost use Rattle.std.specs.Prelude.{◌≡◌, ℕ, ◌+◌, ◌<◌, ◌^◌, true, false, None};
+ghost use Rattle.std.specs.Prelude.{◌≡◌, ℕ, ◌+◌, ◌<◌, ◌^◌, true, false, Some, None};
 ghost use Rattle.scx_weights.specs.Limits.{usage_of};
 ghost use Rattle.scx_sched_world.specs.World.{task_at};
 ghost use Rattle.scx_sched_machine.specs.Steps.{is_by_linux};
@@ -248,8 +248,25 @@ impl Machine {
 
     /// A task has run for a millisecond.
     #[inline(always)]
-    #[tactic(auto, using(crate::proofs::Taking::takings))]
+    #[tactic(auto, using(crate::proofs::Taking::takings, crate::proofs::Counting::unheard_plainly))]
     fn count_down<H: Hearer>(&mut self, cpu: u32, task: u16, hearer: &mut H)
+        requires early { (task_at self.old.world task).run_ns < 2 ^ 63 }
+        requires used { (g : ℕ) → usage_of self.old.world.tree g < 2 ^ 63 }
+        requires room { HasRoom tick_pushes self.old }
+        ensures { Goes H.noted H.takes H.told H.hears tick_pushes (count_down self.old cpu task)
+            self.old hearer.old self.new hearer.new }
+    {
+        if self.is_by_linux() {
+            self.count_by_linux(cpu, task, hearer);
+        } else {
+            self.count_unheard(cpu, task, hearer);
+        }
+    }
+
+    /// `count_down` by Linux rules.
+    #[inline(never)]
+    #[tactic(auto, using(crate::proofs::Taking::takings))]
+    fn count_by_linux<H: Hearer>(&mut self, cpu: u32, task: u16, hearer: &mut H)
         requires early { (task_at self.old.world task).run_ns < 2 ^ 63 }
         requires used { (g : ℕ) → usage_of self.old.world.tree g < 2 ^ 63 }
         requires room { HasRoom tick_pushes self.old }
@@ -313,9 +330,20 @@ impl Machine {
             (eject_if_stalled (overdue self.old) self.old) self.old hearer.old self.new hearer.new }
     {
         if let Some(task) = self.overdue() {
-            let clock = self.world.clock();
-            self.eject(Eject::Stall(task, clock), hearer);
+            self.eject_stalled(task, hearer);
         }
+    }
+
+    /// A policy that let that task wait too long is ejected.
+    #[inline(never)]
+    #[tactic(auto, using(crate::proofs::Taking::takings))]
+    fn eject_stalled<H: Hearer>(&mut self, task: u16, hearer: &mut H)
+        requires { HasRoom eject_pushes self.old }
+        ensures { Goes H.noted H.takes H.told H.hears eject_pushes
+            (eject_if_stalled (Some task) self.old) self.old hearer.old self.new hearer.new }
+    {
+        let clock = self.world.clock();
+        self.eject(Eject::Stall(task, clock), hearer);
     }
 
     /// Timers that are due run, and then the watchdog looks.

@@ -126,7 +126,7 @@ impl Machine {
     pub(crate) fn moved_in_vain(&self, cpu: u32) -> bool
         ensures { result ≡ moved_in_vain self.now cpu }
     {
-        self.world.local_len(cpu) == 0 && self.world.has_moved()
+        self.world.is_local_empty(cpu) && self.world.has_moved()
     }
 
     /// True if dispatch is called again: it moved a task, the local queue is still empty, and no task keeps the

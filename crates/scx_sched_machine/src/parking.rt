@@ -34,7 +34,7 @@ impl Machine {
         self.park(task, hearer);
     }
 
-    /// That task, if it is throttled.
+    /// The task, if it is throttled.
     fn if_throttled(&self, task: Option<u16>) -> Option<u16>
         ensures { result ≡ if_throttled self.now.world task }
     {
@@ -149,18 +149,18 @@ impl Machine {
 
     /// All of the parked that may run again are let go.
     #[inline(always)]
-    #[tactic(auto, unfolding(crate::specs::Parking::let_all_go), using(crate::proofs::Taking::takings, crate::proofs::Parked::go_nobody, crate::proofs::Parked::all_stay, crate::proofs::Unchanged::left_few))]
+    #[tactic(auto, unfolding(crate::specs::Parking::let_all_go), using(crate::proofs::Taking::takings, crate::proofs::Parked::go_nobody, crate::proofs::Parked::none_let_go, crate::proofs::Unchanged::left_few))]
     pub(crate) fn let_all_go<H: Hearer>(&mut self, hearer: &mut H)
         requires { HasRoom (let_go_pushes + put_pushes) self.old }
         ensures { Goes H.noted H.takes H.told H.hears let_go_pushes (let_all_go self.old)
             self.old hearer.old self.new hearer.new }
     {
-        let Some(first) = self.world.first_parked() else {
-            return;
-        };
         if self.world.are_parked_throttled() {
             return;
         }
+        let Some(first) = self.world.first_parked() else {
+            return;
+        };
         let left = self.world.len(PARKED);
         self.let_go_from(left, Some(first), hearer);
     }

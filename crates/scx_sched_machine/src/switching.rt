@@ -136,6 +136,21 @@ impl Machine {
         }
     }
 
+    /// `start` by plain rules, by which slices stay as long as they are.
+    #[inline(always)]
+    #[tactic(auto, using(crate::proofs::Taking::takings, crate::proofs::Plainly::starts))]
+    pub(crate) fn start_plainly<H: Hearer>(&mut self, cpu: u32, hearer: &mut H)
+        requires plain { is_by_linux self.old ≡ false }
+        requires room { HasRoom callback_pushes self.old }
+        ensures { Goes H.noted H.takes H.told H.hears callback_pushes (start self.old cpu)
+            self.old hearer.old self.new hearer.new }
+    {
+        if let Some(front) = self.world.start(cpu) {
+            hearer.note(self.world.note(What::Run(front, cpu)));
+            self.call_running(cpu, front, hearer);
+        }
+    }
+
     /// The task that was picked runs, from wherever it waits in the local queue.
     #[inline(never)]
     #[tactic(auto, unfolding(crate::specs::Cycle::start_picked), using(crate::proofs::Taking::takings))]

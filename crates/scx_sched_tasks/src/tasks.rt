@@ -166,10 +166,10 @@ impl Tasks {
             ≡ slice_set self.old task (after_ms (slice_index_or self.old task no_task)) }
     {
         let facts = &mut self.records[task as usize];
+        facts.run_ns += MS_NS;
         if facts.slice != u64::MAX {
             facts.slice = facts.slice.saturating_sub(MS_NS);
         }
-        facts.run_ns += MS_NS;
         facts.slice
     }
 

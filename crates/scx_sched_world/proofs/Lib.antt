@@ -9,6 +9,7 @@ mod Places
 mod Running
 mod Scans
 mod Settled
+pub mod Empty
 mod Keeping
 mod Entering
 mod Picks

@@ -1,11 +1,11 @@
 -- Who is parked once tasks have come to queues and left them, and as time goes by.
-use Rattle.std.proofs.Common.{◌≡◌, ℕ, ◌<◌, ◌≤◌, ◌⊎◌, inl, inr, Bool, true, false, ◌&&◌, cond, List, length, get_or, set, Option, Some, None, is_some, is_none, nat_lt, option_map, sym, ◌∙◌, ap, arith}
+use Rattle.std.proofs.Common.{◌≡◌, ℕ, ◌<◌, ◌≤◌, ◌⊎◌, inl, inr, Bool, true, false, ◌&&◌, cond, List, length, get_or, set, Option, Some, None, is_some, is_none, IfNone, nat_lt, option_map, refl, sym, ◌∙◌, ap, arith}
 use Rattle.std.proofs.lemmas.Bool.{cases_eq, cases_lt, lt-ltb, and_parts}
 use Rattle.std.proofs.lemmas.List.{get_or-set_same, get_or-set_other, get_or_past, set_past}
 use Rattle.scx_dsq.specs.declared.entries.Entry.{Entry}
 use Rattle.scx_dsq.specs.declared.entries.Rank.{Rank}
 use Rattle.scx_dsq.specs.declared.entries.Rank.TheVariants.{Fifo}
-use Rattle.scx_dsq.specs.Queues.{QueueState, task_count, entry_of, queue_of, front_of}
+use Rattle.scx_dsq.specs.Queues.{QueueState, Waits, task_count, entry_of, queue_of, front_of}
 use Rattle.scx_dsq.specs.Calls.{create_refusal, with_queue, after_create, push_refusal, next_entry, with_task as with_place, after_push, without_task, after_remove, without, after_pop}
 use Rattle.scx_weights.specs.Hierarchy.{Hierarchy, with_task}
 use Rattle.scx_weights.specs.Limits.{is_throttled_group, is_throttled, begins_period, with_use, with_turn, is_freed, frees}
@@ -145,3 +145,15 @@ all_looked_at w same h t e = go (cases_lt t (length w.tasks))
     go : (t < length w.tasks) ⊎ (length w.tasks ≤ t) → is_throttled w.tree t ≡ true
     go (inl l) = (and_parts (nat_lt t (length w.tasks)) (is_throttled w.tree t) (h t l e)).1
     go (inr past) = absurd (none_past w.queues t (omega (arith, same, past)) e)
+
+-- where nobody is parked nobody is who may run again
+pub nobody_parked : (w : WorldState) (o : Option ℕ) → IfNone o ((t : ℕ) (p : Entry) → Waits w.queues parked_queue t p → ⊥) → is_some o ≡ false → NobodyIsFree w
+nobody_parked w (Some x) none e t here = absurd (cc)
+nobody_parked w None none e t here = absurd (go (entry_of w.queues t) refl here)
+  where
+    is : (a b : ℕ) → Some a ≡ Some b → a ≡ b
+    is a b y = cc
+
+    go : (o : Option Entry) → entry_of w.queues t ≡ o → option_map (λ p. p.queue) o ≡ Some parked_queue → ⊥
+    go None x y = absurd (cc)
+    go (Some p) x y = none t p (x, is p.queue parked_queue y)

@@ -1,6 +1,6 @@
 -- Which processors may be idle with a task in their local queue, and which of them looks for work
 -- first.
-use Rattle.std.proofs.Common.{◌≡◌, ◌≢◌, ℕ, zero, suc, Bool, true, false, ◌==◌, ◌&&◌, not, nat_lt, max, ◌+◌, ◌-◌, ◌*◌, ◌%◌, ◌<◌, ◌≤◌, ◌^◌, ◌⊎◌, inl, inr, cond, [], ◌∷◌, length, get_or, set, count_by, Option, Some, None, is_some, is_none, option_map, refl, sym, ◌∙◌, ap, subst, arith}
+use Rattle.std.proofs.Common.{◌≡◌, ◌≢◌, ℕ, zero, suc, Bool, true, false, ◌==◌, ◌&&◌, not, nat_lt, max, ◌+◌, ◌-◌, ◌*◌, ◌%◌, ◌<◌, ◌≤◌, ◌^◌, ◌⊎◌, inl, inr, cond, [], ◌∷◌, length, get_or, set, count_by, Option, Some, None, is_some, is_none, IfNone, option_map, refl, sym, ◌∙◌, ap, subst, arith}
 use Rattle.std.specs.Int.{w64, bit_at, bit_not, trailing_zeros}
 use Rattle.std.specs.Int.Bits.{bit_or, bit_and}
 use Rattle.std.proofs.lemmas.Bool.{cases_eq, cases_lt, eq-eqb, ne_eqb, lt-ltb, ltb-true, or_parts, or_from, cond-true, cond-false}
@@ -11,7 +11,7 @@ use Rattle.std.proofs.lemmas.Nat.Bits.{bit_at-zero, bit_at_ones, bit_at-trailing
 use Rattle.scx_dsq.specs.declared.entries.Entry.{Entry}
 use Rattle.scx_dsq.specs.declared.entries.Rank.{Rank}
 use Rattle.scx_dsq.specs.Laws.{one_if}
-use Rattle.scx_dsq.specs.Queues.{QueueState, Entries, queue_of, entry_of, is_in, len_of, front_of}
+use Rattle.scx_dsq.specs.Queues.{QueueState, Entries, Waits, queue_of, entry_of, is_in, len_of, front_of}
 use Rattle.scx_dsq.specs.Calls.{create_refusal, with_queue, after_create, push_refusal, next_entry, with_task, after_push, without_task, after_remove, without, after_pop}
 use Rattle.scx_sched_world.specs.declared.world.World.TheInside.{Inside}
 use Rattle.scx_sched_world.specs.Ids.{local_on}
@@ -19,6 +19,7 @@ use Rattle.scx_sched_world.specs.CpuSets.{is_in_set}
 use Rattle.scx_sched_world.specs.World.{WorldState, running, is_this, is_idle}
 use Rattle.scx_sched_world.specs.Pending.{has_local, is_pending, first_pending}
 use Rattle.scx_sched_world.specs.Kept.{IsKept, lowest_bit, IsEmpty, AreSettled, HoldPending}
+use Rattle.scx_sched_world.proofs.Fronts.{front_in}
 use Rattle.scx_sched_world.proofs.Scans.{none_pending, one_pending}
 
 -- ---- who waits in a queue
@@ -88,6 +89,31 @@ empty_by s q e t = queue_in (entry_of s t) q (none_in q s.entries t e)
 
 len_by : (s : QueueState) (q : ℕ) → IsEmpty s q → len_of s q ≡ 0
 len_by s q h = count_none q s.entries (λ t. in_queue (entry_of s t) q (h t))
+
+-- where nobody waits none is counted
+pub len_none : (s : QueueState) (q : ℕ) → ((t : ℕ) (p : Entry) → Waits s q t p → ⊥) → len_of s q ≡ 0
+len_none s q none = len_by s q (λ t x. nobody (entry_of s t) (λ p y z. none t p (y, z)) x)
+  where
+    is : (a b : ℕ) → Some a ≡ Some b → a ≡ b
+    is a b y = cc
+
+    nobody : (o : Option Entry) → ((p : Entry) → o ≡ Some p → p.queue ≡ q → ⊥) → option_map (λ p. p.queue) o ≡ Some q → ⊥
+    nobody None h y = absurd (cc)
+    nobody (Some p) h y = h p refl (is p.queue q y)
+
+-- what is not untrue is true
+pub twice_not : (b : Bool) → not (not b) ≡ b
+twice_not true = refl
+twice_not false = refl
+
+-- someone waits in a queue where it has a front
+pub local_by_front : (s : QueueState) (q : ℕ) (o : Option ℕ) → o ≡ front_of s q → IfNone o ((t : ℕ) (p : Entry) → Waits s q t p → ⊥) → is_some o ≡ nat_lt 0 (len_of s q)
+local_by_front s q None e none = sym (ap (λ n. nat_lt 0 n) (len_none s q none))
+local_by_front s q (Some t) e none = sym (lt-ltb 0 (len_of s q) (some (cases_eq (len_of s q) 0)))
+  where
+    some : (len_of s q ≡ 0) ⊎ (len_of s q ≡ 0 → ⊥) → 0 < len_of s q
+    some (inl z) = absurd (empty_by s q z t (front_in s q t (sym e)))
+    some (inr d) = omega (arith, d)
 
 -- ---- what is known of idle processors
 

@@ -5,6 +5,7 @@ pub mod World
 pub mod Tasks
 pub mod Pending
 pub mod Helpers
+pub mod Inserts
 pub mod Waits
 pub mod Ejecting
 pub mod First

@@ -6,11 +6,12 @@ ghost use Rattle.scx_sched_world.specs.Tasks.{after_leave, next_for};
 ghost use Rattle.scx_sched_world.specs.declared.kicks.Kick.TheVariants.{IfIdle};
 ghost use Rattle.scx_isa_semantics.specs.HostTables.{field_width};
 ghost use Rattle.scx_sched_world.specs.Helpers.{invalid, with_cause, with_fault, after_exit, task_or_null, current_answer, after_asking_cpu, peek_answer, is_current_one, cpu_of_task, invalid_if, is_there, create_answer, after_create_dsq, queued_answer, after_queued, is_held, may_insert, queue_fault, rank_fault, or_fault, are_known, flags_fault, insert_fault, is_late, after_late, insert_or_fault, with_move, insert_answer, after_insert, after_release, pid_answer, placing_fault, moved_here, move_answer, after_move, kicked_so, kick_answer, after_kick, weight_at, weight_told, group_at, all_cpus, field_of};
+ghost use Rattle.scx_sched_world.specs.Inserts.{insert_in_order, insert_by_vtime};
 
 use crate::call::Insert;
 use crate::eject::Cause;
 use crate::faults::Fault;
-use crate::flags::are_linux_flags;
+use crate::flags::{are_linux_flags, arrival_rank, has_preempt};
 use crate::ids::{GLOBAL, HELD, INVALID, LOCAL, LOCAL_IDS, LOCAL_ON, POLICY_END};
 use crate::kicks::Kick;
 use crate::notes::{Note, What};
@@ -102,10 +103,10 @@ impl World {
         ensures { result ≡ may_insert self.now task }
     {
         match self.call.callback {
+            Callback::Dispatch => self.is_held(task),
             Callback::SelectCpu | Callback::Enqueue => {
                 self.call.insert().is_none() && task == Some(self.call.task)
             }
-            Callback::Dispatch => self.is_held(task),
             _ => false,
         }
     }
@@ -231,7 +232,24 @@ impl World {
     }
 
     /// Keeps the insert of the task at hand until the callback ends. In dispatch a held task goes at once.
+    #[inline(always)]
     pub(crate) fn insert_here(&mut self, task: Option<u16>, insert: Insert, flags: u64) -> u64
+        requires notes { length self.old.notes < 4096 }
+        requires few { self.old.queues.pushes < 2 ^ 63 }
+        ensures answer { result ≡ insert_answer self.old task insert flags }
+        ensures world { self.new ≡ after_insert self.old task insert flags }
+        ensures notes { length self.new.notes ≤ length self.old.notes + 1 }
+        ensures few { self.new.queues.pushes ≤ self.old.queues.pushes + 1 }
+    {
+        if self.is_by_linux() {
+            return self.insert_by_linux(task, insert, flags);
+        }
+        self.insert_now(task, &insert, flags)
+    }
+
+    /// `insert_here` by Linux rules.
+    #[inline(never)]
+    fn insert_by_linux(&mut self, task: Option<u16>, insert: Insert, flags: u64) -> u64
         requires notes { length self.old.notes < 4096 }
         requires few { self.old.queues.pushes < 2 ^ 63 }
         ensures answer { result ≡ insert_answer self.old task insert flags }
@@ -243,6 +261,77 @@ impl World {
             return self.pass_over(flags);
         }
         self.insert_now(task, &insert, flags)
+    }
+
+    /// `insert_here`, in order of arrival.
+    #[inline(never)]
+    pub(crate) fn insert_in_order(
+        &mut self,
+        task: Option<u16>,
+        queue: u64,
+        slice: u64,
+        flags: u64,
+    ) -> u64
+        requires notes { length self.old.notes < 4096 }
+        requires few { self.old.queues.pushes < 2 ^ 63 }
+        ensures answer { result
+            ≡ insert_answer self.old task (insert_in_order self.old queue slice flags) flags }
+        ensures world { self.new
+            ≡ after_insert self.old task (insert_in_order self.old queue slice flags) flags }
+        ensures notes { length self.new.notes ≤ length self.old.notes + 1 }
+        ensures few { self.new.queues.pushes ≤ self.old.queues.pushes + 1 }
+    {
+        self.insert_here(task, self.in_order(queue, slice, flags), flags)
+    }
+
+    /// The insert in order of arrival into that queue, with that slice and those flags.
+    #[inline(always)]
+    fn in_order(&self, queue: u64, slice: u64, flags: u64) -> Insert
+        ensures { result ≡ insert_in_order self.now queue slice flags }
+    {
+        Insert {
+            queue,
+            slice,
+            rank: arrival_rank(flags),
+            preempts: has_preempt(flags),
+            refills: self.is_by_linux(),
+        }
+    }
+
+    /// `insert_here`, by that virtual time.
+    #[inline(never)]
+    pub(crate) fn insert_by_vtime(
+        &mut self,
+        task: Option<u16>,
+        queue: u64,
+        slice: u64,
+        vtime: u64,
+        flags: u64,
+    ) -> u64
+        requires notes { length self.old.notes < 4096 }
+        requires few { self.old.queues.pushes < 2 ^ 63 }
+        ensures answer { result
+            ≡ insert_answer self.old task (insert_by_vtime self.old queue slice vtime) flags }
+        ensures world { self.new
+            ≡ after_insert self.old task (insert_by_vtime self.old queue slice vtime) flags }
+        ensures notes { length self.new.notes ≤ length self.old.notes + 1 }
+        ensures few { self.new.queues.pushes ≤ self.old.queues.pushes + 1 }
+    {
+        self.insert_here(task, self.by_vtime(queue, slice, vtime), flags)
+    }
+
+    /// The insert by virtual time into that queue, with that slice.
+    #[inline(always)]
+    fn by_vtime(&self, queue: u64, slice: u64, vtime: u64) -> Insert
+        ensures { result ≡ insert_by_vtime self.now queue slice vtime }
+    {
+        Insert {
+            queue,
+            slice,
+            rank: Rank::Vtime(vtime),
+            preempts: false,
+            refills: self.is_by_linux(),
+        }
     }
 
     /// Inserts the task, unless that is a fault.

@@ -1,10 +1,7 @@
 ghost use Rattle.std.specs.Prelude.{◌≡◌};
-ghost use Rattle.scx_sched_world.specs.Helpers.{number_of, task_of, insert_of, insert_of_vtime, world_functions, room_of, spent_of};
+ghost use Rattle.scx_sched_world.specs.Helpers.{number_of, task_of, world_functions, room_of, spent_of};
 
-use crate::call::Insert;
-use crate::flags::{arrival_rank, has_preempt};
 use crate::world::World;
-use scx_dsq::Rank;
 use scx_isa::{Field, Helper, TaskId};
 use scx_vm::{Answer, Arg, Env};
 
@@ -21,14 +18,17 @@ impl Env for World {
         match helper {
             Helper::KtimeGetNs => Answer::Num(self.clock * 1_000_000),
             Helper::CreateDsq => Answer::Num(self.create(first)),
-            Helper::DsqInsert => Answer::Num(self.insert_here(
+            Helper::DsqInsert => Answer::Num(self.insert_in_order(
                 given_task(arguments[0]),
-                self.insert_of(arguments),
+                given_number(arguments[1]),
+                given_number(arguments[2]),
                 given_number(arguments[3]),
             )),
-            Helper::DsqInsertVtime => Answer::Num(self.insert_here(
+            Helper::DsqInsertVtime => Answer::Num(self.insert_by_vtime(
                 given_task(arguments[0]),
-                self.insert_of_vtime(arguments),
+                given_number(arguments[1]),
+                given_number(arguments[2]),
+                given_number(arguments[3]),
                 given_number(arguments[4]),
             )),
             Helper::DsqMoveToLocal => Answer::Num(self.move_to_local(first)),
@@ -84,37 +84,6 @@ impl Env for World {
             | Field::Group
             | Field::RunNs
             | Field::Cpus => {}
-        }
-    }
-}
-
-impl World {
-    /// The insert in order of arrival that these arguments ask for.
-    #[inline(always)]
-    fn insert_of(&self, arguments: &[Arg; 5]) -> Insert
-        ensures { result ≡ insert_of self.now arguments.now }
-    {
-        let flags = given_number(arguments[3]);
-        Insert {
-            queue: given_number(arguments[1]),
-            slice: given_number(arguments[2]),
-            rank: arrival_rank(flags),
-            preempts: has_preempt(flags),
-            refills: self.is_by_linux(),
-        }
-    }
-
-    /// The insert by virtual time that these arguments ask for.
-    #[inline(always)]
-    fn insert_of_vtime(&self, arguments: &[Arg; 5]) -> Insert
-        ensures { result ≡ insert_of_vtime self.now arguments.now }
-    {
-        Insert {
-            queue: given_number(arguments[1]),
-            slice: given_number(arguments[2]),
-            rank: Rank::Vtime(given_number(arguments[3])),
-            preempts: false,
-            refills: self.is_by_linux(),
         }
     }
 }

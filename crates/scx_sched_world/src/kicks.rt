@@ -4,7 +4,7 @@ ghost use Rattle.scx_sched_world.specs.Helpers.{kick_of};
 /// A way to kick a CPU, so that it looks for work.
 #[derive(Clone, Copy)]
 pub enum Kick {
-    /// Whether or not a task runs there.
+    /// It may be idle or run a task.
     Any,
     /// If it is idle.
     IfIdle,

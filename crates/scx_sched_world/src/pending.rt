@@ -1,10 +1,11 @@
-ghost use Rattle.std.specs.Prelude.{◌≡◌, ◌≢◌, ℕ, true, false, ◌<◌, length, Some};
+ghost use Rattle.std.specs.Prelude.{◌≡◌, ◌≢◌, ◌==◌, ℕ, true, false, ◌<◌, length, Some};
 ghost use Rattle.std.specs.Int.{bit_at};
 ghost use Rattle.scx_sched_world.specs.Ids.{local_on};
 ghost use Rattle.scx_sched_world.specs.Kept.{HoldPending};
+ghost use Rattle.scx_sched_world.specs.Tasks.{local_len};
 ghost use Rattle.scx_sched_world.specs.Pending.{has_local, is_pending, first_pending};
 
-use crate::ids::LOCAL_ON;
+use crate::ids::{LOCAL_ON, LOCAL_PLACES};
 use crate::world::{World, lowest_bit, with_bit};
 
 /// The CPUs that look for work as an event by Linux rules ends.
@@ -73,10 +74,26 @@ impl World {
 
     /// True if a task waits in the local queue of the CPU.
     #[inline(always)]
+    #[tactic(auto, using(crate::proofs::Places::local_stands, crate::proofs::Settled::local_by_front))]
     pub fn has_local(&self, cpu: u32) -> bool
         ensures { result ≡ has_local self.now cpu }
     {
-        self.local_len(cpu) > 0
+        let queue = LOCAL_ON + u64::from(cpu);
+        if (cpu as usize) < self.cpus.len() {
+            self.queues
+                .front_at(LOCAL_PLACES + cpu as usize, queue)
+                .is_some()
+        } else {
+            self.queues.front(queue).is_some()
+        }
+    }
+
+    /// True if no task waits in the local queue of the CPU.
+    #[inline(always)]
+    pub fn is_local_empty(&self, cpu: u32) -> bool
+        ensures { result ≡ (local_len self.now cpu == 0) }
+    {
+        !self.has_local(cpu)
     }
 }
 

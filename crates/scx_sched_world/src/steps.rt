@@ -1,7 +1,8 @@
-ghost use Rattle.std.specs.Prelude.{◌≡◌, ℕ, ◌+◌, ◌^◌, ◌<◌, ◌≤◌, length, is_some, IfSome};
+ghost use Rattle.std.specs.Prelude.{◌≡◌, ℕ, ◌+◌, ◌^◌, ◌<◌, ◌≤◌, length, false, is_some, IfSome};
+ghost use Rattle.scx_dsq.specs.declared.entries.Entry.{Entry};
 ghost use Rattle.scx_dsq.specs.declared.entries.Rank.TheVariants.{Fifo};
 ghost use Rattle.scx_dsq.specs.Calls.{after_push};
-ghost use Rattle.scx_dsq.specs.Queues.{IsQueueAt, entry_of, is_in, front_of, len_of, behind_of};
+ghost use Rattle.scx_dsq.specs.Queues.{IsQueueAt, Waits, entry_of, is_in, front_of, len_of, behind_of};
 ghost use Rattle.scx_weights.specs.Hierarchy.{own_weight};
 ghost use Rattle.scx_weights.specs.Limits.{usage_of, with_use};
 ghost use Rattle.scx_weights.specs.Refusals.{max_weight};
@@ -285,6 +286,7 @@ impl World {
     }
 
     /// The task that runs on the CPU of that local queue loses its slice.
+    #[inline(never)]
     fn preempt_at(&mut self, queue: u64)
         ensures world { self.new ≡ after_preempt_at self.old (local_cpu self.old queue) }
         ensures few { self.new.queues.pushes ≡ self.old.queues.pushes }
@@ -296,8 +298,8 @@ impl World {
         }
     }
 
-    /// That task, which runs on the CPU, loses its slice, and the CPU looks for work as the event ends; not where its
-    /// own cycle is under way.
+    /// A task that runs on the CPU loses its slice, and the CPU looks for work as the event ends; not where its own cycle
+    /// is under way.
     fn preempt_of(&mut self, cpu: u32, task: Option<u16>)
         ensures world { self.new ≡ after_preempt_of self.old cpu task }
         ensures few { self.new.queues.pushes ≡ self.old.queues.pushes }
@@ -364,7 +366,9 @@ impl World {
     /// True if a task waits in the global queue.
     #[inline(always)]
     fn has_global(&self) -> bool
-        ensures { result ≡ is_some (front_of self.now.queues global) }
+        ensures front { result ≡ is_some (front_of self.now.queues global) }
+        ensures nobody { result ≡ false
+            → (t : ℕ) (p : Entry) → ¬ Waits self.now.queues global t p }
     {
         self.queues.front_at(GLOBAL_PLACE, GLOBAL).is_some()
     }
@@ -399,7 +403,7 @@ impl World {
         ensures world { self.new ≡ after_fill self.old queue cpu }
         ensures few { self.new.queues.pushes ≤ self.old.queues.pushes + 1 }
     {
-        if self.local_len(cpu) > 0 {
+        if self.has_local(cpu) {
             return None;
         }
         let first = self.next_for(queue, cpu)?;
@@ -411,7 +415,23 @@ impl World {
     /// Where the local queue is empty the first task of the queue of all CPUs that may run on this one comes to it, and
     /// is answered.
     #[inline(always)]
+    #[tactic(auto, using(crate::proofs::Empty::fill_nobody))]
     pub fn fill_global(&mut self, cpu: u32) -> Option<u16>
+        requires few { self.old.queues.pushes < 2 ^ 63 }
+        ensures answer { result ≡ fill_front self.old global cpu }
+        ensures world { self.new ≡ after_fill self.old global cpu }
+        ensures few { self.new.queues.pushes ≤ self.old.queues.pushes + 1 }
+    {
+        if self.has_global() {
+            self.fill_from_global(cpu)
+        } else {
+            None
+        }
+    }
+
+    /// `fill_global`, where a task waits in that queue.
+    #[inline(never)]
+    fn fill_from_global(&mut self, cpu: u32) -> Option<u16>
         requires few { self.old.queues.pushes < 2 ^ 63 }
         ensures answer { result ≡ fill_front self.old global cpu }
         ensures world { self.new ≡ after_fill self.old global cpu }
@@ -433,10 +453,7 @@ impl World {
         ensures world { self.new ≡ brought (unbound_front self.old global cpu) self.old cpu }
         ensures few { self.new.queues.pushes ≤ self.old.queues.pushes + 1 }
     {
-        if !self.has_global() {
-            return None;
-        }
-        if self.local_len(cpu) > 0 {
+        if self.has_local(cpu) {
             return None;
         }
         let task = self.pop_global()?;
@@ -635,6 +652,23 @@ impl World {
         if (task as usize) >= self.tasks.len() {
             return Some(0);
         }
+        if self.is_limited() {
+            return self.run_limited(task);
+        }
+        self.charge_ms(task);
+        Some(self.run_ms(task))
+    }
+
+    /// `run_and_use_ms` of a task that there is, where a group has a quota.
+    #[inline(never)]
+    fn run_limited(&mut self, task: u16) -> Option<u64>
+        requires known { task < length self.old.tasks }
+        requires early { (task_at self.old task).run_ns < 2 ^ 63 }
+        requires used { (g : ℕ) → usage_of self.old.tree g < 2 ^ 63 }
+        ensures answer { result ≡ slice_left self.new task }
+        ensures world { self.new ≡ used_ms (after_tick self.old task) task }
+        ensures few { self.new.queues.pushes ≡ self.old.queues.pushes }
+    {
         let left = self.run_ms(task);
         self.charge_ms(task);
         if self.tree.throttled(u32::from(task)) {

@@ -15,7 +15,7 @@ use crate::call::{Insert, KeptCall};
 use crate::counting;
 use crate::cpu_set::CpuSet;
 use crate::eject::{Cause, Eject};
-use crate::ids::{BUILTIN, GLOBAL, HELD, LOCAL_ON, PARKED};
+use crate::ids::{BUILTIN, GLOBAL, HELD, LOCAL_ON, PARKED, PARKED_PLACE};
 use crate::notes::{Note, What};
 use crate::passing::{Passing, Switch};
 use crate::pending::unsettle;
@@ -560,7 +560,7 @@ impl World {
 
     /// True if all parked tasks are throttled. They are looked at only where that isn't known: after a period of a
     /// throttled group has begun.
-    #[inline(never)]
+    #[inline(always)]
     pub fn are_parked_throttled(&mut self) -> bool
         ensures throttled { result ≡ true → NobodyIsFree self.old }
         ensures all { NobodyIsFree self.old → result ≡ true }
@@ -570,8 +570,26 @@ impl World {
         if self.parked_throttled {
             return true;
         }
+        self.learn_parked()
+    }
+
+    /// `are_parked_throttled`, where it isn't known yet.
+    #[inline(never)]
+    fn learn_parked(&mut self) -> bool
+        ensures throttled { result ≡ true → NobodyIsFree self.old }
+        ensures all { NobodyIsFree self.old → result ≡ true }
+        ensures world { self.new ≡ self.old }
+        ensures few { self.new.queues.pushes ≡ self.old.queues.pushes }
+    {
         self.parked_throttled = self.is_nobody_free();
         self.parked_throttled
+    }
+
+    /// True if no task is parked.
+    fn is_nobody_parked(&self) -> bool
+        ensures { result ≡ true → NobodyIsFree self.now }
+    {
+        self.queues.front_at(PARKED_PLACE, PARKED).is_none()
     }
 
     /// True if no parked task may run again.
@@ -580,6 +598,9 @@ impl World {
             → (t : ℕ) → t < length self.now.tasks → StaysParked self.now t }
         ensures all { NobodyIsFree self.now → result ≡ true }
     {
+        if self.is_nobody_parked() {
+            return true;
+        }
         for task in 0..self.tasks() {
             if !self.stays_parked(task) {
                 return false;

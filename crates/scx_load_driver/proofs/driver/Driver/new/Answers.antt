@@ -21,6 +21,7 @@ invariant_of-result-2 c =
     record {
       room = omega (arith, c.in_ok-with_capacity.ensures.exact);
       taken = omega arith;
+      ticked = λ ticks. absurd (cc);
       few_cpus = omega (arith, c.cpus-cpus.ensures, whole.few_cpus);
       cpu = omega arith;
       few_tasks = omega (arith, ap length timings, whole.timed, whole.few_tasks);

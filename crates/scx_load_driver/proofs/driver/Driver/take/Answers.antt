@@ -26,6 +26,7 @@ invariant_of-self-else-self c =
     record {
       room = whole.room;
       taken = omega (arith, some);
+      ticked = λ ticks. absurd (omega (arith, some, whole.ticked ticks));
       few_cpus = whole.few_cpus;
       cpu = whole.cpu;
       few_tasks = whole.few_tasks;

@@ -11,3 +11,6 @@ loop-task-preserved c t l =
     let same : c.loop-task.task ≡ t = omega (arith, last, l) in
     subst (λ k. StaysParked c.args.self.now k) same (c.stays_parked.ensures.throttled (search rules)))
     (cases_lt t c.loop-task.task)
+
+pub returns-then-is_nobody_parked-clause-throttled : goal.returns-then-is_nobody_parked-clause-throttled
+returns-then-is_nobody_parked-clause-throttled c known t l = c.is_nobody_parked.ensures c.if-is_nobody_parked.true t

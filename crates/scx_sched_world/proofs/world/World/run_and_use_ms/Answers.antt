@@ -1,22 +1,23 @@
-use Rattle.std.proofs.Common.{◌≡◌, ◌<◌, ◌∙◌, Some, length, inl, inr, sym, ap, arith}
-use Rattle.scx_weights.specs.Limits.{with_use, is_throttled}
-use Rattle.scx_sched_world.specs.Tasks.{slice_left}
-use Rattle.scx_sched_world.specs.World.{WorldState, with_tree}
-use Rattle.scx_sched_world.proofs.Records.{left_after}
-use Rattle.scx_sched_world.proofs.world.World.run_and_use_ms.Goals.{then-throttled, else-throttled}
+use Rattle.std.proofs.Common.{◌≡◌, ◌<◌, false, Some, length, sym, ap, ◌∙◌, arith}
+use Rattle.scx_weights.specs.Limits.{with_use, has_quota}
+use Rattle.scx_sched_world.specs.Tasks.{ran_a_tick, after_tick, slice_left}
+use Rattle.scx_sched_world.specs.World.{WorldState, task_at}
+use Rattle.scx_sched_world.proofs.Records.{used_then_ran, left_unlimited}
 use Rattle.scx_sched_world.proofs.world.World.run_and_use_ms.Goals as goal
+
+pub returns-clause-world : goal.returns-clause-world
+returns-clause-world c =
+    let w = c.args.self.now in
+    let t = c.args.task in
+    let known : t < length w.tasks = rw (← c.self.view_is) (omega arith) in
+    c.run_ms.ensures.world ∙ ap (λ (x : WorldState). after_tick x t) c.charge_ms.ensures ∙ used_then_ran w t known
 
 pub returns-clause-answer : goal.returns-clause-answer
 returns-clause-answer c =
     let w = c.args.self.now in
     let t = c.args.task in
     let known : t < length w.tasks = rw (← c.self.view_is) (omega arith) in
-    let ran = c.run_ms-left.ensures.world in
-    let throttled : c.throttled.result ≡ is_throttled (with_use w.tree t) t =
-    c.throttled.ensures ∙ (ap (λ k. is_throttled c.self-2.inside.tree k) c.from.ensures
-    ∙ (ap (λ (x : WorldState). is_throttled x.tree t) (c.self-2.view_is ∙ c.charge_ms.ensures) ∙ ap (λ (x : WorldState). is_throttled (with_use x.tree t) t) ran)) in
-    let after = ap (λ (x : WorldState). slice_left x t) (c.charge_ms.ensures ∙ ap (λ (x : WorldState). with_tree x (with_use x.tree t)) ran) in
-    elim c.if-throttled.branch [
-      | then-throttled b ↦ left_after w (with_use w.tree t) t c.throttled.result c.if-throttled.result known throttled (inl (b.if-throttled.true, b.result-is)) ∙ sym after
-      | else-throttled b ↦ left_after w (with_use w.tree t) t c.throttled.result c.if-throttled.result known throttled (inr (b.if-throttled.false, b.result-is ∙ ap Some c.run_ms-left.ensures.answer)) ∙ sym after
-    ]
+    let tree = with_use w.tree t in
+    let none : has_quota tree.groups ≡ false = sym c.is_limited.ensures ∙ c.if-is_limited.false in
+    let new = c.run_ms.ensures.world ∙ ap (λ (x : WorldState). after_tick x t) c.charge_ms.ensures in
+    ap Some (c.run_ms.ensures.answer ∙ ap (λ (x : WorldState). (ran_a_tick (task_at x t)).slice) c.charge_ms.ensures) ∙ left_unlimited w tree t known none ∙ ap (λ (x : WorldState). slice_left x t) (sym new)
