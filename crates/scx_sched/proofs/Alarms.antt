@@ -1,6 +1,6 @@
 -- By Linux rules, while the policy is in force, each timer that was started is due later than the clock: it is as it is
 -- started, and as the clock grows each that is due runs once, by number.
-use Rattle.std.proofs.Common.{◌≡◌, ℕ, zero, suc, ◌+◌, ◌<◌, ◌≤◌, Bool, true, false, ◌&&◌, if◌then◌else◌, nat_lt, nat_le, ◌⊎◌, inl, inr, List, length, replicate, set, get_or, Option, Some, None, is_none, Ok, refl, sym, ap, ◌∙◌, subst, arith}
+use Rattle.std.proofs.Common.{◌≡◌, ℕ, zero, suc, ◌+◌, ◌<◌, ◌≤◌, Bool, true, false, ◌&&◌, if◌then◌else◌, nat_lt, nat_le, ◌⊎◌, inl, inr, List, length, set, get_or, Option, Some, None, is_none, Ok, refl, sym, ap, ◌∙◌, subst, arith}
 use Rattle.std.proofs.lemmas.Bool.{cases_eq, cases_lt}
 use Rattle.std.proofs.lemmas.Bool.Decides.{nat_tests}
 use Rattle.std.proofs.lemmas.List.{length-set, length-replicate, get_or-set_same, get_or-set_other, get_or_past, set_past}
@@ -28,8 +28,8 @@ use Rattle.scx_sched.specs.Kept.{IsKeptBySteps}
 use Rattle.scx_sched.specs.Ranges.{IsFine}
 use Rattle.scx_sched.specs.Timers.{AreTimersLater}
 use Rattle.scx_sched.proofs.Fine.{fine_steps}
-use Rattle.scx_sched.proofs.First.{steps_started}
-use Rattle.scx_sched.proofs.Skeleton.{keeps_eject, keeps_timer, keeps_timer_called}
+use Rattle.scx_sched.proofs.First.{none_started, steps_started}
+use Rattle.scx_sched.proofs.Skeleton.{keeps_eject, keeps_call_by_linux, keeps_timer, due_started}
 use Rattle.scx_sched.proofs.Letting.{keeps_let_all_go}
 use Rattle.scx_sched.proofs.Watching.{Both, alone_events}
 use Rattle.scx_sched.proofs.Events.{IsKeptByEvents, IsKeptByTick, IsTaken, Wakes, Sleeps, Ticks, Clocks, Weighs, WeighsTask, is_taken, IsFineNow, inside_of, fine_events, one_more, fine_later, fine_ticked, fine_clock, fine_reweighed, keeps_now, keeps_wake, keeps_sleep, keeps_tick, keeps_reweigh, keeps_with_rounds}
@@ -133,17 +133,17 @@ module _ (n e k m : ℕ) (on : List (Option ℕ)) where
       steps : IsKeptBySteps n (IsRightAndDue n e k (suc i))
       steps = (due_events n e k (suc i)).steps
 
-      runs : (a : Alarm) → IsOnTime (suc i) (fires (Some a) s i).state
-      runs a =
+      runs : (a : Alarm) → a.cpu < length on → IsOnTime (suc i) (fires (Some a) s i).state
+      runs a l =
           let v = with_world s (after_fire s.world i) in
           let clear : IsRightAndDue n e k (suc i) m None on (with_timer s.world i None) = record { one = (fine_steps n e).cancelled m None on s.world i h.one; two = due_cleared n k i s.world h.two } in
           let x = keeps_timer n (IsRightAndDue n e k (suc i)) steps m None on (with_timer s.world i None) (Some i) clear in
-          keeps_timer n (IsRightAndDue n e k (suc i)) steps m None on (call_by_linux v callback.Timer (one_number i) 0 a.cpu).state.world None (keeps_timer_called n (IsRightAndDue n e k (suc i)) steps m None on v (one_number i) a.cpu x)
+          keeps_timer n (IsRightAndDue n e k (suc i)) steps m None on (call_by_linux v callback.Timer (one_number i) 0 a.cpu).state.world None (keeps_call_by_linux n (IsRightAndDue n e k (suc i)) steps m None on v callback.Timer (one_number i) 0 a.cpu l x)
 
       go : (b : Bool) → is_by_linux s ≡ b → (o : Option Alarm) → due_now s.world (alarm_at s.world i) ≡ o → IsOnTime (suc i) (fires (if b then o else None) s i).state
       go false plain o x = record { one = h.one; two = due_plain n k i (suc i) s.world plain h.two }
       go true linux None x = record { one = h.one; two = due_passed n k i s.world x h.two }
-      go true linux (Some a) x = runs a
+      go true linux (Some a) x = runs a (h.one.sound.here.timed i a (due_started s.world i a x))
 
   due_fire_below : (i : ℕ) (s : State) → IsOnTime 0 s → IsOnTime i (fire_below i s).state
   due_fire_below zero s h = h
@@ -239,11 +239,6 @@ timers_step n e s v tasks ok fine late = later_of n many (event_step s v).state.
     go _ (WeighsTask t x within) = k.steps.more e None _ _ (keeps_now n I k e _ (s.world.cpus, keeps_reweigh n I k e s t x (omega (arith, within, tasks)) h))
 
 -- ---- at first
-
-none_started : (k i : ℕ) → get_or (replicate {A = Option Alarm} k None) i None ≡ None
-none_started zero i = refl
-none_started (suc k) zero = refl
-none_started (suc k) (suc i) = none_started k i
 
 -- a machine that is made has no timer that is due
 pub timers_first : (p : PolicyState) (tree : Hierarchy) (cpus : ℕ) (t : State) → is_bad_shape tree cpus ≡ false → first_state p tree cpus ≡ Ok t → AreTimersLater t.world

@@ -401,7 +401,7 @@ module _ (on : List (Option ℕ)) (n : ℕ) where
 
   allowed_helper : (w : WorldState) (f : Helper) (a : List Arg) → length w.cpus ≡ length on → IsAllowedIn on n w → IsAllowedIn on n (helper_after w f a)
   allowed_helper w f a many h =
-      kept_apart (IsAllowedIn on n) (λ v x m a b c d ts r l. record { runs = l.runs; local = l.local; home = l.home; asks = l.asks }) w h (λ q. allowed_created w q h)
+      kept_apart (IsAllowedIn on n) (λ v x m a b c d r l. record { runs = l.runs; local = l.local; home = l.home; asks = l.asks }) w h (λ i o new. record { runs = h.runs; local = h.local; home = h.home; asks = h.asks }) (λ q. allowed_created w q h)
       (λ t i flags back none. allowed_inserted on n w t i flags many none h) (λ q here low. allowed_moved on n w (next_for w q w.call.cpu) (λ t e. (next_seen w q w.call.cpu t e).may) h) f a
 
   -- whatever a program asks

@@ -13,7 +13,7 @@ use Rattle.scx_sched_world.specs.declared.eject.Eject.{Eject}
 use Rattle.scx_sched_world.specs.declared.notes.Note.{Note}
 use Rattle.scx_sched_world.specs.declared.passing.Passing.{Passing}
 use Rattle.scx_sched_world.specs.Ids.{parked_queue, local_on}
-use Rattle.scx_sched_world.specs.World.{WorldState, with_queues, with_tree, with_task, task_at, with_cpu, at_callback}
+use Rattle.scx_sched_world.specs.World.{WorldState, with_queues, with_tree, with_task, task_at, with_cpu, with_waker, at_callback}
 use Rattle.scx_sched_world.specs.Tasks.{with_since, with_slice, to_local, on_cpu, after_leave, fill_front, after_own_weight}
 use Rattle.scx_sched_world.specs.Helpers.{with_insert}
 use Rattle.scx_sched_world.specs.Ejecting.{put_out, builtin_vtime, used_vtime, at_most_64_bits, after_catch_up}
@@ -44,7 +44,7 @@ module _ (n : ℕ) (P : WorldState → Type 0) (k : KeepsAlone n P) where
   alone_call w x notes h = k.rest w w.cpus w.cycling w.passing w.claimed w.kicked w.preempted w.tree x w.builtin_clock notes h
 
   alone_cycles : KeepsCycles P
-  alone_cycles w o claimed x h = k.rest w w.cpus o x claimed w.kicked w.preempted w.tree w.call w.builtin_clock w.notes h
+  alone_cycles w o claimed x waker h = k.rest w w.cpus o x claimed w.kicked w.preempted w.tree w.call w.builtin_clock w.notes h
 
   alone_builtin : KeepsBuiltin P
   alone_builtin w t h = k.builtin w t default_slice (builtin_vtime w t) h
@@ -74,7 +74,9 @@ module _ (n : ℕ) (P : WorldState → Type 0) (k : KeepsAlone n P) where
     moved = λ m hand on w b h. alone_call w (with_moved w b).call w.notes h;
     cancelled = λ m hand on w i h. k.queries.timed w i None (λ a e. absurd (cc)) h;
     cycling = λ m hand on w o h. kept_cycling P alone_cycles w o h;
-    sets = λ m hand on w a b c d o h. k.rest w w.cpus w.cycling o a b c w.tree (with_sets w a b c d o).call w.builtin_clock w.notes h;
+    ended = λ m hand on w h. k.rest w w.cpus None w.passing w.claimed w.kicked w.preempted w.tree w.call w.builtin_clock w.notes h;
+    sets = λ m hand on w a b c d o waker h. k.rest w w.cpus w.cycling o a b c w.tree (with_sets w a b c d o).call w.builtin_clock w.notes h;
+    wakes = λ m hand on w o l h. k.rest w w.cpus w.cycling (with_waker w o).passing w.claimed w.kicked w.preempted w.tree w.call w.builtin_clock w.notes h;
     homed = λ m hand on w t c l may h. k.queries.touched w t (task_at w t).slice (task_at w t).vtime c h;
     sliced = λ m hand on w t s h. alone_slice w t s h;
     wants = λ m hand on w c l calm may h. alone_call w (with_insert w (to_local c)).call w.notes h;

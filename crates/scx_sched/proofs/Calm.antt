@@ -24,7 +24,7 @@ pub record IsCalm (v w : WorldState) : Type 0 where
 
 module _ (v : WorldState) where
   calm_apart : KeepsApart (IsCalm v)
-  calm_apart w x m a b c d ts r h = record { entries = h.entries; pushes = h.pushes; tree = h.tree; ejected = h.ejected; callback = h.callback }
+  calm_apart w x m a b c d r h = record { entries = h.entries; pushes = h.pushes; tree = h.tree; ejected = h.ejected; callback = h.callback }
 
   calm_created : (w : WorldState) (q : ℕ) → IsCalm v w → IsCalm v (with_queues w (after_create w.queues q))
   calm_created w q h = keeps_if (λ (s : QueueState). IsCalm v (with_queues w s)) (is_none (create_refusal w.queues q)) (with_queue w.queues q) w.queues (record { entries = h.entries; pushes = h.pushes; tree = h.tree; ejected = h.ejected; callback = h.callback }) (record { entries = h.entries; pushes = h.pushes; tree = h.tree; ejected = h.ejected; callback = h.callback })
@@ -37,7 +37,7 @@ module _ (v : WorldState) where
       go false e = record { entries = h.entries; pushes = h.pushes; tree = h.tree; ejected = h.ejected; callback = h.callback }
 
   calm_helper : (w : WorldState) (f : Helper) (a : List Arg) → IsCalm v w → IsCalm v (helper_after w f a)
-  calm_helper w f a h = kept_apart (IsCalm v) calm_apart w h (λ q. calm_created w q h) (λ t i flags back none. calm_inserted w t i h) (λ q here low. absurd (is_not here)) f a
+  calm_helper w f a h = kept_apart (IsCalm v) calm_apart w h (λ i o new. record { entries = h.entries; pushes = h.pushes; tree = h.tree; ejected = h.ejected; callback = h.callback }) (λ q. calm_created w q h) (λ t i flags back none. calm_inserted w t i h) (λ q here low. absurd (is_not here)) f a
     where
       is_not : is_dispatch w.call.callback ≡ true → ⊥
       is_not here = let x : true ≡ false = sym here ∙ h.callback in cc

@@ -31,7 +31,7 @@ use Rattle.scx_sched.proofs.Leaving.{LeavesPlainly, out_is_plain}
 use Rattle.scx_sched.proofs.Blaming.{plain_on, honest_stopping, honest_supply, honest_builtin_fill, way_plain, honest_makes_way}
 use Rattle.scx_sched.proofs.Ready.{ready_leave, picked_makes_way, linux_in_force}
 use Rattle.scx_sched.proofs.Supplying.{park_left, park_next_from, clear_from, IsThrottledIn, throttled_is, throttled_next_is, supply_clears, builtin_clears}
-use Rattle.scx_sched.proofs.Skeleton.{IsKnown, once_for, keeps_call_back, keeps_stopping, keeps_running_on, keeps_put, keeps_kicked, keeps_switched, keeps_call_by_linux, keeps_out_of_cycle}
+use Rattle.scx_sched.proofs.Skeleton.{IsKnown, once_for, keeps_call_back, keeps_stopping, keeps_running_on, keeps_put, keeps_kicked, keeps_switched, keeps_call_by_linux}
 use Rattle.scx_sched.proofs.Sound.{place_known}
 use Rattle.scx_sched.specs.Allowed.{IsAllowedIn}
 use Rattle.scx_sched.proofs.Placing.{may_as, may_put}
@@ -437,7 +437,7 @@ module _ (n : ℕ) (I : ℕ → Option ℕ → List (Option ℕ) → WorldState 
   keeps_becomes_idle m on s c l free h =
       let v = with_world s (out_of_cycle s.world) in
       let r = call_by_linux v callback.UpdateIdle (two_numbers c 1) 0 c in
-      keeps_idle_or_anew m on r.state c l free (keeps_call_by_linux n I k.steps m None on v callback.UpdateIdle (two_numbers c 1) 0 c l (keeps_out_of_cycle n I k.steps m None on s.world h))
+      keeps_idle_or_anew m on r.state c l free (keeps_call_by_linux n I k.steps m None on v callback.UpdateIdle (two_numbers c 1) 0 c l (k.steps.ended m None on s.world h))
 
   -- no task runs on a processor that falls idle
   nobody_runs : (s : State) (c : ℕ) (ran : Bool) → falls_idle s c ran ≡ true → running s.world c ≡ None

@@ -20,7 +20,7 @@ use Rattle.scx_sched_world.specs.World.{WorldState, with_tree, switch_at, with_s
 use Rattle.scx_sched_world.specs.declared.call.Insert.{Insert}
 use Rattle.scx_sched_world.specs.declared.timers.Alarm.{Alarm}
 use Rattle.scx_sched_world.specs.Pending.{is_pending, pending_below, first_pending}
-use Rattle.scx_sched_world.specs.Helpers.{is_dispatch, with_timer, after_fire}
+use Rattle.scx_sched_world.specs.Helpers.{is_dispatch, alarm_at, due_now, with_timer, after_fire}
 use Rattle.scx_sched_world.specs.Tasks.{homed, for_cpu, after_cut_off, after_wake, after_sleep, after_leave, after_stop, let_go, ran_a_tick, after_tick, used_ms, later, begun_periods, after_reweigh, after_own_weight}
 use Rattle.scx_sched_machine.specs.declared.events.Event.{Event}
 use Rattle.scx_sched_machine.specs.declared.events.Event.TheVariants.{Wake, Sleep, Tick, Clock, SetWeight, SetTaskWeight}
@@ -43,7 +43,7 @@ use Rattle.scx_sched.proofs.Sound.{sound_woken, sound_left, sound_stopped, sound
 use Rattle.scx_sched.proofs.Parking.{sound_let_go, sound_used_ms, sound_begun_periods}
 use Rattle.scx_sched.proofs.Bounded.{within_used, within_used_up, within_turned, within_reweighed, most_used, most_turned, within_own}
 use Rattle.scx_sched.proofs.Homes.{home_is_there, lowest_is_there, home_may, choice_may, target_may}
-use Rattle.scx_sched.proofs.Skeleton.{keeps_eject, keeps_call_back, keeps_call_by_linux, keeps_waker, keeps_stopping, keeps_settled, keeps_homed, keeps_kicked_if_idle, keeps_timer, keeps_timer_called}
+use Rattle.scx_sched.proofs.Skeleton.{keeps_eject, keeps_call_back, keeps_call_by_linux, keeps_waker, keeps_stopping, keeps_settled, keeps_homed, keeps_kicked_if_idle, keeps_timer, due_started}
 use Rattle.scx_sched.proofs.Clear.{tree_free, tree_used_up}
 use Rattle.scx_sched.proofs.Ready.{calm_call_back, linux_in_force, not_out}
 use Rattle.scx_sched.proofs.Remembering.{remembers}
@@ -193,7 +193,7 @@ module _ (n : ℕ) (I : ℕ → Option ℕ → List (Option ℕ) → WorldState 
   unfolding wake_target
   keeps_wake_target m on s c l h =
       keeps_if Kept (is_by_linux s) (stays (kicked_if_idle (woken s) c)) (if is_idle s.world c then cycle s c None false else stays s)
-      (keeps_now m (kicked_if_idle (woken s) c).world (on, keeps_kicked_if_idle n I k.steps m None on (woken s) c (keeps_waker n I k.steps m None on s.world None h))) (go (is_idle s.world c) refl)
+      (keeps_now m (kicked_if_idle (woken s) c).world (on, keeps_kicked_if_idle n I k.steps m None on (woken s) c (keeps_waker n I k.steps m None on s.world None (λ d e. absurd (cc)) h))) (go (is_idle s.world c) refl)
     where
       Kept : Stepped → Type 0
       Kept r = I m None r.state.world.cpus r.state.world
@@ -286,7 +286,7 @@ module _ (n : ℕ) (I : ℕ → Option ℕ → List (Option ℕ) → WorldState 
       sound = k.sound m (Some t) on w h
 
       claimed : (c : ℕ) → I m (Some t) on (after_claim w (Some c))
-      claimed c = keeps_if (I m (Some t) on) (world.is_by_linux w) _ w (k.steps.sets m (Some t) on w (and_cpu w.claimed c) w.kicked w.preempted (and_cpu w.call.claims c) w.passing h) h
+      claimed c = keeps_if (I m (Some t) on) (world.is_by_linux w) _ w (k.steps.sets m (Some t) on w (and_cpu w.claimed c) w.kicked w.preempted (and_cpu w.call.claims c) w.passing (λ d e. e) h) h
 
       still : (c : ℕ) → is_dispatch (after_claim w (Some c)).call.callback ≡ false
       still c = keeps_if (λ (v : WorldState). is_dispatch v.call.callback ≡ false) (world.is_by_linux w) _ w calm calm
@@ -350,7 +350,7 @@ module _ (n : ℕ) (I : ℕ → Option ℕ → List (Option ℕ) → WorldState 
   unfolding select settle_at_home
   keeps_select m on s t within h =
       keeps_if (λ (r : Stepped). I m None r.state.world.cpus r.state.world) (asks_target s t) (ask_target s t) (settle_at_home s t c) (keeps_ask_target m on s t within h)
-      (keeps_settle m on (with_world s (at_callback s.world callback.SelectCpu t c)) t c refl (home_may s.world t (task_at s.world t).prev_cpu home ((k.allowed m (Some t) on s.world h).home t within)) within l (k.steps.begun m (Some t) on s.world callback.SelectCpu t c (λ other. l) h))
+      (keeps_settle m on (with_world s (at_callback s.world callback.SelectCpu t c)) t c refl (home_may s.world t (task_at s.world t).prev_cpu home ((k.allowed m (Some t) on s.world h).home t within)) within l (k.steps.begun m (Some t) on s.world callback.SelectCpu t c l h))
     where
       c : ℕ
       c = first_home s.world t
@@ -369,7 +369,10 @@ module _ (n : ℕ) (I : ℕ → Option ℕ → List (Option ℕ) → WorldState 
   unfolding from_waker
   keeps_from_waker m on s t h =
       let o = Some (task_at s.world t).prev_cpu in
-      keeps_if (λ (r : State). I m (Some t) on r.world) (is_by_linux s) (with_world s (with_waker s.world o)) s (keeps_waker n I k.steps m (Some t) on s.world o h) h
+      keeps_if (λ (r : State). I m (Some t) on r.world) (is_by_linux s) (with_world s (with_waker s.world o)) s (keeps_waker n I k.steps m (Some t) on s.world o (λ c e. subst (λ d. d < length on) (same e) ((k.sound m (Some t) on s.world h).homes t)) h) h
+    where
+      same : {a b : ℕ} → Some a ≡ Some b → a ≡ b
+      same e = cc
 
   -- a task that wakes
   pub keeps_wake : (m : ℕ) (s : State) (t : ℕ) → t < n → is_runnable s.world t ≡ false → I m None s.world.cpus s.world → I m None (wake s t).state.world.cpus (wake s t).state.world
@@ -383,13 +386,13 @@ module _ (n : ℕ) (I : ℕ → Option ℕ → List (Option ℕ) → WorldState 
   -- dispatch is to be told of the task
   keeps_told : (m : ℕ) (on : List (Option ℕ)) (s : State) (t : ℕ) → I m None on s.world → I m None on (told_of_sleep s t).world
   unfolding told_of_sleep
-  keeps_told m on s t h = keeps_if (λ (r : State). I m None on r.world) (is_by_linux s) (with_world s (with_slept s.world t)) s (k.steps.sets m None on s.world s.world.claimed s.world.kicked s.world.preempted s.world.call.claims (record s.world.passing { slept = Some t }) h) h
+  keeps_told m on s t h = keeps_if (λ (r : State). I m None on r.world) (is_by_linux s) (with_world s (with_slept s.world t)) s (k.steps.sets m None on s.world s.world.claimed s.world.kicked s.world.preempted s.world.call.claims (record s.world.passing { slept = Some t }) (λ d e. e) h) h
 
   -- a task that leaves its processor has been the current one there
   pub keeps_stop_switch : (m : ℕ) (on : List (Option ℕ)) (w : WorldState) (c t : ℕ) → I m (Some t) on (after_stop w c t) → I m (Some t) on (after_stop (with_switch w c) c t)
   keeps_stop_switch m on w c t h =
       let x = record w.passing { switching = switch_at w c } in
-      keeps_if (λ (v : WorldState). I m (Some t) on (after_stop v c t)) (world.is_by_linux w) (record w { passing = x }) w (k.steps.sets m (Some t) on (after_stop w c t) w.claimed w.kicked w.preempted w.call.claims x h) h
+      keeps_if (λ (v : WorldState). I m (Some t) on (after_stop v c t)) (world.is_by_linux w) (record w { passing = x }) w (k.steps.sets m (Some t) on (after_stop w c t) w.claimed w.kicked w.preempted w.call.claims x (λ d e. e) h) h
 
   pub keeps_leaves_cpu : (m : ℕ) (on : List (Option ℕ)) (s : State) (c t x : ℕ) → c < length on → I m (Some t) on (after_stop s.world c t) → I (m + 1) (Some t) on (leaves_cpu s c t x).state.world
   unfolding leaves_cpu
@@ -491,7 +494,7 @@ module _ (n : ℕ) (I : ℕ → Option ℕ → List (Option ℕ) → WorldState 
       v = with_world s (without_kick s.world c)
 
       kept : Charged m v
-      kept = k.steps.sets (m + 1) None s.world.cpus s.world s.world.claimed (but_cpu s.world.kicked c) (but_cpu s.world.preempted c) s.world.call.claims s.world.passing h
+      kept = k.steps.sets (m + 1) None s.world.cpus s.world s.world.claimed (but_cpu s.world.kicked c) (but_cpu s.world.preempted c) s.world.call.claims s.world.passing (λ d e. e) h
 
       cut : (b : Bool) (t : ℕ) → running s.world c ≡ Some t → Charged m (look_past (cut_off_if b v t) c t).state
       cut false t at = keeps_look_past m v c t force l at kept
@@ -607,16 +610,20 @@ module _ (n : ℕ) (I : ℕ → Option ℕ → List (Option ℕ) → WorldState 
   -- ---- the clock
 
   -- a timer that runs
-  keeps_fires : (m : ℕ) (on : List (Option ℕ)) (o : Option Alarm) (s : State) (j : ℕ) → I m None on s.world → I m None on (fires o s j).state.world
-  keeps_fires m on None s j h = h
-  keeps_fires m on (Some a) s j h =
+  keeps_fires : (m : ℕ) (on : List (Option ℕ)) (o : Option Alarm) (s : State) (j : ℕ) → ((a : Alarm) → o ≡ Some a → a.cpu < length on) → I m None on s.world → I m None on (fires o s j).state.world
+  keeps_fires m on None s j there h = h
+  keeps_fires m on (Some a) s j there h =
       let v = with_world s (after_fire s.world j) in
       let x = keeps_timer n I k.steps m None on (with_timer s.world j None) (Some j) (k.steps.cancelled m None on s.world j h) in
-      keeps_timer n I k.steps m None on (call_by_linux v callback.Timer (one_number j) 0 a.cpu).state.world None (keeps_timer_called n I k.steps m None on v (one_number j) a.cpu x)
+      keeps_timer n I k.steps m None on (call_by_linux v callback.Timer (one_number j) 0 a.cpu).state.world None (keeps_call_by_linux n I k.steps m None on v callback.Timer (one_number j) 0 a.cpu (there a refl) x)
 
   keeps_fire : (m : ℕ) (on : List (Option ℕ)) (s : State) (j : ℕ) → I m None on s.world → I m None on (fire s j).state.world
-  unfolding fire
-  keeps_fire m on s j h = keeps_fires m on (due s j) s j h
+  unfolding fire due
+  keeps_fire m on s j h = keeps_fires m on (due s j) s j (λ a e. (k.sound m None on s.world h).here.timed j a (started a (is_by_linux s) e)) h
+    where
+      started : (a : Alarm) (b : Bool) → (if b then due_now s.world (alarm_at s.world j) else None) ≡ Some a → alarm_at s.world j ≡ Some a
+      started a true e = due_started s.world j a e
+      started a false e = absurd (cc)
 
   keeps_fire_below : (m : ℕ) (on : List (Option ℕ)) (j : ℕ) (s : State) → I m None on s.world → I m None on (fire_below j s).state.world
   keeps_fire_below m on zero s h = h
@@ -711,8 +718,14 @@ module _ (n : ℕ) (I : ℕ → Option ℕ → List (Option ℕ) → WorldState 
   -- a task that has another weight
   pub keeps_reweigh : (m : ℕ) (s : State) (t x : ℕ) → t < n → I m None s.world.cpus s.world → I m None s.world.cpus (reweigh s t x).state.world
   unfolding reweigh reweigh_by_linux
-  keeps_reweigh m s t x within h = keeps_if (λ (y : Stepped). I m None s.world.cpus y.state.world) (is_by_linux s) (record r { state = woken r.state }) (stays (with_world s (after_own_weight s.world t x))) (keeps_waker n I k.steps m None s.world.cpus r.state.world None done) (k.weighed m None s.world.cpus s.world t x h)
+  keeps_reweigh m s t x within h = keeps_if (λ (y : Stepped). I m None s.world.cpus y.state.world) (is_by_linux s) (record r { state = woken r.state }) (stays (with_world s (after_own_weight s.world t x))) (keeps_waker n I k.steps m None s.world.cpus r.state.world None (λ d e. absurd (cc)) done) (k.weighed m None s.world.cpus s.world t x h)
     where
+      first : (c x many : ℕ) → Some 0 ≡ Some c → x < many → c < many
+      first c x many e l = omega (arith, same e, l)
+        where
+          same : Some 0 ≡ Some c → 0 ≡ c
+          same e = cc
+
       v : State
       v = with_world s (with_waker s.world (Some 0))
 
@@ -720,7 +733,7 @@ module _ (n : ℕ) (I : ℕ → Option ℕ → List (Option ℕ) → WorldState 
       r = reweigh_at (cpu_of s.world t) v t x
 
       done : I m None s.world.cpus r.state.world
-      done = keeps_reweigh_at m s.world.cpus (cpu_of s.world t) v t x (λ c at. (position-Some (is_this t) s.world.cpus c None at).0) within (keeps_waker n I k.steps m None s.world.cpus s.world (Some 0) h)
+      done = keeps_reweigh_at m s.world.cpus (cpu_of s.world t) v t x (λ c at. (position-Some (is_this t) s.world.cpus c None at).0) within (keeps_waker n I k.steps m None s.world.cpus s.world (Some 0) (λ c e. first c _ _ e ((k.sound m None s.world.cpus s.world h).homes t)) h)
 
 -- ---- what an accepted event may be
 

@@ -14,7 +14,7 @@ use Rattle.scx_sched.specs.Usages.{AreWithin}
 use Rattle.scx_sched.proofs.Marks.{kept_cycling}
 use Rattle.scx_sched.proofs.Bounded.{within_begun, within_ended}
 use Rattle.scx_sched.proofs.Parking.{sound_put_parked, sound_leaves}
-use Rattle.scx_sched.proofs.Sound.{sound_query, sound_begun, sound_quiet, sound_cycling, sound_entered, sound_filled, sound_stopped, sound_started, sound_ran, sound_marks, sound_sets, sound_moves, sound_timers, sound_wants, sound_kept, sound_asleep, sound_put_out, sound_evict, sound_cut, sound_put_builtin, sound_overtaken, sound_charged, given_home, renewed_home}
+use Rattle.scx_sched.proofs.Sound.{sound_query, sound_begun, sound_quiet, sound_cycling, sound_ended, sound_entered, sound_filled, sound_stopped, sound_started, sound_ran, sound_marks, sound_sets, sound_waker, sound_moves, sound_timed, sound_wants, sound_kept, sound_asleep, sound_put_out, sound_evict, sound_cut, sound_put_builtin, sound_overtaken, sound_charged, given_home, renewed_home}
 use Rattle.scx_sched.specs.Allowed.{IsAllowedIn}
 use Rattle.scx_sched.proofs.Allowing.{allowed_query, allowed_begun, allowed_task, allowed_same, allowed_wants, allowed_entered, allowed_filled, allowed_stopped, allowed_started, allowed_ran, allowed_parked, allowed_left, allowed_asleep, allowed_out, allowed_evict, allowed_put_builtin}
 use Rattle.scx_sched.proofs.Queries.{KeepsBuiltin, KeepsQueries, off_queues, kept_enter, kept_brought, kept_query, kept_put_builtin, kept_evict}
@@ -109,9 +109,11 @@ fine_steps n e = record {
   begun = λ m hand on w b t c l h. fine_of n e m hand on _ (sound_begun hand on n w b t c l h.sound) (allowed_begun on n w b t c h.allowed) (range_of n e m hand on w h);
   quiet = λ m hand on w h. fine_of n e m hand on _ (sound_quiet hand on n w h.sound) (record { runs = h.allowed.runs; local = h.allowed.local; home = h.allowed.home; asks = h.allowed.asks }) (range_of n e m hand on w h);
   moved = λ m hand on w b h. fine_of n e m hand on _ (sound_moves hand on n w b h.sound) (record { runs = h.allowed.runs; local = h.allowed.local; home = h.allowed.home; asks = h.allowed.asks }) (range_of n e m hand on w h);
-  cancelled = λ m hand on w t h. fine_of n e m hand on _ (sound_timers hand on n w _ h.sound) (record { runs = h.allowed.runs; local = h.allowed.local; home = h.allowed.home; asks = h.allowed.asks }) (range_of n e m hand on w h);
-  cycling = λ m hand on w o h. fine_of n e m hand on _ (sound_cycling hand on n w o h.sound) (kept_cycling (IsAllowedIn on n) (λ v p a x r. record { runs = r.runs; local = r.local; home = r.home; asks = r.asks }) w o h.allowed) (kept_cycling (IsRange e m on) (λ v p a x r. r) w o (range_of n e m hand on w h));
-  sets = λ m hand on w a b c d o h. fine_of n e m hand on _ (sound_sets hand on n w a b c d o h.sound) (record { runs = h.allowed.runs; local = h.allowed.local; home = h.allowed.home; asks = h.allowed.asks }) (range_of n e m hand on w h);
+  cancelled = λ m hand on w t h. fine_of n e m hand on _ (sound_timed hand on n w t None (λ a e. absurd (cc)) h.sound) (record { runs = h.allowed.runs; local = h.allowed.local; home = h.allowed.home; asks = h.allowed.asks }) (range_of n e m hand on w h);
+  cycling = λ m hand on w o h. fine_of n e m hand on _ (sound_cycling hand on n w o h.sound) (kept_cycling (IsAllowedIn on n) (λ v p a x waker r. record { runs = r.runs; local = r.local; home = r.home; asks = r.asks }) w o h.allowed) (kept_cycling (IsRange e m on) (λ v p a x waker r. r) w o (range_of n e m hand on w h));
+  ended = λ m hand on w h. fine_of n e m hand on _ (sound_ended hand on n w h.sound) (record { runs = h.allowed.runs; local = h.allowed.local; home = h.allowed.home; asks = h.allowed.asks }) (range_of n e m hand on w h);
+  sets = λ m hand on w a b c d o waker h. fine_of n e m hand on _ (sound_sets hand on n w a b c d o waker h.sound) (record { runs = h.allowed.runs; local = h.allowed.local; home = h.allowed.home; asks = h.allowed.asks }) (range_of n e m hand on w h);
+  wakes = λ m hand on w o l h. fine_of n e m hand on _ (sound_waker hand on n w o l h.sound) (record { runs = h.allowed.runs; local = h.allowed.local; home = h.allowed.home; asks = h.allowed.asks }) (range_of n e m hand on w h);
   homed = λ m hand on w t c l may h. fine_of n e m hand on _ ((sound_marks hand on n).homed w t c l h.sound) (allowed_task on n w t (with_home (task_at w t) c) (λ l. may) h.allowed) (range_same e m on w t _ refl refl (range_of n e m hand on w h));
   sliced = λ m hand on w t k h. fine_of n e m hand on _ ((sound_marks hand on n).sliced w t k h.sound) (allowed_same on n w t (with_slice (task_at w t) k) refl h.allowed) (range_same e m on w t _ refl refl (range_of n e m hand on w h));
   wants = λ m hand on w c l calm may h. fine_of n e m hand on _ (sound_wants hand on n w c l calm h.sound) (allowed_wants on n w c may h.allowed) (range_of n e m hand on w h);

@@ -16,6 +16,7 @@ use Rattle.scx_vm.specs.declared.arguments.Args.{Args}
 use Rattle.scx_weights.specs.Hierarchy as tree-of
 use Rattle.scx_weights.specs.Hierarchy.{Hierarchy, is_active_task, is_in_mask}
 use Rattle.scx_weights.specs.Counting.{any_below}
+use Rattle.scx_sched_world.specs.declared.timers.Alarm.{Alarm}
 use Rattle.scx_sched_world.specs.CpuSets.{no_cpus}
 use Rattle.scx_sched_world.specs.World.{WorldState, is_this, at_callback, are_linux, binds, with_task, task_at}
 use Rattle.scx_sched_tasks.specs.declared.task.Task.{Task}
@@ -190,6 +191,15 @@ neither false b e = refl
 both_are : (o : Option Entry) (p : Entry) → o ≡ None → o ≡ Some p → ⊥
 both_are o p x y = absurd (cc)
 
+no_alarm : (a : Alarm) → None ≡ Some a → ⊥
+no_alarm a e = absurd (cc)
+
+-- no timer was started
+pub none_started : (k i : ℕ) → get_or (replicate {A = Option Alarm} k None) i None ≡ None
+none_started zero i = refl
+none_started (suc k) zero = refl
+none_started (suc k) (suc i) = none_started k i
+
 first_is_sound : (p : PolicyState) (tree : Hierarchy) (cpus : ℕ) → HasShape tree cpus → length tree.active ≡ length tree.homes → IsSound None (replicate cpus None) (length tree.homes) (begun_periods (by_policy p (first_world tree cpus)))
 first_is_sound p tree cpus shape flags = record {
   cpus = refl;
@@ -202,7 +212,7 @@ first_is_sound p tree cpus shape flags = record {
   sorted = λ t. rw (nowhere cpus (length tree.homes) t) refl;
   stamped = λ t p e. absurd (both_are (entry_of (first_queues cpus (length tree.homes)) t) p (nowhere cpus (length tree.homes) t) e);
   once = λ t. rw (nobody_runs cpus t, nowhere cpus (length tree.homes) t, sleeps t (cases_lt t (length tree.homes))) refl;
-  here = λ other. rw (length-replicate {A = Option ℕ} cpus None) shape.some;
+  here = record { hand = rw (length-replicate {A = Option ℕ} cpus None) shape.some; wakes = λ c e. absurd (cc); timed = λ i a e. absurd (no_alarm a (sym (none_started p.timers i) ∙ e)) };
   goes = tt;
   behind = λ e. tt;
   waiting = λ t. rw (never_waited (length tree.homes) t, nowhere cpus (length tree.homes) t) refl;
@@ -265,7 +275,7 @@ first_is_allowed p tree cpus shape = record {
 -- whatever small steps keep, and holds before any callback, holds once a machine is made
 blank_started : (I : ℕ → Option ℕ → List (Option ℕ) → WorldState → Type 0) (p : PolicyState) (tree : Hierarchy) (cpus : ℕ) (t : State) → IsKeptBySteps (length tree.homes) I → is_bad_shape tree cpus ≡ false → first_state p tree cpus ≡ Ok t
     → I 0 None (replicate cpus None) (blank p tree cpus).world → I 0 None (replicate cpus None) t.world
-blank_started I p tree cpus t k shape e h = keeps_started cpus (λ s. I 0 None on s.world) keeps (λ s x. k.sets 0 None on s.world no_cpus no_cpus no_cpus s.world.call.claims s.world.passing x) p tree t e h
+blank_started I p tree cpus t k shape e h = keeps_started cpus (λ s. I 0 None on s.world) keeps (λ s x. k.sets 0 None on s.world no_cpus no_cpus no_cpus s.world.call.claims s.world.passing (λ c e. e) x) p tree t e h
   where
     on : List (Option ℕ)
     on = replicate cpus None
@@ -280,7 +290,7 @@ blank_started I p tree cpus t k shape e h = keeps_started cpus (λ s. I 0 None o
     keeps : (s : State) (b : Callback) (a : Args) (t c : ℕ) → IsAnyOf cpus c → I 0 None on s.world → I 0 None on (left_by s b a t c).world
     keeps s b a t c any h =
         let w = at_callback s.world b t c in
-        k.quiet 0 None on (call_ending (acting s b) b a s.maps w).outside (keeps_called (length tree.homes) I k 0 None on (acting s b) b a s.maps w (k.begun 0 None on s.world b t c (λ other. there c any) h))
+        k.quiet 0 None on (call_ending (acting s b) b a s.maps w).outside (keeps_called (length tree.homes) I k 0 None on (acting s b) b a s.maps w (k.begun 0 None on s.world b t c (there c any) h))
 
 -- so does what holds of the first world, and stays whatever the processors of its tasks are
 pub steps_started : (I : ℕ → Option ℕ → List (Option ℕ) → WorldState → Type 0) (p : PolicyState) (tree : Hierarchy) (cpus : ℕ) (t : State) → IsKeptBySteps (length tree.homes) I → ((v : WorldState) (u c : ℕ) → I 0 None (replicate cpus None) v → I 0 None (replicate cpus None) (with_task v u (with_home (task_at v u) c))) → is_bad_shape tree cpus ≡ false → first_state p tree cpus ≡ Ok t

@@ -376,7 +376,7 @@ module _ (n e : ℕ) (c : ℕ) where
       let x = look_leaves m on v p ran still l known runs ((fine_steps n e).cycling m None on s.world (Some c) h) in
       let r = look v c p ran in
       let ends = concluded_plain r.state c ran (plain_on v r (honest_look v c p ran) still) in
-      subst (λ (y : Stepped). LeavesIfIdle c y.state.world) (sym ends) (kept_cycling (LeavesIfIdle c) (λ w o a y g free. let z = g free in record { local = z.local; global = z.global; builtin = z.builtin }) r.state.world None x) idle
+      subst (λ (y : Stepped). LeavesIfIdle c y.state.world) (sym ends) (kept_cycling (LeavesIfIdle c) (λ w o a y waker g free. let z = g free in record { local = z.local; global = z.global; builtin = z.builtin }) r.state.world None x) idle
 
 -- by plain rules the policy hears of no tick
 heard_plain : (s : State) (c t : ℕ) → is_by_linux s ≡ false → tick_heard s c t ≡ stays s

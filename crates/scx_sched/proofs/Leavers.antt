@@ -42,7 +42,7 @@ use Rattle.scx_sched.specs.Ranges.{IsFine}
 use Rattle.scx_sched.specs.Leavers.{TakesToRun, WaitsToRun, TellsOfLeaver, LeaversWait}
 use Rattle.scx_sched.proofs.Marks.{KeepsMarks, Anywhere, kept_local, kept_put}
 use Rattle.scx_sched.proofs.Waiting.{pushed_here, pushed_other, removed_other}
-use Rattle.scx_sched.proofs.Sound.{not_timer, IsFit, is_fit, held_in_dispatch, held_waits, inside, sound_query, sound_begun, place_known}
+use Rattle.scx_sched.proofs.Sound.{IsFit, is_fit, held_in_dispatch, held_waits, inside, sound_query, sound_begun, place_known}
 use Rattle.scx_sched.proofs.Pushes.{takes_held, takes_queued}
 use Rattle.scx_sched.proofs.Unchanged.{eject_sets}
 use Rattle.scx_sched.proofs.Blaming.{eject_calls}
@@ -217,14 +217,14 @@ module _ (on : List (Option ℕ)) (n : ℕ) where
       known = rw (tasks_removed w.queues u) (place_known w.queues q u (e u refl)).0
 
       there : queue_of s' u ≡ Some d
-      there = pushed_here s d u Fifo known (takes_queued None on n w q w.call.cpu u (h.here (not_timer w.call.callback here)) (e u refl) h)
+      there = pushed_here s d u Fifo known (takes_queued None on n w q w.call.cpu u h.here.hand (e u refl) h)
 
       new : (t : ℕ) → leaver x.what ≡ Some t → WaitsToRun s' t
       new t y = subst (WaitsToRun s') (same_task u t y) (d, there, inr (omega arith))
 
   left_helper : (w : WorldState) (f : Helper) (a : List Arg) → IsSound None on n w → Left w → Left (helper_after w f a)
   left_helper w f a h left =
-      kept_apart Left (λ v x m a b c d ts r l. l) w left (λ q. left_created w q left) (λ t i flags back none. left_inserted w t i flags none h left)
+      kept_apart Left (λ v x m a b c d r l. l) w left (λ i o new. left) (λ q. left_created w q left) (λ t i flags back none. left_inserted w t i flags none h left)
       (λ q here low. left_moved w (next_for w q w.call.cpu) q (λ t e. (next_seen w q w.call.cpu t e).there) here low h left) f a
 
   -- with each task in its place
@@ -357,7 +357,7 @@ all_tell n e k s c p there fine =
     r = ejected_for why v
 
     left : SoundAndLeft s.world.cpus n i.outside
-    left = left_called s.world.cpus n d callback.Dispatch a s.maps w (sound_begun None s.world.cpus n s.world callback.Dispatch 0 c (λ other. there) fine.sound, tt)
+    left = left_called s.world.cpus n d callback.Dispatch a s.maps w (sound_begun None s.world.cpus n s.world callback.Dispatch 0 c there fine.sound, tt)
 
 -- the law
 pub leavers_wait : LeaversWait

@@ -16,7 +16,7 @@ use Rattle.scx_sched_world.specs.World.{WorldState, nothing_passes, with_queues,
 use Rattle.scx_sched_world.specs.Tasks.{with_slice, with_home, homed, homed_at, local_cpu, after_local, task_after_insert, rank_by, after_preempt_of, after_preempt_at, after_preempt, after_enter}
 use Rattle.scx_sched_world.specs.Helpers.{kicked_so}
 use Rattle.scx_sched_machine.proofs.Choices.{keeps_if}
-use Rattle.scx_sched.specs.Kept.{with_sets}
+use Rattle.scx_sched.specs.Kept.{with_sets, WakesNoMore}
 
 -- what is kept as the processor or the slice of a task changes, and as sets of processors do; where it matters, the
 -- processor is one that there is
@@ -33,24 +33,24 @@ Anywhere c = Unit {0}
 -- what is kept whichever cycle is under way, whichever processors are claimed, and whatever an event by Linux rules
 -- keeps until it ends
 abbrev pub KeepsCycles : (WorldState → Type 0) → Type 0
-KeepsCycles P = (w : WorldState) (o : Option ℕ) (claimed : CpuSet) (x : Passing) → P w → P (record w { cycling = o; claimed = claimed; passing = x })
+KeepsCycles P = (w : WorldState) (o : Option ℕ) (claimed : CpuSet) (x : Passing) → WakesNoMore w.passing x → P w → P (record w { cycling = o; claimed = claimed; passing = x })
 
 module _ (P : WorldState → Type 0) (k : KeepsCycles P) where
   -- as a processor begins to switch
   pub kept_switch : (w : WorldState) (c : ℕ) → P w → P (with_switch w c)
-  kept_switch w c h = keeps_if P (is_by_linux w) (record w { passing = record w.passing { switching = switch_at w c } }) w (k w w.cycling w.claimed (record w.passing { switching = switch_at w c }) h) h
+  kept_switch w c h = keeps_if P (is_by_linux w) (record w { passing = record w.passing { switching = switch_at w c } }) w (k w w.cycling w.claimed (record w.passing { switching = switch_at w c }) (λ d e. e) h) h
 
   -- as a cycle begins or ends
   pub kept_cycling : (w : WorldState) (o : Option ℕ) → P w → P (with_cycling w o)
-  kept_cycling w None h = keeps_if P (is_by_linux w) (record w { cycling = None; passing = nothing_passes }) (record w { cycling = None }) (k w None w.claimed nothing_passes h) (k w None w.claimed w.passing h)
+  kept_cycling w None h = keeps_if P (is_by_linux w) (record w { cycling = None; passing = nothing_passes }) (record w { cycling = None }) (k w None w.claimed nothing_passes (λ d e. absurd (cc)) h) (k w None w.claimed w.passing (λ d e. e) h)
   kept_cycling w (Some c) h = go (is_by_linux w)
     where
       new : Passing
       new = record w.passing { switching = switch_at w c }
 
       go : (b : Bool) → P (if b then record (if b then record w { passing = new } else w) { cycling = Some c; claimed = but_cpu w.claimed c } else record w { cycling = Some c })
-      go true = k w (Some c) (but_cpu w.claimed c) new h
-      go false = k w (Some c) w.claimed w.passing h
+      go true = k w (Some c) (but_cpu w.claimed c) new (λ d e. e) h
+      go false = k w (Some c) w.claimed w.passing (λ d e. e) h
 
 -- the processor of a local queue is there
 pub local_there : (w : WorldState) (q c : ℕ) → local_cpu w q ≡ Some c → c < length w.cpus

@@ -198,7 +198,7 @@ as_moved w (Some t) apart = as_brought (Some t) w w.call.cpu apart
 
 as_helper : (w : WorldState) (f : Helper) (a : List Arg) → StayParked w (helper_after w f a)
 as_helper w f a =
-    kept_apart (StayParked w) (λ v x m a b c d ts r h. h) w (stay_here w) (as_created w.queues) (λ t i flags back none. as_inserted w t i (is_fit w t i flags none))
+    kept_apart (StayParked w) (λ v x m a b c d r h. h) w (stay_here w) (λ i o new. stay_here w) (as_created w.queues) (λ t i flags back none. as_inserted w t i (is_fit w t i flags none))
     (λ q here low. as_moved w (next_for w q w.call.cpu) (λ t e. next_apart w q w.call.cpu t (ne_eqb q parked_queue (λ x. omega (arith, x, low))) e)) f a
 
 -- as a program asks something of the world, the same tasks stay parked

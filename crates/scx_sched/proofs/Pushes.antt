@@ -14,7 +14,7 @@ use Rattle.scx_sched_world.specs.Ejecting.{builtin_vtime}
 use Rattle.scx_sched.specs.Once.{IsSorted, IsSound}
 use Rattle.scx_sched.proofs.Entering.{nowhere, own_open, is_accepted, sorted_removed, open_removed, open_by, local_sort, stay_removed}
 use Rattle.scx_sched.proofs.Waiting.{waits_there}
-use Rattle.scx_sched.proofs.Sound.{not_timer, is_fit, fit_open, held_waits, held_in_dispatch, wanted_open, removed_place, waits_known, place_known}
+use Rattle.scx_sched.proofs.Sound.{is_fit, fit_open, held_waits, held_in_dispatch, wanted_open, removed_place, waits_known, place_known}
 
 -- in a sound world, the local queue of a processor takes a task of a queue
 pub takes_queued : (hand : Option ℕ) (on : List (Option ℕ)) (n : ℕ) (w : WorldState) (q c t : ℕ) → c < length on → queue_of w.queues t ≡ Some q → IsSound hand on n w → push_refusal (after_remove w.queues t) (local_on c) t Fifo ≡ None
@@ -29,7 +29,7 @@ pub takes_held : (hand : Option ℕ) (on : List (Option ℕ)) (n : ℕ) (w : Wor
 takes_held hand on n w t i flags x e h =
     let fit = is_fit w (Some t) i flags e in
     let here = held_waits w t (held_in_dispatch w (Some t) x fit.may) in
-    is_accepted (after_remove w.queues t) t (queue_for w.call.cpu i.queue) (rank_by w i.rank) here.free (open_by w (after_remove w.queues t) (queue_for w.call.cpu i.queue) i.rank (open_removed w.queues t (queue_for w.call.cpu i.queue) i.rank (fit_open on hand n w (Some t) i w.call.cpu (h.here (not_timer w.call.callback x)) fit h)))
+    is_accepted (after_remove w.queues t) t (queue_for w.call.cpu i.queue) (rank_by w i.rank) here.free (open_by w (after_remove w.queues t) (queue_for w.call.cpu i.queue) i.rank (open_removed w.queues t (queue_for w.call.cpu i.queue) i.rank (fit_open on hand n w (Some t) i w.call.cpu h.here.hand fit h)))
 
 -- the built-in scheduler's queue takes whoever waits nowhere
 takes_builtin : (s : QueueState) (t v : ℕ) → entry_of s t ≡ None → exists s builtin_queue ≡ true → IsSorted s → push_refusal s builtin_queue t (Vtime v) ≡ None
@@ -46,7 +46,7 @@ pub is_push_accepted : (n e m : ℕ) → IsPushAccepted n e m
 is_push_accepted n e m = record {
   put = λ on w t i l x h. is_accepted w.queues t i.queue (rank_by w i.rank) (nowhere w t h.sound.once) (open_by w w.queues i.queue i.rank (wanted_open on n w i (Some t) x h.sound));
   fill = λ on w q c t l x h. takes_queued None on n w q c t l x h.sound;
-  move = λ hand on w q t b x h. takes_queued hand on n w q w.call.cpu t (h.sound.here b) x h.sound;
+  move = λ hand on w q t x h. takes_queued hand on n w q w.call.cpu t h.sound.here.hand x h.sound;
   put_builtin = λ on w t l h. takes_builtin w.queues t (builtin_vtime w t) (nowhere w t h.sound.once) h.sound.queues.builtin h.sound.sorted;
   park = λ on w t l h. is_accepted w.queues t parked_queue Fifo (nowhere w t h.sound.once) (own_open w.queues parked_queue Fifo h.sound.queues.parked (omega arith) refl h.sound.sorted);
   evict = λ hand on w t waits-here h. takes_evicted hand on n w t waits-here h.sound;

@@ -1,6 +1,6 @@
 -- One walk over all that a program asks of the world: what has to be shown of a property, so that a helper call, a
 -- query, the run of a callback, and the moves of an ejection keep it.
-use Rattle.std.proofs.Common.{◌≡◌, ℕ, zero, suc, ◌+◌, ◌<◌, ◌≤◌, Bool, true, false, ◌==◌, ◌&&◌, ◌||◌, if◌then◌else◌, nat_lt, max, List, length, map, Option, Some, None, is_some, is_none, refl, ◌∙◌, subst, arith}
+use Rattle.std.proofs.Common.{◌≡◌, ℕ, zero, suc, ◌+◌, ◌<◌, ◌≤◌, Bool, true, false, ◌==◌, ◌&&◌, ◌||◌, if◌then◌else◌, nat_lt, max, List, length, map, Option, Some, None, is_some, is_none, refl, sym, ap, ◌∙◌, subst, arith}
 use Rattle.std.proofs.lemmas.List.{length-set}
 use Rattle.std.specs.Int.{w64, cast_signed}
 use Rattle.scx_dsq.specs.Queues.{QueueState}
@@ -38,7 +38,7 @@ use Rattle.scx_sched_world.specs.declared.notes.What.{What}
 use Rattle.scx_sched_world.specs.declared.timers.Alarm.{Alarm}
 use Rattle.scx_sched_world.specs.CpuSets.{and_cpu}
 use Rattle.scx_sched_world.specs.Ids.{policy_end, builtin_queue, local_on}
-use Rattle.scx_sched_world.specs.World.{WorldState, with_queues, with_kick, with_task, task_at, running, waits, is_this, is_by_linux, after_claim, with_note, quiet, at_callback}
+use Rattle.scx_sched_world.specs.World.{WorldState, with_queues, with_kick, with_task, task_at, running, waits, is_this, is_by_linux, here, after_claim, with_note, quiet, at_callback}
 use Rattle.scx_sched_world.specs.Tasks.{with_builtin, with_slice, rank_by, given_vtime, task_after_insert, after_leave, after_enter, for_cpu, brought, next_for}
 use Rattle.scx_sched_world.specs.Helpers.{first_cause, with_cause, is_dispatch, with_insert, with_move, insert_fault, after_release, insert_or_fault, moved_to_local, kicked_so, helper_after, stored_in, with_timer, alarm_in, next_random, world_functions}
 use Rattle.scx_sched_world.specs.Ejecting.{eject_of, put_out, builtin_vtime, put_builtin, evict, after_evictions, after_cut, cut_task}
@@ -62,48 +62,54 @@ kept_called P k (Some p) b a maps w h =
 
 -- ---- apart from tasks and queues
 
--- what is kept whichever fault a callback has, whatever it claims, kicks, starts and draws
+-- what is kept whichever fault a callback has, whatever it claims, kicks and draws
 abbrev pub KeepsApart : (WorldState → Type 0) → Type 0
 KeepsApart P =
-    (w : WorldState) (cause : Option Cause) (has_moved : Bool) (claims claimed kicked preempted : CpuSet) (timers : List (Option Alarm)) (random : ℕ) → P w
-    → P (record w { claimed = claimed; kicked = kicked; preempted = preempted; timers = timers; random = random; call = record w.call { has_moved = has_moved; cause = cause; claims = claims } })
+    (w : WorldState) (cause : Option Cause) (has_moved : Bool) (claims claimed kicked preempted : CpuSet) (random : ℕ) → P w
+    → P (record w { claimed = claimed; kicked = kicked; preempted = preempted; random = random; call = record w.call { has_moved = has_moved; cause = cause; claims = claims } })
+
+-- a timer is to run on the processor on which it is started
+starts_here : (x a : Alarm) → Some x ≡ Some a → a.cpu ≡ x.cpu
+starts_here x a e = ap (λ (b : Alarm). b.cpu) (sym (same e))
+  where
+    same : Some x ≡ Some a → x ≡ a
+    same e = cc
 
 module _ (P : WorldState → Type 0) (k : KeepsApart P) (w : WorldState) (h : P w) where
   apart_cause : (x : Cause) → P (with_cause w x)
-  apart_cause x = k w (first_cause w.call.cause x) w.call.has_moved w.call.claims w.claimed w.kicked w.preempted w.timers w.random h
+  apart_cause x = k w (first_cause w.call.cause x) w.call.has_moved w.call.claims w.claimed w.kicked w.preempted w.random h
 
   apart_kick : (c : ℕ) → P (with_kick w c)
-  apart_kick c = k w w.call.cause w.call.has_moved w.call.claims w.claimed (and_cpu w.kicked c) w.preempted w.timers w.random h
+  apart_kick c = k w w.call.cause w.call.has_moved w.call.claims w.claimed (and_cpu w.kicked c) w.preempted w.random h
 
   apart_kicked : (c : ℕ) (x : Kick) → P (kicked_so w c x)
   apart_kicked c Any = apart_kick c
   apart_kicked c IfIdle = keeps_if P (is_none (running w c) || is_this c w.cycling) (with_kick w c) w (apart_kick c) h
-  apart_kicked c Preempt = k w w.call.cause w.call.has_moved w.call.claims w.claimed (and_cpu w.kicked c) (and_cpu w.preempted c) w.timers w.random h
+  apart_kicked c Preempt = k w w.call.cause w.call.has_moved w.call.claims w.claimed (and_cpu w.kicked c) (and_cpu w.preempted c) w.random h
 
   apart_claim : (o : Option ℕ) → P (after_claim w o)
   apart_claim None = h
-  apart_claim (Some c) = keeps_if P (is_by_linux w) _ w (k w w.call.cause w.call.has_moved (and_cpu w.call.claims c) (and_cpu w.claimed c) w.kicked w.preempted w.timers w.random h) h
+  apart_claim (Some c) = keeps_if P (is_by_linux w) _ w (k w w.call.cause w.call.has_moved (and_cpu w.call.claims c) (and_cpu w.claimed c) w.kicked w.preempted w.random h) h
 
-  apart_timer : (n : ℕ) (o : Option Alarm) → P (with_timer w n o)
-  apart_timer n o = k w w.call.cause w.call.has_moved w.call.claims w.claimed w.kicked w.preempted (with_timer w n o).timers w.random h
-
-  -- what is kept apart from tasks and queues is kept by a helper call, where an insert, a move and a new queue keep it
-  pub kept_apart : ((q : ℕ) → P (with_queues w (after_create w.queues q)))
+  -- what is kept apart from tasks, queues and timers is kept by a helper call, where a timer that is started here or
+  -- cancelled, an insert, a move and a new queue keep it
+  pub kept_apart : ((n : ℕ) (o : Option Alarm) → ((a : Alarm) → o ≡ Some a → a.cpu ≡ here w) → P (with_timer w n o))
+      → ((q : ℕ) → P (with_queues w (after_create w.queues q)))
       → ((t : Option ℕ) (i : Insert) (flags : ℕ) → (is_by_linux w ≡ false → IsBehind i.rank) → insert_fault w t i flags ≡ None → P (insert_or_fault w None t i))
       → ((q : ℕ) → is_dispatch w.call.callback ≡ true → q < policy_end → P (moved_to_local w (next_for w q w.call.cpu)))
       → (f : Helper) (a : List Arg) → P (helper_after w f a)
-  kept_apart created inserted moved f a = by_helper P w (record {
+  kept_apart timed created inserted moved f a = by_helper P w (record {
     same = h;
     faulty = λ f other. apart_cause (reason.Fault f);
     ended = λ n. apart_cause (reason.Exit (cast_signed w64 n));
     created = created;
     inserted = inserted;
-    late = λ linux here. k w w.call.cause true w.call.claims w.claimed w.kicked w.preempted w.timers w.random h;
+    late = λ linux here. k w w.call.cause true w.call.claims w.claimed w.kicked w.preempted w.random h;
     claimed = apart_claim;
     kicked = apart_kicked;
-    started = λ n ns. apart_timer n (Some (alarm_in w ns));
-    cancelled = λ n. apart_timer n None;
-    drawn = k w w.call.cause w.call.has_moved w.call.claims w.claimed w.kicked w.preempted w.timers (next_random w.random) h;
+    started = λ n ns. timed n (Some (alarm_in w ns)) (λ a e. starts_here (alarm_in w ns) a e);
+    cancelled = λ n. timed n None (λ a e. absurd (cc));
+    drawn = k w w.call.cause w.call.has_moved w.call.claims w.claimed w.kicked w.preempted (next_random w.random) h;
     moved = moved;
   }) f a
 

@@ -78,7 +78,7 @@ module _ (n : ℕ) (I : ℕ → Option ℕ → List (Option ℕ) → WorldState 
   unfolding call_back
   ready_call_back m hand on s b a t d calm l h r =
       let e = call_ending (acting s b) b a s.maps (at_callback s.world b t d) in
-      ready_ejected_for m hand on (cause_of b e) (after_callback s.policy e) (k.quiet m hand on e.outside (keeps_called n I k m hand on (acting s b) b a s.maps (at_callback s.world b t d) (k.begun m hand on s.world b t d (λ other. l) h)))
+      ready_ejected_for m hand on (cause_of b e) (after_callback s.policy e) (k.quiet m hand on e.outside (keeps_called n I k m hand on (acting s b) b a s.maps (at_callback s.world b t d) (k.begun m hand on s.world b t d l h)))
       (ready_calm c s.world (quiet e.outside) (calm_quiet s.world e.outside (calm_called (acting s b) b a s.maps s.world t d calm)) r)
 
   ready_stopping : (m : ℕ) (hand : Option ℕ) (on : List (Option ℕ)) (s : State) (d t x : ℕ) → d < length on → I m hand on s.world → IsReady c s.world → IsReady c (after_stopping s d t x).state.world
@@ -131,7 +131,7 @@ module _ (n : ℕ) (I : ℕ → Option ℕ → List (Option ℕ) → WorldState 
     unfolding call_back
     picked_call_back m hand on s b a u d calm l h r =
         let e = call_ending (acting s b) b a s.maps (at_callback s.world b u d) in
-        picked_ejected_for m hand on (cause_of b e) (after_callback s.policy e) (k.quiet m hand on e.outside (keeps_called n I k m hand on (acting s b) b a s.maps (at_callback s.world b u d) (k.begun m hand on s.world b u d (λ other. l) h)))
+        picked_ejected_for m hand on (cause_of b e) (after_callback s.policy e) (k.quiet m hand on e.outside (keeps_called n I k m hand on (acting s b) b a s.maps (at_callback s.world b u d) (k.begun m hand on s.world b u d l h)))
         (picked_calm c t s.world (quiet e.outside) (calm_quiet s.world e.outside (calm_called (acting s b) b a s.maps s.world u d calm)) r)
 
     picked_stopping : (m : ℕ) (hand : Option ℕ) (on : List (Option ℕ)) (s : State) (d u x : ℕ) → d < length on → I m hand on s.world → IsPicked c t s.world → IsPicked c t (after_stopping s d u x).state.world
@@ -206,7 +206,7 @@ module _ (n : ℕ) (I : ℕ → Option ℕ → List (Option ℕ) → WorldState 
   unfolding call_back
   tree_call_back m hand on s b a t d calm l h =
       let e = call_ending (acting s b) b a s.maps (at_callback s.world b t d) in
-      tree_ejected_for m hand on (cause_of b e) (after_callback s.policy e) (k.quiet m hand on e.outside (keeps_called n I k m hand on (acting s b) b a s.maps (at_callback s.world b t d) (k.begun m hand on s.world b t d (λ other. l) h)))
+      tree_ejected_for m hand on (cause_of b e) (after_callback s.policy e) (k.quiet m hand on e.outside (keeps_called n I k m hand on (acting s b) b a s.maps (at_callback s.world b t d) (k.begun m hand on s.world b t d l h)))
       ∙ (calm_called (acting s b) b a s.maps s.world t d calm).tree
 
   pub tree_stopping : (m : ℕ) (hand : Option ℕ) (on : List (Option ℕ)) (s : State) (d t x : ℕ) → d < length on → I m hand on s.world → (after_stopping s d t x).state.world.tree ≡ s.world.tree

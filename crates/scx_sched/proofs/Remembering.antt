@@ -36,7 +36,7 @@ module _ (cpus : ℕ) (o : Option Insert) where
 
   remembered_helper : (w : WorldState) (f : Helper) (a : List Arg) → IsRemembered w → IsRemembered (helper_after w f a)
   remembered_helper w f a h =
-      kept_apart IsRemembered (λ v x m a b c d ts r l. l) w h (λ q. (h.0, h.1, goes_on w.queues (after_create w.queues q) cpus o (λ x r y. open_created w.queues q x r y) h.2))
+      kept_apart IsRemembered (λ v x m a b c d r l. l) w h (λ i o new. h) (λ q. (h.0, h.1, goes_on w.queues (after_create w.queues q) cpus o (λ x r y. open_created w.queues q x r y) h.2))
       (λ t i flags back none. absurd (inserts_nothing w t i flags h none)) (λ q here low. absurd (not_dispatch w h here)) f a
 
   remembered_query : (w : WorldState) (q : Query) → IsRemembered w → IsRemembered (after_query world_functions w q)

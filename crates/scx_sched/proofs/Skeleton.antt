@@ -1,15 +1,17 @@
 -- What each small step of a world keeps, callbacks and ejections keep, and a task that is put.
-use Rattle.std.proofs.Common.{◌≡◌, ℕ, ◌+◌, ◌<◌, Bool, true, false, ◌==◌, ◌&&◌, not, if◌then◌else◌, List, length, Option, Some, None, refl, arith}
+use Rattle.std.proofs.Common.{◌≡◌, ℕ, ◌+◌, ◌<◌, Bool, true, false, ◌==◌, ◌&&◌, not, nat_le, if◌then◌else◌, List, length, Option, Some, None, refl, arith}
 use Rattle.scx_isa_semantics.specs.declared.callbacks.Callback.{Callback}
 use Rattle.scx_isa_semantics.specs.declared.callbacks.Callback.TheVariants as callback
 use Rattle.scx_isa_semantics.specs.Elements.{Maps}
 use Rattle.scx_vm.specs.Programs.{VerifiedProgram}
 use Rattle.scx_vm.specs.declared.arguments.Args.{Args}
 use Rattle.scx_sched_world.specs.declared.eject.Eject.{Eject}
+use Rattle.scx_sched_world.specs.declared.timers.Alarm.{Alarm}
 use Rattle.scx_sched_world.specs.CpuSets.{and_cpu}
 use Rattle.scx_sched_world.specs.World as world
-use Rattle.scx_sched_world.specs.World.{WorldState, with_task, switch_at, with_switch, with_waker, task_at, is_idle, nothing_passes, with_timer_at_hand, out_of_cycle, may_run}
+use Rattle.scx_sched_world.specs.World.{WorldState, with_task, switch_at, with_switch, with_waker, task_at, is_idle, with_timer_at_hand, may_run}
 use Rattle.scx_sched_world.specs.Tasks.{with_home, homed, after_switch, for_cpu}
+use Rattle.scx_sched_world.specs.Helpers.{alarm_at, due_now}
 use Rattle.scx_sched_world.specs.Ejecting.{put_out, after_charge, after_catch_up}
 use Rattle.scx_sched_machine.specs.Steps.{State, Stepped, stays, with_world, is_ejected, is_by_linux, kicked, kicked_if_idle}
 use Rattle.scx_sched_machine.specs.Ejecting.{eject}
@@ -28,6 +30,18 @@ use Rattle.scx_sched.proofs.Queries.{KeepsCallbacks, kept_called, kept_eject, ke
 abbrev pub IsKnown : ℕ → Option ℕ → Type 0
 IsKnown n None = Unit {0}
 IsKnown n (Some t) = t < n
+
+-- a timer that is due was started
+pub due_started : (w : WorldState) (j : ℕ) (a : Alarm) → due_now w (alarm_at w j) ≡ Some a → alarm_at w j ≡ Some a
+due_started w j a e = go (alarm_at w j) e
+  where
+    at : (x : Alarm) (b : Bool) → (if b then Some x else None) ≡ Some a → Some x ≡ Some a
+    at x true e = e
+    at x false e = absurd (cc)
+
+    go : (o : Option Alarm) → due_now w o ≡ Some a → o ≡ Some a
+    go None e = e
+    go (Some x) e = at x (nat_le x.due w.clock) e
 
 -- a task before is charged once at most
 abbrev pub once_for : Option ℕ → ℕ → ℕ
@@ -58,13 +72,9 @@ module _ (n : ℕ) (I : ℕ → Option ℕ → List (Option ℕ) → WorldState 
     pub keeps_eject : (s : State) (x : Eject) → I m hand on s.world → I m hand on (eject s x).state.world
     keeps_eject s x h = kept_eject (I m hand on) keeps_callbacks.ejecting s x (k.put_out m hand on s.world x h)
 
-    -- a callback, on a processor that there is, or `timer`
-    pub keeps_call_back_if : (s : State) (b : Callback) (a : Args) (t c : ℕ) → ((b ≡ callback.Timer → ⊥) → c < length on) → I m hand on s.world → I m hand on (call_back s b a t c).state.world
-    keeps_call_back_if s b a t c l h = kept_call_back (I m hand on) keeps_callbacks s b a t c (k.begun m hand on s.world b t c l h)
-
     -- a callback on a processor that there is
     pub keeps_call_back : (s : State) (b : Callback) (a : Args) (t c : ℕ) → c < length on → I m hand on s.world → I m hand on (call_back s b a t c).state.world
-    keeps_call_back s b a t c l h = keeps_call_back_if s b a t c (λ other. l) h
+    keeps_call_back s b a t c l h = kept_call_back (I m hand on) keeps_callbacks s b a t c (k.begun m hand on s.world b t c l h)
 
     pub keeps_stopping : (s : State) (c t x : ℕ) → c < length on → I m hand on s.world → I (m + 1) hand on (after_stopping s c t x).state.world
     unfolding after_stopping
@@ -86,35 +96,23 @@ module _ (n : ℕ) (I : ℕ → Option ℕ → List (Option ℕ) → WorldState 
 
     -- a callback that Linux rules call more
     pub keeps_call_by_linux : (s : State) (b : Callback) (a : Args) (t c : ℕ) → c < length on → I m hand on s.world → I m hand on (call_by_linux s b a t c).state.world
-    keeps_call_by_linux s b a t c l h = kept_call_by_linux (I m hand on) keeps_callbacks s b a t c (k.begun m hand on s.world b t c (λ other. l) h) h
-
-    -- `timer`, wherever it runs
-    pub keeps_timer_called : (s : State) (a : Args) (c : ℕ) → I m hand on s.world → I m hand on (call_by_linux s callback.Timer a 0 c).state.world
-    keeps_timer_called s a c h = kept_call_by_linux (I m hand on) keeps_callbacks s callback.Timer a 0 c (k.begun m hand on s.world callback.Timer 0 c (λ other. absurd (other refl)) h) h
+    keeps_call_by_linux s b a t c l h = kept_call_by_linux (I m hand on) keeps_callbacks s b a t c (k.begun m hand on s.world b t c l h) h
 
     -- a processor that begins to switch
     pub keeps_switch : (w : WorldState) (c : ℕ) → I m hand on w → I m hand on (with_switch w c)
-    keeps_switch w c h = keeps_if (I m hand on) (world.is_by_linux w) (record w { passing = record w.passing { switching = switch_at w c } }) w (k.sets m hand on w w.claimed w.kicked w.preempted w.call.claims (record w.passing { switching = switch_at w c }) h) h
+    keeps_switch w c h = keeps_if (I m hand on) (world.is_by_linux w) (record w { passing = record w.passing { switching = switch_at w c } }) w (k.sets m hand on w w.claimed w.kicked w.preempted w.call.claims (record w.passing { switching = switch_at w c }) (λ d e. e) h) h
 
     -- a processor from which a task is woken, or none
-    pub keeps_waker : (w : WorldState) (o : Option ℕ) → I m hand on w → I m hand on (with_waker w o)
-    keeps_waker w o h = k.sets m hand on w w.claimed w.kicked w.preempted w.call.claims (record w.passing { waker = o }) h
+    pub keeps_waker : (w : WorldState) (o : Option ℕ) → ((c : ℕ) → o ≡ Some c → c < length on) → I m hand on w → I m hand on (with_waker w o)
+    keeps_waker w o l h = k.wakes m hand on w o l h
 
     -- a timer whose callback is at hand, or none
     pub keeps_timer : (w : WorldState) (o : Option ℕ) → I m hand on w → I m hand on (with_timer_at_hand w o)
-    keeps_timer w o h = k.sets m hand on w w.claimed w.kicked w.preempted w.call.claims (record w.passing { timer = o }) h
-
-    -- a cycle that ends, of which all is known still
-    pub keeps_out_of_cycle : (w : WorldState) → I m hand on w → I m hand on (out_of_cycle w)
-    keeps_out_of_cycle w h = go (world.is_by_linux w) (k.cycling m hand on w None h)
-      where
-        go : (b : Bool) → I m hand on (if b then record w { cycling = None; passing = nothing_passes } else record w { cycling = None }) → I m hand on (out_of_cycle w)
-        go true x = k.sets m hand on (record w { cycling = None; passing = nothing_passes }) w.claimed w.kicked w.preempted w.call.claims w.passing x
-        go false x = x
+    keeps_timer w o h = k.sets m hand on w w.claimed w.kicked w.preempted w.call.claims (record w.passing { timer = o }) (λ d e. e) h
 
     -- a processor that is to look for work
     pub keeps_kicked : (s : State) (c : ℕ) → I m hand on s.world → I m hand on (kicked s c).world
-    keeps_kicked s c h = k.sets m hand on s.world s.world.claimed (and_cpu s.world.kicked c) s.world.preempted s.world.call.claims s.world.passing h
+    keeps_kicked s c h = k.sets m hand on s.world s.world.claimed (and_cpu s.world.kicked c) s.world.preempted s.world.call.claims s.world.passing (λ d e. e) h
 
     pub keeps_kicked_if_idle : (s : State) (c : ℕ) → I m hand on s.world → I m hand on (kicked_if_idle s c).world
     keeps_kicked_if_idle s c h = keeps_if (λ (r : State). I m hand on r.world) (is_by_linux s && is_idle s.world c) (kicked s c) s (keeps_kicked s c h) h

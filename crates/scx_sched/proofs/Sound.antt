@@ -1,5 +1,5 @@
 -- What each small step of a world keeps of "exactly once", and of what it rests on.
-use Rattle.std.proofs.Common.{◌≡◌, ℕ, suc, ◌+◌, ◌-◌, ◌<◌, ◌≤◌, Bool, true, false, ◌==◌, nat_lt, nat_le, ◌&&◌, ◌||◌, ◌⊎◌, inl, inr, cond, if◌then◌else◌, List, [], ◌∷◌, length, set, get_or, map, Option, Some, None, is_some, is_none, option_map, refl, sym, ◌∙◌, ap, subst, arith, position}
+use Rattle.std.proofs.Common.{◌≡◌, ℕ, suc, ◌+◌, ◌-◌, ◌<◌, ◌≤◌, Bool, true, false, ◌==◌, nat_lt, nat_le, ◌&&◌, ◌||◌, ◌⊎◌, inl, inr, cond, if◌then◌else◌, List, [], ◌∷◌, length, set, get_or, map, Option, Some, None, is_some, is_none, option_map, unwrap_or, refl, sym, ◌∙◌, ap, subst, arith, position}
 use Rattle.std.proofs.lemmas.Bool.{cases_eq, cases_lt, eq-eqb, ne_eqb, lt-ltb, eqb-true}
 use Rattle.std.proofs.lemmas.Bool.Decides.{nat_tests}
 use Rattle.std.proofs.lemmas.List.{length-set, get_or-set_same, get_or-set_other, get_or_past}
@@ -36,12 +36,12 @@ use Rattle.scx_sched_world.specs.declared.passing.Passing.{Passing}
 use Rattle.scx_sched_world.specs.declared.timers.Alarm.{Alarm}
 use Rattle.scx_sched_world.specs.Ids.{global, local, held_queue, builtin_queue, parked_queue, local_on, policy_end}
 use Rattle.scx_sched_world.specs.Ejecting.{put_out, builtin_vtime, put_builtin, evict, cut_task, after_catch_up, after_charge}
-use Rattle.scx_sched_world.specs.World.{WorldState, is_by_linux, with_queues, with_tree, with_cycling, with_task, task_at, waits_in, waits, is_this, is_runnable, cpu_of, quiet, at_callback, with_note}
+use Rattle.scx_sched_world.specs.World.{WorldState, is_by_linux, with_queues, with_tree, with_cycling, out_of_cycle, with_waker, with_task, task_at, waits_in, waits, is_this, is_runnable, cpu_of, quiet, at_callback, with_note}
 use Rattle.scx_sched_world.specs.Tasks.{with_slice, with_home, rank_by, to_local, to_front, after_local, after_run, after_wake, after_sleep, after_leave, task_after_insert, after_enter, queue_for, for_cpu, to_held, to_global, brought, fill_front, after_fill, local_len, after_stop, started_at, with_new_slice, after_keep, ran_a_tick, after_tick, later, after_own_weight, next_for}
-use Rattle.scx_sched_world.specs.Helpers.{flags_fault, is_dispatch, is_held, may_insert_in, may_insert, queue_fault, is_vtime, rank_fault, or_fault, insert_fault, with_insert, with_move, after_release, insert_or_fault, helper_after, stored_in, world_functions, moved_to_local, placing_fault}
+use Rattle.scx_sched_world.specs.Helpers.{flags_fault, is_dispatch, is_held, may_insert_in, may_insert, queue_fault, is_vtime, rank_fault, or_fault, insert_fault, with_insert, with_move, after_release, insert_or_fault, helper_after, stored_in, with_timer, world_functions, moved_to_local, placing_fault}
 use Rattle.scx_sched_machine.proofs.Choices.{keeps_if}
 use Rattle.scx_sched.specs.Once.{runs, appearances, IsOnce, HasQueues, sort_of, IsSorted, IsAlike, IsOpen, IsBehind, IsSound, GoesSomewhere}
-use Rattle.scx_sched.specs.Kept.{with_sets, with_moved, IsWanted, ForAny, Nowhere, Inserted, InFront, Before}
+use Rattle.scx_sched.specs.Kept.{with_sets, with_moved, WakesNoMore, IsWanted, ForAny, Nowhere, Inserted, InFront, Before}
 use Rattle.scx_sched.proofs.Marks.{KeepsMarks, KeepsCycles, kept_cycling, kept_local, kept_put}
 use Rattle.scx_sched.proofs.Waiting.{waiting, waits_there, without_other, removed_other, same_waiting, waiting_pushed, waiting_left, set_since, one_same, waits_sum, waits_by_sum, since_set, stored_since, given_since, renewed_since, waits_at_hand, waits_asleep, waits_on_cpu, place_waits_here}
 use Rattle.scx_sched.proofs.Entering.{nowhere, sorted_pushed, sorted_popped, sorted_removed, stamped_pushed, stamped_popped, stamped_removed, stamped_created, own_open, alike_from, is_accepted, Stay, stay_pushed, stay_without, stay_removed, stay_created, queues_stay, open_without, open_removed, open_created, open_own, open_same, same_itself, same_key, open_by, goes_on, local_fits, local_sort, low_fits}
@@ -85,16 +85,20 @@ module _ (hand : Option ℕ) (on : List (Option ℕ)) (n : ℕ) where
   sound_task w t x home since h = record { cpus = h.cpus; tasks = length-set w.tasks t x ∙ h.tasks; even = h.even; flags = h.flags; members = h.members; homes = homes_set w.tasks t x (length on) (rw home (h.homes t)) h.homes; queues = h.queues; sorted = h.sorted; stamped = h.stamped; once = h.once; here = h.here; goes = h.goes; behind = h.behind; waiting = λ u. ap is_some (since_set w.tasks t x since u) ∙ h.waiting u; at_once = h.at_once }
 
   -- nor is any task moved by sets of processors, or by what is kept until an event ends
-  pub sound_sets : (w : WorldState) (claimed kicked preempted claims : CpuSet) (passing : Passing) → IsSound hand on n w → IsSound hand on n (with_sets w claimed kicked preempted claims passing)
-  sound_sets w a b c d o h = record { cpus = h.cpus; tasks = h.tasks; even = h.even; flags = h.flags; members = h.members; homes = h.homes; queues = h.queues; sorted = h.sorted; stamped = h.stamped; once = h.once; here = h.here; goes = h.goes; behind = h.behind; waiting = h.waiting; at_once = h.at_once }
+  pub sound_sets : (w : WorldState) (claimed kicked preempted claims : CpuSet) (passing : Passing) → WakesNoMore w.passing passing → IsSound hand on n w → IsSound hand on n (with_sets w claimed kicked preempted claims passing)
+  sound_sets w a b c d o waker h = record { cpus = h.cpus; tasks = h.tasks; even = h.even; flags = h.flags; members = h.members; homes = h.homes; queues = h.queues; sorted = h.sorted; stamped = h.stamped; once = h.once; here = record { hand = h.here.hand; wakes = λ c e. h.here.wakes c (waker c e); timed = h.here.timed }; goes = h.goes; behind = h.behind; waiting = h.waiting; at_once = h.at_once }
+
+  -- nor by the processor from which a task is woken
+  pub sound_waker : (w : WorldState) (o : Option ℕ) → ((c : ℕ) → o ≡ Some c → c < length on) → IsSound hand on n w → IsSound hand on n (with_waker w o)
+  sound_waker w o l h = record { cpus = h.cpus; tasks = h.tasks; even = h.even; flags = h.flags; members = h.members; homes = h.homes; queues = h.queues; sorted = h.sorted; stamped = h.stamped; once = h.once; here = record { hand = h.here.hand; wakes = l; timed = h.here.timed }; goes = h.goes; behind = h.behind; waiting = h.waiting; at_once = h.at_once }
 
   -- it says of the callback at hand that it moved a task, or that it didn't
   pub sound_moves : (w : WorldState) (b : Bool) → IsSound hand on n w → IsSound hand on n (with_moved w b)
   sound_moves w b h = record { cpus = h.cpus; tasks = h.tasks; even = h.even; flags = h.flags; members = h.members; homes = h.homes; queues = h.queues; sorted = h.sorted; stamped = h.stamped; once = h.once; here = h.here; goes = h.goes; behind = h.behind; waiting = h.waiting; at_once = h.at_once }
 
-  -- timers
-  pub sound_timers : (w : WorldState) (ts : List (Option Alarm)) → IsSound hand on n w → IsSound hand on n (record w { timers = ts })
-  sound_timers w ts h = record { cpus = h.cpus; tasks = h.tasks; even = h.even; flags = h.flags; members = h.members; homes = h.homes; queues = h.queues; sorted = h.sorted; stamped = h.stamped; once = h.once; here = h.here; goes = h.goes; behind = h.behind; waiting = h.waiting; at_once = h.at_once }
+  -- a timer, on a processor that is there
+  pub sound_timed : (w : WorldState) (i : ℕ) (o : Option Alarm) → ((a : Alarm) → o ≡ Some a → a.cpu < length on) → IsSound hand on n w → IsSound hand on n (with_timer w i o)
+  sound_timed w i o new h = record { cpus = h.cpus; tasks = h.tasks; even = h.even; flags = h.flags; members = h.members; homes = h.homes; queues = h.queues; sorted = h.sorted; stamped = h.stamped; once = h.once; here = record { hand = h.here.hand; wakes = h.here.wakes; timed = each_written (λ u (b : Option Alarm). (a : Alarm) → b ≡ Some a → a.cpu < length on) w.timers i o None new h.here.timed }; goes = h.goes; behind = h.behind; waiting = h.waiting; at_once = h.at_once }
 
   -- a task's own weight
   pub sound_own_weight : (w : WorldState) (t x : ℕ) → IsSound hand on n w → IsSound hand on n (after_own_weight w t x)
@@ -106,7 +110,7 @@ module _ (hand : Option ℕ) (on : List (Option ℕ)) (n : ℕ) where
     there = λ w c h l. rw (← h.cpus) l;
     homed = λ w t c l h. record { cpus = h.cpus; tasks = length-set w.tasks t (with_home (task_at w t) c) ∙ h.tasks; even = h.even; flags = h.flags; members = h.members; homes = homes_set w.tasks t (with_home (task_at w t) c) (length on) l h.homes; queues = h.queues; sorted = h.sorted; stamped = h.stamped; once = h.once; here = h.here; goes = h.goes; behind = h.behind; waiting = λ u. ap is_some (since_set w.tasks t (with_home (task_at w t) c) refl u) ∙ h.waiting u; at_once = h.at_once };
     sliced = λ w t k h. sound_task w t (with_slice (task_at w t) k) refl refl h;
-    sets = λ w a b c d h. sound_sets w a b c d w.passing h;
+    sets = λ w a b c d h. sound_sets w a b c d w.passing (λ c e. e) h;
   }
 
   -- notes that are handed on
@@ -115,10 +119,14 @@ module _ (hand : Option ℕ) (on : List (Option ℕ)) (n : ℕ) where
 
   -- a cycle that begins or ends
   pub sound_cycling : (w : WorldState) (o : Option ℕ) → IsSound hand on n w → IsSound hand on n (with_cycling w o)
-  sound_cycling w o h = kept_cycling (IsSound hand on n) (λ v p a x h. kept_so v p a x h) w o h
+  sound_cycling w o h = kept_cycling (IsSound hand on n) (λ v p a x waker h. kept_so v p a x waker h) w o h
     where
       kept_so : KeepsCycles (IsSound hand on n)
-      kept_so v p a x h = record { cpus = h.cpus; tasks = h.tasks; even = h.even; flags = h.flags; members = h.members; homes = h.homes; queues = h.queues; sorted = h.sorted; stamped = h.stamped; once = h.once; here = h.here; goes = h.goes; behind = h.behind; waiting = h.waiting; at_once = h.at_once }
+      kept_so v p a x waker h = record { cpus = h.cpus; tasks = h.tasks; even = h.even; flags = h.flags; members = h.members; homes = h.homes; queues = h.queues; sorted = h.sorted; stamped = h.stamped; once = h.once; here = record { hand = h.here.hand; wakes = λ c e. h.here.wakes c (waker c e); timed = h.here.timed }; goes = h.goes; behind = h.behind; waiting = h.waiting; at_once = h.at_once }
+
+  -- one that ends, of which all is known still
+  pub sound_ended : (w : WorldState) → IsSound hand on n w → IsSound hand on n (out_of_cycle w)
+  sound_ended w h = record { cpus = h.cpus; tasks = h.tasks; even = h.even; flags = h.flags; members = h.members; homes = h.homes; queues = h.queues; sorted = h.sorted; stamped = h.stamped; once = h.once; here = h.here; goes = h.goes; behind = h.behind; waiting = h.waiting; at_once = h.at_once }
 
   entry_created : (s : QueueState) (q u : ℕ) → entry_of (after_create s q) u ≡ entry_of s u
   entry_created s q u = keeps_if (λ (x : QueueState). entry_of x u ≡ entry_of s u) (is_none (create_refusal s q)) (with_queue s q) s refl refl
@@ -298,14 +306,15 @@ given_home x i = given_so x (λ y. y.prev_cpu ≡ x.prev_cpu) (λ s v. refl) i
 pub inside : (n : ℕ) (w : WorldState) (t : ℕ) → t < n → length w.tasks ≡ n → nat_lt t (length w.tasks) ≡ true
 inside n w t within e = let l : t < length w.tasks = rw e within in grind (arith, nat_tests, l)
 
--- dispatch isn't `timer`
-pub not_timer : (b : Callback) → is_dispatch b ≡ true → b ≡ callback.Timer → ⊥
-not_timer b x e = let bad : false ≡ true = sym (ap is_dispatch e) ∙ x in absurd (cc)
+-- the processor on which the callback at hand runs, or from which it wakes a task, is there
+here_is_there : (cpus at : ℕ) (o : Option ℕ) → at < cpus → ((c : ℕ) → o ≡ Some c → c < cpus) → unwrap_or o at < cpus
+here_is_there cpus at None l wakes = l
+here_is_there cpus at (Some c) l wakes = wakes c refl
 
 module _ (hand : Option ℕ) (on : List (Option ℕ)) (n : ℕ) where
   -- what a callback does apart from tasks and queues
   sound_apart : KeepsApart (IsSound hand on n)
-  sound_apart w x m a b c d ts r h = record { cpus = h.cpus; tasks = h.tasks; even = h.even; flags = h.flags; members = h.members; homes = h.homes; queues = h.queues; sorted = h.sorted; stamped = h.stamped; once = h.once; here = h.here; goes = h.goes; behind = h.behind; waiting = h.waiting; at_once = h.at_once }
+  sound_apart w x m a b c d r h = record { cpus = h.cpus; tasks = h.tasks; even = h.even; flags = h.flags; members = h.members; homes = h.homes; queues = h.queues; sorted = h.sorted; stamped = h.stamped; once = h.once; here = h.here; goes = h.goes; behind = h.behind; waiting = h.waiting; at_once = h.at_once }
 
   -- a task goes from one queue to another
   sound_replaced : (w : WorldState) (t q : ℕ) (r : Rank) (x : Task) → x.prev_cpu ≡ (task_at w t).prev_cpu → x.since ≡ (task_at w t).since → waits_in (queue_of w.queues t) ≡ true → t < task_count w.queues → entry_of (after_remove w.queues t) t ≡ None → IsOpen w.queues q r → (q == parked_queue) ≡ false
@@ -351,18 +360,18 @@ module _ (hand : Option ℕ) (on : List (Option ℕ)) (n : ℕ) where
       go true x None fit = h
       go true x (Some u) fit =
           sound_moving (after_enter (after_leave w u) u (for_cpu w.call.cpu i)) _
-          (sound_released w u (for_cpu w.call.cpu i) (h.at_once x) (held_waits w u (held_in_dispatch w (Some u) x fit.may)) (fit_open on hand n w (Some u) i w.call.cpu (h.here (not_timer w.call.callback x)) fit h) (fit_apart w i.queue w.call.cpu fit.queue) h)
+          (sound_released w u (for_cpu w.call.cpu i) (h.at_once x) (held_waits w u (held_in_dispatch w (Some u) x fit.may)) (fit_open on hand n w (Some u) i w.call.cpu h.here.hand fit h) (fit_apart w i.queue w.call.cpu fit.queue) h)
       go false x u fit = record { cpus = h.cpus; tasks = h.tasks; even = h.even; flags = h.flags; members = h.members; homes = h.homes; queues = h.queues; sorted = h.sorted; stamped = h.stamped; once = h.once; here = h.here; goes = λ c l. (fit_open on hand n w u i c l fit h, fit_apart w i.queue c fit.queue); behind = back; waiting = h.waiting; at_once = λ y. absurd (cc (sym x ∙ y)) }
 
   sound_moved : (w : WorldState) (o : Option ℕ) (q : ℕ) → is_dispatch w.call.callback ≡ true → ((t : ℕ) → o ≡ Some t → queue_of w.queues t ≡ Some q) → (q == parked_queue) ≡ false → IsSound hand on n w → IsSound hand on n (moved_to_local w o)
   sound_moved w None q x e apart h = h
   sound_moved w (Some t) q x e apart h =
-      let here = h.here (not_timer w.call.callback x) in
+      let here = h.here.hand in
       sound_moving (after_local (after_leave w t) w.call.cpu t) _ (kept_local (λ c. c < length on) (IsSound hand on n) (sound_marks hand on n) (after_leave w t) w.call.cpu t here (sound_brought hand on n w q (local_on w.call.cpu) t (e t refl) (h.queues.locals w.call.cpu here) (omega arith) (local_sort w.call.cpu) apart (ne_eqb (local_on w.call.cpu) parked_queue (λ x. omega (arith, x))) h))
 
   sound_helper : (w : WorldState) (f : Helper) (a : List Arg) → IsSound hand on n w → IsSound hand on n (helper_after w f a)
   sound_helper w f a h =
-      kept_apart (IsSound hand on n) sound_apart w h (λ q. sound_created hand on n w q h) (λ t i flags back none. sound_inserted w t i back (is_fit w t i flags none) h)
+      kept_apart (IsSound hand on n) sound_apart w h (λ i o new. sound_timed hand on n w i o (λ a e. rw (new a e) (here_is_there (length on) w.call.cpu w.passing.waker h.here.hand h.here.wakes)) h) (λ q. sound_created hand on n w q h) (λ t i flags back none. sound_inserted w t i back (is_fit w t i flags none) h)
       (λ q here low. sound_moved w (next_for w q w.call.cpu) q here (λ t e. (next_seen w q w.call.cpu t e).there) (ne_eqb q parked_queue (λ x. omega (arith, x, low))) h) f a
 
   -- whatever a program asks
@@ -372,8 +381,8 @@ module _ (hand : Option ℕ) (on : List (Option ℕ)) (n : ℕ) where
   sound_query w (Store t f k) h = sound_task hand on n w t.0 (stored_in (task_at w t.0) f k) (stored_home (task_at w t.0) f k) (stored_since (task_at w t.0) f k) h
 
   -- a callback that begins
-  pub sound_begun : (w : WorldState) (b : Callback) (t c : ℕ) → ((b ≡ callback.Timer → ⊥) → c < length on) → IsSound hand on n w → IsSound hand on n (at_callback w b t c)
-  sound_begun w b t c l h = record { cpus = h.cpus; tasks = h.tasks; even = h.even; flags = h.flags; members = h.members; homes = h.homes; queues = h.queues; sorted = h.sorted; stamped = h.stamped; once = h.once; here = l; goes = tt; behind = λ e. tt; waiting = h.waiting; at_once = λ e. refl }
+  pub sound_begun : (w : WorldState) (b : Callback) (t c : ℕ) → c < length on → IsSound hand on n w → IsSound hand on n (at_callback w b t c)
+  sound_begun w b t c l h = record { cpus = h.cpus; tasks = h.tasks; even = h.even; flags = h.flags; members = h.members; homes = h.homes; queues = h.queues; sorted = h.sorted; stamped = h.stamped; once = h.once; here = record { hand = l; wakes = h.here.wakes; timed = h.here.timed }; goes = tt; behind = λ e. tt; waiting = h.waiting; at_once = λ e. refl }
 
   -- where no program chose a processor, the task is to come into the local queue of one
   pub sound_wants : (w : WorldState) (c : ℕ) → c < length on → is_dispatch w.call.callback ≡ false → IsSound hand on n w → IsSound hand on n (with_insert w (to_local c))
@@ -736,7 +745,7 @@ module _ (on : List (Option ℕ)) (n : ℕ) where
 module _ (hand : Option ℕ) (on : List (Option ℕ)) (n : ℕ) where
   -- what the callback at hand wanted is forgotten
   pub sound_put_out : (w : WorldState) (x : Eject) → IsSound hand on n w → IsSound hand on n (put_out w x)
-  sound_put_out w x h = record { cpus = h.cpus; tasks = h.tasks; even = h.even; flags = h.flags; members = h.members; homes = h.homes; queues = h.queues; sorted = h.sorted; stamped = h.stamped; once = h.once; here = h.here; goes = tt; behind = λ e. tt; waiting = h.waiting; at_once = λ e. refl }
+  sound_put_out w x h = record { cpus = h.cpus; tasks = h.tasks; even = h.even; flags = h.flags; members = h.members; homes = h.homes; queues = h.queues; sorted = h.sorted; stamped = h.stamped; once = h.once; here = record { hand = h.here.hand; wakes = λ c e. absurd (cc); timed = h.here.timed }; goes = tt; behind = λ e. tt; waiting = h.waiting; at_once = λ e. refl }
 
   -- a task that waits goes over
   pub sound_evict : (w : WorldState) (t : ℕ) → t < n → IsSound hand on n w → IsSound hand on n (evict w t)

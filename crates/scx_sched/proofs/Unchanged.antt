@@ -69,11 +69,11 @@ IsAsRuled v w = (w.clock ≡ v.clock) × (w.ejected ≡ v.ejected) × (w.tree �
 
 -- a processor that begins to switch changes none of these
 pub ruled_switch : (w : WorldState) (c : ℕ) → IsAsRuled w (with_switch w c)
-ruled_switch w c = kept_switch (IsAsRuled w) (λ v p a x h. h) w c (refl, refl, refl, refl)
+ruled_switch w c = kept_switch (IsAsRuled w) (λ v p a x waker h. h) w c (refl, refl, refl, refl)
 
 -- nor does a cycle that begins or ends
 pub ruled_cycling : (w : WorldState) (o : Option ℕ) → IsAsRuled w (with_cycling w o)
-ruled_cycling w o = kept_cycling (IsAsRuled w) (λ v p a x h. h) w o (refl, refl, refl, refl)
+ruled_cycling w o = kept_cycling (IsAsRuled w) (λ v p a x waker h. h) w o (refl, refl, refl, refl)
 
 -- by the same rules, with a policy that is in force or not as before
 pub same_linux : (v w : WorldState) → w.rules ≡ v.rules → w.ejected ≡ v.ejected → is_by_linux w ≡ is_by_linux v

@@ -42,7 +42,9 @@ both_steps n I J a b = record {
   moved = λ m hand on w c h. record { one = a.moved m hand on w c h.one; two = b.moved m hand on w c h.two };
   cancelled = λ m hand on w t h. record { one = a.cancelled m hand on w t h.one; two = b.cancelled m hand on w t h.two };
   cycling = λ m hand on w o h. record { one = a.cycling m hand on w o h.one; two = b.cycling m hand on w o h.two };
-  sets = λ m hand on w c x y z o h. record { one = a.sets m hand on w c x y z o h.one; two = b.sets m hand on w c x y z o h.two };
+  ended = λ m hand on w h. record { one = a.ended m hand on w h.one; two = b.ended m hand on w h.two };
+  sets = λ m hand on w c x y z o waker h. record { one = a.sets m hand on w c x y z o waker h.one; two = b.sets m hand on w c x y z o waker h.two };
+  wakes = λ m hand on w o l h. record { one = a.wakes m hand on w o l h.one; two = b.wakes m hand on w o l h.two };
   homed = λ m hand on w t c l may h. record { one = a.homed m hand on w t c l may h.one; two = b.homed m hand on w t c l may h.two };
   sliced = λ m hand on w t k h. record { one = a.sliced m hand on w t k h.one; two = b.sliced m hand on w t k h.two };
   wants = λ m hand on w c l calm may h. record { one = a.wants m hand on w c l calm may h.one; two = b.wants m hand on w c l calm may h.two };

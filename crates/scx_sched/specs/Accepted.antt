@@ -35,10 +35,8 @@ pub record IsPushAccepted (n e m : ℕ) : Type 0 where
   pub fill : (on : List (Option ℕ)) (w : WorldState) (q c t : ℕ)
       → c < length on → queue_of w.queues t ≡ Some q → IsFine n e m None on w
       → push_refusal (after_remove w.queues t) (local_on c) t Fifo ≡ None
-  -- of a task of a queue, to the local queue of the processor at hand, while a callback runs that
-  -- isn't `timer`
+  -- of a task of a queue, to the local queue of the processor at hand
   pub move : (hand : Option ℕ) (on : List (Option ℕ)) (w : WorldState) (q t : ℕ)
-      → (w.call.callback ≡ callback.Timer → ⊥)
       → queue_of w.queues t ≡ Some q → IsFine n e m hand on w
       → push_refusal (after_remove w.queues t) (local_on w.call.cpu) t Fifo ≡ None
   -- of a held task, while dispatch runs

@@ -4,7 +4,6 @@ use Rattle.std.specs.Prelude.{◌≡◌, ℕ, ◌+◌, ◌==◌, ◌<◌, Bool, 
 use Rattle.scx_dsq.specs.Queues.{front_of, entry_of, is_in, queue_of}
 use Rattle.scx_weights.specs.Limits.{is_throttled}
 use Rattle.scx_isa_semantics.specs.declared.callbacks.Callback.{Callback}
-use Rattle.scx_isa_semantics.specs.declared.callbacks.Callback.TheVariants as callback
 use Rattle.scx_isa_semantics.specs.Effects.{Query}
 use Rattle.scx_vm.specs.Host.{after_query}
 use Rattle.scx_sched_world.specs.declared.call.Insert.{Insert}
@@ -12,7 +11,7 @@ use Rattle.scx_sched_world.specs.declared.cpu_set.CpuSet.{CpuSet}
 use Rattle.scx_sched_world.specs.declared.eject.Eject.{Eject}
 use Rattle.scx_sched_world.specs.declared.passing.Passing.{Passing}
 use Rattle.scx_sched_world.specs.Ids.{parked_queue, local_on}
-use Rattle.scx_sched_world.specs.World.{WorldState, with_cycling, is_by_linux, task_at, with_task, at_callback, quiet, may_run}
+use Rattle.scx_sched_world.specs.World.{WorldState, with_cycling, out_of_cycle, with_waker, is_by_linux, task_at, with_task, at_callback, quiet, may_run}
 use Rattle.scx_sched_world.specs.Tasks.{with_slice, with_home, for_cpu, to_held, to_global, to_local, to_front, after_sleep, after_enter, after_fill, after_stop, started_at, after_run, after_keep, put_parked, after_leave}
 use Rattle.scx_sched_world.specs.Helpers.{is_dispatch, with_insert, with_timer, world_functions}
 use Rattle.scx_sched.specs.Once.{GoesSomewhere}
@@ -34,6 +33,10 @@ with_sets w claimed kicked preempted claims passing = record w {
 -- the world in which the last callback moved a task, or didn't
 abbrev pub with_moved : WorldState → Bool → WorldState
 with_moved w b = record w { call = record w.call { has_moved = b } }
+
+-- no processor wakes tasks that didn't before
+abbrev pub WakesNoMore : (old new : Passing) → Type 0
+WakesNoMore old new = (c : ℕ) → new.waker ≡ Some c → old.waker ≡ Some c
 
 -- where the task at hand may come to wait: for any processor, held, where a callback inserted it,
 -- or, under Linux rules, at the front of a local queue, or where select_cpu inserted it, once the
@@ -60,11 +63,13 @@ pub record IsKeptBySteps (n : ℕ) (I : ℕ → Option ℕ → List (Option ℕ)
       → I m hand on w → I m hand on (after_query world_functions w q)
   pub begun : (m : ℕ) (hand : Option ℕ) (on : List (Option ℕ)) (w : WorldState)
       (b : Callback) (t c : ℕ)
-      → ((b ≡ callback.Timer → ⊥) → c < length on) → I m hand on w → I m hand on (at_callback w b t c)
+      → c < length on → I m hand on w → I m hand on (at_callback w b t c)
   pub quiet : (m : ℕ) (hand : Option ℕ) (on : List (Option ℕ)) (w : WorldState)
       → I m hand on w → I m hand on (quiet w)
   pub cycling : (m : ℕ) (hand : Option ℕ) (on : List (Option ℕ)) (w : WorldState) (o : Option ℕ)
       → I m hand on w → I m hand on (with_cycling w o)
+  pub ended : (m : ℕ) (hand : Option ℕ) (on : List (Option ℕ)) (w : WorldState)
+      → I m hand on w → I m hand on (out_of_cycle w)
   -- whether the last callback moved a task, and a timer that isn't started any more
   pub moved : (m : ℕ) (hand : Option ℕ) (on : List (Option ℕ)) (w : WorldState) (b : Bool)
       → I m hand on w → I m hand on (with_moved w b)
@@ -74,7 +79,10 @@ pub record IsKeptBySteps (n : ℕ) (I : ℕ → Option ℕ → List (Option ℕ)
   -- and a slice
   pub sets : (m : ℕ) (hand : Option ℕ) (on : List (Option ℕ)) (w : WorldState)
       (claimed kicked preempted claims : CpuSet) (passing : Passing)
+      → WakesNoMore w.passing passing
       → I m hand on w → I m hand on (with_sets w claimed kicked preempted claims passing)
+  pub wakes : (m : ℕ) (hand : Option ℕ) (on : List (Option ℕ)) (w : WorldState) (waker : Option ℕ)
+      → ((c : ℕ) → waker ≡ Some c → c < length on) → I m hand on w → I m hand on (with_waker w waker)
   pub homed : (m : ℕ) (hand : Option ℕ) (on : List (Option ℕ)) (w : WorldState) (t c : ℕ)
       → c < length on → may_run w t c ≡ true → I m hand on w
       → I m hand on (with_task w t (with_home (task_at w t) c))

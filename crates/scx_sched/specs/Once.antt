@@ -1,7 +1,7 @@
 -- In how many places a task appears: on processors and in queues. Between two events a
 -- runnable task appears once, and a sleeping one nowhere; inside an event the task at hand
 -- may be in neither place.
-use Rattle.std.specs.Prelude.{◌≡◌, ℕ, ◌+◌, ◌<◌, Bool, true, false, ◌==◌, ◌||◌, nat_lt, List, length, Option, Some, None, sum_by, if◌then◌else◌}
+use Rattle.std.specs.Prelude.{◌≡◌, ℕ, ◌+◌, ◌<◌, Bool, true, false, ◌==◌, ◌||◌, nat_lt, List, length, Option, Some, None, slice_index_or, sum_by, if◌then◌else◌}
 use Rattle.scx_dsq.specs.Queues.{QueueState, exists, task_count, entry_of, queue_of}
 use Rattle.scx_dsq.specs.Calls.{clashes}
 use Rattle.scx_dsq.specs.Entries.{same_sort}
@@ -9,8 +9,8 @@ use Rattle.scx_dsq.specs.declared.entries.Entry.{Entry}
 use Rattle.scx_dsq.specs.declared.entries.Rank.{Rank}
 use Rattle.scx_dsq.specs.declared.entries.Rank.TheVariants.{Fifo, Front, Vtime}
 use Rattle.scx_dsq.specs.Laws.{one_if, standing, IsStamped}
-use Rattle.scx_isa_semantics.specs.declared.callbacks.Callback.TheVariants as callback
 use Rattle.scx_sched_world.specs.declared.call.Insert.{Insert}
+use Rattle.scx_sched_world.specs.declared.timers.Alarm.{Alarm}
 use Rattle.scx_sched_world.specs.Ids.{policy_end, global, held_queue, builtin_queue, parked_queue, local_on}
 use Rattle.scx_sched_world.specs.World.{WorldState, is_by_linux, task_at, is_this, is_runnable}
 use Rattle.scx_sched_world.specs.Tasks.{queue_for}
@@ -86,6 +86,13 @@ abbrev pub GoesBehind : Option Insert → Type 0
 GoesBehind None = Unit {0}
 GoesBehind (Some i) = IsBehind i.rank
 
+-- the processor of the callback at hand is one of so many; so are one from which a task is woken, and
+-- those on which timers that were started are to run
+pub record AreThere (cpus at : ℕ) (waker : Option ℕ) (timers : List (Option Alarm)) : Type 0 where
+  pub hand : at < cpus
+  pub wakes : (c : ℕ) → waker ≡ Some c → c < cpus
+  pub timed : (n : ℕ) (a : Alarm) → slice_index_or timers n None ≡ Some a → a.cpu < cpus
+
 -- what holds of a world of so many tasks with these on its processors, and that task in no place
 pub record IsSound (hand : Option ℕ) (on : List (Option ℕ)) (n : ℕ) (w : WorldState) : Type 0 where
   pub cpus : w.cpus ≡ on
@@ -98,7 +105,7 @@ pub record IsSound (hand : Option ℕ) (on : List (Option ℕ)) (n : ℕ) (w : W
   pub sorted : IsSorted w.queues
   pub stamped : IsStamped w.queues
   pub once : IsOnce hand w
-  pub here : (w.call.callback ≡ callback.Timer → ⊥) → w.call.cpu < length on
+  pub here : AreThere (length on) w.call.cpu w.passing.waker w.timers
   pub goes : GoesSomewhere w.queues (length on) w.call.insert
   pub behind : is_by_linux w ≡ false → GoesBehind w.call.insert
   pub waiting : HasWaits hand w

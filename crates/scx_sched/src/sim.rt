@@ -18,7 +18,7 @@ ghost use Rattle.scx_sched.specs.Usages.{AreBounded};
 ghost use Rattle.scx_sched.specs.Waits.{IsTimely, HasWaits};
 ghost use Rattle.scx_sched.specs.Once.{IsOnce, AreInQueues};
 ghost use Rattle.scx_sched.specs.Places.{place};
-ghost use Rattle.scx_sched.specs.Timers.{AreTimersLater};
+ghost use Rattle.scx_sched.specs.Timers.{AreTimersLater, AreTimersOnCpus};
 ghost use Rattle.scx_sched.specs.Allowed.{AreAllowed};
 ghost use Rattle.scx_sched.specs.Sim.{max_events, refusal, answer_of, after_event, notes_of, calls_of, IsFirstState};
 
@@ -67,6 +67,7 @@ impl Sim {
         ensures in_force { IfOk result (λ sim. sim.state.world.ejected ≡ None) }
         ensures current { IfOk result (λ sim. AreCurrent sim.state.world) }
         ensures timers { IfOk result (λ sim. AreTimersLater sim.state.world) }
+        ensures timer_cpus { IfOk result (λ sim. AreTimersOnCpus sim.state.world) }
         ensures allowed { IfOk result (λ sim. AreAllowed sim.state.world) }
         ensures refused { IfErr result (IsRefusal policy tree cpus) }
         ensures failed { IfErr result (HasFailed policy tree cpus) }
@@ -92,6 +93,7 @@ impl Sim {
         ensures in_force { IfOk result (λ sim. sim.state.world.ejected ≡ None) }
         ensures current { IfOk result (λ sim. AreCurrent sim.state.world) }
         ensures timers { IfOk result (λ sim. AreTimersLater sim.state.world) }
+        ensures timer_cpus { IfOk result (λ sim. AreTimersOnCpus sim.state.world) }
         ensures allowed { IfOk result (λ sim. AreAllowed sim.state.world) }
         ensures refused { IfErr result (IsRefusal policy tree cpus) }
         ensures failed { IfErr result (HasFailed policy tree cpus) }
@@ -138,6 +140,7 @@ impl Sim {
         ensures current { AreCurrent self.new.state.world }
         ensures timely { IsTimely self.new.state }
         ensures timers { AreTimersLater self.new.state.world }
+        ensures timer_cpus { AreTimersOnCpus self.new.state.world }
         ensures allowed { AreAllowed self.new.state.world }
         ensures bounded { AreBounded self.new.state.world }
         ensures never_stuck { IsNeverStuck self.new.state.world }
@@ -166,6 +169,7 @@ impl Sim {
         ensures current { AreCurrent self.new.state.world }
         ensures timely { IsTimely self.new.state }
         ensures timers { AreTimersLater self.new.state.world }
+        ensures timer_cpus { AreTimersOnCpus self.new.state.world }
         ensures allowed { AreAllowed self.new.state.world }
         ensures bounded { AreBounded self.new.state.world }
         ensures never_stuck { IsNeverStuck self.new.state.world }
@@ -205,14 +209,14 @@ impl Sim {
     }
 
     /// The law of what holds between two events: each runnable task is in one place, and no other task anywhere; a task
-    /// has a wait where it is in a queue and not parked, and no longer one than a policy in force may let it
-    /// have; each timer that was started is due later than the clock, while the policy is in force; no group
-    /// with a quota has used as much as that and one millisecond for each processor in its period; the times of
-    /// the built-in scheduler are far from where they would be cut off, and 0 until it begins; stamps of queues
-    /// are far from theirs; no scheduling cycle is under way, no timer's callback is at hand, nothing is kept of the
-    /// event before, and the current task of each CPU is the one that runs there; the rules are those of the policy;
-    /// and each program of the policy was verified as its callback. The function does nothing: its contract is the
-    /// law.
+    /// has a wait where it is in a queue and not parked, and no longer one than a policy in force may let it have; each
+    /// timer that was started is due later than the clock, while the policy is in force, and is to run on one of the
+    /// machine's processors; no group with a quota has used as much as that and one millisecond for each processor in
+    /// its period; the times of the built-in scheduler are far from where they would be cut off, and 0 until it begins;
+    /// stamps of queues are far from theirs; no scheduling cycle is under way, no timer's callback is at hand, nothing
+    /// is kept of the event before, and the current task of each CPU is the one that runs there; the rules are those of
+    /// the policy; and each program of the policy was verified as its callback. The function does nothing: its contract
+    /// is the law.
     #[tactic(auto, using(crate::proofs::Bounded::are_bounded))]
     pub fn is_sound(&self)
         ensures once { IsOnce None self.now.state.world }
@@ -221,6 +225,7 @@ impl Sim {
         ensures waits { HasWaits None self.now.state.world }
         ensures timely { IsTimely self.now.state }
         ensures timers { AreTimersLater self.now.state.world }
+        ensures timer_cpus { AreTimersOnCpus self.now.state.world }
         ensures allowed { AreAllowed self.now.state.world }
         ensures never_stuck { IsNeverStuck self.now.state.world }
         ensures bounded { AreBounded self.now.state.world }

@@ -27,6 +27,9 @@ returns-clause-timers g c = let m = c.in_ok-machine.ensures in timers_first c.ar
 pub returns-clause-allowed : goal.returns-clause-allowed
 returns-clause-allowed g c = let m = c.in_ok-machine.ensures in (valid_first c.args.policy c.args.tree c.args.cpus _ m.shape m.flags m.timeout m.programs m.made m.few).allowed
 
+pub returns-clause-timer_cpus : goal.returns-clause-timer_cpus
+returns-clause-timer_cpus g c = let m = c.in_ok-machine.ensures in (valid_first c.args.policy c.args.tree c.args.cpus _ m.shape m.flags m.timeout m.programs m.made m.few).fine.sound.here.timed
+
 -- where the machine begins, no callback has failed
 pub returns-clause-none_failed : goal.returns-clause-none_failed
 returns-clause-none_failed g c = started_right c.args.policy c.args.tree c.args.cpus _ c.in_ok-machine.ensures.made

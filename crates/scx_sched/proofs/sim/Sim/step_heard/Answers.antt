@@ -103,6 +103,13 @@ returns-clause-timers g c =
     let valid : IsValid c.event_heard.new.self ((accepted c.self.inside.left) + 1) = subst (λ (x : State). IsValid x ((accepted c.self.inside.left) + 1)) (sym c.event_heard.ensures.state) (valid_step c.self.inside.machine (accepted c.self.inside.left) c.args.event ok c.self.invariant.valid (are_answered _ _ _ _ c.event_heard.ensures.calls) few) in
     valid.timers
 
+pub returns-clause-timer_cpus : goal.returns-clause-timer_cpus
+returns-clause-timer_cpus g c =
+    let ok : refusal (record { state = c.self.inside.machine; events = accepted c.self.inside.left }) c.args.event ≡ None = ap (λ x. refusal x c.args.event) c.self.view_is ∙ (sym c.refusal.ensures.cause ∙ c.in_default.is) in
+    let few = subst (λ (x : State). x.world.queues.pushes ≤ c.self.inside.machine.world.queues.pushes + 3 * 2 ^ 26) c.event_heard.ensures.state c.event_heard.ensures.few in
+    let valid : IsValid c.event_heard.new.self ((accepted c.self.inside.left) + 1) = subst (λ (x : State). IsValid x ((accepted c.self.inside.left) + 1)) (sym c.event_heard.ensures.state) (valid_step c.self.inside.machine (accepted c.self.inside.left) c.args.event ok c.self.invariant.valid (are_answered _ _ _ _ c.event_heard.ensures.calls) few) in
+    valid.fine.sound.here.timed
+
 pub returns-clause-allowed : goal.returns-clause-allowed
 returns-clause-allowed g c =
     let ok : refusal (record { state = c.self.inside.machine; events = accepted c.self.inside.left }) c.args.event ≡ None = ap (λ x. refusal x c.args.event) c.self.view_is ∙ (sym c.refusal.ensures.cause ∙ c.in_default.is) in
