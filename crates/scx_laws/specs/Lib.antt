@@ -1,0 +1,4 @@
+pub mod Runs
+pub mod Times
+pub mod Serving
+pub mod Texts

@@ -1,0 +1,13 @@
+//! Laws of whole runs, and of given policies: a function's contract is the law, and the function does nothing.
+//!
+//! A law of runs holds of the machine of any policy, through any list of events. A law of a policy names the
+//! instructions of its programs, as `examples/policies` has them.
+#![tactic(auto)]
+
+mod recognizing;
+mod runs;
+mod serving;
+
+pub use recognizing::serves_queue_0;
+pub use runs::time_adds_up;
+pub use serving::{no_processor_idles_beside_served_queues, queues_are_served, texts_say_programs};
