@@ -15,9 +15,9 @@ const DOUBLED: usize = 10;
 pub enum End {
     /// No state is new.
     Ended,
-    /// Lists of that many steps were gone through.
+    /// All lists of that many steps were searched.
     At(usize),
-    /// Lists of that many steps were gone through, and the states after them don't fit.
+    /// All lists of that many steps were searched, and the states after them don't fit.
     Full(usize),
 }
 
@@ -26,7 +26,7 @@ pub enum End {
 pub struct Course {
     pub bounds: Bounds,
     levels: [Option<Level>; FIRST + DOUBLED],
-    /// The last depth of which all lists were gone through, if there is one.
+    /// The last depth of which all lists were searched, if there is one.
     pub last: Option<Level>,
 }
 
@@ -34,7 +34,7 @@ impl Course {
     ghost use Rattle.std.specs.Prelude.{◌≡◌, IfSome, None, Some};
     ghost use Rattle.scx_explore.specs.Ends.{IsEndOf, done_of, level_after};
 
-    /// It is to go so far.
+    /// A search that hasn't begun, with these bounds.
     pub fn new(bounds: Bounds) -> Course
         ensures bounds { result.bounds ≡ bounds }
         ensures last { result.last ≡ None }
@@ -51,7 +51,7 @@ impl Course {
         &self.levels
     }
 
-    /// Lists of that many steps were gone through.
+    /// The length up to which all lists were searched.
     pub fn done(&self) -> usize
         ensures { result ≡ done_of self.now.last }
     {

@@ -11,10 +11,10 @@ const CALLBACK_COUNT: usize = 14;
 /// The list of the steps to the longest wait, after those to the findings of each sort.
 pub(crate) const WAIT_LIST: usize = SORT_COUNT;
 
-/// Where those to the most instructions of the first callback are kept.
+/// The list of the steps to the most instructions of the first callback.
 pub(crate) const MOST_LIST: usize = WAIT_LIST + 1;
 
-/// To how many findings steps are kept.
+/// The number of findings to which steps are kept.
 pub(crate) const LISTS: usize = MOST_LIST + CALLBACK_COUNT;
 
 /// All findings up to now.

@@ -51,7 +51,7 @@ impl Search {
         self.hand = self.try_wakes(state, hand, memory, wakes);
     }
 
-    /// Who has to wake next, and who may.
+    /// The tasks that must wake next, and those that may.
     fn wakes_of(&self, machine: usize, memory: Memory) -> (Tasks, Tasks) {
         let sim = self.machines.sim(machine);
         let (mut must, mut may) = (Tasks::NONE, Tasks::NONE);
@@ -75,7 +75,7 @@ impl Search {
         }
     }
 
-    /// Who has to go to sleep now, and who may.
+    /// The tasks that must go to sleep now, and those that may.
     fn sleeps_of(&self, machine: usize, memory: Memory, ran: &Ticks) -> (Tasks, Tasks) {
         let sim = self.machines.sim(machine);
         let (mut must, mut may) = (Tasks::NONE, Tasks::NONE);

@@ -39,7 +39,7 @@ pub struct Search {
     /// The way to a state, backwards.
     pub(crate) stops: Vec<Stop>,
     pub(crate) depth: usize,
-    /// The state that is gone through next.
+    /// The state that is visited next.
     next: usize,
     /// The first state of the next depth.
     pub(crate) end: usize,
@@ -266,7 +266,7 @@ impl Search {
         self.finds.most(callback)
     }
 
-    /// Goes through one more state, or on to the next depth.
+    /// Visits one more state, or begins the next depth.
     pub fn go_on(&mut self) -> Progress {
         if self.full || self.revisits.is_used_up(self.events) {
             return Progress::Full;
@@ -291,7 +291,7 @@ impl Search {
         })
     }
 
-    /// Goes through the next kept state of the depth at hand. Answers whether there was one.
+    /// Visits the next kept state of this depth. Returns whether there was one.
     fn go_next(&mut self) -> bool {
         let (state, depth) = (self.next, self.depth);
         if state >= self.end {
@@ -304,7 +304,7 @@ impl Search {
         true
     }
 
-    /// Goes on from the state at hand, by its machine, if it has one.
+    /// Tries all steps from the current state, by its machine, if it has one.
     pub(crate) fn go_through(&mut self, machine: Option<usize>) {
         let state = self.revisits.origin().state;
         if let Some(machine) = machine {
@@ -317,8 +317,8 @@ impl Search {
         }
     }
 
-    /// Goes on from the state of that machine, which is a kept one, or was come to from it. A machine that is used up
-    /// isn't needed any more; it, or another one in its place, is answered.
+    /// Tries all steps from the state of that machine: a kept state, or one that was reached from it. A machine that
+    /// is used up isn't needed any more: returns it, or another one in its place.
     fn go_from(&mut self, state: usize, machine: usize, is_used_up: bool) -> usize {
         match self.bounds.mode {
             Mode::Events => self.try_events(state, machine, is_used_up),

@@ -19,7 +19,7 @@ pub struct Starts {
     pub update_idle: Option<u64>,
 }
 
-/// Those of the machine of a policy and a workload, whose texts were read before.
+/// The most instructions of each callback as the machine of a policy and a workload starts.
 ///
 /// # Errors
 ///

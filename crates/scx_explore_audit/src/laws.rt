@@ -1,5 +1,5 @@
 ghost use Rattle.scx_explore_audit.specs.Laws.{ClosedTablesCover, ListsAreOfEvents, RefusedEventsShowNothing};
-ghost use Rattle.scx_explore_audit.specs.Rows.{OrderNumbersAreRespected};
+ghost use Rattle.scx_explore_audit.specs.Rows.{UnreadPartsAreRespected};
 
 /// Where a table of states is closed, and what its words leave out changes nothing, no list of moves shows what none of
 /// its states shows. The function does nothing: its contract is the law.
@@ -19,9 +19,9 @@ pub fn lists_are_of_events()
     ensures { ListsAreOfEvents }
 {}
 
-/// A form without the number of pushes loses nothing that is looked for: of two states that are the same but for the order
-/// numbers of pushes and the number of events that led there, each move of the first is matched by the same move.
-/// The function does nothing: its contract is the law.
-pub fn order_numbers_are_respected()
-    ensures { OrderNumbersAreRespected }
+/// Of two states that are the same but for parts that nothing reads, and for the number of events that led there, each
+/// move of the first is matched by the same move: order numbers of pushes, the last callback, kicks under plain rules, and
+/// usages where no group has a quota. The function does nothing: its contract is the law.
+pub fn unread_parts_are_respected()
+    ensures { UnreadPartsAreRespected }
 {}

@@ -38,7 +38,7 @@ pub(crate) struct Charted<'a> {
 /// The watch of an audit, and its place for words.
 #[derive(Drop)]
 pub(crate) struct Hand {
-    /// Who begins to run while another waits, as searches keep it.
+    /// The tasks that begin to run while another waits, as searches keep them.
     pub(crate) watch: Watch,
     /// A place for the words of one state.
     pub(crate) words: Vec<u64>,

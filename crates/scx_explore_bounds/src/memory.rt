@@ -5,7 +5,7 @@ use crate::ticks::Ticks;
 use scx_explore_states::{MOST_TASKS, Tasks, Words};
 use scx_sched::Sim;
 
-/// Where a bound isn't known yet.
+/// A bound that isn't known yet.
 const OPEN: u16 = u16::MAX;
 
 /// The times of a task in its workload, as far as they are known.
@@ -86,7 +86,7 @@ pub enum Choice {
 /// The memory of a search beside a machine.
 #[derive(Clone, Copy)]
 pub struct Memory {
-    /// Who began to run while another waits.
+    /// The tasks that began to run while another waits: bit 8 t + u where task u did since task t waits.
     pub began: u64,
     /// Bit i is set where a group has the weight of change i.
     pub changed: u64,

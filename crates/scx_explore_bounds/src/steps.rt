@@ -13,7 +13,7 @@ pub fn places(step: Step, cpus: u32) -> usize {
     }
 }
 
-/// True if that place of a millisecond of a machine with `cpus` CPUs is the first one behind its ticks.
+/// True if that place of a millisecond of a machine with `cpus` CPUs is the first one after its ticks.
 pub fn is_behind_ticks(place: usize, cpus: u32) -> bool {
     place == MOST_TASKS.saturating_add(cpus as usize)
 }

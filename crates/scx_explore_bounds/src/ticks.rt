@@ -1,7 +1,7 @@
 use scx_explore_states::{MOST_TASKS, Tasks};
 use scx_sched::{Event, Sim};
 
-/// For how many ticks of a millisecond each task ran, and who may go to sleep once they are over.
+/// The number of ticks of a millisecond that each task ran, and the tasks that may sleep after the last tick.
 #[derive(Clone, Copy)]
 pub struct Ticks {
     ticks: [u16; MOST_TASKS],
@@ -14,7 +14,7 @@ impl Ticks {
         sleepers: Tasks::NONE,
     };
 
-    /// For how many the task ran.
+    /// The number of ticks that the task ran.
     pub fn of(&self, task: u16) -> u16 {
         match self.ticks.get(usize::from(task)) {
             Some(ticks) => *ticks,
@@ -35,7 +35,7 @@ impl Ticks {
         }
     }
 
-    /// They are over, and sleeps come next.
+    /// Notes the tasks that may sleep, after the last tick.
     pub fn end(&mut self, sim: &Sim) {
         for task in 0..MOST_TASKS as u16 {
             if may_sleep(sim, task) {

@@ -1,4 +1,4 @@
--- How a path comes to another list, event by event.
+-- A path goes over to another list, event by event.
 use Rattle.std.proofs.Common.{◌≡◌, ℕ, ◌+◌, ◌<◌, ◌≤◌, List, [], ◌∷◌, ◌++◌, length, take, drop, get_or, Option, Some, None, is_none, if◌then◌else◌, Ok, Err, refl, sym, ap, ◌∙◌, subst, arith}
 use Rattle.std.proofs.lemmas.List.{take_more, drop_more, take_all, take-append-drop, take_more_same}
 use Rattle.scx_sched_machine.specs.declared.events.Event.{Event}
@@ -7,7 +7,7 @@ use Rattle.scx_sched.specs.Sim.{refusal, answer_of}
 use Rattle.scx_explore_findings.specs.Path.{PathState, machine_of, went_on, IsRefusedBehind, SharesBeginning}
 use Rattle.scx_explore_findings.proofs.Replaying.{is_accepted, is_refused}
 
--- an event that is accepted comes behind the list
+-- an accepted event is appended to the list
 pub went_accepted : (p : PathState) (e : Event) → refusal (machine_of p) e ≡ None → went_on p e ≡ record p { events = p.events ++ e ∷ [] }
 went_accepted p e fine = ap (λ (o : Option Refused). if is_none o then record p { events = p.events ++ e ∷ [] } else p) fine
 

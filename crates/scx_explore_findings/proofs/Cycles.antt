@@ -1,4 +1,4 @@
--- What a scheduling cycle comes to doesn't depend on what is hidden.
+-- A scheduling cycle leads from two states that are the same but for hidden parts to two such states.
 use Rattle.std.proofs.Common.{◌≡◌, ℕ, zero, suc, ◌==◌, ◌&&◌, not, Bool, true, false, if◌then◌else◌, List, length, [], ◌∷◌, Option, Some, None, refl, sym, ap, ◌∙◌, subst}
 use Rattle.scx_dsq.specs.Queues.{len_of, front_of}
 use Rattle.scx_isa_semantics.specs.declared.callbacks.Callback.{Callback}
@@ -163,7 +163,7 @@ module _ (h : Hidden) (p : PolicyState) (unread : (b : Callback) → IsUnread h 
   note_same w None false c = refl
   note_same w (Some t) ran c = refl
 
-  -- who keeps the processor
+  -- a task that keeps the processor
   turns_kept : (o : Option ℕ) → Turns h p (λ s. kept s o)
   turns_kept None s = (ap (λ (u : WorldState). with_world s u) (plain h s.world), refl)
   turns_kept (Some t) s = turns_switched t s

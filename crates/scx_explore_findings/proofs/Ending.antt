@@ -1,4 +1,4 @@
--- What a list of events ends in.
+-- The finding in which a list of events ends.
 use Rattle.std.proofs.Common.{◌≡◌, ℕ, ℤ, zero, suc, ◌+◌, ◌-◌, ◌<◌, arith, slice_index_or, List, [], ◌∷◌, ◌++◌, true, length, take, Option, Some, None, ap, sym, ◌∙◌, subst, refl}
 use Rattle.std.specs.Prelude.{is_none}
 use Rattle.scx_isa_semantics.specs.declared.callbacks.Callback.{Callback}
@@ -21,7 +21,7 @@ use Rattle.scx_explore_findings.specs.Counting.{Counts}
 use Rattle.scx_explore_findings.specs.Running.{IsRunAmong}
 use Rattle.scx_explore_findings.specs.Findings.{IsFaultAtEnd, IsStallAtEnd, IsExitAtEnd, EndsInFault, EndsInStall, EndsInExit, EndsIdle, EndsWaiting, EndsTaking, EndsOvertaken, AreTogether, IsTwice, IsLast, waits_left, begun_over}
 
--- a list is its first so many elements as it has
+-- a list is its first N elements, if N is its length
 take_all : {A : Type 0} (xs : List A) → take (length xs) xs ≡ xs
 take_all [] = refl
 take_all (x ∷ xs) = ap (λ ys. x ∷ ys) (take_all xs)
@@ -77,7 +77,7 @@ pub all_done : (s t : SimState) (events : List Event) (o : Outcome) → o ≡ ou
 all_done s t events o e at =
     at ∙ (ap (λ (x : Outcome). after_first s events (done_of x events)) e ∙ ap (λ (es : List Event). stepped_all s es) (take_all events))
 
--- so it is behind the last event, where an ejection comes with that
+-- a list ends in an ejection that its last event causes
 done_at_end : (s t : SimState) (events : List Event) (at : ℕ) → t ≡ after_first s events (at + 1) → at + 1 ≡ length events → t ≡ stepped_all s events
 done_at_end s t events at here last =
     here ∙ (ap (λ (n : ℕ). after_first s events n) last ∙ ap (λ (es : List Event). stepped_all s es) (take_all events))
@@ -106,7 +106,7 @@ exit_there s t events n (outcome.Ejected at (cause.Stall u clock)) here x = absu
 exit_there s t events n outcome.InForce here x = absurd x
 exit_there s t events n (outcome.Refused at r) here x = absurd x
 
--- and behind one more event
+-- a list with one more event
 pub taken_there : (s t u : SimState) (before : List Event) (e : Event) (o : Outcome) → o ≡ outcome.InForce → t ≡ after_first s before (done_of o before) → u ≡ after_event t e → u ≡ stepped_all s (before ++ e ∷ [])
 taken_there s t u before e o force here next =
     next ∙ (ap (λ (x : SimState). after_event x e) (all_done s t before o force here) ∙ sym (stepped_push s before e))
@@ -139,11 +139,11 @@ to_last_at (x ∷ []) d (suc n) e = absurd (omega (arith, e))
 to_last_at (x ∷ y ∷ ys) d zero e = absurd (omega (arith, e))
 to_last_at (x ∷ y ∷ ys) d (suc n) e = ap (λ zs. x ∷ zs) (to_last_at (y ∷ ys) d n (omega (arith, e)))
 
--- a list is what stands before its last element, and that one
+-- a list is its last element, after those before it
 to_last : {A : Type 0} (xs : List A) (d : A) → 0 < length xs → xs ≡ take (length xs - 1) xs ++ slice_index_or xs (length xs - 1) d ∷ []
 to_last xs d l = to_last_at xs d (length xs - 1) (omega (arith, l))
 
--- a run of so many instructions, where the event behind a list is accepted
+-- a run of that many instructions, if the event after a list is accepted
 pub taking_at_end : (s t : SimState) (before : List Event) (e : Event) (b : Callback) (n : ℕ) (o : Outcome) → Happens s before o → o ≡ outcome.InForce → t ≡ after_first s before (done_of o before) → refusal t e ≡ None → IsRunAmong (calls_of t e) b n → EndsTaking s (before ++ e ∷ []) b n
 taking_at_end s t before e b n o h force at accepted called =
     let here : t ≡ stepped_all s before = all_done s t before o force at in
@@ -165,7 +165,7 @@ taking_of_list s events before e b n count many some front last h =
     ∙ sym (to_last events e (omega (arith, many, some)))) in
     subst (λ (es : List Event). EndsTaking s es b n) whole h
 
--- and the machine behind it
+-- the machine after it
 pub there_of_list : (s t : SimState) (events before : List Event) (e : Event) (count : ℕ) → count ≡ length events → 0 < count → before ≡ take (count - 1) events → e ≡ slice_index_or events (count - 1) e → t ≡ stepped_all s (before ++ e ∷ []) → t ≡ stepped_all s events
 there_of_list s t events before e count many some front last h =
     let whole : before ++ e ∷ [] ≡ events =

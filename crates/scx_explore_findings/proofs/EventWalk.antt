@@ -9,6 +9,8 @@ use Rattle.scx_isa_semantics.specs.declared.host_tables.Helper.TheVariants.{Crea
 use Rattle.scx_isa_semantics.specs.HostTables.{is_allowed}
 use Rattle.scx_vm.specs.declared.arguments.Args.{Args}
 use Rattle.scx_sched_world.specs.declared.call.Insert.{Insert}
+use Rattle.scx_sched_world.specs.declared.cpu_set.CpuSet.{CpuSet}
+use Rattle.scx_sched_world.specs.declared.passing.Passing.{Passing}
 use Rattle.scx_sched_world.specs.declared.eject.Cause.{Cause}
 use Rattle.scx_sched_world.specs.declared.eject.Eject.{Eject}
 use Rattle.scx_sched_world.specs.declared.notes.Note.{Note}
@@ -37,7 +39,7 @@ use Rattle.scx_sched_machine.specs.Rounds.{most_rounds, next_to_look, cut_off_if
 use Rattle.scx_vm.specs.Programs.{VerifiedProgram}
 use Rattle.scx_sched_machine.specs.Events.{target, insert_or_put, woken, wake_target, comes_to, told_runnable, settle, chosen_by_default, chosen, ask_target, asks_target, settle_at_home, select, from_waker, wake, told_of_sleep, falls_asleep, looks_after_sleep, leaves_cpu, leaves_queue, sleep_from_cpu, sleep_from_queue, sleep_from, sleep, throttle, ends_slices, expire, use_up, hears_tick, tick_heard, count_down, tick_idle, tick_of, tick, overdue, eject_if_stalled, watch, timers_and_watchdog, clock, restore_flag, change_flags, takes_weight, changes_weight, reweigh_running, reweigh_waiting, reweigh_off_cpu, reweigh_at, reweigh_by_linux, reweigh, own_step, event_step}
 use Rattle.scx_sched_machine.proofs.Choices.{keeps_if}
-use Rattle.scx_sched.proofs.Marks.{KeepsCycles, kept_switch, kept_cycling}
+use Rattle.scx_sched.proofs.Marks.{kept_switch, kept_cycling}
 use Rattle.scx_sched.specs.Sim.{SimState, stepped_if, refusal, after_event}
 use Rattle.scx_load_driver.specs.Runs.{stepped_all}
 
@@ -90,6 +92,10 @@ linux_in_force w e = go w.ejected (and_parts (are_linux w.rules) (is_none w.ejec
 abbrev pub IsKeptIn : PolicyState → (WorldState → Type 0) → State → Type 0
 IsKeptIn p I s = (s.policy ≡ p) × I s.world
 
+-- whichever cycle is under way, whichever processors are claimed, and whatever passes with the event, the property stays
+abbrev pub KeepsAnyCycle : (WorldState → Type 0) → Type 0
+KeepsAnyCycle I = (w : WorldState) (o : Option ℕ) (claimed : CpuSet) (x : Passing) → I w → I (record w { cycling = o; claimed = claimed; passing = x })
+
 -- each small step keeps that: a callback that may create no queue, an ejection, a task that is put, or inserted as was
 -- wanted in an earlier world, while the policy was in force; and of worlds what the machine does to its queues, tasks,
 -- groups and processors, by both rules
@@ -106,7 +112,7 @@ pub record IsKeptBySmallSteps (p : PolicyState) (I : WorldState → Type 0) : Ty
   pub stopped : (w : WorldState) (c t : ℕ) → I w → I (after_stop w c t)
   pub charged : (w : WorldState) (t : ℕ) → I w → I (after_charge w t)
   pub caught_up : (w : WorldState) (t : ℕ) → I w → I (after_catch_up w t)
-  pub cycles : KeepsCycles I
+  pub cycles : KeepsAnyCycle I
   pub woken : (w : WorldState) (t : ℕ) → I w → I (after_wake w t)
   pub asleep : (w : WorldState) (t : ℕ) → I w → I (after_sleep w t)
   pub ticked : (w : WorldState) (t : ℕ) → I w → I (after_tick w t)
@@ -249,7 +255,7 @@ module _ (old : PolicyState) (I : WorldState → Type 0) (k : IsKeptBySmallSteps
           let u = with_world s (started_at (Some t) s.world c) in
           walk_running (switched u t) c t (walk_switched u t (h.0, k.started s.world t c h.1))
 
-  -- who keeps the processor
+  -- a task that keeps the processor
   walk_keeper : (s : State) (p : Option ℕ) → Kept s → Kept (kept s p)
   walk_keeper s None h = h
   walk_keeper s (Some t) h = walk_switched s t h
@@ -355,7 +361,7 @@ module _ (old : PolicyState) (I : WorldState → Type 0) (k : IsKeptBySmallSteps
   walk_look s c p ran h = keeps_if Leaves (is_ejected s) (builtin_cycle s c p ran) (seek s c p ran) (walk_builtin_cycle s c p ran h) (walk_seek s c p ran h)
 
   walk_cycling : (s : State) (o : Option ℕ) → Kept s → Kept (cycling s o)
-  walk_cycling s o h = (h.0, kept_cycling I k.cycles s.world o h.1)
+  walk_cycling s o h = (h.0, kept_cycling I (λ w p claimed x wakes i. k.cycles w p claimed x i) s.world o h.1)
 
   -- a processor that falls idle
   walk_idle_or_anew : (s : State) (c : ℕ) → Kept s → Leaves (idle_or_anew s c)
@@ -486,7 +492,7 @@ module _ (old : PolicyState) (I : WorldState → Type 0) (k : IsKeptBySmallSteps
   unfolding leaves_cpu
   walk_leaves_cpu s c t n h =
       let w = with_switch s.world c in
-      walk_stopping (with_world s (after_stop w c t)) c t n (h.0, k.stopped w c t (kept_switch I k.cycles s.world c h.1))
+      walk_stopping (with_world s (after_stop w c t)) c t n (h.0, k.stopped w c t (kept_switch I (λ v o claimed x wakes i. k.cycles v o claimed x i) s.world c h.1))
 
   walk_sleep_from_cpu : (s : State) (t c : ℕ) → Kept s → Leaves (sleep_from_cpu s t c)
   unfolding sleep_from_cpu

@@ -1,4 +1,4 @@
--- What an event comes to doesn't depend on what is hidden.
+-- Each event leads from two states that are the same but for hidden parts to two such states.
 use Rattle.std.proofs.Common.{◌≡◌, ℕ, zero, suc, ◌==◌, ◌&&◌, Bool, true, false, cond, nat_lt, [], ◌∷◌, length, Option, Some, None, refl, sym, ap, ◌∙◌, subst}
 use Rattle.scx_dsq.specs.Queues.{len_of, front_of, behind_of}
 use Rattle.scx_isa_semantics.specs.declared.callbacks.Callback.{Callback}
@@ -325,7 +325,7 @@ module _ (h : Hidden) (p : PolicyState) (unread : (b : Callback) → IsUnread h 
   unfolding let_all_go
   passes_let_all_go s is = passes_let_go_from (len_of s.world.queues parked_queue) (front_of s.world.queues parked_queue) s is
 
-  -- the clock has grown, and who may run again was let go
+  -- the clock has grown, and tasks that may run again were let go
   passes_once_let_go : On h p once_let_go
   passes_once_let_go s is = passes_let_all_go (with_world s (begun_periods (later s.world))) is
 

@@ -1,4 +1,4 @@
--- Under a policy that inserts nobody by a virtual time, events keep it that nobody waits by one.
+-- Under a policy that inserts no task by a virtual time, no task waits by one after an event.
 use Rattle.std.proofs.Common.{◌≡◌, ℕ, zero, suc, true, false, if◌then◌else◌, nat_lt, List, [], ◌∷◌, length, map, set, Option, Some, None, is_some, is_none, refl, sym, ◌∙◌, subst}
 use Rattle.scx_dsq.specs.declared.entries.Entry.{Entry}
 use Rattle.scx_dsq.specs.declared.entries.Rank.{Rank}
@@ -212,7 +212,7 @@ helped w f a fine h = by_helper (λ (g : Helper). is_by_vtime (Some g) ≡ false
   drawn = h;
 }) f fine a
 
--- a query that inserts nobody by a virtual time
+-- a query that inserts no task by a virtual time
 abbrev IsFine : Query → Type 0
 IsFine (Call f a) = is_by_vtime (Some f) ≡ false
 IsFine q = Unit {0}
@@ -243,7 +243,7 @@ no_cause : (x : Eject) → ◌≡◌ {A = Option Eject} (Some x) None → ⊥
 no_cause x e = absurd (cc)
 
 module _ (p : PolicyState) (may : InsertInOrder p) where
-  -- the machine is under that policy, and nobody waits by a virtual time
+  -- the machine is under that policy, and no task waits by a virtual time
   abbrev pub Kept : State → Type 0
   Kept s = (s.policy ≡ p) × IsInOrder s.world
 
@@ -350,7 +350,7 @@ waiting_is : (o : Option Entry) → WaitsInOrder o → waiting_key o ≡ 0
 waiting_is None f = refl
 waiting_is (Some e) f = key_is e.rank f
 
--- under a policy that inserts nobody by a virtual time what is kept of such times is 0
+-- under a policy that inserts no task by a virtual time such times are 0
 pub nobody_waits_by_vtime : NobodyWaitsByVtime
 nobody_waits_by_vtime root events t may fine force =
     waiting_is (entry_of (stepped_all root events).state.world.queues t) (((walk_all root.state.policy IsInOrder (order_steps root.state.policy may) root events (refl, fine)).1 force).0 t)

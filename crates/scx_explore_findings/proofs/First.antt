@@ -1,4 +1,4 @@
--- In a first state nobody waits by a virtual time: nobody waits at all, and callbacks keep it so.
+-- In a first state no task waits by a virtual time: none waits at all, and callbacks keep it so.
 use Rattle.std.proofs.Common.{◌≡◌, ℕ, zero, suc, ◌+◌, length, replicate, None, Ok, refl}
 use Rattle.scx_dsq.specs.Queues.{QueueState}
 use Rattle.scx_dsq.specs.Calls.{after_create, empty}
@@ -58,6 +58,6 @@ module _ (p : PolicyState) (may : InsertInOrder p) where
   first_kept tree cpus t e =
       keeps_started cpus (Kept p may) (λ s b a u c any h. called_kept s b a u c h) (λ s h. (h.0, h.1)) p tree t e (blank_kept tree cpus)
 
--- in a first state nobody waits by a virtual time
+-- in a first state no task waits by a virtual time
 pub first_states_are_in_order : FirstStatesAreInOrder
 first_states_are_in_order p tree cpus s may first = (first_kept p may tree cpus s.state first.0).1

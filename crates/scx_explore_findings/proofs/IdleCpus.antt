@@ -1,4 +1,4 @@
--- What a machine shows behind an event.
+-- A processor that is idle after an event, while a task waits.
 use Rattle.std.proofs.Common.{◌≡◌, ℕ, true, false, Option, Some, None, refl, sym, subst}
 use Rattle.std.specs.Prelude.{is_some}
 use Rattle.scx_sched_world.specs.World.{running}
@@ -23,7 +23,7 @@ same_cpu c d e = cc
 pub busy : (s : SimState) (c : ℕ) → is_some (running s.state.world c) ≡ true → IsIdleBehind s (Tick c) None
 busy s c some d same idle = absurd (some_not (running s.state.world c) some (subst (λ (k : ℕ). running s.state.world k ≡ None) (sym (same_cpu c d same)) idle))
 
--- nobody waits for the policy
+-- no task waits for the policy
 pub nobody : (s : SimState) (c : ℕ) → IsFirstLeft s.state.world c None → IsIdleBehind s (Tick c) None
 nobody s c left d same idle = subst (λ (k : ℕ). IsFirstLeft s.state.world k None) (same_cpu c d same) left
 

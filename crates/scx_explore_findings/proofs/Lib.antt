@@ -31,6 +31,12 @@ pub mod SameCycles
 pub mod SameEvents
 pub mod SameMachines
 pub mod SameShown
+pub mod OrderTold
+pub mod PlacesTold
+pub mod CpusTold
+pub mod TasksTold
+mod Between
+mod QueueWalk
 mod Ending
 mod Running
 mod IdleCpus

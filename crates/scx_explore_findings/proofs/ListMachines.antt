@@ -10,7 +10,7 @@ use Rattle.scx_explore_findings.proofs.SamePolicy.{as_itself, as_one_another, as
 
 -- ---- runs of lists
 
--- one event behind others
+-- one event after others
 pub stepped_push : (s : SimState) (es : List Event) (e : Event) → stepped_all s (es ++ e ∷ []) ≡ after_event (stepped_all s es) e
 stepped_push s [] e = refl
 stepped_push s (x ∷ es) e = stepped_push (after_event s x) es e
@@ -23,7 +23,7 @@ along_room s [] sims h = omega arith
 along_room s (e ∷ es) [] h = absurd h
 along_room s (e ∷ es) (t ∷ ts) h = omega (arith, along_room t es ts h.2)
 
--- the machine at a depth is the run of so many events
+-- the machine at depth N is the one after N events
 pub along_at : (s : SimState) (es : List Event) (sims : List SimState) (k : ℕ) (d : SimState) → IsAlong s es sims → k < length es → get_or sims k d ≡ stepped_all s (take (suc k) es)
 along_at s [] sims k d h l = absurd (omega (arith, l))
 along_at s (e ∷ es) [] k d h l = absurd h
@@ -43,7 +43,7 @@ along_take (suc n) s [] sims h = tt
 along_take (suc n) s (e ∷ es) [] h = absurd h
 along_take (suc n) s (e ∷ es) (t ∷ ts) h = (h.0, h.1, along_take n t es ts h.2)
 
--- a machine behind the list may be any
+-- a machine past the end of the list may be any
 pub along_set : (s : SimState) (es : List Event) (sims : List SimState) (k : ℕ) (x : SimState) → length es ≤ k → IsAlong s es sims → IsAlong s es (set sims k x)
 along_set s [] sims k x l h = tt
 along_set s (e ∷ es) [] k x l h = absurd h
@@ -72,7 +72,7 @@ last_at s t (u ∷ us) d = last_at t u us d
 not_both : (b : Bool) → b ≡ true → b ≡ false → ⊥
 not_both b x y = absurd (cc)
 
--- the last one stands at the end
+-- the last one is at the end
 pub last_of_some : (s : SimState) (ts : List SimState) (d : SimState) → (length ts == 0) ≡ false → get_or ts (length ts - 1) d ≡ last_of s ts
 last_of_some s [] d some = absurd (not_both (0 == 0) refl some)
 last_of_some s (t ∷ ts) d some =

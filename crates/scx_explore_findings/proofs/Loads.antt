@@ -1,4 +1,4 @@
--- Which instructions may read what is hidden: loads of 8 bytes, at the offsets of hidden fields.
+-- Hidden fields are read by loads of 8 bytes at their offsets alone.
 use Rattle.std.proofs.Common.{◌≡◌, inl, inr, ℕ, ◌+◌, ◌-◌, ◌&&◌, ℤ, pos, negsuc, suc, Bool, true, false, cond, nat_eq, List, [], ◌∷◌, Option, Some, None, refl, ap, ◌∙◌, subst, arith}
 use Rattle.std.proofs.lemmas.Bool.{eqb-true, le-ltb}
 use Rattle.scx_isa_semantics.specs.declared.host_tables.Field.{Field}
@@ -20,7 +20,7 @@ not_both b x y = absurd (cc)
 some_same : {A : Type 0} (x y : A) → Some x ≡ Some y → x ≡ y
 some_same x y e = cc
 
--- a field that is found begins at that byte and has so many
+-- a field that is found begins at that byte and has that many bytes
 found_is : (n at : ℕ) (fs : List Field) (f : Field) → found_field n at fs ≡ Some f → (at ≡ field_offset f) × (n ≡ field_width f)
 found_is n at [] f e = absurd (none_is f e)
   where

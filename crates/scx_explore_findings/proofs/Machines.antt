@@ -1,4 +1,4 @@
--- What a machine answers to events doesn't depend on what is hidden.
+-- Two machines that are the same but for hidden parts answer events alike.
 use Rattle.std.proofs.Common.{◌≡◌, ℕ, ◌+◌, ◌==◌, Bool, true, false, cond, List, [], ◌∷◌, ◌++◌, map, Option, Some, None, refl, sym, ap, ◌∙◌, subst}
 use Rattle.scx_sched_world.specs.declared.notes.Note.{Note}
 use Rattle.scx_sched_machine.specs.declared.events.Event.{Event}
@@ -51,7 +51,7 @@ module _ (h : Hidden) where
       pub unread_after : AreUnread h (after_event s e).state.policy
       unread_after = subst (AreUnread h) (sym policy_after) unread
 
-      -- the machines behind the event are the same again
+      -- the machines after the event are the same again
       pub after_there : AreSame h (after_event s e) (after_event t e)
       after_there = go (refusal s e) ∙ ap (λ (o : Option Refused). hide_machine h (stepped_if o t e)) refusal_there
         where

@@ -38,7 +38,7 @@ none_found p none xs =
     ap (λ (n : ℕ). cond (nat_lt n (length xs)) (Some n) None) (none_passes p none xs)
     ∙ ap (λ (b : Bool). cond b (Some (length xs)) None) (le-ltb (length xs) (length xs) (omega arith))
 
--- where the clock is no later than the limit nobody is late
+-- while the clock is at most the limit, no task is late
 none_late : (s : State) → s.world.clock ≤ s.policy.timeout_ms → overdue s ≡ None
 none_late s l =
     let w = s.world in
@@ -54,7 +54,7 @@ none_late_then s l =
 
 -- ---- after a list of events
 
--- after so many events all is fine, and the policy is that one
+-- after that many events all is fine, and the policy is that one
 pub record IsAfter (n k : ℕ) (p : PolicyState) (s : SimState) : Type 0 where
   pub fine : IsFineNow n k k s.state.world
   pub policy : s.state.policy ≡ p
@@ -77,7 +77,7 @@ after_list n k j p s (x ∷ xs) e all h = after_list n (k + 1) j p (after_event 
 pub after_first : (root : SimState) (events : List Event) → IsValid root.state 0 → AreAccepted root events → IsAfter (length root.state.world.tasks) (length events) root.state.policy (stepped_all root events)
 after_first root events valid all = after_list (length root.state.world.tasks) 0 (length events) root.state.policy root events (omega arith) all (record { fine = valid.fine; policy = refl })
 
--- where there are fewer than a task may wait milliseconds nobody has waited too long
+-- after fewer events than a task may wait milliseconds, no task has waited too long
 pub late_none : (n k : ℕ) (p : PolicyState) (s : SimState) (e : Event) → IsAfter n k p s → k < p.timeout_ms → late_in s.state e ≡ None
 late_none n k p s e h few = go e
   where

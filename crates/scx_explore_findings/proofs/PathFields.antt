@@ -1,4 +1,4 @@
--- What the fields of a path keep.
+-- The fields of a path.
 use Rattle.std.proofs.Common.{◌≡◌, ℕ, zero, suc, ◌-◌, ◌<◌, ◌≤◌, List, [], ◌∷◌, ◌++◌, length, take, set, get_or, Some, None, refl, sym, ap, ◌∙◌, subst, arith}
 use Rattle.std.proofs.lemmas.List.{length-set, with_items_is}
 use Rattle.std.specs.Vec.{with_items}

@@ -1,4 +1,4 @@
--- How far a list was gone through, with the policy in force: what comes of the rest comes of the list.
+-- The rest of a list decides, as long as the policy stays in force in the part before it.
 use Rattle.std.proofs.Common.{◌≡◌, ℕ, zero, suc, ◌+◌, ◌<◌, ◌≤◌, ◌⊎◌, inl, inr, List, [], ◌∷◌, ◌++◌, length, take, drop, get_or, Option, Some, None, Ok, Err, unwrap_or, refl, sym, ap, ◌∙◌, subst, append_assoc, arith}
 use Rattle.std.proofs.lemmas.Bool.{cases_lt}
 use Rattle.std.proofs.lemmas.List.{append-nil, take_more, drop_more, get_or_default}
@@ -15,7 +15,7 @@ use Rattle.scx_explore_findings.specs.declared.outcome.Outcome.TheVariants as ou
 use Rattle.scx_explore_findings.specs.Outcomes.{end_of, outcome_from, outcome_of, done_of, after_first, IsInForceFor, Happens}
 use Rattle.scx_explore_findings.proofs.ListMachines.{stepped_push}
 
--- ---- one event behind others
+-- ---- one event after others
 
 notes_push : (s : SimState) (es : List Event) (e : Event) → notes_of_all s (es ++ e ∷ []) ≡ notes_of_all s es ++ notes_of (stepped_all s es) e
 notes_push s [] e = append-nil (notes_of s e)
@@ -52,7 +52,7 @@ end_accepted (Some r) x y at u e same = absurd (cc)
 
 -- ---- how far it was gone, and how it ends
 
--- so many events are done, and the machine and the sink are these
+-- that many events are done, and the machine and the sink are these
 pub record IsGone (s : SimState) (events : List Event) {S : Type 0} (takes : S → Note → S → Type 0) (a : S) (at : ℕ) (t : SimState) (b : S) : Type 0 where
   pub state : t ≡ after_first s events at
   pub notes : Takes takes a (notes_of_all s (take at events)) b

@@ -1,4 +1,4 @@
--- A run of so many instructions.
+-- A run of a program with a number of instructions.
 use Rattle.std.proofs.Common.{◌≡◌, ℕ, zero, suc, List, [], ◌∷◌, true, false, Option, Some, None, Result, inl, inr, refl, sym, ◌∙◌, subst, arith}
 use Rattle.std.specs.Prelude.{is_ok, ◌⊎◌}
 use Rattle.scx_isa_semantics.specs.declared.callbacks.Callback.{Callback}
@@ -14,7 +14,7 @@ use Rattle.scx_explore_findings.specs.declared.tally.Tally.{Tally}
 run_as : (c : CallMade) (b e : Callback) (m n : ℕ) → IsRunOf c b m → b ≡ e → m ≡ n → IsRunOf c e n
 run_as c b e m n run same many = subst (λ (x : Callback). IsRunOf c x n) same (subst (λ (k : ℕ). IsRunOf c b k) many run)
 
--- a tally is told of a call that comes to an answer in so many steps
+-- a tally is told of a call that comes to an answer in that many steps
 pub tells : (a b : Tally) (c : CallMade) (d e : Callback) (n : ℕ) → IsRunOf c e n → d ≡ e → b.callback ≡ a.callback → b.instructions ≡ a.instructions → (b.has_run ≡ true → (a.has_run ≡ true) ⊎ ((d ≡ a.callback) × (n ≡ a.instructions))) → Tells a c b
 tells a b c d e n run is same many seen = (same, many, λ (h : b.has_run ≡ true). go (seen h))
   where

@@ -1,4 +1,4 @@
--- What calls on queues answer and leave doesn't depend on the order numbers of pushes.
+-- Calls on queues give the same answers, and the same queues after them, whatever the order numbers of pushes are.
 use Rattle.std.proofs.Common.{◌≡◌, ℕ, zero, suc, ◌+◌, ◌<◌, ◌≤◌, ◌<ℤ◌, ◌≤ℤ◌, ℤ, pos, negsuc, int_lt, nat_lt, Bool, true, false, cond, not, ◌==◌, ◌&&◌, ◌||◌, List, [], ◌∷◌, length, set, get_or, count_by, position, Option, Some, None, is_some, is_none, option_map, if◌then◌else◌, refl, sym, ap, ◌∙◌, subst, arith, ⊎_elim}
 use Rattle.std.specs.List.{list_any, list_all, position_or_len}
 use Rattle.std.proofs.lemmas.Bool.{eqb-true, eq-eqb, ne_eqb, lt-ltb, le-ltb, cases_eq, cases_lt}
@@ -21,7 +21,7 @@ abbrev IsNone : Option Entry → Type 0
 IsNone None = Unit {0}
 IsNone (Some p) = ⊥
 
-none_is_none : (p : Entry) → None ≡ Some p → ⊥
+pub none_is_none : (p : Entry) → None ≡ Some p → ⊥
 none_is_none p e = subst IsNone e tt
 
 -- ---- two lists, element by element
@@ -29,7 +29,7 @@ none_is_none p e = subst IsNone e tt
 both_and : (a b c d : Bool) → a ≡ b → c ≡ d → (a && c) ≡ (b && d)
 both_and a b c d e f = ap (λ x. x && c) e ∙ ap (λ x. b && x) f
 
--- where the first of two tests fails, the second one doesn't count
+-- if the first of two tests fails, the second one isn't read
 and_where : (a b c : Bool) → (a ≡ true → b ≡ c) → (a && b) ≡ (a && c)
 and_where true b c e = e refl
 and_where false b c e = refl
@@ -73,13 +73,13 @@ module _ (p q : Option Entry → Bool) where
       ap (λ b. cond (not b) (1 + position_or_len p xs) 0) (e 0)
       ∙ ap (λ i. cond (not (q y)) (1 + i) 0) (place_alike xs ys (omega (arith, n)) (alike_rest x y xs ys e))
 
-  -- the first that passes stands at the same place of both
+  -- the first element that passes is at the same index of both
   first_alike : (xs ys : Entries) → length xs ≡ length ys → Alike xs ys → position p xs ≡ position q ys
   first_alike xs ys n e =
       ap (λ i. cond (nat_lt i (length xs)) (Some i) None) (place_alike xs ys n e)
       ∙ ap (λ l. cond (nat_lt (position_or_len q ys) l) (Some (position_or_len q ys)) None) n
 
--- ---- what the place of a task tells
+-- ---- facts that the place of a task tells
 
 in_told : (id : ℕ) (o : Option Entry) → is_in id o ≡ is_in id (option_map unnumbered o)
 in_told id None = refl
@@ -108,7 +108,7 @@ clashes_told : (id : ℕ) (r : Rank) (o : Option Entry) → clashes id r o ≡ c
 clashes_told id r None = refl
 clashes_told id r (Some p) = ap (λ b. is_in id (Some p) && not b) (sym (sort_left p.rank r))
 
--- ---- whom a test for the order finds
+-- ---- tests for the order of two tasks
 
 leads_in : (id : ℕ) (p : Entry) → p.queue ≡ id → (other : Option Entry) → is_ahead id p other ≡ leads other (Some p)
 leads_in id p e None = refl
@@ -150,7 +150,7 @@ right_behind_by_order es p (Some q) =
         left_true true b e = refl
         left_true false b e = e
 
--- whom a task in order of arrival has behind it
+-- the tasks after one in order of arrival
 next_left : (r : Rank) (es : Entries) (p : Entry) → next_by r es p ≡ next_by (rank_left r) es p
 next_left Fifo es p = refl
 next_left Front es p = refl
@@ -242,7 +242,7 @@ module _ (p q : Entry) (e : option_map unnumbered (Some p) ≡ option_map unnumb
   told_entry : unnumbered p ≡ unnumbered q
   told_entry = ap (entry_or (unnumbered p)) e
 
-  told_queue : p.queue ≡ q.queue
+  pub told_queue : p.queue ≡ q.queue
   told_queue = ap (λ (x : Entry). x.queue) told_entry
 
   told_rank : rank_left p.rank ≡ rank_left q.rank
@@ -332,7 +332,7 @@ module _ (s t : QueueState) (h : AreAsQueues s t) where
   pub queue_same : (u : ℕ) → queue_of s u ≡ queue_of t u
   queue_same u = queue_told (entry_of s u) ∙ (ap (option_map (λ (p : Entry). p.queue)) (h.places u) ∙ sym (queue_told (entry_of t u)))
 
-  -- in that one, if it is in that of the other
+  -- a task is in that queue, if it is there in the other state
   pub in_same : (id u : ℕ) → is_in id (entry_of s u) ≡ is_in id (entry_of t u)
   in_same id u = in_told id (entry_of s u) ∙ (ap (is_in id) (h.places u) ∙ sym (in_told id (entry_of t u)))
 
@@ -366,7 +366,7 @@ module _ (s t : QueueState) (h : AreAsQueues s t) where
   unfolding front_of
   front_same id = first_alike (is_first s.entries id) (is_first t.entries id) s.entries t.entries h.tasks (λ k. first_same_at id k)
 
-  -- ---- whom a task has right behind it
+  -- ---- the next task of a queue
 
   module _ (u : ℕ) (p q : Entry) (e : entry_of s u ≡ Some p) (f : entry_of t u ≡ Some q) where
     lead_same : (v : ℕ) → leads (Some p) (entry_of s v) ≡ leads (Some q) (entry_of t v)
@@ -400,7 +400,7 @@ module _ (s t : QueueState) (h : AreAsQueues s t) where
       ∙ (next_same u p q e f (rank_left q.rank)
       ∙ sym (next_left q.rank t.entries q)))
 
-  -- a task has the same one right behind it
+  -- the next task after one is the same
   pub behind_same : (u : ℕ) → behind_of s u ≡ behind_of t u
   unfolding behind_of
   behind_same u = behind_from u (entry_of s u) (entry_of t u) refl refl (h.places u)
@@ -526,7 +526,7 @@ module _ (s t : QueueState) (h : AreAsQueues s t) where
       behind : (v : ℕ) → leads (entry_of s v) n ≡ leads (entry_of t v) n'
       behind v = new_behind id r (entry_of s v) (entry_of t v) (h.places v) (λ p e. h.stamped v p e) (λ q e. h.stamped_there v q e)
 
-  -- so they are after a push
+  -- after a push two states are the same but for order numbers
   pub push_same : (id u : ℕ) (r : Rank) → AreAsQueues (after_push s id u r) (after_push t id u r)
   push_same id u r = choose_same (is_none (push_refusal s id u r)) (is_none (push_refusal t id u r)) (with_task s id u r) (with_task t id u r) s t (ap (λ (o : Option QueueError). is_none o) (push_refusal_same id u r)) (accepted_same id u r) h
 
@@ -553,7 +553,7 @@ module _ (s t : QueueState) (h : AreAsQueues s t) where
       behind : (v : ℕ) → leads (entry_of s v) None ≡ leads (entry_of t v) None
       behind v = leads_none (entry_of s v) ∙ sym (leads_none (entry_of t v))
 
-  -- so they are after a removal
+  -- after a removal they are, too
   pub remove_same : (u : ℕ) → AreAsQueues (after_remove s u) (after_remove t u)
   remove_same u = choose_same (is_some (entry_of s u)) (is_some (entry_of t u)) (without_task s u) (without_task t u) s t (some_same u) (gone_same u) h
 
@@ -561,7 +561,7 @@ module _ (s t : QueueState) (h : AreAsQueues s t) where
   without_same None = h
   without_same (Some u) = gone_same u
 
-  -- and after a pop
+  -- after a pop they are, too
   pub pop_same : (id : ℕ) → AreAsQueues (after_pop s id) (after_pop t id)
   pop_same id = subst (λ o. AreAsQueues (without s (front_of s id)) (without t o)) (front_same id) (without_same (front_of s id))
 
@@ -581,6 +581,6 @@ module _ (s t : QueueState) (h : AreAsQueues s t) where
     stamped_there = h.stamped_there;
   }
 
-  -- and with one more queue
+  -- with one more queue they are, too
   pub create_same : (id : ℕ) → AreAsQueues (after_create s id) (after_create t id)
   create_same id = choose_same (is_none (create_refusal s id)) (is_none (create_refusal t id)) (with_queue s id) (with_queue t id) s t (ap (λ (o : Option QueueError). is_none o) (create_refusal_same id)) (created_same id) h

@@ -1,4 +1,4 @@
--- What machines show that are the same but for what is hidden, and where lists are short enough that nobody is late.
+-- Two machines that are the same but for hidden parts show the same, as long as no task is late.
 use Rattle.std.proofs.Common.{◌≡◌, ℕ, ◌+◌, ◌<◌, ◌≤◌, true, List, [], ◌∷◌, length, Option, Some, None, refl, sym, ap, ◌∙◌, subst, arith}
 use Rattle.scx_sched_machine.specs.declared.events.Event.{Event}
 use Rattle.scx_sched_machine.specs.declared.events.Refused.{Refused}
@@ -34,7 +34,7 @@ module _ (h : Hidden) (s t : SimState) (same : AreSame h s t) where
   first_left c (Some u) k = (subst (λ (n : ℕ). u < n) as_many k.0, left_same c u ∙ k.1, λ v l. left_same c v ∙ k.2 v l)
 
   idle_there : (e : Event) (o : Option Finding) → IsIdleBehind s e o → IsIdleBehind t e o
-  idle_there e None k = λ c is nobody. first_left c None (k c is (sym (idle_same c) ∙ nobody))
+  idle_there e None k = λ c is free. first_left c None (k c is (sym (idle_same c) ∙ free))
   idle_there e (Some (finding.Idle c u)) k = (k.0, idle_same c ∙ k.1, first_left c (Some u) k.2)
   idle_there e (Some (finding.Fault f)) k = k
   idle_there e (Some (finding.Stall u)) k = k

@@ -1,4 +1,4 @@
--- What steps of a machine come to doesn't depend on what is hidden: callbacks, ejections, and a task that is put.
+-- Callbacks, ejections and puts lead from two states that are the same but for hidden parts to two such states.
 use Rattle.std.proofs.Common.{◌≡◌, ℕ, zero, suc, Bool, true, false, cond, List, [], ◌∷◌, ◌++◌, length, map, ◌&&◌, Option, Some, None, is_some, refl, sym, ap, ◌∙◌, subst}
 use mathlib.Core.List.{map-append}
 use Rattle.scx_dsq.specs.Queues.{front_of}

@@ -1,4 +1,4 @@
--- What the small steps of a world make of it doesn't depend on what is hidden.
+-- Each small step leads from two worlds that are the same but for hidden parts to two such worlds.
 use Rattle.std.proofs.Common.{◌≡◌, ℕ, zero, suc, ◌+◌, ◌-◌, ◌*◌, ◌/◌, ◌&&◌, min, max, Bool, true, false, cond, nat_lt, is_none, List, ◌++◌, length, Option, Some, None, unwrap_or, refl, sym, ap, ◌∙◌}
 use Rattle.scx_dsq.specs.Calls.{after_push, after_pop}
 use Rattle.scx_dsq.specs.declared.entries.Rank.TheVariants.{Fifo, Front, Vtime}
@@ -79,7 +79,7 @@ module _ (h : Hidden) where
       ap (λ (c : ℕ). unwrap_or (choice w t) c) (read (λ x. x.prev_cpu) (λ x. refl) w t)
       ∙ ap (λ (o : Option ℕ). unwrap_or o (task_at (hide h w) t).prev_cpu) (chosen_same w t)
 
-  -- who waits too long, where waits aren't hidden
+  -- a task that waits too long, if waits aren't hidden
   pub overdue_same : h.waits ≡ false → (w : WorldState) (limit : ℕ) → first_overdue w limit ≡ first_overdue (hide h w) limit
   overdue_same e w limit = first_same h (is_overdue w.clock limit) (λ x. ap (λ (b : Bool). is_late w.clock limit (since_unless b x.since)) (sym e)) w.tasks
 

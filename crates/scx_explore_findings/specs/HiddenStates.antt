@@ -23,7 +23,7 @@ abbrev pub hide_step : Hidden → Stepped → Stepped
 hide_step h r =
     record { state = hide_state h r.state; notes = r.notes; calls = map (hide_call h) r.calls }
 
--- once the clock has grown: periods have begun, and who may run again was let go
+-- the clock has grown: periods have begun, and tasks that may run again were let go
 abbrev pub once_let_go : State → Stepped
 once_let_go s = let_all_go (with_world s (begun_periods (later s.world)))
 
@@ -31,8 +31,8 @@ once_let_go s = let_all_go (with_world s (begun_periods (later s.world)))
 abbrev pub once_later : State → Stepped
 once_later s = fire_all (once_let_go s).state
 
--- who has waited for too long once the clock has grown, while the policy is in force; in other
--- events nobody looks
+-- the task that has waited for too long once the clock has grown, while the policy is in force; no
+-- other event looks for one
 abbrev pub late_in : State → Event → Option ℕ
 late_in s (Wake t) = None
 late_in s (Sleep t) = None

@@ -17,3 +17,5 @@ pub mod HiddenLoads
 pub mod FifoOnly
 pub mod ReachedStates
 pub mod QueueOrder
+pub mod UnreadParts
+pub mod Between

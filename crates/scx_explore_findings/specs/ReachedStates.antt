@@ -1,4 +1,4 @@
--- What machines show that are the same but for what is hidden: what a search looks for, and words.
+-- Machines that differ only in hidden parts show a search the same, and have the same words.
 use Rattle.std.specs.Prelude.{◌≡◌, ℕ, ◌+◌, ◌≤◌, true, List, length, Option}
 use Rattle.scx_sched_machine.specs.declared.events.Event.{Event}
 use Rattle.scx_sched.specs.Sim.{SimState, IsValid}

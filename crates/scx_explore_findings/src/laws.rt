@@ -1,5 +1,6 @@
 ghost use Rattle.scx_explore_findings.specs.FifoOnly.{FirstStatesAreInOrder, NobodyWaitsByVtime};
-ghost use Rattle.scx_explore_findings.specs.QueueOrder.{EventsDontDependOnPushes, ListsDontDependOnPushes, PushesShowNothing};
+ghost use Rattle.scx_explore_findings.specs.Between.{EventsKeepQueuesSound, EventsLeaveNoNotes};
+ghost use Rattle.scx_explore_findings.specs.UnreadParts.{EventsReadNoSuchPart, ListsReadNoSuchPart, SuchPartsShowNothing};
 ghost use Rattle.scx_explore_findings.specs.ReachedStates.{SameMachinesShowTheSame, ReachedStatesGoAlike};
 ghost use Rattle.scx_explore_findings.specs.HiddenLoads.{LoadsAreTold};
 ghost use Rattle.scx_explore_findings.specs.HiddenLaws.{EventsDontDepend, ListsDontDepend, NobodyIsLate, WordsDontDepend};
@@ -58,13 +59,20 @@ pub fn reached_states_go_alike()
     ensures { ReachedStatesGoAlike }
 {}
 
-/// The order numbers of pushes are only compared within one queue. Under any policy, if in two machines the same tasks wait
-/// in the same queues and leave them in the same order, and all else is the same, an event is refused for the same cause,
-/// the same is noted, and so it is again after it; and after a list of events. Both show the same: the cause of an
-/// ejection, idle CPUs, and the words of a form that leaves out the number of pushes. How many events each machine has
-/// accepted may differ, while there is room for more. The function does nothing: its contract is the law.
-pub fn order_numbers_change_nothing()
-    ensures event { EventsDontDependOnPushes }
-    ensures list { ListsDontDependOnPushes }
-    ensures shown { PushesShowNothing }
+/// Some parts of a machine change nothing: the order numbers of pushes, the last callback, kicks under plain rules, usages
+/// of groups where none has a quota, and the number of accepted events, while there is room for more. Under any policy, if
+/// two machines are the same but for these, an event is refused for the same cause, the same is noted, and they are so
+/// again after it; and after a list of events. Both show the same: the cause of an ejection, idle CPUs, and the words of
+/// a form that leaves out the number of pushes. The function does nothing: its contract is the law.
+pub fn unread_parts_change_nothing()
+    ensures event { EventsReadNoSuchPart }
+    ensures list { ListsReadNoSuchPart }
+    ensures shown { SuchPartsShowNothing }
+{}
+
+/// Between two events no note is left, and while the policy is in force the host tracks idle CPUs as it did; and queues are
+/// sound: each task that waits has a number of its own. The function does nothing: its contract is the law.
+pub fn events_leave_no_notes()
+    ensures notes { EventsLeaveNoNotes }
+    ensures queues { EventsKeepQueuesSound }
 {}

@@ -36,7 +36,7 @@ impl Model for Watch {
 }
 
 impl Watch {
-    /// Nobody waits. The tasks' groups are those of the list; tasks past the eighth aren't watched.
+    /// A watch while no task waits. The list has each task's group; tasks past the eighth aren't watched.
     pub fn new(homes: &[u32]) -> Watch {
         let mut together = [Tasks::NONE; MOST_TASKS];
         for task in 0..MOST_TASKS {
@@ -52,7 +52,7 @@ impl Watch {
         }
     }
 
-    /// Goes on from a state in which these began.
+    /// Resumes from a machine's state, with the tasks that had begun to run.
     pub fn begin(&mut self, sim: &Sim, began: u64) {
         let mut waiting = Tasks::NONE;
         for task in 0..WATCHED {
@@ -63,7 +63,7 @@ impl Watch {
         self.go_on(Watched { waiting, began });
     }
 
-    /// Goes on from where that was known.
+    /// Resumes from a saved state.
     #[inline(always)]
     pub fn go_on(&mut self, watched: Watched) {
         self.waiting = watched.waiting;

@@ -10,7 +10,7 @@ use scx_vm::Args;
 use scx_vm_run::Core;
 use std::marker::Model;
 
-/// Who looks on while events happen.
+/// The observers of events: the watch of waits, and the most instructions.
 ///
 /// In a contract it is nothing: whatever it keeps, events do the same.
 #[derive(Drop)]

@@ -77,7 +77,7 @@ impl Machines {
         self.free.pop()
     }
 
-    /// Nobody has that machine any more.
+    /// Frees that machine, which no state has any more.
     pub fn free(&mut self, machine: usize) {
         push(&mut self.free, machine);
     }

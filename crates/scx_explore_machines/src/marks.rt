@@ -3,7 +3,7 @@ ghost use Rattle.std.specs.Prelude.{◌≤◌, length};
 use std::alloc::{AllocError, Global};
 use std::marker::Model;
 
-/// In how many places a state is looked for.
+/// The number of places in which a state is looked for.
 pub(crate) const PROBES: usize = 256;
 
 /// The number of places at first.

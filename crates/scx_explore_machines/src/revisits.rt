@@ -61,8 +61,8 @@ impl Closed {
     }
 }
 
-/// States for which there was no room. They are gone through again in each depth, as often as lists come to them, from
-/// the kept states that lead to them.
+/// States for which there was no room. At each depth they are visited again from the kept states that lead to them, as
+/// often as lists reach them.
 ///
 /// In a contract it is nothing.
 #[derive(Drop)]

@@ -24,7 +24,7 @@ pub enum Entered {
     Full,
 }
 
-/// Where a state is kept, or may be.
+/// The place in which a state is kept, or could be.
 #[derive(Clone, Copy)]
 pub(crate) enum Place {
     Of(usize),
@@ -136,7 +136,7 @@ impl Seen {
         }
     }
 
-    /// Where the state is kept, or may be.
+    /// The place in which the state is kept, or could be.
     fn look(&self, state: &[u64]) -> Place
         ensures { IsPlace self.now state.now result }
     {
@@ -185,7 +185,7 @@ impl Seen {
         Entered::New(number)
     }
 
-    /// Where many of the places are taken there are more of them, and each state has another one.
+    /// If many of the places are taken, makes more of them, and finds each state a new one.
     fn widen_if_few(&mut self)
         ensures { self.new ≡ self.old }
     {

@@ -2,3 +2,4 @@ mod Eight
 mod Placed
 mod Putting
 mod Spots
+mod Telling

@@ -49,7 +49,7 @@ own_values (suc (suc (suc (suc (suc (suc zero)))))) few = refl
 own_values (suc (suc (suc (suc (suc (suc (suc zero))))))) few = refl
 own_values (suc (suc (suc (suc (suc (suc (suc (suc t)))))))) few = absurd (omega (arith, few))
 
-own_tasks : (t : ℕ) → t < 8 → task_in own_order t ≡ t
+pub own_tasks : (t : ℕ) → t < 8 → task_in own_order t ≡ t
 own_tasks zero few = refl
 own_tasks (suc zero) few = refl
 own_tasks (suc (suc zero)) few = refl

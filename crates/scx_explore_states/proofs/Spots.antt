@@ -4,7 +4,7 @@ use Rattle.scx_explore_states.specs.Rows.{bit_of}
 use Rattle.scx_explore_states.specs.Laws.{NumbersTell}
 
 -- a bit is 0 or 1
-bit_small : (b : Bool) → bit_of b < 2
+pub bit_small : (b : Bool) → bit_of b < 2
 bit_small true = omega arith
 bit_small false = omega arith
 

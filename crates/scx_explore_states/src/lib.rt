@@ -14,7 +14,7 @@ mod words;
 mod written;
 
 pub use form::{Form, MOST_TASKS};
-pub use laws::half_words_tell;
+pub use laws::{half_words_tell, words_tell};
 pub use queue_numbers::QueueNumbers;
 pub use rows::MOST_CPUS;
 pub use step::{Step, Tasks};

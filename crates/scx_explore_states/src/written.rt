@@ -21,8 +21,8 @@ use scx_vm::Env;
 type TaskOrder = [u8; MOST_TASKS];
 
 impl Form {
-    /// Writes the state, and who began to run while another waits, in place of the words that are there. The queues in
-    /// which tasks wait have numbers from now on. What has no room is left out.
+    /// Overwrites the words with the state, and the tasks that began to run while another waits. The queues in which
+    /// tasks wait have numbers from now on. Parts without room are left out.
     pub fn write(self, sim: &Sim, began: u64, words: &mut Words) {
         let rows = rows_of(self, sim, &mut words.numbers);
         let order = self.order_of(sim, &rows, began);
@@ -54,7 +54,7 @@ impl Form {
         are_known(sim, numbers)
     }
 
-    /// Who began to run while another waits, in a state that was written as those words, with queues numbered so.
+    /// The tasks that began to run while another waits, in a state written as those words with these queue numbers.
     pub fn began_in(self, sim: &Sim, state: &[u64], numbers: &QueueNumbers) -> u64 {
         let began = match state.first() {
             Some(began) => *began,

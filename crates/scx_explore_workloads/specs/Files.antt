@@ -30,8 +30,8 @@ pub record IsRunOf (v w : WorkloadState) (s : SimState) (events : List Event) : 
 
 -- the text is the file of a workload with these parts, for a policy by the machine's rules, whose
 -- events, for that machine, begin with the list
-pub record IsFileOf (w : WorkloadState) (s : SimState) (events : List Event) (text : List ℕ) : Type 0
-  where
-    pub file : WorkloadState
-    pub read : workload_by s.state.world.rules text ≡ Ok file
-    pub run : IsRunOf file w s events
+pub record IsFileOf (w : WorkloadState) (s : SimState) (events : List Event) (text : List ℕ)
+    : Type 0 where
+  pub file : WorkloadState
+  pub read : workload_by s.state.world.rules text ≡ Ok file
+  pub run : IsRunOf file w s events

@@ -93,7 +93,7 @@ concluded_any (Ok true) done moves n m is none = sym (ap (λ (x : Nones). x.reac
 concluded_any (Ok false) done moves n m is none = absurd (no_reach m.reach _ (ap (λ (x : Nones). x.reach) is) none)
 concluded_any (Err e) done moves n m is none = absurd (no_reach m.reach _ (ap (λ (x : Nones). x.reach) is) none)
 
--- and where states were gone through once more
+-- and where states were audited
 pub concluded_looked : {E : Type 0} (r : Result Bool E) (done : ℕ) (moves : Moves) (n m : Nones) → m ≡ concluded r done moves n → m.reach ≡ None → IsSome m.again
 concluded_looked (Ok true) done moves n m is none = subst IsSome (sym (ap (λ (x : Nones). x.again) is)) refl
 concluded_looked (Ok false) done moves n m is none = absurd (no_reach m.reach _ (ap (λ (x : Nones). x.reach) is) none)
@@ -117,7 +117,7 @@ concluded_some (Ok false) done moves n m is =
 concluded_some (Err e) done moves n m is =
     subst (λ (x : Nones). IfSome x.reach (λ depth. (n.reach ≡ Some depth) ⊎ ((n.reach ≡ None) × (depth ≡ done)))) (sym is) (of_done done n.reach)
 
--- and what is said to be gone through once more is so
+-- and what is said of the audit is so
 pub concluded_again : {E : Type 0} (r : Result Bool E) (done : ℕ) (moves : Moves) (form : Form) (w : WorkloadState) (s : SimState) (n m : Nones) → m ≡ concluded r done moves n
     → MayBeLooked n.bounds w moves → (r ≡ Ok true → IsSure form n.bounds moves n.reach n.sorts s) → IfSome m.again (IsGoneThrough form w s m)
 concluded_again (Ok true) done moves form w s n m is may sure =
@@ -126,7 +126,7 @@ concluded_again (Ok true) done moves form w s n m is may sure =
 concluded_again (Ok false) done moves form w s n m is may sure = subst (λ (x : Nones). IfSome x.again (IsGoneThrough form w s x)) (sym is) tt
 concluded_again (Err e) done moves form w s n m is may sure = subst (λ (x : Nones). IfSome x.again (IsGoneThrough form w s x)) (sym is) tt
 
--- states weren't gone through once more
+-- states were not audited
 pub not_looked : (form : Form) (w : WorkloadState) (s : SimState) (n m : Nones) (reach : Option ℕ) → m ≡ record n { again = None; reach = reach } → IfSome m.again (IsGoneThrough form w s m)
 not_looked form w s n m reach is = subst (λ (x : Nones). IfSome x.again (IsGoneThrough form w s x)) (sym is) tt
 

@@ -1,4 +1,4 @@
--- How a search begins. No public clause cites it.
+-- The start of a search. No public clause cites it.
 use Rattle.std.specs.Prelude.{◌≡◌, ℕ, List}
 use Rattle.scx_load_workloads.specs.Workload.{WorkloadState}
 use Rattle.scx_sched.specs.Sim.{SimState}
@@ -10,8 +10,8 @@ use Rattle.scxsim_explore.specs.declared.beginning.Start.{Start}
 use Rattle.scxsim_explore.specs.declared.beginning.Start.TheVariants.{Past, Within}
 use Rattle.scxsim_explore.specs.Words.{IsPastIn, IsPastTexts, IsWithin}
 
--- the texts stand for the run of that workload from that machine, which is past no limit, and
--- states of lists within the bounds are written in that form
+-- the texts give the run of that workload from that machine, which is past no limit, and states of
+-- lists within the bounds are written in that form
 pub record IsReady
     (policy workload : List ℕ) (b : Bounds) (w : WorkloadState) (first : SimState) (form : Form) :
     Type 0

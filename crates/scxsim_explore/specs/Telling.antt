@@ -1,4 +1,4 @@
--- What is written of all lists of events.
+-- The output of a search through lists of events.
 use Rattle.std.specs.Prelude.{◌≡◌, ℕ, ◌+◌, ◌-◌, ◌^◌, ◌≤◌, min, ⊤, ◌⊎◌, length, Bool, true, false, List, [], ◌∷◌, ◌++◌, Option, Some, None, IfSome, IsSome}
 use Rattle.std.specs.Io.KnownBytes.{Appends}
 use Rattle.scx_load_workloads.specs.Workload.{WorkloadState}
@@ -60,7 +60,7 @@ HasTold m w s old new = (told : List ToldList) × AreTold m w s told old new
 
 -- ---- what is in none of the lists
 
--- the moves of which lists of the mode are made, where they may be gone through once more
+-- the moves of which lists of the mode are made, if they may be audited
 abbrev pub moves_of : Mode → Option Moves
 moves_of mode.Events = Some moves.Events
 moves_of mode.Milliseconds = Some moves.Milliseconds
@@ -89,9 +89,9 @@ pub record IsSure
       room ≤ most_events b (length first.state.world.tasks) (length first.state.world.cpus)
   pub none : IsSureBy form moves limit sorts first room
 
--- States may only be said to have been gone through once more where the lists of the lines below
--- are all that are made of such moves, and where it is sure that none of these shows anything of
--- their sorts. Of tasks that are overtaken nothing is said.
+-- The summary may only say that states were audited if the lists of its lines are all lists of such
+-- moves, and if it is sure that none of these shows anything of their sorts. It says nothing of
+-- tasks that are overtaken.
 pub record IsGoneThrough
     (form : Form) (w : WorkloadState) (first : SimState) (n : Nones) (moves : Moves) : Type 0
   where
@@ -100,7 +100,7 @@ pub record IsGoneThrough
     pub changes : HasNoChanges n.bounds.mode w
     pub sure : IsSure form n.bounds moves n.reach n.sorts first
 
--- all lists within the bounds are made of such moves, so that they may be gone through once more
+-- all lists within the bounds are made of such moves, so that they may be audited
 pub record MayBeLooked (b : Bounds) (w : WorkloadState) (moves : Moves) : Type 0 where
   pub of_mode : moves_of b.mode ≡ Some moves
   pub all : b.few ≡ None
@@ -148,10 +148,10 @@ IsTold form w s b whole old new =
     (between : Option (List ℕ)) × (end : Option (List ℕ)) × HasTold b.mode w s old between
     × IsEnded form w s b between end × Appends end new (memory_line whole)
 
--- Lists within the bounds are written of which the machine that the texts stand for shows that they
--- are accepted and end in what is said of them, each with its events and its trace; then the
--- summary, with states written in the form that the policy's programs decide. The machine is past
--- no limit. The last line says whether memory ran out meanwhile.
+-- The output has lists within the bounds, each with its events and its trace, then the summary, and
+-- a last line if memory ran out meanwhile. The machine of the texts accepts each list, and the list
+-- ends in what is said of it. States have the form that the policy's programs decide. The machine
+-- is past no limit.
 pub record IsExplored
     (policy workload : List ℕ) (b : Bounds) (whole : Bool) (old new : Option (List ℕ)) : Type 0
   where
@@ -169,8 +169,8 @@ abbrev pub IsLimited :
 IsLimited policy workload l old new =
     (past : Limit) × IsPast policy workload l past × Appends old new (limit_line past)
 
--- What is written if that is the answer: lists within the bounds that the words name. The answer is
--- false if a word or the machine is past a limit, and if memory ran out meanwhile.
+-- The output for that answer: lists within the bounds that the arguments name. The answer is false
+-- if an argument or the machine is past a limit, and if memory ran out meanwhile.
 abbrev pub IsAnswer :
     Bool → List ℕ → List ℕ → Lists → Option (List ℕ) → Option (List ℕ) → Type 0
 IsAnswer true policy workload l old new =

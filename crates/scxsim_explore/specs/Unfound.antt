@@ -1,4 +1,4 @@
--- What is said of the lists after a search and an audit. No public clause cites it.
+-- The summary of the lists after a search and an audit. No public clause cites it.
 use Rattle.std.specs.Prelude.{ℕ, ◌+◌, ◌-◌, ◌^◌, min, Bool, true, false, Option, Some, None, unwrap_or, Result, Ok, Err}
 use Rattle.scx_explore_audit.specs.declared.table.Moves.{Moves}
 use Rattle.scx_explore.specs.declared.course.End.{End}
@@ -12,7 +12,7 @@ concluded (Ok true) done moves n = record n { again = Some moves }
 concluded (Ok false) done moves n = record n { reach = Some (unwrap_or n.reach done); again = None }
 concluded (Err e) done moves n = record n { reach = Some (unwrap_or n.reach done); again = None }
 
--- the depth up to which all lists were gone through; none where no depth has further states
+-- the depth up to which all lists were searched; none if no depth has further states
 abbrev pub reach_of : End → Option ℕ
 reach_of Ended = None
 reach_of (At depth) = Some depth

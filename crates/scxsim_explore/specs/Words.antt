@@ -107,7 +107,7 @@ IsLarge s limit.Changes = ⊥
 abbrev pub HasManyChanges : Bounds → WorkloadState → Type 0
 HasManyChanges b w = (b.mode ≡ mode.Events) × (64 < length w.changes)
 
--- what the texts stand for is past that limit in lists within the bounds, and past none before it
+-- this machine and workload are past that limit in lists within the bounds, and past none before it
 abbrev pub IsPastIn : Bounds → WorkloadState → SimState → Limit → Type 0
 IsPastIn b w s limit.Mode = ⊥
 IsPastIn b w s limit.Depth = ⊥

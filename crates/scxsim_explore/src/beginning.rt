@@ -206,8 +206,8 @@ fn search_of(
     Search::new(alloc, form, bounds, root, machines, about, ROOM)
 }
 
-/// The number of machines that tell what was found. One goes through a list once more, and one writes its trace. For
-/// each list of milliseconds two more look for its workload file.
+/// The number of machines that tell what was found. One runs a list again, and one writes its trace. For each list of
+/// milliseconds two more look for its workload file.
 fn told_by(mode: Mode) -> usize {
     match mode {
         Mode::Events => 2,

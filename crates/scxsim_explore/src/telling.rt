@@ -43,7 +43,7 @@ pub(crate) fn tell<V: Watcher, W: Out>(
     write_memory(is_whole, out)
 }
 
-/// Goes through the lists, and writes what is found.
+/// Searches the lists, and writes the findings.
 fn search<V: Watcher, W: Out>(
     begun: &mut Begun,
     about: &Workload,

@@ -50,7 +50,7 @@ depth_unit mode.Events = codes ""
 depth_unit mode.Milliseconds = codes " ms"
 depth_unit mode.Workloads = codes " ms"
 
--- how many events were tried and, where states had no room, how often such were gone through
+-- the number of events tried and, if states had no room, the number of visits to such states
 abbrev pub tried_words : ℕ → Option ℕ → List ℕ
 tried_words events None = codes " events " ++ decimal events ++ codes "\n"
 tried_words events (Some n) =
@@ -78,7 +78,7 @@ abbrev pub misfit_line : Mode → Option ℕ → List ℕ
 misfit_line m None = []
 misfit_line m (Some depth) = codes "depth " ++ decimal depth ++ misfit_end m
 
--- How far a search came: whether tasks of a group count as alike, the depths before the last one
+-- The depths of a search: whether tasks of a group count as alike, the depths before the last one
 -- that are told, the last one, and the depth that doesn't fit.
 pub record Depths : Type 0 where
   pub alike : Bool
@@ -143,13 +143,12 @@ overtaken_line b reach true = none_line b reach sort.Overtaken
 -- the states were audited, by such moves
 abbrev pub again_line : Option Moves → List ℕ
 again_line None = []
-again_line (Some moves.Events) = codes "gone through once more for faults and idle processors\n"
-again_line (Some moves.Milliseconds) =
-    codes "gone through once more for faults, stalls and idle processors\n"
+again_line (Some moves.Events) = codes "audited: faults, idle CPUs\n"
+again_line (Some moves.Milliseconds) = codes "audited: faults, stalls, idle CPUs\n"
 
--- What is in none of the lists that were searched within these bounds: the most events or
--- milliseconds of a list, where that is bounded; the sorts, whether overtaken tasks are one of
--- them, and by which moves the states were audited, if they were.
+-- The sorts of findings that no list within these bounds shows: the most events or milliseconds of
+-- a list, if that is bounded; the sorts, whether overtaken tasks are one of them, and the moves by
+-- which the states were audited, if they were.
 pub record Nones : Type 0 where
   pub bounds : Bounds
   pub reach : Option ℕ

@@ -172,7 +172,7 @@ fn write_level<W: Out>(mode: Mode, level: Level, out: &mut W) -> Result<(), Fail
     write_tried(level.events, level.again, out)
 }
 
-/// Writes how many events were tried and, if states had no room, how often such were gone through.
+/// Writes the number of events tried and, if states had no room, the number of visits to such states.
 fn write_tried<W: Out>(events: u64, again: Option<u64>, out: &mut W) -> Result<(), Failed>
     ensures ok { OnOk result (Appends (W.contents out.old) (W.contents out.new)
         (tried_words events again)) }
@@ -241,10 +241,8 @@ fn again_text(again: Option<Moves>) -> &'static str
     ensures { result.now ≡ again_line again }
 {
     match again {
-        Some(Moves::Events) => "gone through once more for faults and idle processors\n",
-        Some(Moves::Milliseconds) => {
-            "gone through once more for faults, stalls and idle processors\n"
-        }
+        Some(Moves::Events) => "audited: faults, idle CPUs\n",
+        Some(Moves::Milliseconds) => "audited: faults, stalls, idle CPUs\n",
         None => "",
     }
 }

@@ -1,0 +1,12 @@
+use Rattle.scx_explore_findings.proofs.SameMachines.{events_read_no_such_part, lists_read_no_such_part}
+use Rattle.scx_explore_findings.proofs.SameShown.{such_parts_show_nothing}
+use Rattle.scx_explore_findings.proofs.laws.unread_parts_change_nothing.Goals as goal
+
+pub returns-clause-event : goal.returns-clause-event
+returns-clause-event c = events_read_no_such_part
+
+pub returns-clause-list : goal.returns-clause-list
+returns-clause-list c = lists_read_no_such_part
+
+pub returns-clause-shown : goal.returns-clause-shown
+returns-clause-shown c = such_parts_show_nothing
