@@ -1,5 +1,4 @@
 -- No event of a scenario is refused.
-use Rattle.std.proofs.Common.{List}
 use Rattle.scx_sched_machine.specs.Policy.{PolicyState}
 use Rattle.scx_sched.specs.Sim.{SimState, IsFirstState}
 use Rattle.scx_load_workloads.specs.Workload.{IsWorkload, first_tree}

@@ -20,7 +20,7 @@ use Rattle.scx_load_replay.specs.Lines.{ProgressState, no_lines, text_behind}
 
 -- ---- lines
 
--- what was read of the line of that number, or its fault
+-- a line of that number as it was read, or its fault
 abbrev pub at_line : {A : Type 0} → ℕ → Result A EventFault → Reading A
 at_line n (Ok x) = Ok x
 at_line n (Err f) = refusal (codes "events") (cause.Event f n)
@@ -32,7 +32,7 @@ lines_from rules w n p [] = Ok p
 lines_from rules w n p (text ∷ texts) =
     at_line n (text_behind rules w p text) >>= λ q. lines_from rules w (n + 1) q texts
 
--- what the lines of a text say of that workload
+-- the progress of a file of events by the lines of a text, for that workload
 abbrev pub lines_in : Rules → WorkloadState → List ℕ → Reading ProgressState
 lines_in rules w text = lines_from rules w 1 (no_lines w) (lines text)
 
@@ -65,7 +65,7 @@ unknown_keys rules ms =
 abbrev pub known_file_keys : Rules → Members → Reading ⊤
 known_file_keys rules ms = known_alone (unknown_keys rules ms)
 
--- what the table of a file says
+-- the file of events that a table says
 abbrev pub replay_file : Rules → Members → Reading ReplayState
 replay_file rules ms = do
   known ← known_file_keys rules ms

@@ -6,7 +6,7 @@ use Rattle.scx_isa_semantics.specs.declared.instructions.Insn.TheVariants as ins
 use Rattle.scx_isa_semantics.specs.declared.instructions.Operand.{Operand}
 use Rattle.scx_isa_semantics.specs.declared.instructions.Operand.TheVariants as operand
 use Rattle.scx_isa_semantics.specs.declared.operations.Width.{Width}
-use Rattle.scx_isa_semantics.specs.declared.operations.Width.TheVariants.{Bits32, Bits64}
+use Rattle.scx_isa_semantics.specs.declared.operations.Width.TheVariants.{Bits64}
 use Rattle.scx_isa_semantics.specs.declared.operations.Operation.{Operation}
 use Rattle.scx_isa_semantics.specs.declared.operations.Operation.TheVariants.{Add, Move}
 use Rattle.scx_isa_semantics.specs.declared.registers.Register.{Register}
@@ -167,7 +167,8 @@ greatest_in (Some k) = greatest k
 abbrev pub greatest_before : Listing → Point → Option ℕ
 greatest_before l p = greatest_in (kind_before l p)
 
--- the instruction does what is looked for with a register, with its greatest number before and after
+-- the instruction does what is looked for with a register, with its greatest number before it and
+-- after it
 abbrev pub is_sought : Sought → Role → Option ℕ → Option ℕ → Bool
 is_sought sought.Write role.Written before after = true
 is_sought sought.Write role.Computed before after =
@@ -192,7 +193,8 @@ pub record Passes (l : Listing) (p : Point) (brought : Brought) (i : Insn) (befo
     : Type 0 where
   pub brings : BringsGreatest l p brought
   pub there : at l.code.items brought.from ≡ Some i
-  pub before_it : kind_before l (record { slot = brought.from; register = p.register }) ≡ Some before
+  pub before_it : kind_before l (record { slot = brought.from; register = p.register })
+      ≡ Some before
 
 -- it does what is looked for
 abbrev pub is_sought_by : Sought → Register → Insn → Kind → Kind → Bool
@@ -277,7 +279,8 @@ pub record IsTraced (l : Listing) (pointer : Point) (i : Insn) (is_only : Bool) 
   pub pointer_is : lost.pointer ≡ pointer
   pub only : lost.is_only ≡ is_only
   pub added : role_of i pointer.register ≡ role.Moved lost.number
-  pub known : kind_before l (record { slot = pointer.slot; register = lost.number }) ≡ Some lost.known
+  pub known : kind_before l (record { slot = pointer.slot; register = lost.number })
+      ≡ Some lost.known
   pub moved : IfSome lost.moved (IsFound l pointer sought.Move)
   pub write : IfSome lost.write
       (IsFound l (record { slot = pointer.slot; register = lost.number }) sought.Write)

@@ -28,7 +28,7 @@ pub(crate) enum Role {
     Copied(Register),
     /// 64-bit arithmetic with a number in the text changes it.
     Computed,
-    /// That one is added to it.
+    /// Another register is added to it.
     Moved(Register),
     /// It is written otherwise.
     Written,

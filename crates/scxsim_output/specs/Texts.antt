@@ -1,4 +1,5 @@
--- A text that is put together piece by piece, as long as there is memory: its bytes, or none where memory ran out.
+-- A text that is put together piece by piece, as long as there is memory: its bytes, or none where
+-- memory ran out.
 use Rattle.std.specs.Prelude.{ℕ, ◌≡◌, List, ◌++◌, Option, IfSome, IsSomeAnd}
 
 -- a piece was appended, or it is cut off

@@ -1,5 +1,5 @@
--- What the texts of a policy file and of a file of events say together: a run, with its trace, or
--- why they are refused.
+-- The texts of a policy file and of a file of events say a run together, with its trace, or are
+-- refused.
 use Rattle.std.specs.Prelude.{◌≡◌, ℕ, ℤ, List, ⊤, Ok, Err, string_bytes}
 use Rattle.scx_isa_semantics.specs.declared.callbacks.Callback as callbacks
 use Rattle.scx_verify.specs.declared.faults.Fault.{Fault}

@@ -1,5 +1,5 @@
--- What the texts of a policy file and of a workload file say together: a run, with its trace and
--- its report, or why they are refused.
+-- The texts of a policy file and of a workload file say a run together, with its trace and its
+-- report, or are refused.
 use Rattle.std.specs.Prelude.{◌≡◌, ℕ, ℤ, false, List, [], ◌∷◌, ◌++◌, Option, ⊤, Ok, Err, string_bytes}
 use Rattle.scx_isa_semantics.specs.declared.callbacks.Callback as callbacks
 use Rattle.scx_isa_semantics.specs.declared.rules.Rules.{Rules}

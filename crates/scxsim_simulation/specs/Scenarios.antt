@@ -1,4 +1,4 @@
--- What the texts of a policy file and of a scenario say together: a run, or why they are refused.
+-- The texts of a policy file and of a scenario say a run together, or are refused.
 use Rattle.std.specs.Prelude.{◌≡◌, ℕ, ℤ, Bool, true, false, List, ⊤, Ok, Err}
 use Rattle.scx_isa_semantics.specs.declared.callbacks.Callback as callbacks
 use Rattle.scx_isa_semantics.specs.declared.rules.Rules.{Rules}

@@ -75,7 +75,7 @@ HandsOn lead at_end view has_failed shows s n t =
 -- such a sink as an event comes
 abbrev pub ComesTo :
     {S G V : Type 0}
-    → (S → G) → (S → Bool) → (S → V) → (V → SimState → Event → V → Type 0) → S → SimState → Event → S
-    → Type 0
+    → (S → G) → (S → Bool) → (S → V) → (V → SimState → Event → V → Type 0) → S → SimState → Event
+    → S → Type 0
 ComesTo lead at_end view expects s m e t =
     (lead t ≡ lead s) × (at_end t ≡ is_at_end e) × expects (view s) m e (view t)

@@ -40,8 +40,8 @@ StaysInOrder s (e ∷ es) = IsInOrder s × GoesWell s e × StaysInOrder (after_e
 -- after another, up to the end or to the first event after which it has failed.
 abbrev pub Observed :
     {S : Type 0}
-    → (S → SimState → Event → S → Type 0) → (S → Note → S → Type 0) → (S → Bool) → List Event → SimState
-    → S → SimState → S → Type 0
+    → (S → SimState → Event → S → Type 0) → (S → Note → S → Type 0) → (S → Bool) → List Event
+    → SimState → S → SimState → S → Type 0
 Observed comes takes has_failed [] s a t b = (t ≡ s) × (b ≡ a) × IsInOrder s
 Observed {S} comes takes has_failed (e ∷ es) s a t b =
     (d : S) × (c : S) × comes a s e d × Takes takes d (notes_of s e) c × IsInOrder s × GoesWell s e
