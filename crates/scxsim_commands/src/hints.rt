@@ -6,6 +6,8 @@ use crate::refusal::Refusal;
 pub enum Hint {
     /// An ELF object, as compilers write.
     Object,
+    /// An ELF object, where a policy, a workload or a file of events is wanted.
+    ObjectOfPolicy,
     /// Assembler text, where slots are wanted.
     Text,
     /// Slots, where a text is wanted.
@@ -25,6 +27,8 @@ impl Hint {
             Hint::Object => {
                 "this is an ELF object: cut out its code with llvm-objcopy -O binary --only-section=.text OBJECT SLOTS"
             }
+            Hint::ObjectOfPolicy =>
+                "this is an ELF object: scxsim-build makes a policy of the C that it was compiled from",
             Hint::Text => "this is a text: scxsim asm makes slots of it",
             Hint::Slots =>
                 "this is no text: scxsim exec runs slots, and scxsim dis turns them into text",
@@ -71,6 +75,14 @@ pub fn hint_of_text(bytes: &[u8]) -> Option<Hint> {
         return Some(Hint::Slots);
     }
     None
+}
+
+/// A hint at what a refused policy, workload or file of events may have been meant as.
+pub fn hint_of_tables(bytes: &[u8]) -> Option<Hint> {
+    match hint_of_text(bytes) {
+        Some(Hint::Object) => Some(Hint::ObjectOfPolicy),
+        hint => hint,
+    }
 }
 
 /// True if a text of ASCII may have the byte.

@@ -30,7 +30,7 @@ pub use ejections::Ejection;
 pub use executing::exec;
 pub use file::{FILE_LIMIT, read_file};
 pub use finishing::finish;
-pub use hints::{Hint, hint_of_refusal, hint_of_slots, hint_of_text};
+pub use hints::{Hint, hint_of_refusal, hint_of_slots, hint_of_tables, hint_of_text};
 pub use lines::{Line, write_unread};
 pub use refusal::{Fault, FileKind, MOST_STRETCHES, Refusal, Word};
 pub use scxsim_output::{Counted, Failed, Out, write_all};

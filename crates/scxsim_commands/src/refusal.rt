@@ -86,7 +86,7 @@ pub enum Refusal {
 /// The most stretches of time on a page.
 pub const MOST_STRETCHES: u64 = 3_750_000;
 
-/// A word of a command that isn't a path.
+/// An argument of a command that isn't a path.
 #[derive(Clone, Copy, PartialEq, Eq)]
 pub enum Word {
     /// The millisecond with which a part of a run begins.

@@ -1,5 +1,5 @@
--- The text that `explain-one` writes: of one program the line of its verdict and its listing, or that the
--- policy has no program of that name.
+-- The text that `explain-one` writes: of one program the line of its verdict and its listing, or
+-- that the policy has no program of that name.
 use Rattle.std.specs.Prelude.{◌≡◌, ℕ, Bool, false, List, ◌++◌, codes, Option, Some, None, Ok}
 use Rattle.scx_isa_semantics.specs.declared.callbacks.Callback.{Callback}
 use Rattle.scx_isa_semantics.specs.Callbacks.{callbacks, callback_name}

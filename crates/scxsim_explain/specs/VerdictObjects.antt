@@ -1,5 +1,5 @@
--- The JSON objects of verdicts, one on a line for each callback that is there. An object says what the line of the
--- verdict says.
+-- The JSON objects of verdicts, one on a line for each callback that is there. An object says what
+-- the line of the verdict says.
 use Rattle.std.specs.Prelude.{ℕ, List, [], ◌∷◌, ◌++◌, codes, decimal, Option, Some, None}
 use Rattle.json.specs.Json.{Json, string, number, object, Members, no_members, member}
 use Rattle.json.specs.Tree.{json_tokens}

@@ -119,13 +119,21 @@ fn push_advice_on_field(line: &mut Text, rules: Rules, field: BadField) {
 
 fn push_advice_on_call(line: &mut Text, rules: Rules, call: BadCall) {
     match call {
-        BadCall::Unknown(_) => line.push("take the number from the table of helpers"),
+        BadCall::Unknown(number) => line.push(advice_on_unknown(number)),
         BadCall::NotHere { number, .. } => push_callbacks(line, rules, number),
         BadCall::Argument {
             kind,
             parameter,
             ..
         } => line.push(advice_on_argument(kind, parameter)),
+    }
+}
+
+/// Advice where the rules know no helper of that number. A helper that exists is one of Linux rules.
+fn advice_on_unknown(number: i32) -> &'static str {
+    match Helper::new(number) {
+        Some(_) => "rules = \"linux\" has it",
+        None => "take the number from the table of helpers",
     }
 }
 

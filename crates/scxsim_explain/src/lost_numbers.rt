@@ -105,7 +105,7 @@ fn is_bounded(kind: &Kind) -> bool {
     }
 }
 
-/// What is known of a number.
+/// The range of a number that is known.
 fn range_of(kind: &Kind) -> Option<Range> {
     match *kind {
         Kind::Num(numbers) => Some(numbers.range()),

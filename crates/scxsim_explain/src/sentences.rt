@@ -3,7 +3,7 @@ use crate::lost_numbers::push_lost;
 use crate::words::{Members, from_top, push_register, push_spoken, step_of, wanted};
 use scx_abs::Kind;
 use scx_asm_text::field_name;
-use scx_isa::{Parameter, Register, Rules, STACK_SIZE};
+use scx_isa::{Helper, Parameter, Register, Rules, STACK_SIZE};
 use scx_verify_explain::{
     BadAccess, BadCall, BadField, BadFlow, BadValue, Brought, Explanation, Leg, Memory, Origin,
     Place, Reach, Reason,
@@ -226,7 +226,12 @@ fn push_field(line: &mut Text, field: BadField) {
 
 fn push_call(line: &mut Text, call: BadCall) {
     match call {
-        BadCall::Unknown(number) => line.show("no helper has the number ", &number),
+        BadCall::Unknown(number) => {
+            line.show("no helper has the number ", &number);
+            if Helper::new(number).is_some() {
+                line.push(" by plain rules");
+            }
+        }
         BadCall::NotHere { number, callback } => {
             line.push(callback.name());
             line.show(" may not call ", &number);

@@ -75,6 +75,27 @@ pub(crate) fn is_known_by_linux(format: Format, path: &str) -> bool {
     }
 }
 
+/// The choices of the key at the end of a path of a policy, after a cause; empty if the cause says enough.
+pub(crate) fn choices_of(format: Format, path: &str) -> &'static str {
+    let Format::Policy(rules) = format else {
+        return "";
+    };
+    let key = key_of(path);
+    match key.table {
+        Table::Top if key.word == "rules" => "; it is plain or linux",
+        Table::Top if key.word == "tick_ms" => ticks_of(rules),
+        Table::Map if key.word == "kind" => "; it is one of array, hash, queue, stack, percpu",
+        _ => "",
+    }
+}
+
+fn ticks_of(rules: Rules) -> &'static str {
+    match rules {
+        Rules::Plain => "; it is known under rules = \"linux\"",
+        Rules::Linux => "; it is 0 to 100",
+    }
+}
+
 /// True if a policy has the key under Linux rules alone.
 fn is_linux_key(key: Key<'_>) -> bool {
     is_linux_callback(key) || is_among(key.word, policy_keys(Rules::Linux, key.table))

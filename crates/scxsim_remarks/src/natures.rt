@@ -37,7 +37,7 @@ fn words_of(found: Nature, wanted: Nature) -> &'static str {
         (Nature::C, _) => " is C: scxsim-build makes a policy of it",
         (Nature::Workload, Nature::Events) => " is a workload: scxsim run takes it",
         (Nature::Events, Nature::Workload) =>
-            " is a file of events: scxsim replay and replay-csv take it",
+            " is a file of events: replay and replay-csv run it; stats, why, view and the others take it as it is",
         (Nature::Policy, Nature::Workload) => " is a policy, and a workload is wanted there",
         (Nature::Policy, _) => " is a policy, and a file of events is wanted there",
         (Nature::Workload, _) => " is a workload, and a policy is wanted there",

@@ -1,6 +1,6 @@
 use crate::assembler::{remark_on_code, remark_on_line};
 use crate::faults::remark_on_fault;
-use crate::meant::{Format, is_known_by_linux, nearest_key};
+use crate::meant::{Format, choices_of, is_known_by_linux, nearest_key};
 use crate::named_text::NamedText;
 use crate::natures::{Nature, hint_on_nature};
 use crate::word_hints::hint_on_bound;
@@ -131,11 +131,15 @@ fn remark_on_key(
         Cause::Asm { fault, line } => remark_on_code(alloc, file, path, fault, line),
         Cause::Event { line, .. } => {
             let place = place_of_line(alloc, file.text, path, line);
-            remark_at(alloc, file, place, path, cause)
+            remark_at(alloc, file, place, path, cause, "")
+        }
+        Cause::OutOfRange => {
+            let place = place_of_key(alloc, file.text, path);
+            remark_at(alloc, file, place, path, cause, choices_of(format, path))
         }
         _ => {
             let place = place_of_key(alloc, file.text, path);
-            remark_at(alloc, file, place, path, cause)
+            remark_at(alloc, file, place, path, cause, "")
         }
     }
 }
@@ -146,11 +150,13 @@ fn remark_at(
     place: Option<Place>,
     path: &str,
     cause: Cause,
+    choices: &str,
 ) -> Option<String> {
     let place = place?;
     let mut what = Text::new(alloc);
     what.push(path);
     what.show(": ", &cause);
+    what.push(choices);
     file.error_at(alloc, place, &what).ok()
 }
 

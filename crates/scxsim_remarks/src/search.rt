@@ -12,8 +12,7 @@ pub struct SearchProgress<'a, R> {
 }
 
 impl<'a, R: Clock + Eprint> SearchProgress<'a, R> {
-    /// The search begins now. Nothing is said of it where nobody would see that, or where the clock can't be
-    /// read.
+    /// Begins with the search. Says nothing if `is_seen` is false or the clock can't be read.
     pub fn new(rt: &'a R, is_seen: bool) -> Self {
         let line = if is_seen { Line::new(rt) } else { None };
         SearchProgress { rt, line }
