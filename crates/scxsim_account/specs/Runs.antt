@@ -7,7 +7,7 @@ use Rattle.scxsim_simulation.specs.Scenarios.{IsScenarioRun}
 use Rattle.scxsim_account.specs.declared.idling.IdleFigures.{IdleFigures}
 use Rattle.scxsim_account.specs.Idling.{idle_of, figures_of}
 
--- the idle figures of the run of the two texts, of which the second is a workload or a file of events
+-- the idle figures of the run of the two texts; the second is a workload or a file of events
 pub record IsIdleOfTexts (policy scenario : List ℕ) (x : IdleFigures) : Type 0 where
   pub of_scenario : Scenario
   pub first : SimState

@@ -1,6 +1,5 @@
 ghost use Rattle.std.specs.Prelude.{⊤};
 
-use crate::map_reads::{ElementReads, MapReads, MissedKey};
 use scx_isa::Callback;
 use scx_maps::Maps;
 use scx_sched::{Event, Hearer, MAX_EVENTS, Note, Sim, Sink, Unseen};
@@ -8,7 +7,7 @@ use scx_sched_world::World;
 use scx_verify::Verified;
 use scx_vm::{Arg, Args};
 use scx_vm_run::Core;
-use scxsim_faults::run_seen;
+use scxsim_faults::{ElementReads, MapReads, MissedKey, run_seen};
 use scxsim_trace::Events;
 
 /// The end of a callback, and what it had read from maps.

@@ -20,7 +20,7 @@ use scxsim_faults::{FaultPlace, find_fault_among};
 use scxsim_simulation::{Heard, Listener, ScenarioRun, give_back, prepare_scenario};
 use scxsim_statistics::{Figures, figures};
 use scxsim_trace::Events;
-use scxsim_waits::Waits;
+use scxsim_waits::{Waits, WatchedWait};
 use std::alloc::{AllocError, Global};
 
 /// The findings of a run.
@@ -139,7 +139,7 @@ fn watch_copies<L: Listener>(
 {
     let fault = fault_in(alloc, figures.ejected, run)?;
     let account = second_time(alloc, figures, run, listener)?;
-    let held = held_in(alloc, &account.waits, run)?;
+    let held = held_in(alloc, figures.ejected, &account.waits, run)?;
     Ok(Watched {
         account,
         fault,
@@ -261,14 +261,15 @@ fn end_at(
     Ok(end)
 }
 
-/// The first of these waits in which the task was held, with the end of the call of enqueue that put it nowhere, in a
-/// copy of a run.
+/// The wait of the task that stalled if it was held, else the first of these waits in which the task was held, with
+/// the end of the call of enqueue that put it nowhere, in a copy of a run.
 fn held_in(
     alloc: Global,
+    ejected: Option<Eject>,
     waits: &Waits,
     run: &ScenarioRun,
 ) -> Result<Option<HeldTask>, AllocError> {
-    let Some((task, clock)) = first_hold(waits) else {
+    let Some((task, clock)) = hold_to_tell(ejected, waits) else {
         return Ok(None);
     };
     match end_at(alloc, Wanted::Holding(task, clock), clock, run)? {
@@ -277,13 +278,42 @@ fn held_in(
     }
 }
 
+/// The hold of the task that stalled, else the first one.
+fn hold_to_tell(ejected: Option<Eject>, waits: &Waits) -> Option<(u16, u64)> {
+    match stalled_hold(ejected, waits) {
+        Some(hold) => Some(hold),
+        None => first_hold(waits),
+    }
+}
+
+/// The hold of the task that stalled, if it was held in its longest wait.
+fn stalled_hold(ejected: Option<Eject>, waits: &Waits) -> Option<(u16, u64)> {
+    let Some(Eject::Stall(stalled, _)) = ejected else {
+        return None;
+    };
+    for wait in waits.waits.as_slice() {
+        if wait.wait.task == stalled {
+            return hold_in(wait);
+        }
+    }
+    None
+}
+
 /// The task of the first wait in which it was held, and the clock of that.
 fn first_hold(waits: &Waits) -> Option<(u16, u64)> {
     for wait in waits.waits.as_slice() {
-        for station in wait.stations.as_slice() {
-            if station.queue == HELD {
-                return Some((wait.wait.task, station.clock));
-            }
+        if let Some(hold) = hold_in(wait) {
+            return Some(hold);
+        }
+    }
+    None
+}
+
+/// The task of a wait in which it was held, and the clock of that.
+fn hold_in(wait: &WatchedWait) -> Option<(u16, u64)> {
+    for station in wait.stations.as_slice() {
+        if station.queue == HELD {
+            return Some((wait.wait.task, station.clock));
         }
     }
     None

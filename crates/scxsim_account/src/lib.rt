@@ -12,7 +12,6 @@ mod ejection;
 mod finding;
 mod half_progress;
 mod idling;
-mod map_reads;
 mod recent;
 mod worst;
 
@@ -21,6 +20,6 @@ pub use call_end::CallEnd;
 pub use ejection::{Cause, Ejection};
 pub use finding::{Findings, FoundFault, HeldTask, examine};
 pub use idling::{IdleFigures, Idling};
-pub use map_reads::{ElementRead, ElementReads, MOST_READS, MissedKey};
 pub use recent::RecentNotes;
+pub use scxsim_faults::{ElementRead, ElementReads, MOST_READS, MissedKey};
 pub use worst::{is_of_moment, waits_of_moments};

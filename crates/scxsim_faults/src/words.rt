@@ -6,6 +6,7 @@ use scx_sched::Fault;
 use scx_sched_world::{Cause, GLOBAL, LOCAL, LOCAL_ON, POLICY_END};
 use scxsim_output::Text;
 use scxsim_trace::Names;
+use scxsim_views::write_allowed;
 
 /// The meaning of a helper's argument.
 #[derive(Clone, Copy)]
@@ -179,53 +180,9 @@ fn write_reason_of<N: Names>(
         Fault::NotAllowed => {
             write_task(call.task_at(0), names, said);
             said.push(" may run on ");
-            write_cpus(place.allowed, said);
+            write_allowed(place.allowed, said);
         }
     }
-}
-
-/// Writes the CPUs of a mask: `CPU 0 alone`, or `CPUs 0 to 3 and 8`.
-fn write_cpus(mask: u64, said: &mut Text) {
-    if mask.count_ones() == 1 {
-        said.number("CPU ", u64::from(mask.trailing_zeros()));
-        said.push(" alone");
-        return;
-    }
-    let mut before = "CPUs ";
-    for cpu in 0..64u32 {
-        if begins(mask, cpu) {
-            said.number(before, u64::from(cpu));
-            before = between(mask, cpu);
-        } else if ends(mask, cpu) {
-            said.number(" to ", u64::from(cpu));
-            before = between(mask, cpu);
-        }
-    }
-}
-
-/// The text between the CPUs of a mask up to that one and the next run of them: ` and ` before the last run.
-fn between(mask: u64, cpu: u32) -> &'static str {
-    let mut runs = 0u32;
-    for next in 0..64u32 {
-        if cpu < next && begins(mask, next) {
-            runs = runs.saturating_add(1);
-        }
-    }
-    if runs == 1 { " and " } else { ", " }
-}
-
-/// True if the CPU is the first of a run of a mask's CPUs.
-fn begins(mask: u64, cpu: u32) -> bool {
-    has(mask, cpu) && (cpu == 0 || !has(mask, cpu - 1))
-}
-
-/// True if the CPU is the last of a run of a mask's CPUs.
-fn ends(mask: u64, cpu: u32) -> bool {
-    has(mask, cpu) && !has(mask, cpu.saturating_add(1))
-}
-
-fn has(mask: u64, cpu: u32) -> bool {
-    cpu < 64 && mask >> cpu & 1 == 1
 }
 
 /// Writes that a call doesn't know its flags, or its timer.

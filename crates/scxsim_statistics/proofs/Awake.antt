@@ -14,12 +14,12 @@ use Rattle.scx_load_driver.specs.Runs.{notes_of_all}
 use Rattle.scxsim_trace.specs.Report.{ran_ms}
 use Rattle.scxsim_views.specs.Watching.{noted_all, kept_of_all}
 use Rattle.scxsim_statistics.specs.declared.bursts.BurstFigures.{BurstFigures}
-use Rattle.scxsim_statistics.specs.Lengths.{Lengths, at_most_64_bits, with_length}
+use Rattle.scxsim_views.specs.Lengths.{Lengths, at_most_64_bits, with_length}
 use Rattle.scxsim_statistics.specs.Bursts.{no_bursts, bursts_at, burst_ms, with_woke, with_burst, with_ran, bursts_noted}
 use Rattle.scxsim_statistics.specs.Counting.{RunCounts, counts_after_note, counts_after_event}
 use Rattle.scxsim_statistics.specs.Figures.{is_wake, is_sleep, burst_if, bursts_in, bursts_of, greatest, sends_to_sleep, ran_asleep_in, IsOfBursts}
 use Rattle.scxsim_statistics.proofs.Places.{at_changed, at_changed_by, part_stays}
-use Rattle.scxsim_statistics.proofs.Percentiles.{times_with, are_percentiles}
+use Rattle.scxsim_views.proofs.Percentiles.{times_with, are_percentiles}
 use Rattle.scxsim_statistics.proofs.Told.{one_more, IsLongest, longest_made, longest_stays, max_none, max_shifted}
 
 -- ---- what is kept of one task, but for how long it ran

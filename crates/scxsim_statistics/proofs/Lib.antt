@@ -1,6 +1,5 @@
 pub mod Places
 pub mod Below
-pub mod Percentiles
 mod Rows
 mod Told
 pub mod Merging
@@ -11,4 +10,3 @@ mod Lost
 mod Whole
 mod Staying
 mod Reading
-mod Levels

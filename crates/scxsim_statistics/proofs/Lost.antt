@@ -10,7 +10,7 @@ use Rattle.scx_sched_machine.specs.declared.events.Event.TheVariants as event
 use Rattle.scx_sched.specs.Sim.{SimState, after_event, notes_of}
 use Rattle.scxsim_views.specs.Pauses.{waits}
 use Rattle.scxsim_views.specs.Watching.{noted_all, kept_of_all}
-use Rattle.scxsim_statistics.specs.Lengths.{one_if, at_most_64_bits, up}
+use Rattle.scxsim_views.specs.Lengths.{one_if, at_most_64_bits, up}
 use Rattle.scxsim_statistics.specs.Losses.{is_cpu_idle, idle_below, lost_at, one_lost, lost_below, loses, lost_if}
 use Rattle.scxsim_statistics.specs.Counting.{RunCounts, counts_after_note, counts_after_event}
 use Rattle.scxsim_statistics.specs.Figures.{begins_ticks, doing_after_notes, lost_in, lost_anywhere_in}

@@ -11,7 +11,7 @@ use Rattle.scx_sched_machine.specs.declared.events.Event.TheVariants as event
 use Rattle.scx_sched.specs.Sim.{SimState, after_event, notes_of}
 use Rattle.scxsim_views.specs.Watching.{noted_all, kept_of_all}
 use Rattle.scxsim_statistics.specs.declared.tally.CpuFigures.{CpuFigures}
-use Rattle.scxsim_statistics.specs.Lengths.{one_if, at_most_64_bits, up}
+use Rattle.scxsim_views.specs.Lengths.{one_if, at_most_64_bits, up}
 use Rattle.scxsim_statistics.specs.Counting.{RunCounts, unused_cpu, cpu_at, with_tick, with_begin, cpus_counted, counts_after_note, counts_after_event}
 use Rattle.scxsim_statistics.specs.Figures.{is_tick, busy_in, idle_in}
 use Rattle.scxsim_statistics.proofs.Places.{at_changed_by, part_stays}

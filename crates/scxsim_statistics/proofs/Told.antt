@@ -11,11 +11,11 @@ use Rattle.scxsim_views.specs.declared.pauses.PauseKind.{PauseKind}
 use Rattle.scxsim_views.specs.declared.pauses.PauseKind.TheVariants as kind
 use Rattle.scxsim_views.specs.Pauses.{sleeps, does, ending_pause}
 use Rattle.scxsim_statistics.specs.declared.tally.TaskFigures.{TaskFigures}
-use Rattle.scxsim_statistics.specs.Lengths as w
-use Rattle.scxsim_statistics.specs.Lengths.{one_if, at_most_64_bits, up, length_of, with_length, with_wait}
+use Rattle.scxsim_views.specs.Lengths as w
+use Rattle.scxsim_views.specs.Lengths.{one_if, at_most_64_bits, up, length_of, with_length, with_wait}
 use Rattle.scxsim_statistics.specs.Counting.{with_stop, with_pause_of, counted_for}
 use Rattle.scxsim_statistics.specs.Figures.{is_of, does_at, does_after, to_list, ended_at, pauses_in, is_wait_kind, is_wait, longest_of, is_wake, is_stop, wakes_of, stops_in}
-use Rattle.scxsim_statistics.proofs.Percentiles.{times_with}
+use Rattle.scxsim_views.proofs.Percentiles.{times_with}
 use Rattle.scxsim_statistics.proofs.Rows.{with_option, Row, figures_noted, row_noted, row_all}
 
 -- ---- a count that is capped

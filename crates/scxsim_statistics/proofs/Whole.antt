@@ -26,7 +26,7 @@ use Rattle.scxsim_statistics.specs.declared.tally.CpuFigures.{CpuFigures}
 use Rattle.scxsim_statistics.specs.declared.group_waits.GroupWaits.{GroupWaits}
 use Rattle.scx_sched_world.specs.declared.eject.Eject.{Eject}
 use Rattle.scxsim_statistics.specs.declared.gathering.Gathered.{Gathered}
-use Rattle.scxsim_statistics.specs.Lengths.{Lengths, no_lengths, at_most_64_bits, length_of}
+use Rattle.scxsim_views.specs.Lengths.{Lengths, no_lengths, at_most_64_bits, length_of}
 use Rattle.scxsim_statistics.specs.Bursts.{no_bursts, bursts_at}
 use Rattle.scxsim_statistics.specs.Latencies.{no_latencies, latencies_at}
 use Rattle.scxsim_statistics.specs.Groups.{waits_in, waits_below, waits_at, merged_below, is_in}

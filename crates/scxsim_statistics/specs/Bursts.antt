@@ -1,9 +1,9 @@
--- What is counted of a task's bursts: from a wake, as its millisecond begins, to the next sleep, as
--- that one ends.
+-- The bursts of a task: each from a wake, as its millisecond begins, to the next sleep, as its
+-- millisecond ends.
 use Rattle.std.specs.Prelude.{ℕ, ◌+◌, ◌-◌, ◌*◌, ◌/◌, ◌==◌, if◌then◌else◌, List, slice_index_or, slice_set}
 use Rattle.scx_sched_world.specs.declared.notes.What.{What}
 use Rattle.scx_sched_world.specs.declared.notes.What.TheVariants.{Wake, Sleep}
-use Rattle.scxsim_statistics.specs.Lengths.{no_lengths, at_most_64_bits, with_length}
+use Rattle.scxsim_views.specs.Lengths.{no_lengths, at_most_64_bits, with_length}
 use Rattle.scxsim_statistics.specs.declared.bursts.BurstFigures.{BurstFigures}
 
 -- the bursts of a task before a run

@@ -13,7 +13,7 @@ use Rattle.scxsim_views.specs.declared.pauses.Pause.{Pause}
 use Rattle.scxsim_views.specs.declared.pauses.PauseKind.{PauseKind}
 use Rattle.scxsim_views.specs.declared.pauses.PauseKind.TheVariants as kind
 use Rattle.scxsim_views.specs.Pauses.{sleeps, doing_at, doing_after, open_pause, ended_by}
-use Rattle.scxsim_statistics.specs.Lengths.{no_lengths, up, up_by, with_wait}
+use Rattle.scxsim_views.specs.Lengths.{no_lengths, up, up_by, with_wait}
 use Rattle.scxsim_statistics.specs.Bursts.{no_bursts, slept_at, bursts_noted}
 use Rattle.scxsim_statistics.specs.Latencies.{no_latencies, latencies_noted}
 use Rattle.scxsim_statistics.specs.Losses.{loses, lost_if, anywhere_if}

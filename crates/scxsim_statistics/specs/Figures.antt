@@ -26,8 +26,8 @@ use Rattle.scxsim_views.specs.declared.pauses.PauseKind.{PauseKind}
 use Rattle.scxsim_views.specs.declared.pauses.PauseKind.TheVariants as kind
 use Rattle.scxsim_views.specs.Pauses.{sleeps, waits, of_task, does, doing_after, ending_pause, pause_of}
 use Rattle.scxsim_views.specs.Watching.{noted_all}
-use Rattle.scxsim_statistics.specs.Lengths.{one_if, at_most_64_bits, length_of}
-use Rattle.scxsim_statistics.specs.Percentiles.{ArePercentiles}
+use Rattle.scxsim_views.specs.Lengths.{one_if, at_most_64_bits, length_of}
+use Rattle.scxsim_views.specs.Percentiles.{ArePercentiles}
 use Rattle.scxsim_statistics.specs.Bursts.{bursts_at, burst_ms}
 use Rattle.scxsim_statistics.specs.Latencies.{latencies_at}
 use Rattle.scxsim_statistics.specs.Groups.{is_in, waits_at, waits_below}
@@ -201,7 +201,7 @@ told_below w g told zero = []
 told_below w g told (suc t) =
     told_below w g told t ++ (if is_in w g t then told t else [])
 
--- the lengths of all waits of the tasks of a group in a run with these notes that ends at that clock
+-- the lengths of all waits of a group's tasks in a run with these notes that ends at that clock
 abbrev pub waits_of_group : WorkloadState → ℕ → ℕ → List Note → List ℕ
 waits_of_group w g clock ns =
     told_below w g (λ t. map length_of (waits_of t clock ns)) (length w.homes)
@@ -240,8 +240,8 @@ begins_ticks e = false
 abbrev pub doing_after_notes : List Note → List Doing → List Doing
 doing_after_notes ns ds = noted_all doing_after ns ds
 
--- In these events from that state on, while tasks do so before them: for how many milliseconds, as
--- their ticks begin, a task waits and this CPU is idle
+-- the milliseconds of these events at whose first tick a task waits and this CPU is idle; they
+-- begin in that state, with each task doing what the list says
 abbrev pub lost_in : ℕ → List Doing → SimState → List Event → ℕ
 lost_in c ds s [] = 0
 lost_in c ds s (e ∷ es) =
@@ -258,9 +258,9 @@ lost_anywhere_in ds s (e ∷ es) =
 
 -- ---- a run
 
--- the figures of a run: of its tasks, their bursts and wake-to-run latencies, its groups and its CPUs,
--- for how many milliseconds each CPU and some CPU was idle while a task waited, and how the policy
--- ended
+-- the figures of a run: of its tasks, their bursts and wake-to-run latencies, its groups and its
+-- CPUs, for how many milliseconds each CPU and some CPU was idle while a task waited, and how the
+-- policy ended
 pub record RunFigures : Type 0 where
   pub tasks : List TaskFigures
   pub bursts : List BurstFigures
@@ -368,7 +368,8 @@ pub record AreOfRun (w : WorkloadState) (s : SimState) (es : List Event) (f : Ru
   pub all_groups : length f.groups ≡ length w.groups
   pub of_group : (g : ℕ) → g < length w.groups
       → length w.homes ≤ length (stepped_all s es).state.world.tasks
-      → AreOfGroup w g (stepped_all s es).state.world.clock (notes_of_all s es) (waits_at f.groups g)
+      → AreOfGroup w g (stepped_all s es).state.world.clock (notes_of_all s es)
+      (waits_at f.groups g)
   pub of_cpu : (c : ℕ) → c < w.cpus → IsOfCpu c s es (cpu_at f.cpus c)
   pub of_loss : (c : ℕ) → c < w.cpus
       → lost_at f.lost c ≡ at_most_64_bits (lost_in c (all_asleep w) s es)

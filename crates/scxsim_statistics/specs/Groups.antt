@@ -4,7 +4,7 @@ use Rattle.std.specs.Prelude.{ℕ, zero, suc, ◌==◌, Bool, false, List, [], �
 use Rattle.scx_weights.specs.declared.group.Group.{Group}
 use Rattle.scx_weights.specs.Hierarchy.{lies_in}
 use Rattle.scx_load_workloads.specs.Workload.{WorkloadState}
-use Rattle.scxsim_statistics.specs.Lengths.{Lengths, no_lengths, merged_if}
+use Rattle.scxsim_views.specs.Lengths.{Lengths, no_lengths, merged_if}
 use Rattle.scxsim_statistics.specs.Latencies.{latencies_at}
 use Rattle.scxsim_statistics.specs.Counting.{figures_at}
 use Rattle.scxsim_statistics.specs.declared.latencies.LatencyFigures.{LatencyFigures}

@@ -1,8 +1,8 @@
--- What is counted of a task's wake-to-run latencies: from a wake to the first run after it.
+-- The wake-to-run latencies of a task: each from a wake to the first run after it.
 use Rattle.std.specs.Prelude.{ℕ, ◌-◌, List, Option, Some, None, slice_index_or, slice_set}
 use Rattle.scx_sched_world.specs.declared.notes.What.{What}
 use Rattle.scx_sched_world.specs.declared.notes.What.TheVariants.{Wake, Run}
-use Rattle.scxsim_statistics.specs.Lengths.{Lengths, no_lengths, with_length}
+use Rattle.scxsim_views.specs.Lengths.{Lengths, no_lengths, with_length}
 use Rattle.scxsim_statistics.specs.declared.latencies.LatencyFigures.{LatencyFigures}
 
 -- the latencies of a task before a run: it hasn't woken

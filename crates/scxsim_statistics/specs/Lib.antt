@@ -1,5 +1,3 @@
-pub mod Lengths
-pub mod Percentiles
 pub mod Bursts
 pub mod Latencies
 pub mod Losses
@@ -7,4 +5,5 @@ pub mod Counting
 pub mod Groups
 pub mod Figures
 pub mod Shares
-pub mod Claims
+pub mod Numbered
+pub mod Cells

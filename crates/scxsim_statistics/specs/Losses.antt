@@ -4,7 +4,7 @@ use Rattle.std.specs.List.{list_any}
 use Rattle.scx_sched_world.specs.World.{WorldState, running}
 use Rattle.scxsim_views.specs.declared.pauses.Doing.{Doing}
 use Rattle.scxsim_views.specs.Pauses.{waits}
-use Rattle.scxsim_statistics.specs.Lengths.{up}
+use Rattle.scxsim_views.specs.Lengths.{up}
 
 -- the CPU is there, and is idle
 abbrev pub is_cpu_idle : WorldState → ℕ → Bool

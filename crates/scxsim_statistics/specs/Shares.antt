@@ -1,6 +1,6 @@
 -- Parts of a run in hundredths of a percent, rounded down.
 use Rattle.std.specs.Prelude.{ℕ, ◌*◌, ◌/◌, ◌^◌, ◌==◌, if◌then◌else◌}
-use Rattle.scxsim_statistics.specs.Lengths.{at_most_64_bits}
+use Rattle.scxsim_views.specs.Lengths.{at_most_64_bits}
 
 -- a part of a whole; 0 of nothing
 abbrev pub percent : ℕ → ℕ → ℕ

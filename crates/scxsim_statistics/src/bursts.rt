@@ -1,8 +1,8 @@
 ghost use Rattle.std.specs.Prelude.{◌≡◌, replicate, IfOk, OnOk};
 ghost use Rattle.scxsim_statistics.specs.Bursts.{no_bursts, with_woke, with_burst, with_ran, woken_at, ended_at, slept_at, bursts_noted, slowdown};
 
-use crate::length_counts::LengthCounts;
 use scx_sched::What;
+use scxsim_views::LengthCounts;
 use std::alloc::{AllocError, Global};
 
 /// The finished bursts of a task.
@@ -82,16 +82,7 @@ pub(crate) fn note_burst(
             Ok(())
         }
         What::Sleep(task) => end(bursts, task, clock),
-        What::Insert(_, _)
-        | What::Move(_, _)
-        | What::Run(_, _)
-        | What::Stop(_, _)
-        | What::Idle(_)
-        | What::Weight(_, _)
-        | What::TaskWeight(_, _)
-        | What::Stall(_)
-        | What::Fault(_)
-        | What::Exit(_) => Ok(()),
+        _ => Ok(()),
     }
 }
 

@@ -7,17 +7,16 @@ ghost use Rattle.scxsim_statistics.specs.Groups.{waits_below};
 ghost use Rattle.scxsim_statistics.specs.Figures.{AreOfRun, of_counts, of_figures, of_gathered};
 
 use crate::bursts::BurstFigures;
-use crate::dues::Dues;
 use crate::group_waits::{GroupWaits, waits_of_groups};
 use crate::groups::{GroupFigures, group_figures};
 use crate::latencies::LatencyFigures;
 use crate::losses::Losses;
-use crate::quotas::Quotas;
 use crate::tally::{CpuFigures, RunTally, TaskFigures};
 use scx_load_workloads::Workload;
 use scx_sched::{Eject, Event, Sim, What};
 use scxsim_simulation::{Heard, Listener, Run, give_back};
 use scxsim_trace::{Events, Observer, observe};
+use scxsim_views::{Dues, Quotas};
 use std::alloc::{AllocError, Global};
 
 /// The figures of a run.
@@ -175,7 +174,7 @@ impl<'a> Gathering<'a> {
             tally,
             groups,
             waits,
-            quotas: dues.quotas,
+            quotas: dues.into_quotas(),
         })
     }
 
@@ -185,7 +184,7 @@ impl<'a> Gathering<'a> {
     {
         self.tally.result?;
         let tasks = self.tally.tasks.as_slice();
-        group_figures(alloc, self.workload, tasks, self.dues.due.as_slice())
+        group_figures(alloc, self.workload, tasks, self.dues.due())
     }
 
     /// The waits of all groups of this workload.
@@ -205,8 +204,8 @@ impl<'a> Gathering<'a> {
 
     /// Counts a tick of a CPU, before the machine takes it.
     fn tick(&mut self, sim: &Sim, cpu: u32)
-        ensures { CountsEvent (λ g. is_err g.tally.result) (λ g. counts_of g.tally) counts_after_event
-            self.old sim.now (Tick cpu) self.new }
+        ensures { CountsEvent (λ g. is_err g.tally.result) (λ g. counts_of g.tally)
+            counts_after_event self.old sim.now (Tick cpu) self.new }
     {
         let running = running_on(sim, cpu);
         self.tally.lose(sim, cpu);
@@ -219,8 +218,8 @@ impl<'a> Gathering<'a> {
 
     /// Counts a burst that ends, before its task goes to sleep.
     fn sleep(&mut self, sim: &Sim, task: u16)
-        ensures { CountsEvent (λ g. is_err g.tally.result) (λ g. counts_of g.tally) counts_after_event
-            self.old sim.now (Sleep task) self.new }
+        ensures { CountsEvent (λ g. is_err g.tally.result) (λ g. counts_of g.tally)
+            counts_after_event self.old sim.now (Sleep task) self.new }
     {
         self.tally.sleep(sim, task);
         self.dues.settle();
@@ -233,14 +232,12 @@ impl<'a> Gathering<'a> {
         match what {
             What::Wake(task) => {
                 if let Some(group) = self.home(task) {
-                    self.dues.end_stretch();
-                    self.dues.shares.activate(group);
+                    self.dues.activate(group);
                 }
             }
             What::Sleep(task) => {
                 if let Some(group) = self.home(task) {
-                    self.dues.end_stretch();
-                    self.dues.shares.deactivate(group);
+                    self.dues.deactivate(group);
                 }
             }
             What::Weight(group, weight) => self.dues.weigh(group, weight),

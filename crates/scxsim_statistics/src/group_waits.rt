@@ -4,10 +4,10 @@ ghost use Rattle.scx_weights.specs.Hierarchy.{lies_in};
 ghost use Rattle.scxsim_statistics.specs.Groups.{is_level, is_in, group_waits, group_latencies, waits_in, waits_below};
 
 use crate::latencies::LatencyFigures;
-use crate::length_counts::LengthCounts;
 use crate::tally::TaskFigures;
 use scx_load_workloads::Workload;
 use scx_weights::{Group, path_of};
+use scxsim_views::LengthCounts;
 use std::alloc::{AllocError, Global};
 
 /// The waits of the tasks of a group and of groups below it.

@@ -1,8 +1,8 @@
 ghost use Rattle.std.specs.Prelude.{◌≡◌, replicate, IfOk, OnOk};
 ghost use Rattle.scxsim_statistics.specs.Latencies.{no_latencies, with_waking, with_first_run, waking_at, first_run_at, latencies_noted};
 
-use crate::length_counts::LengthCounts;
 use scx_sched::What;
+use scxsim_views::LengthCounts;
 use std::alloc::{AllocError, Global};
 
 /// The wake-to-run latencies of a task.
@@ -72,16 +72,7 @@ pub(crate) fn note_latency(
             Ok(())
         }
         What::Run(task, _) => run(latencies, task, clock),
-        What::Sleep(_)
-        | What::Insert(_, _)
-        | What::Move(_, _)
-        | What::Stop(_, _)
-        | What::Idle(_)
-        | What::Weight(_, _)
-        | What::TaskWeight(_, _)
-        | What::Stall(_)
-        | What::Fault(_)
-        | What::Exit(_) => Ok(()),
+        _ => Ok(()),
     }
 }
 

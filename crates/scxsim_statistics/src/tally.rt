@@ -6,10 +6,9 @@ ghost use Rattle.scxsim_statistics.specs.Counting.{counts_of, no_figures, unused
 
 use crate::bursts::{BurstFigures, note_burst, sleep, unused_bursts};
 use crate::latencies::{LatencyFigures, note_latency, unused_latencies};
-use crate::length_counts::LengthCounts;
 use crate::losses::Losses;
 use scx_sched::{Sim, What};
-use scxsim_views::{Pause, PauseKind, Pauses};
+use scxsim_views::{LengthCounts, Pause, PauseKind, Pauses};
 use std::alloc::{AllocError, Global};
 
 /// A millisecond in nanoseconds.
@@ -219,15 +218,7 @@ impl RunTally {
             What::Wake(task) => wake(&mut self.tasks, task),
             What::Run(task, cpu) => begin(&mut self.cpus, task, cpu),
             What::Stop(task, _) => self.stop(task),
-            What::Sleep(_)
-            | What::Insert(_, _)
-            | What::Move(_, _)
-            | What::Idle(_)
-            | What::Weight(_, _)
-            | What::TaskWeight(_, _)
-            | What::Stall(_)
-            | What::Fault(_)
-            | What::Exit(_) => {}
+            _ => {}
         }
     }
 

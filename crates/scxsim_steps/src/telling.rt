@@ -35,7 +35,7 @@ pub fn step<L: Listener, W: Out>(
     listener: &mut L,
     out: &mut W,
 ) -> Result<bool, Fault>
-    // The lines that a trace has of the millisecond stand on the page, or the word names none of the run.
+    // The page has the lines of the trace in that millisecond, or the argument names no millisecond of the run.
     ensures done { IfOk result (λ answer. (text : List ℕ)
         × IsAnswer answer policy.now scenario.now ms.now text
         × Appends (W.contents out.old) (W.contents out.new) text) }

@@ -54,7 +54,7 @@ fn write_wake(workload: &Workload, of: Occurrence<'_>, words: &mut Text) {
     }
     words.number(", ", u64::from(of.life.idle_cpus));
     words.number(" of ", u64::from(workload.cpus()));
-    words.push(" processors idle");
+    words.push(" CPUs idle");
 }
 
 fn write_sleep(of: Occurrence<'_>, words: &mut Text) {

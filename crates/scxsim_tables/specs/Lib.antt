@@ -1,4 +1,2 @@
-pub mod Cells
-pub mod Figures
 pub mod Values
 pub mod Tables

@@ -4,16 +4,17 @@ use Rattle.std.specs.Fmt.{signed_decimal}
 use Rattle.scx_sched_world.specs.Faults.{fault_number}
 use Rattle.scx_sched_world.specs.declared.eject.Eject.{Eject}
 use Rattle.scx_sched_world.specs.declared.eject.Eject.TheVariants as cause
-use Rattle.scxsim_statistics.specs.Lengths.{Lengths, mean, percentile}
+use Rattle.scxsim_views.specs.Lengths.{Lengths, mean, percentile}
 use Rattle.scxsim_statistics.specs.declared.gathering.Figures.{Figures}
 use Rattle.scxsim_statistics.specs.declared.group_waits.GroupWaits.{GroupWaits}
 use Rattle.scxsim_statistics.specs.declared.groups.GroupFigures.{GroupFigures}
 use Rattle.scxsim_statistics.specs.declared.latencies.LatencyFigures.{LatencyFigures}
-use Rattle.scxsim_statistics.specs.declared.quotas.QuotaFigures.{QuotaFigures}
+use Rattle.scxsim_views.specs.declared.quotas.QuotaFigures.{QuotaFigures}
 use Rattle.scxsim_statistics.specs.declared.tally.CpuFigures.{CpuFigures}
 use Rattle.scxsim_statistics.specs.declared.tally.TaskFigures.{TaskFigures}
-use Rattle.scxsim_tables.specs.Cells.{left, right, numbers_right, hundredths_right, all_below}
-use Rattle.scxsim_tables.specs.Figures.{task_name, group_name, of_task, latencies_of, waits_of_group, of_cpu, of_group, limit_of, has_quota}
+use Rattle.scxsim_simulation.specs.MapLines.{all_below}
+use Rattle.scxsim_statistics.specs.Cells.{left, right, numbers_right, hundredths_right}
+use Rattle.scxsim_statistics.specs.Numbered.{task_name, group_name, of_task, latencies_of, waits_of_group, of_cpu, of_group, limit_of, has_quota}
 
 -- ---- tasks
 

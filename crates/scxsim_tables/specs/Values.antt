@@ -6,17 +6,19 @@ use Rattle.scx_sched_world.specs.Faults.{fault_number}
 use Rattle.scx_sched_world.specs.declared.eject.Eject.{Eject}
 use Rattle.scx_sched_world.specs.declared.eject.Eject.TheVariants as cause
 use Rattle.scxsim_statistics.specs.Bursts.{slowdown}
-use Rattle.scxsim_statistics.specs.Lengths.{Lengths, mean, percentile}
+use Rattle.scxsim_views.specs.Lengths.{Lengths, mean, percentile}
 use Rattle.scxsim_statistics.specs.declared.bursts.BurstFigures.{BurstFigures}
 use Rattle.scxsim_statistics.specs.declared.gathering.Figures.{Figures}
 use Rattle.scxsim_statistics.specs.declared.group_waits.GroupWaits.{GroupWaits}
 use Rattle.scxsim_statistics.specs.declared.groups.GroupFigures.{GroupFigures}
 use Rattle.scxsim_statistics.specs.declared.latencies.LatencyFigures.{LatencyFigures}
-use Rattle.scxsim_statistics.specs.declared.quotas.QuotaFigures.{QuotaFigures}
+use Rattle.scxsim_views.specs.declared.quotas.QuotaFigures.{QuotaFigures}
 use Rattle.scxsim_statistics.specs.declared.tally.CpuFigures.{CpuFigures}
 use Rattle.scxsim_statistics.specs.declared.tally.TaskFigures.{TaskFigures}
-use Rattle.scxsim_tables.specs.Cells.{hundredths, all_below}
-use Rattle.scxsim_tables.specs.Figures.{task_name, group_name, of_task, bursts_of, latencies_of, waits_of_group, of_cpu, lost_of, of_group, limit_of, has_quota}
+use Rattle.scxsim_simulation.specs.MapLines.{all_below}
+use Rattle.scxsim_tables.specs.declared.wait_values.LengthNames.{LengthNames}
+use Rattle.scxsim_statistics.specs.Cells.{hundredths}
+use Rattle.scxsim_statistics.specs.Numbered.{task_name, group_name, of_task, bursts_of, latencies_of, waits_of_group, of_cpu, lost_of, of_group, limit_of, has_quota}
 
 -- the columns before a value, each with a comma after it
 unfoldable pub start : List ℕ → List ℕ → List ℕ → List ℕ
@@ -196,19 +198,71 @@ half_lines name x =
     line (codes "task") name (codes "wait_50_percent_ms") (decimal (percentile 50 x))
     ++ line (codes "task") name (codes "wait_90_percent_ms") (decimal (percentile 90 x))
 
--- the lengths that 50, 90 and 99 of 100 wake-to-run latencies of a task don't exceed, and the longest
-unfoldable pub latency_lengths : List ℕ → Lengths → List ℕ
-latency_lengths name x =
-    line (codes "task") name (codes "wake_to_run_50_percent_ms") (decimal (percentile 50 x))
-    ++ line (codes "task") name (codes "wake_to_run_90_percent_ms") (decimal (percentile 90 x))
-    ++ line (codes "task") name (codes "wake_to_run_99_percent_ms") (decimal (percentile 99 x))
-    ++ line (codes "task") name (codes "longest_wake_to_run_ms") (decimal x.longest)
+-- the names of the lines of some lengths: their count, three percentiles and the longest
+pub record Labels : Type 0 where
+  pub count : List ℕ
+  pub half : List ℕ
+  pub most : List ℕ
+  pub nearly_all : List ℕ
+  pub longest : List ℕ
 
--- after how many of its wakes a task ran and, if there are some, how long that took
+-- those that are given
+abbrev pub labels : LengthNames → Labels
+labels x = record {
+  count = x.count.now;
+  half = x.half.now;
+  most = x.most.now;
+  nearly_all = x.nearly_all.now;
+  longest = x.longest.now;
+}
+
+-- those of the wake-to-run latencies of a task
+abbrev pub task_latency_labels : Labels
+task_latency_labels = record {
+  count = codes "wakes_to_run";
+  half = codes "wake_to_run_50_percent_ms";
+  most = codes "wake_to_run_90_percent_ms";
+  nearly_all = codes "wake_to_run_99_percent_ms";
+  longest = codes "longest_wake_to_run_ms";
+}
+
+-- those of the waits of the tasks of a group
+abbrev pub group_wait_labels : Labels
+group_wait_labels = record {
+  count = codes "group_waits";
+  half = codes "group_wait_50_percent_ms";
+  most = codes "group_wait_90_percent_ms";
+  nearly_all = codes "group_wait_99_percent_ms";
+  longest = codes "group_longest_wait_ms";
+}
+
+-- those of their wake-to-run latencies
+abbrev pub group_latency_labels : Labels
+group_latency_labels = record {
+  count = codes "group_wakes_to_run";
+  half = codes "group_wake_to_run_50_percent_ms";
+  most = codes "group_wake_to_run_90_percent_ms";
+  nearly_all = codes "group_wake_to_run_99_percent_ms";
+  longest = codes "group_longest_wake_to_run_ms";
+}
+
+-- the lengths that 50, 90 and 99 of 100 don't exceed, and the longest
+unfoldable pub percentile_lines : List ℕ → List ℕ → Labels → Lengths → List ℕ
+percentile_lines kind name l x =
+    line kind name l.half (decimal (percentile 50 x))
+    ++ line kind name l.most (decimal (percentile 90 x))
+    ++ line kind name l.nearly_all (decimal (percentile 99 x))
+    ++ line kind name l.longest (decimal x.longest)
+
+-- how many lengths were counted and, if there are some, their percentiles and the longest
+unfoldable pub counted_lines : List ℕ → List ℕ → Labels → Lengths → List ℕ
+counted_lines kind name l x =
+    line kind name l.count (decimal x.count)
+    ++ (if x.count == 0 then [] else percentile_lines kind name l x)
+
+-- the wake-to-run latencies of a task
 unfoldable pub latency_lines : List ℕ → Lengths → List ℕ
-latency_lines name x =
-    line (codes "task") name (codes "wakes_to_run") (decimal x.count)
-    ++ (if x.count == 0 then [] else latency_lengths name x)
+latency_lines name x = counted_lines (codes "task") name task_latency_labels x
 
 -- the lines of its latencies, if they are there
 abbrev pub latency_lines_of : List ℕ → Option LatencyFigures → List ℕ
@@ -221,42 +275,12 @@ task_waits f t =
     half_lines (task_name f t) (of_task f t).waits
     ++ latency_lines_of (task_name f t) (latencies_of f t)
 
--- the lengths that 50, 90 and 99 of 100 waits of the tasks of a group don't exceed, and the longest
-unfoldable pub group_wait_lengths : List ℕ → Lengths → List ℕ
-group_wait_lengths name x =
-    line (codes "group") name (codes "group_wait_50_percent_ms") (decimal (percentile 50 x))
-    ++ line (codes "group") name (codes "group_wait_90_percent_ms") (decimal (percentile 90 x))
-    ++ line (codes "group") name (codes "group_wait_99_percent_ms") (decimal (percentile 99 x))
-    ++ line (codes "group") name (codes "group_longest_wait_ms") (decimal x.longest)
-
--- how often the tasks of a group waited and, if they did, how long
-unfoldable pub group_wait_lines : List ℕ → Lengths → List ℕ
-group_wait_lines name x =
-    line (codes "group") name (codes "group_waits") (decimal x.count)
-    ++ (if x.count == 0 then [] else group_wait_lengths name x)
-
--- the lengths that 50, 90 and 99 of 100 wake-to-run latencies of the tasks of a group don't exceed,
--- and the longest
-unfoldable pub group_latency_lengths : List ℕ → Lengths → List ℕ
-group_latency_lengths name x =
-    line (codes "group") name (codes "group_wake_to_run_50_percent_ms") (decimal (percentile 50 x))
-    ++ line (codes "group") name (codes "group_wake_to_run_90_percent_ms")
-    (decimal (percentile 90 x))
-    ++ line (codes "group") name (codes "group_wake_to_run_99_percent_ms")
-    (decimal (percentile 99 x))
-    ++ line (codes "group") name (codes "group_longest_wake_to_run_ms") (decimal x.longest)
-
--- after how many of their wakes the tasks of a group ran and, if there are some, how long that took
-unfoldable pub group_latency_lines : List ℕ → Lengths → List ℕ
-group_latency_lines name x =
-    line (codes "group") name (codes "group_wakes_to_run") (decimal x.count)
-    ++ (if x.count == 0 then [] else group_latency_lengths name x)
-
 -- both of a group, if they are there
 abbrev pub group_waits_of : List ℕ → Option GroupWaits → List ℕ
 group_waits_of name None = []
 group_waits_of name (Some x) =
-    group_wait_lines name x.waits ++ group_latency_lines name x.latencies
+    counted_lines (codes "group") name group_wait_labels x.waits
+    ++ counted_lines (codes "group") name group_latency_labels x.latencies
 
 -- both of the group of that number
 abbrev pub group_waits : Figures → ℕ → List ℕ

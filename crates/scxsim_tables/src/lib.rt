@@ -3,8 +3,6 @@
 #![tactic(auto)]
 
 mod checking;
-mod names;
-mod numbers;
 mod tables;
 mod telling;
 mod values;

@@ -1,19 +1,17 @@
-ghost use Rattle.std.specs.Prelude.{◌<◌, length, Bool};
+ghost use Rattle.std.specs.Prelude.{◌<◌, length};
 ghost use Rattle.scxsim_output.specs.Texts.{Puts};
-ghost use Rattle.scxsim_tables.specs.Cells.{all_below};
+ghost use Rattle.scxsim_simulation.specs.MapLines.{all_below};
 ghost use Rattle.scxsim_tables.specs.Tables.{wait_cells, task_cells, parked_cell, task_row, task_heads, task_table, cpu_line, cpu_row, cpu_table, group_line, group_row, group_table, quota_cells, quota_row, quota_rows, quota_table, when_ejected, stall_end, fault_end, exit_end, policy_end, policy_row, check_line, last_rows, lower_rows, table_rows};
 
-use crate::names::{group_name, has_quota, limit_of, task_name};
-use crate::numbers::{
-    write_hundredths_right, write_left, write_number_left, write_number_right, write_numbers,
-};
 use crate::wait_tables::{write_group_percents, write_task_percents};
 use scx_sched::{Eject, Fault};
 use scx_sched_world::Cause;
 use scxsim_faults::{FaultPlace, write_call, write_reason};
 use scxsim_output::Text;
 use scxsim_statistics::{
-    CpuFigures, Figures, GroupFigures, LengthCounts, QuotaFigures, TaskFigures,
+    CpuFigures, Figures, GroupFigures, LengthCounts, QuotaFigures, TaskFigures, group_name,
+    has_quota, limit_of, task_name, write_hundredths_right, write_left, write_number_left,
+    write_number_right, write_numbers,
 };
 use scxsim_views::fault_words;
 
@@ -203,7 +201,7 @@ fn write_heads(figures: &Figures, page: &mut Text)
     }
 }
 
-#[tactic(auto, using(crate::proofs::Rows::puts_next))]
+#[tactic(auto, using(scxsim_simulation::proofs::Pieces::puts_next))]
 fn write_task_rows(figures: &Figures, page: &mut Text)
     ensures { Puts page.old
         (all_below (task_row figures.now) (length figures.now.tasks.items)) page.new }
@@ -263,7 +261,7 @@ fn write_cpus(figures: &Figures, page: &mut Text)
     write_cpu_rows(figures, page);
 }
 
-#[tactic(auto, using(crate::proofs::Rows::puts_next))]
+#[tactic(auto, using(scxsim_simulation::proofs::Pieces::puts_next))]
 fn write_cpu_rows(figures: &Figures, page: &mut Text)
     ensures { Puts page.old
         (all_below (cpu_row figures.now) (length figures.now.cpus.items)) page.new }
@@ -291,7 +289,7 @@ fn write_groups(figures: &Figures, page: &mut Text)
     write_group_rows(figures, page);
 }
 
-#[tactic(auto, using(crate::proofs::Rows::puts_next))]
+#[tactic(auto, using(scxsim_simulation::proofs::Pieces::puts_next))]
 fn write_group_rows(figures: &Figures, page: &mut Text)
     ensures { Puts page.old
         (all_below (group_row figures.now) (length figures.now.groups.items)) page.new }
@@ -330,7 +328,7 @@ fn write_quota_table(figures: &Figures, page: &mut Text)
     write_quota_rows(figures, page);
 }
 
-#[tactic(auto, using(crate::proofs::Rows::puts_next))]
+#[tactic(auto, using(scxsim_simulation::proofs::Pieces::puts_next))]
 fn write_quota_rows(figures: &Figures, page: &mut Text)
     ensures { Puts page.old
         (all_below (quota_row figures.now) (length figures.now.quotas.groups.items)) page.new }

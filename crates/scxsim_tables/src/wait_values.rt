@@ -1,13 +1,46 @@
-ghost use Rattle.std.specs.Prelude.{◌<◌, ◌++◌, length};
+ghost use Rattle.std.specs.Prelude.{◌<◌, ◌++◌, length, codes};
 ghost use Rattle.scxsim_output.specs.Texts.{Puts};
-ghost use Rattle.scxsim_tables.specs.Cells.{all_below};
-ghost use Rattle.scxsim_tables.specs.Figures.{latencies_of};
-ghost use Rattle.scxsim_tables.specs.Values.{half_lines, latency_lengths, latency_lines, latency_lines_of, task_waits, group_wait_lengths, group_wait_lines, group_latency_lengths, group_latency_lines, group_waits, wait_values};
+ghost use Rattle.scxsim_simulation.specs.MapLines.{all_below};
+ghost use Rattle.scxsim_statistics.specs.Numbered.{latencies_of};
+ghost use Rattle.scxsim_tables.specs.Values.{labels, group_wait_labels, group_latency_labels, half_lines, percentile_lines, counted_lines, latency_lines, latency_lines_of, task_waits, group_waits, wait_values};
 
-use crate::names::{group_name, task_name};
 use crate::values::list;
 use scxsim_output::Text;
-use scxsim_statistics::{Figures, GroupWaits, LengthCounts};
+use scxsim_statistics::{Figures, GroupWaits, LengthCounts, group_name, task_name};
+
+/// The names of the lines of some lengths: their count, three percentiles and the longest.
+#[derive(Clone, Copy)]
+pub(crate) struct LengthNames {
+    count: &'static str,
+    half: &'static str,
+    most: &'static str,
+    nearly_all: &'static str,
+    longest: &'static str,
+}
+
+const TASK_LATENCIES: LengthNames = LengthNames {
+    count: "wakes_to_run",
+    half: "wake_to_run_50_percent_ms",
+    most: "wake_to_run_90_percent_ms",
+    nearly_all: "wake_to_run_99_percent_ms",
+    longest: "longest_wake_to_run_ms",
+};
+
+const GROUP_WAITS: LengthNames = LengthNames {
+    count: "group_waits",
+    half: "group_wait_50_percent_ms",
+    most: "group_wait_90_percent_ms",
+    nearly_all: "group_wait_99_percent_ms",
+    longest: "group_longest_wait_ms",
+};
+
+const GROUP_LATENCIES: LengthNames = LengthNames {
+    count: "group_wakes_to_run",
+    half: "group_wake_to_run_50_percent_ms",
+    most: "group_wake_to_run_90_percent_ms",
+    nearly_all: "group_wake_to_run_99_percent_ms",
+    longest: "group_longest_wake_to_run_ms",
+};
 
 /// Writes the waits of all tasks and groups by percent, and their wake-to-run latencies.
 #[tactic(auto, unfolding(crate::specs::Values::wait_values))]
@@ -18,7 +51,7 @@ pub(crate) fn list_wait_values(figures: &Figures, page: &mut Text)
     list_group_waits(figures, page);
 }
 
-#[tactic(auto, using(crate::proofs::Rows::puts_next))]
+#[tactic(auto, using(scxsim_simulation::proofs::Pieces::puts_next))]
 fn list_task_waits(figures: &Figures, page: &mut Text)
     ensures { Puts page.old
         (all_below (task_waits figures.now) (length figures.now.tasks.items)) page.new }
@@ -28,7 +61,7 @@ fn list_task_waits(figures: &Figures, page: &mut Text)
     }
 }
 
-#[tactic(auto, using(crate::proofs::Rows::puts_next))]
+#[tactic(auto, using(scxsim_simulation::proofs::Pieces::puts_next))]
 fn list_group_waits(figures: &Figures, page: &mut Text)
     ensures { Puts page.old
         (all_below (group_waits figures.now) (length figures.now.groups.items)) page.new }
@@ -69,31 +102,11 @@ fn list_latencies_of(name: &str, figures: &Figures, number: usize, page: &mut Te
     }
 }
 
-/// Writes a task's wake-to-run latencies; if there are none, only their number.
-#[tactic(auto, unfolding(crate::specs::Values::latency_lines), using(scxsim_output::proofs::Pieces::puts_nothing))]
+#[tactic(auto, unfolding(crate::specs::Values::latency_lines))]
 fn list_latencies(name: &str, latencies: &LengthCounts, page: &mut Text)
     ensures { Puts page.old (latency_lines name.now latencies.now) page.new }
 {
-    let count = latencies.count();
-    list(page, "task", name, "wakes_to_run", count);
-    if count == 0 {
-        return;
-    }
-    list_latency_lengths(name, latencies, page);
-}
-
-#[tactic(auto, unfolding(crate::specs::Values::latency_lengths))]
-fn list_latency_lengths(name: &str, latencies: &LengthCounts, page: &mut Text)
-    ensures { Puts page.old (latency_lengths name.now latencies.now) page.new }
-{
-    let half = latencies.percentile(50);
-    let most = latencies.percentile(90);
-    let nearly_all = latencies.percentile(99);
-    let longest = latencies.longest();
-    list(page, "task", name, "wake_to_run_50_percent_ms", half);
-    list(page, "task", name, "wake_to_run_90_percent_ms", most);
-    list(page, "task", name, "wake_to_run_99_percent_ms", nearly_all);
-    list(page, "task", name, "longest_wake_to_run_ms", longest);
+    list_counted("task", name, TASK_LATENCIES, latencies, page);
 }
 
 /// Writes the waits and wake-to-run latencies of the group of that number, if they are there.
@@ -107,74 +120,44 @@ fn list_waits_of_group(figures: &Figures, number: usize, page: &mut Text)
 }
 
 fn list_both(name: &str, waits: &GroupWaits, page: &mut Text)
-    ensures { Puts page.old (group_wait_lines name.now waits.now.waits
-        ++ group_latency_lines name.now waits.now.latencies) page.new }
+    ensures { Puts page.old
+        (counted_lines (codes "group") name.now group_wait_labels waits.now.waits
+        ++ counted_lines (codes "group") name.now group_latency_labels waits.now.latencies)
+        page.new }
 {
-    list_waits_in(name, &waits.waits, page);
-    list_latencies_in(name, &waits.latencies, page);
+    list_counted("group", name, GROUP_WAITS, &waits.waits, page);
+    list_counted("group", name, GROUP_LATENCIES, &waits.latencies, page);
 }
 
-/// Writes the waits of a group's tasks; if there are none, only their number.
-#[tactic(auto, unfolding(crate::specs::Values::group_wait_lines), using(scxsim_output::proofs::Pieces::puts_nothing))]
-fn list_waits_in(name: &str, waits: &LengthCounts, page: &mut Text)
-    ensures { Puts page.old (group_wait_lines name.now waits.now) page.new }
+/// Writes lengths of that name; if there are none, only their number.
+#[tactic(auto, unfolding(crate::specs::Values::counted_lines), using(scxsim_output::proofs::Pieces::puts_nothing))]
+fn list_counted(kind: &str, name: &str, names: LengthNames, lengths: &LengthCounts, page: &mut Text)
+    ensures { Puts page.old (counted_lines kind.now name.now (labels names) lengths.now) page.new }
 {
-    let count = waits.count();
-    list(page, "group", name, "group_waits", count);
+    let count = lengths.count();
+    list(page, kind, name, names.count, count);
     if count == 0 {
         return;
     }
-    list_wait_lengths(name, waits, page);
+    list_percentiles(kind, name, names, lengths, page);
 }
 
-#[tactic(auto, unfolding(crate::specs::Values::group_wait_lengths))]
-fn list_wait_lengths(name: &str, waits: &LengthCounts, page: &mut Text)
-    ensures { Puts page.old (group_wait_lengths name.now waits.now) page.new }
+fn list_percentiles(
+    kind: &str,
+    name: &str,
+    names: LengthNames,
+    lengths: &LengthCounts,
+    page: &mut Text,
+)
+    ensures { Puts page.old
+        (percentile_lines kind.now name.now (labels names) lengths.now) page.new }
 {
-    let half = waits.percentile(50);
-    let most = waits.percentile(90);
-    let nearly_all = waits.percentile(99);
-    list(page, "group", name, "group_wait_50_percent_ms", half);
-    list(page, "group", name, "group_wait_90_percent_ms", most);
-    list(page, "group", name, "group_wait_99_percent_ms", nearly_all);
-    list(
-        page,
-        "group",
-        name,
-        "group_longest_wait_ms",
-        waits.longest(),
-    );
-}
-
-/// Writes the wake-to-run latencies of a group's tasks; if there are none, only their number.
-#[tactic(auto, unfolding(crate::specs::Values::group_latency_lines), using(scxsim_output::proofs::Pieces::puts_nothing))]
-fn list_latencies_in(name: &str, latencies: &LengthCounts, page: &mut Text)
-    ensures { Puts page.old (group_latency_lines name.now latencies.now) page.new }
-{
-    let count = latencies.count();
-    list(page, "group", name, "group_wakes_to_run", count);
-    if count == 0 {
-        return;
-    }
-    list_group_latencies(name, latencies, page);
-}
-
-#[tactic(auto, unfolding(crate::specs::Values::group_latency_lengths))]
-fn list_group_latencies(name: &str, latencies: &LengthCounts, page: &mut Text)
-    ensures { Puts page.old (group_latency_lengths name.now latencies.now) page.new }
-{
-    let half = latencies.percentile(50);
-    let most = latencies.percentile(90);
-    let nearly_all = latencies.percentile(99);
-    let longest = latencies.longest();
-    list(page, "group", name, "group_wake_to_run_50_percent_ms", half);
-    list(page, "group", name, "group_wake_to_run_90_percent_ms", most);
-    list(
-        page,
-        "group",
-        name,
-        "group_wake_to_run_99_percent_ms",
-        nearly_all,
-    );
-    list(page, "group", name, "group_longest_wake_to_run_ms", longest);
+    let half = lengths.percentile(50);
+    let most = lengths.percentile(90);
+    let nearly_all = lengths.percentile(99);
+    let longest = lengths.longest();
+    list(page, kind, name, names.half, half);
+    list(page, kind, name, names.most, most);
+    list(page, kind, name, names.nearly_all, nearly_all);
+    list(page, kind, name, names.longest, longest);
 }

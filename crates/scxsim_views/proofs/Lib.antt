@@ -1,3 +1,6 @@
 mod Pausing
 pub mod Keeping
 mod Shifting
+pub mod Percentiles
+pub mod Adding
+mod Levels

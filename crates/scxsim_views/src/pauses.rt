@@ -209,7 +209,8 @@ impl Pauses {
     /// Takes that a task stops running. It waits from now on, unless it sleeps, which is noted first.
     #[tactic(auto, using(crate::proofs::Pausing::set_as_it_is))]
     fn stop(&mut self, task: u16, now: u64)
-        ensures { self.new ≡ slice_set self.old task (doing_after_stop now (doing_at self.old task)) }
+        ensures { self.new
+            ≡ slice_set self.old task (doing_after_stop now (doing_at self.old task)) }
     {
         if self.doing_at(task).runs() {
             self.change(task, Doing::Waits(now), now);

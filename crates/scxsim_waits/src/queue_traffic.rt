@@ -65,14 +65,7 @@ impl QueueTraffic {
                 self.go(task, what, is_in_force);
             }
             What::Sleep(task) => self.go(task, what, is_in_force),
-            What::Wake(_)
-            | What::Stop(_, _)
-            | What::Idle(_)
-            | What::Weight(_, _)
-            | What::TaskWeight(_, _)
-            | What::Stall(_)
-            | What::Fault(_)
-            | What::Exit(_) => {}
+            _ => {}
         }
     }
 

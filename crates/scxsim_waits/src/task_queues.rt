@@ -56,14 +56,7 @@ impl TaskQueues {
             What::Move(task, cpu) => self.set(task, Some(LOCAL_ON + u64::from(cpu))),
             What::Run(task, _) => self.set(task, None),
             What::Sleep(task) => self.set(task, None),
-            What::Wake(_)
-            | What::Stop(_, _)
-            | What::Idle(_)
-            | What::Weight(_, _)
-            | What::TaskWeight(_, _)
-            | What::Stall(_)
-            | What::Fault(_)
-            | What::Exit(_) => {}
+            _ => {}
         }
     }
 
@@ -82,15 +75,7 @@ impl TaskQueues {
                     None
                 }
             }
-            What::Wake(_)
-            | What::Sleep(_)
-            | What::Stop(_, _)
-            | What::Idle(_)
-            | What::Weight(_, _)
-            | What::TaskWeight(_, _)
-            | What::Stall(_)
-            | What::Fault(_)
-            | What::Exit(_) => None,
+            _ => None,
         }
     }
 

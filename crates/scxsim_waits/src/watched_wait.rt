@@ -153,16 +153,7 @@ impl WatchedWait {
                 let queue = LOCAL_ON + u64::from(cpu);
                 self.come(queue, Some(Rank::Fifo), of.clock, scene)
             }
-            What::Wake(_)
-            | What::Sleep(_)
-            | What::Run(_, _)
-            | What::Stop(_, _)
-            | What::Idle(_)
-            | What::Weight(_, _)
-            | What::TaskWeight(_, _)
-            | What::Stall(_)
-            | What::Fault(_)
-            | What::Exit(_) => Ok(()),
+            _ => Ok(()),
         }
     }
 

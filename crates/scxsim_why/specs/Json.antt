@@ -1,4 +1,4 @@
--- What `why_json` writes: an object on each line.
+-- The output of `why_json`: an object on each line.
 use Rattle.std.specs.Prelude.{ℕ, List, ◌++◌, codes, decimal}
 use Rattle.scxsim_account.specs.declared.idling.IdleFigures.{IdleFigures}
 

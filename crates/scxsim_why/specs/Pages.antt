@@ -1,4 +1,4 @@
--- What `why` writes.
+-- The output of `why`.
 use Rattle.std.specs.Prelude.{ℕ, List, ◌++◌, codes}
 
 -- a page on a run, whose first line says how the policy ended

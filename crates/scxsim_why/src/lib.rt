@@ -1,6 +1,6 @@
 //! Why a run went as it did: how it ended, which tasks waited longest and which ran meanwhile, which CPUs were idle
-//! while tasks waited, and what never happened. `why` writes a page for people of at most 60 lines, `why_all` one with
-//! all lines, and `why_json` an object on each line, for programs. All is written once the run is over.
+//! while tasks waited, and what never happened. `why` writes a page for people, of at most 60 lines or of all, and
+//! `why_json` an object on each line, for programs. All is written once the run is over.
 #![tactic(auto)]
 
 mod calls;
@@ -14,5 +14,6 @@ mod queues;
 mod telling;
 mod telling_json;
 
-pub use telling::{why, why_all};
+pub use scxsim_why_lines::Length;
+pub use telling::why;
 pub use telling_json::why_json;

@@ -16,59 +16,14 @@ use std::alloc::{AllocError, Global};
 /// The page's first word.
 const POLICY: &str = "policy ";
 
-/// Writes why the run of a policy file's text and of a workload's or of a file of events went as it did: how it ended, which tasks waited
-/// longest, which CPUs were idle meanwhile, and what never happened. The answer is true.
+/// Writes why the run of a policy file's text and of a workload's or of a file of events went as it did, on a page of
+/// that length: how it ended, which tasks waited longest, which CPUs were idle meanwhile, and what never happened. The
+/// answer is true.
 ///
 /// # Errors
 ///
 /// The texts are refused, or memory runs out, and then nothing is written, or writing the page fails.
 pub fn why<L: Listener, W: Out>(
-    alloc: Global,
-    policy: &str,
-    scenario: &str,
-    listener: &mut L,
-    out: &mut W,
-) -> Result<bool, Fault>
-    ensures done { IfOk result (λ answer. (answer ≡ true) × (rest : List ℕ)
-        × Appends (W.contents out.old) (W.contents out.new) (page rest)) }
-    ensures unfailed { OnOk result (W.failure_count out.new ≡ W.failure_count out.old) }
-
-    // A refusal has its cause in the texts, and comes before any byte is written.
-    ensures refused { IfRefused result (IsScenarioCause policy.now scenario.now) }
-    ensures quiet { IsRefused result → out.new ≡ out.old }
-    ensures counted { result ≡ Err Fault.WriteFailed
-        → HasFailed (W.failure_count out.old) (W.failure_count out.new) }
-{
-    write_account(alloc, Length::Short, policy, scenario, listener, out)
-}
-
-/// Writes what `why` does, without leaving lines out. The answer is true.
-///
-/// # Errors
-///
-/// The texts are refused, or memory runs out, and then nothing is written, or writing the page fails.
-pub fn why_all<L: Listener, W: Out>(
-    alloc: Global,
-    policy: &str,
-    scenario: &str,
-    listener: &mut L,
-    out: &mut W,
-) -> Result<bool, Fault>
-    ensures done { IfOk result (λ answer. (answer ≡ true) × (rest : List ℕ)
-        × Appends (W.contents out.old) (W.contents out.new) (page rest)) }
-    ensures unfailed { OnOk result (W.failure_count out.new ≡ W.failure_count out.old) }
-
-    // A refusal has its cause in the texts, and comes before any byte is written.
-    ensures refused { IfRefused result (IsScenarioCause policy.now scenario.now) }
-    ensures quiet { IsRefused result → out.new ≡ out.old }
-    ensures counted { result ≡ Err Fault.WriteFailed
-        → HasFailed (W.failure_count out.old) (W.failure_count out.new) }
-{
-    write_account(alloc, Length::Whole, policy, scenario, listener, out)
-}
-
-/// Writes a page of that length. The answer is true.
-fn write_account<L: Listener, W: Out>(
     alloc: Global,
     length: Length,
     policy: &str,
@@ -79,6 +34,8 @@ fn write_account<L: Listener, W: Out>(
     ensures done { IfOk result (λ answer. (answer ≡ true) × (rest : List ℕ)
         × Appends (W.contents out.old) (W.contents out.new) (page rest)) }
     ensures unfailed { OnOk result (W.failure_count out.new ≡ W.failure_count out.old) }
+
+    // A refusal has its cause in the texts, and comes before any byte is written.
     ensures refused { IfRefused result (IsScenarioCause policy.now scenario.now) }
     ensures quiet { IsRefused result → out.new ≡ out.old }
     ensures counted { result ≡ Err Fault.WriteFailed

@@ -1,5 +1,5 @@
 use Rattle.std.proofs.Common.{codes, decimal}
-use Rattle.scxsim_statistics.specs.Lengths.{percentile}
+use Rattle.scxsim_views.specs.Lengths.{percentile}
 use Rattle.scxsim_output.proofs.Pieces.{puts_both}
 use Rattle.scxsim_tables.specs.Values.{line, half_lines}
 use Rattle.scxsim_tables.proofs.wait_values.list_halves.Goals as goal

@@ -1,6 +1,0 @@
-use Rattle.std.proofs.Common.{◌≡◌}
-use Rattle.scxsim_statistics.specs.Lengths.{first_reaching}
-use Rattle.scxsim_statistics.proofs.length_counts.first_reaching.Given as goal
-
-abbrev pub invariant-loop-length : goal.invariant-loop-length
-invariant-loop-length l = first_reaching l.enough l.passed l.length-iterator ≡ first_reaching l.enough 0 l.lengths.entries
