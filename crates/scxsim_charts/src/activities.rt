@@ -5,7 +5,7 @@ use std::alloc::{AllocError, Global};
 /// The activity of a task that doesn't sleep.
 #[derive(Clone, Copy)]
 pub(crate) enum Activity {
-    /// It runs on this processor.
+    /// It runs on this CPU.
     Runs(u32),
     Waits,
     /// It waits in no queue, as the policy hasn't put it into one.
@@ -24,7 +24,7 @@ pub(crate) struct Interval {
 }
 
 impl Activity {
-    /// True if the task waits for a processor. One that is parked doesn't.
+    /// True if the task waits for a CPU. One that is parked doesn't.
     fn is_waiting(self) -> bool {
         match self {
             Activity::Waits | Activity::IsHeld => true,
@@ -44,7 +44,7 @@ struct Stay {
 #[derive(Drop)]
 pub(crate) struct Activities {
     stays: Vec<Option<Stay>>,
-    /// The number of tasks that wait for a processor.
+    /// The number of tasks that wait for a CPU.
     waiting: usize,
 }
 
@@ -80,7 +80,7 @@ impl Activities {
         self.change(task, None, moment)
     }
 
-    /// True if a task waits for a processor.
+    /// True if a task waits for a CPU.
     pub(crate) fn somebody_waits(&self) -> bool {
         0 < self.waiting
     }
@@ -111,7 +111,7 @@ fn stay_of(doing: Option<Activity>, since: u64) -> Option<Stay> {
     Some(Stay { doing, since })
 }
 
-/// True if a task that does this waits for a processor.
+/// True if a task that does this waits for a CPU.
 fn is_waiting(doing: Option<Activity>) -> bool {
     match doing {
         Some(doing) => doing.is_waiting(),

@@ -3,11 +3,13 @@ use crate::due_times::DueTimes;
 use crate::grids::Grid;
 use crate::rows::Rows;
 use crate::scales::Scale;
+use crate::waits::{Paused, Waits};
 use scx_load_workloads::Workload;
 use scx_sched::{Event, Sim, What};
 use scxsim_commands::Ejection;
 use scxsim_simulation::{Heard, Listener, ScenarioRun, give_back};
 use scxsim_trace::{Observer, observe};
+use scxsim_views::PauseKind;
 use std::alloc::{AllocError, Global};
 
 /// The time of each activity, by row and character.
@@ -20,6 +22,8 @@ pub(crate) struct Sums {
     pub(crate) waited: Grid,
     pub(crate) held: Grid,
     pub(crate) parked: Grid,
+    /// The milliseconds of each of these rows that tasks waited by the clock.
+    waits: Vec<u64>,
     /// Lines of CPUs: how long they were idle while a task waited.
     pub(crate) lost: Grid,
     /// Rows of all groups, where tasks are added up: the time that was due to each, in parts.
@@ -36,9 +40,21 @@ impl Sums {
             waited: Grid::new(alloc, tasks, cells)?,
             held: Grid::new(alloc, tasks, cells)?,
             parked: Grid::new(alloc, tasks, cells)?,
+            waits: vec![in alloc; 0u64; tasks]?,
             lost: Grid::new(alloc, rows.cpu_lines(), cells)?,
             due: Grid::new(alloc, groups, cells)?,
         })
+    }
+
+    /// The milliseconds that the tasks of a row waited by the clock.
+    pub(crate) fn waited_by_clock(&self, row: usize) -> u64 {
+        self.waits.get(row).copied().unwrap_or(0)
+    }
+
+    fn add_wait(&mut self, row: usize, ms: u64) {
+        if let Some(waited) = self.waits.get_mut(row) {
+            *waited = waited.saturating_add(ms);
+        }
     }
 }
 
@@ -73,10 +89,12 @@ pub(crate) fn gather<L: Listener>(
     let Gathering {
         gathered,
         activities,
+        waits,
         dues,
         ..
     } = gathering;
     drop(activities);
+    drop(waits);
     drop(dues);
     give_back(events, sim);
     Ok(chart_of(workload, scale, gathered))
@@ -111,6 +129,7 @@ struct Gathering<'a> {
     workload: &'a Workload,
     scale: Scale,
     activities: Activities,
+    waits: Waits,
     /// The time due to groups, where tasks are added up.
     dues: Option<DueTimes>,
     gathered: Gathered,
@@ -121,12 +140,14 @@ impl<'a> Gathering<'a> {
     fn new(alloc: Global, workload: &'a Workload, scale: Scale) -> Result<Self, AllocError> {
         let rows = Rows::new(workload);
         let activities = Activities::new(alloc, workload.tasks().len())?;
+        let waits = Waits::new(alloc, workload.tasks().len())?;
         let dues = dues_of(alloc, workload, rows)?;
         let sums = Sums::new(alloc, rows, scale.cells())?;
         Ok(Gathering {
             workload,
             scale,
             activities,
+            waits,
             dues,
             gathered: Gathered {
                 rows,
@@ -143,6 +164,18 @@ impl<'a> Gathering<'a> {
         };
         let row = self.gathered.rows.of_task(self.workload, interval.task);
         self.gathered.add(self.scale, interval, row);
+    }
+
+    /// Adds the time of a pause, if there is one and it is a wait.
+    fn add_pause(&mut self, pause: Option<Paused>) {
+        let Some(pause) = pause else {
+            return;
+        };
+        if let PauseKind::Wait = pause.bar.kind {
+            let row = self.gathered.rows.of_task(self.workload, pause.bar.task);
+            let ms = pause.within(self.scale.window);
+            self.gathered.sums.add_wait(row, ms);
+        }
     }
 
     /// Adds the current millisecond to the line of each CPU that runs no task, if a task waits.
@@ -162,11 +195,13 @@ impl<'a> Gathering<'a> {
         }
     }
 
-    /// Adds the last interval of each task.
+    /// Adds the last interval and pause of each task.
     fn end(&mut self, sim: &Sim) {
         for task in 0..sim.tasks() {
             let interval = self.activities.end(sim.clock(), task);
             self.add(interval);
+            let pause = self.waits.end(task, sim.clock());
+            self.add_pause(pause);
         }
     }
 }
@@ -218,9 +253,11 @@ impl Observer for Gathering<'_> {
         }
     }
 
-    fn show(&mut self, moment: u64, _clock: u64, what: What) {
+    fn show(&mut self, moment: u64, clock: u64, what: What) {
         let interval = self.activities.show(moment, what);
         self.add(interval);
+        let pause = self.waits.show(moment, clock, what);
+        self.add_pause(pause);
         if let Some(dues) = &mut self.dues {
             dues.show(self.workload, what);
         }

@@ -134,10 +134,8 @@ fn write_row(chart: &Chart, row: usize, page: &mut Text) {
         page.character(chart.task_character(row, cell));
     }
     page.spaces(chart.scale.unused());
-    let sums = &chart.sums;
-    let waited = sums.waited.total(row).saturating_add(sums.held.total(row));
-    page.number_right(chart.scale.ms(sums.ran.total(row)), RAN);
-    page.number_right(chart.scale.ms(waited), WAITED);
+    page.number_right(chart.scale.ms(chart.sums.ran.total(row)), RAN);
+    page.number_right(chart.sums.waited_by_clock(row), WAITED);
     page.push("\n");
 }
 

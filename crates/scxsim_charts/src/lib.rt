@@ -16,6 +16,7 @@ mod rows;
 mod scales;
 mod sheets;
 mod titles;
+mod waits;
 
 pub use gantt_charts::gantt;
 pub use scxsim_commands::{Span, Window};

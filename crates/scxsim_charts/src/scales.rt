@@ -7,7 +7,7 @@ const APART: u64 = 16;
 /// parts of a millisecond, of which a character has a whole number.
 #[derive(Clone, Copy)]
 pub(crate) struct Scale {
-    window: Window,
+    pub(crate) window: Window,
     /// The most characters of a line that show time, at least 1.
     cells: u64,
     /// The parts of a millisecond, at least 1.

@@ -5,7 +5,7 @@ ghost use Rattle.scxsim_pictures.specs.Sketching.{Grows};
 use crate::heads::{Paths, head};
 use crate::recording::Recording;
 use crate::tails::{end_text, ids_text};
-use scx_load_workloads::Workload;
+use scx_load_replay::Scenario;
 use scx_sched::What;
 use scxsim_commands::Window;
 use scxsim_output::{Failed, Out, write_all};
@@ -27,12 +27,13 @@ impl Draft {
     pub(crate) fn new(
         alloc: Global,
         paths: Paths<'_>,
-        workload: &Workload,
+        scenario: &Scenario,
         window: Window,
     ) -> Result<Draft, AllocError> {
+        let tasks = scenario.workload().tasks().len();
         Ok(Draft {
-            head: head(alloc, paths, workload, window)?,
-            recording: Recording::new(alloc, workload.tasks().len(), window)?,
+            head: head(alloc, paths, scenario, window)?,
+            recording: Recording::new(alloc, tasks, window)?,
             is_over: false,
         })
     }

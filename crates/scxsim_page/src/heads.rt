@@ -1,7 +1,10 @@
-use scx_load_workloads::{Change, Weighed, Workload};
+use scx_load_replay::{Line, Replay, Scenario};
+use scx_load_workloads::{Change, MAX_CPUS, Weighed, Workload};
+use scx_sched::Event;
 use scxsim_commands::Window;
 use scxsim_output::Text;
 use scxsim_trace::Names;
+use scxsim_views::{bound_mask, has_cpu};
 use std::alloc::{AllocError, Global};
 
 /// The paths of the two files, of which a page has the names.
@@ -14,20 +17,21 @@ pub struct Paths<'a> {
 /// The most characters of a file's name in a page.
 const MOST: usize = 40;
 
-/// The names of the files and the contents of the workload, as JSON. No name of a task or a group has a character
-/// that would have to be quoted.
+/// The names of the files, and the contents of the workload or of the file of events, as JSON. No name of a task or a
+/// group has a character that would have to be quoted.
 pub(crate) fn head(
     alloc: Global,
     paths: Paths<'_>,
-    contents: &Workload,
+    scenario: &Scenario,
     window: Window,
 ) -> Result<String, AllocError> {
     let mut text = Text::new(alloc);
-    push_head(&mut text, paths, contents, window);
+    push_head(&mut text, paths, scenario, window);
     text.finish()
 }
 
-fn push_head(text: &mut Text, paths: Paths<'_>, contents: &Workload, window: Window) {
+fn push_head(text: &mut Text, paths: Paths<'_>, scenario: &Scenario, window: Window) {
+    let contents = scenario.workload();
     text.push("<script id=\"head\" type=\"application/json\">{\"policy\":\"");
     push_name(text, paths.policy);
     text.push("\",\"workload\":\"");
@@ -38,7 +42,7 @@ fn push_head(text: &mut Text, paths: Paths<'_>, contents: &Workload, window: Win
     text.push("],\"tasks\":[");
     push_tasks(text, contents);
     text.push("],\"changes\":[");
-    push_changes(text, contents, window);
+    push_changes(text, scenario, window);
     text.push("]}</script>\n<script id=\"stretches\" type=\"text/plain\">\n");
 }
 
@@ -101,8 +105,27 @@ fn push_tasks(text: &mut Text, contents: &Workload) {
         text.push("{\"name\":\"");
         text.push(task_name(contents, number));
         text.number("\",\"group\":", u64::from(*group));
+        if let Some(mask) = mask_of(contents, number) {
+            push_cpus(text, mask);
+        }
         text.push("}");
     }
+}
+
+/// The CPUs on which a task may run, if it may not run on all.
+fn mask_of(contents: &Workload, number: usize) -> Option<u64> {
+    bound_mask(contents, u16::try_from(number).ok()?)
+}
+
+fn push_cpus(text: &mut Text, mask: u64) {
+    let mut before = ",\"cpus\":[";
+    for cpu in 0..MAX_CPUS {
+        if has_cpu(mask, cpu) {
+            text.number(before, u64::from(cpu));
+            before = ",";
+        }
+    }
+    text.push("]");
 }
 
 fn group_name(contents: &Workload, number: usize) -> &str {
@@ -119,25 +142,77 @@ fn task_name(contents: &Workload, number: usize) -> &str {
     }
 }
 
+/// A group has another weight from a millisecond on.
+#[derive(Clone, Copy)]
+struct Reweighed {
+    at: u32,
+    group: u32,
+    weight: u32,
+}
+
 /// The changes of groups' weights that come before the end of what is shown.
-fn push_changes(text: &mut Text, contents: &Workload, window: Window) {
+fn push_changes(text: &mut Text, scenario: &Scenario, window: Window) {
+    match scenario {
+        Scenario::Workload(workload) => push_changes_of(text, workload, window),
+        Scenario::Events(replay) => push_changes_in(text, replay, window),
+    }
+}
+
+fn push_changes_of(text: &mut Text, workload: &Workload, window: Window) {
     let mut number = 0usize;
-    for change in contents.changes() {
-        if let Some(group) = group_within(*change, window) {
-            push_comma(text, number);
-            text.number("[", u64::from(change.at));
-            text.number(",", u64::from(group));
-            text.number(",", u64::from(change.weight));
-            text.push("]");
-            number = number.saturating_add(1);
+    for change in workload.changes() {
+        if let Some(reweighed) = reweighed_by(*change) {
+            number = push_change(text, number, reweighed, window);
         }
     }
 }
 
-/// The group whose weight changes, if that comes before the end of what is shown.
-fn group_within(change: Change, window: Window) -> Option<u32> {
+fn push_changes_in(text: &mut Text, replay: &Replay, window: Window) {
+    let mut number = 0usize;
+    for line in replay.lines() {
+        if let Some(reweighed) = reweighed_in(*line) {
+            number = push_change(text, number, reweighed, window);
+        }
+    }
+}
+
+/// Adds a change to that many others, if it comes before the end of what is shown. Returns their number then.
+fn push_change(text: &mut Text, number: usize, change: Reweighed, window: Window) -> usize {
+    if u64::from(change.at) >= window.to {
+        return number;
+    }
+    push_comma(text, number);
+    text.number("[", u64::from(change.at));
+    text.number(",", u64::from(change.group));
+    text.number(",", u64::from(change.weight));
+    text.push("]");
+    number.saturating_add(1)
+}
+
+/// The change of a group's weight, if it is one.
+fn reweighed_by(change: Change) -> Option<Reweighed> {
     match change.weighed {
-        Weighed::Group(group) if u64::from(change.at) < window.to => Some(group),
-        Weighed::Group(_) | Weighed::Task(_) => None,
+        Weighed::Group(group) => Some(Reweighed {
+            at: change.at,
+            group,
+            weight: change.weight,
+        }),
+        Weighed::Task(_) => None,
+    }
+}
+
+/// The change of a group's weight that a line of a file of events says, if it says one.
+fn reweighed_in(line: Line) -> Option<Reweighed> {
+    match line.event {
+        Event::SetWeight(group, weight) => Some(Reweighed {
+            at: line.at,
+            group,
+            weight,
+        }),
+        Event::Wake(_)
+        | Event::Tick(_)
+        | Event::Sleep(_)
+        | Event::Clock
+        | Event::SetTaskWeight(_, _) => None,
     }
 }

@@ -12,7 +12,7 @@ const BUILTIN_NUMBER: u16 = 18;
 
 pub(crate) const PARKED_NUMBER: u16 = 19;
 
-/// The number of processor 0's own queue; those of the others come after it.
+/// The number of CPU 0's own queue; those of the others come after it.
 pub(crate) const LOCAL_NUMBER: u16 = 20;
 
 /// In place of a queue: the task has just woken.
@@ -68,7 +68,7 @@ impl QueueNumbers {
     }
 }
 
-/// The number of the own queue of a processor.
+/// The number of the own queue of a CPU.
 pub(crate) fn local_number(cpu: u32) -> u16 {
     LOCAL_NUMBER.saturating_add(cpu.min(u32::from(NO_QUEUE)) as u16)
 }

@@ -13,7 +13,7 @@ pub(crate) struct Recording {
     window: Window,
     tasks: TaskStates,
     queues: QueueNumbers,
-    /// The task that left a processor with the last note, if it ended the last stretch. It may have been parked.
+    /// The task that left a CPU with the last note, if it ended the last stretch. It may have been parked.
     stopped: Option<u16>,
     /// The ejection, if the policy was ejected.
     pub(crate) ejection: Option<Ejection>,
@@ -93,7 +93,7 @@ impl Recording {
     }
 }
 
-/// A processor, as a stretch has it.
+/// A CPU, as a stretch has it.
 #[inline(always)]
 fn place_of(cpu: u32) -> u8 {
     cpu.min(u32::from(NOWHERE)) as u8

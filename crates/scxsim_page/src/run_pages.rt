@@ -45,7 +45,7 @@ pub fn view<L: Listener, W: Out>(
         → HasFailed (W.failure_count out.old) (W.failure_count out.new) }
 {
     let ScenarioPart { run, window } = part_of_texts(alloc, policy, scenario, span, listener)?;
-    let draft = Draft::new(alloc, paths, run.scenario.workload(), window);
+    let draft = Draft::new(alloc, paths, &run.scenario, window);
     let pass = last_pass(run.scenario.workload(), window);
     let mut heard = PassListener { listener, pass };
     write_document(run, draft, TOP, CODE, &mut heard, out)

@@ -1,6 +1,6 @@
 use scxsim_commands::Window;
 
-/// The processor of a stretch that isn't a run.
+/// The CPU of a stretch that isn't a run.
 pub(crate) const NOWHERE: u8 = 255;
 
 /// The end of a stretch.
@@ -61,7 +61,7 @@ impl Beginning {
     }
 }
 
-/// From one moment to another a task ran on a processor, or waited.
+/// From one moment to another a task ran on a CPU, or waited.
 #[derive(Clone, Copy)]
 pub(crate) struct Stretch {
     /// Both are sums of a moment and its clock, which is one less where a millisecond ends: the sum is odd then.
@@ -70,7 +70,7 @@ pub(crate) struct Stretch {
     pub(crate) task: u16,
     /// The number of the queue in which it waited, or from which it came.
     pub(crate) queue: u16,
-    /// The processor on which it ran.
+    /// The CPU on which it ran.
     pub(crate) place: u8,
     pub(crate) beginning: Beginning,
     pub(crate) end: End,
@@ -88,12 +88,12 @@ pub(crate) const NOTHING: Stretch = Stretch {
 };
 
 impl Stretch {
-    /// The part of it that lies in the window, if it isn't empty.
+    /// The part of it that lies in the window, if it isn't empty. It keeps whether a millisecond ended as it began.
     #[inline(always)]
     pub(crate) fn within(self, window: Window) -> Option<Stretch> {
         let mut part = self;
         if moment_of(self.since) < window.from {
-            part.since = window.from.saturating_mul(2);
+            part.since = window.from.saturating_mul(2).saturating_sub(self.since % 2);
             part.beginning = Beginning::GoesOn;
         }
         if window.to < moment_of(self.until) {
@@ -112,7 +112,7 @@ impl Stretch {
         (u64::from(low(since).swap_bytes()) << 32) | u64::from(length)
     }
 
-    /// The rest of it: the task, of 2 bytes, the processor, how it ended and began, and whether a millisecond ended
+    /// The rest of it: the task, of 2 bytes, the CPU, how it ended and began, and whether a millisecond ended
     /// then, the queue, of 2, and two that are 0.
     #[inline(always)]
     pub(crate) fn rest(self) -> u64 {

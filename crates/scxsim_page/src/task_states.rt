@@ -5,7 +5,7 @@ use std::alloc::{AllocError, Global};
 /// The activity of a task.
 #[derive(Clone, Copy)]
 enum Doing {
-    /// It sleeps, or it left its processor and is in no queue yet.
+    /// It sleeps, or it left its CPU and is in no queue yet.
     Neither,
     Waits { queue: u16 },
     Runs { place: u8 },
@@ -89,7 +89,7 @@ impl TaskStates {
         stretch
     }
 
-    /// The task leaves its processor. It may have been parked, which isn't known yet.
+    /// The task leaves its CPU. It may have been parked, which isn't known yet.
     #[inline(always)]
     pub(crate) fn stop(&mut self, now: u64, number: u16) -> Option<Stretch> {
         let task = self.tasks.get_mut(number as usize)?;

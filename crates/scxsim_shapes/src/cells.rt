@@ -98,7 +98,7 @@ impl Picture {
         path.end(sheet);
     }
 
-    /// Draws the columns that are too faint for any shade, as a line below.
+    /// Draws the columns that are too faint for any shade, as a thin and faint line below.
     fn draw_tiny(&self, sheet: &mut Sheet, levels: &Levels, row: usize, coat: Coat) {
         let mut path = Path::new(0);
         path.shift = (coat.band.tall / 2).saturating_sub(1);
@@ -295,7 +295,7 @@ impl Path {
         }
         self.is_begun = true;
         if self.level == 0 {
-            sheet.put_number("<path class=\"t\" d=\"M0 ", self.shift);
+            sheet.put_number("<path class=\"t\" opacity=\".5\" d=\"M0 ", self.shift);
         } else {
             put_opacity(sheet, self.level);
             sheet.put("\" d=\"M0 0");

@@ -39,6 +39,9 @@ impl Picture {
         sheet.put_number("\" x=\"", x);
         sheet.put_number("\" y=\"", row.middle().saturating_add(4));
         sheet.put("\">");
+        if let Kind::Task(task) = row.kind {
+            self.put_bounds(sheet, task);
+        }
         self.put_name(sheet, row);
         sheet.put("</text>\n");
     }

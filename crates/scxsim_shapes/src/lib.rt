@@ -3,6 +3,7 @@
 #![tactic(auto)]
 
 mod axes;
+mod bounds;
 mod cells;
 mod drawing;
 mod figures;

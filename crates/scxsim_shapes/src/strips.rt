@@ -1,7 +1,7 @@
 use crate::drawing::Picture;
 use crate::headings::digits;
 use scxsim_layout::{Band, Kind, LEFT, Row, Sheet};
-use scxsim_sums::{PARTS, Portions, Reweighed, Share, Shares};
+use scxsim_shares::{PARTS, Portions, Reweighed, Share, Shares};
 
 /// The least lack of a share that is hatched: 3 %.
 const LACKS: u64 = 300;

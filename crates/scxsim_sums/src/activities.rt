@@ -28,7 +28,7 @@ impl Doing {
     }
 
     /// True if it is parked.
-    fn is_parked(self) -> bool {
+    pub(crate) fn is_parked(self) -> bool {
         match self {
             Doing::Runs(_) => false,
             Doing::Waits(queue) => queue.is_parked(),
@@ -55,10 +55,6 @@ pub(crate) struct Stay {
 #[derive(Drop)]
 pub(crate) struct Activities {
     stays: Vec<Option<Stay>>,
-    /// The number of tasks that wait.
-    pub(crate) waiting: u64,
-    /// The number of tasks that are parked.
-    pub(crate) parked: u64,
 }
 
 impl Activities {
@@ -66,8 +62,6 @@ impl Activities {
     pub(crate) fn new(alloc: Global, tasks: usize) -> Result<Activities, AllocError> {
         Ok(Activities {
             stays: vec![in alloc; None; tasks]?,
-            waiting: 0,
-            parked: 0,
         })
     }
 
@@ -82,32 +76,13 @@ impl Activities {
     ) -> Option<Stay> {
         let place = self.stays.get_mut(task as usize)?;
         let before = *place;
-        let after = stay_of(before, doing, now, clock);
-        *place = after;
-        let less = u64::from(waits_since(before).is_some());
-        let more = u64::from(waits_since(after).is_some());
-        self.waiting = self.waiting.saturating_add(more).saturating_sub(less);
-        let less = u64::from(is_parked(before));
-        let more = u64::from(is_parked(after));
-        self.parked = self.parked.saturating_add(more).saturating_sub(less);
+        *place = stay_of(before, doing, now, clock);
         before
-    }
-
-    /// True if no task waits, and one is parked.
-    pub(crate) fn are_only_parked(&self) -> bool {
-        self.waiting == 0 && self.parked > 0
     }
 }
 
 fn waits_since(stay: Option<Stay>) -> Option<Instant> {
     stay?.waits_since
-}
-
-fn is_parked(stay: Option<Stay>) -> bool {
-    match stay {
-        Some(stay) => stay.doing.is_parked(),
-        None => false,
-    }
 }
 
 #[inline(always)]

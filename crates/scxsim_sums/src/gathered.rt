@@ -2,12 +2,13 @@ use crate::activities::{Doing, Instant, Stay};
 use crate::bars::{Bar, Bars};
 use crate::longest_waits::{Longest, Wait};
 use crate::queues::{DrawnQueues, Queue};
-use crate::shares::Shares;
+use crate::spent_times::add_spent_times;
 use crate::sums::Sums;
 use scx_load_workloads::Workload;
 use scx_sched::What;
 use scxsim_commands::Ejection;
 use scxsim_layout::{Layout, Mark, TaskPlace};
+use scxsim_shares::Shares;
 use std::alloc::{AllocError, Global};
 
 /// The sums, bars and shares of a picture.
@@ -164,7 +165,7 @@ impl Gathered {
         let Some(since) = since else {
             return;
         };
-        if since.moment < until.moment {
+        if since.moment < until.moment || since.clock < until.clock {
             self.add_whole_wait(task, since, until);
         }
     }
@@ -214,7 +215,12 @@ impl Gathered {
     /// The run is over, at that moment.
     pub(crate) fn end(&mut self, moment: u64, homes: &[u32]) {
         self.shares.end(moment);
-        self.shares
-            .take(&self.layout, homes, &self.sums, &self.bars);
+        add_spent_times(
+            &mut self.shares,
+            &self.layout,
+            homes,
+            &self.sums,
+            &self.bars,
+        );
     }
 }

@@ -1,7 +1,8 @@
-use crate::activities::{Activities, Doing, Instant};
+use crate::activities::{Activities, Doing, Instant, Stay};
 use crate::gathered::Gathered;
-use crate::idles::Idles;
+use crate::idles::{Counted, Idles};
 use crate::queues::Queue;
+use crate::waiters::Waiters;
 use scx_load_workloads::Workload;
 use scx_sched::{Event, Sim, What};
 use scxsim_commands::Window;
@@ -13,6 +14,8 @@ use std::alloc::{AllocError, Global};
 #[derive(Drop)]
 pub struct Gathering {
     activities: Activities,
+    waiters: Waiters,
+    /// The time that CPUs were idle while a task waited that may run there.
     idles: Idles,
     /// Where a group has a quota: the time that CPUs were idle while tasks were parked and none waited.
     quota_idles: Option<Idles>,
@@ -36,11 +39,13 @@ impl Gathering {
         let cpus = workload.cpus() as usize;
         let columns = layout.scale.columns as usize;
         let activities = Activities::new(alloc, workload.tasks().len())?;
-        let idles = Idles::new(alloc, cpus, columns)?;
+        let waiters = Waiters::new(alloc, workload)?;
+        let idles = Idles::new(alloc, Counted::Waits, cpus, columns, &waiters)?;
         let gathered = Gathered::new(alloc, workload, layout)?;
-        let quota_idles = idles_of_quotas(alloc, &gathered, cpus, columns)?;
+        let quota_idles = idles_of_quotas(alloc, &gathered, cpus, columns, &waiters)?;
         Ok(Gathering {
             activities,
+            waiters,
             idles,
             quota_idles,
             now: Now::first(gathered.layout.scale),
@@ -61,6 +66,7 @@ impl Gathering {
         let Gathering {
             mut gathered,
             activities,
+            waiters,
             idles,
             quota_idles,
             ..
@@ -71,6 +77,7 @@ impl Gathering {
             idles.end(&gathered.layout, &mut gathered.sums.parked);
         }
         drop(activities);
+        drop(waiters);
         drop(idles);
         drop(quota_idles);
         gathered
@@ -84,11 +91,9 @@ impl Gathering {
         }
         let scale = self.gathered.layout.scale;
         self.now.pass(scale, moment);
-        let waits = self.activities.waiting > 0;
-        self.idles.pass(scale, self.now.mark, waits);
+        self.idles.pass(scale, self.now.mark, &self.waiters);
         if let Some(idles) = &mut self.quota_idles {
-            let are_parked = self.activities.are_only_parked();
-            idles.pass(scale, self.now.mark, are_parked);
+            idles.pass(scale, self.now.mark, &self.waiters);
         }
         self.gathered.shares.pass(moment);
     }
@@ -97,7 +102,9 @@ impl Gathering {
     #[inline(always)]
     fn change(&mut self, task: u16, doing: Option<Doing>) {
         let now = self.now.mark;
-        let Some(stay) = self.activities.change(task, doing, now, self.clock) else {
+        let before = self.activities.change(task, doing, now, self.clock);
+        self.waiters.change(task, doing_in(before), doing);
+        let Some(stay) = before else {
             return;
         };
         if stay.since.moment < now.moment {
@@ -203,10 +210,20 @@ fn idles_of_quotas(
     gathered: &Gathered,
     cpus: usize,
     columns: usize,
+    waiters: &Waiters,
 ) -> Result<Option<Idles>, AllocError> {
     if gathered.shares.has_quotas() {
-        Ok(Some(Idles::new(alloc, cpus, columns)?))
+        let idles = Idles::new(alloc, Counted::UsedUp, cpus, columns, waiters)?;
+        Ok(Some(idles))
     } else {
         Ok(None)
+    }
+}
+
+/// The activity in a stay, if there is one.
+fn doing_in(stay: Option<Stay>) -> Option<Doing> {
+    match stay {
+        Some(stay) => Some(stay.doing),
+        None => None,
     }
 }

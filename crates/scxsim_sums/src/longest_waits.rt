@@ -22,20 +22,33 @@ impl Wait {
     pub(crate) fn within(scale: Scale, task: u16, start: Instant, end: Instant) -> Option<Wait> {
         let since = start.moment.max(scale.from);
         let until = end.moment.min(scale.to);
-        if until <= since {
+        let length = length_within(scale, start, end);
+        if until < since || until == since && length == 0 {
             return None;
         }
-        let is_early = start.moment < scale.from;
-        let is_late = scale.to < end.moment;
-        let first = if is_early { scale.from } else { start.clock };
-        let last = if is_late { scale.to } else { end.clock };
         Some(Wait {
             task,
             since,
             until,
-            length: last.saturating_sub(first),
-            is_cut: is_early || is_late,
+            length,
+            is_cut: start.moment < scale.from || scale.to < end.moment,
         })
+    }
+}
+
+/// The milliseconds of a wait in the picture: those of its bar there. If it ends there, it is as long as by the clock, but
+/// longer than its bar only in a picture that begins with the run.
+fn length_within(scale: Scale, start: Instant, end: Instant) -> u64 {
+    let bar = scale.within(start.moment, end.moment);
+    let whole = end.moment.saturating_sub(start.moment);
+    let by_clock = end.clock.saturating_sub(start.clock);
+    if scale.to < end.moment {
+        bar
+    } else if scale.from == 0 {
+        bar.saturating_add(by_clock.saturating_sub(whole))
+            .saturating_sub(whole.saturating_sub(by_clock))
+    } else {
+        bar.saturating_sub(whole.saturating_sub(by_clock))
     }
 }
 

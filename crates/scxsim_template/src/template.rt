@@ -124,30 +124,50 @@ const word = words[4 * i + 2], task = word & 65535, cpu = word >>> 16 & 255, at 
 run.from[at] = words[4 * i] - run.begin;\nrun.length[at] = words[4 * i + 1];\nrun.cpu[at] = cpu;\n\
 run.why[at] = word >>> 24;\nrun.queue[at] = words[4 * i + 3];\nif (cpu !== NOWHERE) {\nconst place = nextCpu[cpu]++;\n\
 run.cpuFrom[place] = run.from[at];\nrun.cpuLength[place] = words[4 * i + 1];\nrun.cpuTask[place] = task;\n}\n}\n}\n\
-function sumStretches(run) {\nconst { count, duration, from, length, cpu, queue } = run, runs = run.cpuFrom.length;\n\
+function sumStretches(run) {\nconst { count, from, length, cpu, queue } = run, wakes = [];\n\
 for (const before of [\"ranBefore\", \"waitedBefore\", \"parkedBefore\", \"wakesBefore\"]) run[before] = new Uint32Array(count + 1);\n\
-const [waits, parks] = [0, 1].map(() => new Int32Array(duration + 2)), wakes = [];\n\
 for (let i = 0; i < count; i++) {\nconst ran = cpu[i] !== NOWHERE, parked = !ran && queue[i] === PARKED;\n\
 run.ranBefore[i + 1] = run.ranBefore[i] + (ran ? length[i] : 0);\n\
 run.parkedBefore[i + 1] = run.parkedBefore[i] + (parked ? length[i] : 0);\n\
 run.waitedBefore[i + 1] = run.waitedBefore[i] + (ran || parked ? 0 : length[i]);\n\
-if (isWake(run, i)) wakes.push(from[i]);\nrun.wakesBefore[i + 1] = wakes.length;\n\
-if (!ran) { const change = parked ? parks : waits; change[from[i]]++; change[from[i] + length[i]]--; }\n}\n\
-run.wakeTimes = Uint32Array.from(wakes);\n\
-for (const sum of [\"someWaited\", \"onlyParked\"]) run[sum] = new Uint32Array(duration + 2);\n\
-for (let ms = 0, waiting = 0, parked = 0; ms <= duration; ms++) {\nwaiting += waits[ms]; parked += parks[ms];\n\
-run.someWaited[ms + 1] = run.someWaited[ms] + (waiting > 0 && ms < duration ? 1 : 0);\n\
-run.onlyParked[ms + 1] = run.onlyParked[ms] + (waiting === 0 && parked > 0 && ms < duration ? 1 : 0);\n}\n\
-run.idleByQuota = run.processors * run.onlyParked[duration];\n\
+if (isWake(run, i)) wakes.push(from[i]);\nrun.wakesBefore[i + 1] = wakes.length;\n}\n\
+run.wakeTimes = Uint32Array.from(wakes);\nsumRuns(run);\nsumGroups(run);\nsumQueues(run);\nlistWaits(run);\n\
+findWaits(run);\n}\nfunction sumRuns(run) {\n\
+const { cpuFrom, cpuLength, cpuStart, processors, duration } = run, runs = cpuFrom.length;\n\
+Object.assign(run, countWaits(run, () => true));\nrun.waitsOn = waitsOnCpus(run);\n\
 for (const before of [\"cpuBefore\", \"cpuWaitedBefore\"]) run[before] = new Uint32Array(runs + 1);\n\
-for (let i = 0; i < runs; i++) {\n\
-const { cpuBefore, cpuWaitedBefore, someWaited, onlyParked } = run, from = run.cpuFrom[i], until = from + run.cpuLength[i];\n\
-cpuBefore[i + 1] = cpuBefore[i] + until - from;\n\
+run.idleByQuota = 0;\nfor (let cpu = 0; cpu < processors; cpu++) {\n\
+const { cpuBefore, cpuWaitedBefore } = run, { someWaited, onlyParked } = run.waitsOn[cpu];\n\
+run.idleByQuota += onlyParked[duration];\nfor (let i = cpuStart[cpu]; i < cpuStart[cpu + 1]; i++) {\n\
+const from = cpuFrom[i], until = from + cpuLength[i];\ncpuBefore[i + 1] = cpuBefore[i] + until - from;\n\
 cpuWaitedBefore[i + 1] = cpuWaitedBefore[i] + someWaited[until] - someWaited[from];\n\
-run.idleByQuota -= onlyParked[until] - onlyParked[from];\n}\n\
-run.idle = Array.from({ length: run.processors }, (_, cpu) => figuresOfCpu(run, cpu, 0, duration).waits);\n\
-sumGroups(run);\nsumQueues(run);\nlistWaits(run);\nfindWaits(run);\n}\nfunction sumGroups(run) {\n\
-const { groups, tasks, duration } = run;\nlet cell = 1;\nwhile (groups.length * (duration / cell) > 4e6) cell *= 2;\n\
+run.idleByQuota -= onlyParked[until] - onlyParked[from];\n}\n}\n\
+run.idle = Array.from({ length: processors }, (_, cpu) => figuresOfCpu(run, cpu, 0, duration).waits);\n\
+run.waitsOnSome = run.tasks.some(({ cpus }) => cpus) ? waitsOnIdle(run) : run;\n}\n\
+function waitsOnIdle({ processors, duration, cpuFrom, cpuLength, cpuStart, waitsOn, onlyParked }) {\n\
+const counts = new Uint8Array(duration), someWaited = new Uint32Array(duration + 2);\n\
+for (let cpu = 0; cpu < processors; cpu++) {\nfor (let i = cpuStart[cpu], ms = 0; i <= cpuStart[cpu + 1]; i++) {\n\
+const isLast = i === cpuStart[cpu + 1], sums = waitsOn[cpu].someWaited;\n\
+for (const end = isLast ? duration : cpuFrom[i]; ms < end; ms++) counts[ms] |= sums[ms + 1] - sums[ms];\n\
+if (!isLast) ms += cpuLength[i];\n}\n}\n\
+for (let ms = 0; ms <= duration; ms++) someWaited[ms + 1] = someWaited[ms] + (counts[ms] ?? 0);\n\
+return { duration, someWaited, onlyParked };\n}\nconst mayRunOn = ({ cpus }, cpu) => !cpus || cpus.includes(cpu);\n\
+function waitsOnCpus(run) {\nconst bound = run.tasks.filter(({ cpus }) => cpus), counted = new Map();\n\
+return Array.from({ length: run.processors }, (_, cpu) => {\n\
+const key = bound.map((task) => mayRunOn(task, cpu) ? 1 : 0).join(\"\");\n\
+if (!counted.has(key)) counted.set(key, bound.length > 0 ? countWaits(run, (task) => mayRunOn(task, cpu)) : run);\n\
+return counted.get(key);\n});\n}\n\
+function countWaits({ duration, tasks, taskStart, from, length, cpu, queue }, counts) {\n\
+const [waits, parks] = [0, 1].map(() => new Int32Array(duration + 2));\ntasks.forEach((task, number) => {\n\
+if (!counts(task)) return;\nfor (let i = taskStart[number]; i < taskStart[number + 1]; i++) {\n\
+if (cpu[i] !== NOWHERE) continue;\nconst change = queue[i] === PARKED ? parks : waits;\n\
+change[from[i]]++; change[from[i] + length[i]]--;\n}\n});\n\
+const [someWaited, onlyParked] = [0, 1].map(() => new Uint32Array(duration + 2));\n\
+for (let ms = 0, waiting = 0, parked = 0; ms <= duration; ms++) {\nwaiting += waits[ms]; parked += parks[ms];\n\
+someWaited[ms + 1] = someWaited[ms] + (waiting > 0 && ms < duration ? 1 : 0);\n\
+onlyParked[ms + 1] = onlyParked[ms] + (waiting === 0 && parked > 0 && ms < duration ? 1 : 0);\n}\n\
+return { duration, someWaited, onlyParked };\n}\nfunction sumGroups(run) {\nconst { groups, tasks, duration } = run;\n\
+let cell = 1;\nwhile (groups.length * (duration / cell) > 4e6) cell *= 2;\n\
 const cells = Math.ceil(duration / cell), row = cells + 1, all = groups.length * row;\n\
 const sums = { cell, cells, row, ran: new Uint32Array(all), waited: new Uint32Array(all), parked: new Uint32Array(all),\n\
 due: new Float64Array(all), busy: new Uint32Array(row) };\nlinkGroups(groups, tasks);\n\
@@ -171,23 +191,35 @@ const kind = run.cpu[i] !== NOWHERE ? 0 : run.queue[i] === PARKED ? 2 : 1;\n\
 addInterval(kinds[kind], cell, run.from[i], run.from[i] + run.length[i]);\n}\n}\nslices.forEach((slice, kind) => {\n\
 const { offsets, counts } = kinds[kind];\n\
 for (let k = 0, sum = 0, count = 0; k < row; count += counts[k], k++) slice[k] = sum += cell * count + offsets[k];\n\
-});\n}\nfunction sumDue({ groups, changes, begin }, { cell, cells, row, ran, waited, parked, due, busy }) {\n\
-const weights = groups.map((group) => group.weight), totals = new Float64Array(groups.length + 1);\n\
-const part = new Float64Array(groups.length), left = changes.slice(), room = new Float64Array(groups.length).fill(Infinity);\n\
-const limited = [...groups.keys()].filter((g) => groups[g].quota !== undefined);\nfor (let k = 0; k < cells; k++) {\n\
-for (const g of limited) {\nconst { quota, period } = groups[g];\n\
+});\n}\nfunction sumDue({ groups, changes, begin }, sums) {\n\
+const { cell, cells, row, ran, waited, parked, due, busy } = sums, left = changes.slice();\n\
+const weights = groups.map((group) => group.weight), room = groups.map(() => Infinity);\n\
+const limited = [...groups.keys()].filter((g) => groups[g].quota !== undefined);\n\
+const families = [[...groups.keys()].filter((g) => groups[g].parent < 0), ...groups.map(({ children }) => children)];\n\
+const numbers = () => new Float64Array(groups.length);\n\
+const claims = { weights: numbers(), rooms: numbers(), parts: numbers(), isOpen: new Uint8Array(groups.length) };\n\
+for (let k = 0; k < cells; k++) {\nfor (const g of limited) {\nconst { quota, period } = groups[g];\n\
 if (k === 0) room[g] = quota * (1 - begin % period / period);\n\
 else if (beginsPeriod(groups[g], begin + k * cell, cell)) room[g] = quota;\n}\n\
 while (left.length && left[0][0] <= k * cell) { const [, g, weight] = left.shift(); weights[g] = weight; }\n\
-totals.fill(0);\nfor (let g = 0; g < groups.length; g++) {\nconst at = g * row + k;\n\
-part[g] = ran[at + 1] > ran[at] || waited[at + 1] > waited[at] || parked[at + 1] > parked[at] ? weights[g] : 0;\n\
-totals[groups[g].parent + 1] += part[g];\n}\nconst ranNow = busy[k + 1] - busy[k];\n\
-for (let g = 0; g < groups.length; g++) {\nconst above = groups[g].parent;\n\
-const amount = part[g] && part[g] / totals[above + 1] * (above < 0 ? ranNow : due[above * row + k]);\n\
-due[g * row + k] = Math.min(amount, room[g]);\nroom[g] -= due[g * row + k];\n}\n}\ngroups.forEach((group, g) => {\n\
-let sum = 0;\nfor (let k = 0; k < row; k++) [due[g * row + k], sum] = [sum, sum + due[g * row + k]];\n\
+for (let g = groups.length - 1; g >= 0; g--) {\n\
+const at = g * row + k, isActive = ran[at + 1] > ran[at] || waited[at + 1] > waited[at] || parked[at + 1] > parked[at];\n\
+claims.weights[g] = isActive ? weights[g] : 0;\n\
+claims.rooms[g] = limited.length > 0 ? roomOf(claims, families[g + 1], isActive ? room[g] : 0) : Infinity;\n}\n\
+shareOut(claims, families[0], busy[k + 1] - busy[k]);\nfor (let g = 0; g < groups.length; g++) {\n\
+due[g * row + k] = claims.parts[g];\nroom[g] -= claims.parts[g];\n\
+shareOut(claims, families[g + 1], claims.parts[g]);\n}\n}\ngroups.forEach((group, g) => {\nlet sum = 0;\n\
+for (let k = 0; k < row; k++) [due[g * row + k], sum] = [sum, sum + due[g * row + k]];\n\
 group.share = ran[g * row + cells] / (busy[cells] || 1);\ngroup.due = sum / (busy[cells] || 1);\n\
-group.isCapped = parked[g * row + cells] > 0;\n});\n}\n\
+group.isCapped = parked[g * row + cells] > 0;\n});\n}\nfunction roomOf({ rooms }, within, own) {\n\
+let sum = within.length > 0 ? 0 : Infinity;\nfor (const g of within) sum += rooms[g];\nreturn Math.min(own, sum);\n}\n\
+function shareOut({ weights, rooms, parts, isOpen }, groups, amount) {\n\
+let rest = amount, total = 0, isOver = false;\nfor (const g of groups) {\nparts[g] = 0;\n\
+isOpen[g] = weights[g] > 0 && rooms[g] > 0 ? 1 : 0;\ntotal += isOpen[g] * weights[g];\n}\n\
+while (!isOver && total > 0) {\nconst unit = rest / total;\nisOver = true;\nfor (const g of groups) {\n\
+if (!isOpen[g] || rooms[g] >= weights[g] * unit) continue;\nparts[g] = rooms[g];\nisOpen[g] = 0;\nrest -= rooms[g];\n\
+total -= weights[g];\nisOver = false;\n}\n}\n\
+for (const g of groups) if (isOpen[g]) parts[g] = weights[g] * rest / total;\n}\n\
 const beginsPeriod = ({ period }, at, cell) => Math.floor(at / period) > Math.floor((at - cell) / period);\n\
 function sumQueues(run) {\nconst { duration, count, from, length, cpu, queue } = run, used = new Map();\n\
 for (let i = 0; i < count; i++) if (cpu[i] === NOWHERE && queue[i] !== PARKED) used.set(Math.min(queue[i], LOCAL), null);\n\
@@ -209,29 +241,43 @@ const trackName = (run, queue) => queue < LOCAL ? queueName(run, queue) : \"CPUs
 const isWake = ({ why }, i) => (why[i] & 48) === 16;\n\
 const goesOn = ({ from, length, why }, i) => from[i] + length[i] === from[i + 1] && (why[i + 1] & 48) !== 48;\n\
 const isWait = ({ cpu, queue }, i) => cpu[i] === NOWHERE && queue[i] !== PARKED;\n\
-const clockFrom = ({ from, why }, i) => from[i] - (why[i] >> 6 & 1);\n\
+const clockFrom = ({ from, why }, i) => Math.max(0, from[i] - (why[i] >> 6 & 1));\n\
 const clockUntil = ({ from, length, why }, i) => from[i] + length[i] - (why[i] >> 7);\n\
 function eachWait(run, task, act) {\nconst end = run.taskStart[task + 1];\n\
-for (let i = run.taskStart[task], first = -1; i < end; i++) {\nif (!isWait(run, i)) continue;\n\
-if (first < 0) first = i;\nif (i + 1 < end && isWait(run, i + 1) && goesOn(run, i)) continue;\nact(first, i);\n\
-first = -1;\n}\n}\nfunction listWaits(run) {\n\
-const most = run.from.length, waits = { from: new Uint32Array(most), length: new Uint32Array(most),\n\
-clockFrom: new Uint32Array(most), clockUntil: new Uint32Array(most) };\nlet count = 0;\n\
-run.waitStart = new Uint32Array(run.tasks.length + 1);\nrun.tasks.forEach((_, task) => {\n\
-eachWait(run, task, (first, last) => {\nwaits.from[count] = run.from[first];\n\
-waits.length[count] = run.from[last] + run.length[last] - run.from[first];\n\
-waits.clockFrom[count] = clockFrom(run, first);\nwaits.clockUntil[count++] = clockUntil(run, last);\n});\n\
-run.waitStart[task + 1] = count;\n});\n\
+for (let i = run.taskStart[task], first = -1; i < end; i++) {\nif (!isWait(run, i)) {\n\
+if (isStopped(run, i) && hasNoWait(run, i, end)) act(i, -1);\ncontinue;\n}\nif (first < 0) first = i;\n\
+if (i + 1 < end && isWait(run, i + 1) && goesOn(run, i)) continue;\nact(first, i);\nfirst = -1;\n}\n}\n\
+const isStopped = ({ cpu, why }, i) => cpu[i] !== NOWHERE && (why[i] & 7) === 1;\nfunction hasNoWait(run, i, end) {\n\
+const until = run.from[i] + run.length[i], next = i + 1 < end && run.from[i + 1] === until;\n\
+if (next && run.cpu[i + 1] === NOWHERE) return false;\n\
+return next ? clockUntil(run, i) < clockFrom(run, i + 1) : until === run.duration && clockUntil(run, i) < until;\n}\n\
+function listWaits(run) {\n\
+const most = run.from.length, [from, length, clock] = [0, 1, 2].map(() => new Uint32Array(most));\n\
+const [less, more, isCut] = [0, 1, 2].map(() => new Uint8Array(most)), waits = { from, length, clock, less, more, isCut };\n\
+let count = 0;\nrun.waitStart = new Uint32Array(run.tasks.length + 1);\nrun.tasks.forEach((_, task) => {\n\
+eachWait(run, task, (first, last) => {\nconst hasStretch = last >= 0, end = run.from[first] + run.length[first];\n\
+from[count] = hasStretch ? run.from[first] : end;\n\
+length[count] = hasStretch ? run.from[last] + run.length[last] - run.from[first] : 0;\n\
+clock[count] = hasStretch ? clockFrom(run, first) : end - 1;\n\
+isCut[count] = hasStretch ? isCutWait(run, first, last) : end === run.duration && run.begin + end < run.ms;\n\
+const later = hasStretch ? (run.why[first] >> 6 & 1) - (run.why[last] >> 7) : 1;\nless[count] = later < 0 ? 1 : 0;\n\
+more[count++] = later > 0 && !(hasStretch && isLate(run, last)) ? 1 : 0;\n});\nrun.waitStart[task + 1] = count;\n});\n\
 run.waits = Object.fromEntries(Object.entries(waits).map(([key, values]) => [key, values.slice(0, count)]));\n}\n\
+const isLate = ({ why }, i) => (why[i] & 7) === 7;\n\
+const isCutWait = (run, first, last) => isLate(run, last) || run.begin > 0 && run.from[first] === 0 && (run.why[first] & 48) === 0;\n\
+function waitIn({ waits, begin }, k, from, until) {\n\
+const end = waits.from[k] + waits.length[k], bar = Math.min(until, end) - Math.max(from, waits.from[k]);\n\
+if (bar < 0 || end > until) return Math.max(0, bar);\n\
+return Math.max(0, bar - waits.less[k] + (from === 0 && begin === 0 ? waits.more[k] : 0));\n}\n\
 function findWaits(run) {\nconst worst = [], long = [], { tasks, duration, ended } = run;\n\
 run.longest = new Uint32Array(tasks.length);\nrun.waited = new Uint32Array(tasks.length);\n\
 let total = 0, number = 0;\nconst { waits, waitStart } = run, keep = (task, k) => {\n\
-const from = waits.from[k], until = from + waits.length[k], clock = waits.clockFrom[k], length = waits.clockUntil[k] - clock;\n\
+const from = waits.from[k], until = from + waits.length[k], clock = waits.clock[k], length = waitIn(run, k, 0, duration);\n\
 total += length; number++;\nrun.waited[task] += length;\nrun.longest[task] = Math.max(run.longest[task], length);\n\
 const isStall = task === ended.task && from < ended.at && until >= ended.at;\n\
 const isAmong = length > 0 && (worst.length < 20 || length > worst[19].length);\n\
 if (!isStall && !isAmong && length * 20 < duration) return;\n\
-const wait = { task, from, until, clock, length, isStall };\n\
+const wait = { task, from, until, clock, length, isStall, isCut: waits.isCut[k] > 0 };\n\
 if (isStall || length * 20 >= duration) long.push(wait);\n\
 if (isAmong) worst.push(wait) && worst.sort((one, other) => other.length - one.length).splice(20);\n};\n\
 for (let task = 0; task < tasks.length; task++) for (let k = waitStart[task]; k < waitStart[task + 1]; k++) keep(task, k);\n\
@@ -273,18 +319,19 @@ const ofGroups = groups.map((_, g) => ({ share: ranOfGroup[g] / busy, due: withi
 isCapped: within(sums, sums.parked, g * sums.row, from, until) > 0 }));\nreturn { tasks, groups: ofGroups, cpus };\n\
 }\nfunction figuresOfCpu(run, cpu, from, until) {\n\
 const [busyBefore, waitedBefore] = busyUntil(run, cpu, from), [busyAfter, waitedAfter] = busyUntil(run, cpu, until);\n\
-const busy = busyAfter - busyBefore, waits = run.someWaited[until] - run.someWaited[from];\n\
+const { someWaited } = run.waitsOn[cpu], busy = busyAfter - busyBefore, waits = someWaited[until] - someWaited[from];\n\
 return { busy, idle: until - from - busy, waits: waits - (waitedAfter - waitedBefore) };\n}\n\
-function busyUntil({ someWaited, cpuFrom, cpuLength, cpuStart, cpuBefore, cpuWaitedBefore }, cpu, time) {\n\
+function busyUntil({ waitsOn, cpuFrom, cpuLength, cpuStart, cpuBefore, cpuWaitedBefore }, cpu, time) {\n\
+const { someWaited } = waitsOn[cpu];\n\
 const last = cpuStart[cpu + 1], i = firstAfter(cpuFrom, cpuLength, cpuStart[cpu], last, time);\n\
 const begun = i < last && cpuFrom[i] < time ? cpuFrom[i] : time;\n\
 return [cpuBefore[i] + time - begun, cpuWaitedBefore[i] + someWaited[time] - someWaited[begun]];\n}\n\
 function figuresOfTask(run, task, from, until) {\n\
 const { waits, waitStart } = run, figures = { ran: ranUntil(run, task, until) - ranUntil(run, task, from), waited: 0, longest: 0 };\n\
 const end = waitStart[task + 1];\n\
-for (let k = firstAfter(waits.from, waits.length, waitStart[task], end, from); k < end && waits.from[k] < until; k++) {\n\
-const length = Math.max(0, Math.min(until, waits.clockUntil[k]) - Math.max(from, waits.clockFrom[k]));\n\
-figures.waited += length;\nfigures.longest = Math.max(figures.longest, length);\n}\nreturn figures;\n}\n\
+for (let k = firstAfter(waits.from, waits.length, waitStart[task], end, from); k < end && waits.from[k] <= until; k++) {\n\
+const length = waitIn(run, k, from, until);\nfigures.waited += length;\n\
+figures.longest = Math.max(figures.longest, length);\n}\nreturn figures;\n}\n\
 function ranUntil({ from, length, cpu, taskStart, ranBefore }, task, time) {\n\
 const last = taskStart[task + 1], i = firstAfter(from, length, taskStart[task], last, time);\n\
 return ranBefore[i] + (i < last && cpu[i] !== NOWHERE ? Math.max(0, time - from[i]) : 0);\n}\n\
@@ -371,16 +418,16 @@ putBand(low, y + runPart(tall), tall - runPart(tall));\n}\nfunction hatch(band, 
 band.hasTiles = true;\nband.tile[x] = WRONG_TILE;\n\
 band.ink[x] = shades[clamp(Math.round(share * SHADES), 6, SHADES)];\n}\nfunction shade(band, x, shades, share) {\n\
 if (share > 0) band.paper[x] = shades[clamp(Math.round(share * SHADES), 1, SHADES)];\n}\n\
-function drawIdle(since, x0, x1, offset) {\n\
-if (run.idleByQuota > 0) hatchIdle(quotaUntil, palette.parkedShades, since, x0, x1, offset);\n\
-hatchIdle(waitedUntil, palette.wrongShades, since, x0, x1, offset);\n}\n\
+function drawIdle(waits, since, x0, x1, offset) {\n\
+const hatchFor = (timeUntil, shades) => hatchIdle((time) => timeUntil(waits, time), shades, since, x0, x1, offset);\n\
+if (run.idleByQuota > 0) hatchFor(quotaUntil, palette.parkedShades);\nhatchFor(waitedUntil, palette.wrongShades);\n}\n\
 function hatchIdle(timeUntil, shades, since, x0, x1, offset) {\nconst step = perPixel();\n\
-for (let x = x0, before = timeUntil(run, Math.max(since, view.from + x0 * step)); x < x1; x++) {\n\
-const until = timeUntil(run, Math.min(run.duration, view.from + (x + 1) * step));\n\
+for (let x = x0, before = timeUntil(Math.max(since, view.from + x0 * step)); x < x1; x++) {\n\
+const until = timeUntil(Math.min(run.duration, view.from + (x + 1) * step));\n\
 if (until - before > 0.001 * step) hatch(high, offset + x, (until - before) / step, shades);\nbefore = until;\n}\n}\n\
-function hatchColumn(x, from, until, part) {\n\
-const step = perPixel(), waited = waitedUntil(run, until) - waitedUntil(run, from);\n\
-const parked = run.idleByQuota > 0 ? quotaUntil(run, until) - quotaUntil(run, from) : 0;\n\
+function hatchColumn(waits, x, from, until, part) {\n\
+const step = perPixel(), waited = waitedUntil(waits, until) - waitedUntil(waits, from);\n\
+const parked = run.idleByQuota > 0 ? quotaUntil(waits, until) - quotaUntil(waits, from) : 0;\n\
 if (waited > 0) hatch(high, x, Math.min(part, waited / step), palette.wrongShades);\n\
 else if (parked > 0) hatch(high, x, Math.min(part, parked / step), palette.parkedShades);\n}\n\
 function drawProcessor(cpu, y, tall) {\n\
@@ -390,16 +437,16 @@ let i = firstAfter(cpuFrom, cpuLength, run.cpuStart[cpu], last, view.from), x = 
 const start = i < last ? (cpuFrom[i] - view.from) / step : width;\n\
 const end = i < last ? (cpuFrom[i] + cpuLength[i] - view.from) / step : width;\nif (start >= x + 1) {\n\
 const until = Math.min(width, Math.floor(start));\n\
-drawIdle(i > run.cpuStart[cpu] ? cpuFrom[i - 1] + cpuLength[i - 1] : 0, x, until, offset);\nx = until;\n\
-} else if (end - start >= 2) {\nconst to = Math.min(width, Math.max(x + 1, Math.round(end)));\n\
+drawIdle(run.waitsOn[cpu], i > run.cpuStart[cpu] ? cpuFrom[i - 1] + cpuLength[i - 1] : 0, x, until, offset);\n\
+x = until;\n} else if (end - start >= 2) {\nconst to = Math.min(width, Math.max(x + 1, Math.round(end)));\n\
 drawBar(offset + Math.max(x, Math.round(start)), offset + to, y, tall, cpuTask[i]);\nx = to; i++;\n} else {\n\
 const begin = view.from + x * step, time = Math.min(run.duration, begin + step), next = nextAfter(cpuFrom, cpuLength, i, last, time);\n\
 const after = cpuBefore[next] + (next < last ? Math.max(0, time - cpuFrom[next]) : 0);\n\
 const share = (after - cpuBefore[i] - Math.max(0, begin - cpuFrom[i])) / step;\n\
 shade(high, offset + x, ownShades(i, next, last), share);\n\
-if (share < 0.9) hatchColumn(offset + x, begin, time, 1 - share);\nx++; i = next;\n}\n}\nputBand(high, y, tall);\n}\n\
-function ownShades(i, next, last) {\nif (view.chosen) return chosenShades(i, next, last);\n\
-if (next - i > 2) return palette.severalShades;\nlet best = i;\n\
+if (share < 0.9) hatchColumn(run.waitsOn[cpu], offset + x, begin, time, 1 - share);\nx++; i = next;\n}\n}\n\
+putBand(high, y, tall);\n}\nfunction ownShades(i, next, last) {\n\
+if (view.chosen) return chosenShades(i, next, last);\nif (next - i > 2) return palette.severalShades;\nlet best = i;\n\
 for (let k = i; k <= next && k < last; k++) if (run.cpuLength[k] > run.cpuLength[best]) best = k;\n\
 return palette.tasks[colourOf(run.cpuTask[best])];\n}\nfunction chosenShades(i, next, last) {\n\
 const { task } = view.chosen;\n\
@@ -484,8 +531,9 @@ const { sums, groups, processors, duration } = run, offset = plotLeft(), width =
 const leaves = [...groups.keys()].filter((g) => groups[g].tasks.length > 0);\nclearBands();\n\
 for (let x = 0; x < width; x++) {\nconst from = view.from + x * step, until = Math.min(duration, from + step);\n\
 const share = within(sums, sums.busy, 0, from, until) / step / processors;\n\
-if (share < 0.99) hatchColumn(offset + x, from, until, Math.min(1, 2 * (1 - share)));\n}\nputBand(high, y, tall);\n\
-stackGroups(leaves, y + tall, tall / step / processors);\n}\nfunction stackGroups(leaves, bottom, scale) {\n\
+if (share < 0.99) hatchColumn(run.waitsOnSome, offset + x, from, until, Math.min(1, 2 * (1 - share)));\n}\n\
+putBand(high, y, tall);\nstackGroups(leaves, y + tall, tall / step / processors);\n}\n\
+function stackGroups(leaves, bottom, scale) {\n\
 const { sums, duration, groups } = run, offset = plotLeft(), width = plotWidth(), step = perPixel();\n\
 const ran = leaves.map((g) => gridUntil(sums, sums.ran, g * sums.row, view.from));\n\
 const colours = leaves.map((g) => leaves.length > 1 ? palette.fills[colourOf(groups[g].tasks[0])] : palette.several);\n\
@@ -537,8 +585,10 @@ const rowOf = (kind, number) => view.rows.findIndex((row) => row.kind === kind &
 const nameOf = (kind, number) => kind === \"cpu\" ? \"CPU \" + number : run[kind + \"s\"][number].name;\n\
 function rowTitle(row) {\n\
 const name = row.name ?? (row.kind === \"cpu\" || row.kind === \"track\" ? \"\" : row.kind + \" \") + nameOf(row.kind, row.number);\n\
-return name + (row.folded === undefined || row.kind === \"section\" && !row.key ? \"\" : row.folded ? \", folded\" : \", unfolded\");\n\
-}\nfunction drawRow(row, index) {\n\
+const state = row.folded === undefined || row.kind === \"section\" && !row.key ? [] : [row.folded ? \"folded\" : \"unfolded\"];\n\
+return [name, ...boundWordsOf(row), ...state].join(\", \");\n}\n\
+const boundWordsOf = (row) => row.kind === \"task\" ? boundWords(run.tasks[row.number]) : [];\n\
+function drawRow(row, index) {\n\
 const y = Math.round((AXIS + row.y - view.scroll) * ratio), tall = Math.round(row.high * ratio);\n\
 const pad = Math.round((row.high > 12 ? 3 : 1) * ratio);\n\
 if (index === view.row && document.activeElement === element(\"canvas\")) fill(0, pixelsWide, y, y + tall, palette.band);\n\
@@ -592,8 +642,9 @@ const name = letters(number), wide = Math.max(size, 8 * name.length + 6), next =
 box(x, y + (high - size) / 2, wide, size, hexOf(palette.edges[colour]));\n\
 box(x + 1, y + (high - size) / 2 + 1, wide - 2, size - 2, palette.names.tasks[colour]);\n\
 write(name, x + 4, y + high / 2, palette.taskInk[colour], 10, 600);\n\
-const ink = isFaint(number) ? palette.names.faint : palette.names.ink;\n\
-write(run.tasks[number].name, next, y + high / 2, ink, 12, 400, left() - 10 - next);\n},\n};\nfunction draw() {\n\
+const { ink, faint } = palette.names, { name: words, cpus } = run.tasks[number], told = high >= 28 && cpus, room = left() - 10 - next;\n\
+write(words, next, y + high / 2 - (told ? 6 : 0), isFaint(number) ? faint : ink, 12, 400, room);\n\
+if (told) write(cpusText(cpus), next, y + high / 2 + 8, faint, 11, 400, room);\n},\n};\nfunction draw() {\n\
 const bottom = view.scroll + pixelsHigh / ratio - AXIS, sight = [];\n\
 view.rows.forEach((row, index) => { if (row.y + row.high > view.scroll && row.y < bottom) sight.push([index, row]); });\n\
 pixels.fill(palette.paper);\nview.labels = [];\nview.windows = null;\n\
@@ -636,8 +687,7 @@ if (!isEjectionShown() || x < offset || x > wide) return;\n\
 const words = endedWords(), room = 7 * words.length + 6, at = Math.max(0, x + room > wide ? x - room : x);\n\
 box(x - 1, 0, 2, high, palette.names.wrong);\nbox(at, 0, room, 16, palette.names.wrongInk);\n\
 write(words, at + 5, 8.5, palette.dark ? \"#101418\" : \"#ffffff\", 11, 600);\n}\n\
-const isCut = ({ from, until }) => from === 0 && run.begin > 0 || until === run.duration && run.begin + until < run.ms;\n\
-const lengthOfWait = (wait) => (isCut(wait) ? \"at least \" : \"\") + timeText(wait.length);\n\
+const lengthOfWait = (wait) => (wait.isCut ? \"at least \" : \"\") + timeText(wait.length);\n\
 function drawFrames(row, offset) {\n\
 if (row.kind === \"task\") for (const wait of run.framed.get(row.number) ?? []) drawLongWait(wait, row, offset);\n\
 const wait = row.kind === \"group\" && row.folded && run.framedOfGroup.get(row.number);\n\
@@ -725,7 +775,7 @@ const { sums, duration, processors } = run;\nObject.assign(canvas, { width: wide
 const brush = canvas.getContext(\"2d\"), { several, wrong, ink } = palette.names, step = duration / (wide - left());\n\
 for (let x = 0; x < wide - left(); x++) {\n\
 const from = x * step, until = Math.min(duration, from + step), share = within(sums, sums.busy, 0, from, until) / step / processors;\n\
-const waits = (waitedUntil(run, until) - waitedUntil(run, from)) / step, high = Math.round(share * (OVERVIEW - 6));\n\
+const waits = (waitedUntil(run.waitsOnSome, until) - waitedUntil(run.waitsOnSome, from)) / step, high = Math.round(share * (OVERVIEW - 6));\n\
 paintBoxes(brush, [[several, left() + x, OVERVIEW - high, 1, high]]);\n\
 if (Math.min(waits, 1 - share) > 0.01) paintBoxes(brush, [[wrong, left() + x, 0, 1, 4]]);\n}\n\
 if (isEjectionShown()) paintBoxes(brush, [[wrong, left() + run.ended.at / step - 1, 0, 2, OVERVIEW]]);\n\
@@ -757,8 +807,13 @@ const [begin, end] = ran ? [from, until] : [clockFrom(run, index), clockUntil(ru
 const when = \"from \" + momentText(begin) + \" to \" + momentText(end) + \", \" + timeText(end - begin);\n\
 const where = queue === NO_QUEUE ? \"\" : (ran ? \"it came from \" : \"in \") + queueName(run, queue);\n\
 const lines = [run.tasks[task].name + \" \" + what, when + (began && \"; \" + began), \"then \" + (ran ? WHY_RUN : WHY_WAIT)[why & 7], where];\n\
-return lines.filter(Boolean);\n}\nfunction stretchNear(row, time) {\n\
-const start = run.taskStart[row.number], end = run.taskStart[row.number + 1];\n\
+return [...lines.filter(Boolean), ...boundWords(run.tasks[task])];\n}\n\
+const boundWords = (task) => task.cpus ? [\"may run on \" + cpusText(task.cpus)] : [];\nfunction cpusText(cpus) {\n\
+if (cpus.length === 1) return \"CPU \" + cpus[0] + \" alone\";\nconst ranges = [];\nfor (const cpu of cpus) {\n\
+if (ranges.at(-1)?.[1] === cpu - 1) ranges.at(-1)[1] = cpu;\nelse ranges.push([cpu, cpu]);\n}\n\
+const words = ranges.map(([first, last]) => first === last ? first : first + \" to \" + last), end = words.pop();\n\
+return \"CPUs \" + (words.length > 0 ? words.join(\", \") + \" and \" : \"\") + end;\n}\n\
+function stretchNear(row, time) {\nconst start = run.taskStart[row.number], end = run.taskStart[row.number + 1];\n\
 if (row.kind !== \"task\" || start === end) return null;\n\
 return taskStretch(row.number, Math.max(time, run.from[Math.min(end - 1, firstAfter(run.from, run.length, start, end, time))]), row);\n\
 }\nfunction describePlace(row, time) {\nconst at = Math.floor(time);\n\
@@ -777,11 +832,13 @@ const weightAt = (g, time) => run.changes.filter(([at, group]) => group === g &&
 const quotaWords = ({ quota, period }) => quota === undefined ? [] : [\"quota \" + quota + \" ms in \" + period + \" ms\"];\n\
 function waitingWords(time, row) {\n\
 const kinds = run.tasks.map((_, task) => { const at = taskStretch(task, time, row); return at && kindOf(at.index); });\n\
-const named = (kind) => run.tasks.filter((_, task) => kinds[task] === kind).map(({ name }) => name);\n\
-const [waiting, parked] = [named(1), named(2)];\n\
+const isHere = (task) => row.kind !== \"cpu\" || mayRunOn(task, row.number);\n\
+const named = (kind, here) => run.tasks.filter((task, number) => kinds[number] === kind && isHere(task) === here).map(({ name }) => name);\n\
+const [waiting, parked, elsewhere] = [named(1, true), named(2, true), named(1, false)];\n\
 if (waiting.length > 0) return [\"waiting meanwhile: \" + firstNames(waiting)];\n\
-return parked.length > 0 ? [\"no task waited\", \"parked, as a quota was used up: \" + firstNames(parked)] : [\"no task waited\"];\n\
-}\n\
+const lines = [elsewhere.length > 0 ? \"no task waited that may run here\" : \"no task waited\"];\n\
+if (elsewhere.length > 0) lines.push(\"bound to other CPUs: \" + firstNames(elsewhere));\n\
+return parked.length > 0 ? [...lines, \"parked, as a quota was used up: \" + firstNames(parked)] : lines;\n}\n\
 const firstNames = (names) => names.slice(0, 6).join(\", \") + (names.length > 6 ? \" and \" + (names.length - 6) + \" more\" : \"\");\n\
 function describeAllCpus(time) {\nlet busy = 0;\n\
 for (let cpu = 0; cpu < run.processors; cpu++) eachRun(run, cpu, time, Math.min(run.duration, time + 1), () => { busy++; });\n\
@@ -917,7 +974,8 @@ const index = y < AXIS ? -1 : view.rows.findIndex((row) => at >= row.y && at < r
 return { x, y, share, time: view.from + share * (view.until - view.from), index };\n}\nfunction hover(event) {\n\
 const { share, time, index } = place(event), row = view.rows[index];\nview.cursor = share >= 0 ? time : null;\n\
 redraw();\nshowTip(event, linesAt(row, share, time));\n}\nfunction linesAt(row, share, time) {\n\
-if (!row) return null;\nif (share < 0) return row.kind === \"section\" ? null : [nameOf(row.kind, row.number)];\n\
+if (!row) return null;\n\
+if (share < 0) return row.kind === \"section\" ? null : [nameOf(row.kind, row.number), ...boundWordsOf(row)];\n\
 const stretch = stretchAt(row, time);\nreturn stretch ? describe(stretch) : describePlace(row, time);\n}\n\
 function showTip(event, lines) {\nconst tip = element(\"tip\");\ntip.hidden = !lines;\nif (!lines) return;\n\
 tip.replaceChildren();\nlines.forEach((line, number) => node(number ? \"div\" : \"b\", line, tip));\n\
@@ -1000,7 +1058,7 @@ items.push([run.isByTask ? \"runs (letter and colour: its task)\" : \"runs (lett
 for (const queue of all) if (queue < LOCAL) add(WAIT_WORDS[queue] ?? \"waits in \" + queueName(run, queue), tileOf(queue), \"wait\");\n\
 if (all.some(isLocal)) add(\"waits in a CPU's own queue\", tileOf(LOCAL), \"wait\");\n\
 if (run.parkedBefore[run.count] > 0) add(\"parked: quota used up\", tileOf(PARKED), \"parked\");\n\
-if (run.idle.some((ms) => ms > 0)) add(\"idle while a task waits\", WRONG_TILE, \"wrong\");\n\
+if (run.idle.some((ms) => ms > 0)) add(\"idle while a task waits\" + (run.tasks.some(({ cpus }) => cpus) ? \" that may run there\" : \"\"), WRONG_TILE, \"wrong\");\n\
 if (run.idleByQuota > 0) add(\"idle while a quota is used up\", WRONG_TILE, \"parked\");\n\
 const paint = (words, boxes) => items.push([words, (brush) => paintBoxes(brush, boxes)]);\n\
 if (run.framed.size > 0) paint(frameWords(), [[names.wrong, 0, 1, 30, 12], [names.waitPaper, 2, 3, 26, 8]]);\n\
@@ -1047,6 +1105,7 @@ view.top = most > 0.5 || most === 0 ? 1 : Math.ceil(most * 15) / 10;\n\
 palette = makePalette(matchMedia(\"(prefers-color-scheme: dark)\").matches);\nfillTitle();\nfillWaits();\n\
 fillNames();\nmakeLegend();\nlisten();\nelement(\"loading\").remove();\nresize();\nshow(0, run.duration);\n\
 fillFigures();\nfollowLink();\nconst readBack = () => context.getImageData(0, 0, 1, 1).data[0];\n\
-window.scxsim = { run, view, palette, draw, show, zoom, pan, goTo, fold, place, settle, readBack };\n}\n\
+const figures = (task) => figuresOfTask(run, task, 0, run.duration);\n\
+window.scxsim = { run, view, palette, draw, show, zoom, pan, goTo, fold, place, settle, readBack, figures };\n}\n\
 if (text(\"stretches\").length > LARGE) requestAnimationFrame(() => setTimeout(start));\nelse start();\n</script>\n\
 </body>\n</html>\n";

@@ -1,4 +1,5 @@
-use crate::shares::{Shares, WHOLE};
+use crate::quotas::WHOLE;
+use crate::shares::Shares;
 
 /// A whole share, in the parts that shares are counted in.
 pub const PARTS: u64 = 10_000;

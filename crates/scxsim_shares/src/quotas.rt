@@ -1,5 +1,7 @@
-use crate::shares::WHOLE;
 use scx_weights::Group;
+
+/// A share of all, and a millisecond, in the parts that dues are counted in.
+pub(crate) const WHOLE: u64 = 1_000_000_000;
 
 /// The part of a group's quota that may still be due to it in the current period. Times are counted from the picture's
 /// first moment.
@@ -8,7 +10,7 @@ pub(crate) struct Allowance {
     quota_ms: u64,
     period_ms: u64,
     /// In parts of a millisecond.
-    remaining: u64,
+    pub(crate) remaining: u64,
     /// The millisecond at which the next period begins.
     pub(crate) next: u64,
 }
@@ -29,11 +31,9 @@ impl Allowance {
         })
     }
 
-    /// Takes an amount that is due by weight. Returns the part of it that the quota allows.
-    pub(crate) fn take(&mut self, amount: u64) -> u64 {
-        let allowed = amount.min(self.remaining);
-        self.remaining = self.remaining.saturating_sub(allowed);
-        allowed
+    /// Takes an amount that is due.
+    pub(crate) fn take(&mut self, amount: u64) {
+        self.remaining = self.remaining.saturating_sub(amount);
     }
 
     /// Begins the periods up to that millisecond.
