@@ -12,7 +12,7 @@ use scxsim_simulation::{Listener, maps_at_end, replay, report, simulate};
 use scxsim_steps::step;
 use scxsim_story::story;
 use scxsim_tables::{check_run, replay_csv, stats, stats_csv};
-use scxsim_why::{why, why_all, why_json};
+use scxsim_why::{Length, why, why_json};
 use scxsim_words::{Account, Part};
 use std::alloc::Global;
 
@@ -140,8 +140,8 @@ fn write_account<L: Listener, W: Out>(
         Account::Check => check_run(alloc, policy, second, listener, out),
         Account::Stats => stats(alloc, policy, second, listener, out),
         Account::StatsCsv => stats_csv(alloc, policy, second, listener, out),
-        Account::Why => why(alloc, policy, second, listener, out),
-        Account::WhyAll => why_all(alloc, policy, second, listener, out),
+        Account::Why => why(alloc, Length::Short, policy, second, listener, out),
+        Account::WhyAll => why(alloc, Length::Whole, policy, second, listener, out),
         Account::WhyJson => why_json(alloc, policy, second, listener, out),
         Account::Story => story(alloc, policy, second, subject, listener, out),
         Account::Step => step(alloc, policy, second, subject, listener, out),

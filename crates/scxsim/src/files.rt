@@ -1,5 +1,5 @@
 use crate::console::Console;
-use scxsim_commands::{Hint, hint_of_text};
+use scxsim_commands::{Hint, hint_of_tables};
 use scxsim_remarks::STANDARD_INPUT;
 use std::io::ErrorKind;
 
@@ -36,9 +36,9 @@ pub(crate) fn files_of<'a, R: Console>(
 
 /// A hint at what a person may have meant by a refused one of these files.
 pub(crate) fn hint_of_files(files: &RunFiles) -> Option<Hint> {
-    match hint_of_text(files.policy.as_slice()) {
+    match hint_of_tables(files.policy.as_slice()) {
         Some(hint) => Some(hint),
-        None => hint_of_text(files.workload.as_slice()),
+        None => hint_of_tables(files.workload.as_slice()),
     }
 }
 

@@ -42,7 +42,7 @@ pub use scxsim_simulation::{Listener, maps_at_end, replay, report, simulate};
 pub use scxsim_steps::step;
 pub use scxsim_story::story;
 pub use scxsim_tables::{check_run, replay_csv, stats, stats_csv};
-pub use scxsim_why::{why, why_all, why_json};
+pub use scxsim_why::{Length, why, why_json};
 use std::io;
 use std::io::BufWriter;
 use std::process::ExitCode;

@@ -13,7 +13,7 @@ use std::{env, io};
 /// The words before the files of `cases`: the program's name and the command's.
 const WORDS_BEFORE_FILES: usize = 2;
 
-/// Does what the process's words ask for.
+/// Runs the command that the process's arguments name.
 pub(crate) fn run<R: AllocGlobal + Env + Console + Print, W: Out>(rt: &R, out: &mut W) -> Ending {
     match words_of(rt) {
         Ok(words) => match read_words(rt.alloc(), words.as_slice()) {
@@ -45,7 +45,7 @@ fn run_cases<R: AllocGlobal + Console + Print, W: Out>(
     }
 }
 
-/// Does what the words of a command in a file of cases ask for, of which the first names the program.
+/// Runs a command of a file of cases. The first of its words names the program.
 pub(crate) fn run_words<R: AllocGlobal + Console, S: AsStr, W: Out>(
     rt: &R,
     words: &[S],

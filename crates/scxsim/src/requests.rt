@@ -5,13 +5,15 @@ use crate::files::bytes_of;
 use crate::remarks::{named, remark_of_callback, remark_of_policy, remark_of_program};
 use crate::searches::{SearchWords, search};
 use crate::usage::write_usage;
-use scxsim_commands::{Fault, Out, Verdicts, asm, check, dis, exec, hint_of_slots, hint_of_text};
+use scxsim_commands::{
+    Fault, Out, Verdicts, asm, check, dis, exec, hint_of_slots, hint_of_tables, hint_of_text,
+};
 use scxsim_explain::{check_json, explain, explain_one};
 use scxsim_explore::Lists;
 use scxsim_words::{PolicyCommand, ProgramCommand, Request};
 use std::alloc::Global;
 
-/// Does a command's work with its files.
+/// Runs a command on its files.
 pub(crate) fn run_request<R: AllocGlobal + Console, W: Out>(
     rt: &R,
     request: Request<'_>,
@@ -133,7 +135,7 @@ fn work_on_policy<R: AllocGlobal + Console, W: Out>(
             remark_of_callback(rt.alloc(), &outcome, policy, words.callback)
         }
     };
-    end(outcome, hint_of_text(bytes.as_slice()), remark, out)
+    end(outcome, hint_of_tables(bytes.as_slice()), remark, out)
 }
 
 /// Leaves the verdicts of `verify` and `verify-json`. What `explain` writes shows the places itself.

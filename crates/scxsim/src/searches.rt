@@ -8,7 +8,7 @@ use scxsim_explore::{Lists, Watcher, explore};
 use scxsim_remarks::{SearchProgress, hint_on_lists};
 use std::alloc::Global;
 
-/// The words of a search: the paths of its files, and the lists of events that it goes through.
+/// The arguments of a search: the paths of its files, and the lists of events that it tries.
 #[derive(Clone, Copy)]
 pub(crate) struct SearchWords<'a> {
     pub(crate) policy: &'a str,

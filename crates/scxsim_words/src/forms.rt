@@ -162,7 +162,7 @@ impl Argument {
             Argument::To => {
                 "The end of the part in milliseconds: more than FROM, at most the run's length"
             }
-            Argument::Task => "The name of a task",
+            Argument::Task => "The name of a task of the workload",
             Argument::Moment => "A millisecond of the run: at least 0, at most the run's length",
             Argument::Mode => {
                 "The sequences to try. events: any order of single events; ms: whole milliseconds, in which every CPU ticks once; workloads: only those that a workload file can produce [possible values: events, ms, workloads]"
@@ -254,20 +254,20 @@ const FORMS: [Form; 30] = [
     Form {
         name: "why-all",
         kind: Kind::Run(Account::WhyAll),
-        about: "Run a workload, and explain the run as why does, with all lines",
+        about: "Run a workload, and explain how the run ended, who waited longest and why, in full",
         example: "Example: scxsim why-all examples/gallery/undrained.toml examples/workloads/two_tasks.toml\nprints:  what why prints, with each CPU on a line of its own and no limit of lines\ndocs/WHY.md explains them.",
     },
     Form {
         name: "why-json",
         kind: Kind::Run(Account::WhyJson),
-        about: "Run a workload, and explain the run as why does, as a JSON object a line",
+        about: "Run a workload, and explain how the run ended, who waited and why, as a JSON object a line",
         example: "Example: scxsim why-json examples/gallery/undrained.toml examples/workloads/two_tasks.toml\nprints:  {\"kind\":\"ending\",\"ms\":4,\"ejected\":false}\n         {\"kind\":\"idle\",\"ms\":4,\"times\":1}\n         {\"kind\":\"wait\",\"task\":\"a\",\"from\":0,\"to\":4,\"ms\":4,\"queues\":[\"queue 0\"]}\nand a line for each other wait, and for each task, callback and queue.\nschemas/why.schema.json has the members of each kind.",
     },
     Form {
         name: "story",
         kind: Kind::Task(Account::Story),
         about: "Run a workload, and tell what happened to one task, with reasons",
-        example: "Example: scxsim story examples/policies/short_slices.toml examples/workloads/two_tasks.toml b\nprints:  0 wakes, 0 of 1 processors idle\n         0 waits alone in queue 0\n         1 moves from queue 0 to local 0\n         1 runs on cpu 0 after waiting 1 ms, slice 2000000 ns\n         3 stops on cpu 0 after 2 ms: its slice is used up\n         3 waits alone in queue 0\ndocs/WHY.md explains these lines.",
+        example: "Example: scxsim story examples/policies/short_slices.toml examples/workloads/two_tasks.toml b\nprints:  0 wakes, 0 of 1 CPUs idle\n         0 waits alone in queue 0\n         1 moves from queue 0 to local 0\n         1 runs on cpu 0 after waiting 1 ms, slice 2000000 ns\n         3 stops on cpu 0 after 2 ms: its slice is used up\n         3 waits alone in queue 0\ndocs/WHY.md explains these lines.",
     },
     Form {
         name: "step",

@@ -10,10 +10,10 @@ pub enum ProgramCommand {
 #[derive(Clone, Copy)]
 pub enum PolicyCommand {
     Verify,
-    /// As `Verify`, in JSON.
+    /// `Verify`, with its output in JSON.
     VerifyJson,
     Explain,
-    /// As `Explain`, of one callback.
+    /// `Explain` for one callback.
     ExplainOne,
 }
 
@@ -27,9 +27,9 @@ pub enum Account {
     Stats,
     StatsCsv,
     Why,
-    /// As `Why`, of any length.
+    /// `Why` without its limit of 60 lines.
     WhyAll,
-    /// As `Why`, in JSON.
+    /// `Why`, with its output in JSON.
     WhyJson,
     Story,
     Step,
