@@ -10,7 +10,7 @@ use scxsim_simulation::{Listener, report, simulate};
 use scxsim_steps::step;
 use scxsim_story::story;
 use scxsim_tables::{check_run, stats, stats_csv};
-use scxsim_why::why;
+use scxsim_why::{Length, why};
 use std::alloc::Global;
 
 /// A command that runs a workload.
@@ -70,7 +70,7 @@ pub(crate) fn execute<L: Listener, W: Out>(
         RunCommand::Check => check_run(alloc, policy, workload, listener, out),
         RunCommand::Stats => stats(alloc, policy, workload, listener, out),
         RunCommand::StatsCsv => stats_csv(alloc, policy, workload, listener, out),
-        RunCommand::Why => why(alloc, policy, workload, listener, out),
+        RunCommand::Why => why(alloc, Length::Short, policy, workload, listener, out),
         RunCommand::Story => story(alloc, policy, workload, "a", listener, out),
         RunCommand::Step => step(alloc, policy, workload, "4", listener, out),
         RunCommand::Gantt => gantt(alloc, SHEET, policy, workload, None, listener, out),
