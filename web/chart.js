@@ -78,24 +78,25 @@ function shade(band, x, shades, share) {
 }
 
 // Hatches an idle time, from x0 to x1, for the part of it in which a task waited, and where none did, in which one was parked.
-function drawIdle(since, x0, x1, offset) {
-  if (run.idleByQuota > 0) hatchIdle(quotaUntil, palette.parkedShades, since, x0, x1, offset);
-  hatchIdle(waitedUntil, palette.wrongShades, since, x0, x1, offset);
+function drawIdle(waits, since, x0, x1, offset) {
+  const hatchFor = (timeUntil, shades) => hatchIdle((time) => timeUntil(waits, time), shades, since, x0, x1, offset);
+  if (run.idleByQuota > 0) hatchFor(quotaUntil, palette.parkedShades);
+  hatchFor(waitedUntil, palette.wrongShades);
 }
 
 function hatchIdle(timeUntil, shades, since, x0, x1, offset) {
   const step = perPixel();
-  for (let x = x0, before = timeUntil(run, Math.max(since, view.from + x0 * step)); x < x1; x++) {
-    const until = timeUntil(run, Math.min(run.duration, view.from + (x + 1) * step));
+  for (let x = x0, before = timeUntil(Math.max(since, view.from + x0 * step)); x < x1; x++) {
+    const until = timeUntil(Math.min(run.duration, view.from + (x + 1) * step));
     if (until - before > 0.001 * step) hatch(high, offset + x, (until - before) / step, shades);
     before = until;
   }
 }
 
 // Hatches a column of which a CPU was idle for such a part, as drawIdle does.
-function hatchColumn(x, from, until, part) {
-  const step = perPixel(), waited = waitedUntil(run, until) - waitedUntil(run, from);
-  const parked = run.idleByQuota > 0 ? quotaUntil(run, until) - quotaUntil(run, from) : 0;
+function hatchColumn(waits, x, from, until, part) {
+  const step = perPixel(), waited = waitedUntil(waits, until) - waitedUntil(waits, from);
+  const parked = run.idleByQuota > 0 ? quotaUntil(waits, until) - quotaUntil(waits, from) : 0;
   if (waited > 0) hatch(high, x, Math.min(part, waited / step), palette.wrongShades);
   else if (parked > 0) hatch(high, x, Math.min(part, parked / step), palette.parkedShades);
 }
@@ -110,7 +111,7 @@ function drawProcessor(cpu, y, tall) {
     const end = i < last ? (cpuFrom[i] + cpuLength[i] - view.from) / step : width;
     if (start >= x + 1) {
       const until = Math.min(width, Math.floor(start));
-      drawIdle(i > run.cpuStart[cpu] ? cpuFrom[i - 1] + cpuLength[i - 1] : 0, x, until, offset);
+      drawIdle(run.waitsOn[cpu], i > run.cpuStart[cpu] ? cpuFrom[i - 1] + cpuLength[i - 1] : 0, x, until, offset);
       x = until;
     } else if (end - start >= 2) {
       const to = Math.min(width, Math.max(x + 1, Math.round(end)));
@@ -121,7 +122,7 @@ function drawProcessor(cpu, y, tall) {
       const after = cpuBefore[next] + (next < last ? Math.max(0, time - cpuFrom[next]) : 0);
       const share = (after - cpuBefore[i] - Math.max(0, begin - cpuFrom[i])) / step;
       shade(high, offset + x, ownShades(i, next, last), share);
-      if (share < 0.9) hatchColumn(offset + x, begin, time, 1 - share);
+      if (share < 0.9) hatchColumn(run.waitsOn[cpu], offset + x, begin, time, 1 - share);
       x++; i = next;
     }
   }
@@ -292,7 +293,7 @@ function drawAllProcessors(y, tall) {
   for (let x = 0; x < width; x++) {
     const from = view.from + x * step, until = Math.min(duration, from + step);
     const share = within(sums, sums.busy, 0, from, until) / step / processors;
-    if (share < 0.99) hatchColumn(offset + x, from, until, Math.min(1, 2 * (1 - share)));
+    if (share < 0.99) hatchColumn(run.waitsOnSome, offset + x, from, until, Math.min(1, 2 * (1 - share)));
   }
   putBand(high, y, tall);
   stackGroups(leaves, y + tall, tall / step / processors);

@@ -21,7 +21,22 @@ function describe({ index, task, from, until }) {
   const when = "from " + momentText(begin) + " to " + momentText(end) + ", " + timeText(end - begin);
   const where = queue === NO_QUEUE ? "" : (ran ? "it came from " : "in ") + queueName(run, queue);
   const lines = [run.tasks[task].name + " " + what, when + (began && "; " + began), "then " + (ran ? WHY_RUN : WHY_WAIT)[why & 7], where];
-  return lines.filter(Boolean);
+  return [...lines.filter(Boolean), ...boundWords(run.tasks[task])];
+}
+
+// The CPUs on which a task may run, if it may not run on all.
+const boundWords = (task) => task.cpus ? ["may run on " + cpusText(task.cpus)] : [];
+
+// CPUs in words: CPU 0 alone, or CPUs 0 to 3 and 8.
+function cpusText(cpus) {
+  if (cpus.length === 1) return "CPU " + cpus[0] + " alone";
+  const ranges = [];
+  for (const cpu of cpus) {
+    if (ranges.at(-1)?.[1] === cpu - 1) ranges.at(-1)[1] = cpu;
+    else ranges.push([cpu, cpu]);
+  }
+  const words = ranges.map(([first, last]) => first === last ? first : first + " to " + last), end = words.pop();
+  return "CPUs " + (words.length > 0 ? words.join(", ") + " and " : "") + end;
 }
 
 // The stretch of a row at that time, or the next one.
@@ -52,13 +67,17 @@ const weightAt = (g, time) => run.changes.filter(([at, group]) => group === g &&
 
 const quotaWords = ({ quota, period }) => quota === undefined ? [] : ["quota " + quota + " ms in " + period + " ms"];
 
-// The tasks that waited at that moment, or if there were none, those that were parked.
+// The tasks that waited at that moment and may run on the row's CPU, or if there were none, those that were parked, and those
+// that waited for other CPUs.
 function waitingWords(time, row) {
   const kinds = run.tasks.map((_, task) => { const at = taskStretch(task, time, row); return at && kindOf(at.index); });
-  const named = (kind) => run.tasks.filter((_, task) => kinds[task] === kind).map(({ name }) => name);
-  const [waiting, parked] = [named(1), named(2)];
+  const isHere = (task) => row.kind !== "cpu" || mayRunOn(task, row.number);
+  const named = (kind, here) => run.tasks.filter((task, number) => kinds[number] === kind && isHere(task) === here).map(({ name }) => name);
+  const [waiting, parked, elsewhere] = [named(1, true), named(2, true), named(1, false)];
   if (waiting.length > 0) return ["waiting meanwhile: " + firstNames(waiting)];
-  return parked.length > 0 ? ["no task waited", "parked, as a quota was used up: " + firstNames(parked)] : ["no task waited"];
+  const lines = [elsewhere.length > 0 ? "no task waited that may run here" : "no task waited"];
+  if (elsewhere.length > 0) lines.push("bound to other CPUs: " + firstNames(elsewhere));
+  return parked.length > 0 ? [...lines, "parked, as a quota was used up: " + firstNames(parked)] : lines;
 }
 
 const firstNames = (names) => names.slice(0, 6).join(", ") + (names.length > 6 ? " and " + (names.length - 6) + " more" : "");

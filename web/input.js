@@ -16,7 +16,7 @@ function hover(event) {
 // What is told of a place: a stretch, else the row, and of a name that may be cut the whole name.
 function linesAt(row, share, time) {
   if (!row) return null;
-  if (share < 0) return row.kind === "section" ? null : [nameOf(row.kind, row.number)];
+  if (share < 0) return row.kind === "section" ? null : [nameOf(row.kind, row.number), ...boundWordsOf(row)];
   const stretch = stretchAt(row, time);
   return stretch ? describe(stretch) : describePlace(row, time);
 }

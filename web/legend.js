@@ -20,7 +20,7 @@ function legendItems() {
   for (const queue of all) if (queue < LOCAL) add(WAIT_WORDS[queue] ?? "waits in " + queueName(run, queue), tileOf(queue), "wait");
   if (all.some(isLocal)) add("waits in a CPU's own queue", tileOf(LOCAL), "wait");
   if (run.parkedBefore[run.count] > 0) add("parked: quota used up", tileOf(PARKED), "parked");
-  if (run.idle.some((ms) => ms > 0)) add("idle while a task waits", WRONG_TILE, "wrong");
+  if (run.idle.some((ms) => ms > 0)) add("idle while a task waits" + (run.tasks.some(({ cpus }) => cpus) ? " that may run there" : ""), WRONG_TILE, "wrong");
   if (run.idleByQuota > 0) add("idle while a quota is used up", WRONG_TILE, "parked");
   const paint = (words, boxes) => items.push([words, (brush) => paintBoxes(brush, boxes)]);
   if (run.framed.size > 0) paint(frameWords(), [[names.wrong, 0, 1, 30, 12], [names.waitPaper, 2, 3, 26, 8]]);

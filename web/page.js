@@ -24,7 +24,8 @@ function start() {
   fillFigures();
   followLink();
   const readBack = () => context.getImageData(0, 0, 1, 1).data[0];
-  window.scxsim = { run, view, palette, draw, show, zoom, pan, goTo, fold, place, settle, readBack };
+  const figures = (task) => figuresOfTask(run, task, 0, run.duration);
+  window.scxsim = { run, view, palette, draw, show, zoom, pan, goTo, fold, place, settle, readBack, figures };
 }
 
 // A large page says that it is read before it is read.

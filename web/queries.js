@@ -64,12 +64,13 @@ function figuresOf(run, from, until) {
 
 function figuresOfCpu(run, cpu, from, until) {
   const [busyBefore, waitedBefore] = busyUntil(run, cpu, from), [busyAfter, waitedAfter] = busyUntil(run, cpu, until);
-  const busy = busyAfter - busyBefore, waits = run.someWaited[until] - run.someWaited[from];
+  const { someWaited } = run.waitsOn[cpu], busy = busyAfter - busyBefore, waits = someWaited[until] - someWaited[from];
   return { busy, idle: until - from - busy, waits: waits - (waitedAfter - waitedBefore) };
 }
 
 // The time for which a CPU was busy up to a moment, and the part of it in which a task waited, from sums before each run.
-function busyUntil({ someWaited, cpuFrom, cpuLength, cpuStart, cpuBefore, cpuWaitedBefore }, cpu, time) {
+function busyUntil({ waitsOn, cpuFrom, cpuLength, cpuStart, cpuBefore, cpuWaitedBefore }, cpu, time) {
+  const { someWaited } = waitsOn[cpu];
   const last = cpuStart[cpu + 1], i = firstAfter(cpuFrom, cpuLength, cpuStart[cpu], last, time);
   const begun = i < last && cpuFrom[i] < time ? cpuFrom[i] : time;
   return [cpuBefore[i] + time - begun, cpuWaitedBefore[i] + someWaited[time] - someWaited[begun]];
@@ -78,8 +79,8 @@ function busyUntil({ someWaited, cpuFrom, cpuLength, cpuStart, cpuBefore, cpuWai
 function figuresOfTask(run, task, from, until) {
   const { waits, waitStart } = run, figures = { ran: ranUntil(run, task, until) - ranUntil(run, task, from), waited: 0, longest: 0 };
   const end = waitStart[task + 1];
-  for (let k = firstAfter(waits.from, waits.length, waitStart[task], end, from); k < end && waits.from[k] < until; k++) {
-    const length = Math.max(0, Math.min(until, waits.clockUntil[k]) - Math.max(from, waits.clockFrom[k]));
+  for (let k = firstAfter(waits.from, waits.length, waitStart[task], end, from); k < end && waits.from[k] <= until; k++) {
+    const length = waitIn(run, k, from, until);
     figures.waited += length;
     figures.longest = Math.max(figures.longest, length);
   }

@@ -54,8 +54,11 @@ const nameOf = (kind, number) => kind === "cpu" ? "CPU " + number : run[kind + "
 // A row in words, as it is told to those who don't see it.
 function rowTitle(row) {
   const name = row.name ?? (row.kind === "cpu" || row.kind === "track" ? "" : row.kind + " ") + nameOf(row.kind, row.number);
-  return name + (row.folded === undefined || row.kind === "section" && !row.key ? "" : row.folded ? ", folded" : ", unfolded");
+  const state = row.folded === undefined || row.kind === "section" && !row.key ? [] : [row.folded ? "folded" : "unfolded"];
+  return [name, ...boundWordsOf(row), ...state].join(", ");
 }
+
+const boundWordsOf = (row) => row.kind === "task" ? boundWords(run.tasks[row.number]) : [];
 
 function drawRow(row, index) {
   const y = Math.round((AXIS + row.y - view.scroll) * ratio), tall = Math.round(row.high * ratio);
@@ -148,7 +151,8 @@ const NAMES = {
     box(x, y + (high - size) / 2, wide, size, hexOf(palette.edges[colour]));
     box(x + 1, y + (high - size) / 2 + 1, wide - 2, size - 2, palette.names.tasks[colour]);
     write(name, x + 4, y + high / 2, palette.taskInk[colour], 10, 600);
-    const ink = isFaint(number) ? palette.names.faint : palette.names.ink;
-    write(run.tasks[number].name, next, y + high / 2, ink, 12, 400, left() - 10 - next);
+    const { ink, faint } = palette.names, { name: words, cpus } = run.tasks[number], told = high >= 28 && cpus, room = left() - 10 - next;
+    write(words, next, y + high / 2 - (told ? 6 : 0), isFaint(number) ? faint : ink, 12, 400, room);
+    if (told) write(cpusText(cpus), next, y + high / 2 + 8, faint, 11, 400, room);
   },
 };

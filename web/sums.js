@@ -1,10 +1,8 @@
 // Sums up to each moment: run, waited and parked time, of tasks, CPUs and groups, and all waits.
-// Sums up to each stretch, and for each millisecond the time before it in which a task waited, and in which none did but one
-// was parked.
+// Sums up to each stretch, and up to each run of a CPU.
 function sumStretches(run) {
-  const { count, duration, from, length, cpu, queue } = run, runs = run.cpuFrom.length;
+  const { count, from, length, cpu, queue } = run, wakes = [];
   for (const before of ["ranBefore", "waitedBefore", "parkedBefore", "wakesBefore"]) run[before] = new Uint32Array(count + 1);
-  const [waits, parks] = [0, 1].map(() => new Int32Array(duration + 2)), wakes = [];
   for (let i = 0; i < count; i++) {
     const ran = cpu[i] !== NOWHERE, parked = !ran && queue[i] === PARKED;
     run.ranBefore[i + 1] = run.ranBefore[i] + (ran ? length[i] : 0);
@@ -12,28 +10,81 @@ function sumStretches(run) {
     run.waitedBefore[i + 1] = run.waitedBefore[i] + (ran || parked ? 0 : length[i]);
     if (isWake(run, i)) wakes.push(from[i]);
     run.wakesBefore[i + 1] = wakes.length;
-    if (!ran) { const change = parked ? parks : waits; change[from[i]]++; change[from[i] + length[i]]--; }
   }
   run.wakeTimes = Uint32Array.from(wakes);
-  for (const sum of ["someWaited", "onlyParked"]) run[sum] = new Uint32Array(duration + 2);
-  for (let ms = 0, waiting = 0, parked = 0; ms <= duration; ms++) {
-    waiting += waits[ms]; parked += parks[ms];
-    run.someWaited[ms + 1] = run.someWaited[ms] + (waiting > 0 && ms < duration ? 1 : 0);
-    run.onlyParked[ms + 1] = run.onlyParked[ms] + (waiting === 0 && parked > 0 && ms < duration ? 1 : 0);
-  }
-  run.idleByQuota = run.processors * run.onlyParked[duration];
-  for (const before of ["cpuBefore", "cpuWaitedBefore"]) run[before] = new Uint32Array(runs + 1);
-  for (let i = 0; i < runs; i++) {
-    const { cpuBefore, cpuWaitedBefore, someWaited, onlyParked } = run, from = run.cpuFrom[i], until = from + run.cpuLength[i];
-    cpuBefore[i + 1] = cpuBefore[i] + until - from;
-    cpuWaitedBefore[i + 1] = cpuWaitedBefore[i] + someWaited[until] - someWaited[from];
-    run.idleByQuota -= onlyParked[until] - onlyParked[from];
-  }
-  run.idle = Array.from({ length: run.processors }, (_, cpu) => figuresOfCpu(run, cpu, 0, duration).waits);
+  sumRuns(run);
   sumGroups(run);
   sumQueues(run);
   listWaits(run);
   findWaits(run);
+}
+
+// Of each CPU the time before each run for which it was busy, and the part of it in which a task waited, and the whole time
+// for which it was idle while one waited.
+function sumRuns(run) {
+  const { cpuFrom, cpuLength, cpuStart, processors, duration } = run, runs = cpuFrom.length;
+  Object.assign(run, countWaits(run, () => true));
+  run.waitsOn = waitsOnCpus(run);
+  for (const before of ["cpuBefore", "cpuWaitedBefore"]) run[before] = new Uint32Array(runs + 1);
+  run.idleByQuota = 0;
+  for (let cpu = 0; cpu < processors; cpu++) {
+    const { cpuBefore, cpuWaitedBefore } = run, { someWaited, onlyParked } = run.waitsOn[cpu];
+    run.idleByQuota += onlyParked[duration];
+    for (let i = cpuStart[cpu]; i < cpuStart[cpu + 1]; i++) {
+      const from = cpuFrom[i], until = from + cpuLength[i];
+      cpuBefore[i + 1] = cpuBefore[i] + until - from;
+      cpuWaitedBefore[i + 1] = cpuWaitedBefore[i] + someWaited[until] - someWaited[from];
+      run.idleByQuota -= onlyParked[until] - onlyParked[from];
+    }
+  }
+  run.idle = Array.from({ length: processors }, (_, cpu) => figuresOfCpu(run, cpu, 0, duration).waits);
+  run.waitsOnSome = run.tasks.some(({ cpus }) => cpus) ? waitsOnIdle(run) : run;
+}
+
+// For each millisecond the time before it in which a CPU was idle and a task waited that may run there.
+function waitsOnIdle({ processors, duration, cpuFrom, cpuLength, cpuStart, waitsOn, onlyParked }) {
+  const counts = new Uint8Array(duration), someWaited = new Uint32Array(duration + 2);
+  for (let cpu = 0; cpu < processors; cpu++) {
+    for (let i = cpuStart[cpu], ms = 0; i <= cpuStart[cpu + 1]; i++) {
+      const isLast = i === cpuStart[cpu + 1], sums = waitsOn[cpu].someWaited;
+      for (const end = isLast ? duration : cpuFrom[i]; ms < end; ms++) counts[ms] |= sums[ms + 1] - sums[ms];
+      if (!isLast) ms += cpuLength[i];
+    }
+  }
+  for (let ms = 0; ms <= duration; ms++) someWaited[ms + 1] = someWaited[ms] + (counts[ms] ?? 0);
+  return { duration, someWaited, onlyParked };
+}
+
+const mayRunOn = ({ cpus }, cpu) => !cpus || cpus.includes(cpu);
+
+// The waits that count for each CPU: those of tasks that may run there. CPUs on which the same tasks may run share them.
+function waitsOnCpus(run) {
+  const bound = run.tasks.filter(({ cpus }) => cpus), counted = new Map();
+  return Array.from({ length: run.processors }, (_, cpu) => {
+    const key = bound.map((task) => mayRunOn(task, cpu) ? 1 : 0).join("");
+    if (!counted.has(key)) counted.set(key, bound.length > 0 ? countWaits(run, (task) => mayRunOn(task, cpu)) : run);
+    return counted.get(key);
+  });
+}
+
+// For each millisecond the time before it in which a task that counts waited, and in which none did but one was parked.
+function countWaits({ duration, tasks, taskStart, from, length, cpu, queue }, counts) {
+  const [waits, parks] = [0, 1].map(() => new Int32Array(duration + 2));
+  tasks.forEach((task, number) => {
+    if (!counts(task)) return;
+    for (let i = taskStart[number]; i < taskStart[number + 1]; i++) {
+      if (cpu[i] !== NOWHERE) continue;
+      const change = queue[i] === PARKED ? parks : waits;
+      change[from[i]]++; change[from[i] + length[i]]--;
+    }
+  });
+  const [someWaited, onlyParked] = [0, 1].map(() => new Uint32Array(duration + 2));
+  for (let ms = 0, waiting = 0, parked = 0; ms <= duration; ms++) {
+    waiting += waits[ms]; parked += parks[ms];
+    someWaited[ms + 1] = someWaited[ms] + (waiting > 0 && ms < duration ? 1 : 0);
+    onlyParked[ms + 1] = onlyParked[ms] + (waiting === 0 && parked > 0 && ms < duration ? 1 : 0);
+  }
+  return { duration, someWaited, onlyParked };
 }
 
 // For each group the time that its tasks ran, waited and were parked before each cell, and what was due.
@@ -87,11 +138,15 @@ function sumLeaf(run, group, { cell, row }, slices) {
 }
 
 // What is due to a group in a cell is its part by weight of what is due to its parent, or of all that ran. In a period of
-// its quota no more than that is due.
-function sumDue({ groups, changes, begin }, { cell, cells, row, ran, waited, parked, due, busy }) {
-  const weights = groups.map((group) => group.weight), totals = new Float64Array(groups.length + 1);
-  const part = new Float64Array(groups.length), left = changes.slice(), room = new Float64Array(groups.length).fill(Infinity);
+// its quota no more than that is due to it, nor more than the groups within it can take, and the groups beside it share what
+// it leaves.
+function sumDue({ groups, changes, begin }, sums) {
+  const { cell, cells, row, ran, waited, parked, due, busy } = sums, left = changes.slice();
+  const weights = groups.map((group) => group.weight), room = groups.map(() => Infinity);
   const limited = [...groups.keys()].filter((g) => groups[g].quota !== undefined);
+  const families = [[...groups.keys()].filter((g) => groups[g].parent < 0), ...groups.map(({ children }) => children)];
+  const numbers = () => new Float64Array(groups.length);
+  const claims = { weights: numbers(), rooms: numbers(), parts: numbers(), isOpen: new Uint8Array(groups.length) };
   for (let k = 0; k < cells; k++) {
     for (const g of limited) {
       const { quota, period } = groups[g];
@@ -99,18 +154,16 @@ function sumDue({ groups, changes, begin }, { cell, cells, row, ran, waited, par
       else if (beginsPeriod(groups[g], begin + k * cell, cell)) room[g] = quota;
     }
     while (left.length && left[0][0] <= k * cell) { const [, g, weight] = left.shift(); weights[g] = weight; }
-    totals.fill(0);
-    for (let g = 0; g < groups.length; g++) {
-      const at = g * row + k;
-      part[g] = ran[at + 1] > ran[at] || waited[at + 1] > waited[at] || parked[at + 1] > parked[at] ? weights[g] : 0;
-      totals[groups[g].parent + 1] += part[g];
+    for (let g = groups.length - 1; g >= 0; g--) {
+      const at = g * row + k, isActive = ran[at + 1] > ran[at] || waited[at + 1] > waited[at] || parked[at + 1] > parked[at];
+      claims.weights[g] = isActive ? weights[g] : 0;
+      claims.rooms[g] = limited.length > 0 ? roomOf(claims, families[g + 1], isActive ? room[g] : 0) : Infinity;
     }
-    const ranNow = busy[k + 1] - busy[k];
+    shareOut(claims, families[0], busy[k + 1] - busy[k]);
     for (let g = 0; g < groups.length; g++) {
-      const above = groups[g].parent;
-      const amount = part[g] && part[g] / totals[above + 1] * (above < 0 ? ranNow : due[above * row + k]);
-      due[g * row + k] = Math.min(amount, room[g]);
-      room[g] -= due[g * row + k];
+      due[g * row + k] = claims.parts[g];
+      room[g] -= claims.parts[g];
+      shareOut(claims, families[g + 1], claims.parts[g]);
     }
   }
   groups.forEach((group, g) => {
@@ -120,6 +173,37 @@ function sumDue({ groups, changes, begin }, { cell, cells, row, ran, waited, par
     group.due = sum / (busy[cells] || 1);
     group.isCapped = parked[g * row + cells] > 0;
   });
+}
+
+// The most that can be due to a group: no more than the groups within it can take.
+function roomOf({ rooms }, within, own) {
+  let sum = within.length > 0 ? 0 : Infinity;
+  for (const g of within) sum += rooms[g];
+  return Math.min(own, sum);
+}
+
+// Shares an amount out among groups: by weight, and to none more than it has room for. Those that are full leave the rest
+// to the others.
+function shareOut({ weights, rooms, parts, isOpen }, groups, amount) {
+  let rest = amount, total = 0, isOver = false;
+  for (const g of groups) {
+    parts[g] = 0;
+    isOpen[g] = weights[g] > 0 && rooms[g] > 0 ? 1 : 0;
+    total += isOpen[g] * weights[g];
+  }
+  while (!isOver && total > 0) {
+    const unit = rest / total;
+    isOver = true;
+    for (const g of groups) {
+      if (!isOpen[g] || rooms[g] >= weights[g] * unit) continue;
+      parts[g] = rooms[g];
+      isOpen[g] = 0;
+      rest -= rooms[g];
+      total -= weights[g];
+      isOver = false;
+    }
+  }
+  for (const g of groups) if (isOpen[g]) parts[g] = weights[g] * rest / total;
 }
 
 const beginsPeriod = ({ period }, at, cell) => Math.floor(at / period) > Math.floor((at - cell) / period);
@@ -162,14 +246,19 @@ const isWake = ({ why }, i) => (why[i] & 48) === 16;
 // True if the next stretch of a task follows at once. A task that was let go in between begins anew.
 const goesOn = ({ from, length, why }, i) => from[i] + length[i] === from[i + 1] && (why[i + 1] & 48) !== 48;
 const isWait = ({ cpu, queue }, i) => cpu[i] === NOWHERE && queue[i] !== PARKED;
-const clockFrom = ({ from, why }, i) => from[i] - (why[i] >> 6 & 1);
+const clockFrom = ({ from, why }, i) => Math.max(0, from[i] - (why[i] >> 6 & 1));
 const clockUntil = ({ from, length, why }, i) => from[i] + length[i] - (why[i] >> 7);
 
-// Calls `act` with the first and last stretch of each wait of a task: of stretches of waiting one after another.
+// Calls `act` with the first and last stretch of each wait of a task: of stretches of waiting one after another. A wait from
+// the end of a millisecond to the beginning of the next, or to the end of what is shown, has none: there it is the run before
+// it, and no last one.
 function eachWait(run, task, act) {
   const end = run.taskStart[task + 1];
   for (let i = run.taskStart[task], first = -1; i < end; i++) {
-    if (!isWait(run, i)) continue;
+    if (!isWait(run, i)) {
+      if (isStopped(run, i) && hasNoWait(run, i, end)) act(i, -1);
+      continue;
+    }
     if (first < 0) first = i;
     if (i + 1 < end && isWait(run, i + 1) && goesOn(run, i)) continue;
     act(first, i);
@@ -177,22 +266,48 @@ function eachWait(run, task, act) {
   }
 }
 
-// All waits, task by task, by ticks and by the clock.
+const isStopped = ({ cpu, why }, i) => cpu[i] !== NOWHERE && (why[i] & 7) === 1;
+
+// True if a millisecond by the clock is between the end of a run and the task's next run, or the end, and no stretch.
+function hasNoWait(run, i, end) {
+  const until = run.from[i] + run.length[i], next = i + 1 < end && run.from[i + 1] === until;
+  if (next && run.cpu[i + 1] === NOWHERE) return false;
+  return next ? clockUntil(run, i) < clockFrom(run, i + 1) : until === run.duration && clockUntil(run, i) < until;
+}
+
+// All waits, task by task: by ticks, when they began by the clock, by how many milliseconds they are less or more by the
+// clock, and whether they go on out of what is shown.
 function listWaits(run) {
-  const most = run.from.length, waits = { from: new Uint32Array(most), length: new Uint32Array(most),
-    clockFrom: new Uint32Array(most), clockUntil: new Uint32Array(most) };
+  const most = run.from.length, [from, length, clock] = [0, 1, 2].map(() => new Uint32Array(most));
+  const [less, more, isCut] = [0, 1, 2].map(() => new Uint8Array(most)), waits = { from, length, clock, less, more, isCut };
   let count = 0;
   run.waitStart = new Uint32Array(run.tasks.length + 1);
   run.tasks.forEach((_, task) => {
     eachWait(run, task, (first, last) => {
-      waits.from[count] = run.from[first];
-      waits.length[count] = run.from[last] + run.length[last] - run.from[first];
-      waits.clockFrom[count] = clockFrom(run, first);
-      waits.clockUntil[count++] = clockUntil(run, last);
+      const hasStretch = last >= 0, end = run.from[first] + run.length[first];
+      from[count] = hasStretch ? run.from[first] : end;
+      length[count] = hasStretch ? run.from[last] + run.length[last] - run.from[first] : 0;
+      clock[count] = hasStretch ? clockFrom(run, first) : end - 1;
+      isCut[count] = hasStretch ? isCutWait(run, first, last) : end === run.duration && run.begin + end < run.ms;
+      const later = hasStretch ? (run.why[first] >> 6 & 1) - (run.why[last] >> 7) : 1;
+      less[count] = later < 0 ? 1 : 0;
+      more[count++] = later > 0 && !(hasStretch && isLate(run, last)) ? 1 : 0;
     });
     run.waitStart[task + 1] = count;
   });
   run.waits = Object.fromEntries(Object.entries(waits).map(([key, values]) => [key, values.slice(0, count)]));
+}
+
+// True if a stretch goes on after what is shown.
+const isLate = ({ why }, i) => (why[i] & 7) === 7;
+const isCutWait = (run, first, last) => isLate(run, last) || run.begin > 0 && run.from[first] === 0 && (run.why[first] & 48) === 0;
+
+// The milliseconds of a wait in a window: those by ticks. If it ends there, it is as long as by the clock, but longer only
+// in a window that begins with the run.
+function waitIn({ waits, begin }, k, from, until) {
+  const end = waits.from[k] + waits.length[k], bar = Math.min(until, end) - Math.max(from, waits.from[k]);
+  if (bar < 0 || end > until) return Math.max(0, bar);
+  return Math.max(0, bar - waits.less[k] + (from === 0 && begin === 0 ? waits.more[k] : 0));
 }
 
 // Adds up all waits by the clock, keeps the longest ones, and finds those that stand out: at least a twentieth of what is
@@ -203,14 +318,14 @@ function findWaits(run) {
   run.waited = new Uint32Array(tasks.length);
   let total = 0, number = 0;
   const { waits, waitStart } = run, keep = (task, k) => {
-    const from = waits.from[k], until = from + waits.length[k], clock = waits.clockFrom[k], length = waits.clockUntil[k] - clock;
+    const from = waits.from[k], until = from + waits.length[k], clock = waits.clock[k], length = waitIn(run, k, 0, duration);
     total += length; number++;
     run.waited[task] += length;
     run.longest[task] = Math.max(run.longest[task], length);
     const isStall = task === ended.task && from < ended.at && until >= ended.at;
     const isAmong = length > 0 && (worst.length < 20 || length > worst[19].length);
     if (!isStall && !isAmong && length * 20 < duration) return;
-    const wait = { task, from, until, clock, length, isStall };
+    const wait = { task, from, until, clock, length, isStall, isCut: waits.isCut[k] > 0 };
     if (isStall || length * 20 >= duration) long.push(wait);
     if (isAmong) worst.push(wait) && worst.sort((one, other) => other.length - one.length).splice(20);
   };

@@ -83,8 +83,7 @@ function drawEjection(offset, wide, high) {
   write(words, at + 5, 8.5, palette.dark ? "#101418" : "#ffffff", 11, 600);
 }
 
-const isCut = ({ from, until }) => from === 0 && run.begin > 0 || until === run.duration && run.begin + until < run.ms;
-const lengthOfWait = (wait) => (isCut(wait) ? "at least " : "") + timeText(wait.length);
+const lengthOfWait = (wait) => (wait.isCut ? "at least " : "") + timeText(wait.length);
 
 // The long waits of a task have frames, and the longest one of a folded group.
 function drawFrames(row, offset) {
