@@ -323,13 +323,15 @@ def patterns(window, maker):
 
 
 def quotas(window, maker):
-    """A group isn't red for what its quota keeps from it; labels of changes don't overlap; what is due has exact steps, and
-    is no more than the quota in a period; a line says what the quota allows."""
+    """A group isn't red for what its quota keeps from it; labels of changes don't overlap; what is due has exact steps, is no
+    more than the quota in a period, and else that of the group beside it, as `stats-csv` has it; a line says what the quota
+    allows."""
     text = workload_text(2, 2000, [{"name": "web"}, {"name": "batch", "cpu_max": "20000 100000"}],
                          [{"name": f"{name}{number}", "group": name} for name in ("web", "batch") for number in (1, 2)])
     for at, weight in ((500, 1000), (1000, 50), (1010, 60)):
         text += f'[[change]]\nat = {at}\ngroup = "web"\nweight = {weight}\n'
-    window.open(maker.page("quotas", FAIR, maker.workload("quotas", text)))
+    workload = maker.workload("quotas", text)
+    window.open(maker.page("quotas", FAIR, workload))
     written = window.written()
     window.expect("its words aren't red", all(colour == "#6a7178" for words, _, _, _, colour in written if "quota" in words))
     window.expect("and say quota", any("quota" in words for words, *_ in written))
@@ -338,7 +340,7 @@ def quotas(window, maker):
     window.same("two labels of three changes", len(labels), 2)
     window.expect("apart", all(one[0] != other[0] or one[2] < other[1] for one, other in pairwise(labels)))
     row = window.row("group", 0)
-    for time, due in ((495.5, "50.0%"), (505.5, "90.9%"), (995.5, "90.9%"), (1500.5, "37.5%")):
+    for time, due in ((495.5, "93.2%"), (505.5, "90.9%"), (995.5, "90.9%"), (1500.5, "89.5%")):
         window.hover(time, row)
         window.expect(f"due at {time}: " + window.text("tip"), f"due {due}" in window.text("tip"))
     row = window.row("group", 1)
@@ -347,11 +349,65 @@ def quotas(window, maker):
     # Five periods with the quota, five with a share by weight of 100 / 1100, and ten with the quota.
     due = window.tell("run.groups[1].due * run.sums.busy[run.sums.cells]")
     window.expect(f"due in all: {due}", abs(due - (15 * 20 + 5 * 200 / 11)) < 1)
+    said, shares = maker.stats(FAIR, workload), window.tell("run.groups.map(({ name, due }) => [name, 100 * due])")
+    window.expect(f"as stats-csv has it: {shares}", all(abs(float(said["group", name, "due_percent"]) - due) < 0.05
+                                                        for name, due in shares))
     x, y = 156 + 0.75 * chart_width(window), window.tell("34 + view.rows[arguments[0]].y - view.scroll", row)
     tall = window.tell("view.rows[arguments[0]].high", row)
     seen = {window.pixel(x + right, y + below) for right in (2, 5, 8) for below in range(int(tall))}
     window.expect(f"a line: {seen}", window.tell("palette.names.parked") in seen)
     window.expect("and words for it", "what a group's quota allows" in window.legend())
+
+
+# By Linux rules all tasks wait in queue 0, and each CPU takes the first that may run there.
+ONE_QUEUE = '''name = "one_queue"
+rules = "linux"
+tick_ms = 1
+[code]
+init = "r1 = 0\\ncall 1001\\nexit"
+enqueue = "r2 = 0\\nr3 = 2000000\\nr4 = 0\\ncall 1002\\nexit"
+dispatch = "r1 = 0\\ncall 1004\\nexit"
+'''
+
+
+def bound(window, maker):
+    """A task that is bound to some CPUs says so, and while it alone waits another CPU isn't hatched."""
+    policy, tasks = maker.workload("one_queue", ONE_QUEUE), [{"name": name, "group": "g", "cpus": "0"} for name in "ab"]
+    tasks.append({"name": "c", "group": "g", "cpus": "0-1,3", "start": 20, "run": 5, "sleep": 1000})
+    window.open(maker.page("bound", policy, maker.workload("bound", workload_text(4, 60, [{"name": "g"}], tasks))))
+    window.same("their CPUs", window.tell("run.tasks.map(({ cpus }) => cpus)"), [[0], [0], [0, 1, 3]])
+    window.same("no CPU is idle while one may run there", window.tell("run.idle.slice(1)"), [0, 0, 0])
+    window.hover(40.5, window.row("cpu", 1))
+    window.expect("it says why: " + window.text("tip"), "no task waited that may run herebound to other CPUs: " in window.text("tip"))
+    window.hover(40.5, window.row("task", 0))
+    window.expect("a stretch: " + window.text("tip"), window.text("tip").endswith("may run on CPU 0 alone"))
+    window.expect("below its name", {"CPU 0 alone", "CPUs 0 to 1 and 3"} <= {words for words, *_ in window.written()})
+    window.expect("in the legend", not any("idle while" in words for words in window.legend()))
+    window.same("of all CPUs", window.tell("run.waitsOnSome.someWaited[60]"), 0)
+
+
+def changes_of_events(window, maker):
+    """What is due goes by the changes of weights of a file of events, as by those of a workload."""
+    groups, tasks = [{"name": "a"}, {"name": "b"}], [{"name": "x", "group": "a"}, {"name": "y", "group": "b"}]
+    lines = "0 wake x\\n0 wake y\\n100 weight a 300\\n180 weight b 200\\n"
+    events = f'events = "{lines}"\n' + workload_text(1, 200, groups, tasks)
+    window.open(maker.page("changes", FAIR, maker.workload("changes", events)))
+    window.same("its changes", window.tell("run.changes"), [[100, 0, 300], [180, 1, 200]])
+    window.same("what is due", window.tell("run.groups.map(({ due }) => due.toFixed(3))"), ["0.610", "0.390"])
+    window.open(maker.page("changes_part", FAIR, maker.workload("changes", events), 50, 150))
+    window.same("in a part", window.tell("run.changes"), [[50, 0, 300]])
+
+
+def last_wait(window, maker):
+    """A wait of the run's last millisecond by the clock has no stretch, and counts."""
+    tasks = [{"name": name, "group": "g"} for name in "ab"]
+    workload = maker.workload("last", workload_text(1, 20, [{"name": "g"}], tasks))
+    window.open(maker.page("last_wait", FAIR, workload))
+    stats = maker.stats(FAIR, workload)
+    window.same("as stats-csv has it", window.tell("[...run.longest]"),
+                [int(stats["task", name, "longest_wait_ms"]) for name in "ab"])
+    window.figures()
+    window.same("in the table", [int(line[3]) for line in window.table("tasks")], window.tell("[...run.longest]"))
 
 
 def idle_by_quota(window, maker):
@@ -419,6 +475,12 @@ def cut_waits(window, maker):
     window.open(maker.page("cut", STRICT, BUSY, 20, 70))
     words = window.tell("[...document.querySelectorAll('#waits button')].map((one) => one.textContent)")
     window.expect("in the list: " + words[0], words[0].startswith("at least 50 ms backup"))
+    # Video was stopped at the end of millisecond 13, so its first wait of the part began with the part.
+    window.open(maker.page("begun", STRICT, BUSY, 14, 40))
+    first = window.tell("['from', 'clock', 'isCut'].map((key) => run.waits[key][run.waitStart[2]])")
+    window.same("one that began with the part", first, [0, 0, 0])
+    times = window.tell("run.tasks.map((_, task) => { const { ran, waited } = scxsim.figures(task); return ran + waited; })")
+    window.expect(f"no task ran and waited for longer than the part: {times}", all(0 < ms <= 26 for ms in times))
 
 
 def folding(window, maker):
@@ -485,4 +547,4 @@ def loading(window, maker):
 
 
 CASES = [selection, cursor, tips, keys, left_text, range_figures, in_sight, sorting, search, links, overview, queue_tracks,
-         frames, patterns, quotas, idle_by_quota, aligned, wakes, nothing_ran, cut_waits, folding, colours, phone, loading]
+         frames, patterns, quotas, bound, changes_of_events, last_wait, idle_by_quota, aligned, wakes, nothing_ran, cut_waits, folding, colours, phone, loading]
