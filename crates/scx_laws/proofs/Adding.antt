@@ -1,4 +1,4 @@
--- What all tasks have run grows by a millisecond at each tick of a processor that is busy, and at no other event.
+-- The run times of all tasks together grow by a millisecond at each tick of a busy processor, and at no other event.
 use Rattle.std.proofs.Common.{◌≡◌, ℕ, Bool, true, false, if◌then◌else◌, ◌+◌, ◌*◌, ◌<◌, length, get_or, Option, Some, None, is_some, refl, List, [], ◌∷◌, arith}
 use Rattle.std.proofs.lemmas.Bool.{eq-eqb, ne_eqb}
 use Rattle.scx_dsq.specs.Laws.{one_if}
@@ -34,7 +34,7 @@ module _ (s : SimState) (e : Event) (ok : refusal s e ≡ None) (h : IsFirm s) w
   ran : (u : ℕ) → (get_or afterwards u no_task).run_ns ≡ (get_or before u no_task).run_ns + ran_in e s.state.world u
   ran u = run_times s.events s.state e (accepted s e ok).taken h.fine h.there u
 
-  -- where nobody ran
+  -- if no task ran
   nobody_ran : ((u : ℕ) → ran_in e s.state.world u ≡ 0) → run_of_all (machine.event_step s.state e).state.world ≡ run_of_all s.state.world
   nobody_ran none = sum_same (λ (x : Task). x.run_ns) no_task before afterwards as_many (λ u. omega (arith, ran u, none u))
 

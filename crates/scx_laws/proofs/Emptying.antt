@@ -1,4 +1,4 @@
--- By plain rules and without quotas, a tick that leaves its processor idle leaves nobody in queues that dispatch serves.
+-- By plain rules and without quotas, a tick that leaves its processor idle leaves no task in queues that dispatch serves.
 use Rattle.std.proofs.Common.{◌≡◌, ℕ, zero, suc, ◌+◌, ◌<◌, Bool, true, false, not, ◌==◌, ◌&&◌, nat_lt, if◌then◌else◌, List, [], ◌∷◌, length, set, get_or, Option, Some, None, is_none, is_some, refl, sym, ap, ◌∙◌, subst, arith}
 use Rattle.std.specs.List.{AllByRecursion}
 use Rattle.std.proofs.lemmas.Bool.{eq-eqb}
@@ -58,19 +58,19 @@ use Rattle.scx_laws.specs.Serving.{after_serving, ServesQueues}
 
 -- ---- what is shown
 
--- nobody who may run on the processor waits in these queues
+-- no task that may run on the processor waits in these queues
 abbrev pub NobodyNext : ℕ → List ℕ → WorldState → Type 0
 NobodyNext c qs w = AllByRecursion (λ q. next_for w q c ≡ None) qs
 
--- nor where nobody waits in its own queue and the policy is in force
+-- nor if its own queue is empty and the policy is in force
 abbrev Empties : List ℕ → ℕ → WorldState → Type 0
 Empties qs c w = w.ejected ≡ None → local_len w c ≡ 0 → NobodyNext c qs w
 
--- nor where the processor is idle, and nobody waits in its own queue or in that of all processors
+-- nor if the processor is idle, and its own queue and that of all processors are empty
 abbrev pub EmptiesIfIdle : List ℕ → ℕ → WorldState → Type 0
 EmptiesIfIdle qs c w = w.ejected ≡ None → is_none (running w c) ≡ true → (local_len w c ≡ 0) × NobodyNext c (global ∷ qs) w
 
--- what a dispatch that serves these queues makes of a world: nothing, where nobody waits in them; else somebody comes to
+-- a dispatch that serves these queues changes nothing of a world if no task waits in them; else a task comes to
 -- the processor's own queue, or the callback has a fault
 data IsServed (qs : List ℕ) (c : ℕ) (w v : WorldState) : Type 0 where
   Vain : v ≡ w → NobodyNext c qs w → IsServed qs c w v
@@ -102,7 +102,7 @@ out_stays s r honest out force = go s.world.ejected refl out
 busy : (qs : List ℕ) (c : ℕ) (w : WorldState) → is_none (running w c) ≡ false → EmptiesIfIdle qs c w
 busy qs c w e force idle = let bad : false ≡ true = sym e ∙ idle in absurd (cc)
 
--- by plain rules anybody leaves
+-- by plain rules each task leaves
 plain_leaves : (s : State) (p : Option ℕ) → is_by_linux s ≡ false → LeavesPlainly p s
 plain_leaves s None plain = tt
 plain_leaves s (Some t) plain = plain
@@ -129,7 +129,7 @@ concluded_plain s c ran plain = go ran
     go false = refl
     go true = ap (λ d. if (d && is_some (program_of s.policy callback.UpdateIdle)) && is_none (running s.world c) then becomes_idle s c else stays (cycling s None)) plain
 
--- the policy hears of nobody who left its custody
+-- the policy hears of no task that left its custody
 told_plain : (s : State) (c : ℕ) (ns : List Note) → is_by_linux s ≡ false → tells_left s c ns ≡ stays s
 unfolding tells_left hears_dequeue
 told_plain s c ns plain = let r = tells_each ns s c in ap (λ b. if b && is_some (program_of s.policy callback.Dequeue) then record r { state = moved_as s.world.call.has_moved r.state } else stays s) plain
@@ -146,7 +146,7 @@ len_entered s q t r l ok =
     let free : one_if (is_in q (entry_of s t)) ≡ 0 = rw (free_from s q t r ok) refl in
     rw ok (omega (arith, len_set s q t (Some (next_entry s q r)) l, free, here))
 
--- a fill that brings nobody: no task that may run on the processor waits in that queue
+-- a fill that brings no task: none that may run on the processor waits in that queue
 abbrev IsVain : ℕ → ℕ → WorldState → WorldState → Type 0
 IsVain q c w v = (next_for w q c ≡ None) × (local_len w c ≡ 0) × (v ≡ w)
 
@@ -177,7 +177,7 @@ module _ (qs : List ℕ) (n e : ℕ) (c : ℕ) where
       go false x None f empty = (f, empty, refl)
       go false x (Some t) f empty = absurd (omega (arith, empty, longer m on w q t l f h))
 
-  -- nobody waits in the global queue either, once the local one was filled from there
+  -- the global queue is empty too, once the local one was filled from there
   fill_empties : (m : ℕ) (on : List (Option ℕ)) (s : State) → c < length on → IsFine n e m None on s.world → Empties qs c s.world → Empties (global ∷ qs) c (fill s global c).state.world
   fill_empties m on s l h y force empty =
       let v = fill_leaves m on s global l h empty in

@@ -62,7 +62,7 @@ run_two : (a : Args) (maps : Maps) (w : WorldState) → runs two_queues a maps w
 unfolding run_of
 run_two a maps w = refl
 
--- where nobody was moved the second queue is tried
+-- if no task was moved the second queue is tried
 from_none : (a : Args) (maps : Maps) (w : WorldState) → from_answer a maps 0 w ≡ left_with maps (after_move w 1)
 from_none a maps w = refl
 

@@ -6,7 +6,7 @@ use Rattle.scx_sched_machine.specs.Policy.{PolicyState}
 use Rattle.scx_sched_machine.specs.Start.{is_bad_shape}
 use Rattle.scx_sched.specs.Sim.{SimState, after_event, IsFirstState}
 
--- a machine of that policy before any event, over these groups and tasks and with so many
+-- a machine of that policy before any event, over these groups and tasks and with that number of
 -- processors
 pub record IsBegun (p : PolicyState) (tree : Hierarchy) (cpus : ℕ) (s : SimState) : Type 0 where
   pub shape : is_bad_shape tree cpus ≡ false

@@ -36,11 +36,11 @@ use Rattle.scx_laws.specs.Runs.{IsBegun, after_events}
 
 -- ---- what dispatch does
 
--- there is such a queue, and nobody waits in it who may run on the processor at hand
+-- there is such a queue, and no task waits in it that may run on the current processor
 abbrev pub has_nobody : WorldState → ℕ → Bool
 has_nobody w q = can_move w q && is_none (next_for w q w.call.cpu)
 
--- the first of these queues in which somebody waits is served: its front goes to the processor
+-- the first of these queues in which such a task waits is served: its front goes to the processor
 abbrev pub after_serving : List ℕ → WorldState → WorldState
 after_serving [] w = w
 after_serving (q ∷ qs) w = if has_nobody w q then after_serving qs w else after_move w q
@@ -95,13 +95,13 @@ EachServes code qs = (p : VerifiedProgram) → p.code ≡ code → Serves qs p
 
 -- ---- no processor idles while a task waits
 
--- nobody waits in these queues, in the processor's own, or in that of all processors
+-- no task waits in these queues, in the processor's own, or in that of all processors
 pub record NobodyWaits (qs : List ℕ) (w : WorldState) (c : ℕ) : Type 0 where
   pub served : AllByRecursion (λ q. len_of w.queues q ≡ 0) qs
   pub local : local_len w c ≡ 0
   pub global : len_of w.queues global ≡ 0
 
--- the processor is idle only where nobody waits, while the policy is in force
+-- the processor is idle only if no task waits there, while the policy is in force
 abbrev pub IdlesForNobody : List ℕ → WorldState → ℕ → Type 0
 IdlesForNobody qs w c = w.ejected ≡ None → running w c ≡ None → NobodyWaits qs w c
 

@@ -1,4 +1,4 @@
--- What texts of programs say, in the language of policy files; comments are passed over.
+-- Texts of programs in the language of policy files, and the instructions that they say.
 use Rattle.std.specs.Prelude.{◌≡◌, ℕ, List, Ok, codes}
 use Rattle.scx_isa_semantics.specs.Code.{Code}
 use Rattle.scx_asm.specs.Reading.{read_text}
