@@ -152,7 +152,7 @@ first_pass_fails before earlier p n (text ∷ texts) f m b e = go (read_line tex
         record {
           before = before;
           text = text;
-          behind = texts;
+          following = texts;
           split = refl;
           number = sym both.1 ∙ b.number;
           earlier = earlier;
@@ -204,8 +204,8 @@ first_pass_fit n p q (text ∷ texts) (l ∷ ls) read e d le =
 record Lost (labels : Labels) (n s : ℕ) (ls : List ItemValue) (f : AsmFault) (m : ℕ) : Type 0 where
   pub before : List ItemValue
   pub line : ItemValue
-  pub behind : List ItemValue
-  pub split : ls ≡ before ++ line ∷ behind
+  pub following : List ItemValue
+  pub split : ls ≡ before ++ line ∷ following
   pub number : m ≡ n + length before
   pub insns : List Insn
   pub said : AreSaid labels s before insns
@@ -217,7 +217,7 @@ one_before labels n s l ls f m front says x =
     record {
       before = l ∷ x.before;
       line = x.line;
-      behind = x.behind;
+      following = x.following;
       split = ap (λ (ls : List ItemValue). l ∷ ls) x.split;
       number = omega (arith, x.number);
       insns = front x.insns;
@@ -286,7 +286,7 @@ here : (labels : Labels) (n s : ℕ) (l : ItemValue) (ls : List ItemValue) (f : 
 here labels n s l ls f m e lost = record {
   before = [];
   line = l;
-  behind = ls;
+  following = ls;
   split = refl;
   number = omega (arith, e);
   insns = [];
@@ -326,12 +326,12 @@ finish_fails text ls f m read fine e = go (nat_eq (0 + slots_of ls) 0) refl
       where
         lost : Lost (definitions 0 ls) 1 0 ls f m → IsFirstFault text f m
         lost x =
-            let labels : definitions 0 ls ≡ definitions 0 (x.before ++ x.line ∷ x.behind) = ap (λ (ls : List ItemValue). definitions 0 ls) x.split in
+            let labels : definitions 0 ls ≡ definitions 0 (x.before ++ x.line ∷ x.following) = ap (λ (ls : List ItemValue). definitions 0 ls) x.split in
             let slot : 0 + slots_of x.before ≡ slots_of x.before = omega arith in
             AtJump f m (record {
               before = x.before;
               line = x.line;
-              behind = x.behind;
+              following = x.following;
               read = read ∙ ap (λ (ls : List ItemValue). map Some ls) x.split;
               number = omega (arith, x.number);
               fine = subst AreFine x.split fine;

@@ -41,8 +41,8 @@ IsWrong earlier l fault = ⊥
 pub record FailsAt (texts : List (List ℕ)) (fault : AsmFault) (n : ℕ) : Type 0 where
   pub before : List (List ℕ)
   pub text : List ℕ
-  pub behind : List (List ℕ)
-  pub split : texts ≡ before ++ text ∷ behind
+  pub following : List (List ℕ)
+  pub split : texts ≡ before ++ text ∷ following
   pub number : n ≡ suc (length before)
   pub earlier : List ItemValue
   pub read : map read_line before ≡ map Some earlier
@@ -60,13 +60,13 @@ IsLost labels s l fault = ⊥
 pub record LosesAt (texts : List (List ℕ)) (fault : AsmFault) (n : ℕ) : Type 0 where
   pub before : List ItemValue
   pub line : ItemValue
-  pub behind : List ItemValue
-  pub read : map read_line texts ≡ map Some (before ++ line ∷ behind)
+  pub following : List ItemValue
+  pub read : map read_line texts ≡ map Some (before ++ line ∷ following)
   pub number : n ≡ suc (length before)
-  pub fine : AreFine (before ++ line ∷ behind)
+  pub fine : AreFine (before ++ line ∷ following)
   pub insns : List Insn
-  pub said : AreSaid (definitions 0 (before ++ line ∷ behind)) 0 before insns
-  pub lost : IsLost (definitions 0 (before ++ line ∷ behind)) (slots_of before) line fault
+  pub said : AreSaid (definitions 0 (before ++ line ∷ following)) 0 before insns
+  pub lost : IsLost (definitions 0 (before ++ line ∷ following)) (slots_of before) line fault
 
 -- all lines are fine, and none says an instruction
 pub record IsEmpty (texts : List (List ℕ)) : Type 0 where

@@ -126,7 +126,7 @@ fn program_of(alloc: Global, insns: &[Insn]) -> Result<Program, AsmError>
 #[tactic(auto, using(crate::proofs::Written::fails_on))]
 pub fn assemble(alloc: Global, text: &str) -> Result<Program, AsmError>
     ensures exact { Gives (λ program. program) result (read_text text.now) }
-    ensures stands { Answers text.now result }
+    ensures answers { Answers text.now result }
 {
     match instructions(alloc, text) {
         Ok(insns) => program_of(alloc, &insns),

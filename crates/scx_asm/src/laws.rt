@@ -4,7 +4,7 @@ ghost use Rattle.scx_asm.specs.Laws.{ReadsWhatStands, ReadsBack, AssemblesBack};
 /// the same program, and assembled to it where memory is found. The function does nothing: its contract
 /// is the law.
 pub fn canonical_text_is_read_back()
-    ensures stands { ReadsWhatStands }
+    ensures reads { ReadsWhatStands }
     ensures read { ReadsBack }
     ensures assembled { AssemblesBack }
 {}

@@ -138,8 +138,8 @@ abbrev pub read_memory_operand : List Lexeme → Read MemoryOperand
 read_memory_operand ts = do
   inner ← opening ts
   a ← read_access inner
-  behind ← star a.1
-  closed ← closing behind
+  after ← star a.1
+  closed ← closing after
   r ← read_address closed
   Some (record { access = a.0; base = r.0.0; offset = r.0.1 }, r.1)
 

@@ -43,7 +43,7 @@ pub enum Jump {
 #[derive(Clone, Copy)]
 pub enum Target<'a> {
     Label(&'a [u8]),
-    /// So many slots on or back from the next instruction.
+    /// A distance in slots, on or back from the next instruction.
     Distance(Literal),
 }
 

@@ -101,9 +101,9 @@ fn digits_token(text: &[u8], touches: bool, class: Class, prefix: usize) -> (Tok
     ensures token { (lexeme result.0, result.1) ≡ digits_at touches class prefix text.now }
     ensures within { result.1 ≤ length text.now }
 {
-    let (_, behind) = text.split_at(prefix);
-    let count = run_of(class, behind);
-    let (digits, _) = behind.split_at(count);
+    let (_, after) = text.split_at(prefix);
+    let count = run_of(class, after);
+    let (digits, _) = after.split_at(count);
     let value = numeral_of(class.radix(), digits);
     (Token::Number(touches, value), prefix + count)
 }

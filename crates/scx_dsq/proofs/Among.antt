@@ -228,14 +228,14 @@ form_at : (i : Inside) (k id : ℕ) → IsKept i → IsQueueAt (state_of i) k id
 form_at i k id h at d = let there = found_at i k id at in (there.1 d, h.live k d there.0)
 
 -- the link of a task that waits in order of arrival leads to the next
-pub next_in : (i : Inside) (k id t : ℕ) → IsKept i → IsQueueAt (state_of i) k id → WaitsInOrder i.entries.items id t → MatchOption (link_at i.links.items t).behind (IsLast i.entries.items id t) (IsNext i.entries.items id t)
+pub next_in : (i : Inside) (k id t : ℕ) → IsKept i → IsQueueAt (state_of i) k id → WaitsInOrder i.entries.items id t → MatchOption (link_at i.links.items t).next (IsLast i.entries.items id t) (IsNext i.entries.items id t)
 next_in i k id t h at w = go (get_or i.live.items k any) (form_at i k id h at any).0 (form_at i k id h at any).1.tasks
   where
     any : Queue
     any = record { id = id; ends = no_ends; heap = record { room = 0; items = [] } }
 
-    go : (q : Queue) → q.id ≡ id → IsOfOneSort i.entries.items i.links.items q → MatchOption (link_at i.links.items t).behind (IsLast i.entries.items id t) (IsNext i.entries.items id t)
-    go q is (by_links f empty) = (subst (λ v. IsThreaded i.entries.items i.links.items v q.ends) is f).behind t w.entry w.waits
+    go : (q : Queue) → q.id ≡ id → IsOfOneSort i.entries.items i.links.items q → MatchOption (link_at i.links.items t).next (IsLast i.entries.items id t) (IsNext i.entries.items id t)
+    go q is (by_links f empty) = (subst (λ v. IsThreaded i.entries.items i.links.items v q.ends) is f).next t w.entry w.waits
     go q is (by_heap held none) = absurd (both_ways (same_sort w.entry.rank Fifo) (holds_vtime i.entries.items q.id q.heap.items held t w.entry (w.waits.0, w.waits.1 ∙ sym is)) w.fifo)
 
 -- a queue with a first task is in order of arrival from there on

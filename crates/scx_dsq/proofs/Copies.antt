@@ -44,7 +44,7 @@ module _ (entries : Entries) (links : List Link) (spots : List ℕ) where
     tasks = same_sort id ends items room other h.tasks;
     room = roomy;
     heap = h.heap;
-    stand = h.stand;
+    placed = h.placed;
   }
 
   -- so is a copy of a kept one

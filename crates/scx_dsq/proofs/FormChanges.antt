@@ -137,7 +137,7 @@ module _ (s : QueueState) (links : List Link) (q : Queue) (x : Item) (within : x
         room = omega arith;
         task = omega arith;
         absent = holds_absent s.entries q.id q.heap.items x.task (rw free refl) h;
-        stand = stand;
+        placed = stand;
         heap = heap;
       }
 
@@ -173,7 +173,7 @@ module _ (s : QueueState) (links : List Link) (q : Queue) (t : ℕ) (p : Entry) 
       record {
         task = omega arith;
         ahead = subst (λ n. IsWithin n (link_at links t).ahead) (sym long) (ahead_within s.entries q.id t (link_at links t).ahead (h.ahead t p waits));
-        behind = subst (λ n. IsWithin n (link_at links t).behind) (sym long) (behind_within s.entries q.id t (link_at links t).behind (h.behind t p waits));
+        next = subst (λ n. IsWithin n (link_at links t).next) (sym long) (behind_within s.entries q.id t (link_at links t).next (h.next t p waits));
         count = omega arith;
       }
 
@@ -181,7 +181,7 @@ module _ (s : QueueState) (links : List Link) (q : Queue) (t : ℕ) (p : Entry) 
   pub can_leave : (rank : Rank) (spots : List ℕ) → p.rank ≡ rank → HasSpots q.heap.items spots → IsHeap q.heap.items → IsOfOneSort s.entries links q → CanLeave rank links spots q t
   can_leave Fifo spots is stand heap form = can_unlink (ap (λ r. same_sort r Fifo) is) form
   can_leave Front spots is stand heap form = can_unlink (ap (λ r. same_sort r Fifo) is) form
-  can_leave (Vtime k) spots is stand heap form = record { task = (left_held k is form).0.all t p waits; stand = stand; heap = heap }
+  can_leave (Vtime k) spots is stand heap form = record { task = (left_held k is form).0.all t p waits; placed = stand; heap = heap }
 
   -- the queue of a FIFO task keeps the others after it was taken out
   pub form_unlinked : same_sort p.rank Fifo ≡ true → IsOfOneSort s.entries links q → IsOfOneSort (set s.entries t None) (links_unlinked links t) (without_linked links q t)
@@ -207,9 +207,9 @@ module _ (s : QueueState) (links : List Link) (q : Queue) (t : ℕ) (p : Entry) 
   unlinked_agree is form id n u o w =
       let h = (left_threaded is form).0 in
       let ahead = h.ahead t p waits in
-      let behind = h.behind t p waits in
+      let behind = h.next t p waits in
       unlinked_others links t (subst (λ m. IsWithin m (link_at links t).ahead) (sym long) (ahead_within s.entries q.id t (link_at links t).ahead ahead))
-      (subst (λ m. IsWithin m (link_at links t).behind) (sym long) (behind_within s.entries q.id t (link_at links t).behind behind)) u (not_ahead (link_at links t).ahead ahead) (not_behind (link_at links t).behind behind)
+      (subst (λ m. IsWithin m (link_at links t).next) (sym long) (behind_within s.entries q.id t (link_at links t).next behind)) u (not_ahead (link_at links t).ahead ahead) (not_behind (link_at links t).next behind)
     where
       not_ahead : (a : Option ℕ) → MatchOption a (HasFirstTurn s.entries q.id t) (λ v. IsNext s.entries q.id v t) → a ≢ Some u
       not_ahead None h e = absurd (cc)

@@ -33,7 +33,7 @@ threaded_empty s links id nobody = record {
   first = nobody;
   last = nobody;
   ahead = λ t p w. absurd (nobody t p w);
-  behind = λ t p w. absurd (nobody t p w);
+  next = λ t p w. absurd (nobody t p w);
   count = sym (nobody_counts s id nobody);
   sort = λ t p w. absurd (nobody t p w);
 }

@@ -46,7 +46,7 @@ module _ (items : List Item) (x : Item) where
   heap_pushed h = record {
     others = λ k some lt n d e. let inside = within_pushed k lt n in
         rw (kept_pushed k d inside, kept_pushed (parent k) e (omega (arith, inside, some))) (h k some inside d e);
-    behind = λ k some lt is up. absurd (omega (arith, lt, length_push items x, is, up, some));
+    children = λ k some lt is up. absurd (omega (arith, lt, length_push items x, is, up, some));
   }
 
   -- each task has its spot, the new one at the end

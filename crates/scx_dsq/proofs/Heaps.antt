@@ -224,14 +224,14 @@ module _ (items new : List Item) (at : ℕ) (up : 0 < at) (within : at < length 
           old x = h.others k some (omega (arith, lt, long)) m d x
 
           by : (parent k ≡ at) ⊎ (parent k ≡ at → ⊥) → (parent k ≡ parent at) ⊎ (parent k ≡ parent at → ⊥) → comes_before (slice_index_or new k d).priority (slice_index_or new (parent k) e).priority ≡ false
-          by (inl child) s = rw (here, child, at_of e) (h.behind k some (omega (arith, lt, long)) child up d e)
+          by (inl child) s = rw (here, child, at_of e) (h.children k some (omega (arith, lt, long)) child up d e)
           by (inr o) (inl sibling) =
               let not_up : comes_before (slice_index_or items k d).priority (slice_index_or items (parent at) e).priority ≡ false = subst (λ j. comes_before (slice_index_or items k d).priority (slice_index_or items j e).priority ≡ false) sibling (old e) in
               rw (here, sibling, up_of e) (false_from_ne_true _ (λ t. both_ways _ not_up (trans (slice_index_or items k d).priority (slice_index_or items at e).priority (slice_index_or items (parent at) e).priority t (early e e))))
           by (inr o) (inr other) = rw (here, rest_of (parent k) e o other) (old e)
 
-  behind : (k : ℕ) → 0 < k → k < length new → parent k ≡ parent at → 0 < parent at → IsBehind new k (parent (parent at))
-  behind k some lt child top d e = go (cases_eq k at)
+  children : (k : ℕ) → 0 < k → k < length new → parent k ≡ parent at → 0 < parent at → IsBehind new k (parent (parent at))
+  children k some lt child top d e = go (cases_eq k at)
     where
       far : slice_index_or new (parent (parent at)) e ≡ slice_index_or items (parent (parent at)) e
       far = rest_of (parent (parent at)) e (λ x. absurd (omega arith)) (λ x. absurd (omega arith))
@@ -249,7 +249,7 @@ module _ (items new : List Item) (at : ℕ) (up : 0 < at) (within : at < length 
 
   -- after an exchange with its parent only the item there now may leave before its own parent
   pub exchanged : IsHeapBut new (parent at)
-  exchanged = record { others = others; behind = behind }
+  exchanged = record { others = others; children = children }
 
 -- a heap but for the first position is one
 pub heap_at_root : (items : List Item) → IsHeapBut items 0 → IsHeap items
@@ -306,5 +306,5 @@ module _ (items new : List Item) (at c : ℕ) (h : IsHeapAround items at) (child
 pub heap_at_end : (items : List Item) (at : ℕ) → IsHeapAround items at → length items ≤ 2 * at + 1 → IsHeapBut items at
 heap_at_end items at h past = record {
   others = λ k some lt n. h.others k some lt n (λ e. absurd (omega arith));
-  behind = λ k some lt is up. absurd (omega arith);
+  children = λ k some lt is up. absurd (omega arith);
 }

@@ -101,5 +101,5 @@ module _ (i j : Inside) (k t : ℕ) (q queue : Queue) (entry : Option Entry) (li
             tasks = form_others i.entries.items (get_or i.live.items m d).id t entry in_places out.0 out.1 i.links.items links (get_or i.live.items m d) refl (agree (get_or i.live.items m d).id other) old.tasks;
             room = omega (arith, old.room, length-set i.entries.items t entry);
             heap = old.heap;
-            stand = elsewhere (get_or i.live.items m d) other old;
+            placed = elsewhere (get_or i.live.items m d) other old;
           })

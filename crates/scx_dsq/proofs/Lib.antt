@@ -24,6 +24,6 @@ pub mod Makings
 pub mod Counted
 pub mod Spots
 pub mod Shifts
-pub mod Behind
+pub mod After
 pub mod Among
 pub mod Copies

@@ -77,7 +77,7 @@ created_keeps i j id gap heap h g order order_capacity spare live capacity entri
       tasks = by_heap (subst (Holds i.entries.items id) (sym heaps.1.0) (holds_empty (state_of i) id nobody)) refl;
       room = heaps.1.1;
       heap = subst IsHeap (sym heaps.1.0) heap_of_none;
-      stand = subst (λ items. HasSpots items i.spots.items) (sym heaps.1.0) (no_spots i.spots.items);
+      placed = subst (λ items. HasSpots items i.spots.items) (sym heaps.1.0) (no_spots i.spots.items);
     }
 
 -- the state is then that of the call

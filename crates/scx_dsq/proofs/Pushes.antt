@@ -19,7 +19,7 @@ use Rattle.scx_dsq.specs.Heaps.{HasSpots, KeepsOthers, IsCheap}
 use Rattle.scx_dsq.specs.Arrays.{IsPaid}
 use Rattle.scx_dsq.specs.Holdings.{Holds, entry_for}
 use Rattle.scx_dsq.specs.Kept.{IsOfOneSort, by_links, by_heap, Keeps, mixes, CanLink, with_linked, CanInsert, Inserted, state_of, value_of, IsKept}
-use Rattle.scx_dsq.proofs.LinkReads.{length-with_ahead, length-with_behind}
+use Rattle.scx_dsq.proofs.LinkReads.{length-with_ahead, length-with_next}
 use Rattle.scx_dsq.proofs.Holdings.{spots_elsewhere, holds_apart_with, holds_vtime}
 use Rattle.scx_dsq.proofs.FormChanges.{can_link, form_linked, linked_agree, as_held, can_insert, form_inserted}
 use Rattle.scx_dsq.proofs.Sound.{sound_with_task}
@@ -30,11 +30,11 @@ use Rattle.scx_dsq.proofs.Costs.{paid}
 -- ---- in order of arrival
 
 appended_long : (links : List Link) (q : Queue) (t : ℕ) → length (links_appended links q.ends t) ≡ length links
-appended_long links q t = length-with_behind (set links t (record { ahead = q.ends.last; behind = None })) q.ends.last (Some t) ∙ length-set links t (record { ahead = q.ends.last; behind = None })
+appended_long links q t = length-with_next (set links t (record { ahead = q.ends.last; next = None })) q.ends.last (Some t) ∙ length-set links t (record { ahead = q.ends.last; next = None })
 
 links_long : (rank : Rank) (links : List Link) (q : Queue) (t : ℕ) → length (links_linked rank links q.ends t) ≡ length links
 links_long Fifo links q t = appended_long links q t
-links_long Front links q t = length-with_ahead (set links t (record { ahead = None; behind = q.ends.first })) q.ends.first (Some t) ∙ length-set links t (record { ahead = None; behind = q.ends.first })
+links_long Front links q t = length-with_ahead (set links t (record { ahead = None; next = q.ends.first })) q.ends.first (Some t) ∙ length-set links t (record { ahead = None; next = q.ends.first })
 links_long (Vtime k) links q t = appended_long links q t
 
 -- a queue that takes one in order of arrival takes one at its end
@@ -56,12 +56,12 @@ module _ (i j : Inside) (k id t : ℕ) (rank : Rank) (q : Queue) (h : IsKept i) 
       changed_keeps i j k t q (with_linked rank q t) (Some new) (links_linked rank i.links.items q.ends t) i.spots.items (i.pushes + 1) a.inside a.read refl c h within (links_long rank i.links.items q t) refl
       (λ other n. (rw a.free refl, ne_eqb id other (λ e. n (sym e ∙ sym a.is))))
       (λ other n u o w. linked_agree (state_of i) i.links.items q t new h.sound.stamps within a.free (sym a.is) h.links (fits_fifo rank q order a.fits) row.tasks rank other n u o w)
-      (λ r n keeps. keeps.stand)
+      (λ r n keeps. keeps.placed)
       (record {
         tasks = form_linked (state_of i) i.links.items q t new h.sound.stamps within a.free (sym a.is) h.links (fits_fifo rank q order a.fits) row.tasks rank refl order (λ u p e. h.sound.stamped u p e);
         room = omega (arith, row.room, length-set i.entries.items t (Some new));
         heap = row.heap;
-        stand = row.stand;
+        placed = row.placed;
       })
       (sound_with_task (state_of i) id t rank a.there a.none h.sound)
     where
@@ -111,7 +111,7 @@ entered_in_order i k id t rank q new links linked entry made same is are = recor
 pub can_push_vtime : (i : Inside) (k id : ℕ) (x : Item) (q : Queue) → IsKept i → x.task < length i.entries.items → IsOpen i k id x.task (Vtime x.priority.key) q → CanInsert i.spots.items q x
 can_push_vtime i k id x q h within a =
     let row = row_at i k q h a.inside a.read in
-    can_insert (state_of i) i.links.items q x within a.free a.fits row.tasks i.spots.items h.spots row.room row.stand row.heap
+    can_insert (state_of i) i.links.items q x within a.free a.fits row.tasks i.spots.items h.spots row.room row.placed row.heap
 
 -- the spots of a queue that the task doesn't enter
 spots_beside : (s : QueueState) (links : List Link) (q r : Queue) (x : Item) (spots stood : List ℕ) → q.id ≢ r.id → entry_at s.entries x.task ≡ None → Holds s.entries q.id q.heap.items → IsOfOneSort s.entries links r
@@ -128,12 +128,12 @@ module _ (i j : Inside) (k id : ℕ) (x : Item) (q new : Queue) (stood : List �
       changed_keeps i j k x.task q new (Some entry) i.links.items stood (i.pushes + 1) a.inside a.read e.id c h within refl e.others.long
       (λ other n. (rw a.free refl, ne_eqb id other (λ same. n (sym same ∙ sym a.is))))
       (λ other n u o w. refl)
-      (λ r n keeps. spots_beside (state_of i) i.links.items q r x i.spots.items stood (λ same. n (sym same)) a.free held keeps.tasks e.others keeps.stand)
+      (λ r n keeps. spots_beside (state_of i) i.links.items q r x i.spots.items stood (λ same. n (sym same)) a.free held keeps.tasks e.others keeps.placed)
       (record {
         tasks = subst (λ p. IsOfOneSort (set i.entries.items x.task (Some p)) i.links.items new) here (form_inserted (state_of i) i.links.items q x within a.free a.fits row.tasks i.spots.items stood new e);
         room = omega (arith, row.room, e.room, length-set i.entries.items x.task (Some entry));
         heap = e.heap;
-        stand = e.stand;
+        placed = e.placed;
       })
       (sound_with_task (state_of i) id x.task (Vtime x.priority.key) a.there a.none h.sound)
     where

@@ -19,7 +19,7 @@ use Rattle.scx_dsq.specs.Holdings.{Holds}
 use Rattle.scx_dsq.specs.Kept.{IsOfOneSort, by_links, by_heap, Keeps, CanLeave, Unlinked, Left, front_in, sort_in, state_of, value_of, IsKept}
 use Rattle.scx_dsq.proofs.Orders.{alike_arrival}
 use Rattle.scx_dsq.proofs.Standing.{waits_below}
-use Rattle.scx_dsq.proofs.LinkReads.{length-with_ahead, length-with_behind}
+use Rattle.scx_dsq.proofs.LinkReads.{length-with_ahead, length-with_next}
 use Rattle.scx_dsq.proofs.Holdings.{spots_elsewhere, holds_apart}
 use Rattle.scx_dsq.proofs.FormChanges.{can_leave, left_held, form_unlinked, unlinked_agree, form_taken_out}
 use Rattle.scx_dsq.proofs.Fronts.{front_is}
@@ -31,8 +31,8 @@ use Rattle.scx_dsq.proofs.Costs.{paid}
 
 links_long : (links : List Link) (t : ℕ) → length (links_unlinked links t) ≡ length links
 links_long links t =
-    length-with_behind (with_ahead links (link_at links t).behind (link_at links t).ahead) (link_at links t).ahead (link_at links t).behind
-    ∙ length-with_ahead links (link_at links t).behind (link_at links t).ahead
+    length-with_next (with_ahead links (link_at links t).next (link_at links t).ahead) (link_at links t).ahead (link_at links t).next
+    ∙ length-with_ahead links (link_at links t).next (link_at links t).ahead
 
 -- the spots of a queue that the task doesn't leave
 spots_beside : (s : QueueState) (links : List Link) (q r : Queue) (spots stood : List ℕ) → q.id ≢ r.id → Holds s.entries q.id q.heap.items → IsOfOneSort s.entries links r
@@ -61,7 +61,7 @@ waiting i k t p q at waits read = record {
 pub can_remove : (i : Inside) (k t : ℕ) (p : Entry) (q : Queue) → IsKept i → IsWaiting i k t p q → CanLeave p.rank i.links.items i.spots.items q t
 can_remove i k t p q h w =
     let row = row_at i k q h w.inside w.read in
-    can_leave (state_of i) i.links.items q t p h.sound.stamps (w.waits, sym w.is) h.links p.rank i.spots.items refl row.stand row.heap row.tasks
+    can_leave (state_of i) i.links.items q t p h.sound.stamps (w.waits, sym w.is) h.links p.rank i.spots.items refl row.placed row.heap row.tasks
 
 -- what is known of the queue and of the others after a task left by its rank
 record IsLeft (i : Inside) (t : ℕ) (p : Entry) (q new : Queue) (linked : List Link) (stood : List ℕ) : Type 0 where
@@ -82,12 +82,12 @@ module _ (i : Inside) (k t : ℕ) (p : Entry) (q : Queue) (h : IsKept i) (w : Is
     links = links_long i.links.items t;
     spots = refl;
     agree = λ other n u o v. unlinked_agree (state_of i) i.links.items q t p h.sound.stamps (w.waits, sym w.is) h.links is row.tasks other n u o v;
-    elsewhere = λ r n keeps. keeps.stand;
+    elsewhere = λ r n keeps. keeps.placed;
     keeps = record {
       tasks = form_unlinked (state_of i) i.links.items q t p h.sound.stamps (w.waits, sym w.is) h.links is row.tasks;
       room = omega (arith, row.room, length-set {A = Option Entry} i.entries.items t None);
       heap = row.heap;
-      stand = row.stand;
+      placed = row.placed;
     };
   })
 
@@ -99,12 +99,12 @@ module _ (i : Inside) (k t : ℕ) (p : Entry) (q : Queue) (h : IsKept i) (w : Is
     links = refl;
     spots = e.0.others.long;
     agree = λ other n u o v. refl;
-    elsewhere = λ r n keeps. spots_beside (state_of i) i.links.items q r i.spots.items stood (λ same. n (sym same)) (left_held (state_of i) i.links.items q t p h.sound.stamps (w.waits, sym w.is) h.links key is row.tasks).0 keeps.tasks e.0.others keeps.stand;
+    elsewhere = λ r n keeps. spots_beside (state_of i) i.links.items q r i.spots.items stood (λ same. n (sym same)) (left_held (state_of i) i.links.items q t p h.sound.stamps (w.waits, sym w.is) h.links key is row.tasks).0 keeps.tasks e.0.others keeps.placed;
     keeps = record {
       tasks = form_taken_out (state_of i) i.links.items q t p h.sound.stamps (w.waits, sym w.is) h.links key i.spots.items stood new is row.tasks e.0;
       room = omega (arith, row.room, e.0.room, length-set {A = Option Entry} i.entries.items t None);
       heap = e.0.heap;
-      stand = e.0.stand;
+      placed = e.0.placed;
     };
   })
 

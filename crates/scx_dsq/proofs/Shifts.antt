@@ -12,7 +12,7 @@ use Rattle.scx_dsq.proofs.Spots.{spots_after, others_after}
 pub record IsShifted (items new : List Item) (spots stood : List ℕ) (to from : ℕ) : Type 0 where
   pub swapped : SwappedAt items new to from
   pub long : length new ≡ length items
-  pub stand : HasSpots new stood
+  pub placed : HasSpots new stood
   pub same : IsPermutation items new
   pub others : KeepsOthers items spots stood
 
@@ -79,7 +79,7 @@ module _ (items : List Item) (spots : List ℕ) (x y : Item) (to from : ℕ) (ap
   shifted = record {
     swapped = swapped;
     long = long_new;
-    stand = subst (HasSpots new) stood_is (spots_after old new (with_spot spots x to) to from x within_to within_from h swapped long_new);
+    placed = subst (HasSpots new) stood_is (spots_after old new (with_spot spots x to) to from x within_to within_from h swapped long_new);
     same = IsPermutation-swap old new to from within_to within_from is_swap;
     others = subst (KeepsOthers old (with_spot spots x to)) stood_is (others_after old new (with_spot spots x to) to from x within_to within_from h swapped long_new);
   }

@@ -135,7 +135,7 @@ module _ (entries new : Entries) (id : ℕ) (to : (u : ℕ) (q : Entry) → In e
     first = each ends.first _ _ _ _ (λ nobody u q w. nobody u q (from u q w)) first_same h.first;
     last = each ends.last _ _ _ _ (λ nobody u q w. nobody u q (from u q w)) last_same h.last;
     ahead = λ u q w. rw (agree u q (from u q w)) (each (link_at links u).ahead _ _ _ _ (first_same u) (λ v. next_same v u) (h.ahead u q (from u q w)));
-    behind = λ u q w. rw (agree u q (from u q w)) (each (link_at links u).behind _ _ _ _ (last_same u) (next_same u) (h.behind u q (from u q w)));
+    next = λ u q w. rw (agree u q (from u q w)) (each (link_at links u).next _ _ _ _ (last_same u) (next_same u) (h.next u q (from u q w)));
     count = h.count ∙ sym count;
     sort = λ u q w. h.sort u q (from u q w);
   }

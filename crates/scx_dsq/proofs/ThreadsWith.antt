@@ -115,13 +115,13 @@ module _ (entries : Entries) (id t : ℕ) (new : Entry) (here : new.queue ≡ id
       behind_last u l e k = subst (λ o. MatchOption o (NobodyIsIn entries id) (IsLast entries id)) e k
 
       behind_after : (u : ℕ) (p : Entry) → p.queue ≡ id → Changed entries t (Some new) u p
-          → MatchOption (link_at (links_appended links ends t) u).behind (IsLast after id u) (IsNext after id u)
+          → MatchOption (link_at (links_appended links ends t) u).next (IsLast after id u) (IsNext after id u)
       behind_after u p i (this e n) = rw (e, appended_behind links ends t in_links last_in_links (not_last ends.last h.last)) last_new
       behind_after u p i (other n e) = go (is_some_of ends.last u)
         where
-          go : (ends.last ≡ Some u) ⊎ (ends.last ≢ Some u) → MatchOption (link_at (links_appended links ends t) u).behind (IsLast after id u) (IsNext after id u)
+          go : (ends.last ≡ Some u) ⊎ (ends.last ≢ Some u) → MatchOption (link_at (links_appended links ends t) u).next (IsLast after id u) (IsNext after id u)
           go (inl is) = rw (appended_behind-last links ends t in_links last_in_links u is) (next_new u (behind_last u ends.last is h.last))
-          go (inr isnt) = rw (appended_others links ends t in_links last_in_links u n isnt) (behind_stays u ends.last (link_at links u).behind h.last isnt (h.behind u p (e, i)))
+          go (inr isnt) = rw (appended_others links ends t in_links last_in_links u n isnt) (behind_stays u ends.last (link_at links u).next h.last isnt (h.next u p (e, i)))
 
       -- the links with the task at the end lead through all of them
       pub threaded_with : IsThreaded after (links_appended links ends t) id (ends_appended ends t)
@@ -129,7 +129,7 @@ module _ (entries : Entries) (id t : ℕ) (new : Entry) (here : new.queue ≡ id
         first = first_after ends.last ends.first h.last h.first;
         last = last_new;
         ahead = λ u p w. ahead_after u p w.1 (changed entries t (Some new) u p w.0);
-        behind = λ u p w. behind_after u p w.1 (changed entries t (Some new) u p w.0);
+        next = λ u p w. behind_after u p w.1 (changed entries t (Some new) u p w.0);
         count = one_more links ends h;
         sort = λ u p w. sort_after links ends fifo h u p w.1 (changed entries t (Some new) u p w.0);
       }
@@ -194,9 +194,9 @@ module _ (entries : Entries) (id t : ℕ) (new : Entry) (here : new.queue ≡ id
       next_kept u (Some v) k = pair_stays u v k
 
       next_after : (u : ℕ) (p : Entry) → p.queue ≡ id → Changed entries t (Some new) u p
-          → MatchOption (link_at (links_prepended links ends t) u).behind (IsLast after id u) (IsNext after id u)
+          → MatchOption (link_at (links_prepended links ends t) u).next (IsLast after id u) (IsNext after id u)
       next_after u p i (this e n) = rw (e, prepended_behind links ends t task_in_links first_in_links) (second_new ends.first h.first)
-      next_after u p i (other n e) = rw (prepended_behind-other links ends t task_in_links first_in_links u n) (next_kept u (link_at links u).behind (h.behind u p (e, i)))
+      next_after u p i (other n e) = rw (prepended_behind-other links ends t task_in_links first_in_links u n) (next_kept u (link_at links u).next (h.next u p (e, i)))
 
       not_first : (o : Option ℕ) → MatchOption o (NobodyIsIn entries id) (HasFirstTurn entries id) → o ≢ Some t
       not_first None k e = absurd (cc)
@@ -226,7 +226,7 @@ module _ (entries : Entries) (id t : ℕ) (new : Entry) (here : new.queue ≡ id
         first = front_new;
         last = end_after ends.first ends.last h.first h.last;
         ahead = λ u p w. prior_after u p w.1 (changed entries t (Some new) u p w.0);
-        behind = λ u p w. next_after u p w.1 (changed entries t (Some new) u p w.0);
+        next = λ u p w. next_after u p w.1 (changed entries t (Some new) u p w.0);
         count = one_more links ends h;
         sort = λ u p w. sort_after links ends fifo h u p w.1 (changed entries t (Some new) u p w.0);
       }

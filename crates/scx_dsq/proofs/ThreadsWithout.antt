@@ -117,7 +117,7 @@ module _ (entries : Entries) (id t : ℕ) (p : Entry) (here : In entries id t p)
     a = (link_at links t).ahead
 
     abbrev b : Option ℕ
-    b = (link_at links t).behind
+    b = (link_at links t).next
 
     abbrev AheadOf : ℕ → Option ℕ → Type 0
     AheadOf u o = MatchOption o (HasFirstTurn entries id u) (λ v. IsNext entries id v u)
@@ -129,7 +129,7 @@ module _ (entries : Entries) (id t : ℕ) (p : Entry) (here : In entries id t p)
     ahead_fits = h.ahead t p here
 
     behind_fits : BehindOf t b
-    behind_fits = h.behind t p here
+    behind_fits = h.next t p here
 
     ahead_in : IsWithin (length links) a
     ahead_in = subst (λ n. IsWithin n a) (sym long) (ahead_within entries id t a ahead_fits)
@@ -175,12 +175,12 @@ module _ (entries : Entries) (id t : ℕ) (p : Entry) (here : In entries id t p)
         not_next None i m j = not_last u t j i refl
         not_next (Some w) i m j = m (ap Some (one_behind entries id distinct w u t i j))
 
-    behind_after : (u : ℕ) (q : Entry) → u ≢ t → In entries id u q → MatchOption (link_at (links_unlinked links t) u).behind (IsLast after id u) (IsNext after id u)
+    behind_after : (u : ℕ) (q : Entry) → u ≢ t → In entries id u q → MatchOption (link_at (links_unlinked links t) u).next (IsLast after id u) (IsNext after id u)
     behind_after u q n w = go (is_some_of a u)
       where
-        go : (a ≡ Some u) ⊎ (a ≢ Some u) → MatchOption (link_at (links_unlinked links t) u).behind (IsLast after id u) (IsNext after id u)
+        go : (a ≡ Some u) ⊎ (a ≢ Some u) → MatchOption (link_at (links_unlinked links t) u).next (IsLast after id u) (IsNext after id u)
         go (inl is) = rw (unlinked_behind links t ahead_in behind_in u is) (joins_behind u b (subst (AheadOf t) is ahead_fits) behind_fits)
-        go (inr isnt) = rw (unlinked_behind-other links t ahead_in behind_in u isnt) (behind_stays u a (link_at links u).behind n ahead_fits isnt (h.behind u q w))
+        go (inr isnt) = rw (unlinked_behind-other links t ahead_in behind_in u isnt) (behind_stays u a (link_at links u).next n ahead_fits isnt (h.next u q w))
 
     ahead_after : (u : ℕ) (q : Entry) → u ≢ t → In entries id u q → MatchOption (link_at (links_unlinked links t) u).ahead (HasFirstTurn after id u) (λ v. IsNext after id v u)
     ahead_after u q n w = go (is_some_of b u)
@@ -200,7 +200,7 @@ module _ (entries : Entries) (id t : ℕ) (p : Entry) (here : In entries id t p)
       first = first_after a b ends.first ahead_fits behind_fits h.first;
       last = last_after a b ends.last ahead_fits behind_fits h.last;
       ahead = λ u q w. let old = before u q w in ahead_after u q old.0 old.1;
-      behind = λ u q w. let old = before u q w in behind_after u q old.0 old.1;
+      next = λ u q w. let old = before u q w in behind_after u q old.0 old.1;
       count = let less = one_less in omega arith;
       sort = λ u q w. h.sort u q (before u q w).1;
     }

@@ -18,7 +18,7 @@ pub record QueuesValue : Type 0 where
 abbrev pub array_of : QueuesValue → ℕ → List Item
 array_of v id = slice_index_or v.arrays (position_or_len (λ other. other == id) v.state.ids) []
 
--- a call on that queue that made so many comparisons. `IsCheap` bounds them and the positions
+-- a call on that queue that made n comparisons. `IsCheap` bounds them and the positions
 -- of the queue's array that have changed; a queue in order of arrival needs none, and the arrays of
 -- others stay as they were
 pub record IsPaid (old new : QueuesValue) (id steps : ℕ) : Type 0 where

@@ -33,13 +33,13 @@ IsBehind items k j =
 abbrev pub IsHeap : List Item → Type 0
 IsHeap items = (k : ℕ) → 0 < k → k < length items → IsBehind items k (parent k)
 
--- a heap but for one position, which may leave before its parent, but not before those behind it
+-- a heap but for one position, which may leave before its parent, but not before its children
 pub record IsHeapBut (items : List Item) (at : ℕ) : Type 0 where
   pub others : (k : ℕ) → 0 < k → k < length items → k ≢ at → IsBehind items k (parent k)
-  pub behind : (k : ℕ)
+  pub children : (k : ℕ)
       → 0 < k → k < length items → parent k ≡ at → 0 < at → IsBehind items k (parent at)
 
--- a heap but for one position, which may leave before its parent, or after those right behind it;
+-- a heap but for one position, which may leave before its parent, or after its children;
 -- these don't leave before that parent
 pub record IsHeapAround (items : List Item) (at : ℕ) : Type 0 where
   pub others : (k : ℕ)
@@ -54,7 +54,7 @@ pub record IsFirstChild (items : List Item) (at child : ℕ) : Type 0 where
   pub of : parent child ≡ at
   pub first : (k : ℕ) → 0 < k → k < length items → parent k ≡ at → IsBehind items k child
 
--- at each task's number stands its position in the array
+-- at each task's number is its position in the array
 abbrev pub HasSpots : List Item → List ℕ → Type 0
 HasSpots items spots =
     (k : ℕ) (d : Item) (e : ℕ)
@@ -122,8 +122,8 @@ DiffersAt positions old new =
     (k : ℕ) (d : Item)
     → list_any (λ p. p == k) positions ≡ false → slice_index_or new k d ≡ slice_index_or old k d
 
--- down so many levels from a position, one comparison a level at most, to a position without any
--- behind it; the levels, and both of these, are among the positions that have changed
+-- down some levels from a position, one comparison a level at most, to a position without any
+-- children; the levels, and both of these, are among the positions that have changed
 pub record Fell (old new : List Item) (start at steps : ℕ) : Type 0 where
   pub levels : ℕ
   pub depth : 2 ^ levels * (start + 1) ≤ at + 1
@@ -134,7 +134,7 @@ pub record Fell (old new : List Item) (start at steps : ℕ) : Type 0 where
   pub top : list_any (λ p. p == start) positions ≡ true
   pub here : list_any (λ p. p == at) positions ≡ true
 
--- up so many levels from a position: one comparison a level at most, and beside that position one a
+-- up some levels from a position: one comparison a level at most, and beside that position one a
 -- level has changed
 pub record Rose (old new : List Item) (start steps : ℕ) : Type 0 where
   pub levels : ℕ
@@ -145,7 +145,7 @@ pub record Rose (old new : List Item) (start steps : ℕ) : Type 0 where
   pub differs : (k : ℕ) → k ≢ start → list_any (λ p. p == k) positions ≡ false
       → (d : Item) → slice_index_or new k d ≡ slice_index_or old k d
 
--- down so many levels and then up so many: one comparison a level at most, and one position more
+-- down some levels and then up some: one comparison a level at most, and one position more
 -- than levels has changed, from where it began among them
 pub record Settled (old new : List Item) (start steps : ℕ) : Type 0 where
   pub down : ℕ
@@ -158,13 +158,13 @@ pub record Settled (old new : List Item) (start steps : ℕ) : Type 0 where
   pub top : list_any (λ p. p == start) positions ≡ true
   pub differs : DiffersAt positions old new
 
--- all but so many positions hold the same; one that only one of the arrays has counts
+-- all but that number of positions hold the same; one that only one of the arrays has counts
 pub record DiffersAtMost (old new : List Item) (most : ℕ) : Type 0 where
   pub positions : List ℕ
   pub few : length positions ≤ most
   pub differs : DiffersAt positions old new
 
--- where the number of items that there were and one more has so many binary digits at most, twice
+-- where the number of items that there were and one more has that number of binary digits at most, twice
 -- as many comparisons and changed positions at most
 pub record IsCheap (old new : List Item) (steps : ℕ) : Type 0 where
   pub comparisons : (digits : ℕ) → length old + 1 < 2 ^ digits → steps ≤ 2 * digits

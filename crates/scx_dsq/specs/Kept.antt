@@ -37,7 +37,7 @@ pub record Keeps (entries : Entries) (links : List Link) (spots : List ℕ) (q :
   pub tasks : IsOfOneSort entries links q
   pub room : length entries ≤ q.heap.room
   pub heap : IsHeap q.heap.items
-  pub stand : HasSpots q.heap.items spots
+  pub placed : HasSpots q.heap.items spots
 
 -- ---- what a queue answers
 
@@ -66,7 +66,7 @@ mixes (Vtime k) q = is_some q.ends.first
 
 -- ---- whether a task may go into a queue
 
--- one stands at the position, takes tasks of that rank, and the task waits nowhere
+-- one is at the position, takes tasks of that rank, and the task waits nowhere
 pub record IsAdmitted (live : List Queue) (entries : Entries) (k id t : ℕ) (rank : Rank)
     : Type 0 where
   pub inside : k < length live
@@ -110,7 +110,7 @@ pub record CanInsert (spots : List ℕ) (q : Queue) (x : Item) : Type 0 where
   pub room : length q.heap.items < q.heap.room
   pub task : x.task < length spots
   pub absent : IsAbsent q.heap.items x.task
-  pub stand : HasSpots q.heap.items spots
+  pub placed : HasSpots q.heap.items spots
   pub heap : IsHeap q.heap.items
 
 -- the queue with that item in its heap
@@ -120,7 +120,7 @@ pub record Inserted (spots : List ℕ) (q : Queue) (x : Item) (stood : List ℕ)
   pub ends : new.ends ≡ q.ends
   pub room : new.heap.room ≡ q.heap.room
   pub heap : IsHeap new.heap.items
-  pub stand : HasSpots new.heap.items stood
+  pub placed : HasSpots new.heap.items stood
   pub others : KeepsOthers (q.heap.items ++ x ∷ []) spots stood
   pub same : IsPermutation (q.heap.items ++ x ∷ []) new.heap.items
 
@@ -130,7 +130,7 @@ pub record Inserted (spots : List ℕ) (q : Queue) (x : Item) (stood : List ℕ)
 pub record CanUnlink (links : List Link) (q : Queue) (t : ℕ) : Type 0 where
   pub task : t < length links
   pub ahead : MatchOption (link_at links t).ahead (Unit {0}) (λ u. u < length links)
-  pub behind : MatchOption (link_at links t).behind (Unit {0}) (λ u. u < length links)
+  pub next : MatchOption (link_at links t).next (Unit {0}) (λ u. u < length links)
   pub count : 0 < q.ends.count
 
 -- the queue without that task, which stood among its links
@@ -140,7 +140,7 @@ without_linked links q t = record q { ends = ends_unlinked links q.ends t }
 -- the task is in the queue's heap, where each task has its spot
 pub record CanTakeOut (spots : List ℕ) (q : Queue) (t : ℕ) : Type 0 where
   pub task : IsIn q.heap.items t
-  pub stand : HasSpots q.heap.items spots
+  pub placed : HasSpots q.heap.items spots
   pub heap : IsHeap q.heap.items
 
 -- the task may be taken out of the queue, by the sort of its rank
@@ -165,7 +165,7 @@ pub record TakenOut (spots : List ℕ) (q : Queue) (t : ℕ) (stood : List ℕ) 
   pub ends : new.ends ≡ q.ends
   pub room : new.heap.room ≡ q.heap.room
   pub heap : IsHeap new.heap.items
-  pub stand : HasSpots new.heap.items stood
+  pub placed : HasSpots new.heap.items stood
   pub others : KeepsOthers q.heap.items spots stood
   pub same : IsPermutation q.heap.items (item ∷ new.heap.items)
   pub gone : IsAbsent new.heap.items t
@@ -192,11 +192,12 @@ AreCopies live others new =
     → k < length live
     → IsCopy (slice_index_or live k d) (slice_index_or others k d) (slice_index_or new k d)
 
--- a queue of no tasks, with room for so many
+-- a queue of no tasks, with room for that number of them
 abbrev pub blank : ℕ → Queue
 blank tasks = record { id = 0; ends = no_ends; heap = record { room = tasks; items = [] } }
 
--- at the first so many positions the new queue is the one there, with room for so many tasks
+-- at the positions below the second number, the new queue is the one there, with room for as
+-- many tasks as the first says
 abbrev pub AreSameBelow : ℕ → ℕ → List Queue → List Queue → Type 0
 AreSameBelow tasks count live new =
     (k : ℕ) (d : Queue)
@@ -220,7 +221,7 @@ HaveRoomFor live others =
 abbrev pub IsSpare : Entries → HeapState → Type 0
 IsSpare entries h = (h.items ≡ []) × (length entries ≤ h.room)
 
--- the state that the fields of `Queues` stand for
+-- the state that the fields of `Queues` represent
 abbrev pub state_of : Inside → QueueState
 state_of i = record {
   room = length i.live.items + length i.spare.items;
@@ -229,7 +230,7 @@ state_of i = record {
   pushes = i.pushes;
 }
 
--- what the fields of `Queues` stand for in contracts: the state and the arrays
+-- what the fields of `Queues` represent in contracts: the state and the arrays
 abbrev pub value_of : Inside → QueuesValue
 value_of i = record { state = state_of i; arrays = arrays_of i.live.items }
 

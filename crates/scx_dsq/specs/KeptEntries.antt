@@ -20,7 +20,7 @@ rank_of AtEnd key = Fifo
 rank_of AtFront key = Front
 rank_of ByVtime key = Vtime key
 
--- the entry that the fields stand for
+-- the entry that the fields represent
 abbrev pub entry_in : Inside → Entry
 entry_in i =
     record { queue = i.queue; rank = rank_of i.way i.priority.key; stamp = i.priority.stamp }
@@ -35,7 +35,7 @@ FitsKey ByVtime key = Unit {0}
 abbrev pub HasKeyOfWay : Inside → Type 0
 HasKeyOfWay i = FitsKey i.way i.priority.key
 
--- the fields that stand for an entry
+-- the fields that represent an entry
 abbrev pub entry_kept : Entry → Inside
 entry_kept p = record {
   queue = p.queue;
@@ -43,7 +43,7 @@ entry_kept p = record {
   priority = record { key = key_of p.rank; stamp = p.stamp };
 }
 
--- the fields are those that stand for their entry
+-- the fields are those that represent their entry
 pub entry_back : (i : Inside) → HasKeyOfWay i → entry_kept (entry_in i) ≡ i
 entry_back i h = go i.way h
   where

@@ -9,15 +9,15 @@ use Rattle.scx_dsq.specs.declared.links.Ends.{Ends}
 use Rattle.scx_dsq.specs.Entries.{same_sort, turn}
 use Rattle.scx_dsq.specs.Queues.{Entries, entry_at, is_in}
 
--- a link with nobody ahead and nobody behind
+-- a link without a task ahead and without a next one
 abbrev pub no_link : Link
-no_link = record { ahead = None; behind = None }
+no_link = record { ahead = None; next = None }
 
 -- the ends of an empty queue
 abbrev pub no_ends : Ends
 no_ends = record { first = None; last = None; count = 0 }
 
--- the link of a task, by its number; nobody ahead or behind where there is none
+-- the link of a task, by its number; no task ahead and no next one where there is none
 abbrev pub link_at : List Link → ℕ → Link
 link_at links t = slice_index_or links t no_link
 
@@ -28,15 +28,15 @@ abbrev pub with_ahead : List Link → Option ℕ → Option ℕ → List Link
 with_ahead links None ahead = links
 with_ahead links (Some t) ahead = slice_set links t (record {
   ahead = ahead;
-  behind = (link_at links t).behind;
+  next = (link_at links t).next;
 })
 
--- the links with another task behind one, if there is one
-abbrev pub with_behind : List Link → Option ℕ → Option ℕ → List Link
-with_behind links None behind = links
-with_behind links (Some t) behind = slice_set links t (record {
+-- the links with another task next after one, if there is one
+abbrev pub with_next : List Link → Option ℕ → Option ℕ → List Link
+with_next links None next = links
+with_next links (Some t) next = slice_set links t (record {
   ahead = (link_at links t).ahead;
-  behind = behind;
+  next = next;
 })
 
 -- the first task, or the second where there is no first
@@ -52,7 +52,7 @@ instead (Some t) if_not if_so = if_so
 -- a task put at the end
 abbrev pub links_appended : List Link → Ends → ℕ → List Link
 links_appended links ends t =
-    with_behind (slice_set links t (record { ahead = ends.last; behind = None })) ends.last (Some t)
+    with_next (slice_set links t (record { ahead = ends.last; next = None })) ends.last (Some t)
 
 -- the ends of a queue with that task put at its end
 abbrev pub ends_appended : Ends → ℕ → Ends
@@ -62,7 +62,7 @@ ends_appended ends t =
 -- a task put at the front
 abbrev pub links_prepended : List Link → Ends → ℕ → List Link
 links_prepended links ends t =
-    with_ahead (slice_set links t (record { ahead = None; behind = ends.first })) ends.first
+    with_ahead (slice_set links t (record { ahead = None; next = ends.first })) ends.first
     (Some t)
 
 -- the ends of a queue with that task put at its front
@@ -85,14 +85,14 @@ ends_linked (Vtime key) ends t = ends_appended ends t
 -- a task taken out: those beside it are linked to each other
 abbrev pub links_unlinked : List Link → ℕ → List Link
 links_unlinked links t =
-    with_behind (with_ahead links (link_at links t).behind (link_at links t).ahead)
-    (link_at links t).ahead (link_at links t).behind
+    with_next (with_ahead links (link_at links t).next (link_at links t).ahead)
+    (link_at links t).ahead (link_at links t).next
 
 -- the ends of a queue with that task taken out
 abbrev pub ends_unlinked : List Link → Ends → ℕ → Ends
 ends_unlinked links ends t = record {
-  first = instead (link_at links t).ahead (link_at links t).behind ends.first;
-  last = instead (link_at links t).behind (link_at links t).ahead ends.last;
+  first = instead (link_at links t).ahead (link_at links t).next ends.first;
+  last = instead (link_at links t).next (link_at links t).ahead ends.last;
   count = ends.count - 1;
 }
 
@@ -146,8 +146,8 @@ pub record IsThreaded (entries : Entries) (links : List Link) (id : ℕ) (ends :
       → In entries id t p
       → MatchOption (link_at links t).ahead (HasFirstTurn entries id t)
       (λ u. IsNext entries id u t)
-  pub behind : (t : ℕ) (p : Entry)
+  pub next : (t : ℕ) (p : Entry)
       → In entries id t p
-      → MatchOption (link_at links t).behind (IsLast entries id t) (IsNext entries id t)
+      → MatchOption (link_at links t).next (IsLast entries id t) (IsNext entries id t)
   pub count : ends.count ≡ count_by (is_in id) entries
   pub sort : AreInOrder entries id

@@ -1,4 +1,4 @@
--- In what order the ids of the queues stand. No public clause cites it.
+-- The order of the ids of the queues. No public clause cites it.
 use Rattle.std.specs.Prelude.{ℕ, ◌<◌, ◌≤◌, List, length, slice_index_or, All, AllPairs, Contains}
 
 -- the positions of all ids, those of lesser ids first

@@ -27,7 +27,7 @@ task_count s = length s.entries
 abbrev pub exists : QueueState → ℕ → Bool
 exists s id = list_any (λ other. other == id) s.ids
 
--- the queue of that id stands at that place, in the order in which they were created
+-- the queue of that id is at that place, in the order in which they were created
 abbrev pub IsQueueAt : QueueState → ℕ → ℕ → Type 0
 IsQueueAt s k id = (k < length s.ids) × HoldsAt (λ other. other ≡ id) s.ids k
 
@@ -98,17 +98,17 @@ is_right_behind entries p (Some q) =
     is_behind p (Some q)
     && list_all (λ other. not (is_behind p other && is_ahead p.queue q other)) entries
 
--- which task has that one; behind an entry by virtual time nobody is looked for
+-- which task has that one; none is looked for after an entry by virtual time
 abbrev pub next_by : Rank → Entries → Entry → Option ℕ
 next_by Fifo entries p = position (is_right_behind entries p) entries
 next_by Front entries p = position (is_right_behind entries p) entries
 next_by (Vtime key) entries p = None
 
--- whom an entry in order of arrival has right behind it in its queue; none behind no entry
+-- the task that is next after an entry in order of arrival in its queue; none after no entry
 abbrev pub right_behind : Entries → Option Entry → Option ℕ
 right_behind entries None = None
 right_behind entries (Some p) = next_by p.rank entries p
 
--- whom the task has right behind it in its queue, if that is one in order of arrival
+-- the task that is next after this one in its queue, if that is one in order of arrival
 unfoldable pub behind_of : QueueState → ℕ → Option ℕ
 behind_of s t = right_behind s.entries (entry_of s t)

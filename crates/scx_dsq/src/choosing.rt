@@ -87,7 +87,7 @@ impl Queues {
         ensures { MatchOption result (IsLast self.now.state.entries id task)
             (IsNext self.now.state.entries id task) }
     {
-        self.links[task as usize].behind.get()
+        self.links[task as usize].next.get()
     }
 }
 

@@ -1,5 +1,5 @@
 ghost use Rattle.std.specs.Prelude.{◌≡◌, ◌<◌, length, MatchOption, None};
-ghost use Rattle.scx_dsq.specs.Links.{link_at, no_link, no_ends, instead, with_ahead, with_behind, links_appended, ends_appended, links_prepended, ends_prepended, links_unlinked, ends_unlinked};
+ghost use Rattle.scx_dsq.specs.Links.{link_at, no_link, no_ends, instead, with_ahead, with_next, links_appended, ends_appended, links_prepended, ends_prepended, links_unlinked, ends_unlinked};
 
 use crate::optional_task::OptionalTask;
 
@@ -7,7 +7,7 @@ use crate::optional_task::OptionalTask;
 #[derive(Clone, Copy)]
 pub struct Link {
     pub ahead: OptionalTask,
-    pub behind: OptionalTask,
+    pub next: OptionalTask,
 }
 
 /// Who waits first and last in a FIFO queue, and how many wait there.
@@ -24,7 +24,7 @@ impl Link {
     {
         Link {
             ahead: OptionalTask::none(),
-            behind: OptionalTask::none(),
+            next: OptionalTask::none(),
         }
     }
 }
@@ -52,7 +52,7 @@ pub fn append(links: &mut [Link], ends: &mut Ends, task: u32)
     let here = OptionalTask::some(task);
     links[task as usize] = Link {
         ahead: ends.last,
-        behind: OptionalTask::none(),
+        next: OptionalTask::none(),
     };
     lead_on(links, ends.last, &mut ends.first, here);
     ends.last = here;
@@ -70,7 +70,7 @@ pub fn prepend(links: &mut [Link], ends: &mut Ends, task: u32)
     let here = OptionalTask::some(task);
     links[task as usize] = Link {
         ahead: OptionalTask::none(),
-        behind: ends.first,
+        next: ends.first,
     };
     lead_back(links, ends.first, &mut ends.last, here);
     ends.first = here;
@@ -82,15 +82,15 @@ pub fn unlink(links: &mut [Link], ends: &mut Ends, task: u32)
     requires task { task < length links.old }
     requires ahead { MatchOption (link_at links.old task).ahead (Unit {0})
         (λ t. t < length links.old) }
-    requires behind { MatchOption (link_at links.old task).behind (Unit {0})
+    requires next { MatchOption (link_at links.old task).next (Unit {0})
         (λ t. t < length links.old) }
     requires count { 0 < ends.old.count }
     ensures links { links.new ≡ links_unlinked links.old task }
     ensures ends { ends.new ≡ ends_unlinked links.old ends.old task }
 {
-    let Link { ahead, behind } = links[task as usize];
-    lead_back(links, behind, &mut ends.last, ahead);
-    lead_on(links, ahead, &mut ends.first, behind);
+    let Link { ahead, next } = links[task as usize];
+    lead_back(links, next, &mut ends.last, ahead);
+    lead_on(links, ahead, &mut ends.first, next);
     ends.count -= 1;
 }
 
@@ -99,15 +99,15 @@ pub fn unlink(links: &mut [Link], ends: &mut Ends, task: u32)
 pub fn unlink_first(links: &mut [Link], ends: &mut Ends, task: u32)
     requires task { task < length links.old }
     requires ahead { (link_at links.old task).ahead ≡ None }
-    requires behind { MatchOption (link_at links.old task).behind (Unit {0})
+    requires next { MatchOption (link_at links.old task).next (Unit {0})
         (λ t. t < length links.old) }
     requires count { 0 < ends.old.count }
     ensures links { links.new ≡ links_unlinked links.old task }
     ensures ends { ends.new ≡ ends_unlinked links.old ends.old task }
 {
-    let behind = links[task as usize].behind;
-    lead_back(links, behind, &mut ends.last, OptionalTask::none());
-    ends.first = behind;
+    let next = links[task as usize].next;
+    lead_back(links, next, &mut ends.last, OptionalTask::none());
+    ends.first = next;
     ends.count -= 1;
 }
 
@@ -124,13 +124,13 @@ fn lead_back(links: &mut [Link], task: OptionalTask, last: &mut OptionalTask, ah
 }
 
 /// Sets the task right after one; if there is no such task, the first one.
-fn lead_on(links: &mut [Link], task: OptionalTask, first: &mut OptionalTask, behind: OptionalTask)
+fn lead_on(links: &mut [Link], task: OptionalTask, first: &mut OptionalTask, next: OptionalTask)
     requires { MatchOption task (Unit {0}) (λ t. t < length links.old) }
-    ensures links { links.new ≡ with_behind links.old task behind }
-    ensures first { first.new ≡ instead task behind first.old }
+    ensures links { links.new ≡ with_next links.old task next }
+    ensures first { first.new ≡ instead task next first.old }
 {
     match task.index() {
-        Some(at) => links[at].behind = behind,
-        None => *first = behind,
+        Some(at) => links[at].next = next,
+        None => *first = next,
     }
 }

@@ -398,7 +398,7 @@ impl Queues {
         steps: &mut Steps<L>,
     )
         requires task { task < task_count self.old.state }
-        requires stands { IsQueueAt self.old.state index entry.queue }
+        requires place { IsQueueAt self.old.state index entry.queue }
         requires waits { entry_of self.old.state task ≡ Some entry }
         ensures state { self.new.state ≡ without_task self.old.state task }
         ensures cost { IsPaid self.old self.new entry.queue (steps.new - steps.old) }
@@ -459,33 +459,33 @@ impl Queues {
 
     /// The task right after this one in its FIFO queue; none after the last, nor after a task that
     /// waits nowhere or by virtual time.
-    #[tactic(auto, using(crate::proofs::Behind::nobody_behind_none))]
-    pub fn behind(&self, task: u32) -> Option<u32>
+    #[tactic(auto, using(crate::proofs::After::none_after_none))]
+    pub fn next_after(&self, task: u32) -> Option<u32>
         requires { task < task_count self.now.state }
         ensures answer { result ≡ behind_of self.now.state task }
         ensures known { IfSome result (λ t. t < task_count self.now.state) }
     {
         match self.entries[task as usize] {
-            Some(entry) => self.behind_entry(task, entry),
+            Some(entry) => self.next_after_entry(task, entry),
             None => None,
         }
     }
 
     /// The task right after one that waits by that entry.
-    #[tactic(auto, using(crate::proofs::Behind::nobody_behind_vtime))]
-    fn behind_entry(&self, task: u32, entry: KeptEntry) -> Option<u32>
+    #[tactic(auto, using(crate::proofs::After::none_after_vtime))]
+    fn next_after_entry(&self, task: u32, entry: KeptEntry) -> Option<u32>
         requires task { task < task_count self.now.state }
         requires waits { entry_of self.now.state task ≡ Some entry }
         ensures { result ≡ behind_of self.now.state task }
     {
         match entry.sort() {
-            Rank::Fifo | Rank::Front => self.link_behind(task, entry),
+            Rank::Fifo | Rank::Front => self.next_by_link(task, entry),
             Rank::Vtime(_) => None,
         }
     }
 
     /// The task right after one that waits by that entry, in order of arrival.
-    fn link_behind(&self, task: u32, entry: KeptEntry) -> Option<u32>
+    fn next_by_link(&self, task: u32, entry: KeptEntry) -> Option<u32>
         requires task { task < task_count self.now.state }
         requires waits { entry_of self.now.state task ≡ Some entry }
         requires fifo { IsTrue (same_sort entry.rank Fifo) }
@@ -495,7 +495,7 @@ impl Queues {
             unreachable!()
         };
         let _queue = &self.live[index];
-        self.links[task as usize].behind.get()
+        self.links[task as usize].next.get()
     }
 
     /// The number of tasks; their numbers are below it.

@@ -68,7 +68,7 @@ impl<'a, 'p> Search<'a, 'p> {
         loop {
             let line = skip_blank(rest, true);
             match self.look_at(line) {
-                Some(behind) => rest = behind,
+                Some(after) => rest = after,
                 None => return,
             }
         }

@@ -1,4 +1,4 @@
--- The texts of a task's `cpus`: numbers and ranges of CPUs with commas between them, as `0-3,8` (the
+-- The text of a task's `cpus`: numbers and ranges of CPUs with commas between them, as `0-3,8` (the
 -- list format of cpuset(7)). That a number has one or two digits, and a range no step, is this
 -- project's own.
 use Rattle.std.specs.Prelude.{◌≡◌, ℕ, ◌+◌, ◌-◌, ◌^◌, ◌<◌, ◌≤◌, Bool, true, ◌==◌, ◌&&◌, nat_le, nat_lt, List, [], ◌∷◌, ◌++◌, length, take, drop, All, Option, Some, None, if◌then◌else◌}

@@ -16,8 +16,7 @@ pub record IsUnbound (w : WorkloadState) : Type 0 where
   pub masks : w.masks ≡ replicate (length w.homes) (all_cpus w.cpus)
   pub seed : w.seed ≡ 0
 
--- in a workload that is read for plain rules each task may run on all CPUs, and random numbers begin
--- at 0
+-- in a workload read for plain rules each task may run on all CPUs, and random numbers begin at 0
 abbrev pub PlainTasksAreUnbound : Type 0
 PlainTasksAreUnbound =
     (text : List ℕ) (w : WorkloadState) → workload_of text ≡ Ok w → IsUnbound w

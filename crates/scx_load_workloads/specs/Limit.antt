@@ -24,7 +24,7 @@ numeral text =
     if is_numeral text && nat_lt (digits_value 10 text) (2 ^ 32) then Some (digits_value 10 text)
     else None
 
--- digits, as many as one likes, write so many milliseconds in microseconds: 1 ms to the greatest
+-- digits, as many as one likes, write that many milliseconds in microseconds: 1 ms to the greatest
 pub record IsTime (most : ℕ) (text : List ℕ) (ms : ℕ) : Type 0 where
   pub digits : is_numeral text ≡ true
   pub value : digits_value 10 text ≡ ms * 1000
@@ -36,7 +36,7 @@ abbrev pub IsQuota : List ℕ → Option ℕ → Type 0
 IsQuota text None = text ≡ codes "max"
 IsQuota text (Some ms) = IsTime max_quota text ms
 
--- a limit stands in a text as a quota and a period, with one space between them, or
+-- a limit is written in a text as a quota and a period, with one space between them, or
 -- as a quota alone
 pub data Says (limit : Limit) : List ℕ → Type 0 where
   both : (quota period : List ℕ)

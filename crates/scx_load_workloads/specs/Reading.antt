@@ -1,5 +1,5 @@
 -- The reading of a workload file: unknown keys first, wherever they are; then `cpus`, `ms`, `seed`,
--- the groups, the tasks and the changes of weights, each element by itself. Rules are those by which
+-- the groups, tasks and changes of weights, each element by itself. Rules are those by which
 -- the policy that it is read for goes: under Linux rules a task may have a weight of its own, and
 -- may be bound to some CPUs.
 use Rattle.std.specs.Prelude.{ℕ, ◌+◌, Bool, List, [], ◌∷◌, ◌++◌, Option, Some, None, is_some, Ok, codes, if◌then◌else◌}
@@ -177,7 +177,7 @@ abbrev pub mask_read : ℕ → List ℕ → Data → Reading ℕ
 mask_read cpus path d =
     text_of path d >>= λ text. found_or Ok (refusal path cause.OutOfRange) (mask_in cpus text)
 
--- the mask of a task, as the table at a path says: all CPUs where it says none; under plain rules no
+-- the mask of a task, as the table at a path says: all CPUs where it says none; by plain rules no
 -- key says it
 abbrev pub mask_of_task : Rules → ℕ → List ℕ → Members → Reading ℕ
 mask_of_task Plain cpus path ms = Ok (all_cpus cpus)

@@ -1,4 +1,4 @@
--- A workload: its groups and tasks, the weights, CPUs and times of the tasks, and changes of weights.
+-- A workload: its groups and tasks; weights, CPUs and times of the tasks; changes of weights.
 use Rattle.std.specs.Prelude.{◌≡◌, ℕ, ◌-◌, ◌^◌, ◌<◌, ◌≤◌, Bool, ◌==◌, not, List, length, None, slice_index_or}
 use Rattle.std.specs.List.{list_any}
 use Rattle.scx_weights.specs.declared.group.Group.{Group}

@@ -17,8 +17,8 @@ unsaid_to ms span l never from to p =
     never to (omega (arith, inside, l)) p.ends
 
 -- the first moment doesn't come before the second one
-pub behind : (ms : ℕ) (span : Span) (a b : ℕ) → Says span.from.now a → Says span.to.now b → b ≤ a → (from to : ℕ) → ¬ IsPart ms span from to
-behind ms span a b x y l from to p =
+pub after_the_last : (ms : ℕ) (span : Span) (a b : ℕ) → Says span.from.now a → Says span.to.now b → b ≤ a → (from to : ℕ) → ¬ IsPart ms span from to
+after_the_last ms span a b x y l from to p =
     let some = p.some in
     let first : a ≡ from = sym x.1 ∙ p.begins.1 in
     let last : b ≡ to = sym y.1 ∙ p.ends.1 in

@@ -39,7 +39,7 @@ impl Window {
 }
 
 /// The part of a run of `ms` milliseconds that words name.
-#[tactic(auto, using(crate::proofs::Parting::unsaid_from, crate::proofs::Parting::unsaid_to, crate::proofs::Parting::behind, crate::proofs::Parting::late, crate::proofs::Parting::outside))]
+#[tactic(auto, using(crate::proofs::Parting::unsaid_from, crate::proofs::Parting::unsaid_to, crate::proofs::Parting::after_the_last, crate::proofs::Parting::late, crate::proofs::Parting::outside))]
 fn part_of(span: Span<'_>, ms: u32) -> Result<Window, Refusal>
     ensures part { IfOk result (λ window. IsPart ms span.entry window.from window.to) }
     ensures refused { IfErr result IsSpanRefusal }

@@ -8,8 +8,8 @@ program_of-requires-clause-insns c = rw c.deref.ensures.value (assembled c.args.
 pub program_of-requires-clause-program : goal.program_of-requires-clause-program
 program_of-requires-clause-program c = rw c.deref.ensures.value (assembled c.args.text.now c.in-Ok.insns.items c.in-Ok.ensures).program
 
-pub returns-in-Ok-clause-stands : goal.returns-in-Ok-clause-stands
-returns-in-Ok-clause-stands c = answers_of c.args.text.now c.in-Ok.insns.items c.program_of.result c.in-Ok.ensures (rw (← c.deref.ensures.value) c.program_of.ensures)
+pub returns-in-Ok-clause-answers : goal.returns-in-Ok-clause-answers
+returns-in-Ok-clause-answers c = answers_of c.args.text.now c.in-Ok.insns.items c.program_of.result c.in-Ok.ensures (rw (← c.deref.ensures.value) c.program_of.ensures)
 
-pub returns-in-Err-clause-stands : goal.returns-in-Err-clause-stands
-returns-in-Err-clause-stands c = refusal_of c.args.text.now c.in-Err.error c.in-Err.ensures
+pub returns-in-Err-clause-answers : goal.returns-in-Err-clause-answers
+returns-in-Err-clause-answers c = refusal_of c.args.text.now c.in-Err.error c.in-Err.ensures

@@ -8,5 +8,5 @@ returns-clause-read c = reads_back
 pub returns-clause-assembled : goal.returns-clause-assembled
 returns-clause-assembled c = assembles_back
 
-pub returns-clause-stands : goal.returns-clause-stands
-returns-clause-stands c = read_as
+pub returns-clause-reads : goal.returns-clause-reads
+returns-clause-reads c = read_as

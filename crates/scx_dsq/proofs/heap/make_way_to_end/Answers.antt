@@ -30,7 +30,7 @@ loop-child-preserved g c =
     let few : c.first_child.new.steps - c.args.steps.now ≤ c.loop-child.steps - c.args.steps.now + 1 = let more = inv.more in omega (arith, c.in-Some.ensures.cost) in
     let twice : 2 * (c.loop-child.at + 1) ≤ c.in-Some.child + 1 = let of = plain.of in let some = plain.positive in omega arith in
     record {
-      spots_kept = s.stand;
+      spots_kept = s.placed;
       others = keeps_more (with_item c.args.items.now c.args.item c.args.start) (with_item c.loop-child.items c.args.item c.loop-child.at) (with_spot c.args.spots.now c.args.item c.args.start) (with_spot c.loop-child.spots c.args.item c.loop-child.at) (with_spot c.put.new.spots c.args.item c.in-Some.child) inv.same inv.others s.others;
       inside = let inside = child.inside in omega (arith, inside, s.long);
       heap = fallen (with_item c.loop-child.items c.args.item c.loop-child.at) (with_item c.put.new.items c.args.item c.in-Some.child) c.loop-child.at c.in-Some.child inv.heap child s.long swapped;

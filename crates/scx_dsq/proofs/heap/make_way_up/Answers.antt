@@ -29,7 +29,7 @@ loop-at-preserved g c =
     let early = held_before c.loop-at.items c.args.item no_item c.loop-at.at (parent c.loop-at.at) true (λ e. apart (sym e)) within above (sym c.is_before.ensures.answer ∙ c.if-not-is_before.false) in
     let few : c.is_before.new.steps - c.args.steps.now ≤ c.loop-at.steps - c.args.steps.now + 1 = let more = inv.more in omega (arith, c.is_before.ensures.counted) in
     record {
-      spots_kept = s.stand;
+      spots_kept = s.placed;
       others = keeps_more (with_item c.args.items.now c.args.item c.args.start) (with_item c.loop-at.items c.args.item c.loop-at.at) (with_spot c.args.spots.now c.args.item c.args.start) (with_spot c.loop-at.spots c.args.item c.loop-at.at) (with_spot c.put.new.spots c.args.item (parent c.loop-at.at)) inv.same inv.others s.others;
       inside = omega (arith, above, s.long, length-set c.loop-at.items c.loop-at.at c.args.item);
       heap = exchanged (with_item c.loop-at.items c.args.item c.loop-at.at) (with_item c.put.new.items c.args.item (parent c.loop-at.at)) c.loop-at.at up inv.inside s.long s.swapped early inv.heap;

@@ -14,5 +14,5 @@ returns c =
     let w : WaitsInOrder c.self.inside.entries.items c.args.id c.args.task = rw (← c.self.view_is) at c.requires.waits in
     let within : c.args.task < length c.self.inside.entries.items = waits_below c.self.inside.entries.items c.args.task w.entry w.waits.0 in
     let read : c.index.result.now ≡ link_at c.self.inside.links.items c.args.task = get_or_read c.self.inside.links.items c.args.task c.index.result.now (omega (arith, c.self.invariant.links, within)) c.index.ensures no_link in
-    let is : c.get.result ≡ (link_at c.self.inside.links.items c.args.task).behind = c.get.ensures ∙ ap (λ (l : Link). l.behind) read in
+    let is : c.get.result ≡ (link_at c.self.inside.links.items c.args.task).next = c.get.ensures ∙ ap (λ (l : Link). l.next) read in
     rw (← c.self.view_is, is) (next_in c.self.inside c.args.place c.args.id c.args.task c.self.invariant at w)

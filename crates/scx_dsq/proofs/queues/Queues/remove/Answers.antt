@@ -14,8 +14,8 @@ unreachable-requires g c =
     let out : exists (state_of c.self.inside) c.queue.result ≡ false = rw (← c.deref.ensures.value) (sym c.in_default-find.ensures.found) in
     both_ways _ (rw c.queue.ensures at out) (c.self.invariant.sound.homes c.args.task c.in-Some.entry waits)
 
-pub take_out-requires-clause-stands : goal.take_out-requires-clause-stands
-take_out-requires-clause-stands g c =
+pub take_out-requires-clause-place : goal.take_out-requires-clause-place
+take_out-requires-clause-place g c =
     let found : IsQueueAt (state_of c.self.inside) c.in-Some-find.index c.queue.result = stands_at c.self.inside _ c.in-Some-find.index c.queue.result c.deref.ensures.value c.in-Some-find.ensures.at in
     rw (← c.self.view_is) (rw c.queue.ensures at found)
 

@@ -7,14 +7,14 @@ use Rattle.scx_dsq.proofs.queues.Queues.take_out.Goals as goal
 
 pub leave-requires : goal.leave-requires
 leave-requires g c =
-    let at : IsQueueAt (state_of c.self.inside) c.args.index c.args.entry.queue = rw (← c.self.view_is) at c.requires.stands in
+    let at : IsQueueAt (state_of c.self.inside) c.args.index c.args.entry.queue = rw (← c.self.view_is) at c.requires.place in
     let waits : entry_of (state_of c.self.inside) c.args.task ≡ Some c.args.entry = rw (← c.self.view_is) at c.requires.waits in
     let w = waiting c.self.inside c.args.index c.args.task c.args.entry c.index_mut.result.now at waits c.index_mut.ensures.value in
     rw (c.deref_mut.ensures.value, c.deref_mut-2.ensures.value) (like_leave c.args.entry.rank c.sort.result _ _ c.index_mut.result.now c.args.task (alike_keyless c.args.entry.rank c.sort.result c.sort.ensures) (can_remove c.self.inside c.args.index c.args.task c.args.entry c.index_mut.result.now c.self.invariant w))
 
 pub invariant_of-self : goal.invariant_of-self
 invariant_of-self g c =
-    let at : IsQueueAt (state_of c.self.inside) c.args.index c.args.entry.queue = rw (← c.self.view_is) at c.requires.stands in
+    let at : IsQueueAt (state_of c.self.inside) c.args.index c.args.entry.queue = rw (← c.self.view_is) at c.requires.place in
     let waits : entry_of (state_of c.self.inside) c.args.task ≡ Some c.args.entry = rw (← c.self.view_is) at c.requires.waits in
     let w = waiting c.self.inside c.args.index c.args.task c.args.entry c.index_mut.result.now at waits c.index_mut.ensures.value in
     let l = left c.self.inside c.args.index c.args.task c.args.entry c.index_mut.result.now c.self.invariant w c.leave.new.queue c.deref_mut.result.now c.leave.new.links c.deref_mut-2.result.now c.leave.new.spots c.deref_mut.ensures.value c.deref_mut-2.ensures.value
@@ -23,7 +23,7 @@ invariant_of-self g c =
 
 pub returns-clause-state : goal.returns-clause-state
 returns-clause-state g c =
-    let at : IsQueueAt (state_of c.self.inside) c.args.index c.args.entry.queue = rw (← c.self.view_is) at c.requires.stands in
+    let at : IsQueueAt (state_of c.self.inside) c.args.index c.args.entry.queue = rw (← c.self.view_is) at c.requires.place in
     let waits : entry_of (state_of c.self.inside) c.args.task ≡ Some c.args.entry = rw (← c.self.view_is) at c.requires.waits in
     let w = waiting c.self.inside c.args.index c.args.task c.args.entry c.index_mut.result.now at waits c.index_mut.ensures.value in
     let l = left c.self.inside c.args.index c.args.task c.args.entry c.index_mut.result.now c.self.invariant w c.leave.new.queue c.deref_mut.result.now c.leave.new.links c.deref_mut-2.result.now c.leave.new.spots c.deref_mut.ensures.value c.deref_mut-2.ensures.value
@@ -32,7 +32,7 @@ returns-clause-state g c =
 
 pub returns-clause-cost : goal.returns-clause-cost
 returns-clause-cost g c =
-    let at : IsQueueAt (state_of c.self.inside) c.args.index c.args.entry.queue = rw (← c.self.view_is) at c.requires.stands in
+    let at : IsQueueAt (state_of c.self.inside) c.args.index c.args.entry.queue = rw (← c.self.view_is) at c.requires.place in
     let waits : entry_of (state_of c.self.inside) c.args.task ≡ Some c.args.entry = rw (← c.self.view_is) at c.requires.waits in
     let w = waiting c.self.inside c.args.index c.args.task c.args.entry c.index_mut.result.now at waits c.index_mut.ensures.value in
     let l = left c.self.inside c.args.index c.args.task c.args.entry c.index_mut.result.now c.self.invariant w c.leave.new.queue c.deref_mut.result.now c.leave.new.links c.deref_mut-2.result.now c.leave.new.spots c.deref_mut.ensures.value c.deref_mut-2.ensures.value

@@ -36,8 +36,8 @@ right_false false b e = refl
 
 module _ (s : QueueState) (links : List Link) (q : Queue) (stamps : HasOwnStamps s) (f : IsThreaded s.entries links q.id q.ends) (t : ℕ) (p : Entry) (w : In s.entries q.id t p) where
   -- no task comes after the last
-  nobody_behind : IsLast s.entries q.id t → position (is_right_behind s.entries p) s.entries ≡ None
-  nobody_behind l = no_position (is_right_behind s.entries p) s.entries (λ k d lt. go k (get_or s.entries k d) (get_or_default s.entries k None d lt))
+  none_after : IsLast s.entries q.id t → position (is_right_behind s.entries p) s.entries ≡ None
+  none_after l = no_position (is_right_behind s.entries p) s.entries (λ k d lt. go k (get_or s.entries k d) (get_or_default s.entries k None d lt))
     where
       go : (k : ℕ) (o : Option Entry) → entry_at s.entries k ≡ o → is_right_behind s.entries p o ≡ false
       go k None e = refl
@@ -116,7 +116,7 @@ module _ (s : QueueState) (links : List Link) (q : Queue) (stamps : HasOwnStamps
         (λ k ne. others k ne (entry_at s.entries k) refl)
 
   linked : (o : Option ℕ) → MatchOption o (IsLast s.entries q.id t) (IsNext s.entries q.id t) → o ≡ position (is_right_behind s.entries p) s.entries
-  linked None l = sym (nobody_behind l)
+  linked None l = sym (none_after l)
   linked (Some u) n = sym (next_is u n)
 
 next_in_order : (entries : Entries) (p : Entry) (r : Rank) → same_sort r Fifo ≡ true → next_by r entries p ≡ position (is_right_behind entries p) entries
@@ -125,25 +125,25 @@ next_in_order entries p Front e = refl
 next_in_order entries p (Vtime k) e = absurd (cc)
 
 -- the link of a task in a FIFO queue is who waits right behind it
-pub behind_at : (i : Inside) (k t : ℕ) (p : Entry) (q : Queue) → IsKept i → IsWaiting i k t p q → same_sort p.rank Fifo ≡ true → (link_at i.links.items t).behind ≡ behind_of (state_of i) t
+pub behind_at : (i : Inside) (k t : ℕ) (p : Entry) (q : Queue) → IsKept i → IsWaiting i k t p q → same_sort p.rank Fifo ≡ true → (link_at i.links.items t).next ≡ behind_of (state_of i) t
 unfolding behind_of
 behind_at i k t p q h w fifo =
     go (row_at i k q h w.inside w.read).tasks ∙ sym (ap (λ o. right_behind i.entries.items o) w.waits ∙ next_in_order i.entries.items p p.rank fifo)
   where
-    go : IsOfOneSort i.entries.items i.links.items q → (link_at i.links.items t).behind ≡ position (is_right_behind i.entries.items p) i.entries.items
-    go (by_links f empty) = linked (state_of i) i.links.items q h.sound.stamps f t p (w.waits, sym w.is) (link_at i.links.items t).behind (f.behind t p (w.waits, sym w.is))
+    go : IsOfOneSort i.entries.items i.links.items q → (link_at i.links.items t).next ≡ position (is_right_behind i.entries.items p) i.entries.items
+    go (by_links f empty) = linked (state_of i) i.links.items q h.sound.stamps f t p (w.waits, sym w.is) (link_at i.links.items t).next (f.next t p (w.waits, sym w.is))
     go (by_heap held none) =
         absurd (both_ways (same_sort p.rank Fifo) (holds_vtime i.entries.items q.id q.heap.items held t p (w.waits, sym w.is)) fifo)
 
 -- no task comes after one that waits nowhere
-pub nobody_behind_none : (s : QueueState) (t : ℕ) → entry_of s t ≡ None → behind_of s t ≡ None
+pub none_after_none : (s : QueueState) (t : ℕ) → entry_of s t ≡ None → behind_of s t ≡ None
 unfolding behind_of
-nobody_behind_none s t e = ap (λ o. right_behind s.entries o) e
+none_after_none s t e = ap (λ o. right_behind s.entries o) e
 
 -- after a task that waits by virtual time none is looked for
-pub nobody_behind_vtime : (s : QueueState) (t key : ℕ) (p : Entry) → entry_of s t ≡ Some p → p.rank ≡ Vtime key → behind_of s t ≡ None
+pub none_after_vtime : (s : QueueState) (t key : ℕ) (p : Entry) → entry_of s t ≡ Some p → p.rank ≡ Vtime key → behind_of s t ≡ None
 unfolding behind_of
-nobody_behind_vtime s t key p e r = ap (λ o. right_behind s.entries o) e ∙ ap (λ k. next_by k s.entries p) r
+none_after_vtime s t key p e r = ap (λ o. right_behind s.entries o) e ∙ ap (λ k. next_by k s.entries p) r
 
 -- who waits behind another is a task that there is
 pub behind_is_known : (s : QueueState) (t : ℕ) (o : Option ℕ) → o ≡ behind_of s t → IfSome o (λ u. u < task_count s)

@@ -7,8 +7,8 @@ use Rattle.scx_dsq.specs.Links.{no_link, link_at}
 use Rattle.scx_dsq.specs.Kept.{state_of}
 use Rattle.scx_dsq.proofs.QueueReads.{stands_at}
 use Rattle.scx_dsq.proofs.Removals.{waiting}
-use Rattle.scx_dsq.proofs.Behind.{behind_at}
-use Rattle.scx_dsq.proofs.queues.Queues.link_behind.Goals as goal
+use Rattle.scx_dsq.proofs.After.{behind_at}
+use Rattle.scx_dsq.proofs.queues.Queues.next_by_link.Goals as goal
 
 pub unreachable-requires : goal.unreachable-requires
 unreachable-requires c =
@@ -25,4 +25,4 @@ returns c =
     let w = waiting c.self.inside c.in-Some.index c.args.task c.args.entry c.index-queue.result.now at waits c.index-queue.ensures in
     let read : c.index.result.now ≡ link_at c.self.inside.links.items c.args.task = get_or_read c.self.inside.links.items c.args.task c.index.result.now (omega (arith, c.self.invariant.links, within)) c.index.ensures no_link in
     rw (← c.self.view_is)
-    (c.get.ensures ∙ ap (λ (l : Link). l.behind) read ∙ behind_at c.self.inside c.in-Some.index c.args.task c.args.entry c.index-queue.result.now c.self.invariant w c.requires.fifo)
+    (c.get.ensures ∙ ap (λ (l : Link). l.next) read ∙ behind_at c.self.inside c.in-Some.index c.args.task c.args.entry c.index-queue.result.now c.self.invariant w c.requires.fifo)
