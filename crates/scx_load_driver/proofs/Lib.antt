@@ -12,5 +12,6 @@ pub mod Quiet
 pub mod Sleeping
 pub mod Remaining
 pub mod Calm
+pub mod Passing
 pub mod Going
 pub mod Whole

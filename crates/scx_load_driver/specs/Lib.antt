@@ -6,5 +6,6 @@ pub mod Calendar
 pub mod Changes
 pub mod Watch
 pub mod Driver
+pub mod Passing
 pub mod Laws
 pub mod Headline

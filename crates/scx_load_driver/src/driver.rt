@@ -3,15 +3,18 @@ ghost use Rattle.scx_sched_machine.specs.declared.events.Event.TheVariants.{Cloc
 ghost use Rattle.scx_sched.specs.Sim.{SimState, after_event};
 ghost use Rattle.scx_load_workloads.specs.declared.workload.Timing.{Timing};
 ghost use Rattle.scx_load_driver.specs.Events.{workload_events};
+ghost use Rattle.scx_load_driver.specs.Runs.{Skips};
 ghost use Rattle.scx_load_driver.specs.Watch.{last_tick};
 ghost use Rattle.scx_load_driver.specs.Driver.{is_clock_next, are_ticks_next};
 
 use crate::blocks::{add_changes, add_sleeps, add_wakes, last_tick, watch_event, watch_runner};
 use crate::calendar::Calendar;
 use crate::set::NumberSet;
+use crate::skipping::{calm_ms, runs_last};
 use scx_load_workloads::{Change, Timing, Workload};
 use scx_sched::{Event, Sim};
 use std::alloc::{AllocError, Global};
+use std::cmp;
 use std::marker::Model;
 
 /// A block of the events of a millisecond.
@@ -26,6 +29,9 @@ pub enum Phase {
 
 /// The most events of a block.
 const MAX_BLOCK: usize = 1024;
+
+/// Half of the most milliseconds from a vain try to skip milliseconds to the next one.
+const HALF_PAUSE: u32 = 16;
 
 /// The events of a workload, one after another.
 ///
@@ -61,6 +67,10 @@ pub struct Driver {
     events: Vec<Event>,
     /// The number of these events that were answered.
     taken: usize,
+    /// Before this millisecond none is skipped.
+    next_try: u32,
+    /// The milliseconds from a vain try to the next one.
+    pause: u32,
 }
 
 impl Model for Driver {
@@ -107,6 +117,8 @@ impl Driver {
             some_watched: true,
             events: Vec::with_capacity(alloc, MAX_BLOCK)?,
             taken: 0,
+            next_try: 0,
+            pause: 1,
         })
     }
 
@@ -214,6 +226,91 @@ impl Driver {
             self.cpu = 0;
             self.phase = Phase::Sleeps;
         }
+    }
+
+    /// Begins the ticks, if all events before them were answered and nothing comes before them.
+    #[inline(always)]
+    fn come_to_ticks(&mut self)
+        ensures { (s : SimState) → remaining self.new s ≡ remaining self.old s }
+    {
+        if self.is_spent() {
+            self.begin_ticks();
+        }
+    }
+
+    /// Gives the machine at once the events of milliseconds that come next and in which nothing happens but that tasks
+    /// run. The machine took exactly the events before them. After a vain try the next ones come later and later.
+    #[inline(always)]
+    #[tactic(auto, using(crate::proofs::Passing::skips_none))]
+    pub fn skip(&mut self, sim: &mut Sim)
+        ensures { Skips (remaining self.old sim.old) sim.old (remaining self.new sim.new) sim.new }
+    {
+        if self.next_try <= self.clock {
+            self.try_to_skip(sim);
+        }
+    }
+
+    /// `skip`, whenever the last try was.
+    #[tactic(auto, using(crate::proofs::Passing::skips_same, crate::proofs::Passing::skips_both))]
+    fn try_to_skip(&mut self, sim: &mut Sim)
+        ensures { Skips (remaining self.old sim.old) sim.old (remaining self.new sim.new) sim.new }
+    {
+        self.come_to_ticks();
+        if self.skip_some(sim) {
+            self.pause = 1;
+            self.skip_on(sim);
+        } else {
+            self.put_off();
+        }
+    }
+
+    /// The next try to skip milliseconds comes after a pause, and the one after it after a longer one.
+    #[inline(always)]
+    fn put_off(&mut self)
+        ensures { self.new ≡ self.old }
+    {
+        self.next_try = self.clock.saturating_add(self.pause);
+        self.pause = cmp::min(self.pause, HALF_PAUSE) * 2;
+    }
+
+    /// Skips milliseconds for as long as there are such.
+    #[tactic(auto, using(crate::proofs::Passing::skips_none, crate::proofs::Passing::skips_both))]
+    fn skip_on(&mut self, sim: &mut Sim)
+        ensures { Skips (remaining self.old sim.old) sim.old (remaining self.new sim.new) sim.new }
+    {
+        for _skip in 0..self.left {
+            if !self.skip_some(sim) {
+                return;
+            }
+        }
+    }
+
+    /// Gives the machine at once the events of milliseconds in which nothing happens but that tasks run. Answers false
+    /// if there are none.
+    #[tactic(auto, using(crate::proofs::Passing::skips_none))]
+    fn skip_some(&mut self, sim: &mut Sim) -> bool
+        ensures { Skips (remaining self.old sim.old) sim.old (remaining self.new sim.new) sim.new }
+    {
+        if self.some_watched
+            || 0 < self.cpu
+            || self.phase != Phase::Sleeps
+            || sim.cpus() != self.cpus
+        {
+            return false;
+        }
+        let most = runs_last(&self.last_ticks, sim, self.left);
+        let most = sim.quiet_ms(most);
+        let ms = calm_ms(self.next_change, &self.calendar, self.clock, most);
+        if ms == 0 {
+            return false;
+        }
+        sim.skip(ms);
+        self.clock += ms;
+        self.left -= ms;
+        self.cpu = self.cpus;
+        self.phase = Phase::Changes;
+        self.begin_ticks();
+        true
     }
 
     /// True if all events of the block at hand were answered.

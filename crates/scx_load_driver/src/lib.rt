@@ -22,6 +22,7 @@ mod driver;
 mod laws;
 mod run;
 mod set;
+mod skipping;
 
 pub use driver::{Driver, Phase};
 pub use laws::no_event_is_refused;

@@ -54,13 +54,13 @@ is_due true m l = is_behind_ticks m l
 
 -- the event of the first line, if that comes now
 abbrev pub due_event : Bool → ℕ → List Line → Option Event
-due_event behind m [] = None
-due_event behind m (l ∷ ls) = if is_due behind m l then Some l.event else None
+due_event after_ticks m [] = None
+due_event after_ticks m (l ∷ ls) = if is_due after_ticks m l then Some l.event else None
 
 -- the lines that remain once it has come
 abbrev pub lines_left : Bool → ℕ → List Line → List Line
-lines_left behind m [] = []
-lines_left behind m (l ∷ ls) = if is_due behind m l then ls else l ∷ ls
+lines_left after_ticks m [] = []
+lines_left after_ticks m (l ∷ ls) = if is_due after_ticks m l then ls else l ∷ ls
 
 -- ---- fields
 

@@ -101,13 +101,13 @@ impl Replayer {
     }
 
     /// The event of the next line, if that comes now: before the ticks of this millisecond, or after them.
-    fn due(&mut self, behind: bool) -> Option<Event>
-        ensures event { result ≡ due_event behind self.old.m self.old.lines }
+    fn due(&mut self, after_ticks: bool) -> Option<Event>
+        ensures event { result ≡ due_event after_ticks self.old.m self.old.lines }
         ensures rest { self.new
-            ≡ record self.old { lines = lines_left behind self.old.m self.old.lines } }
+            ≡ record self.old { lines = lines_left after_ticks self.old.m self.old.lines } }
     {
         let line = *self.lines.get(self.taken)?;
-        if line.at != self.clock || line.is_sleep() != behind {
+        if line.at != self.clock || line.is_sleep() != after_ticks {
             return None;
         }
         self.taken += 1;

@@ -1,5 +1,6 @@
 ghost use Rattle.std.specs.Prelude.{◌≡◌, ◌∷◌, [], IfSome, IfNone};
 ghost use Rattle.scx_sched.specs.Sim.{after_event};
+ghost use Rattle.scx_load_driver.specs.Runs.{Skips};
 ghost use Rattle.scx_load_replay.specs.Sources.{remaining};
 
 use crate::replayer::Replayer;
@@ -14,6 +15,19 @@ pub enum Source {
 }
 
 impl Source {
+    /// Gives the machine at once the events of all milliseconds that come next and in which nothing happens but that
+    /// tasks run; none of a file of events.
+    #[inline(always)]
+    #[tactic(auto, using(scx_load_driver::proofs::Passing::skips_none))]
+    pub fn skip(&mut self, sim: &mut Sim)
+        ensures { Skips (remaining self.old sim.old) sim.old (remaining self.new sim.new) sim.new }
+    {
+        match self {
+            Source::Workload(driver) => driver.skip(sim),
+            Source::Events(_) => {}
+        }
+    }
+
     /// The next event, for a machine that took exactly the events before it; none at the end.
     pub fn next(&mut self, sim: &Sim) -> Option<Event>
         ensures next { IfSome result (λ event. remaining self.old sim.now

@@ -1,13 +1,15 @@
 -- A task has run for a millisecond: what comes of it, by whether the policy hears of the tick and by what is left of its
 -- slice.
-use Rattle.std.proofs.Common.{◌≡◌, ℕ, Bool, true, false, ◌&&◌, if◌then◌else◌, Option, Some, None, is_some, unwrap_or, refl, sym, ap, ◌∙◌}
+use Rattle.std.proofs.Common.{◌≡◌, ℕ, Bool, true, false, ◌&&◌, nat_lt, length, if◌then◌else◌, Option, Some, None, is_some, unwrap_or, refl, sym, ap, ◌∙◌}
 use Rattle.scx_isa_semantics.specs.declared.callbacks.Callback.TheVariants as callback
-use Rattle.scx_sched_world.specs.World.{WorldState, task_at, is_throttled}
+use Rattle.scx_weights.specs.Limits.{with_use}
+use Rattle.scx_sched_world.specs.World.{WorldState, with_tree, task_at, is_throttled}
 use Rattle.scx_sched_world.specs.Tasks.{after_tick, used_ms, slice_left}
 use Rattle.scx_sched_machine.specs.Steps.{State, Stepped, with_world, stays, one_after_other, is_by_linux}
-use Rattle.scx_sched_machine.specs.Policy.{program_of}
 use Rattle.scx_sched_machine.specs.Callbacks.{call_back, one_task}
-use Rattle.scx_sched_machine.specs.Events.{throttle, is_tick_time, expire, use_up, hears_tick, tick_heard, count_down}
+use Rattle.scx_sched_machine.specs.Policy.{program_of}
+use Rattle.scx_sched_machine.specs.Events.{throttle, expire, use_up, is_tick_time, hears_tick, tick_heard, count_down}
+use Rattle.scx_sched_machine.proofs.Choices.{keeps_if}
 
 -- it has run for that long
 abbrev ran : State → ℕ → State
@@ -21,11 +23,6 @@ counted s t = with_world s (used_ms (after_tick s.world t) t)
 heard_after : (s : State) (t : ℕ) → hears_tick (ran s t) ≡ hears_tick s
 unfolding hears_tick
 heard_after s t = refl
-
--- plain rules tell of no tick
-pub unheard_plainly : (s : State) → is_by_linux s ≡ false → hears_tick s ≡ false
-unfolding hears_tick
-unheard_plainly s plain = ap (λ b. (b && is_some (program_of s.policy callback.Tick)) && is_tick_time s) plain
 
 -- what a millisecond comes to, where the policy hears of its tick or doesn't
 abbrev counted_by : State → ℕ → ℕ → Bool → Stepped
@@ -75,3 +72,27 @@ left_is w t n e = go (is_throttled w t) (task_at w t).slice e
 
 -- of a millisecond that a task ran for, and of whose tick the policy doesn't hear
 pub ruleset counts = (count_throttled, count_left, left_is)
+
+-- ---- by plain rules
+
+-- no tick is heard
+unheard : (s : State) → is_by_linux s ≡ false → hears_tick s ≡ false
+unfolding hears_tick
+unheard s plain = ap (λ b. (b && is_some (program_of s.policy callback.Tick)) && is_tick_time s) plain
+
+-- the task may not run any more
+pub plain_throttled : (s : State) (c t : ℕ) → is_by_linux s ≡ false → slice_left (counted s t).world t ≡ None → count_down s c t ≡ throttle (counted s t) c t
+plain_throttled s c t plain e = count_throttled s c t (unheard s plain) e
+
+-- it may still run
+pub plain_left : (s : State) (c t : ℕ) → is_by_linux s ≡ false → is_some (slice_left (counted s t).world t) ≡ true → count_down s c t ≡ expire (counted s t) c t
+plain_left s c t plain e = count_left s c t (unheard s plain) e
+
+-- whatever a task ran, the machine still goes by plain rules
+pub plain_counted : (s : State) (t : ℕ) → is_by_linux s ≡ false → is_by_linux (counted s t) ≡ false
+plain_counted s t plain =
+    let w = after_tick s.world t in
+    keeps_if (λ (u : WorldState). is_by_linux (with_world s u) ≡ false) (nat_lt t (length w.tasks)) (with_tree w (with_use w.tree t)) w plain plain
+
+-- of a millisecond that a task ran for by plain rules
+pub ruleset counts_plainly = (plain_throttled, plain_left, left_is, plain_counted)

@@ -46,7 +46,7 @@ unfolding fill
 fill_nobody s c e = rw e refl
 
 -- nobody is throttled
-free_tasks : (w : WorldState) → has_quota w.tree.groups ≡ false → (t : ℕ) → is_throttled w t ≡ false
+pub free_tasks : (w : WorldState) → has_quota w.tree.groups ≡ false → (t : ℕ) → is_throttled w t ≡ false
 free_tasks w none t = go (ltb t (length w.tasks))
   where
     go : (b : Bool) → (b && limits.is_throttled w.tree t) ≡ false

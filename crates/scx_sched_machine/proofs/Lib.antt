@@ -17,3 +17,4 @@ pub mod Silent
 pub mod Counting
 pub mod Alarms
 pub mod Looking
+pub mod Quiet

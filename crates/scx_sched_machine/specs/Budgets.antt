@@ -3,15 +3,15 @@ use Rattle.std.specs.Prelude.{ℕ, ◌+◌, ◌*◌, ◌≤◌, ◌^◌, if◌th
 use Rattle.scx_sched_world.specs.World.{WorldState}
 use Rattle.scx_sched_machine.specs.Steps.{State, is_ejected}
 
--- so many pushes are counted at most
+-- the most pushes that are counted
 abbrev pub most_pushes : ℕ
 most_pushes = 2 ^ 63
 
--- so many pushes more can be counted in that world
+-- that many pushes more can be counted in that world
 abbrev pub CanPush : ℕ → WorldState → Type 0
 CanPush n w = w.queues.pushes + n ≤ most_pushes
 
--- so many pushes more can be counted in that state
+-- that many pushes more can be counted in that state
 abbrev pub HasRoom : ℕ → State → Type 0
 HasRoom n s = CanPush n s.world
 
@@ -25,7 +25,7 @@ enter_pushes = 1
 abbrev pub fill_pushes : ℕ
 fill_pushes = 1
 
--- so many tasks there are at most
+-- the most tasks that there are
 abbrev pub most_tasks : ℕ
 most_tasks = 1024
 
@@ -154,7 +154,7 @@ tick_pushes = callback_pushes + throttle_pushes
 
 -- ---- letting go
 
--- so many pushes an ejection may still make
+-- how many pushes an ejection may still make
 unfoldable pub eject_left : State → ℕ
 eject_left s = if is_ejected s then 0 else eject_pushes
 
@@ -162,7 +162,7 @@ eject_left s = if is_ejected s then 0 else eject_pushes
 abbrev pub pushes_due : State → ℕ
 pushes_due s = s.world.queues.pushes + eject_left s
 
--- that so many tasks are let go, each of which is put
+-- that many tasks can be let go, each of which is put
 abbrev pub CanLetGo : ℕ → State → Type 0
 CanLetGo n s = pushes_due s + enter_pushes * n + put_pushes ≤ most_pushes
 

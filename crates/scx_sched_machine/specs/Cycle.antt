@@ -61,7 +61,7 @@ moved_in_vain s c = (local_len s.world c == 0) && s.world.call.has_moved
 abbrev pub asks_again : State → ℕ → Option ℕ → Bool
 asks_again s c p = not (keeps_slice s p) && moved_in_vain s c
 
--- at most so many calls, as long as the local queue is empty and the last one moved something; an
+-- at most that many calls, as long as the local queue is empty and the last one moved something; an
 -- ejection forgets what was moved
 unfoldable pub tries : ℕ → State → ℕ → Option ℕ → Stepped
 tries zero s c p = stays s
@@ -138,7 +138,7 @@ abbrev pub rest_notes : State → ℕ → Option ℕ → Bool → List Note
 rest_notes s c p ran = idle_note s.world p (ran && not (hears_idle s)) c
 
 -- a task that keeps the processor got its slice in this cycle, once the time up to now was taken
--- from it: that one is a nanosecond longer too (ext.c, `dispatch_one` calls `update_curr_scx` first)
+-- from it: it is a nanosecond longer too (ext.c, `dispatch_one` calls `update_curr_scx` first)
 abbrev pub kept : State → Option ℕ → State
 kept s None = s
 kept s (Some t) = switched s t

@@ -14,4 +14,5 @@ pub mod Cycle
 pub mod Rounds
 pub mod Firing
 pub mod Events
+pub mod Quiet
 pub mod Start

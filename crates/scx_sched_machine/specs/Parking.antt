@@ -73,7 +73,7 @@ let_go_one s t =
     record r { state = kicked_if_idle r.state c }
 
 -- of the parked those that may run again are let go, in their order from that one on; at most
--- so many are looked at
+-- that many are looked at
 unfoldable pub let_go_from : ℕ → State → Option ℕ → Stepped
 let_go_from zero s at = stays s
 let_go_from (suc n) s None = stays s

@@ -45,7 +45,7 @@ policy_by rules shapes timeout callbacks = record {
   callbacks = callbacks;
 }
 
--- the policy with ticks so many milliseconds apart
+-- the policy with ticks that many milliseconds apart
 abbrev pub with_ticks : PolicyState → ℕ → PolicyState
 with_ticks p n = record p { tick_ms = n }
 
@@ -87,7 +87,7 @@ abbrev pub IsAs : Callback → Option VerifiedProgram → Type 0
 IsAs b None = ⊤
 IsAs b (Some p) = p.context.callback ≡ b
 
--- each program that there is was verified as the callback for which it stands
+-- each program that there is was verified as the callback that it is kept for
 abbrev pub AreAs : Programs → Type 0
 AreAs c = (b : Callback) → IsAs b (at c b)
 

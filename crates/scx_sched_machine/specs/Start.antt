@@ -20,7 +20,7 @@ use Rattle.scx_sched_machine.specs.Policy.{PolicyState, program_of, tracks_idle}
 use Rattle.scx_sched_machine.specs.Steps.{State, CallMade, with_world, is_by_linux}
 use Rattle.scx_sched_machine.specs.Callbacks.{acting, call_ending, calls_of, after_callback, AreAnswered, no_arguments, one_task, task_and_number, two_numbers}
 
--- whether a task is bound, and to none of the first so many processors
+-- whether a task is bound, and to no processor below that number
 abbrev pub is_nowhere : Hierarchy → ℕ → ℕ → Bool
 is_nowhere tree cpus t = binds tree && not (any_below cpus (is_in_mask tree t))
 
@@ -48,7 +48,7 @@ blank p tree cpus = record {
 
 -- ---- init
 
--- what stands for a fault: Linux's EINVAL
+-- what a fault is answered with: Linux's EINVAL
 abbrev pub fault_answer : ℤ
 fault_answer = negsuc 21
 
@@ -58,7 +58,7 @@ init_ending s =
     call_ending (acting s callback.Init) callback.Init no_arguments s.maps
     (at_callback s.world callback.Init 0 0)
 
--- the answer that stands for a cause: the code of an exit
+-- the answer that means a cause: the code of an exit
 abbrev pub cause_answer : Cause → ℤ
 cause_answer (reason.Fault f) = fault_answer
 cause_answer (reason.Exit n) = n

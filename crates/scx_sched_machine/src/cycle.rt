@@ -460,7 +460,7 @@ impl Machine {
     /// True if no task waits for this CPU or for any, no task may be throttled, and there is no dispatch to call.
     #[inline(always)]
     #[tactic(auto, unfolding(crate::specs::Cycle::stays_idle))]
-    fn stays_idle(&self, cpu: u32) -> bool
+    pub(crate) fn stays_idle(&self, cpu: u32) -> bool
         ensures { result ≡ stays_idle self.now cpu }
     {
         self.policy.program(Callback::Dispatch).is_none()

@@ -1,10 +1,10 @@
 ghost use Rattle.std.specs.Prelude.{◌≡◌, ℕ, ◌+◌, ◌<◌, ◌^◌, true, false, Some, None};
 ghost use Rattle.scx_weights.specs.Limits.{usage_of};
 ghost use Rattle.scx_sched_world.specs.World.{task_at};
-ghost use Rattle.scx_sched_machine.specs.Steps.{is_by_linux};
 ghost use Rattle.scx_sched_machine.specs.Budgets.{HasRoom, calm_pushes, callback_pushes, clock_pushes, cycle_pushes, eject_pushes, event_pushes, own_pushes, throttle_pushes, tick_pushes};
 ghost use Rattle.scx_sched_machine.specs.Does.{Does, Goes};
 ghost use Rattle.scx_sched_machine.specs.Notes.{Takes};
+ghost use Rattle.scx_sched_machine.specs.Steps.{is_by_linux};
 ghost use Rattle.scx_isa_semantics.specs.declared.callbacks.Callback.TheVariants.{Tick};
 ghost use Rattle.scx_sched_machine.specs.Callbacks.{call_back, one_task};
 ghost use Rattle.scx_sched_machine.specs.declared.events.Event.TheVariants.{Wake, Sleep, SetWeight, SetTaskWeight};
@@ -174,6 +174,25 @@ impl Machine {
         }
     }
 
+    /// `expire` by plain rules. Answers true if the task may be replaced.
+    #[inline(always)]
+    #[tactic(auto, unfolding(crate::specs::Events::expire, crate::specs::Events::ends_slices), using(crate::proofs::Taking::takings))]
+    fn expire_plainly<H: Hearer>(&mut self, cpu: u32, task: u16, left: u64, hearer: &mut H) -> bool
+        requires plain { is_by_linux self.old ≡ false }
+        requires left { left ≡ (task_at self.old.world task).slice }
+        requires room { HasRoom cycle_pushes self.old }
+        ensures does { Goes H.noted H.takes H.told H.hears cycle_pushes (expire self.old cpu task)
+            self.old hearer.old self.new hearer.new }
+        ensures plain { result ≡ false → is_by_linux self.new ≡ false }
+    {
+        if left == 0 {
+            self.cycle(cpu, Some(task), true, hearer);
+            true
+        } else {
+            false
+        }
+    }
+
     /// The groups of a task that ran for a millisecond have used it, and the task may be replaced.
     #[tactic(auto, unfolding(crate::specs::Events::use_up), using(crate::proofs::Taking::takings))]
     fn use_up<H: Hearer>(&mut self, cpu: u32, task: u16, hearer: &mut H)
@@ -246,25 +265,8 @@ impl Machine {
         }
     }
 
-    /// A task has run for a millisecond.
+    /// A task has run for a millisecond by Linux rules.
     #[inline(always)]
-    #[tactic(auto, using(crate::proofs::Taking::takings, crate::proofs::Counting::unheard_plainly))]
-    fn count_down<H: Hearer>(&mut self, cpu: u32, task: u16, hearer: &mut H)
-        requires early { (task_at self.old.world task).run_ns < 2 ^ 63 }
-        requires used { (g : ℕ) → usage_of self.old.world.tree g < 2 ^ 63 }
-        requires room { HasRoom tick_pushes self.old }
-        ensures { Goes H.noted H.takes H.told H.hears tick_pushes (count_down self.old cpu task)
-            self.old hearer.old self.new hearer.new }
-    {
-        if self.is_by_linux() {
-            self.count_by_linux(cpu, task, hearer);
-        } else {
-            self.count_unheard(cpu, task, hearer);
-        }
-    }
-
-    /// `count_down` by Linux rules.
-    #[inline(never)]
     #[tactic(auto, using(crate::proofs::Taking::takings))]
     fn count_by_linux<H: Hearer>(&mut self, cpu: u32, task: u16, hearer: &mut H)
         requires early { (task_at self.old.world task).run_ns < 2 ^ 63 }
@@ -277,6 +279,48 @@ impl Machine {
             self.count_heard(cpu, task, hearer);
         } else {
             self.count_unheard(cpu, task, hearer);
+        }
+    }
+
+    /// A task has run for a millisecond by plain rules, which its groups have used. Answers true if it is replaced, or
+    /// may not run any more.
+    #[inline(always)]
+    #[tactic(auto, using(crate::proofs::Taking::takings, crate::proofs::Counting::counts_plainly))]
+    fn count_plainly<H: Hearer>(&mut self, cpu: u32, task: u16, hearer: &mut H) -> bool
+        requires plain { is_by_linux self.old ≡ false }
+        requires early { (task_at self.old.world task).run_ns < 2 ^ 63 }
+        requires used { (g : ℕ) → usage_of self.old.world.tree g < 2 ^ 63 }
+        requires room { HasRoom throttle_pushes self.old }
+        ensures does { Goes H.noted H.takes H.told H.hears throttle_pushes
+            (count_down self.old cpu task) self.old hearer.old self.new hearer.new }
+        ensures plain { result ≡ false → is_by_linux self.new ≡ false }
+    {
+        let left = self.world.run_and_use_ms(task);
+        match left {
+            Some(left) => self.expire_plainly(cpu, task, left, hearer),
+            None => {
+                self.throttle(cpu, task, hearer);
+                true
+            }
+        }
+    }
+
+    /// A task has run for a millisecond. The answer is false only by plain rules, where that was all.
+    #[inline(always)]
+    #[tactic(auto, using(crate::proofs::Taking::takings))]
+    fn count_down<H: Hearer>(&mut self, cpu: u32, task: u16, hearer: &mut H) -> bool
+        requires early { (task_at self.old.world task).run_ns < 2 ^ 63 }
+        requires used { (g : ℕ) → usage_of self.old.world.tree g < 2 ^ 63 }
+        requires room { HasRoom tick_pushes self.old }
+        ensures does { Goes H.noted H.takes H.told H.hears tick_pushes (count_down self.old cpu task)
+            self.old hearer.old self.new hearer.new }
+        ensures plain { result ≡ false → is_by_linux self.new ≡ false }
+    {
+        if self.is_by_linux() {
+            self.count_by_linux(cpu, task, hearer);
+            true
+        } else {
+            self.count_plainly(cpu, task, hearer)
         }
     }
 
@@ -293,19 +337,23 @@ impl Machine {
         }
     }
 
-    /// A CPU ran for a millisecond.
+    /// A CPU ran for a millisecond. The answer is false only by plain rules, where its task ran on and that was all.
     #[inline(always)]
     #[tactic(auto, unfolding(crate::specs::Events::tick), using(crate::proofs::Taking::takings))]
-    fn tick<H: Hearer>(&mut self, cpu: u32, hearer: &mut H)
+    fn tick<H: Hearer>(&mut self, cpu: u32, hearer: &mut H) -> bool
         requires early { (t : ℕ) → (task_at self.old.world t).run_ns < 2 ^ 63 }
         requires used { (g : ℕ) → usage_of self.old.world.tree g < 2 ^ 63 }
         requires room { HasRoom tick_pushes self.old }
-        ensures { Goes H.noted H.takes H.told H.hears tick_pushes (tick self.old cpu)
+        ensures does { Goes H.noted H.takes H.told H.hears tick_pushes (tick self.old cpu)
             self.old hearer.old self.new hearer.new }
+        ensures plain { result ≡ false → is_by_linux self.new ≡ false }
     {
         match self.world.running(cpu) {
             Some(task) => self.count_down(cpu, task, hearer),
-            None => self.tick_idle(cpu, hearer),
+            None => {
+                self.tick_idle(cpu, hearer);
+                true
+            }
         }
     }
 
@@ -400,36 +448,49 @@ impl Machine {
         ensures { Goes H.noted H.takes H.told H.hears event_pushes (event_step self.old event)
             self.old hearer.old self.new hearer.new }
     {
-        self.own_step(event, hearer);
-        if self.is_by_linux() {
+        let may_look = self.own_step(event, hearer);
+        if may_look && self.is_by_linux() {
             self.look_for_work(hearer);
         }
     }
 
-    /// Carries out an event that is accepted, up to where CPUs look for work.
+    /// Carries out an event that is accepted, up to where CPUs look for work. Where the answer is false the machine goes
+    /// by plain rules, and none does.
     #[inline(always)]
     #[tactic(auto, using(crate::proofs::Taking::takings))]
-    fn own_step<H: Hearer>(&mut self, event: Event, hearer: &mut H)
+    fn own_step<H: Hearer>(&mut self, event: Event, hearer: &mut H) -> bool
         requires accepted { refusal self.old event ≡ None }
         requires early { self.old.world.clock < 2 ^ 32 }
         requires runs { (t : ℕ) → (task_at self.old.world t).run_ns < 2 ^ 63 }
         requires used { (g : ℕ) → usage_of self.old.world.tree g < 2 ^ 63 }
         requires room { HasRoom own_pushes self.old }
-        ensures { Goes H.noted H.takes H.told H.hears own_pushes (own_step self.old event)
+        ensures does { Goes H.noted H.takes H.told H.hears own_pushes (own_step self.old event)
             self.old hearer.old self.new hearer.new }
+        ensures plain { result ≡ false → is_by_linux self.new ≡ false }
     {
         match event {
-            Event::Wake(task) => self.wake(task, hearer),
-            Event::Sleep(task) => self.sleep(task, hearer),
+            Event::Wake(task) => {
+                self.wake(task, hearer);
+                true
+            }
+            Event::Sleep(task) => {
+                self.sleep(task, hearer);
+                true
+            }
             Event::Tick(cpu) => self.tick(cpu, hearer),
-            Event::Clock => self.clock(hearer),
+            Event::Clock => {
+                self.clock(hearer);
+                true
+            }
             Event::SetWeight(group, weight) => {
                 self.world.set_weight(group, weight);
                 hearer.note(self.world.note(What::Weight(group, weight)));
+                true
             }
             Event::SetTaskWeight(task, weight) => {
                 hearer.note(self.world.note(What::TaskWeight(task, weight)));
                 self.reweigh(task, weight, hearer);
+                true
             }
         }
     }

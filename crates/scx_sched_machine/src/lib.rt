@@ -19,6 +19,7 @@ mod put;
 mod reweighing;
 mod rounds;
 mod sink;
+mod skipping;
 mod sleeping;
 mod start;
 mod switching;

@@ -137,7 +137,7 @@ impl Machine {
             return;
         }
         if let Some(task) = at {
-            let next = self.world.behind(task);
+            let next = self.world.next_after(task);
             if self.world.is_throttled(task) {
                 self.let_go_from(left - 1, next, hearer);
             } else {

@@ -14,7 +14,7 @@ impl Machine {
     /// The CPU that looks next, while the policy is in force.
     #[inline(always)]
     #[tactic(auto, unfolding(crate::specs::Rounds::next_to_look))]
-    fn next_to_look(&mut self) -> Option<u32>
+    pub(crate) fn next_to_look(&mut self) -> Option<u32>
         ensures answer { result ≡ next_to_look self.old }
         ensures same { self.new ≡ self.old }
     {

@@ -2,6 +2,8 @@
 ghost use Rattle.std.specs.Prelude.{◌≡◌};
 ghost use Rattle.scx_sched_machine.specs.Budgets.{HasRoom, callback_pushes, cycle_pushes, sleep_pushes};
 ghost use Rattle.scx_sched_machine.specs.Does.{Goes};
+ghost use Rattle.scx_isa_semantics.specs.declared.callbacks.Callback.TheVariants.{Quiescent};
+ghost use Rattle.scx_sched_machine.specs.Callbacks.{call_by_linux, task_and_number};
 ghost use Rattle.scx_sched_machine.specs.Events.{told_of_sleep, falls_asleep, looks_after_sleep, leaves_cpu, sleep_from_cpu, sleep_from_queue, sleep};
 
 use crate::callbacks::task_and_number;
@@ -25,13 +27,27 @@ impl Machine {
 
     /// The task sleeps, and a policy that has `quiescent` hears that it isn't runnable any more.
     #[inline(always)]
-    #[tactic(auto, unfolding(crate::specs::Events::falls_asleep), using(crate::proofs::Taking::takings))]
+    #[tactic(auto, unfolding(crate::specs::Events::falls_asleep, crate::specs::Callbacks::call_by_linux), using(crate::proofs::Taking::takings))]
     fn fall_asleep<H: Hearer>(&mut self, task: u16, cpu: u32, hearer: &mut H)
         requires { HasRoom callback_pushes self.old }
         ensures { Goes H.noted H.takes H.told H.hears callback_pushes
             (falls_asleep self.old task cpu) self.old hearer.old self.new hearer.new }
     {
         self.world.sleep(task);
+        if self.is_by_linux() {
+            self.tell_quiescent(task, cpu, hearer);
+        }
+    }
+
+    /// A policy that has `quiescent` hears that the task went to sleep.
+    #[inline(always)]
+    #[tactic(auto, using(crate::proofs::Taking::takings))]
+    fn tell_quiescent<H: Hearer>(&mut self, task: u16, cpu: u32, hearer: &mut H)
+        requires { HasRoom callback_pushes self.old }
+        ensures { Goes H.noted H.takes H.told H.hears callback_pushes
+            (call_by_linux self.old Quiescent (task_and_number task 1) task cpu)
+            self.old hearer.old self.new hearer.new }
+    {
         let arguments = task_and_number(task, 1);
         self.call_by_linux(Callback::Quiescent, arguments, task, cpu, hearer);
     }

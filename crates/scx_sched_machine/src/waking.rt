@@ -15,6 +15,7 @@ use scx_sched_world::{Insert, What};
 
 impl Machine {
     /// The CPU for which a task that wakes is put, if select_cpu answered that number.
+    #[inline(always)]
     fn target(&self, task: u16, answer: u64) -> u32
         ensures { result ≡ target (acting self.now SelectCpu) self.now.world task (Some answer) }
     {

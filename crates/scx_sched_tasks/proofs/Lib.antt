@@ -1,1 +1,2 @@
 mod Watching
+pub mod Times

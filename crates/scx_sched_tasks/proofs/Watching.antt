@@ -126,6 +126,10 @@ in_time : (now limit oldest : ℕ) (o : Option ℕ) → nat_lt limit (now - olde
 in_time now limit oldest None e h = refl
 in_time now limit oldest (Some n) e h = grind (arith, nat_tests, h n refl)
 
+-- nobody waits since before the clock that is kept for all
+pub waits_since : (w : Watch) (tasks : List Task) → length tasks ≤ 1024 → AreWatched w tasks → (t n : ℕ) → (get_or tasks t no_task).since ≡ Some n → w.oldest ≤ n
+waits_since w tasks few h t n is = omega (arith, h.least (t / 32) (omega (arith, some_known tasks t n is, few)), h.each (t / 32) t n refl is)
+
 -- where the clock that is kept for all isn't too long ago
 pub nobody_late : (w : Watch) (tasks : List Task) (now limit : ℕ) → length tasks ≤ 1024 → AreWatched w tasks → nat_lt limit (now - w.oldest) ≡ false → position (is_overdue now limit) tasks ≡ None
 nobody_late w tasks now limit few h e = go (position (is_overdue now limit) tasks) refl

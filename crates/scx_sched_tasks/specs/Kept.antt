@@ -5,7 +5,7 @@ use Rattle.scx_sched_tasks.specs.declared.watch.Watch.{Watch}
 use Rattle.scx_sched_tasks.specs.declared.tasks.Tasks.TheInside.{Inside}
 use Rattle.scx_sched_tasks.specs.Tasks.{no_task}
 
--- the records that the fields of `Tasks` stand for, by the tasks' numbers
+-- the records that the fields of `Tasks` represent, by the tasks' numbers
 abbrev pub records_of : Inside → List Task
 records_of x = x.records.items
 

@@ -1,5 +1,5 @@
 -- The records of tasks.
-use Rattle.std.specs.Prelude.{ℕ, ◌==◌, ◌+◌, ◌-◌, if◌then◌else◌, None}
+use Rattle.std.specs.Prelude.{ℕ, zero, suc, ◌==◌, ◌+◌, ◌-◌, if◌then◌else◌, None}
 use Rattle.scx_sched_tasks.specs.declared.task.Task.{Task}
 
 -- where there is no task all is 0, and nobody waits
@@ -21,3 +21,8 @@ after_ms x = record x {
   slice = if x.slice == 0xffff_ffff_ffff_ffff then x.slice else x.slice - 1000000;
   run_ns = x.run_ns + 1000000;
 }
+
+-- the record of a task that has run for that many milliseconds more
+abbrev pub after_many : ℕ → Task → Task
+after_many zero x = x
+after_many (suc n) x = after_ms (after_many n x)

@@ -1,5 +1,5 @@
-ghost use Rattle.std.specs.Prelude.{◌≡◌, ◌<◌, ◌≤◌, ◌^◌, Some, None, length, replicate, slice_index_or, slice_set, position, IfSome, IfOk};
-ghost use Rattle.scx_sched_tasks.specs.Tasks.{no_task, new_task, after_ms};
+ghost use Rattle.std.specs.Prelude.{◌≡◌, ℕ, ◌<◌, ◌≤◌, ◌^◌, Some, None, length, replicate, slice_index_or, slice_set, position, IfSome, IfOk};
+ghost use Rattle.scx_sched_tasks.specs.Tasks.{no_task, new_task, after_ms, after_many};
 ghost use Rattle.scx_sched_tasks.specs.Waits.{is_overdue};
 
 use crate::task::Task;
@@ -173,6 +173,29 @@ impl Tasks {
         facts.slice
     }
 
+    /// The task has run for that many milliseconds. A slice of 2^64 - 1 never ends.
+    #[inline(always)]
+    #[tactic(auto, using(crate::proofs::Watching::watched_same, crate::proofs::Times::many_waits))]
+    pub fn run_for(&mut self, task: u16, ms: u64)
+        requires known { task < length self.old }
+        requires few { ms ≤ 2 ^ 32 }
+        requires early { (slice_index_or self.old task no_task).run_ns < 2 ^ 63 }
+        ensures { self.new
+            ≡ slice_set self.old task (after_many ms (slice_index_or self.old task no_task)) }
+    {
+        let facts = run_on(self.records[task as usize], ms);
+        self.records[task as usize] = facts;
+    }
+
+    /// A clock before which no task began to wait that waits now.
+    #[inline(always)]
+    #[tactic(auto, using(crate::proofs::Watching::waits_since))]
+    pub fn oldest_wait(&self) -> u64
+        ensures { (t n : ℕ) → (slice_index_or self.now t no_task).since ≡ Some n → result ≤ n }
+    {
+        self.watch.oldest
+    }
+
     /// Sets the task's virtual time. Where there is no such task nothing is changed.
     #[inline(always)]
     #[tactic(auto, using(crate::proofs::Watching::watched_same))]
@@ -211,6 +234,26 @@ impl Tasks {
         if is_over(clock, self.watch.oldest, limit) {
             self.watch.refresh(&self.records, clock, limit);
         }
+    }
+}
+
+/// The record of a task that has run for that many milliseconds more.
+#[inline(always)]
+#[tactic(auto, using(crate::proofs::Times::many_endless, crate::proofs::Times::many_shorter))]
+fn run_on(facts: Task, ms: u64) -> Task
+    requires few { ms ≤ 2 ^ 32 }
+    requires early { facts.run_ns < 2 ^ 63 }
+    ensures { result ≡ after_many ms facts }
+{
+    let run_ns = facts.run_ns + ms * MS_NS;
+    if facts.slice == u64::MAX {
+        return Task { run_ns, ..facts };
+    }
+    let slice = facts.slice.saturating_sub(ms * MS_NS);
+    Task {
+        slice,
+        run_ns,
+        ..facts
     }
 }
 

@@ -14,3 +14,5 @@ mod Keeping
 mod Entering
 mod Picks
 mod Randoms
+mod Inserting
+pub mod Quiet

@@ -8,9 +8,9 @@ use Rattle.scx_dsq.specs.declared.entries.Rank.TheVariants.{Fifo}
 use Rattle.scx_dsq.specs.Queues.{QueueState, Waits, task_count, entry_of, queue_of, front_of}
 use Rattle.scx_dsq.specs.Calls.{create_refusal, with_queue, after_create, push_refusal, next_entry, with_task as with_place, after_push, without_task, after_remove, without, after_pop}
 use Rattle.scx_weights.specs.Hierarchy.{Hierarchy, with_task}
-use Rattle.scx_weights.specs.Limits.{is_throttled_group, is_throttled, begins_period, with_use, with_turn, is_freed, frees}
+use Rattle.scx_weights.specs.Limits.{is_throttled_group, is_throttled, begins_period, with_use, with_uses, with_turn, is_freed, frees}
 use Rattle.scx_weights.proofs.Counting.{none_below_at}
-use Rattle.scx_weights.proofs.Throttled.{there, uses_keep_throttled, clocks_keep_throttled}
+use Rattle.scx_weights.proofs.Throttled.{there, uses_keep_throttled, many_keep_throttled, clocks_keep_throttled}
 use Rattle.scx_sched_world.specs.Ids.{parked_queue}
 use Rattle.scx_sched_world.specs.World as world
 use Rattle.scx_sched_world.specs.World.{WorldState}
@@ -107,6 +107,9 @@ known_active known s tree t on h k u e = h k u e
 -- if it is known that the parked are throttled, it stays so after groups have used more time
 pub known_used : (known : Bool) (s : QueueState) (tree : Hierarchy) (t : ℕ) → (known ≡ true → AreThrottled s tree) → known ≡ true → AreThrottled s (with_use tree t)
 known_used known s tree t h k u e = uses_keep_throttled tree u t (h k u e)
+
+pub known_used_for : (known : Bool) (s : QueueState) (tree : Hierarchy) (t n : ℕ) → (known ≡ true → AreThrottled s tree) → known ≡ true → AreThrottled s (with_uses tree t n)
+known_used_for known s tree t n h k u e = many_keep_throttled tree u t n (h k u e)
 
 -- if it is known that the parked are throttled, it stays so at a clock at which no group is freed
 pub known_turned : (known : Bool) (s : QueueState) (tree : Hierarchy) (clock : ℕ)

@@ -3,7 +3,7 @@
 use Rattle.std.proofs.Common.{◌≡◌, ◌≢◌, ℕ, zero, suc, Bool, true, false, ◌==◌, ◌&&◌, not, nat_lt, max, ◌+◌, ◌-◌, ◌*◌, ◌%◌, ◌<◌, ◌≤◌, ◌^◌, ◌⊎◌, inl, inr, cond, [], ◌∷◌, length, get_or, set, count_by, Option, Some, None, is_some, is_none, IfNone, option_map, refl, sym, ◌∙◌, ap, subst, arith}
 use Rattle.std.specs.Int.{w64, bit_at, bit_not, trailing_zeros}
 use Rattle.std.specs.Int.Bits.{bit_or, bit_and}
-use Rattle.std.proofs.lemmas.Bool.{cases_eq, cases_lt, eq-eqb, ne_eqb, lt-ltb, ltb-true, or_parts, or_from, cond-true, cond-false}
+use Rattle.std.proofs.lemmas.Bool.{cases_eq, cases_lt, eq-eqb, ne_eqb, lt-ltb, ltb-true, ltb-false, or_parts, or_from, cond-true, cond-false}
 use Rattle.std.proofs.lemmas.List.{get_or-set_same, get_or-set_other, length-set, set_past}
 use Rattle.std.proofs.lemmas.List.Sums.{sum_by-cons}
 use Rattle.std.proofs.lemmas.Nat.{and_le_l}
@@ -328,16 +328,34 @@ empty_local w c e = empty_by w.queues (local_on c) (go (cases_eq (len_of w.queue
     go (inl is) = is
     go (inr d) = let bad : true ≡ false = sym (ap (λ b. not b) (ne_eqb (len_of w.queues (local_on c)) 0 d)) ∙ e in absurd (cc)
 
+idle_only : (a b : Bool) → (a && b) ≡ false → a ≡ true → b ≡ false
+idle_only true b e is = e
+idle_only false b e is = absurd (cc)
+
+-- a processor that is idle and isn't to look for work has nobody in its local queue
+not_pending : (w : WorldState) (c : ℕ) → c < length w.cpus → is_pending w c ≡ false → running w c ≡ None → w.cycling ≢ Some c → IsEmpty w.queues (local_on c)
+not_pending w c l not_it none off =
+    empty_local w c (idle_only (is_idle w c) (has_local w c) (or_parts (is_in_set w.kicked c) (is_idle w c && has_local w c) not_it).1 (is_idle_by w c l none off))
+
 -- a processor that isn't to look for work is known not to be idle with a task in its local queue
 pub settled_one : (linux : Bool) (bits new k : ℕ) (w : WorldState) → length w.cpus ≤ 64 → is_pending w k ≡ false
     → ((i : ℕ) → i < 64 → i ≢ k → bit_at new i ≡ bit_at bits i)
     → (linux ≡ true → AreSettled bits w.cpus w.cycling w.queues) → linux ≡ true → AreSettled new w.cpus w.cycling w.queues
 settled_one linux bits new k w few not_it others h on c l clear none off = go (cases_eq c k)
   where
-    idle_only : (a b : Bool) → (a && b) ≡ false → a ≡ true → b ≡ false
-    idle_only true b e is = e
-    idle_only false b e is = absurd (cc)
-
     go : (c ≡ k) ⊎ (c ≡ k → ⊥) → IsEmpty w.queues (local_on c)
-    go (inl e) = empty_local w c (idle_only (is_idle w c) (has_local w c) (or_parts (is_in_set w.kicked c) (is_idle w c && has_local w c) (ap (λ i. is_pending w i) e ∙ not_it)).1 (is_idle_by w c l none off))
+    go (inl e) = not_pending w c l (ap (λ i. is_pending w i) e ∙ not_it) none off
     go (inr d) = h on c l (sym (others c (omega (arith, l, few)) d) ∙ clear) none off
+
+-- where none is to look for work all are
+pub settled_all : (linux : Bool) (w : WorldState) → ((c : ℕ) → c < length w.cpus → is_pending w c ≡ false)
+    → linux ≡ true → AreSettled 0 w.cpus w.cycling w.queues
+settled_all linux w none_is on c l clear none off = not_pending w c l (none_is c l) none off
+
+-- among these bits is none of a processor
+pub past_each : (bits k : ℕ) (w : WorldState) → bits < 2 ^ 64 → lowest_bit bits ≡ Some k → nat_lt k (length w.cpus) ≡ false → HoldPending bits w
+    → (c : ℕ) → c < length w.cpus → is_pending w c ≡ false
+past_each bits k w fits low past h c l =
+    let is = lowest_set bits k fits low in
+    let same = is.1.1.0 in
+    h c l ((bit_at-trailing_zeros w64 bits is.0 fits).2 c (omega (arith, l, same, ltb-false k (length w.cpus) past)))

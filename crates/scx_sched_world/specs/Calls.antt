@@ -4,7 +4,7 @@ use Rattle.scx_sched_world.specs.declared.call.Call.{Call}
 use Rattle.scx_sched_world.specs.declared.call.KeptCall.{KeptCall}
 use Rattle.scx_sched_world.specs.CpuSets.{no_cpus}
 
--- the callback for which flags and fields stand; what no flag tells of is left over from another
+-- the callback that flags and fields represent; what no flag tells of is left over from another
 abbrev pub call_of : KeptCall → Call
 call_of c = record {
   callback = c.callback;

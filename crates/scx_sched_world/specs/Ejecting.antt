@@ -19,7 +19,7 @@ use Rattle.scx_sched_world.specs.Helpers.{weight_at}
 
 -- ---- the built-in scheduler
 
--- the virtual time by which a task waits: at most a slice behind the clock
+-- the virtual time by which a task waits: at most a slice before the clock
 abbrev pub builtin_vtime : WorldState → ℕ → ℕ
 builtin_vtime w t = max (task_at w t).builtin (w.builtin_clock - default_slice)
 
@@ -75,7 +75,7 @@ put_out w x = record w {
 abbrev pub evict : WorldState → ℕ → WorldState
 evict w t = if waits w t then put_builtin (after_leave w t) t else w
 
--- the first so many tasks, by number
+-- the first n tasks, by number
 abbrev pub after_evictions : ℕ → WorldState → WorldState
 after_evictions zero w = w
 after_evictions (suc n) w = evict (after_evictions n w) n
@@ -84,7 +84,7 @@ after_evictions (suc n) w = evict (after_evictions n w) n
 abbrev pub evict_note : WorldState → ℕ → List Note
 evict_note w t = if waits w t then note_now w (note.Insert t builtin_queue) ∷ [] else []
 
--- what is noted as the first so many tasks go over, by number
+-- what is noted as the first n tasks go over, by number
 abbrev pub evict_notes : ℕ → WorldState → List Note
 evict_notes zero w = []
 evict_notes (suc n) w = evict_notes n w ++ evict_note (after_evictions n w) n
@@ -95,7 +95,7 @@ cut_task None w = w
 cut_task (Some t) w =
     with_task w t (with_slice (task_at w t) (min (task_at w t).slice default_slice))
 
--- on the first so many processors
+-- on the first n CPUs
 abbrev pub after_cut : ℕ → WorldState → WorldState
 after_cut zero w = w
 after_cut (suc n) w = let v = after_cut n w in cut_task (running v n) v

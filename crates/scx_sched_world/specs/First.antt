@@ -22,11 +22,11 @@ own_queues cpus tasks =
     (after_create (after_create (empty (20 + cpus) tasks) global) held_queue) builtin_queue)
     parked_queue
 
--- the queues at the start, for so many processors and tasks: the machine's own alone, all empty
+-- the queues at the start, by the numbers of CPUs and tasks: the machine's own alone, all empty
 abbrev pub first_queues : ℕ → ℕ → QueueState
 first_queues cpus tasks = with_locals cpus (own_queues cpus tasks)
 
--- the world at the start, over a tree of groups and tasks and with so many processors, by plain
+-- the world at the start, over a tree of groups and tasks and with that number of CPUs, by plain
 -- rules and without timers
 abbrev pub first_world : Hierarchy → ℕ → WorldState
 first_world tree cpus = record {

@@ -141,8 +141,8 @@ may_insert_in b w t = false
 abbrev pub may_insert : WorldState → Option ℕ → Bool
 may_insert w t = may_insert_in w.call.callback w t
 
--- Where a task may be put: GLOBAL, LOCAL, the local queue of a processor, a queue of the policy. In
--- the low 32 bits of the id of a local queue stands the processor.
+-- Where a task may be put: GLOBAL, LOCAL, the local queue of a processor, a queue of the policy.
+-- The low 32 bits of the id of a local queue are its CPU.
 abbrev pub queue_fault : WorldState → ℕ → Option Fault
 queue_fault w q =
     if nat_lt q policy_end then (if exists w.queues q then None else Some NoSuchQueue)
@@ -668,7 +668,7 @@ all_cpus w = 2 ^ length w.cpus - 1
 abbrev pub cpus_of : WorldState → ℕ → ℕ
 cpus_of w t = if binds w then mask_of w.tree t else all_cpus w
 
--- what stands in a field of a task's record; where there is no such task, 0 in all but the pid
+-- the content of a field of a task's record; where there is no such task, 0 in all but the pid
 abbrev pub field_of : WorldState → ℕ → Field → ℕ
 field_of w t Pid = t + 1
 field_of w t Weight = weight_told w t

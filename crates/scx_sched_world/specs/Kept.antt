@@ -11,7 +11,7 @@ use Rattle.scx_sched_world.specs.World.{WorldState, are_linux, is_this, is_idle,
 use Rattle.scx_sched_world.specs.Pending.{is_pending}
 use Rattle.scx_sched_world.specs.Calls.{call_of}
 
--- the state for which a world's fields stand, without what is kept beside to find answers sooner
+-- the state that a world's fields represent, without what is kept beside to find answers sooner
 abbrev pub state_of : Inside → WorldState
 state_of w = record {
   clock = w.clock;
@@ -89,12 +89,12 @@ StaysParked w t = queue_of w.queues t ≡ Some parked_queue → is_throttled w t
 abbrev pub NobodyIsFree : WorldState → Type 0
 NobodyIsFree w = (t : ℕ) → StaysParked w t
 
--- the ids of the machine's own queues with so many local ones, as they are created
+-- the ids of the machine's own queues, by the number of local ones, as they are created
 abbrev pub own_ids : ℕ → List ℕ
 own_ids zero = global ∷ held_queue ∷ builtin_queue ∷ parked_queue ∷ []
 own_ids (suc n) = own_ids n ++ local_on n ∷ []
 
--- the machine's own queues stand first, in that order
+-- the machine's own queues come first, in that order
 abbrev pub StandFirst : QueueState → ℕ → Type 0
 StandFirst s cpus = take (4 + cpus) s.ids ≡ own_ids cpus
 

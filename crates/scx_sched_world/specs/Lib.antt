@@ -10,4 +10,5 @@ pub mod Waits
 pub mod Ejecting
 pub mod First
 pub mod Calls
+pub mod Quiet
 pub mod Kept

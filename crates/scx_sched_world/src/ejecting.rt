@@ -74,7 +74,7 @@ impl World {
         }
     }
 
-    /// The task waits for the built-in scheduler, at most a slice behind its clock.
+    /// The task waits for the built-in scheduler, at most a slice before its clock.
     pub fn put_builtin(&mut self, task: u16)
         requires few { self.old.queues.pushes < 2 ^ 63 }
         ensures world { self.new ≡ put_builtin self.old task }

@@ -1,7 +1,7 @@
-ghost use Rattle.std.specs.Prelude.{◌≡◌, ◌+◌, ◌-◌, ◌*◌, ◌^◌, ◌<◌, ◌≤◌, length, is_some, IfSome, IfNone};
+ghost use Rattle.std.specs.Prelude.{◌≡◌, ◌+◌, ◌-◌, ◌*◌, ◌^◌, ◌<◌, ◌≤◌, false, length, is_some, IfSome, IfNone};
 ghost use Rattle.scx_dsq.specs.Queues.{IsQueueAt, front_of};
 ghost use Rattle.scx_sched_world.specs.Ids.{policy_end};
-ghost use Rattle.scx_sched_world.specs.World.{with_note};
+ghost use Rattle.scx_sched_world.specs.World.{with_note, is_by_linux};
 ghost use Rattle.scx_sched_world.specs.Tasks.{after_leave, next_for};
 ghost use Rattle.scx_sched_world.specs.declared.kicks.Kick.TheVariants.{IfIdle};
 ghost use Rattle.scx_isa_semantics.specs.HostTables.{field_width};
@@ -281,7 +281,49 @@ impl World {
         ensures notes { length self.new.notes ≤ length self.old.notes + 1 }
         ensures few { self.new.queues.pushes ≤ self.old.queues.pushes + 1 }
     {
+        if self.is_by_linux() {
+            self.insert_as_told(task, queue, slice, flags)
+        } else {
+            self.insert_last(task, queue, slice, flags)
+        }
+    }
+
+    /// `insert_in_order`, with all that the flags say.
+    #[inline(always)]
+    fn insert_as_told(&mut self, task: Option<u16>, queue: u64, slice: u64, flags: u64) -> u64
+        requires notes { length self.old.notes < 4096 }
+        requires few { self.old.queues.pushes < 2 ^ 63 }
+        ensures answer { result
+            ≡ insert_answer self.old task (insert_in_order self.old queue slice flags) flags }
+        ensures world { self.new
+            ≡ after_insert self.old task (insert_in_order self.old queue slice flags) flags }
+        ensures notes { length self.new.notes ≤ length self.old.notes + 1 }
+        ensures few { self.new.queues.pushes ≤ self.old.queues.pushes + 1 }
+    {
         self.insert_here(task, self.in_order(queue, slice, flags), flags)
+    }
+
+    /// `insert_in_order` by plain rules: the flags that they know change nothing.
+    #[inline(always)]
+    fn insert_last(&mut self, task: Option<u16>, queue: u64, slice: u64, flags: u64) -> u64
+        requires plain { is_by_linux self.old ≡ false }
+        requires notes { length self.old.notes < 4096 }
+        requires few { self.old.queues.pushes < 2 ^ 63 }
+        ensures answer { result
+            ≡ insert_answer self.old task (insert_in_order self.old queue slice flags) flags }
+        ensures world { self.new
+            ≡ after_insert self.old task (insert_in_order self.old queue slice flags) flags }
+        ensures notes { length self.new.notes ≤ length self.old.notes + 1 }
+        ensures few { self.new.queues.pushes ≤ self.old.queues.pushes + 1 }
+    {
+        let insert = Insert {
+            queue,
+            slice,
+            rank: Rank::Fifo,
+            preempts: false,
+            refills: false,
+        };
+        self.insert_now(task, &insert, flags)
     }
 
     /// The insert in order of arrival into that queue, with that slice and those flags.

@@ -22,6 +22,7 @@ mod notes;
 mod passing;
 mod pending;
 mod random;
+mod skipping;
 mod steps;
 mod timers;
 mod world;

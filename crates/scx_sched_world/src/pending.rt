@@ -12,11 +12,16 @@ use crate::world::{World, lowest_bit, with_bit};
 impl World {
     /// The lowest CPU that is to look for work. Only those are looked at that were kicked, or that a task or a cycle
     /// left or a task came to since.
+    #[inline(always)]
+    #[tactic(auto, using(crate::proofs::Settled::none_asked))]
     pub fn first_pending(&mut self) -> Option<u32>
         ensures answer { result ≡ first_pending self.old }
         ensures world { self.new ≡ self.old }
     {
         let asked = self.asked();
+        if asked == 0 {
+            return None;
+        }
         self.pending_among(asked)
     }
 
@@ -35,6 +40,7 @@ impl World {
 
     /// The lowest of these CPUs that is to look for work, if all that are to are among them. Of one that isn't that is
     /// known from then on.
+    #[inline(never)]
     #[tactic(auto, using(crate::proofs::Settled::none_asked, crate::proofs::Settled::past_asked, crate::proofs::Settled::here_asked, crate::proofs::Settled::rest_asked))]
     fn pending_among(&mut self, asked: u64) -> Option<u32>
         requires { HoldPending asked self.old }
@@ -45,6 +51,7 @@ impl World {
             return None;
         };
         if !self.has_cpu(cpu) {
+            self.settle_all();
             return None;
         }
         if self.is_pending(cpu) {
@@ -62,6 +69,16 @@ impl World {
         ensures { self.new ≡ self.old }
     {
         self.unsettled = with_bit(self.unsettled, cpu, false);
+    }
+
+    /// It is known from now on that no CPU is idle with a task in its local queue. Nothing is asked then of CPUs that
+    /// aren't there.
+    #[inline(always)]
+    fn settle_all(&mut self)
+        requires { (c : ℕ) → c < length self.old.cpus → is_pending self.old c ≡ false }
+        ensures { self.new ≡ self.old }
+    {
+        self.unsettled = 0;
     }
 
     /// True if the CPU was kicked, or is idle with a task in its local queue.

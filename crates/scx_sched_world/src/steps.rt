@@ -582,13 +582,13 @@ impl World {
 
     /// The task right after this one in its queue, if that is one in order of arrival.
     #[tactic(auto, using(crate::proofs::Few::nobody_past))]
-    pub fn behind(&self, task: u16) -> Option<u16>
+    pub fn next_after(&self, task: u16) -> Option<u16>
         ensures { result ≡ behind_of self.now.queues task }
     {
         if (task as usize) >= self.queues.tasks() {
             return None;
         }
-        match self.queues.behind(u32::from(task)) {
+        match self.queues.next_after(u32::from(task)) {
             Some(next) => Some(next as u16),
             None => None,
         }

@@ -1,14 +1,14 @@
 -- What a tree knows of all its groups' limits: a number that divides the periods, and whether there is a quota.
 use Rattle.std.specs.Int.{◌∣◌}
 use Rattle.std.specs.List.{list_any}
-use Rattle.std.proofs.lemmas.Bool.{cases_eq, cases_lt}
+use Rattle.std.proofs.lemmas.Bool.{cases_eq, cases_lt, ne_eqb}
 use Rattle.std.proofs.lemmas.Nat.Gcd.{dvd_trans, dvd_of_mod-eq-zero, mod-eq-zero_of_dvd}
 use Rattle.std.proofs.lemmas.Nat.{div-add-mod', mod-mul-add}
 use Rattle.std.proofs.lemmas.List.{get_or_read, get_or_past}
 use Rattle.std.proofs.Common.{◌≡◌, ℕ, zero, suc, ◌+◌, ◌-◌, ◌*◌, ◌/◌, ◌^◌, min, max, ◌⊎◌, inl, inr, ◌<◌, ◌≤◌, ◌%◌, false, List, [], ◌∷◌, length, get_or, set, Bool, Option, None, Some, is_some, ⊎_elim, refl, ap, ◌∙◌, sym, subst, arith}
 use Rattle.scx_weights.specs.declared.group.Group.{Group}
 use Rattle.scx_weights.specs.Hierarchy.{Hierarchy, path, home_of, parent_of, quota_at, period_at, group_at}
-use Rattle.scx_weights.specs.Limits.{is_used_up, has_quota, is_throttled}
+use Rattle.scx_weights.specs.Limits.{is_used_up, has_quota, is_throttled, NoneBegins}
 use Rattle.scx_weights.specs.RunningSums.{KnowsLimits}
 use Rattle.scx_weights.proofs.Admitted.{none_at}
 use Rattle.scx_weights.proofs.Reweighed.{period_reweighed, length-reweighed}
@@ -19,6 +19,13 @@ no_group = record { parent = None; weight = 0; quota_ms = None; period_ms = 0 }
 -- where the beat doesn't divide the clock no period begins
 pub none_begins : (beat p clock : ℕ) → beat ∣ p → (clock % beat ≡ 0 → ⊥) → (clock % p ≡ 0 → ⊥)
 none_begins beat p clock d off on = off (mod-eq-zero_of_dvd beat (dvd_trans beat d (dvd_of_mod-eq-zero p on)))
+
+-- so none begins between two clocks between which there is no multiple of the beat
+pub none_between : (t : Hierarchy) (beat since next from to : ℕ) (limited : Bool) → KnowsLimits t.groups beat since next limited
+    → ((late : ℕ) → from < late → late < to → (since < late) × (late < next)) → NoneBegins t from to
+none_between t beat since next from to limited knows within clock g gt lt there =
+    let is = within clock gt lt in
+    ne_eqb (clock % period_at t.groups g) 0 (none_begins beat (period_at t.groups g) clock (knows.divides g there) (knows.quiet clock is.0 is.1))
 
 -- after a multiple of the beat there is no other up to the next
 pub quiet_after : (beat since next : ℕ) → since % beat ≡ 0 → next ≡ min (since + beat) (2 ^ 64 - 1) → (clock : ℕ) → since < clock → clock < next → clock % beat ≡ 0 → ⊥

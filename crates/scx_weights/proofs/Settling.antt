@@ -57,21 +57,21 @@ pending_set groups pending home v g lt same =
     ap (λ m. cond (lies_in groups home g) m 0) (get_or-set_same pending home v 0 (omega (arith, lt, same))) in
     but ∙ ap (λ m. pending_of groups pending g + m) here
 
--- a millisecond more is pending
-pub pending_charged : (groups : List Group) (used pending : List ℕ) (home g : ℕ) → home < length groups → g < length groups → length pending ≡ length groups
-    → get_or (usages_in groups used (set pending home (get_or pending home 0 + 1))) g 0 ≡ get_or (usages_in groups used pending) g 0 + cond (lies_in groups home g) 1 0
-pending_charged groups used pending home g lt g_lt same =
-    let more : cond {A = ℕ} (lies_in groups home g) (get_or pending home 0 + 1) 0 ≡ cond (lies_in groups home g) (get_or pending home 0) 0 + cond (lies_in groups home g) 1 0 =
+-- some milliseconds more are pending
+pub pending_charged : (groups : List Group) (used pending : List ℕ) (home g ms : ℕ) → home < length groups → g < length groups → length pending ≡ length groups
+    → get_or (usages_in groups used (set pending home (get_or pending home 0 + ms))) g 0 ≡ get_or (usages_in groups used pending) g 0 + cond (lies_in groups home g) ms 0
+pending_charged groups used pending home g ms lt g_lt same =
+    let more : cond {A = ℕ} (lies_in groups home g) (get_or pending home 0 + ms) 0 ≡ cond (lies_in groups home g) (get_or pending home 0) 0 + cond (lies_in groups home g) ms 0 =
     split (lies_in groups home g) (get_or pending home 0) in
     omega (
       arith,
-      usage_at groups used (set pending home (get_or pending home 0 + 1)) g g_lt,
+      usage_at groups used (set pending home (get_or pending home 0 + ms)) g g_lt,
       usage_at groups used pending g g_lt,
-      pending_set groups pending home (get_or pending home 0 + 1) g lt same,
+      pending_set groups pending home (get_or pending home 0 + ms) g lt same,
       more,
     )
   where
-    split : (b : Bool) (n : ℕ) → cond {A = ℕ} b (n + 1) 0 ≡ cond b n 0 + cond b 1 0
+    split : (b : Bool) (n : ℕ) → cond {A = ℕ} b (n + ms) 0 ≡ cond b n 0 + cond b ms 0
     split true n = omega arith
     split false n = omega arith
 
@@ -124,21 +124,21 @@ part_below (suc n) m f lt =
 pub sum_more : (n : ℕ) (f : ℕ → ℕ) → sum_below (n + 1) f ≡ sum_below n f + f n
 sum_more n f = let next : n + 1 ≡ suc n = omega arith in rw next refl
 
--- a millisecond of a task is one more of what it may be
-pub charged_are : (groups : List Group) (used used' pending pending' : List ℕ) (limited : Bool) (home : ℕ) → AreUsages groups used pending limited
+-- milliseconds of a task are no more than what it may be
+pub charged_are : (groups : List Group) (used used' pending pending' : List ℕ) (limited : Bool) (home ms : ℕ) → AreUsages groups used pending limited
     → length used' ≡ length groups → length pending' ≡ length groups
     → (limited ≡ true → (g : ℕ) → g < length groups → get_or pending' g 0 ≡ 0)
-    → ((g : ℕ) → lies_in groups home g ≡ true → get_or (usages_in groups used pending) g 0 < 2 ^ 63)
-    → ((g : ℕ) → g < length groups → get_or (usages_in groups used' pending') g 0 ≡ get_or (usages_in groups used pending) g 0 + cond (lies_in groups home g) 1 0)
+    → ((g : ℕ) → lies_in groups home g ≡ true → get_or (usages_in groups used pending) g 0 + ms ≤ 2 ^ 63)
+    → ((g : ℕ) → g < length groups → get_or (usages_in groups used' pending') g 0 ≡ get_or (usages_in groups used pending) g 0 + cond (lies_in groups home g) ms 0)
     → AreUsages groups used' pending' limited
-charged_are groups used used' pending pending' limited home had same same' settled room counted = record {
+charged_are groups used used' pending pending' limited home ms had same same' settled room counted = record {
   used_length = same;
   pending_length = same';
   settled = settled;
   room = λ g lt. within (lies_in groups home g) (get_or (usages_in groups used pending) g 0) (get_or (usages_in groups used' pending') g 0) (had.room g lt) (room g) (counted g lt);
 }
   where
-    within : (b : Bool) (n n' : ℕ) → n ≤ 2 ^ 63 → (b ≡ true → n < 2 ^ 63) → n' ≡ n + cond b 1 0 → n' ≤ 2 ^ 63
+    within : (b : Bool) (n n' : ℕ) → n ≤ 2 ^ 63 → (b ≡ true → n + ms ≤ 2 ^ 63) → n' ≡ n + cond b ms 0 → n' ≤ 2 ^ 63
     within true n n' le lt is = omega (arith, is, lt refl)
     within false n n' le lt is = omega (arith, is, le)
 

@@ -3,9 +3,9 @@ use Rattle.std.proofs.Common.{ℕ, ◌+◌, ◌<◌, ◌≤◌, ◌≡◌, Bool,
 use Rattle.std.specs.List.{list_any}
 use Rattle.std.proofs.lemmas.Bool.{cases_lt, cases_Bool, or_cases, or_left, or_right, both_ways}
 use Rattle.scx_weights.specs.Hierarchy.{Hierarchy, quota_at, path, lies_in, home_of}
-use Rattle.scx_weights.specs.Limits.{usage_of, is_used_up, is_throttled_group, is_throttled, begins_period, with_use, with_turn}
+use Rattle.scx_weights.specs.Limits.{usage_of, is_used_up, is_throttled_group, is_throttled, begins_period, with_use, with_uses, with_turn}
 use Rattle.scx_weights.specs.QuotaLaws.{UsesKeepThrottled, ClocksKeepThrottled, ClocksThrottleNobody}
-use Rattle.scx_weights.proofs.Usages.{usage_used, usage_turned, no_quota, used_up_grows}
+use Rattle.scx_weights.proofs.Usages.{usage_used, usage_used_for, usage_turned, no_quota, used_up_grows}
 
 any_grows : (p q : ℕ → Bool) → ((x : ℕ) → p x ≡ true → q x ≡ true) → (xs : List ℕ) → list_any p xs ≡ true → list_any q xs ≡ true
 any_grows p q grows [] e = absurd (cc)
@@ -34,6 +34,16 @@ uses_keep_throttled t k j e =
     still g was =
         let more : usage_of (with_use t j) g ≡ usage_of t g + cond (lies_in t.groups (home_of t j) g) 1 0 = usage_used t j g (there t g was) in
         used_up_grows (quota_at t.groups g) (usage_of t g) (usage_of (with_use t j) g) (omega (arith, more)) was
+
+-- nor does it change if one runs for some
+pub many_keep_throttled : (t : Hierarchy) (k j n : ℕ) → is_throttled t k ≡ true → is_throttled (with_uses t j n) k ≡ true
+many_keep_throttled t k j n e =
+    any_grows (λ g. is_throttled_group t g) (λ g. is_throttled_group (with_uses t j n) g) still (path t.groups (home_of t k)) e
+  where
+    still : (g : ℕ) → is_throttled_group t g ≡ true → is_throttled_group (with_uses t j n) g ≡ true
+    still g was =
+        let more : usage_of (with_uses t j n) g ≡ usage_of t g + cond (lies_in t.groups (home_of t j) g) n 0 = usage_used_for t j n g (there t g was) in
+        used_up_grows (quota_at t.groups g) (usage_of t g) (usage_of (with_uses t j n) g) (omega (arith, more)) was
 
 -- where no period of a throttled group begins
 pub clocks_keep_throttled : ClocksKeepThrottled

@@ -5,13 +5,19 @@ use Rattle.std.proofs.lemmas.List.{get_or_past}
 use Rattle.std.proofs.lemmas.List.FromFn.{get_or-map-range_with_len}
 use Rattle.scx_weights.specs.declared.group.Group.{Group}
 use Rattle.scx_weights.specs.Hierarchy.{Hierarchy, quota_at, lies_in, home_of}
-use Rattle.scx_weights.specs.Limits.{usage_of, is_used_up, begins_period, with_use, with_turn}
+use Rattle.scx_weights.specs.Limits.{usage_of, is_used_up, begins_period, with_use, with_uses, with_turn}
 
 -- a task ran
 pub usage_used : (t : Hierarchy) (k g : ℕ) → g < length t.groups
     → usage_of (with_use t k) g ≡ usage_of t g + cond (lies_in t.groups (home_of t k) g) 1 0
 usage_used t k g lt =
     get_or-map-range_with_len (λ x. usage_of t x + cond (lies_in t.groups (home_of t k) x) 1 0) 0 (length t.groups) g g 0 lt (omega arith)
+
+-- for some milliseconds
+pub usage_used_for : (t : Hierarchy) (k n g : ℕ) → g < length t.groups
+    → usage_of (with_uses t k n) g ≡ usage_of t g + cond (lies_in t.groups (home_of t k) g) n 0
+usage_used_for t k n g lt =
+    get_or-map-range_with_len (λ x. usage_of t x + cond (lies_in t.groups (home_of t k) x) n 0) 0 (length t.groups) g g 0 lt (omega arith)
 
 -- the clock grew
 pub usage_turned : (t : Hierarchy) (clock g : ℕ) → g < length t.groups

@@ -6,7 +6,7 @@ use Rattle.std.proofs.lemmas.List.{ext_get_or, get_or_read}
 use Rattle.std.proofs.lemmas.List.FromFn.{get_or-map-range_with_len, length-map-range_with_len}
 use Rattle.scx_weights.specs.declared.group.Group.{Group}
 use Rattle.scx_weights.specs.Hierarchy.{Hierarchy, parent_of, quota_at, period_at, upward, lies_in, home_of}
-use Rattle.scx_weights.specs.Limits.{is_used_up, for_each_group, usage_of, with_use, with_turn}
+use Rattle.scx_weights.specs.Limits.{is_used_up, for_each_group, usage_of, with_uses, with_turn}
 use Rattle.scx_weights.specs.RunningSums.{HasRunningSums}
 use Rattle.scx_weights.proofs.Paths.{upward-none, upward_step}
 
@@ -42,19 +42,19 @@ pub any_step : (groups : List Group) (test : ℕ → Bool) (i x : ℕ) (at : Opt
 any_step groups test i x at lt is =
     ap (λ a. list_any test (upward groups (3 - i) a)) is ∙ ap (λ gs. list_any test gs) (upward_step groups i x lt)
 
--- the tree once a millisecond of a task was counted; `slice` and `home` as they are read
-pub charged_is : (t u : Hierarchy) (us : List ℕ) (slice : List Group) (k home : ℕ) → t ≡ u → k < length t.homes → slice ≡ t.groups → home ≡ get_or t.homes k home
+-- the tree once milliseconds of a task were counted; `slice` and `home` as they are read
+pub charged_is : (t u : Hierarchy) (us : List ℕ) (slice : List Group) (k home ms : ℕ) → t ≡ u → k < length t.homes → slice ≡ t.groups → home ≡ get_or t.homes k home
     → length us ≡ length slice
-    → ((g : ℕ) → g < length slice → get_or us g 0 ≡ get_or t.usages g 0 + cond (lies_in slice home g) 1 0)
-    → record t { usages = us } ≡ with_use u k
-charged_is t u us slice k home view lt groups read same each =
+    → ((g : ℕ) → g < length slice → get_or us g 0 ≡ get_or t.usages g 0 + cond (lies_in slice home g) ms 0)
+    → record t { usages = us } ≡ with_uses u k ms
+charged_is t u us slice k home ms view lt groups read same each =
     let home_is : home ≡ home_of t k = get_or_read t.homes k home lt read 0 in
-    let here : (g : ℕ) → g < length t.groups → get_or us g 0 ≡ get_or t.usages g 0 + cond (lies_in t.groups (home_of t k) g) 1 0 =
-    subst (λ (gs : List Group). (g : ℕ) → g < length gs → get_or us g 0 ≡ get_or t.usages g 0 + cond (lies_in gs (home_of t k) g) 1 0) groups
-    (λ g g_lt. each g g_lt ∙ ap (λ h. get_or t.usages g 0 + cond (lies_in slice h g) 1 0) home_is) in
+    let here : (g : ℕ) → g < length t.groups → get_or us g 0 ≡ get_or t.usages g 0 + cond (lies_in t.groups (home_of t k) g) ms 0 =
+    subst (λ (gs : List Group). (g : ℕ) → g < length gs → get_or us g 0 ≡ get_or t.usages g 0 + cond (lies_in gs (home_of t k) g) ms 0) groups
+    (λ g g_lt. each g g_lt ∙ ap (λ h. get_or t.usages g 0 + cond (lies_in slice h g) ms 0) home_is) in
     ap (λ (vs : List ℕ). record t { usages = vs })
-    (numbers_are t (λ g. usage_of t g + cond (lies_in t.groups (home_of t k) g) 1 0) us (same ∙ ap (λ gs. length gs) groups) here)
-    ∙ ap (λ (v : Hierarchy). with_use v k) view
+    (numbers_are t (λ g. usage_of t g + cond (lies_in t.groups (home_of t k) g) ms 0) us (same ∙ ap (λ gs. length gs) groups) here)
+    ∙ ap (λ (v : Hierarchy). with_uses v k ms) view
 
 -- the tree once the clock has grown
 pub turned_is : (t u : Hierarchy) (us : List ℕ) (slice : List Group) (clock : ℕ) → t ≡ u → slice ≡ t.groups

@@ -1,4 +1,4 @@
--- The groups that a group lies in, as a list of so many places as a group may be deep.
+-- The groups that a group lies in, as a list with a place for each level that a group may have.
 use Rattle.std.specs.Prelude.{ℕ, List, [], ◌∷◌, Option, None, Some}
 use Rattle.scx_weights.specs.declared.group.Group.{Group}
 use Rattle.scx_weights.specs.Hierarchy.{parent_of}

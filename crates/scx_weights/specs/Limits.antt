@@ -1,7 +1,7 @@
 -- Limits of processor time: `cpu.max` of Linux Documentation/admin-guide/cgroup-v2.rst, in whole
 -- milliseconds. A group with a quota may use that much in each of its periods, which begin where
 -- the clock is a multiple of their length. What its tasks use, and those below it, counts together.
-use Rattle.std.specs.Prelude.{ℕ, ◌+◌, ◌%◌, Bool, false, ◌&&◌, ◌==◌, nat_le, List, length, map, slice_index, Option, None, Some, is_some, if◌then◌else◌}
+use Rattle.std.specs.Prelude.{◌≡◌, ℕ, ◌+◌, ◌%◌, ◌<◌, Bool, false, ◌&&◌, ◌==◌, nat_le, List, length, map, slice_index, Option, None, Some, is_some, if◌then◌else◌}
 use Rattle.std.specs.List.{list_any, range_with_len}
 use Rattle.scx_weights.specs.declared.group.Group.{Group}
 use Rattle.scx_weights.specs.Counting.{any_below}
@@ -39,15 +39,28 @@ with_use t k = record t {
       for_each_group t (λ g. usage_of t g + (if lies_in t.groups (home_of t k) g then 1 else 0));
 }
 
+-- the task ran for that many milliseconds
+abbrev pub with_uses : Hierarchy → ℕ → ℕ → Hierarchy
+with_uses t k n = record t {
+  usages =
+      for_each_group t (λ g. usage_of t g + (if lies_in t.groups (home_of t k) g then n else 0));
+}
+
 -- a period of the group begins at that clock
 abbrev pub begins_period : Hierarchy → ℕ → ℕ → Bool
 begins_period t g clock = (clock % period_at t.groups g) == 0
 
--- the clock shows so many ms, and periods begin
+-- the clock shows that time in ms, and periods begin
 abbrev pub with_turn : Hierarchy → ℕ → Hierarchy
 with_turn t clock = record t {
   usages = for_each_group t (λ g. if begins_period t g clock then 0 else usage_of t g);
 }
+
+-- no period begins later than the first clock and before the second
+abbrev pub NoneBegins : Hierarchy → ℕ → ℕ → Type 0
+NoneBegins t from to =
+    (clock g : ℕ)
+    → from < clock → clock < to → g < length t.groups → begins_period t g clock ≡ false
 
 -- the group had used up its quota, and at that clock its next period begins
 abbrev pub is_freed : Hierarchy → ℕ → ℕ → Bool

@@ -14,7 +14,7 @@ pub data Step : Type 0 where
   Begin : ℕ → ℕ → Step  -- on that processor that task begins to run
   End : ℕ → Step  -- who runs there stops
   Tick : ℕ → Step  -- who runs there has run for a ms
-  Turn : ℕ → Step  -- the clock comes to show so many ms
+  Turn : ℕ → Step  -- the clock comes to show that time in ms
 
 -- the task that runs on a processor; none where there is no such processor
 abbrev pub running : QuotaMachine → ℕ → Option ℕ

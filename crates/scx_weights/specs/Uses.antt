@@ -7,7 +7,7 @@ use Rattle.scx_weights.specs.Limits.{with_use, with_turn, begins_period}
 -- what happens to usages: a task runs for a ms, or the clock turns
 pub data Use : Type 0 where
   Ran : ℕ → Use  -- that task ran for a ms
-  Turned : ℕ → Use  -- the clock came to show so many ms
+  Turned : ℕ → Use  -- the clock came to show that time in ms
 
 -- the tree after all that
 abbrev pub after : Hierarchy → List Use → Hierarchy

@@ -1,4 +1,4 @@
-ghost use Rattle.std.specs.Prelude.{◌≡◌, ℕ, ◌^◌, ◌<◌, ◌≤◌, true, false, length, IfOk, IfErr, OnOk, OnErr};
+ghost use Rattle.std.specs.Prelude.{◌≡◌, ℕ, ◌+◌, ◌^◌, ◌<◌, ◌≤◌, true, false, length, IfOk, IfErr, OnOk, OnErr};
 
 use crate::admission::{first_fault, has_bad_own_weight, has_empty_mask};
 use crate::error::TreeError;
@@ -50,7 +50,7 @@ impl Model for Tree {
 impl Tree {
     ghost use Rattle.scx_weights.specs.Hierarchy.{home_of, is_active_task, with_task, with_weight, own_weight, with_own_weight, with_own_weights, binds, mask_of, is_in_mask, with_masks, idle};
     ghost use Rattle.scx_weights.specs.Weights.{active_tasks, task_weight};
-    ghost use Rattle.scx_weights.specs.Limits.{usage_of, has_quota, is_throttled, with_use, with_turn, frees};
+    ghost use Rattle.scx_weights.specs.Limits.{usage_of, has_quota, is_throttled, with_use, with_uses, with_turn, NoneBegins, frees};
     ghost use Rattle.scx_weights.specs.Hierarchy.{lies_in};
     ghost use Rattle.scx_weights.specs.Refusals.{max_tasks, max_weight, first_fault, weight_fault, own_weight_fault, own_weights_fault, masks_fault, Names};
 
@@ -264,13 +264,35 @@ impl Tree {
     }
 
     /// The task ran for a millisecond: its group used it, and so did each that this lies below.
+    #[inline(always)]
     pub fn charge(&mut self, task: u32)
         requires known { task < length self.old.homes }
         requires room { (g : ℕ) → lies_in self.old.groups (home_of self.old task) g ≡ true
             → usage_of self.old g < 2 ^ 63 }
         ensures { self.new ≡ with_use self.old task }
     {
-        self.usages.charge(&self.groups, self.homes[task as usize]);
+        self.charge_for(task, 1);
+    }
+
+    /// The task ran for that many milliseconds: its group used them, and so did each that this lies below.
+    #[inline(always)]
+    pub fn charge_for(&mut self, task: u32, ms: u64)
+        requires known { task < length self.old.homes }
+        requires room { (g : ℕ) → lies_in self.old.groups (home_of self.old task) g ≡ true
+            → usage_of self.old g + ms ≤ 2 ^ 63 }
+        ensures { self.new ≡ with_uses self.old task ms }
+    {
+        self.usages
+            .charge_for(&self.groups, self.homes[task as usize], ms);
+    }
+
+    /// A clock before which, from this one on, no period begins.
+    #[inline(always)]
+    pub fn next_turn(&self, clock: u64) -> u64
+        ensures none { NoneBegins self.now clock result }
+        ensures even { length self.now.usages ≡ length self.now.groups }
+    {
+        self.usages.next_turn(clock)
     }
 
     /// True if a group has a quota. Without one, no task is ever throttled.

@@ -10,3 +10,4 @@ mod Causing
 pub mod PartCauses
 pub mod Either
 mod ScenarioCauses
+mod Determined

@@ -1,4 +1,4 @@
--- What a file was read as, behind a function that passes its error on.
+-- What a file was read as, after a function that passes its error on.
 use Rattle.std.proofs.Common.{◌≡◌, Result, Ok, Err, IfOk}
 use Rattle.scx_load_files.specs.declared.fault.LoadError.{LoadError}
 use Rattle.scx_load_files.specs.Faults.{Reading, Gives}

@@ -5,6 +5,7 @@
 //! A *scenario* is a workload or a file of events: `prepare_scenario` begins the run of either.
 #![tactic(auto)]
 
+mod determinism;
 mod final_maps;
 mod listener;
 mod map_lines;
@@ -18,6 +19,7 @@ mod scenario_parts;
 mod scenarios;
 mod simulating;
 
+pub use determinism::{texts_determine_replays, texts_determine_runs};
 pub use final_maps::maps_at_end;
 pub use listener::{Heard, Listener, Nobody};
 pub use map_lines::push_maps;

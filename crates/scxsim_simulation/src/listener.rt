@@ -59,4 +59,19 @@ impl<E: Events, L: Listener> Events for Heard<'_, E, L> {
         }
         event
     }
+
+    #[inline(always)]
+    fn skip(&mut self, sim: &mut Sim) {
+        let clock = sim.clock();
+        self.events.skip(sim);
+        hear_each(self.listener, clock, sim.clock(), self.total);
+    }
+}
+
+/// Tells the listener each millisecond that is over at one clock and wasn't at another.
+#[inline(always)]
+fn hear_each<L: Listener>(listener: &mut L, before: u64, now: u64, total: u32) {
+    for over in before..now {
+        listener.hear(over + 1, total);
+    }
 }

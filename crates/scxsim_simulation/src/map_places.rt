@@ -102,6 +102,6 @@ pub(crate) fn value_in_line(maps: &Maps, map: u8, slots: u32, place: u64) -> &[u
     if slots == 0 {
         return &[];
     }
-    let behind = u128::from(first) + u128::from(place);
-    bytes_of(maps, map, (behind % u128::from(slots)) as u32)
+    let turned = u128::from(first) + u128::from(place);
+    bytes_of(maps, map, (turned % u128::from(slots)) as u32)
 }

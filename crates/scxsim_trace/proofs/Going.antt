@@ -8,8 +8,9 @@ use Rattle.scx_sched.specs.Sim.{SimState, after_event, notes_of}
 use Rattle.scx_sched.specs.Once.{IsOnce}
 use Rattle.scx_sched.specs.Waits.{IsTimely, HasWaits}
 use Rattle.scx_sched.specs.Usages.{AreBounded}
-use Rattle.scx_load_driver.specs.Runs.{stepped_all, notes_of_all}
-use Rattle.scxsim_trace.specs.Runs.{IsInOrder, GoesWell, StaysInOrder, GoesThrough, Observed}
+use Rattle.scx_sched.specs.Quiet.{is_of_time, GoQuietly}
+use Rattle.scx_load_driver.specs.Runs.{stepped_all, notes_of_all, Skips}
+use Rattle.scxsim_trace.specs.Runs.{IsInOrder, GoesWell, StaysInOrder, GoesThrough, Observed, GoUnheeded, PassesBy}
 
 -- the notes of two lists of events, one after the other
 pub notes_of_all-append : (s : SimState) (es fs : List Event) → notes_of_all s (es ++ fs) ≡ notes_of_all s es ++ notes_of_all (stepped_all s es) fs
@@ -57,6 +58,44 @@ gone_until {S} comes takes has_failed events rest later s t u a b k c e gone now
     let Q : List Event → Type 0 = λ es. Observed comes takes has_failed es t b u c in
     let going : has_failed c ≡ false → Observed comes takes has_failed later (after_event t e) c u c = λ f. absurd (differ (has_failed c) failed f) in
     gone u c (subst Q (sym next) (k, c, shown, notes, now, well, (λ _. (state, refl, subst P state behind)), going))
+
+-- events that don't concern the observer
+unheeded_first : {S : Type 0} (comes : S → SimState → Event → S → Type 0) (takes : S → Note → S → Type 0) (has_failed : S → Bool) (done rest : List Event) (s t : SimState) (a b : S) (u : SimState)
+    → GoUnheeded comes a s done → has_failed a ≡ false → IsInOrder s → Observed comes takes has_failed rest (stepped_all s done) a u b → Observed comes takes has_failed (done ++ rest) s a u b
+unheeded_first comes takes has_failed [] rest s t a b u h going now more = more
+unheeded_first comes takes has_failed (e ∷ es) rest s t a b u (shown, silent, well, next, others) going now more =
+    let P : List Note → Type 0 = λ ns. Takes takes a ns a in
+    (a, a, shown, subst P (sym silent) refl, now, well, (λ f. absurd (differ (has_failed a) f going)), (λ _. unheeded_first comes takes has_failed es rest (after_event s e) t a b u others going next more))
+
+-- past events that don't concern the observer
+pub gone_past : {S : Type 0} (comes : S → SimState → Event → S → Type 0) (takes : S → Note → S → Type 0) (has_failed : S → Bool) (events rest rest' : List Event) (s t t' : SimState) (a b : S)
+    → HasGone comes takes has_failed events s a rest t b → IsInOrder t → has_failed b ≡ false → PassesBy comes rest t rest' t' b → HasGone comes takes has_failed events s a rest' t' b
+gone_past {S} comes takes has_failed events rest rest' s t t' a b gone now going passes u c more =
+    let P : SimState → Type 0 = λ x. Observed comes takes has_failed rest' x b u c in
+    let Q : List Event → Type 0 = λ es. Observed comes takes has_failed es t b u c in
+    gone u c (subst Q (sym passes.whole) (unheeded_first comes takes has_failed passes.done rest' t t' b c u passes.unheeded going now (subst P passes.state more)))
+
+-- events that go quietly concern no observer that doesn't heed time
+pub quiet_unheeded : {S : Type 0} (comes : S → SimState → Event → S → Type 0) (a : S) (s : SimState) (es : List Event) → ((x : SimState) (e : Event) → is_of_time e ≡ true → comes a x e a) → GoQuietly s es → GoUnheeded comes a s es
+quiet_unheeded comes a s [] still h = tt
+quiet_unheeded comes a s (e ∷ es) still (one, others) =
+    (still s e one.time, one.notes, (one.answered, one.follows), in_order (after_event s e) one.once one.counted one.timely one.bounded, quiet_unheeded comes a (after_event s e) es still others)
+
+-- so it may be passed by them
+pub skips_by : {S : Type 0} (comes : S → SimState → Event → S → Type 0) (events rest : List Event) (s t : SimState) (a : S) → ((x : SimState) (e : Event) → is_of_time e ≡ true → comes a x e a) → Skips events s rest t → PassesBy comes events s rest t a
+skips_by comes events rest s t a still h = record { done = h.done; whole = h.whole; state = h.state; unheeded = quiet_unheeded comes a s h.done still h.quietly }
+
+-- or by none
+pub none_by : {S : Type 0} (comes : S → SimState → Event → S → Type 0) (events : List Event) (s : SimState) (a : S) → PassesBy comes events s events s a
+none_by comes events s a = record { done = []; whole = refl; state = refl; unheeded = tt }
+
+order_by : {S : Type 0} (comes : S → SimState → Event → S → Type 0) (s : SimState) (a : S) (es : List Event) → GoUnheeded comes a s es → IsInOrder s → IsInOrder (stepped_all s es)
+order_by comes s a [] h now = now
+order_by comes s a (e ∷ es) (shown, silent, well, next, others) now = order_by comes (after_event s e) a es others next
+
+-- all is in order after them
+pub order_past : {S : Type 0} (comes : S → SimState → Event → S → Type 0) (events rest : List Event) (s t : SimState) (a : S) → PassesBy comes events s rest t a → IsInOrder s → IsInOrder t
+order_past comes events rest s t a h now = subst (λ (x : SimState). IsInOrder x) (sym h.state) (order_by comes s a h.done h.unheeded now)
 
 -- no event is left
 pub gone_to_end : {S : Type 0} (comes : S → SimState → Event → S → Type 0) (takes : S → Note → S → Type 0) (has_failed : S → Bool) (events rest : List Event) (s t : SimState) (a b : S)

@@ -1,5 +1,5 @@
 -- A run of a list of events with an observer, up to the end or to the observer's failure.
-use Rattle.std.specs.Prelude.{◌≡◌, Bool, true, false, List, [], ◌∷◌, ◌++◌, None, Option, ℕ}
+use Rattle.std.specs.Prelude.{◌≡◌, ⊤, Bool, true, false, List, [], ◌∷◌, ◌++◌, None, Option, ℕ}
 use Rattle.std.specs.Io.KnownBytes.{Appends}
 use Rattle.scxsim_output.specs.Output.{AppendsBeginning}
 use Rattle.scx_sched_world.specs.declared.notes.Note.{Note}
@@ -47,6 +47,22 @@ Observed {S} comes takes has_failed (e ∷ es) s a t b =
     (d : S) × (c : S) × comes a s e d × Takes takes d (notes_of s e) c × IsInOrder s × GoesWell s e
     × (has_failed c ≡ true → (t ≡ after_event s e) × (b ≡ c) × IsInOrder (after_event s e))
     × (has_failed c ≡ false → Observed comes takes has_failed es (after_event s e) c t b)
+
+-- the machine takes these events, of which nothing is noted, and they don't change the observer
+abbrev pub GoUnheeded :
+    {S : Type 0} → (S → SimState → Event → S → Type 0) → S → SimState → List Event → Type 0
+GoUnheeded comes a s [] = ⊤
+GoUnheeded comes a s (e ∷ es) =
+    comes a s e a × (notes_of s e ≡ []) × GoesWell s e × IsInOrder (after_event s e)
+    × GoUnheeded comes a (after_event s e) es
+
+-- from the first events and state to the second, past such events
+pub record PassesBy {S : Type 0} (comes : S → SimState → Event → S → Type 0) (events : List Event)
+    (s : SimState) (rest : List Event) (t : SimState) (a : S) : Type 0 where
+  pub done : List Event
+  pub whole : events ≡ done ++ rest
+  pub state : t ≡ stepped_all s done
+  pub unheeded : GoUnheeded comes a s done
 
 -- The machine takes these events and the sink their notes, one event after another, up to the end
 -- or to the first event after which the sink has failed.

@@ -2,6 +2,7 @@ ghost use Rattle.std.specs.Prelude.{◌≡◌, [], ◌∷◌, List, IfSome, IfNo
 ghost use Rattle.scx_sched_machine.specs.declared.events.Event.{Event};
 ghost use Rattle.scx_sched.specs.Sim.{SimState, after_event};
 ghost use Rattle.scx_load_driver.specs.Driver as driver;
+ghost use Rattle.scx_load_driver.specs.Runs.{Skips};
 ghost use Rattle.scx_load_replay.specs.Replayer as replayer;
 ghost use Rattle.scx_load_replay.specs.Sources as sources;
 
@@ -19,6 +20,16 @@ pub trait Events {
         ensures next { IfSome result (λ event. remaining self.old sim.now
             ≡ event ∷ remaining self.new (after_event sim.now event)) }
         ensures end { IfNone result (remaining self.old sim.now ≡ []) };
+
+    /// Gives the machine, at once, events that come next and of which nothing is noted, for a machine that took exactly
+    /// the events before them; or none.
+    #[inline(always)]
+    #[tactic(auto, using(scx_load_driver::proofs::Passing::skips_none))]
+    fn skip(&mut self, sim: &mut Sim)
+        ensures { Skips (remaining self.old sim.old) sim.old (remaining self.new sim.new) sim.new }
+    {
+        let _sim = sim;
+    }
 }
 
 impl Events for Driver {
@@ -27,6 +38,11 @@ impl Events for Driver {
     #[inline(always)]
     fn next(&mut self, sim: &Sim) -> Option<Event> {
         Driver::next(self, sim)
+    }
+
+    #[inline(always)]
+    fn skip(&mut self, sim: &mut Sim) {
+        Driver::skip(self, sim);
     }
 }
 
@@ -44,5 +60,10 @@ impl Events for Source {
     #[inline(always)]
     fn next(&mut self, sim: &Sim) -> Option<Event> {
         Source::next(self, sim)
+    }
+
+    #[inline(always)]
+    fn skip(&mut self, sim: &mut Sim) {
+        Source::skip(self, sim);
     }
 }

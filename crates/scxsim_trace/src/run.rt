@@ -5,7 +5,7 @@ ghost use Rattle.scxsim_trace.specs.Lines.{note_lines};
 ghost use Rattle.scx_load_driver.specs.Runs.{notes_of_all, stepped_all};
 ghost use Rattle.scx_sched_machine.specs.Notes.{Takes};
 ghost use Rattle.scx_sched.specs.Sim.{after_event, notes_of};
-ghost use Rattle.scxsim_trace.specs.Runs.{IsInOrder, GoesWell, StaysInOrder, Observed, StopsAtFailure};
+ghost use Rattle.scxsim_trace.specs.Runs.{IsInOrder, GoesWell, StaysInOrder, Observed, PassesBy, StopsAtFailure};
 
 use crate::event_sink::EventSink;
 use crate::events::Events;
@@ -27,9 +27,10 @@ fn step<S: Sink>(sim: &mut Sim, event: Event, sink: &mut S)
 }
 
 /// Gives an event to the machine. Most events are ticks and clocks; each has a call of its own, which is compiled
-/// for that event.
+/// for that event. All three are compiled anew for each list of events: each time they have one caller, and become
+/// part of it.
 #[inline(always)]
-fn take<S: Sink>(sim: &mut Sim, event: Event, sink: &mut S)
+fn take<E: Events, S: Sink>(sim: &mut Sim, event: Event, sink: &mut S)
     ensures state { sim.new ≡ after_event sim.old event }
     ensures notes { Takes S.takes sink.old (notes_of sim.old event) sink.new }
     ensures well { GoesWell sim.old event }
@@ -39,6 +40,19 @@ fn take<S: Sink>(sim: &mut Sim, event: Event, sink: &mut S)
         Event::Tick(cpu) => step(sim, Event::Tick(cpu), sink),
         Event::Clock => step(sim, Event::Clock, sink),
         other => step(sim, other, sink),
+    }
+}
+
+/// After the clock, gives the machine at once events that come next and of which nothing is noted, unless the sink is
+/// to be shown them.
+#[inline(always)]
+#[tactic(auto, using(crate::proofs::Going::none_by, crate::proofs::Going::skips_by))]
+fn pass_by<E: Events, S: EventSink>(sim: &mut Sim, event: Event, events: &mut E, sink: &S)
+    ensures { PassesBy S.comes (E.remaining events.old sim.old) sim.old
+        (E.remaining events.new sim.new) sim.new sink.now }
+{
+    if event == Event::Clock && !sink.heeds_time() {
+        events.skip(sim);
     }
 }
 
@@ -52,10 +66,11 @@ pub fn go_through<E: Events, S: EventSink>(sim: &mut Sim, events: &mut E, sink: 
     sim.is_sound();
     while let Some(event) = events.next(sim) {
         sink.event(sim, event);
-        take(sim, event, sink);
+        take::<E, S>(sim, event, sink);
         if sink.failed() {
             return;
         }
+        pass_by(sim, event, events, sink);
     }
 }
 

@@ -69,4 +69,9 @@ impl<N: Names, W: Out> EventSink for Trace<'_, N, W> {
 
     #[inline(always)]
     fn event(&mut self, _sim: &Sim, _event: Event) {}
+
+    #[inline(always)]
+    fn heeds_time(&self) -> bool {
+        false
+    }
 }
