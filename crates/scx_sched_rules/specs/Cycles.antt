@@ -174,7 +174,7 @@ pub data Dispatches (s : State) (c : ℕ) (p : Option ℕ) (r : Stepped) : Type 
       → r ≡ one_after_other called supplied → Dispatches s c p r
   Kept_then : CallsDispatch s c p r → KeepsSlice r.state p → Dispatches s c p r
 
--- so many calls at most: one more where the local queue is still empty, the last call moved a task,
+-- at most that many calls: one more if the local queue is still empty, the last call moved a task,
 -- and the task before doesn't keep its slice
 pub data Asks : ℕ → State → ℕ → Option ℕ → Stepped → Type 0 where
   Enough : (s : State) (c : ℕ) (p : Option ℕ) (r : Stepped) → r ≡ stays s → Asks 0 s c p r

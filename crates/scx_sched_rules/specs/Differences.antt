@@ -131,7 +131,9 @@ pub data GivesWay (s : State) (p : Option ℕ) : Type 0 where
 pub data Switches (s : State) (t : ℕ) (v : State) : Type 0 where
   SwitchesByPlain : is_by_linux s ≡ false → v ≡ s → Switches s t v
   SwitchesExactly : s.policy.tick_ms ≡ 0 → v ≡ s → Switches s t v
-  TakesTime : is_by_linux s ≡ true → 0 < s.policy.tick_ms → v ≡ with_world s (after_switch s.world t)
+  TakesTime :
+      is_by_linux s ≡ true
+      → 0 < s.policy.tick_ms → v ≡ with_world s (after_switch s.world t)
       → Switches s t v
 
 -- a slice that is used up ends at once, or, under Linux rules, at the next tick (ext.c,

@@ -48,7 +48,9 @@ select_answered s t =
 -- where there is no such callback, or the policy is ejected, as it is by an answer that is no
 -- processor
 pub data IsTarget (s : State) (t : ℕ) (answer : Option ℕ) (c : ℕ) : Type 0 where
-  Is_ejected : (x : Eject) → s.world.ejected ≡ Some x → IsDefault s.world t c → IsTarget s t answer c
+  Is_ejected :
+      (x : Eject)
+      → s.world.ejected ≡ Some x → IsDefault s.world t c → IsTarget s t answer c
   NoCallback : s.world.ejected ≡ None → s.policy.callbacks.select_cpu ≡ None → IsDefault s.world t c
       → IsTarget s t answer c
   Named : (p : VerifiedProgram)
@@ -206,7 +208,7 @@ pub data Ticks (s : State) (c : ℕ) (r : Stepped) : Type 0 where
 
 -- ---- the clock
 
--- of the parked, from that one on in their order, so many are looked at: who may run again is
+-- of the parked, from that one on in their order, that many are looked at: who may run again is
 -- parked no more, waits from now on, and is put as for its processor, which looks for it if it is
 -- idle
 pub data LetsGo : ℕ → State → Option ℕ → Stepped → Type 0 where

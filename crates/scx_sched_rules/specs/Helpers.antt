@@ -1,5 +1,5 @@
 -- What a helper call may do, by cases: what is wrong with it, and what it does where nothing is
--- wrong. The definitions that compute answers and worlds stand in `scx_sched_world`; a law says
+-- wrong. The definitions that compute answers and worlds are in `scx_sched_world`; a law says
 -- that they are allowed here, and that nothing else is.
 use Rattle.std.specs.Prelude.{◌≡◌, ℕ, ◌+◌, ◌-◌, ◌<◌, ◌≤◌, ◌^◌, ◌*◌, ◌%◌, true, false, List, length, Option, Some, None}
 use Rattle.std.specs.Int.{w64, bit_at, cast_signed}
@@ -74,7 +74,7 @@ pub record IsBuiltinVtime (q : ℕ) (r : Rank) : Type 0 where
   pub by_vtime : r ≡ Vtime key
   pub own : policy_end ≤ q
 
--- somebody waits in the queue who was put there in the other way
+-- a task waits in the queue that was put there in the other way
 pub record IsMixed (w : WorldState) (q : ℕ) (r : Rank) : Type 0 where
   pub task : ℕ
   pub entry : Entry
