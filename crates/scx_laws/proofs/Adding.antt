@@ -35,8 +35,8 @@ module _ (s : SimState) (e : Event) (ok : refusal s e ≡ None) (h : IsFirm s) w
   ran u = run_times s.events s.state e (accepted s e ok).taken h.fine h.there u
 
   -- if no task ran
-  nobody_ran : ((u : ℕ) → ran_in e s.state.world u ≡ 0) → run_of_all (machine.event_step s.state e).state.world ≡ run_of_all s.state.world
-  nobody_ran none = sum_same (λ (x : Task). x.run_ns) no_task before afterwards as_many (λ u. omega (arith, ran u, none u))
+  none_ran : ((u : ℕ) → ran_in e s.state.world u ≡ 0) → run_of_all (machine.event_step s.state e).state.world ≡ run_of_all s.state.world
+  none_ran none = sum_same (λ (x : Task). x.run_ns) no_task before afterwards as_many (λ u. omega (arith, ran u, none u))
 
   -- where one task ran
   one_ran : (t : ℕ) → t < length before → ran_in e s.state.world t ≡ tick_ns → ((u : ℕ) → (u ≡ t → ⊥) → ran_in e s.state.world u ≡ 0) → run_of_all (machine.event_step s.state e).state.world ≡ run_of_all s.state.world + tick_ns
@@ -47,7 +47,7 @@ grows_at_tick : (s : SimState) (c : ℕ) → refusal s (Tick c) ≡ None → IsF
 grows_at_tick s c ok h = go (running s.state.world c) refl (is_taken s.state (Tick c) (accepted s (Tick c) ok).taken)
   where
     go : (o : Option ℕ) → running s.state.world c ≡ o → IsTaken s.state (Tick c) → run_of_all (machine.event_step s.state (Tick c)).state.world ≡ run_of_all s.state.world + tick_ns * one_if (is_some o)
-    go None at taken = omega (arith, nobody_ran s (Tick c) ok h (λ u. rw at refl))
+    go None at taken = omega (arith, none_ran s (Tick c) ok h (λ u. rw at refl))
     go (Some t) at (Ticks _ l) =
         let within = known_running (length s.state.world.tasks) s.events s.events s.state.world c t l at h.fine in
         omega (arith, one_ran s (Tick c) ok h t within (rw (at, eq-eqb t t refl) refl) (λ u apart. rw (at, ne_eqb u t apart) refl))
@@ -55,11 +55,11 @@ grows_at_tick s c ok h = go (running s.state.world c) refl (is_taken s.state (Ti
 -- an accepted event
 grows_at : (s : SimState) (e : Event) → refusal s e ≡ None → IsFirm s → run_of_all (machine.event_step s.state e).state.world ≡ run_of_all s.state.world + tick_ns * busy_if None s e
 grows_at s (Tick c) ok h = grows_at_tick s c ok h
-grows_at s (Wake t) ok h = omega (arith, nobody_ran s (Wake t) ok h (λ u. refl))
-grows_at s (Sleep t) ok h = omega (arith, nobody_ran s (Sleep t) ok h (λ u. refl))
-grows_at s Clock ok h = omega (arith, nobody_ran s Clock ok h (λ u. refl))
-grows_at s (SetWeight g x) ok h = omega (arith, nobody_ran s (SetWeight g x) ok h (λ u. refl))
-grows_at s (SetTaskWeight t x) ok h = omega (arith, nobody_ran s (SetTaskWeight t x) ok h (λ u. refl))
+grows_at s (Wake t) ok h = omega (arith, none_ran s (Wake t) ok h (λ u. refl))
+grows_at s (Sleep t) ok h = omega (arith, none_ran s (Sleep t) ok h (λ u. refl))
+grows_at s Clock ok h = omega (arith, none_ran s Clock ok h (λ u. refl))
+grows_at s (SetWeight g x) ok h = omega (arith, none_ran s (SetWeight g x) ok h (λ u. refl))
+grows_at s (SetTaskWeight t x) ok h = omega (arith, none_ran s (SetTaskWeight t x) ok h (λ u. refl))
 
 -- any event
 grows : (s : SimState) (e : Event) → IsFirm s → run_of_all (after_event s e).state.world ≡ run_of_all s.state.world + tick_ns * busy_if (refusal s e) s e

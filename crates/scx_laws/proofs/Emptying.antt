@@ -59,21 +59,21 @@ use Rattle.scx_laws.specs.Serving.{after_serving, ServesQueues}
 -- ---- what is shown
 
 -- no task that may run on the processor waits in these queues
-abbrev pub NobodyNext : ℕ → List ℕ → WorldState → Type 0
-NobodyNext c qs w = AllByRecursion (λ q. next_for w q c ≡ None) qs
+abbrev pub NoneNext : ℕ → List ℕ → WorldState → Type 0
+NoneNext c qs w = AllByRecursion (λ q. next_for w q c ≡ None) qs
 
 -- nor if its own queue is empty and the policy is in force
-abbrev Empties : List ℕ → ℕ → WorldState → Type 0
-Empties qs c w = w.ejected ≡ None → local_len w c ≡ 0 → NobodyNext c qs w
+abbrev pub Empties : List ℕ → ℕ → WorldState → Type 0
+Empties qs c w = w.ejected ≡ None → local_len w c ≡ 0 → NoneNext c qs w
 
 -- nor if the processor is idle, and its own queue and that of all processors are empty
 abbrev pub EmptiesIfIdle : List ℕ → ℕ → WorldState → Type 0
-EmptiesIfIdle qs c w = w.ejected ≡ None → is_none (running w c) ≡ true → (local_len w c ≡ 0) × NobodyNext c (global ∷ qs) w
+EmptiesIfIdle qs c w = w.ejected ≡ None → is_none (running w c) ≡ true → (local_len w c ≡ 0) × NoneNext c (global ∷ qs) w
 
 -- a dispatch that serves these queues changes nothing of a world if no task waits in them; else a task comes to
 -- the processor's own queue, or the callback has a fault
 data IsServed (qs : List ℕ) (c : ℕ) (w v : WorldState) : Type 0 where
-  Vain : v ≡ w → NobodyNext c qs w → IsServed qs c w v
+  Vain : v ≡ w → NoneNext c qs w → IsServed qs c w v
   Brought : 0 < local_len v c → IsServed qs c w v
   Failed : (x : Cause) → v.call.cause ≡ Some x → IsServed qs c w v
 
@@ -92,14 +92,14 @@ shared_on qs s r honest h = record {
 }
 
 -- who is out of force stays so
-out_stays : (s : State) (r : Stepped) → IsHonest s r → is_some s.world.ejected ≡ true → r.state.world.ejected ≡ None → ⊥
+pub out_stays : (s : State) (r : Stepped) → IsHonest s r → is_some s.world.ejected ≡ true → r.state.world.ejected ≡ None → ⊥
 out_stays s r honest out force = go s.world.ejected refl out
   where
     go : (o : Option Eject) → s.world.ejected ≡ o → is_some o ≡ true → ⊥
     go None e x = absurd (cc)
     go (Some x) e y = apart r.state.world.ejected x force (honest.stays x e)
 
-busy : (qs : List ℕ) (c : ℕ) (w : WorldState) → is_none (running w c) ≡ false → EmptiesIfIdle qs c w
+pub busy : (qs : List ℕ) (c : ℕ) (w : WorldState) → is_none (running w c) ≡ false → EmptiesIfIdle qs c w
 busy qs c w e force idle = let bad : false ≡ true = sym e ∙ idle in absurd (cc)
 
 -- by plain rules each task leaves
@@ -178,10 +178,10 @@ module _ (qs : List ℕ) (n e : ℕ) (c : ℕ) where
       go false x (Some t) f empty = absurd (omega (arith, empty, longer m on w q t l f h))
 
   -- the global queue is empty too, once the local one was filled from there
-  fill_empties : (m : ℕ) (on : List (Option ℕ)) (s : State) → c < length on → IsFine n e m None on s.world → Empties qs c s.world → Empties (global ∷ qs) c (fill s global c).state.world
+  pub fill_empties : (m : ℕ) (on : List (Option ℕ)) (s : State) → c < length on → IsFine n e m None on s.world → Empties qs c s.world → Empties (global ∷ qs) c (fill s global c).state.world
   fill_empties m on s l h y force empty =
       let v = fill_leaves m on s global l h empty in
-      subst (λ (u : WorldState). NobodyNext c (global ∷ qs) u) (sym v.2) (v.0, y (ap (λ (u : WorldState). u.ejected) (sym v.2) ∙ force) v.1)
+      subst (λ (u : WorldState). NoneNext c (global ∷ qs) u) (sym v.2) (v.0, y (ap (λ (u : WorldState). u.ejected) (sym v.2) ∙ force) v.1)
 
   -- ---- dispatch
 
@@ -223,7 +223,7 @@ module _ (qs : List ℕ) (n e : ℕ) (c : ℕ) where
   served_empties s v (Brought some) = ended_empties s v (λ force empty. absurd (omega (arith, empty, some)))
   served_empties s v (Failed x e) = subst (λ (k : Option Cause). Empties qs c (ejected_for (or_cause k None) (after_callback s.policy (record { answer = Some 0; maps = s.maps; outside = v }))).state.world) (sym e) (λ force empty. absurd (out_for (after_callback s.policy (record { answer = Some 0; maps = s.maps; outside = v })) x force))
 
-  called_empties : (m : ℕ) (on : List (Option ℕ)) (s : State) (o : Option ℕ) → c < length on → ServesQueues qs s.policy → s.world.ejected ≡ None → IsFine n e m None on s.world → Empties qs c (call_back s callback.Dispatch (cpu_and_task c o) 0 c).state.world
+  pub called_empties : (m : ℕ) (on : List (Option ℕ)) (s : State) (o : Option ℕ) → c < length on → ServesQueues qs s.policy → s.world.ejected ≡ None → IsFine n e m None on s.world → Empties qs c (call_back s callback.Dispatch (cpu_and_task c o) 0 c).state.world
   unfolding call_back
   called_empties m on s o l serves force h =
       let a = cpu_and_task c o in
@@ -243,7 +243,7 @@ module _ (qs : List ℕ) (n e : ℕ) (c : ℕ) where
       ∙ ap (λ b. (if b then stays r.state else supply r.state c).state) (kept_by_none r.state p still)
 
   module _ (m : ℕ) (on : List (Option ℕ)) (l : c < length on) where
-    -- a dispatch and the supply behind it
+    -- a dispatch and the supply after it
     dispatched_is : (s : State) (p : Option ℕ) → IsHonest s (one_after_other (call_back s callback.Dispatch (cpu_and_task c (told_of s p)) 0 c) (supply (call_back s callback.Dispatch (cpu_and_task c (told_of s p)) 0 c).state c))
     dispatched_is s p =
         let r = call_back s callback.Dispatch (cpu_and_task c (told_of s p)) 0 c in
@@ -290,7 +290,7 @@ module _ (qs : List ℕ) (n e : ℕ) (c : ℕ) where
 
   -- ---- who comes to run
 
-  start_busy : (m : ℕ) (on : List (Option ℕ)) (s : State) → c < length on → get_or on c None ≡ None → IsClear c s.world → IsFine n e m None on s.world → 0 < local_len s.world c → is_none (running (run_front s c).state.world c) ≡ false
+  pub start_busy : (m : ℕ) (on : List (Option ℕ)) (s : State) → c < length on → get_or on c None ≡ None → IsClear c s.world → IsFine n e m None on s.world → 0 < local_len s.world c → is_none (running (run_front s c).state.world c) ≡ false
   unfolding run_front
   start_busy m on s l free clear-now h some = go (front_of s.world.queues (local_on c)) refl
     where
@@ -303,7 +303,7 @@ module _ (qs : List ℕ) (n e : ℕ) (c : ℕ) where
           let x = keeps_running_on n (IsFine n e) (fine_steps n e) m None (set on c (Some t)) (switched v t) c t l' y in
           rw (x.sound.cpus, get_or-set_same on c (Some t) None l) refl
 
-  out_empties : (s : State) (r : Stepped) → IsHonest s r → is_some s.world.ejected ≡ true → EmptiesIfIdle qs c r.state.world
+  pub out_empties : (s : State) (r : Stepped) → IsHonest s r → is_some s.world.ejected ≡ true → EmptiesIfIdle qs c r.state.world
   out_empties s r honest out force idle = absurd (out_stays s r honest out force)
 
   -- the local queue is empty once the task before has left only where the policy is out of force
@@ -319,14 +319,14 @@ module _ (qs : List ℕ) (n e : ℕ) (c : ℕ) where
       go true z = busy qs c (run_front s c).state.world (start_busy m on s l free ready.clear h (some_local (local_len s.world c) (local_len s.world c == 0) refl z))
       go false z = out_empties s (builtin_cycle s c None ran) (honest_builtin_cycle s c None ran) (out (no_local (local_len s.world c) (local_len s.world c == 0) refl z) s.world.ejected refl)
 
-  pick_empties : (m : ℕ) (on : List (Option ℕ)) (s : State) (p : Option ℕ) (ran : Bool) → is_by_linux s ≡ false → c < length on → IsKnown n p → get_or on c None ≡ p → has_local s c ≡ true → IsClear c s.world → IsFine n e m None on s.world → EmptiesIfIdle qs c (pick s c p ran).state.world
+  pub pick_empties : (m : ℕ) (on : List (Option ℕ)) (s : State) (p : Option ℕ) (ran : Bool) → is_by_linux s ≡ false → c < length on → IsKnown n p → get_or on c None ≡ p → has_local s c ≡ true → IsClear c s.world → IsFine n e m None on s.world → EmptiesIfIdle qs c (pick s c p ran).state.world
   pick_empties m on s p ran plain l known runs some clear-now h =
       let x = keeps_leave n (IsFine n e) (fine_inside n e) m on s c p l known runs h in
       let ready = ready_leave n (IsFine n e) (fine_steps n e) (fine_inside n e).sound c m on s c p (plain_leaves s p plain) l known runs h (record { clear = clear-now; some = λ force. some_local (local_len s.world c) (local_len s.world c == 0) refl some }) in
       subst (λ (v : State). EmptiesIfIdle qs c v.world) (sym (pick_plain s c p ran plain))
       (start_or_cycle_empties (once_for p m) x.0 (leave s c p).state ran x.2 x.3 ready x.1)
 
-  rest_empties : (s : State) (p : Option ℕ) (ran : Bool) → EmptiesIfIdle qs c s.world → EmptiesIfIdle qs c (rest s c p ran).state.world
+  pub rest_empties : (s : State) (p : Option ℕ) (ran : Bool) → EmptiesIfIdle qs c s.world → EmptiesIfIdle qs c (rest s c p ran).state.world
   unfolding rest switched
   rest_empties s None ran h = h
   rest_empties s (Some t) ran h =
@@ -404,7 +404,7 @@ tick_empties qs n e s c such l h = go (running s.world c) refl
   where
     go : (o : Option ℕ) → running s.world c ≡ o → EmptiesIfIdle qs c (tick_of o s c).state.world
     go None at = subst (λ b. EmptiesIfIdle qs c (if b then stays s else cycle s c None false).state.world) (sym such.plain) (cycle_empties qs n e c e s.world.cpus s None false such l tt at h)
-    go (Some t) at = subst (λ (r : Stepped). EmptiesIfIdle qs c (use_up r.state c t).state.world) (sym (heard_plain (with_world s (after_tick s.world t)) c t such.plain)) (by (is_throttled v.world t) refl nobody)
+    go (Some t) at = subst (λ (r : Stepped). EmptiesIfIdle qs c (use_up r.state c t).state.world) (sym (heard_plain (with_world s (after_tick s.world t)) c t such.plain)) (by (is_throttled v.world t) refl unthrottled)
       where
         v : State
         v = with_world s (used_ms (after_tick s.world t) t)
@@ -421,8 +421,8 @@ tick_empties qs n e s c such l h = go (running s.world c) refl
         used : IsShared qs v
         used = keeps_if (λ (w : WorldState). IsShared qs (with_world s w)) (nat_lt t (length (after_tick s.world t).tasks)) _ (after_tick s.world t) (record { serves = such.serves; plain = such.plain; free = such.free }) (record { serves = such.serves; plain = such.plain; free = such.free })
 
-        nobody : is_throttled v.world t ≡ false
-        nobody = no_test (nat_lt t (length v.world.tasks)) (limits.is_throttled v.world.tree t) (none_throttled v.world.tree t used.free)
+        unthrottled : is_throttled v.world t ≡ false
+        unthrottled = no_test (nat_lt t (length v.world.tasks)) (limits.is_throttled v.world.tree t) (none_throttled v.world.tree t used.free)
           where
             no_test : (a b : Bool) → b ≡ false → (a && b) ≡ false
             no_test true b z = z

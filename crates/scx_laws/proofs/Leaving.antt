@@ -38,7 +38,7 @@ use Rattle.scx_sched.proofs.Unchanged.{same_called}
 use Rattle.scx_laws.specs.Runs.{IsBegun, after_events}
 use Rattle.scx_laws.specs.Serving.{ServesQueues, IdlesForNobody, looks, StepLeavesNobody, NobodyIsLeft}
 use Rattle.scx_laws.proofs.Sound.{as_many, IsFirm, firm_first, firm_step}
-use Rattle.scx_laws.proofs.Emptying.{NobodyNext, EmptiesIfIdle, IsShared, tick_empties, IsSlept, sleep_empties}
+use Rattle.scx_laws.proofs.Emptying.{NoneNext, EmptiesIfIdle, IsShared, tick_empties, IsSlept, sleep_empties}
 
 -- ---- one tick
 
@@ -49,21 +49,21 @@ rules_plain true None e force = absurd (cc)
 rules_plain true (Some x) e force = absurd (cc)
 
 -- where tasks aren't bound, a queue of which no processor sees a task is empty
-nobody_in : (w : WorldState) (q c : ℕ) → binds w ≡ false → next_for w q c ≡ None → len_of w.queues q ≡ 0
-nobody_in w q c free none = no_front_is_empty w.queues q (sym (ap (λ b. front_of (if b then only (λ t. is_in_mask w.tree t c) w.queues else w.queues) q) free) ∙ none)
+none_in : (w : WorldState) (q c : ℕ) → binds w ≡ false → next_for w q c ≡ None → len_of w.queues q ≡ 0
+none_in w q c free none = no_front_is_empty w.queues q (sym (ap (λ b. front_of (if b then only (λ t. is_in_mask w.tree t c) w.queues else w.queues) q) free) ∙ none)
 
 -- nor are those in which none sees a task
-nobody_in_any : (w : WorldState) (c : ℕ) (qs : List ℕ) → binds w ≡ false → NobodyNext c qs w → AllByRecursion (λ q. len_of w.queues q ≡ 0) qs
-nobody_in_any w c [] free none = tt
-nobody_in_any w c (q ∷ qs) free none = (nobody_in w q c free none.0, nobody_in_any w c qs free none.1)
+none_in_any : (w : WorldState) (c : ℕ) (qs : List ℕ) → binds w ≡ false → NoneNext c qs w → AllByRecursion (λ q. len_of w.queues q ≡ 0) qs
+none_in_any w c [] free none = tt
+none_in_any w c (q ∷ qs) free none = (none_in w q c free none.0, none_in_any w c qs free none.1)
 
 -- what was shown, in the words of the law
-nobody_waits : (qs : List ℕ) (s : State) (c : ℕ) → is_by_linux s ≡ false → EmptiesIfIdle qs c s.world → IdlesForNobody qs s.world c
-nobody_waits qs s c plain h force idle =
+none_waits : (qs : List ℕ) (s : State) (c : ℕ) → is_by_linux s ≡ false → EmptiesIfIdle qs c s.world → IdlesForNobody qs s.world c
+none_waits qs s c plain h force idle =
     let w = s.world in
     let x = h force (ap (λ o. is_none o) idle) in
     let unbound : binds w ≡ false = ap (λ b. b && groups-of.binds w.tree) (rules_plain (are_linux w.rules) w.ejected plain force) in
-    record { served = nobody_in_any w c qs unbound x.1.1; local = x.0; global = nobody_in w global c unbound x.1.0 }
+    record { served = none_in_any w c qs unbound x.1.1; local = x.0; global = none_in w global c unbound x.1.0 }
 
 -- by plain rules no round follows
 no_round : (r : Stepped) → is_by_linux r.state ≡ false → with_rounds r ≡ r
@@ -71,9 +71,9 @@ unfolding with_rounds
 no_round r plain = ap (λ b. if b then one_after_other r (rounds most_rounds r.state) else r) plain
 
 -- the law of a step
-pub step_leaves_nobody : StepLeavesNobody
+pub step_leaves_none : StepLeavesNobody
 unfolding sleep
-step_leaves_nobody qs n e s v c serves plain free h ok at = go v (is_taken s v ok) at
+step_leaves_none qs n e s v c serves plain free h ok at = go v (is_taken s v ok) at
   where
     such : IsShared qs s
     such = record { serves = serves; plain = plain; free = free }
@@ -84,14 +84,14 @@ step_leaves_nobody qs n e s v c serves plain free h ok at = go v (is_taken s v o
     ticked : (d : ℕ) → d < length s.world.cpus → IdlesForNobody qs (machine.event_step s (Tick d)).state.world d
     ticked d l =
         let still = tick_plain s e (as_many n e s.world h) d l plain in
-        subst (λ (r : Stepped). IdlesForNobody qs r.state.world d) (sym (no_round (tick s d) still)) (nobody_waits qs (tick s d).state d still (tick_empties qs n e s d such l h))
+        subst (λ (r : Stepped). IdlesForNobody qs r.state.world d) (sym (no_round (tick s d) still)) (none_waits qs (tick s d).state d still (tick_empties qs n e s d such l h))
 
     slept : (t : ℕ) → t < length s.world.tasks → cpu_of s.world t ≡ Some c → IdlesForNobody qs (machine.event_step s (Sleep t)).state.world c
     slept t within runs =
         let x = position-Some (is_this t) s.world.cpus c None runs in
         let y = sleep_empties qs n e s t c such (omega (arith, within, h.sound.tasks)) x.0 (is_task t (get_or s.world.cpus c None) x.1) h in
         let own : IsSlept qs (sleep s t).state c = subst (λ o. IsSlept qs (sleep_from o s t).state c) (sym runs) y in
-        subst (λ (r : Stepped). IdlesForNobody qs r.state.world c) (sym (no_round (sleep s t) own.plain)) (nobody_waits qs (sleep s t).state c own.plain own.empties)
+        subst (λ (r : Stepped). IdlesForNobody qs r.state.world c) (sym (no_round (sleep s t) own.plain)) (none_waits qs (sleep s t).state c own.plain own.empties)
 
     go : (v : Event) → IsTaken s v → looks s.world v ≡ Some c → IdlesForNobody qs (machine.event_step s v).state.world c
     go _ (Ticks d l) at = subst (λ k. IdlesForNobody qs (machine.event_step s (Tick d)).state.world k) (same d c at) (ticked d l)
@@ -117,7 +117,7 @@ free_used None t free = free
 free_used (Some k) t free = free
 
 -- an event gives no group a quota
-free_after : (e : Event) (w : WorldState) → has_quota w.tree.groups ≡ false → has_quota (tree_after e w).groups ≡ false
+pub free_after : (e : Event) (w : WorldState) → has_quota w.tree.groups ≡ false → has_quota (tree_after e w).groups ≡ false
 free_after (Wake t) w free = free
 free_after (Sleep t) w free = free
 free_after (Tick c) w free = free_used (running w c) w.tree free
@@ -135,7 +135,7 @@ record IsSteady (qs : List ℕ) (s : SimState) : Type 0 where
   firm : IsFirm s
 
 -- no machine begins with a quota that its tree hasn't
-free_first : (p : PolicyState) (tree : Hierarchy) (cpus : ℕ) (s : State) → has_quota tree.groups ≡ false → first_state p tree cpus ≡ Ok s → has_quota s.world.tree.groups ≡ false
+pub free_first : (p : PolicyState) (tree : Hierarchy) (cpus : ℕ) (s : State) → has_quota tree.groups ≡ false → first_state p tree cpus ≡ Ok s → has_quota s.world.tree.groups ≡ false
 free_first p tree cpus s free e =
     keeps_started cpus (λ v. has_quota v.world.tree.groups ≡ false) (λ v b a u c any h. ap (λ (t : Hierarchy). has_quota t.groups) (same_called (acting v b) b a v.maps (at_callback v.world b u c)).3 ∙ h) (λ v h. h) p tree s e
     (keeps_homes (λ v. has_quota v.tree.groups ≡ false) (λ v u c l same. same) (begun_periods (by_policy p (first_world tree cpus))) free)
@@ -170,11 +170,11 @@ steady_after qs s (e ∷ es) h = steady_after qs (after_event s e) es (steady_st
 steady_event : (qs : List ℕ) (s : SimState) (v : Event) (c : ℕ) → refusal s v ≡ None → looks s.state.world v ≡ Some c → IsSteady qs s → IdlesForNobody qs (machine.event_step s.state v).state.world c
 steady_event qs s v c ok at h =
     let plain : is_by_linux s.state ≡ false = ap (λ (r : Rules). are_linux r && is_none s.state.world.ejected) h.rules in
-    step_leaves_nobody qs (length s.state.world.tasks) s.events s.state v c h.serves plain h.free h.firm.fine (accepted s v ok).taken at
+    step_leaves_none qs (length s.state.world.tasks) s.events s.state v c h.serves plain h.free h.firm.fine (accepted s v ok).taken at
 
 -- the law of all events
-pub nobody_is_left : NobodyIsLeft
-nobody_is_left qs p tree cpus s events v c serves plain free b ok at =
+pub none_is_left : NobodyIsLeft
+none_is_left qs p tree cpus s events v c serves plain free b ok at =
     let t = after_events s events in
     subst (λ (o : Option Refused). IdlesForNobody qs (stepped_if o t v).state.world c) (sym ok)
     (steady_event qs t v c ok at (steady_after qs s events (steady_first qs p tree cpus s serves plain free b)))

@@ -32,7 +32,7 @@ abbrev left_with : Maps → WorldState → Ending WorldState
 left_with maps w = record { answer = Some 0; maps = maps; outside = w }
 
 -- the last queue is served in any case
-last_served : (w : WorldState) (q : ℕ) → after_move w q ≡ after_serving (q ∷ []) w
+pub last_served : (w : WorldState) (q : ℕ) → after_move w q ≡ after_serving (q ∷ []) w
 last_served w q = go (can_move w q) (next_for w q w.call.cpu)
   where
     go : (b : Bool) (o : Option ℕ) → (if b then moved_to_local w o else with_fault w NoSuchQueue) ≡ (if b && is_none o then w else (if b then moved_to_local w o else with_fault w NoSuchQueue))

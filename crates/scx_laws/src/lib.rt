@@ -4,10 +4,18 @@
 //! instructions of its programs, as `examples/policies` has them.
 #![tactic(auto)]
 
+mod bounds;
+mod lines;
+mod looking;
 mod recognizing;
 mod runs;
 mod serving;
+mod throttling;
 
+pub use bounds::waits_are_bounded;
+pub use lines::{lines_are_kept, nobody_overtakes, only_waits_eject, texts_say_lines};
+pub use looking::cpus_that_look_find_tasks;
 pub use recognizing::serves_queue_0;
 pub use runs::time_adds_up;
 pub use serving::{no_processor_idles_beside_served_queues, queues_are_served, texts_say_programs};
+pub use throttling::throttled_tasks_stop;
