@@ -209,7 +209,7 @@ module _ (c : ℕ) where
       go : (o : Option ℕ) → front_of w.queues (local_on c) ≡ o → IsReady c (with_queues (with_task w t (task_after_insert (task_at w t) i)) s)
       go None e = absurd (omega (arith, h.some force, no_front_is_empty w.queues (local_on c) e))
       go (Some f) e = record {
-        clear = λ k there. let is : f ≡ k = same_task f k (sym (front_stays hand on n w i.queue f t r fits (goes_behind (length on) w i wanted plain sound.behind) e sound) ∙ there) in subst (λ x. is_throttled w.tree x ≡ false) is (h.clear f e);
+        clear = λ k there. let is : f ≡ k = same_task f k (sym (front_stays hand on n w i.queue f t r fits (goes_behind (length on) w i wanted plain sound.not_first) e sound) ∙ there) in subst (λ x. is_throttled w.tree x ≡ false) is (h.clear f e);
         some = λ x. omega (arith, h.some force, len_pushed w.queues i.queue (local_on c) t r);
       }
 

@@ -15,4 +15,8 @@ some_left n l few = grind (arith, nat_tests, l, few)
 pub one_less : (n : ℕ) → 0 < n → n ≤ max_events → accepted (n - 1) ≡ accepted n + 1
 one_less n l few = omega (arith, l, few)
 
+-- events that are accepted leave as many less
+pub many_less : (n k : ℕ) → k ≤ n → n ≤ max_events → accepted (n - k) ≡ accepted n + k
+many_less n k le few = omega (arith, le, few)
+
 pub ruleset counts = (none_left, some_left, one_less)

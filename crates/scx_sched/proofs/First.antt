@@ -214,7 +214,7 @@ first_is_sound p tree cpus shape flags = record {
   once = λ t. rw (nobody_runs cpus t, nowhere cpus (length tree.homes) t, sleeps t (cases_lt t (length tree.homes))) refl;
   here = record { hand = rw (length-replicate {A = Option ℕ} cpus None) shape.some; wakes = λ c e. absurd (cc); timed = λ i a e. absurd (no_alarm a (sym (none_started p.timers i) ∙ e)) };
   goes = tt;
-  behind = λ e. tt;
+  not_first = λ e. tt;
   waiting = λ t. rw (never_waited (length tree.homes) t, nowhere cpus (length tree.homes) t) refl;
   at_once = λ e. refl;
 }

@@ -51,3 +51,4 @@ pub mod Valid
 pub mod Idle
 pub mod Counted
 pub mod Resting
+pub mod Quiet

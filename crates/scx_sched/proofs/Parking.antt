@@ -33,7 +33,7 @@ module _ (on : List (Option ℕ)) (n : ℕ) where
     once = once_pushed w t parked_queue Fifo known ok h.once;
     here = h.here;
     goes = goes_on w.queues s (length on) w.call.insert (λ x k o. open_own w.queues parked_queue t Fifo x k (omega arith) refl o) h.goes;
-    behind = h.behind;
+    not_first = h.not_first;
     waiting = set_since w s (Some t) None t _ (rw h.tasks within) (rw here refl) (λ u d. rw (ne_eqb u t d) (ap (λ (o : Option Entry). waits_in (option_map (λ p. p.queue) o) || false) (sym (pushed_other w.queues parked_queue t u Fifo d)))) h.waiting;
     at_once = h.at_once;
   }
@@ -65,7 +65,7 @@ module _ (on : List (Option ℕ)) (n : ℕ) where
     once = λ u. omega (arith, h.once u, standing_removed w.queues t u place.1);
     here = h.here;
     goes = goes_on w.queues s (length on) w.call.insert (λ x k o. open_removed w.queues t x k o) h.goes;
-    behind = h.behind;
+    not_first = h.not_first;
     waiting = waits_by_sum (Some t) (after_leave w t) (λ u. omega (arith, waits_sum None w h.once h.waiting u, waiting_left w.queues s t u (place_waits_here w.queues q t e apart) (removed_place w.queues t place.1 place.0) (λ k d. removed_other w.queues t k d)));
     at_once = h.at_once;
   }
@@ -91,7 +91,7 @@ module _ (on : List (Option ℕ)) (n : ℕ) where
     once = λ u. omega (arith, h.once u, standing_removed w.queues t u stands);
     here = h.here;
     goes = goes_on w.queues s (length on) w.call.insert (λ x k o. open_removed w.queues t x k o) h.goes;
-    behind = h.behind;
+    not_first = h.not_first;
     waiting = set_since w s None (Some t) t _ (rw h.tasks within) (rw (gone-now, eq-eqb t t refl) refl) (λ u d. rw (ne_eqb u t d) (ap (λ (o : Option Entry). waits_in (option_map (λ p. p.queue) o) || false) (sym (removed_other w.queues t u d)))) h.waiting;
     at_once = h.at_once;
   }
@@ -113,8 +113,8 @@ module _ (on : List (Option ℕ)) (n : ℕ) where
 pub sound_used_ms : (hand : Option ℕ) (on : List (Option ℕ)) (n : ℕ) (w : WorldState) (t : ℕ) → IsSound hand on n w → IsSound hand on n (used_ms w t)
 sound_used_ms hand on n w t h =
     keeps_if (IsSound hand on n) (nat_lt t (length w.tasks)) (with_tree w (with_use w.tree t)) w
-    (record { cpus = h.cpus; tasks = h.tasks; even = h.even; flags = h.flags; members = h.members; homes = h.homes; queues = h.queues; sorted = h.sorted; stamped = h.stamped; once = h.once; here = h.here; goes = h.goes; behind = h.behind; waiting = h.waiting; at_once = h.at_once }) h
+    (record { cpus = h.cpus; tasks = h.tasks; even = h.even; flags = h.flags; members = h.members; homes = h.homes; queues = h.queues; sorted = h.sorted; stamped = h.stamped; once = h.once; here = h.here; goes = h.goes; not_first = h.not_first; waiting = h.waiting; at_once = h.at_once }) h
 
 -- and periods begin
 pub sound_begun_periods : (hand : Option ℕ) (on : List (Option ℕ)) (n : ℕ) (w : WorldState) → IsSound hand on n w → IsSound hand on n (begun_periods w)
-sound_begun_periods hand on n w h = record { cpus = h.cpus; tasks = h.tasks; even = h.even; flags = h.flags; members = h.members; homes = h.homes; queues = h.queues; sorted = h.sorted; stamped = h.stamped; once = h.once; here = h.here; goes = h.goes; behind = h.behind; waiting = h.waiting; at_once = h.at_once }
+sound_begun_periods hand on n w h = record { cpus = h.cpus; tasks = h.tasks; even = h.even; flags = h.flags; members = h.members; homes = h.homes; queues = h.queues; sorted = h.sorted; stamped = h.stamped; once = h.once; here = h.here; goes = h.goes; not_first = h.not_first; waiting = h.waiting; at_once = h.at_once }

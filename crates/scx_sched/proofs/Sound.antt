@@ -76,57 +76,57 @@ module _ (hand : Option ℕ) (on : List (Option ℕ)) (n : ℕ) where
     once = λ u. omega (arith, same u, h.once u);
     here = h.here;
     goes = goes;
-    behind = h.behind;
+    not_first = h.not_first;
     waiting = λ u. h.waiting u ∙ ap (λ b. b || is_this u hand) (one_same (waits w u) (waits_in (queue_of s u)) (sym (waits-same u)));
     at_once = h.at_once;
   }
 
   sound_task : (w : WorldState) (t : ℕ) (x : Task) → x.prev_cpu ≡ (task_at w t).prev_cpu → x.since ≡ (task_at w t).since → IsSound hand on n w → IsSound hand on n (with_task w t x)
-  sound_task w t x home since h = record { cpus = h.cpus; tasks = length-set w.tasks t x ∙ h.tasks; even = h.even; flags = h.flags; members = h.members; homes = homes_set w.tasks t x (length on) (rw home (h.homes t)) h.homes; queues = h.queues; sorted = h.sorted; stamped = h.stamped; once = h.once; here = h.here; goes = h.goes; behind = h.behind; waiting = λ u. ap is_some (since_set w.tasks t x since u) ∙ h.waiting u; at_once = h.at_once }
+  sound_task w t x home since h = record { cpus = h.cpus; tasks = length-set w.tasks t x ∙ h.tasks; even = h.even; flags = h.flags; members = h.members; homes = homes_set w.tasks t x (length on) (rw home (h.homes t)) h.homes; queues = h.queues; sorted = h.sorted; stamped = h.stamped; once = h.once; here = h.here; goes = h.goes; not_first = h.not_first; waiting = λ u. ap is_some (since_set w.tasks t x since u) ∙ h.waiting u; at_once = h.at_once }
 
   -- nor is any task moved by sets of processors, or by what is kept until an event ends
   pub sound_sets : (w : WorldState) (claimed kicked preempted claims : CpuSet) (passing : Passing) → WakesNoMore w.passing passing → IsSound hand on n w → IsSound hand on n (with_sets w claimed kicked preempted claims passing)
-  sound_sets w a b c d o waker h = record { cpus = h.cpus; tasks = h.tasks; even = h.even; flags = h.flags; members = h.members; homes = h.homes; queues = h.queues; sorted = h.sorted; stamped = h.stamped; once = h.once; here = record { hand = h.here.hand; wakes = λ c e. h.here.wakes c (waker c e); timed = h.here.timed }; goes = h.goes; behind = h.behind; waiting = h.waiting; at_once = h.at_once }
+  sound_sets w a b c d o waker h = record { cpus = h.cpus; tasks = h.tasks; even = h.even; flags = h.flags; members = h.members; homes = h.homes; queues = h.queues; sorted = h.sorted; stamped = h.stamped; once = h.once; here = record { hand = h.here.hand; wakes = λ c e. h.here.wakes c (waker c e); timed = h.here.timed }; goes = h.goes; not_first = h.not_first; waiting = h.waiting; at_once = h.at_once }
 
   -- nor by the processor from which a task is woken
   pub sound_waker : (w : WorldState) (o : Option ℕ) → ((c : ℕ) → o ≡ Some c → c < length on) → IsSound hand on n w → IsSound hand on n (with_waker w o)
-  sound_waker w o l h = record { cpus = h.cpus; tasks = h.tasks; even = h.even; flags = h.flags; members = h.members; homes = h.homes; queues = h.queues; sorted = h.sorted; stamped = h.stamped; once = h.once; here = record { hand = h.here.hand; wakes = l; timed = h.here.timed }; goes = h.goes; behind = h.behind; waiting = h.waiting; at_once = h.at_once }
+  sound_waker w o l h = record { cpus = h.cpus; tasks = h.tasks; even = h.even; flags = h.flags; members = h.members; homes = h.homes; queues = h.queues; sorted = h.sorted; stamped = h.stamped; once = h.once; here = record { hand = h.here.hand; wakes = l; timed = h.here.timed }; goes = h.goes; not_first = h.not_first; waiting = h.waiting; at_once = h.at_once }
 
   -- it says of the callback at hand that it moved a task, or that it didn't
   pub sound_moves : (w : WorldState) (b : Bool) → IsSound hand on n w → IsSound hand on n (with_moved w b)
-  sound_moves w b h = record { cpus = h.cpus; tasks = h.tasks; even = h.even; flags = h.flags; members = h.members; homes = h.homes; queues = h.queues; sorted = h.sorted; stamped = h.stamped; once = h.once; here = h.here; goes = h.goes; behind = h.behind; waiting = h.waiting; at_once = h.at_once }
+  sound_moves w b h = record { cpus = h.cpus; tasks = h.tasks; even = h.even; flags = h.flags; members = h.members; homes = h.homes; queues = h.queues; sorted = h.sorted; stamped = h.stamped; once = h.once; here = h.here; goes = h.goes; not_first = h.not_first; waiting = h.waiting; at_once = h.at_once }
 
   -- a timer, on a processor that is there
   pub sound_timed : (w : WorldState) (i : ℕ) (o : Option Alarm) → ((a : Alarm) → o ≡ Some a → a.cpu < length on) → IsSound hand on n w → IsSound hand on n (with_timer w i o)
-  sound_timed w i o new h = record { cpus = h.cpus; tasks = h.tasks; even = h.even; flags = h.flags; members = h.members; homes = h.homes; queues = h.queues; sorted = h.sorted; stamped = h.stamped; once = h.once; here = record { hand = h.here.hand; wakes = h.here.wakes; timed = each_written (λ u (b : Option Alarm). (a : Alarm) → b ≡ Some a → a.cpu < length on) w.timers i o None new h.here.timed }; goes = h.goes; behind = h.behind; waiting = h.waiting; at_once = h.at_once }
+  sound_timed w i o new h = record { cpus = h.cpus; tasks = h.tasks; even = h.even; flags = h.flags; members = h.members; homes = h.homes; queues = h.queues; sorted = h.sorted; stamped = h.stamped; once = h.once; here = record { hand = h.here.hand; wakes = h.here.wakes; timed = each_written (λ u (b : Option Alarm). (a : Alarm) → b ≡ Some a → a.cpu < length on) w.timers i o None new h.here.timed }; goes = h.goes; not_first = h.not_first; waiting = h.waiting; at_once = h.at_once }
 
   -- a task's own weight
   pub sound_own_weight : (w : WorldState) (t x : ℕ) → IsSound hand on n w → IsSound hand on n (after_own_weight w t x)
-  sound_own_weight w t x h = keeps_if (IsSound hand on n) (is_none (own_weight_fault w.tree t x)) (with_tree w (tree.with_own_weight w.tree t x)) w (record { cpus = h.cpus; tasks = h.tasks; even = h.even; flags = h.flags; members = h.members; homes = h.homes; queues = h.queues; sorted = h.sorted; stamped = h.stamped; once = h.once; here = h.here; goes = h.goes; behind = h.behind; waiting = h.waiting; at_once = h.at_once }) h
+  sound_own_weight w t x h = keeps_if (IsSound hand on n) (is_none (own_weight_fault w.tree t x)) (with_tree w (tree.with_own_weight w.tree t x)) w (record { cpus = h.cpus; tasks = h.tasks; even = h.even; flags = h.flags; members = h.members; homes = h.homes; queues = h.queues; sorted = h.sorted; stamped = h.stamped; once = h.once; here = h.here; goes = h.goes; not_first = h.not_first; waiting = h.waiting; at_once = h.at_once }) h
 
   -- as the processor of a task, its slice and sets of processors change, tasks stay where they are
   pub sound_marks : KeepsMarks (λ c. c < length on) (IsSound hand on n)
   sound_marks = record {
     there = λ w c h l. rw (← h.cpus) l;
-    homed = λ w t c l h. record { cpus = h.cpus; tasks = length-set w.tasks t (with_home (task_at w t) c) ∙ h.tasks; even = h.even; flags = h.flags; members = h.members; homes = homes_set w.tasks t (with_home (task_at w t) c) (length on) l h.homes; queues = h.queues; sorted = h.sorted; stamped = h.stamped; once = h.once; here = h.here; goes = h.goes; behind = h.behind; waiting = λ u. ap is_some (since_set w.tasks t (with_home (task_at w t) c) refl u) ∙ h.waiting u; at_once = h.at_once };
+    homed = λ w t c l h. record { cpus = h.cpus; tasks = length-set w.tasks t (with_home (task_at w t) c) ∙ h.tasks; even = h.even; flags = h.flags; members = h.members; homes = homes_set w.tasks t (with_home (task_at w t) c) (length on) l h.homes; queues = h.queues; sorted = h.sorted; stamped = h.stamped; once = h.once; here = h.here; goes = h.goes; not_first = h.not_first; waiting = λ u. ap is_some (since_set w.tasks t (with_home (task_at w t) c) refl u) ∙ h.waiting u; at_once = h.at_once };
     sliced = λ w t k h. sound_task w t (with_slice (task_at w t) k) refl refl h;
     sets = λ w a b c d h. sound_sets w a b c d w.passing (λ c e. e) h;
   }
 
   -- notes that are handed on
   pub sound_quiet : (w : WorldState) → IsSound hand on n w → IsSound hand on n (quiet w)
-  sound_quiet w h = record { cpus = h.cpus; tasks = h.tasks; even = h.even; flags = h.flags; members = h.members; homes = h.homes; queues = h.queues; sorted = h.sorted; stamped = h.stamped; once = h.once; here = h.here; goes = h.goes; behind = h.behind; waiting = h.waiting; at_once = h.at_once }
+  sound_quiet w h = record { cpus = h.cpus; tasks = h.tasks; even = h.even; flags = h.flags; members = h.members; homes = h.homes; queues = h.queues; sorted = h.sorted; stamped = h.stamped; once = h.once; here = h.here; goes = h.goes; not_first = h.not_first; waiting = h.waiting; at_once = h.at_once }
 
   -- a cycle that begins or ends
   pub sound_cycling : (w : WorldState) (o : Option ℕ) → IsSound hand on n w → IsSound hand on n (with_cycling w o)
   sound_cycling w o h = kept_cycling (IsSound hand on n) (λ v p a x waker h. kept_so v p a x waker h) w o h
     where
       kept_so : KeepsCycles (IsSound hand on n)
-      kept_so v p a x waker h = record { cpus = h.cpus; tasks = h.tasks; even = h.even; flags = h.flags; members = h.members; homes = h.homes; queues = h.queues; sorted = h.sorted; stamped = h.stamped; once = h.once; here = record { hand = h.here.hand; wakes = λ c e. h.here.wakes c (waker c e); timed = h.here.timed }; goes = h.goes; behind = h.behind; waiting = h.waiting; at_once = h.at_once }
+      kept_so v p a x waker h = record { cpus = h.cpus; tasks = h.tasks; even = h.even; flags = h.flags; members = h.members; homes = h.homes; queues = h.queues; sorted = h.sorted; stamped = h.stamped; once = h.once; here = record { hand = h.here.hand; wakes = λ c e. h.here.wakes c (waker c e); timed = h.here.timed }; goes = h.goes; not_first = h.not_first; waiting = h.waiting; at_once = h.at_once }
 
   -- one that ends, of which all is known still
   pub sound_ended : (w : WorldState) → IsSound hand on n w → IsSound hand on n (out_of_cycle w)
-  sound_ended w h = record { cpus = h.cpus; tasks = h.tasks; even = h.even; flags = h.flags; members = h.members; homes = h.homes; queues = h.queues; sorted = h.sorted; stamped = h.stamped; once = h.once; here = h.here; goes = h.goes; behind = h.behind; waiting = h.waiting; at_once = h.at_once }
+  sound_ended w h = record { cpus = h.cpus; tasks = h.tasks; even = h.even; flags = h.flags; members = h.members; homes = h.homes; queues = h.queues; sorted = h.sorted; stamped = h.stamped; once = h.once; here = h.here; goes = h.goes; not_first = h.not_first; waiting = h.waiting; at_once = h.at_once }
 
   entry_created : (s : QueueState) (q u : ℕ) → entry_of (after_create s q) u ≡ entry_of s u
   entry_created s q u = keeps_if (λ (x : QueueState). entry_of x u ≡ entry_of s u) (is_none (create_refusal s q)) (with_queue s q) s refl refl
@@ -314,7 +314,7 @@ here_is_there cpus at (Some c) l wakes = wakes c refl
 module _ (hand : Option ℕ) (on : List (Option ℕ)) (n : ℕ) where
   -- what a callback does apart from tasks and queues
   sound_apart : KeepsApart (IsSound hand on n)
-  sound_apart w x m a b c d r h = record { cpus = h.cpus; tasks = h.tasks; even = h.even; flags = h.flags; members = h.members; homes = h.homes; queues = h.queues; sorted = h.sorted; stamped = h.stamped; once = h.once; here = h.here; goes = h.goes; behind = h.behind; waiting = h.waiting; at_once = h.at_once }
+  sound_apart w x m a b c d r h = record { cpus = h.cpus; tasks = h.tasks; even = h.even; flags = h.flags; members = h.members; homes = h.homes; queues = h.queues; sorted = h.sorted; stamped = h.stamped; once = h.once; here = h.here; goes = h.goes; not_first = h.not_first; waiting = h.waiting; at_once = h.at_once }
 
   -- a task goes from one queue to another
   sound_replaced : (w : WorldState) (t q : ℕ) (r : Rank) (x : Task) → x.prev_cpu ≡ (task_at w t).prev_cpu → x.since ≡ (task_at w t).since → waits_in (queue_of w.queues t) ≡ true → t < task_count w.queues → entry_of (after_remove w.queues t) t ≡ None → IsOpen w.queues q r → (q == parked_queue) ≡ false
@@ -351,7 +351,7 @@ module _ (hand : Option ℕ) (on : List (Option ℕ)) (n : ℕ) where
 
   -- what isn't of queues or tasks
   sound_moving : (w : WorldState) (x : What) → IsSound hand on n w → IsSound hand on n (with_note (with_move w) x)
-  sound_moving w x h = record { cpus = h.cpus; tasks = h.tasks; even = h.even; flags = h.flags; members = h.members; homes = h.homes; queues = h.queues; sorted = h.sorted; stamped = h.stamped; once = h.once; here = h.here; goes = h.goes; behind = h.behind; waiting = h.waiting; at_once = h.at_once }
+  sound_moving w x h = record { cpus = h.cpus; tasks = h.tasks; even = h.even; flags = h.flags; members = h.members; homes = h.homes; queues = h.queues; sorted = h.sorted; stamped = h.stamped; once = h.once; here = h.here; goes = h.goes; not_first = h.not_first; waiting = h.waiting; at_once = h.at_once }
 
   sound_inserted : (w : WorldState) (t : Option ℕ) (i : Insert) → (is_by_linux w ≡ false → IsBehind i.rank) → IsFit w t i → IsSound hand on n w → IsSound hand on n (insert_or_fault w None t i)
   sound_inserted w t i back fit h = go (is_dispatch w.call.callback) refl t fit
@@ -361,7 +361,7 @@ module _ (hand : Option ℕ) (on : List (Option ℕ)) (n : ℕ) where
       go true x (Some u) fit =
           sound_moving (after_enter (after_leave w u) u (for_cpu w.call.cpu i)) _
           (sound_released w u (for_cpu w.call.cpu i) (h.at_once x) (held_waits w u (held_in_dispatch w (Some u) x fit.may)) (fit_open on hand n w (Some u) i w.call.cpu h.here.hand fit h) (fit_apart w i.queue w.call.cpu fit.queue) h)
-      go false x u fit = record { cpus = h.cpus; tasks = h.tasks; even = h.even; flags = h.flags; members = h.members; homes = h.homes; queues = h.queues; sorted = h.sorted; stamped = h.stamped; once = h.once; here = h.here; goes = λ c l. (fit_open on hand n w u i c l fit h, fit_apart w i.queue c fit.queue); behind = back; waiting = h.waiting; at_once = λ y. absurd (cc (sym x ∙ y)) }
+      go false x u fit = record { cpus = h.cpus; tasks = h.tasks; even = h.even; flags = h.flags; members = h.members; homes = h.homes; queues = h.queues; sorted = h.sorted; stamped = h.stamped; once = h.once; here = h.here; goes = λ c l. (fit_open on hand n w u i c l fit h, fit_apart w i.queue c fit.queue); not_first = back; waiting = h.waiting; at_once = λ y. absurd (cc (sym x ∙ y)) }
 
   sound_moved : (w : WorldState) (o : Option ℕ) (q : ℕ) → is_dispatch w.call.callback ≡ true → ((t : ℕ) → o ≡ Some t → queue_of w.queues t ≡ Some q) → (q == parked_queue) ≡ false → IsSound hand on n w → IsSound hand on n (moved_to_local w o)
   sound_moved w None q x e apart h = h
@@ -382,11 +382,11 @@ module _ (hand : Option ℕ) (on : List (Option ℕ)) (n : ℕ) where
 
   -- a callback that begins
   pub sound_begun : (w : WorldState) (b : Callback) (t c : ℕ) → c < length on → IsSound hand on n w → IsSound hand on n (at_callback w b t c)
-  sound_begun w b t c l h = record { cpus = h.cpus; tasks = h.tasks; even = h.even; flags = h.flags; members = h.members; homes = h.homes; queues = h.queues; sorted = h.sorted; stamped = h.stamped; once = h.once; here = record { hand = l; wakes = h.here.wakes; timed = h.here.timed }; goes = tt; behind = λ e. tt; waiting = h.waiting; at_once = λ e. refl }
+  sound_begun w b t c l h = record { cpus = h.cpus; tasks = h.tasks; even = h.even; flags = h.flags; members = h.members; homes = h.homes; queues = h.queues; sorted = h.sorted; stamped = h.stamped; once = h.once; here = record { hand = l; wakes = h.here.wakes; timed = h.here.timed }; goes = tt; not_first = λ e. tt; waiting = h.waiting; at_once = λ e. refl }
 
   -- where no program chose a processor, the task is to come into the local queue of one
   pub sound_wants : (w : WorldState) (c : ℕ) → c < length on → is_dispatch w.call.callback ≡ false → IsSound hand on n w → IsSound hand on n (with_insert w (to_local c))
-  sound_wants w c l calm h = record { cpus = h.cpus; tasks = h.tasks; even = h.even; flags = h.flags; members = h.members; homes = h.homes; queues = h.queues; sorted = h.sorted; stamped = h.stamped; once = h.once; here = h.here; goes = λ d m. keeps_if (λ q. IsOpen w.queues q Fifo × ((q == parked_queue) ≡ false)) (local_on c == local) (local_on d) (local_on c) (one d m) (one c l); behind = λ plain e. absurd (cc); waiting = h.waiting; at_once = λ y. absurd (cc (sym calm ∙ y)) }
+  sound_wants w c l calm h = record { cpus = h.cpus; tasks = h.tasks; even = h.even; flags = h.flags; members = h.members; homes = h.homes; queues = h.queues; sorted = h.sorted; stamped = h.stamped; once = h.once; here = h.here; goes = λ d m. keeps_if (λ q. IsOpen w.queues q Fifo × ((q == parked_queue) ≡ false)) (local_on c == local) (local_on d) (local_on c) (one d m) (one c l); not_first = λ plain e. absurd (cc); waiting = h.waiting; at_once = λ y. absurd (cc (sym calm ∙ y)) }
     where
       one : (d : ℕ) → d < length on → IsOpen w.queues (local_on d) Fifo × ((local_on d == parked_queue) ≡ false)
       one d m = (own_open w.queues (local_on d) Fifo (h.queues.locals d m) (omega arith) (local_sort d) h.sorted, ne_eqb (local_on d) parked_queue (λ x. omega (arith, x)))
@@ -421,7 +421,7 @@ module _ (on : List (Option ℕ)) (n : ℕ) where
         once = once_pushed w t q r known ok h.once;
         here = h.here;
         goes = goes;
-        behind = h.behind;
+        not_first = h.not_first;
         waiting = waits_by_sum None (with_queues (with_task w t x) (after_push w.queues q t r)) (λ u. omega (arith, ap (λ o. one_if (is_some o)) (since_set w.tasks t x since u), waits_sum (Some t) w h.once h.waiting u, waiting_pushed w.queues q t u r known ok (nowhere w t h.once) apart));
         at_once = h.at_once;
       }
@@ -489,11 +489,11 @@ module _ (on : List (Option ℕ)) (n : ℕ) where
 
   -- a clock that goes on
   pub sound_later : (w : WorldState) → IsSound None on n w → IsSound None on n (later w)
-  sound_later w h = record { cpus = h.cpus; tasks = h.tasks; even = h.even; flags = h.flags; members = h.members; homes = h.homes; queues = h.queues; sorted = h.sorted; stamped = h.stamped; once = h.once; here = h.here; goes = h.goes; behind = h.behind; waiting = h.waiting; at_once = h.at_once }
+  sound_later w h = record { cpus = h.cpus; tasks = h.tasks; even = h.even; flags = h.flags; members = h.members; homes = h.homes; queues = h.queues; sorted = h.sorted; stamped = h.stamped; once = h.once; here = h.here; goes = h.goes; not_first = h.not_first; waiting = h.waiting; at_once = h.at_once }
 
   -- a weight
   pub sound_with_weight : (w : WorldState) (g x : ℕ) → IsSound None on n w → IsSound None on n (with_tree w (tree.with_weight w.tree g x))
-  sound_with_weight w g x h = record { cpus = h.cpus; tasks = h.tasks; even = h.even; flags = h.flags; members = h.members; homes = h.homes; queues = h.queues; sorted = h.sorted; stamped = h.stamped; once = h.once; here = h.here; goes = h.goes; behind = h.behind; waiting = h.waiting; at_once = h.at_once }
+  sound_with_weight w g x h = record { cpus = h.cpus; tasks = h.tasks; even = h.even; flags = h.flags; members = h.members; homes = h.homes; queues = h.queues; sorted = h.sorted; stamped = h.stamped; once = h.once; here = h.here; goes = h.goes; not_first = h.not_first; waiting = h.waiting; at_once = h.at_once }
 
   -- who leaves its processor is in no place
   pub sound_stopped : (w : WorldState) (c t : ℕ) → c < length on → t < n → get_or on c None ≡ Some t → IsSound None on n w → IsSound (Some t) (set on c None) n (after_stop w c t)
@@ -510,7 +510,7 @@ module _ (on : List (Option ℕ)) (n : ℕ) where
     once = λ u. omega (arith, h.once u, here u, sum_by-set (λ o. one_if (is_this u o)) w.cpus c None None l');
     here = rw (length-set on c None) h.here;
     goes = subst (λ k. GoesSomewhere w.queues k w.call.insert) (sym (length-set on c None)) h.goes;
-    behind = h.behind;
+    not_first = h.not_first;
     waiting = waits_at_hand w t w.clock _ (rw h.tasks within) refl h.waiting;
     at_once = h.at_once;
   }
@@ -536,7 +536,7 @@ module _ (on : List (Option ℕ)) (n : ℕ) where
     once = λ u. omega (arith, h.once u, ap (λ o. one_if (is_this u o)) free', sum_by-set (λ o. one_if (is_this u o)) w.cpus c (Some t) None l', standing_popped w.queues (local_on c) t u e);
     here = rw same h.here;
     goes = subst (λ k. GoesSomewhere (after_pop w.queues (local_on c)) k w.call.insert) (sym same) (goes_on w.queues (after_pop w.queues (local_on c)) (length on) w.call.insert (λ x k o. open_without w.queues (front_of w.queues (local_on c)) x k o) h.goes);
-    behind = h.behind;
+    not_first = h.not_first;
     waiting = waits_on_cpu w (after_pop w.queues (local_on c)) t _ known refl (left_place w.queues (local_on c) t e) (λ u d. popped_other w.queues (local_on c) t u e d) h.waiting;
     at_once = h.at_once;
   }
@@ -580,7 +580,7 @@ module _ (on : List (Option ℕ)) (n : ℕ) where
     once = λ u. omega (arith, h.once u, ap (λ o. one_if (is_this u o)) free', sum_by-set (λ o. one_if (is_this u o)) w.cpus c (Some t) None l', standing_removed w.queues t u here.1);
     here = rw same h.here;
     goes = subst (λ k. GoesSomewhere (after_remove w.queues t) k w.call.insert) (sym same) (goes_on w.queues (after_remove w.queues t) (length on) w.call.insert (λ x k o. open_removed w.queues t x k o) h.goes);
-    behind = h.behind;
+    not_first = h.not_first;
     waiting = waits_on_cpu w (after_remove w.queues t) t _ known refl (removed_place w.queues t here.1 here.0) (λ u d. removed_other w.queues t u d) h.waiting;
     at_once = h.at_once;
   }
@@ -642,7 +642,7 @@ module _ (on : List (Option ℕ)) (n : ℕ) where
     once = once_woken w t (rw h.flags within) after_sleep h.once;
     here = h.here;
     goes = h.goes;
-    behind = h.behind;
+    not_first = h.not_first;
     waiting = waits_at_hand w t w.clock _ (rw h.tasks within) refl h.waiting;
     at_once = h.at_once;
   }
@@ -676,7 +676,7 @@ module _ (on : List (Option ℕ)) (n : ℕ) where
     once = once_asleep w t (rw h.flags within) h.once;
     here = h.here;
     goes = h.goes;
-    behind = h.behind;
+    not_first = h.not_first;
     waiting = waits_asleep w t _ (rw h.tasks within) refl h.once h.waiting;
     at_once = h.at_once;
   }
@@ -696,7 +696,7 @@ module _ (on : List (Option ℕ)) (n : ℕ) where
     once = λ u. omega (arith, h.once u, standing_removed w.queues t u stands);
     here = h.here;
     goes = goes_on w.queues (after_remove w.queues t) (length on) w.call.insert (λ x k o. open_removed w.queues t x k o) h.goes;
-    behind = h.behind;
+    not_first = h.not_first;
     waiting = waits_by_sum (Some t) (after_leave w t) (λ u. omega (arith, waits_sum None w h.once h.waiting u, waiting_left w.queues (after_remove w.queues t) t u (ap one_if here) gone-now (λ k d. removed_other w.queues t k d)));
     at_once = h.at_once;
   }
@@ -725,7 +725,7 @@ module _ (on : List (Option ℕ)) (n : ℕ) where
     once = once_asleep (after_leave w t) t (rw h.flags within) (λ u. omega (arith, h.once u, standing_removed w.queues t u stands));
     here = h.here;
     goes = goes_on w.queues (after_remove w.queues t) (length on) w.call.insert (λ x k o. open_removed w.queues t x k o) h.goes;
-    behind = h.behind;
+    not_first = h.not_first;
     waiting = set_since w (after_remove w.queues t) None None t _ (rw h.tasks within) (rw gone-now refl) (λ u d. ap (λ (o : Option Entry). waits_in (option_map (λ p. p.queue) o) || false) (sym (removed_other w.queues t u d))) h.waiting;
     at_once = h.at_once;
   }
@@ -745,7 +745,7 @@ module _ (on : List (Option ℕ)) (n : ℕ) where
 module _ (hand : Option ℕ) (on : List (Option ℕ)) (n : ℕ) where
   -- what the callback at hand wanted is forgotten
   pub sound_put_out : (w : WorldState) (x : Eject) → IsSound hand on n w → IsSound hand on n (put_out w x)
-  sound_put_out w x h = record { cpus = h.cpus; tasks = h.tasks; even = h.even; flags = h.flags; members = h.members; homes = h.homes; queues = h.queues; sorted = h.sorted; stamped = h.stamped; once = h.once; here = record { hand = h.here.hand; wakes = λ c e. absurd (cc); timed = h.here.timed }; goes = tt; behind = λ e. tt; waiting = h.waiting; at_once = λ e. refl }
+  sound_put_out w x h = record { cpus = h.cpus; tasks = h.tasks; even = h.even; flags = h.flags; members = h.members; homes = h.homes; queues = h.queues; sorted = h.sorted; stamped = h.stamped; once = h.once; here = record { hand = h.here.hand; wakes = λ c e. absurd (cc); timed = h.here.timed }; goes = tt; not_first = λ e. tt; waiting = h.waiting; at_once = λ e. refl }
 
   -- a task that waits goes over
   pub sound_evict : (w : WorldState) (t : ℕ) → t < n → IsSound hand on n w → IsSound hand on n (evict w t)
@@ -771,7 +771,7 @@ module _ (hand : Option ℕ) (on : List (Option ℕ)) (n : ℕ) where
 
   -- the clock of the built-in scheduler
   pub sound_overtaken : (w : WorldState) (t : ℕ) → IsSound hand on n w → IsSound hand on n (after_catch_up w t)
-  sound_overtaken w t h = record { cpus = h.cpus; tasks = h.tasks; even = h.even; flags = h.flags; members = h.members; homes = h.homes; queues = h.queues; sorted = h.sorted; stamped = h.stamped; once = h.once; here = h.here; goes = h.goes; behind = h.behind; waiting = h.waiting; at_once = h.at_once }
+  sound_overtaken w t h = record { cpus = h.cpus; tasks = h.tasks; even = h.even; flags = h.flags; members = h.members; homes = h.homes; queues = h.queues; sorted = h.sorted; stamped = h.stamped; once = h.once; here = h.here; goes = h.goes; not_first = h.not_first; waiting = h.waiting; at_once = h.at_once }
 
   -- its times
   pub sound_charged : (w : WorldState) (t : ℕ) → IsSound hand on n w → IsSound hand on n (after_charge w t)

@@ -14,7 +14,7 @@ use Rattle.scx_sched_world.specs.Ejecting.{builtin_vtime}
 use Rattle.scx_sched.specs.Kept.{IsWanted}
 use Rattle.scx_sched.specs.Ranges.{IsFine}
 
--- with so many tasks, events and charges, each push is accepted that is made where all is fine
+-- with that many tasks, events and charges, each push is accepted that is made where all is fine
 pub record IsPushAccepted (n e m : ℕ) : Type 0 where
   -- of a task that is put
   pub put : (on : List (Option ℕ)) (w : WorldState) (t : ℕ) (i : Insert)

@@ -19,7 +19,7 @@ StepKeepsFine =
     → length s.world.tasks ≡ n → refusal s v ≡ None → IsFine n e e None s.world.cpus s.world
     → IsFine n (e + 1) (e + 1) None (event_step s v).state.world.cpus (event_step s v).state.world
 
--- by plain rules, after a tick that leaves its processor idle, no task is left behind for it
+-- by plain rules, after a tick that leaves its processor idle, no task is left waiting for it
 abbrev pub TickLeavesNothing : Type 0
 TickLeavesNothing =
     (n e : ℕ) (s : State) (c : ℕ)

@@ -1,4 +1,4 @@
--- Nothing is left behind: a processor is idle only where neither its own queue nor that of all
+-- No task is left over: a processor is idle only where neither its own queue nor that of all
 -- processors has a task for it, nor, once the policy is ejected, that of the built-in scheduler.
 use Rattle.std.specs.Prelude.{◌≡◌, ℕ, zero, suc, ◌<◌, ⊤, true, false, length, Option, Some, None, is_some}
 use Rattle.scx_sched_world.specs.Ids.{global, builtin_queue}
@@ -33,7 +33,7 @@ abbrev pub made_then : (State → ℕ) → State → Option ℕ → ℕ
 made_then next s None = 0
 made_then next s (Some c) = suc (next (round s c).state)
 
--- how many rounds are made, of so many at most
+-- how many rounds are made, at most that many
 unfoldable pub rounds_made : ℕ → State → ℕ
 rounds_made zero s = 0
 rounds_made (suc n) s = made_then (λ r. rounds_made n r) s (next_to_look s)

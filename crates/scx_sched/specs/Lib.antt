@@ -15,6 +15,7 @@ pub mod Causes
 pub mod Failures
 pub mod Exits
 pub mod Decided
+pub mod Quiet
 pub mod Leavers
 pub mod Accepted
 pub mod Laws

@@ -86,14 +86,14 @@ abbrev pub GoesBehind : Option Insert → Type 0
 GoesBehind None = Unit {0}
 GoesBehind (Some i) = IsBehind i.rank
 
--- the processor of the callback at hand is one of so many; so are one from which a task is woken, and
+-- the callback's processor is one of that many; so are one from which a task is woken, and
 -- those on which timers that were started are to run
 pub record AreThere (cpus at : ℕ) (waker : Option ℕ) (timers : List (Option Alarm)) : Type 0 where
   pub hand : at < cpus
   pub wakes : (c : ℕ) → waker ≡ Some c → c < cpus
   pub timed : (n : ℕ) (a : Alarm) → slice_index_or timers n None ≡ Some a → a.cpu < cpus
 
--- what holds of a world of so many tasks with these on its processors, and that task in no place
+-- what holds of a world of that many tasks with these on its processors, and that task in no place
 pub record IsSound (hand : Option ℕ) (on : List (Option ℕ)) (n : ℕ) (w : WorldState) : Type 0 where
   pub cpus : w.cpus ≡ on
   pub tasks : length w.tasks ≡ n
@@ -107,6 +107,6 @@ pub record IsSound (hand : Option ℕ) (on : List (Option ℕ)) (n : ℕ) (w : W
   pub once : IsOnce hand w
   pub here : AreThere (length on) w.call.cpu w.passing.waker w.timers
   pub goes : GoesSomewhere w.queues (length on) w.call.insert
-  pub behind : is_by_linux w ≡ false → GoesBehind w.call.insert
+  pub not_first : is_by_linux w ≡ false → GoesBehind w.call.insert
   pub waiting : HasWaits hand w
   pub at_once : is_dispatch w.call.callback ≡ true → w.call.insert ≡ None

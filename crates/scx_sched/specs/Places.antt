@@ -6,7 +6,7 @@ use Rattle.scx_sched_world.specs.World.{WorldState, cpu_of}
 use Rattle.scx_sched.specs.declared.places.Place.{Place}
 use Rattle.scx_sched.specs.declared.places.Place.TheVariants.{Asleep, Cpu, Policy, Global, Local, Held, Builtin, Parked}
 
--- the queue of that id; in the low 32 bits of a local queue's stands the processor
+-- the queue of that id; the low 32 bits of a local queue's are the processor
 abbrev pub queue_place : ℕ → Place
 queue_place q =
     if nat_lt q policy_end then Policy q

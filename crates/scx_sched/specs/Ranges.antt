@@ -1,5 +1,5 @@
--- Between two events: each task is where it should be, no number has grown past what so many events
--- can make of it, and no usage past what its quota lets it.
+-- Between two events: each task is where it should be, no number is greater than these events
+-- can make it, and no usage is past what its quota lets it.
 use Rattle.std.specs.Prelude.{◌≡◌, ℕ, ◌*◌, ◌≤◌, List, Option, None}
 use Rattle.scx_sched_world.specs.World.{WorldState, task_at}
 use Rattle.scx_weights.specs.Limits.{usage_of}

@@ -29,7 +29,7 @@ pub record SimState : Type 0 where
 abbrev pub max_events : ℕ
 max_events = 2 ^ 32
 
--- how many events were accepted, where so many are accepted still
+-- how many events were accepted, if that many can still be accepted
 abbrev pub accepted : ℕ → ℕ
 accepted left = max_events - left
 
@@ -90,7 +90,7 @@ pub record IsValid (state : State) (events : ℕ) : Type 0 where
   pub there : AreInQueues state.world
   pub fine : IsFine (length state.world.tasks) events events None state.world.cpus state.world
 
--- what holds of a machine that accepts so many events still
+-- what holds of a machine that accepts that many events still
 pub record IsCounted (state : State) (left : ℕ) : Type 0 where
   pub few : left ≤ max_events
   pub valid : IsValid state (accepted left)

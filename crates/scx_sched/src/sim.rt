@@ -1,4 +1,4 @@
-ghost use Rattle.std.specs.Prelude.{◌≡◌, ℕ, ◌<◌, ◌≤◌, ◌^◌, false, length, None, IfOk, IfErr, OnOk, OnErr};
+ghost use Rattle.std.specs.Prelude.{◌≡◌, ℕ, ◌+◌, ◌*◌, ◌<◌, ◌≤◌, ◌^◌, false, length, None, IfOk, IfErr, OnOk, OnErr};
 ghost use Rattle.scx_dsq.specs.Queues.{entry_of};
 ghost use Rattle.scx_weights.specs.Limits.{usage_of};
 ghost use Rattle.scx_sched_world.specs.World.{nothing_passes, task_at, is_runnable, running, wait, IsLike};
@@ -7,10 +7,13 @@ ghost use Rattle.scx_sched_machine.specs.Notes.{Takes};
 ghost use Rattle.scx_sched_machine.specs.Callbacks.{AreAnswered};
 ghost use Rattle.scx_sched_machine.specs.Policy.{IsTimeout, AreAs};
 ghost use Rattle.scx_sched_machine.specs.Steps.{is_by_linux};
+ghost use Rattle.scx_sched_world.specs.Tasks.{tick_ns};
+ghost use Rattle.scx_sched_machine.specs.Quiet.{IsQuiet};
 ghost use Rattle.scx_sched_machine.specs.Start.{is_bad_shape, IsRefusal, start_calls, calls_before, AreAnsweredBefore};
 ghost use Rattle.scx_sched.specs.Causes.{EjectsOnce, IsNeverStuck};
 ghost use Rattle.scx_sched.specs.Current.{AreCurrent};
 ghost use Rattle.scx_sched.specs.Decided.{EventsDecide};
+ghost use Rattle.scx_sched.specs.Quiet.{quiet_events, after_all, GoQuietly, AllWithin, AreLeft};
 ghost use Rattle.scx_sched.specs.Failures.{HasFailed, NoneFails};
 ghost use Rattle.scx_sched.specs.Left.{LeavesNothingIdle};
 ghost use Rattle.scx_sched.specs.Ranges.{IsFresh};
@@ -28,6 +31,7 @@ use scx_sched_machine::{Event, Hearer, Machine, NewError, Policy, Refused, Sink,
 use scx_sched_world::{Eject, Entry, World};
 use scx_weights::Tree;
 use std::alloc::{AllocError, Global};
+use std::cmp;
 use std::marker::Model;
 
 /// The most events that a machine accepts.
@@ -184,6 +188,37 @@ impl Sim {
         self.machine.event_heard(event, hearer);
         self.left -= 1;
         Ok(())
+    }
+
+    /// The number of milliseconds, at most that many, in which nothing happens but that tasks run, if no event comes
+    /// but ticks and the clock. It may be less than it could.
+    #[tactic(auto, using(crate::proofs::Quiet::few_enough))]
+    pub fn quiet_ms(&mut self, most: u32) -> u32
+        ensures most { result ≤ most }
+        ensures quiet { 0 < result → IsQuiet result self.old.state }
+        ensures left { AreLeft result self.old }
+        ensures same { self.new ≡ self.old }
+    {
+        let events = u64::from(self.cpus()) + 1;
+        let most = cmp::min(u64::from(most), self.left / events);
+        self.machine.quiet_ms(most) as u32
+    }
+
+    /// The ticks of all CPUs and the clock, for that many milliseconds in which nothing else happens.
+    pub fn skip(&mut self, ms: u32)
+        requires some { 0 < ms }
+        requires quiet { IsQuiet ms self.old.state }
+        requires left { AreLeft ms self.old }
+        ensures state { self.new
+            ≡ after_all self.old (quiet_events ms (length self.old.state.world.cpus)) }
+        ensures quietly { GoQuietly self.old
+            (quiet_events ms (length self.old.state.world.cpus)) }
+        ensures within { AllWithin (ms * tick_ns) self.old self.old
+            (quiet_events ms (length self.old.state.world.cpus)) }
+    {
+        let events = u64::from(self.cpus()) + 1;
+        self.machine.skip(u64::from(ms));
+        self.left -= u64::from(ms) * events;
     }
 
     /// Becomes a copy of the other machine, which has the same policy and queues, and as many tasks, CPUs and
